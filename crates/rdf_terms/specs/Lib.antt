@@ -1,0 +1,10 @@
+pub mod Codes
+pub mod Cuts
+pub mod Iri
+pub mod Literal
+pub mod Names
+pub mod Order
+pub mod OrderLaws
+pub mod Quad
+pub mod Term
+pub mod TermText

@@ -1,0 +1,22 @@
+//! Where a text is cut.
+ghost use Rattle.std.specs.Prelude.{◌≡◌, ◌==◌, ◌<◌, length, position, IfSome};
+ghost use Rattle.std.specs.Option.{option_copied};
+ghost use Rattle.rdf_terms.specs.Cuts.{before, after};
+
+/// The text before the first `mark`, and the text after it, if there is one.
+pub fn cut(text: &[u8], mark: u8) -> (&[u8], Option<&[u8]>)
+    ensures before { result.0.now ≡ before mark text.now }
+    ensures after { option_copied result.1 ≡ after mark text.now }
+{
+    match first_place(text, mark) {
+        Some(place) => (&text[..place], Some(&text[place + 1..])),
+        None => (text, None),
+    }
+}
+
+fn first_place(text: &[u8], mark: u8) -> Option<usize>
+    ensures first { result ≡ position (λ c. c == mark) text.now }
+    ensures within { IfSome result (λ n. n < length text.now) }
+{
+    text.iter().position(|b| *b == mark)
+}

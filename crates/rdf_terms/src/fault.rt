@@ -1,0 +1,77 @@
+//! The refusals of this crate.
+ghost use Rattle.std.specs.Prelude.{◌≡◌, codes};
+ghost use Rattle.rdf_terms.specs.Names.{iri_fault_name};
+ghost use Rattle.rdf_terms.specs.declared.fault.NoMemory.{NoMemory};
+ghost use Rattle.rdf_terms.specs.declared.fault.IriFault.TheVariants as fault;
+
+use std::alloc::{AllocError, AllocFailed};
+use thiserror::Error;
+
+/// A growth was refused for want of memory. What the call was lent is as it was before.
+#[derive(Clone, Copy, Debug, PartialEq, Eq, Error)]
+#[error("no memory")]
+pub struct NoMemory;
+
+impl NoMemory {
+    /// The word that is printed for the refusal.
+    pub fn name(&self) -> &'static str
+        ensures { result.now ≡ codes "NoMemory" }
+    {
+        "NoMemory"
+    }
+}
+
+impl From<AllocError> for NoMemory {
+    fn from(_e: AllocError) -> NoMemory {
+        NoMemory
+    }
+}
+
+impl<T: Drop> From<AllocFailed<T>> for NoMemory {
+    fn from(_e: AllocFailed<T>) -> NoMemory {
+        NoMemory
+    }
+}
+
+/// Why a text is no IRI (RDF 1.1 Concepts, section 3.2).
+#[derive(Clone, Copy, Debug, PartialEq, Eq, Error)]
+pub enum IriFault {
+    /// The text has no scheme.
+    #[error("the IRI has no scheme")]
+    Relative,
+    /// The text has a character that stands in no IRI.
+    #[error("the IRI has a character that may not stand there")]
+    BadCharacter,
+    /// A growth was refused.
+    #[error("no memory")]
+    NoMemory,
+}
+
+impl IriFault {
+    /// The word that is printed for the refusal.
+    pub fn name(&self) -> &'static str
+        ensures { result.now ≡ iri_fault_name self.now }
+    {
+        match self {
+            IriFault::Relative => "Relative",
+            IriFault::BadCharacter => "BadCharacter",
+            IriFault::NoMemory => "NoMemory",
+        }
+    }
+}
+
+impl From<NoMemory> for IriFault {
+    ghost from_gives = { λ _ e. e ≡ fault.NoMemory };
+
+    fn from(_e: NoMemory) -> IriFault {
+        IriFault::NoMemory
+    }
+}
+
+impl From<AllocError> for IriFault {
+    ghost from_gives = { λ _ e. e ≡ fault.NoMemory };
+
+    fn from(_e: AllocError) -> IriFault {
+        IriFault::NoMemory
+    }
+}

@@ -1,0 +1,175 @@
+//! Literals (RDF 1.1 Concepts, section 3.3).
+ghost use Rattle.std.specs.Prelude.{◌≡◌, ◌==◌, not, IfOk, IsTrue, if◌then◌else◌, option_map};
+ghost use Rattle.std.specs.Char.{is_ascii_alphabetic, is_ascii_alphanumeric};
+ghost use Rattle.std.specs.List.{list_all, slice_split, take_while};
+ghost use Rattle.rdf_terms.specs.Literal.{LiteralParts, is_tag, is_subtag, is_literal, tagged};
+
+use crate::fault::NoMemory;
+use crate::iri::Iri;
+use crate::text::Text;
+use std::alloc::Global;
+use std::marker::Model;
+
+/// A literal: a lexical form, a datatype and perhaps a language tag. A tag is kept in lower case,
+/// and stands beside the datatype rdf:langString alone.
+#[derive(PartialEq, Eq, PartialOrd, Ord, Hash, Debug, Drop)]
+pub struct Literal {
+    lexical: Text,
+    datatype: Iri,
+    tag: Option<Text>,
+}
+
+impl Model for Literal {
+    ghost use Rattle.std.specs.Prelude.{IsTrue};
+    ghost use Rattle.rdf_terms.specs.Literal.{LiteralParts, is_literal};
+
+    ghost Value = { LiteralParts };
+
+    ghost view = { λ l. record { lexical = l.lexical; datatype = l.datatype; tag = l.tag } };
+
+    ghost invariant = { λ l. IsTrue (is_literal (record { lexical = l.lexical; datatype = l.datatype; tag = l.tag })) };
+
+    ghost inverse = { λ l. record { lexical = l.lexical; datatype = l.datatype; tag = l.tag } };
+}
+
+impl Literal {
+    /// The literal with this lexical form and datatype, and no tag.
+    ///
+    /// # Errors
+    /// [`NoMemory`] where memory is wanting.
+    pub fn new(alloc: Global, lexical: &str, datatype: Iri) -> Result<Literal, NoMemory>
+        ensures { IfOk result (λ l. l ≡ record { lexical = lexical.now; datatype = datatype; tag = None }) }
+    {
+        Ok(Literal::from_text(Text::new(alloc, lexical)?, datatype))
+    }
+
+    /// The literal with this lexical form, which it takes over, and datatype, and no tag. It takes
+    /// no memory.
+    pub fn from_text(lexical: Text, datatype: Iri) -> Literal
+        ensures { result ≡ record { lexical = lexical; datatype = datatype; tag = None } }
+    {
+        let _ = lexical.as_str();
+        let _ = datatype.as_str();
+        Literal {
+            lexical,
+            datatype,
+            tag: None,
+        }
+    }
+
+    /// The literal with this language tag, given without its `@`, in lower case; `None` where the
+    /// tag hasn't the form of one: one or more ASCII letters, then groups of `-` and one or more
+    /// ASCII letters or digits.
+    ///
+    /// # Errors
+    /// [`NoMemory`] where memory is wanting.
+    pub fn tagged(alloc: Global, lexical: &str, tag: &str) -> Result<Option<Literal>, NoMemory>
+        ensures { IfOk result (λ l. l ≡ (if is_tag tag.now then Some (tagged lexical.now tag.now) else None)) }
+    {
+        if !is_tag(tag.as_bytes()) {
+            return Ok(None);
+        }
+        Literal::tagged_from_text(alloc, Text::new(alloc, lexical)?, tag)
+    }
+
+    /// As [`Literal::tagged`], with a lexical form that it takes over.
+    ///
+    /// # Errors
+    /// [`NoMemory`] where memory is wanting.
+    pub fn tagged_from_text(
+        alloc: Global,
+        lexical: Text,
+        tag: &str,
+    ) -> Result<Option<Literal>, NoMemory>
+        ensures { IfOk result (λ l. l ≡ (if is_tag tag.now then Some (tagged lexical tag.now) else None)) }
+    {
+        if !is_tag(tag.as_bytes()) {
+            return Ok(None);
+        }
+        let _ = lexical.as_str();
+        let datatype = Iri::lang_string(alloc)?;
+        let _ = datatype.as_str();
+        let lowered = Text::from(tag.to_ascii_lowercase(alloc)?);
+        Ok(Some(Literal {
+            lexical,
+            datatype,
+            tag: Some(lowered),
+        }))
+    }
+
+    /// The lexical form.
+    pub fn lexical(&self) -> &str
+        ensures value { result.now ≡ self.now.lexical }
+        ensures sound { IsTrue (is_literal self.now) }
+    {
+        self.lexical.as_str()
+    }
+
+    /// The datatype.
+    pub fn datatype(&self) -> &Iri
+        ensures value { result.now ≡ self.now.datatype }
+        ensures sound { IsTrue (is_literal self.now) }
+    {
+        &self.datatype
+    }
+
+    /// The language tag, without its `@` and in lower case.
+    pub fn tag(&self) -> Option<&str>
+        ensures value { option_map (λ t. t.now) result ≡ self.now.tag }
+        ensures sound { IsTrue (is_literal self.now) }
+    {
+        match &self.tag {
+            Some(tag) => Some(tag.as_str()),
+            None => None,
+        }
+    }
+
+    /// An equal literal.
+    ///
+    /// # Errors
+    /// [`NoMemory`] where memory is wanting.
+    pub fn copy(&self) -> Result<Literal, NoMemory>
+        ensures { IfOk result (λ l. l ≡ self.now) }
+    {
+        Ok(Literal {
+            lexical: self.lexical.copy()?,
+            datatype: self.datatype.copy()?,
+            tag: match &self.tag {
+                Some(tag) => Some(tag.copy()?),
+                None => None,
+            },
+        })
+    }
+}
+
+fn are_alphanumeric(text: &[u8]) -> bool
+    ensures { result ≡ list_all is_ascii_alphanumeric text.now }
+{
+    text.iter().all(|b| b.is_ascii_alphanumeric())
+}
+
+fn is_subtag(text: &[u8]) -> bool
+    ensures { result ≡ is_subtag text.now }
+{
+    !text.is_empty() && are_alphanumeric(text)
+}
+
+fn are_subtags(tag: &[u8]) -> bool
+    ensures { result ≡ list_all is_subtag (slice_split (λ c. c == 45) tag.now) }
+{
+    tag.split(|b| *b == b'-').all(|text| is_subtag(text))
+}
+
+fn starts_with_letters(tag: &[u8]) -> bool
+    ensures { result ≡ list_all is_ascii_alphabetic (take_while (λ c. not (c == 45)) tag.now) }
+{
+    tag.iter()
+        .take_while(|b| **b != b'-')
+        .all(|b| b.is_ascii_alphabetic())
+}
+
+fn is_tag(tag: &[u8]) -> bool
+    ensures { result ≡ is_tag tag.now }
+{
+    are_subtags(tag) && starts_with_letters(tag)
+}

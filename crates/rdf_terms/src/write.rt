@@ -1,0 +1,113 @@
+//! The text of terms, in canonical N-Triples (RDF 1.1 N-Triples, section 4).
+ghost use Rattle.std.specs.Prelude.{◌≡◌, ◌++◌, take, length, codes, OnOk, OnErr};
+ghost use Rattle.std.specs.List.{flat_map};
+ghost use Rattle.rdf_terms.specs.TermText.{escaped, suffix_text, datatype_text, literal_text, term_text};
+
+use crate::fault::NoMemory;
+use crate::iri::Iri;
+use crate::literal::Literal;
+use crate::term::Term;
+use std::alloc::Global;
+
+/// Appends the text of the term: an IRI between `<` and `>`, `_:b` and the number of a blank node,
+/// or a literal in quotes with its tag or datatype, of which xsd:string isn't written.
+///
+/// # Errors
+/// [`NoMemory`] where memory is wanting; the vector is then as it was.
+pub fn write_term(alloc: Global, term: &Term, out: &mut Vec<u8>) -> Result<(), NoMemory>
+    ensures ok { OnOk result (out.new.items ≡ out.old.items ++ term_text term.now) }
+    ensures err { OnErr result (out.new.items ≡ out.old.items) }
+{
+    let start = out.len();
+    let written = append_term(alloc, term, out);
+    if written.is_err() {
+        out.truncate(start);
+    }
+    written
+}
+
+fn append_term(alloc: Global, term: &Term, out: &mut Vec<u8>) -> Result<(), NoMemory>
+    ensures ok { OnOk result (out.new.items ≡ out.old.items ++ term_text term.now) }
+    ensures kept { take (length out.old.items) out.new.items ≡ out.old.items }
+{
+    match term {
+        Term::Blank(number) => {
+            let digits = number.to_string(alloc)?;
+            out.extend_from_slice(b"_:b")?;
+            out.extend_from_slice(digits.as_bytes())?;
+        }
+        Term::Iri(iri) => {
+            out.extend_from_slice(b"<")?;
+            out.extend_from_slice(iri.as_str().as_bytes())?;
+            out.extend_from_slice(b">")?;
+        }
+        Term::Literal(literal) => append_literal(literal, out)?,
+    }
+    Ok(())
+}
+
+fn append_literal(literal: &Literal, out: &mut Vec<u8>) -> Result<(), NoMemory>
+    ensures ok { OnOk result (out.new.items ≡ out.old.items ++ literal_text literal.now) }
+    ensures kept { take (length out.old.items) out.new.items ≡ out.old.items }
+{
+    out.extend_from_slice(b"\"")?;
+    append_escaped(literal.lexical().as_bytes(), out)?;
+    out.extend_from_slice(b"\"")?;
+    append_suffix(literal, out)
+}
+
+fn append_escaped(text: &[u8], out: &mut Vec<u8>) -> Result<(), NoMemory>
+    ensures ok { OnOk result (out.new.items ≡ out.old.items ++ flat_map escaped text.now) }
+    ensures kept { take (length out.old.items) out.new.items ≡ out.old.items }
+{
+    for b in text {
+        append_byte(*b, out)?;
+    }
+    Ok(())
+}
+
+fn append_byte(b: u8, out: &mut Vec<u8>) -> Result<(), NoMemory>
+    ensures ok { OnOk result (out.new.items ≡ out.old.items ++ escaped b) }
+    ensures err { OnErr result (out.new.items ≡ out.old.items) }
+{
+    match b {
+        b'"' => out.extend_from_slice(b"\\\"")?,
+        b'\\' => out.extend_from_slice(b"\\\\")?,
+        b'\n' => out.extend_from_slice(b"\\n")?,
+        b'\r' => out.extend_from_slice(b"\\r")?,
+        _ => out.push(b)?,
+    }
+    Ok(())
+}
+
+fn append_suffix(literal: &Literal, out: &mut Vec<u8>) -> Result<(), NoMemory>
+    ensures ok { OnOk result (out.new.items ≡ out.old.items ++ suffix_text literal.now.datatype literal.now.tag) }
+    ensures kept { take (length out.old.items) out.new.items ≡ out.old.items }
+{
+    match literal.tag() {
+        Some(tag) => append_tag(tag, out),
+        None => append_datatype(literal.datatype(), out),
+    }
+}
+
+fn append_tag(tag: &str, out: &mut Vec<u8>) -> Result<(), NoMemory>
+    ensures ok { OnOk result (out.new.items ≡ out.old.items ++ codes "@" ++ tag.now) }
+    ensures kept { take (length out.old.items) out.new.items ≡ out.old.items }
+{
+    out.extend_from_slice(b"@")?;
+    out.extend_from_slice(tag.as_bytes())?;
+    Ok(())
+}
+
+fn append_datatype(datatype: &Iri, out: &mut Vec<u8>) -> Result<(), NoMemory>
+    ensures ok { OnOk result (out.new.items ≡ out.old.items ++ datatype_text datatype.now) }
+    ensures kept { take (length out.old.items) out.new.items ≡ out.old.items }
+{
+    if datatype.as_str() == "http://www.w3.org/2001/XMLSchema#string" {
+        return Ok(());
+    }
+    out.extend_from_slice(b"^^<")?;
+    out.extend_from_slice(datatype.as_str().as_bytes())?;
+    out.extend_from_slice(b">")?;
+    Ok(())
+}
