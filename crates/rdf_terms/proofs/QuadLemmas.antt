@@ -17,10 +17,10 @@ is_quad-from q kinds graph subject predicate object =
 pub answered : (q : QuadParts) (b : Bool) → b ≡ has_right_kinds q → (c : Bool) → b ≡ c → (if c then Some q else None) ≡ (if has_right_kinds q then Some q else None)
 answered q b e c h = ap (λ t. if t then Some q else None) (sym h ∙ e)
 
-graph_eq-same : (x y : GraphName) → (of_graphs.ghosts).eq x y ≡ true → x ≡ y
+pub graph_eq-same : (x y : GraphName) → (of_graphs.ghosts).eq x y ≡ true → x ≡ y
 graph_eq-same x y h = search rules
 
-graph_eq-own : (x : GraphName) → (of_graphs.ghosts).eq x x ≡ true
+pub graph_eq-own : (x : GraphName) → (of_graphs.ghosts).eq x x ≡ true
 graph_eq-own x = search rules
 
 same_places : (x y : QuadParts) → x.graph ≡ y.graph → x.subject ≡ y.subject → x.predicate ≡ y.predicate → x.object ≡ y.object → x ≡ y

@@ -1,4 +1,5 @@
 pub mod Codes
+pub mod Comparisons
 pub mod Cuts
 pub mod Iri
 pub mod Literal

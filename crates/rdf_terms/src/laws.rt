@@ -2,6 +2,7 @@
 ghost use Rattle.std.specs.Prelude.{IsTrue};
 ghost use Rattle.std.specs.Cmp.{IsTotalOrder};
 ghost use Rattle.std.specs.FinSet.{IsAntisymmetric};
+ghost use Rattle.rdf_terms.specs.Comparisons.{TermsAreOrdered, GraphsAreOrdered, QuadsAreOrdered, TermsAreEqual, GraphsAreEqual, QuadsAreEqual};
 ghost use Rattle.rdf_terms.specs.Order.{term_cmp, graph_cmp, quad_cmp};
 ghost use Rattle.rdf_terms.specs.Quad.{is_graph, is_quad};
 ghost use Rattle.rdf_terms.specs.Term.{is_term};
@@ -57,4 +58,15 @@ pub fn orders_are_total()
     ensures graphs_apart { IsAntisymmetric graph_cmp }
     ensures quads { IsTotalOrder quad_cmp }
     ensures quads_apart { IsAntisymmetric quad_cmp }
+{}
+
+/// The code's comparisons of terms, graph names and quads are these orders, and its `==` the
+/// equality of values; so callers may sort and search by them.
+pub fn comparisons_are_the_order()
+    ensures terms { TermsAreOrdered }
+    ensures graphs { GraphsAreOrdered }
+    ensures quads { QuadsAreOrdered }
+    ensures same_terms { TermsAreEqual }
+    ensures same_graphs { GraphsAreEqual }
+    ensures same_quads { QuadsAreEqual }
 {}

@@ -13,7 +13,9 @@ mod write;
 
 pub use fault::{IriFault, NoMemory};
 pub use iri::Iri;
-pub use laws::{orders_are_total, quad_is_one, term_is_one, texts_differ};
+pub use laws::{
+    comparisons_are_the_order, orders_are_total, quad_is_one, term_is_one, texts_differ,
+};
 pub use literal::Literal;
 pub use quad::{GraphName, Quad, compare_quads, same_quad};
 pub use term::{Term, compare_terms, same_term};
