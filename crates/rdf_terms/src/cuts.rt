@@ -1,7 +1,7 @@
 //! Where a text is cut.
-ghost use Rattle.std.specs.Prelude.{◌≡◌, ◌==◌, ◌<◌, length, position, IfSome};
+ghost use Rattle.std.specs.Prelude.{◌≡◌, ◌==◌, ◌≤◌, ◌<◌, length, take, position, IfSome};
 ghost use Rattle.std.specs.Option.{option_copied};
-ghost use Rattle.rdf_terms.specs.Cuts.{before, after};
+ghost use Rattle.rdf_terms.specs.Cuts.{before, after, up_to_slash};
 
 /// The text before the first `mark`, and the text after it, if there is one.
 pub fn cut(text: &[u8], mark: u8) -> (&[u8], Option<&[u8]>)
@@ -19,4 +19,16 @@ fn first_place(text: &[u8], mark: u8) -> Option<usize>
     ensures within { IfSome result (λ n. n < length text.now) }
 {
     text.iter().position(|b| *b == mark)
+}
+
+/// How far the text goes up to and with its last slash.
+pub fn slash_end(text: &[u8]) -> usize
+    ensures within { result ≤ length text.now }
+    ensures front { take result text.now ≡ up_to_slash text.now }
+{
+    let mut end = text.len();
+    while end > 0 && text[end - 1] != b'/' {
+        end -= 1;
+    }
+    end
 }

@@ -2,7 +2,7 @@
 ghost use Rattle.std.specs.Prelude.{◌≡◌, ◌↔◌, ◌&&◌, false, length, IsTrue, IsErrOf, IfOk};
 ghost use Rattle.std.specs.List.{list_all};
 ghost use Rattle.rdf_terms.specs.Iri.{has_scheme, has_forbidden, is_forbidden, is_scheme, is_scheme_byte, is_iri};
-ghost use Rattle.rdf_terms.specs.Literal.{lang_string};
+ghost use Rattle.rdf_terms.specs.Literal.{lang_string, xsd_string};
 
 use crate::cuts::cut;
 use crate::fault::{IriFault, NoMemory};
@@ -74,6 +74,18 @@ impl Iri {
         })
     }
 
+    /// The datatype of plain strings.
+    ///
+    /// # Errors
+    /// [`NoMemory`] where memory is wanting.
+    pub fn xsd_string(alloc: Global) -> Result<Iri, NoMemory>
+        ensures { IfOk result (λ iri. iri ≡ xsd_string) }
+    {
+        Ok(Iri {
+            text: Text::new(alloc, "http://www.w3.org/2001/XMLSchema#string")?,
+        })
+    }
+
     /// The characters of the IRI.
     pub fn as_str(&self) -> &str
         ensures value { result.now ≡ self.now }
@@ -140,14 +152,14 @@ fn is_scheme(text: &[u8]) -> bool
 }
 
 // Whether what stands before the first colon is a scheme.
-fn has_scheme(text: &[u8]) -> bool
+pub(crate) fn has_scheme(text: &[u8]) -> bool
     ensures { result ≡ has_scheme text.now }
 {
     let (front, rest) = cut(text, b':');
     rest.is_some() && is_scheme(front)
 }
 
-fn has_forbidden(text: &[u8]) -> bool
+pub(crate) fn has_forbidden(text: &[u8]) -> bool
     ensures { result ≡ has_forbidden text.now }
 {
     text.iter().any(|b| is_forbidden(*b))

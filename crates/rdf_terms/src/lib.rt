@@ -1,23 +1,44 @@
-//! RDF terms: IRIs, literals, blank nodes, graph names and quads, their order and their text.
+//! RDF terms: IRIs, literals, blank nodes, graph names and quads, their order and their text;
+//! references resolved against a base; and the characters, escapes and pieces that RDF's text
+//! formats share.
 #![tactic(auto)]
 
+mod character;
+mod cursor;
 mod cuts;
+mod dots;
+mod escape;
 mod fault;
 mod iri;
+mod iri_reference;
 mod laws;
 mod literal;
 mod quad;
+mod quoted;
+mod reference;
+mod resolution;
+mod resolution_laws;
 mod term;
+#[cfg(test)]
+mod tests;
 mod text;
 mod write;
 
+pub use character::{is_forbidden_in_iri, is_pn_chars, is_pn_chars_base, is_pn_chars_u};
+pub use cursor::Cursor;
+pub use escape::{one_value, unescape};
 pub use fault::{IriFault, NoMemory};
 pub use iri::Iri;
+pub use iri_reference::IriReference;
 pub use laws::{
     comparisons_are_the_order, orders_are_total, quad_is_one, term_is_one, texts_differ,
 };
 pub use literal::Literal;
 pub use quad::{GraphName, Quad, compare_quads, same_quad};
+pub use resolution::resolve;
+pub use resolution_laws::{
+    components_are_unique, dots_are_removed, dots_before_slashes, one_meaning, pieces_are_the_path,
+};
 pub use term::{Term, compare_terms, same_term};
 pub use text::Text;
 pub use write::write_term;

@@ -1,0 +1,8 @@
+use Rattle.std.proofs.Common.{refl}
+use Rattle.rdf_lines.proofs.PieceLemmas.{line_at}
+use Rattle.rdf_lines.proofs.cut.whole_line.Goals as goal
+
+pub returns-in-Some : goal.returns-in-Some
+returns-in-Some c =
+    let found = c.in-Some.ensures in
+    line_at c.args.behind_return _ c.args.piece.now c.split_at.result.1.now c.feed_len-start.result c.in-Some.i c.feed_len-start.ensures.value c.split_at.ensures.back found.0 found.1 refl

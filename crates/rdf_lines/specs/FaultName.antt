@@ -1,0 +1,12 @@
+-- The printed words of faults.
+use Rattle.std.specs.Prelude.{ℕ, List, codes}
+use Rattle.rdf_lines.specs.declared.fault.FaultKind.{FaultKind}
+use Rattle.rdf_lines.specs.declared.fault.FaultKind.TheVariants.{NotUtf8, Syntax, Relative, Read, NoMemory, Failed}
+
+abbrev pub fault_name : FaultKind → List ℕ
+fault_name NotUtf8 = codes "NotUtf8"
+fault_name Syntax = codes "Syntax"
+fault_name Relative = codes "Relative"
+fault_name Read = codes "Read"
+fault_name NoMemory = codes "NoMemory"
+fault_name Failed = codes "Failed"

@@ -1,0 +1,12 @@
+pub mod Blanks
+pub mod Document
+pub mod FaultName
+pub mod Grammar
+pub mod Labels
+pub mod Line
+pub mod Lines
+pub mod Pieces
+pub mod QuadText
+pub mod Reader
+pub mod Reading
+pub mod Written

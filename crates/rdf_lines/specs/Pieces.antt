@@ -1,0 +1,84 @@
+-- A reader with the unread rest of its last piece, and what is taken of it.
+use Rattle.std.specs.Prelude.{◌≡◌, ◌≢◌, ℕ, ◌<◌, ◌≤◌, ◌+◌, ◌-◌, ◌*◌, ◌^◌, ◌&&◌, Bool, true, false, List, [], ◌∷◌, ◌++◌, length, take, drop, slice_range, if◌then◌else◌, Option, Result, Ok, Err}
+use Rattle.std.specs.Io.KnownBytes.{Consumes, IsAtEnd, prepend_known}
+use Rattle.rdf_lines.specs.Lines.{lines_behind, onto_first, is_line_feed}
+use Rattle.rdf_lines.specs.declared.fault.FaultKind.{FaultKind}
+use Rattle.rdf_lines.specs.declared.fault.FaultKind.TheVariants.{Read, NoMemory}
+use Rattle.rdf_lines.specs.declared.cut.Place.{Place}
+use Rattle.rdf_lines.specs.declared.cut.Cut.{Cut}
+use Rattle.rdf_lines.specs.declared.cut.Cut.TheVariants.{Line, Last, End}
+
+pub record Held : Type 0 where
+  -- the rest of the piece
+  pub held : List ℕ
+  -- what the reader has left, where it tells
+  pub beyond : Option (List ℕ)
+  -- the read calls that are left
+  pub calls : ℕ
+
+-- what lies ahead
+abbrev pub ahead : Held → Option (List ℕ)
+ahead p = prepend_known p.held p.beyond
+
+-- a front of the first line
+abbrev pub onto : List ℕ → List (List ℕ) → List (List ℕ)
+onto [] lines = lines
+onto (b ∷ bs) lines = onto_first b (onto bs lines)
+
+-- The bytes read, behind a CR or not, hold these whole lines and the front of the next one, and what comes then stands
+-- behind a CR or not: however the text goes on, its lines are these, then the front onto those of what comes.
+abbrev pub Hold : Bool → List ℕ → List (List ℕ) → List ℕ → Bool → Type 0
+Hold behind read whole front now = (tail : List ℕ) → lines_behind behind (read ++ tail) ≡ whole ++ onto front (lines_behind now tail)
+
+-- what a new piece brings
+abbrev pub Refills : Held → Result Bool FaultKind → Held → Type 0
+Refills old (Ok true) new = (0 < length new.held) × Consumes old.beyond new.beyond new.held
+Refills old (Ok false) new = (new.held ≡ []) × Consumes old.beyond new.beyond [] × IsAtEnd new.beyond
+Refills old (Err Read) new = (new.held ≡ []) × Consumes old.beyond new.beyond []
+Refills old (Err _) new = ⊥
+
+-- what taking the next line leaves: the line, or the front of it
+abbrev pub TakesLine : Option (List ℕ) → Bool → Result Cut FaultKind → List ℕ → Option (List ℕ) → Bool → Type 0
+TakesLine before behind (Ok Line) line after now = (read : List ℕ) × Consumes before after read × Hold behind read (line ∷ []) [] now
+TakesLine before behind (Ok Last) line after now = (read : List ℕ) × Consumes before after read × Hold behind read [] line now × (line ≢ []) × IsAtEnd after
+TakesLine before behind (Ok End) line after now = (read : List ℕ) × Consumes before after read × Hold behind read [] [] now × IsAtEnd after
+TakesLine before behind (Err Read) line after now = (read : List ℕ) × Consumes before after read × Hold behind read [] line now
+TakesLine before behind (Err NoMemory) line after now = (read : List ℕ) × Consumes before after read × Hold behind read [] line now
+TakesLine before behind (Err _) line after now = ⊥
+
+-- the bytes that reads can still bring, at most
+abbrev pub room : Held → ℕ
+room p = p.calls * 65536 + length p.held
+
+-- a piece is held, or the stream has ended
+abbrev pub Fills : Held → Result Bool FaultKind → Held → Type 0
+Fills old (Ok true) new = (0 < length new.held) × Consumes (ahead old) (ahead new) []
+Fills old (Ok false) new = Consumes (ahead old) (ahead new) [] × IsAtEnd (ahead new)
+Fills old (Err Read) new = Consumes (ahead old) (ahead new) []
+Fills old (Err _) new = ⊥
+
+-- how many bytes in front belong to the line end before them
+abbrev pub feed_len : Bool → List ℕ → ℕ
+feed_len behind [] = 0
+feed_len behind (b ∷ bs) = if behind && is_line_feed b then 1 else 0
+
+-- the first line that a piece has whole: its bytes, and what comes behind it
+abbrev pub HasLine : Bool → List ℕ → Place → Type 0
+HasLine behind piece p =
+    (p.start ≤ p.end) × (p.end < length piece) × Hold behind (take (p.end + 1) piece) (slice_range piece p.start p.end ∷ []) [] p.by_return
+
+-- the part of the line that the held piece has goes behind what the line had
+abbrev pub TakesPart : Held → Bool → List ℕ → Result Bool FaultKind → Held → Bool → List ℕ → Type 0
+TakesPart old behind line (Ok true) new now grown =
+    (part : List ℕ) × (n : ℕ) × (new ≡ record old { held = drop n old.held }) × Hold behind (take n old.held) (part ∷ []) [] now × (grown ≡ line ++ part) × (length part < n) × (n ≤ length old.held)
+TakesPart old behind line (Ok false) new now grown =
+    (part : List ℕ) × (new ≡ record old { held = [] }) × Hold behind old.held [] part now × (grown ≡ line ++ part) × (length part ≤ length old.held)
+TakesPart old behind line (Err NoMemory) new now grown = (new ≡ old) × (now ≡ behind) × (grown ≡ line)
+TakesPart old behind line (Err _) new now grown = ⊥
+
+-- a line takes a byte at least
+abbrev pub Spends : Result Cut FaultKind → ℕ → ℕ → Type 0
+Spends (Ok Line) before after = after + 1 ≤ before
+Spends (Ok Last) before after = after + 1 ≤ before
+Spends (Ok End) before after = after ≤ before
+Spends (Err _) before after = after ≤ before

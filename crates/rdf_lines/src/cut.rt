@@ -1,0 +1,123 @@
+//! Lines out of pieces.
+ghost use Rattle.std.specs.Prelude.{◌≡◌, ◌<◌, ◌≤◌, length, IfSome};
+ghost use Rattle.rdf_lines.specs.Pieces.{ahead, room, feed_len, Fills, TakesPart, TakesLine, Spends, HasLine};
+
+use crate::fault::FaultKind;
+use crate::pieces::Pieces;
+use memchr::memchr2;
+use std::io::Read;
+
+/// How a line was cut.
+#[derive(Clone, Copy, Debug, PartialEq, Eq)]
+pub enum Cut {
+    /// A line with its end.
+    Line,
+    /// A line that ends with the text.
+    Last,
+    /// No line: the end of the text.
+    End,
+}
+
+// Sees to it that a piece is held, and says whether there is one.
+fn fill<R: Read + Drop>(pieces: &mut Pieces<R>) -> Result<bool, FaultKind>
+    ensures fills { Fills pieces.old result pieces.new }
+    ensures room { room pieces.new ≤ room pieces.old }
+{
+    if pieces.held().is_empty() {
+        pieces.refill()
+    } else {
+        Ok(true)
+    }
+}
+
+// How many bytes in front of a piece belong to the line end before it.
+pub fn feed_len(piece: &[u8], behind_return: bool) -> usize
+    ensures value { result ≡ feed_len behind_return piece.now }
+    ensures within { result ≤ length piece.now }
+{
+    match piece {
+        [b'\n', ..] if behind_return => 1,
+        _ => 0,
+    }
+}
+
+/// Where a line lies in a piece, and whether a CR ends it.
+#[derive(Clone, Copy, Debug, PartialEq, Eq)]
+pub struct Place {
+    pub start: usize,
+    pub end: usize,
+    pub by_return: bool,
+}
+
+/// Where the first line lies that the piece has whole, with its end.
+pub fn whole_line(piece: &[u8], behind_return: bool) -> Option<Place>
+    ensures { IfSome result (λ p. HasLine behind_return piece.now p) }
+{
+    let start = feed_len(piece, behind_return);
+    let rest = piece.split_at(start).1;
+    match memchr2(b'\n', b'\r', rest) {
+        Some(i) => Some(Place {
+            start,
+            end: start + i,
+            by_return: rest[i] == b'\r',
+        }),
+        None => None,
+    }
+}
+
+// Takes the front of a line, up to its end where the piece has it, and says whether it has.
+fn take_part<R: Read + Drop>(
+    pieces: &mut Pieces<R>,
+    behind_return: &mut bool,
+    line: &mut Vec<u8>,
+) -> Result<bool, FaultKind>
+    requires { 0 < length pieces.old.held }
+    ensures { TakesPart pieces.old behind_return.old line.old.items result pieces.new behind_return.new line.new.items }
+{
+    let held = pieces.held();
+    let len = held.len();
+    let feed = feed_len(held, *behind_return);
+    let rest = held.split_at(feed).1;
+    match memchr2(b'\n', b'\r', rest) {
+        Some(i) => {
+            if line.extend_from_slice(rest.split_at(i).0).is_err() {
+                return Err(FaultKind::NoMemory);
+            }
+            *behind_return = rest[i] == b'\r';
+            pieces.advance(feed + i + 1);
+            Ok(true)
+        }
+        None => {
+            if line.extend_from_slice(rest).is_err() {
+                return Err(FaultKind::NoMemory);
+            }
+            *behind_return = false;
+            pieces.advance(len);
+            Ok(false)
+        }
+    }
+}
+
+/// Takes the next line.
+pub fn next_line<R: Read + Drop>(
+    pieces: &mut Pieces<R>,
+    behind_return: &mut bool,
+    line: &mut Vec<u8>,
+) -> Result<Cut, FaultKind>
+    ensures line { TakesLine (ahead pieces.old) behind_return.old result line.new.items (ahead pieces.new) behind_return.new }
+    ensures room { Spends result (room pieces.old) (room pieces.new) }
+{
+    line.clear();
+    loop {
+        match fill(pieces) {
+            Ok(true) => match take_part(pieces, behind_return, line) {
+                Ok(true) => return Ok(Cut::Line),
+                Ok(false) => {}
+                Err(kind) => return Err(kind),
+            },
+            Ok(false) if line.is_empty() => return Ok(Cut::End),
+            Ok(false) => return Ok(Cut::Last),
+            Err(kind) => return Err(kind),
+        }
+    }
+}

@@ -1,0 +1,88 @@
+//! Why a line could not be read.
+ghost use Rattle.std.specs.Prelude.{◌≡◌, codes};
+ghost use Rattle.rdf_lines.specs.FaultName.{fault_name};
+ghost use Rattle.rdf_lines.specs.declared.fault.FaultKind.TheVariants.{NoMemory as NoMemoryKind};
+
+use rdf_terms::NoMemory;
+use std::alloc::{AllocError, AllocFailed};
+use thiserror::Error;
+
+/// Why a line could not be read.
+#[derive(Clone, Copy, Debug, Error, PartialEq, Eq)]
+pub enum FaultKind {
+    /// The line isn't UTF-8.
+    #[error("NotUtf8")]
+    NotUtf8,
+    /// The line isn't one of the grammar.
+    #[error("Syntax")]
+    Syntax,
+    /// The line has an IRI without a scheme.
+    #[error("Relative")]
+    Relative,
+    /// The bytes could not be read.
+    #[error("Read")]
+    Read,
+    /// Memory was wanting.
+    #[error("NoMemory")]
+    NoMemory,
+    /// The reader has answered a fault before.
+    #[error("Failed")]
+    Failed,
+}
+
+/// A fault, and the number of the line that has it; the first line is line 1.
+#[derive(Clone, Copy, Debug, Error, PartialEq, Eq)]
+#[error("{kind} line {line}")]
+pub struct LineFault {
+    pub line: u64,
+    pub kind: FaultKind,
+}
+
+impl FaultKind {
+    /// The printed word.
+    pub fn name(self) -> &'static str
+        ensures { result.now ≡ fault_name self }
+    {
+        match self {
+            FaultKind::NotUtf8 => "NotUtf8",
+            FaultKind::Syntax => "Syntax",
+            FaultKind::Relative => "Relative",
+            FaultKind::Read => "Read",
+            FaultKind::NoMemory => "NoMemory",
+            FaultKind::Failed => "Failed",
+        }
+    }
+}
+
+impl LineFault {
+    /// The printed word of its kind.
+    pub fn name(self) -> &'static str
+        ensures { result.now ≡ fault_name self.kind }
+    {
+        self.kind.name()
+    }
+}
+
+impl From<NoMemory> for FaultKind {
+    ghost from_gives = { λ _ e. e ≡ NoMemoryKind };
+
+    fn from(_e: NoMemory) -> FaultKind {
+        FaultKind::NoMemory
+    }
+}
+
+impl From<AllocError> for FaultKind {
+    ghost from_gives = { λ _ e. e ≡ NoMemoryKind };
+
+    fn from(_e: AllocError) -> FaultKind {
+        FaultKind::NoMemory
+    }
+}
+
+impl<T: Drop> From<AllocFailed<T>> for FaultKind {
+    ghost from_gives = { λ _ e. e ≡ NoMemoryKind };
+
+    fn from(_e: AllocFailed<T>) -> FaultKind {
+        FaultKind::NoMemory
+    }
+}

@@ -1,0 +1,27 @@
+//! RDF documents of lines, N-Triples and N-Quads: read from a stream in whatever pieces it comes, or from held bytes, and written.
+#![tactic(auto)]
+
+mod cut;
+mod fault;
+mod format;
+mod held;
+mod labels;
+mod line;
+mod literal;
+mod name;
+mod node;
+mod pieces;
+mod progress;
+mod reader;
+mod state;
+mod statement;
+mod write;
+mod written;
+
+pub use fault::{FaultKind, LineFault};
+pub use format::LineFormat;
+pub use held::{blank_numbers_are_below, each_text_is_one_document, read_lines};
+pub use line::{one_answer, read_line, some_answer, statements_are_sound};
+pub use reader::{LineReader, answers_are_the_document, each_answer_is_of_the_document};
+pub use statement::{Node, Object, Statement};
+pub use write::{sorted_text_is_one, write_quad, write_sorted};

@@ -1,0 +1,149 @@
+//! A whole line.
+ghost use Rattle.std.specs.Prelude.{◌≡◌, IfOk};
+ghost use Rattle.rdf_lines.specs.Reading as reading;
+ghost use Rattle.rdf_lines.specs.Line.{Tells, OneAnswer, SomeAnswer, StatementsAreSound};
+
+use crate::fault::FaultKind;
+use crate::format::LineFormat;
+use crate::literal::object;
+use crate::name::{first_is, skip_white};
+use crate::node::node;
+use crate::statement::Statement;
+use crate::written::{WrittenNode, WrittenStatement};
+use rdf_terms::{Cursor, NoMemory};
+use std::alloc::Global;
+use std::str;
+
+fn may_name_graph(format: LineFormat) -> bool
+    ensures { result ≡ reading.may_name_graph format }
+{
+    match format {
+        LineFormat::NTriples => false,
+        LineFormat::NQuads => true,
+    }
+}
+
+#[tactic(auto, unfolding(crate::specs::Reading::begins_node))]
+fn begins_node(at: &Cursor<'_>) -> bool
+    ensures { result ≡ reading.begins_node at.now }
+{
+    first_is(at, '<') || first_is(at, '_')
+}
+
+/// A graph label where the format has them and one stands here, and the place behind it.
+#[tactic(auto, unfolding(crate::specs::Reading::graph_at))]
+fn graph_label<'a>(
+    alloc: Global,
+    format: LineFormat,
+    at: &Cursor<'a>,
+) -> Result<Option<(Option<WrittenNode>, Cursor<'a>)>, NoMemory>
+    ensures { IfOk result (λ r. r ≡ reading.graph_at format at.now) }
+{
+    if !(may_name_graph(format) && begins_node(at)) {
+        return Ok(Some((None, at.fork())));
+    }
+    let Some((place, rest)) = node(alloc, at)? else {
+        return Ok(None);
+    };
+    Ok(Some((Some(place), rest)))
+}
+
+/// Whether nothing but white space and a comment follows.
+#[tactic(auto, unfolding(crate::specs::Reading::is_end, crate::specs::Reading::is_empty_or_comment))]
+fn is_end(at: &Cursor<'_>) -> bool
+    ensures { result ≡ reading.is_end at.now }
+{
+    match skip_white(at).peek() {
+        Some(c) => c == '#',
+        None => true,
+    }
+}
+
+/// Whether a dot stands here, and the end of the line behind it.
+#[tactic(auto, unfolding(crate::specs::Reading::stops_at))]
+fn stops(at: &Cursor<'_>) -> bool
+    ensures { result ≡ reading.stops_at at.now }
+{
+    let mut rest = at.fork();
+    match rest.bump() {
+        Some(c) => c == '.' && is_end(&rest),
+        None => false,
+    }
+}
+
+/// A statement up to the end of the line.
+#[tactic(auto, unfolding(crate::specs::Reading::statement_at))]
+fn statement(
+    alloc: Global,
+    format: LineFormat,
+    at: &Cursor<'_>,
+) -> Result<Option<WrittenStatement>, NoMemory>
+    ensures { IfOk result (λ r. r ≡ reading.statement_at format at.now) }
+{
+    let Some((subject, rest)) = node(alloc, &skip_white(at))? else {
+        return Ok(None);
+    };
+    let Some((predicate, rest)) = skip_white(&rest).iri(alloc)? else {
+        return Ok(None);
+    };
+    let Some((object, rest)) = object(alloc, &skip_white(&rest))? else {
+        return Ok(None);
+    };
+    let Some((graph, rest)) = graph_label(alloc, format, &skip_white(&rest))? else {
+        return Ok(None);
+    };
+    if !stops(&skip_white(&rest)) {
+        return Ok(None);
+    }
+    Ok(Some(WrittenStatement {
+        subject,
+        predicate,
+        object,
+        graph,
+    }))
+}
+
+/// What a line says, given without its line end: nothing, or one statement. The literal's tag is in lower case, and a
+/// literal with the datatype xsd:string is the one of the string alone.
+///
+/// # Errors
+/// [`FaultKind::NotUtf8`] where the line is no UTF-8; else [`FaultKind::Syntax`] where it has no reading (N-Triples,
+/// section 7; N-Quads, section 4), as an N-Triples line with a graph label; else [`FaultKind::Relative`] where an IRI
+/// has no scheme, a datatype too. [`FaultKind::NoMemory`] where memory is wanting, and no other.
+pub fn read_line(
+    alloc: Global,
+    format: LineFormat,
+    line: &[u8],
+) -> Result<Option<Statement>, FaultKind>
+    ensures { Tells format line.now result }
+{
+    let Ok(text) = str::from_utf8(line) else {
+        return Err(FaultKind::NotUtf8);
+    };
+    let start = Cursor::new(text);
+    if is_end(&start) {
+        return Ok(None);
+    }
+    let Some(written) = statement(alloc, format, &start)? else {
+        return Err(FaultKind::Syntax);
+    };
+    match written.absolute() {
+        Some(statement) => Ok(Some(statement)),
+        None => Err(FaultKind::Relative),
+    }
+}
+
+/// No line says two things.
+pub fn one_answer()
+    ensures { OneAnswer }
+{}
+
+/// Each line says something.
+pub fn some_answer()
+    ensures { SomeAnswer }
+{}
+
+/// What a line says are sound terms: texts of Unicode characters, IRIs and literals.
+pub fn statements_are_sound()
+    ensures { StatementsAreSound }
+{}

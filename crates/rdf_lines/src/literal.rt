@@ -1,0 +1,90 @@
+//! Literals and objects.
+ghost use Rattle.std.specs.Prelude.{◌≡◌, IfOk};
+ghost use Rattle.rdf_lines.specs.Reading as reading;
+
+use crate::name::{first_is, skip_white, tag_end};
+use crate::node::node;
+use crate::written::WrittenObject;
+use rdf_terms::{Cursor, Iri, Literal, NoMemory, Text};
+use std::alloc::Global;
+
+/// The literal of a string whose tag stands here, and the place behind the tag.
+#[tactic(auto, unfolding(crate::specs::Reading::tagged_at, crate::specs::Reading::tag_at, crate::specs::Reading::name_at, crate::specs::Reading::tagged_literal))]
+fn tagged<'a>(
+    alloc: Global,
+    lexical: Text,
+    at: &Cursor<'a>,
+) -> Result<Option<(WrittenObject, Cursor<'a>)>, NoMemory>
+    ensures { IfOk result (λ r. r ≡ reading.tagged_at lexical at.now) }
+{
+    let Some(name) = at.expect('@') else {
+        return Ok(None);
+    };
+    let Some(rest) = tag_end(&name) else {
+        return Ok(None);
+    };
+    let Some(literal) = Literal::tagged_from_text(alloc, lexical, name.text_up_to(&rest))? else {
+        return Ok(None);
+    };
+    Ok(Some((WrittenObject::Literal(literal), rest)))
+}
+
+/// The literal of a string whose `^^` stands here, and the place behind its datatype.
+#[tactic(auto, unfolding(crate::specs::Reading::typed_at))]
+fn typed<'a>(
+    alloc: Global,
+    lexical: Text,
+    at: &Cursor<'a>,
+) -> Result<Option<(WrittenObject, Cursor<'a>)>, NoMemory>
+    ensures { IfOk result (λ r. r ≡ reading.typed_at lexical at.now) }
+{
+    let Some(one) = at.expect('^') else {
+        return Ok(None);
+    };
+    let Some(both) = one.expect('^') else {
+        return Ok(None);
+    };
+    let Some((datatype, rest)) = skip_white(&both).iri(alloc)? else {
+        return Ok(None);
+    };
+    Ok(Some((WrittenObject::Typed(lexical, datatype), rest)))
+}
+
+/// A literal, and the place behind it.
+#[tactic(auto, unfolding(crate::specs::Reading::literal_at, crate::specs::Reading::suffix_at))]
+fn literal<'a>(
+    alloc: Global,
+    at: &Cursor<'a>,
+) -> Result<Option<(WrittenObject, Cursor<'a>)>, NoMemory>
+    ensures { IfOk result (λ r. r ≡ reading.literal_at at.now) }
+{
+    let Some((lexical, rest)) = at.quoted(alloc, '"')? else {
+        return Ok(None);
+    };
+    let suffix = skip_white(&rest);
+    if first_is(&suffix, '@') {
+        return tagged(alloc, lexical, &suffix);
+    }
+    if first_is(&suffix, '^') {
+        return typed(alloc, lexical, &suffix);
+    }
+    let literal = Literal::from_text(lexical, Iri::xsd_string(alloc)?);
+    Ok(Some((WrittenObject::Literal(literal), rest)))
+}
+
+/// An object: an IRI, a blank node's label or a literal; and the place behind it.
+#[tactic(auto, unfolding(crate::specs::Reading::object_at))]
+pub fn object<'a>(
+    alloc: Global,
+    at: &Cursor<'a>,
+) -> Result<Option<(WrittenObject, Cursor<'a>)>, NoMemory>
+    ensures { IfOk result (λ r. r ≡ reading.object_at at.now) }
+{
+    if first_is(at, '"') {
+        return literal(alloc, at);
+    }
+    let Some((place, rest)) = node(alloc, at)? else {
+        return Ok(None);
+    };
+    Ok(Some((WrittenObject::Node(place), rest)))
+}

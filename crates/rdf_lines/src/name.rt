@@ -1,0 +1,186 @@
+//! Names behind a mark: the labels of blank nodes, and language tags.
+ghost use Rattle.std.specs.Prelude.{◌≡◌, false, IfOk};
+ghost use Rattle.rdf_lines.specs.Grammar as grammar;
+ghost use Rattle.rdf_lines.specs.Reading.{first_is, skip_white, skip_dots, label_rest, label_part_at, label_end_at, label_at, skip_letters, begins_group, skip_groups, tag_end_at};
+
+use rdf_terms::{Cursor, NoMemory, Text, is_pn_chars, is_pn_chars_u};
+use std::alloc::Global;
+
+/// Whether the next character is the wanted one.
+#[tactic(auto, unfolding(crate::specs::Reading::first_is))]
+pub fn first_is(at: &Cursor<'_>, wanted: char) -> bool
+    ensures { result ≡ first_is wanted at.now }
+{
+    match at.peek() {
+        Some(c) => c == wanted,
+        None => false,
+    }
+}
+
+/// The place behind spaces and tabs.
+#[tactic(auto, unfolding(crate::specs::Reading::skip_white))]
+pub fn skip_white<'a>(at: &Cursor<'a>) -> Cursor<'a>
+    ensures { result ≡ skip_white at.now }
+{
+    let mut rest = at.fork();
+    while let Some(c) = rest.peek() {
+        if !matches!(c, ' ' | '\t') {
+            return rest;
+        }
+        rest.bump();
+    }
+    rest
+}
+
+/// Whether a label may begin with the character: PN_CHARS_U, which holds `:` in the line formats, or a digit.
+#[tactic(auto, unfolding(crate::specs::Grammar::is_label_start))]
+fn is_label_start(c: char) -> bool
+    ensures { result ≡ grammar.is_label_start c }
+{
+    is_pn_chars_u(c) || matches!(c, ':' | '0'..='9')
+}
+
+/// Whether a label may go on with the character: PN_CHARS, which holds `:` in the line formats.
+#[tactic(auto, unfolding(crate::specs::Grammar::is_label_part))]
+fn is_label_part(c: char) -> bool
+    ensures { result ≡ grammar.is_label_part c }
+{
+    is_pn_chars(c) || c == ':'
+}
+
+/// The place behind the dots that stand here.
+#[tactic(auto, unfolding(crate::specs::Reading::skip_dots))]
+fn skip_dots<'a>(at: &Cursor<'a>) -> Cursor<'a>
+    ensures { result ≡ skip_dots at.now }
+{
+    let mut rest = at.fork();
+    while let Some(c) = rest.peek() {
+        if c != '.' {
+            return rest;
+        }
+        rest.bump();
+    }
+    rest
+}
+
+/// The place behind one character of a label.
+#[tactic(auto, unfolding(crate::specs::Reading::label_part_at))]
+fn label_part<'a>(at: &Cursor<'a>) -> Option<Cursor<'a>>
+    ensures { result ≡ label_part_at at.now }
+{
+    let mut rest = at.fork();
+    if is_label_part(rest.bump()?) {
+        Some(rest)
+    } else {
+        None
+    }
+}
+
+/// The place behind the rest of a label: a dot belongs to it only where more of the label follows.
+fn label_rest<'a>(at: &Cursor<'a>) -> Cursor<'a>
+    ensures { result ≡ (label_rest at.now).1 }
+{
+    let mut rest = at.fork();
+    while let Some(behind) = label_part(&skip_dots(&rest)) {
+        rest = behind;
+    }
+    rest
+}
+
+/// The place behind a label, from behind its `_:`.
+#[tactic(auto, unfolding(crate::specs::Reading::label_end_at))]
+fn label_end<'a>(at: &Cursor<'a>) -> Option<Cursor<'a>>
+    ensures { result ≡ label_end_at at.now }
+{
+    let mut rest = at.fork();
+    if is_label_start(rest.bump()?) {
+        Some(label_rest(&rest))
+    } else {
+        None
+    }
+}
+
+/// BLANK_NODE_LABEL: a label without its `_:`, and the place behind it.
+#[tactic(auto, unfolding(crate::specs::Reading::label_at, crate::specs::Reading::name_at))]
+pub fn blank_node_label<'a>(
+    alloc: Global,
+    at: &Cursor<'a>,
+) -> Result<Option<(Text, Cursor<'a>)>, NoMemory>
+    ensures { IfOk result (λ r. r ≡ label_at at.now) }
+{
+    let Some(colon) = at.expect('_') else {
+        return Ok(None);
+    };
+    let Some(name) = colon.expect(':') else {
+        return Ok(None);
+    };
+    let Some(rest) = label_end(&name) else {
+        return Ok(None);
+    };
+    let label = Text::new(alloc, name.text_up_to(&rest))?;
+    Ok(Some((label, rest)))
+}
+
+/// The place behind ASCII letters.
+#[tactic(auto, unfolding(crate::specs::Reading::skip_letters))]
+fn skip_letters<'a>(at: &Cursor<'a>) -> Cursor<'a>
+    ensures { result ≡ skip_letters at.now }
+{
+    let mut rest = at.fork();
+    while let Some(c) = rest.peek() {
+        if !c.is_ascii_alphabetic() {
+            return rest;
+        }
+        rest.bump();
+    }
+    rest
+}
+
+/// Whether an ASCII letter or digit follows.
+#[tactic(auto, unfolding(crate::specs::Reading::begins_group))]
+fn begins_group(at: &Cursor<'_>) -> bool
+    ensures { result ≡ begins_group at.now }
+{
+    match at.peek() {
+        Some(c) => c.is_ascii_alphanumeric(),
+        None => false,
+    }
+}
+
+/// The place behind groups of `-` and letters or digits.
+#[tactic(auto, unfolding(crate::specs::Reading::skip_groups))]
+fn skip_groups<'a>(at: &Cursor<'a>) -> Cursor<'a>
+    ensures { result ≡ skip_groups false at.now }
+{
+    let mut rest = at.fork();
+    let mut within = false;
+    while let Some(c) = rest.peek() {
+        let mut behind = rest.fork();
+        behind.bump();
+        let goes_on = within && c.is_ascii_alphanumeric();
+        if !goes_on {
+            if c != '-' {
+                return rest;
+            }
+            if !begins_group(&behind) {
+                return rest;
+            }
+        }
+        within = true;
+        rest = behind;
+    }
+    rest
+}
+
+/// The place behind a language tag, from behind its `@`.
+#[tactic(auto, unfolding(crate::specs::Reading::tag_end_at))]
+pub fn tag_end<'a>(at: &Cursor<'a>) -> Option<Cursor<'a>>
+    ensures { result ≡ tag_end_at at.now }
+{
+    let mut rest = at.fork();
+    if rest.bump()?.is_ascii_alphabetic() {
+        Some(skip_groups(&skip_letters(&rest)))
+    } else {
+        None
+    }
+}

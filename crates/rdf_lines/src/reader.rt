@@ -1,0 +1,180 @@
+//! Statements from a reader, one at a time.
+ghost use Rattle.std.specs.Prelude.{◌≡◌, ◌≢◌, ◌<◌, ◌≤◌, ◌^◌, IfOk, MatchBool, Result, Ok, Err, Some, None, is_ok, if◌then◌else◌};
+ghost use Rattle.rdf_lines.specs.Reader.{Step, OneLine, fresh, starting, weight, FallsAtOk, FallsAtQuad, AnswersAreTheDocument, StartsWithNothing, QuadsAddUp, EndIsTheDocument, FaultStops};
+ghost use Rattle.rdf_lines.specs.declared.state.State.TheVariants.{Reading, Failed};
+
+use crate::cut::{Cut, next_line, whole_line};
+use crate::fault::{FaultKind, LineFault};
+use crate::format::LineFormat;
+use crate::labels::Labels;
+use crate::pieces::Pieces;
+use crate::progress::Progress;
+use crate::state::State;
+use rdf_terms::{NoMemory, Quad};
+use std::alloc::Global;
+use std::io::Read;
+use std::marker::Model;
+
+// After so many read calls a stream that hasn't ended is a read fault.
+const READ_CALLS: u64 = 1 << 40;
+
+/// A reader of the statements of a stream. It holds the unread rest of a piece and the line that it is in.
+#[derive(Drop)]
+pub struct LineReader<R: Read + Drop> {
+    alloc: Global,
+    format: LineFormat,
+    pieces: Pieces<R>,
+    behind_return: bool,
+    line: Vec<u8>,
+    progress: Progress,
+    state: State,
+}
+
+impl<R: Read + Drop> Model for LineReader<R> {
+    ghost use Rattle.std.specs.Prelude.{◌≤◌, ◌+◌, ◌^◌};
+    ghost use Rattle.rdf_lines.specs.Reader.{LineState};
+    ghost use Rattle.rdf_lines.specs.Pieces.{ahead, room};
+
+    ghost Value = { LineState };
+
+    ghost view = { λ r. record {
+      format = r.format;
+      ahead = ahead r.pieces;
+      behind_return = r.behind_return;
+      number = r.progress.number;
+      labels = r.progress.labels;
+      state = r.state;
+      room = room r.pieces;
+    } };
+
+    ghost invariant = { λ r. r.progress.number + room r.pieces ≤ 2 ^ 56 + 1 };
+}
+
+fn state_after(answer: &Result<Option<Quad>, LineFault>, next: State) -> State
+    ensures { result ≡ (if is_ok answer.now then next else Failed) }
+{
+    if answer.is_ok() { next } else { State::Failed }
+}
+
+impl<R: Read + Drop> LineReader<R> {
+    /// A reader of the lines that `reader` gives. It calls `reader` at most 2^40 times.
+    pub fn new(alloc: Global, format: LineFormat, reader: R) -> Result<Self, NoMemory>
+        ensures { IfOk result (λ r. r ≡ fresh format (R.remaining reader)) }
+    {
+        LineReader::with_calls(alloc, format, reader, READ_CALLS)
+    }
+
+    // A reader that calls `reader` at most `calls` times.
+    pub(crate) fn with_calls(
+        alloc: Global,
+        format: LineFormat,
+        reader: R,
+        calls: u64,
+    ) -> Result<Self, NoMemory>
+        requires { calls ≤ 2 ^ 40 }
+        ensures { IfOk result (λ r. r ≡ starting format (R.remaining reader) calls) }
+    {
+        Ok(LineReader {
+            alloc,
+            format,
+            pieces: Pieces::new(alloc, reader, calls)?,
+            behind_return: false,
+            line: Vec::new(alloc),
+            progress: Progress {
+                number: 1,
+                labels: Labels::new(alloc),
+            },
+            state: State::Reading,
+        })
+    }
+
+    // Takes one line, which is copied only where the held piece hasn't the whole of it.
+    fn one_line(&mut self) -> Result<Option<Quad>, LineFault>
+        requires { self.old.state ≡ Reading }
+        ensures line { OneLine self.old result self.new }
+        ensures falls { FallsAtOk self.old result self.new }
+    {
+        match whole_line(self.pieces.held(), self.behind_return) {
+            Some(place) => {
+                let line = &self.pieces.held()[place.start..place.end];
+                let answer = self.progress.line(self.alloc, self.format, line);
+                self.behind_return = place.by_return;
+                self.pieces.advance(place.end + 1);
+                self.state = state_after(&answer, State::Reading);
+                answer
+            }
+            None => self.gathered_line(),
+        }
+    }
+
+    // Takes one line, gathered from the pieces.
+    fn gathered_line(&mut self) -> Result<Option<Quad>, LineFault>
+        requires { self.old.state ≡ Reading }
+        ensures line { OneLine self.old result self.new }
+        ensures falls { FallsAtOk self.old result self.new }
+    {
+        match next_line(&mut self.pieces, &mut self.behind_return, &mut self.line) {
+            Ok(Cut::Line) => {
+                let answer = self
+                    .progress
+                    .line(self.alloc, self.format, self.line.as_slice());
+                self.state = state_after(&answer, State::Reading);
+                answer
+            }
+            Ok(Cut::Last) => {
+                let answer = self
+                    .progress
+                    .line(self.alloc, self.format, self.line.as_slice());
+                self.state = state_after(&answer, State::Ended);
+                answer
+            }
+            Ok(Cut::End) => {
+                self.state = State::Ended;
+                Ok(None)
+            }
+            Err(kind) => {
+                self.state = State::Failed;
+                Err(self.progress.fault(kind))
+            }
+        }
+    }
+
+    fn is_reading(&self) -> bool
+        ensures { MatchBool result (self.now.state ≡ Reading) (self.now.state ≢ Reading) }
+    {
+        matches!(self.state, State::Reading)
+    }
+
+    /// The next statement, or none at the end.
+    pub fn next(&mut self) -> Result<Option<Quad>, LineFault>
+        ensures step { Step self.old result self.new }
+        ensures falls { FallsAtQuad self.old result self.new }
+    {
+        match self.state {
+            State::Failed => return Err(self.progress.fault(FaultKind::Failed)),
+            State::Ended => return Ok(None),
+            State::Reading => {}
+        }
+        while self.is_reading() {
+            match self.one_line() {
+                Ok(None) => {}
+                Ok(Some(quad)) => return Ok(Some(quad)),
+                Err(fault) => return Err(fault),
+            }
+        }
+        Ok(None)
+    }
+}
+
+/// Whatever pieces a text comes in, the answers of one call of `next` after another are its document.
+pub fn answers_are_the_document()
+    ensures { AnswersAreTheDocument }
+{}
+
+/// The law call by call, for a loop: what has been read before the first call, after a quad, at the end and at a fault.
+pub fn each_answer_is_of_the_document()
+    ensures starts { StartsWithNothing }
+    ensures goes_on { QuadsAddUp }
+    ensures ends { EndIsTheDocument }
+    ensures stops { FaultStops }
+{}

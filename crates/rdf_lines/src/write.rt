@@ -1,0 +1,96 @@
+//! The lines of quads.
+ghost use Rattle.std.specs.Prelude.{◌≡◌, ℕ, List, codes, ◌++◌, take, length, OnOk, OnErr, IfOk, IsSorted, IsPermutation, map};
+ghost use Rattle.std.specs.List.{flat_map};
+ghost use Rattle.rdf_terms.specs.Order.{quad_cmp};
+ghost use Rattle.rdf_terms.specs.TermText.{term_text};
+ghost use Rattle.rdf_lines.specs.QuadText.{graph_text, quad_text, IsSortedText, SortedTextIsOne};
+
+use rdf_terms::{GraphName, NoMemory, Quad, Term, write_term};
+use std::alloc::Global;
+
+/// Appends the line of the quad: its terms as canonical N-Triples, then its graph if it has a name, one space after each, then
+/// a dot and LF (RDF 1.1 N-Quads, section 2). A refusal leaves the vector as it was.
+pub fn write_quad(alloc: Global, quad: &Quad, out: &mut Vec<u8>) -> Result<(), NoMemory>
+    ensures ok { OnOk result (out.new.items ≡ out.old.items ++ quad_text quad.now) }
+    ensures err { OnErr result (out.new.items ≡ out.old.items) }
+{
+    let start = out.len();
+    let written = append_quad(alloc, quad, out);
+    if written.is_err() {
+        out.truncate(start);
+    }
+    written
+}
+
+fn append_quad(alloc: Global, quad: &Quad, out: &mut Vec<u8>) -> Result<(), NoMemory>
+    ensures ok { OnOk result (out.new.items ≡ out.old.items ++ quad_text quad.now) }
+    ensures kept { take (length out.old.items) out.new.items ≡ out.old.items }
+{
+    append_term(alloc, quad.subject(), out)?;
+    append_term(alloc, quad.predicate(), out)?;
+    append_term(alloc, quad.object(), out)?;
+    append_graph(alloc, quad.graph(), out)?;
+    out.extend_from_slice(b".\n")?;
+    Ok(())
+}
+
+// The term, and a space.
+fn append_term(alloc: Global, term: &Term, out: &mut Vec<u8>) -> Result<(), NoMemory>
+    ensures ok { OnOk result (out.new.items ≡ out.old.items ++ (term_text term.now ++ codes " ")) }
+    ensures kept { take (length out.old.items) out.new.items ≡ out.old.items }
+{
+    write_term(alloc, term, out)?;
+    out.push(b' ')?;
+    Ok(())
+}
+
+fn append_graph(alloc: Global, graph: &GraphName, out: &mut Vec<u8>) -> Result<(), NoMemory>
+    ensures ok { OnOk result (out.new.items ≡ out.old.items ++ graph_text graph.now) }
+    ensures kept { take (length out.old.items) out.new.items ≡ out.old.items }
+{
+    match graph {
+        GraphName::Default => Ok(()),
+        GraphName::Named(name) => append_term(alloc, name, out),
+    }
+}
+
+/// Appends the lines of the quads, repeats included, by graph, subject, predicate and object, the default graph first.
+/// A refusal leaves the vector as it was.
+pub fn write_sorted(alloc: Global, quads: &[Quad], out: &mut Vec<u8>) -> Result<(), NoMemory>
+    ensures ok { OnOk result ((text : List ℕ) × IsSortedText quads.now text × (out.new.items ≡ out.old.items ++ text)) }
+    ensures err { OnErr result (out.new.items ≡ out.old.items) }
+{
+    let start = out.len();
+    let written = append_sorted(alloc, quads, out);
+    if written.is_err() {
+        out.truncate(start);
+    }
+    written
+}
+
+fn append_sorted(alloc: Global, quads: &[Quad], out: &mut Vec<u8>) -> Result<(), NoMemory>
+    ensures ok { OnOk result ((text : List ℕ) × IsSortedText quads.now text × (out.new.items ≡ out.old.items ++ text)) }
+    ensures kept { take (length out.old.items) out.new.items ≡ out.old.items }
+{
+    let mut sorted = references(alloc, quads)?;
+    sorted.sort()?;
+    for quad in &sorted {
+        write_quad(alloc, *quad, out)?;
+    }
+    Ok(())
+}
+
+fn references<'a>(alloc: Global, quads: &'a [Quad]) -> Result<Vec<&'a Quad>, NoMemory>
+    ensures { IfOk result (λ v. map (λ q. q.now) v.items ≡ quads.now) }
+{
+    let mut all = Vec::new(alloc);
+    for quad in quads {
+        all.push(quad)?;
+    }
+    Ok(all)
+}
+
+/// Quads have one sorted text.
+pub fn sorted_text_is_one()
+    ensures { SortedTextIsOne }
+{}

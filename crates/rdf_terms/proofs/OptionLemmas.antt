@@ -1,0 +1,30 @@
+-- Steps that did not fail.
+use Rattle.std.proofs.Common.{◌≡◌, Bool, true, false, cond, Option, Some, None, refl, ap}
+use Rattle.rdf_terms.specs.Reading.{◌>>=◌}
+
+pub bind_some : {A B : Type 0} (o : Option A) (f : A → Option B) (y : B) → (o >>= f) ≡ Some y → (x : A) × (o ≡ Some x) × (f x ≡ Some y)
+bind_some None f y e = absurd cc
+bind_some (Some x) f y e = (x, refl, e)
+
+abbrev found : {A : Type 0} → A → Option A
+found x = Some x
+
+pub some_is : {A : Type 0} (x y : A) → found x ≡ found y → x ≡ y
+some_is x y e = cc
+
+pub some_pair : {A B : Type 0} (a c : A) (b d : B) → found {A = A × B} (a, b) ≡ found {A = A × B} (c, d) → (a ≡ c) × (b ≡ d)
+some_pair {A} {B} a c b d e =
+    let h = some_is {A = A × B} (a, b) (c, d) e in
+    (ap (λ (p : A × B). p.0) h, ap (λ (p : A × B). p.1) h)
+
+pub none_is : {A : Type 0} {P : Type 0} (y : A) → None ≡ found y → P
+none_is y e = absurd cc
+
+-- a test whose yes is the only way
+pub guard_some : {A : Type 0} (b : Bool) (x : Option A) (y : A) → cond b x None ≡ Some y → (b ≡ true) × (x ≡ Some y)
+guard_some true x y e = (refl, e)
+guard_some false x y e = absurd cc
+
+pub guard_none : {A : Type 0} (b : Bool) (x : Option A) (y : A) → cond b None x ≡ Some y → (b ≡ false) × (x ≡ Some y)
+guard_none true x y e = absurd cc
+guard_none false x y e = (refl, e)

@@ -1,0 +1,84 @@
+//! A place in a text, seen as the list of the characters that follow it.
+ghost use Rattle.std.specs.Prelude.{◌≡◌, ℕ, List, [], ◌∷◌, MatchOption, MatchBool};
+ghost use Rattle.std.specs.Str.{chars, encode_utf8_all};
+ghost use Rattle.rdf_terms.specs.Reading.{LeadsTo, between, byte_count, expect};
+
+use std::marker::Model;
+
+/// A place in a text. A contract sees the characters that follow it, by their code points.
+#[derive(Drop)]
+pub struct Cursor<'a> {
+    rest: &'a str,
+}
+
+impl<'a> Model for Cursor<'a> {
+    ghost use Rattle.std.specs.Prelude.{ℕ, List};
+    ghost use Rattle.std.specs.Str.{chars, IsUtf8};
+
+    ghost Value = { List ℕ };
+
+    ghost view = { λ c. chars c.rest.now };
+
+    ghost invariant = { λ c. IsUtf8 c.rest.now };
+}
+
+impl<'a> Cursor<'a> {
+    /// The place before the first character.
+    pub fn new(text: &'a str) -> Self
+        ensures { result ≡ chars text.now }
+    {
+        Cursor { rest: text }
+    }
+
+    /// Another cursor at this place.
+    pub fn fork(&self) -> Cursor<'a>
+        ensures { result ≡ self.now }
+    {
+        Cursor { rest: self.rest }
+    }
+
+    /// How many bytes follow.
+    pub fn left(&self) -> usize
+        ensures { result ≡ byte_count self.now }
+    {
+        self.rest.len()
+    }
+
+    /// The next character.
+    pub fn peek(&self) -> Option<char>
+        ensures { MatchOption result (self.now ≡ []) (λ c. (others : List ℕ) × (self.now ≡ c ∷ others)) }
+    {
+        self.rest.chars().next()
+    }
+
+    /// Takes the next character.
+    pub fn bump(&mut self) -> Option<char>
+        ensures { MatchOption result ((self.old ≡ []) × (self.new ≡ [])) (λ c. self.old ≡ c ∷ self.new) }
+    {
+        let mut chars = self.rest.chars();
+        let first = chars.next();
+        self.rest = chars.as_str();
+        first
+    }
+
+    /// The place behind the wanted character, where it is the next one.
+    #[tactic(auto, unfolding(crate::specs::Reading::expect))]
+    pub fn expect(&self, wanted: char) -> Option<Cursor<'a>>
+        ensures { result ≡ expect wanted self.now }
+    {
+        let mut rest = self.fork();
+        if rest.bump()? == wanted {
+            Some(rest)
+        } else {
+            None
+        }
+    }
+
+    /// The text from this place up to a later one.
+    pub fn text_up_to(&self, end: &Cursor<'a>) -> &'a str
+        requires { LeadsTo self.now end.now }
+        ensures { result.now ≡ encode_utf8_all (between self.now end.now) }
+    {
+        &self.rest[..self.rest.len() - end.rest.len()]
+    }
+}

@@ -1,0 +1,101 @@
+//! IRIs between `<` and `>`, and strings between quotes.
+ghost use Rattle.std.specs.Prelude.{◌≡◌, ◌≢◌, ℕ, IfOk, option_map};
+ghost use Rattle.rdf_terms.specs.Quoted.{IsIriRef, IsQuoted};
+ghost use Rattle.rdf_terms.specs.ReadingLaws.{IsSoundReader, IsCompleteReader};
+ghost use Rattle.rdf_terms.specs.Reading.{iri_at, quoted_at};
+
+use crate::cursor::Cursor;
+use crate::fault::NoMemory;
+use crate::iri_reference::IriReference;
+use crate::text::Text;
+use std::alloc::Global;
+
+impl<'a> Cursor<'a> {
+    /// IRIREF (Turtle 1.1, section 6.5): `<`, the characters of an IRI, `>`; and the place behind it.
+    ///
+    /// # Errors
+    /// [`NoMemory`] where memory is wanting.
+    pub fn iri(&self, alloc: Global) -> Result<Option<(IriReference, Cursor<'a>)>, NoMemory>
+        ensures { IfOk result (λ r. r ≡ iri_at self.now) }
+    {
+        let Some(mut rest) = self.expect('<') else {
+            return Ok(None);
+        };
+        let mut text = String::new(alloc);
+        loop {
+            if let Some(behind) = rest.expect('>') {
+                return Ok(Some((IriReference::from_text(Text::from(text)), behind)));
+            }
+            let Some((c, behind)) = rest.iri_character() else {
+                return Ok(None);
+            };
+            text.push(c)?;
+            rest = behind;
+        }
+    }
+
+    /// A quote, the characters of a string, the quote (Turtle 1.1, section 6.5); and the place behind them.
+    ///
+    /// # Errors
+    /// [`NoMemory`] where memory is wanting.
+    pub fn quoted(&self, alloc: Global, quote: char) -> Result<Option<(Text, Cursor<'a>)>, NoMemory>
+        requires { quote ≢ 92 }
+        ensures { IfOk result (λ r. r ≡ quoted_at quote self.now) }
+    {
+        let Some(mut rest) = self.expect(quote) else {
+            return Ok(None);
+        };
+        let mut text = String::new(alloc);
+        loop {
+            if let Some(behind) = rest.expect(quote) {
+                return Ok(Some((Text::from(text), behind)));
+            }
+            let Some((c, behind)) = rest.string_character(quote) else {
+                return Ok(None);
+            };
+            text.push(c)?;
+            rest = behind;
+        }
+    }
+
+    /// The place behind an IRIREF. It takes no memory.
+    pub fn iri_end(&self) -> Option<Cursor<'a>>
+        ensures { result ≡ option_map (λ piece. piece.1) (iri_at self.now) }
+    {
+        let mut rest = self.expect('<')?;
+        loop {
+            if let Some(behind) = rest.expect('>') {
+                return Some(behind);
+            }
+            let (_, behind) = rest.iri_character()?;
+            rest = behind;
+        }
+    }
+
+    /// The place behind a quote, the characters of a string and the quote. It takes no memory.
+    pub fn quoted_end(&self, quote: char) -> Option<Cursor<'a>>
+        requires { quote ≢ 92 }
+        ensures { result ≡ option_map (λ piece. piece.1) (quoted_at quote self.now) }
+    {
+        let mut rest = self.expect(quote)?;
+        loop {
+            if let Some(behind) = rest.expect(quote) {
+                return Some(behind);
+            }
+            let (_, behind) = rest.string_character(quote)?;
+            rest = behind;
+        }
+    }
+}
+
+/// What is read as an IRI is an IRIREF, and an IRIREF is read, whatever follows it.
+pub fn iris_are_read()
+    ensures sound { IsSoundReader IsIriRef iri_at }
+    ensures complete { IsCompleteReader IsIriRef iri_at }
+{}
+
+/// What is read as a string between quotes is one, and one is read, whatever follows it.
+pub fn strings_are_read()
+    ensures sound { (quote : ℕ) → quote ≢ 92 → IsSoundReader (IsQuoted quote) (quoted_at quote) }
+    ensures complete { (quote : ℕ) → quote ≢ 92 → IsCompleteReader (IsQuoted quote) (quoted_at quote) }
+{}

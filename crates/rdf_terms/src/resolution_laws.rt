@@ -1,0 +1,33 @@
+//! What holds of components, of paths and of resolution.
+ghost use Rattle.rdf_terms.specs.ResolutionLaws.{EachTextHasComponents, ComponentsAreUnique, BaseIsUnique, EachReferenceMeans, OneMeaning, PiecesAreThePath, NoDotsAreLeft, OthersAreKept, DotsAreRemoved, DotsBeforeSlashes};
+
+/// Each text has components, and no others; a base has one scheme and one list of components.
+pub fn components_are_unique()
+    ensures there { EachTextHasComponents }
+    ensures unique { ComponentsAreUnique }
+    ensures base { BaseIsUnique }
+{}
+
+/// A reference means one text against a base with a scheme.
+pub fn one_meaning()
+    ensures there { EachReferenceMeans }
+    ensures unique { OneMeaning }
+{}
+
+/// The pieces of a path are the path.
+pub fn pieces_are_the_path()
+    ensures { PiecesAreThePath }
+{}
+
+/// A path loses all its dot segments, one that has none stays as it is, and so go the standard's
+/// two examples.
+pub fn dots_are_removed()
+    ensures none_left { NoDotsAreLeft }
+    ensures others_kept { OthersAreKept }
+    ensures examples { DotsAreRemoved }
+{}
+
+/// The text of a result decides, also where its components would be read otherwise.
+pub fn dots_before_slashes()
+    ensures { DotsBeforeSlashes }
+{}
