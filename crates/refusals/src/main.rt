@@ -3,11 +3,13 @@
 //! refused, and `tools/fail-alloc` compares.
 #![tactic(auto)]
 
+mod sessions;
 mod terms;
 
 use std::io;
 
 fn main(rt: HostRuntime) -> io::Result<()> {
     let alloc = rt.alloc();
-    println!(rt; "{}", terms::outcome(alloc))
+    println!(rt; "{}", terms::outcome(alloc))?;
+    println!(rt; "{}", sessions::outcome(alloc))
 }

@@ -1,0 +1,16 @@
+//! Tests that call the crates as a host does: values from the standards, worked scripts, and readers
+//! and writers that fail. It has no code of its own.
+#![tactic(auto)]
+
+#[cfg(test)]
+mod documents;
+#[cfg(test)]
+mod lines;
+#[cfg(test)]
+mod program;
+#[cfg(test)]
+mod resolution;
+#[cfg(test)]
+mod sessions;
+#[cfg(test)]
+mod terms;

@@ -1,0 +1,236 @@
+//! Rows of bytes and words, and readers and writers that fail.
+
+use rdf_keeper::{ConvertFault, Format, convert, start};
+use std::alloc::{AllocError, Global};
+use std::io;
+use std::io::{ErrorKind, Read, Write};
+use std::rt::Files;
+use std::test::Fail;
+
+// Gives its bytes one at a time, and then fails or ends.
+#[derive(Drop)]
+struct Slow {
+    bytes: &'static [u8],
+    fails: bool,
+}
+
+impl Read for Slow {
+    fn read(&mut self, buf: &mut [u8]) -> io::Result<usize> {
+        if buf.is_empty() {
+            return Ok(0);
+        }
+        match self.bytes {
+            [first, rest @ ..] => {
+                buf[0] = *first;
+                self.bytes = rest;
+                Ok(1)
+            }
+            [] if self.fails => Err(io::Error::from(ErrorKind::Interrupted)),
+            [] => Ok(0),
+        }
+    }
+}
+
+// Takes so many bytes, one at a time, and then fails or takes nothing.
+#[derive(Drop)]
+struct Narrow {
+    room: usize,
+    taken: usize,
+    fails: bool,
+}
+
+impl Write for Narrow {
+    fn write(&mut self, buf: &[u8]) -> io::Result<usize> {
+        if self.taken < self.room && !buf.is_empty() {
+            self.taken += 1;
+            return Ok(1);
+        }
+        if self.fails {
+            return Err(io::Error::from(ErrorKind::Other));
+        }
+        Ok(0)
+    }
+
+    fn flush(&mut self) -> io::Result<()> {
+        Ok(())
+    }
+}
+
+const FOUR: &[u8] =
+    b"<http://e/s> <http://e/p> \"a\\u0041\\\"b\"@EN-us <http://e/g> . # c\n_:x:y <http://e/p> _:z1 .\r\n<http://e/s><http://e/p>_:x:y.\n<http://e/s> <http://e/p> \"1\"^^<http://www.w3.org/2001/XMLSchema#string> .";
+
+const FOUR_OUT: &[u8] =
+    b"<http://e/s> <http://e/p> \"aA\\\"b\"@en-us <http://e/g> .\n_:b0 <http://e/p> _:b1 .\n<http://e/s> <http://e/p> _:b0 .\n<http://e/s> <http://e/p> \"1\" .\n";
+
+const TWICE: &[u8] =
+    b"<http://e/s> <http://e/p> \"x\" .\n<http://e/s> <http://e/p> \"x\" .\n<http://e/s> <http://e/p> \"y\" .";
+
+const TWICE_OUT: &[u8] = b"<http://e/s> <http://e/p> \"x\" .\n<http://e/s> <http://e/p> \"x\" .\n";
+
+#[test]
+fn pieces_of_one_byte(rt: HostRuntime) -> Result<(), Fail> {
+    let reader = Slow {
+        bytes: FOUR,
+        fails: false,
+    };
+    let mut out = Vec::new(rt.alloc());
+    let answer = convert(rt.alloc(), Format::NQuads, None, reader, &mut out);
+    assert_eq!(rt; answer, Ok(()));
+    assert_eq!(rt; out.as_slice(), FOUR_OUT);
+    Ok(())
+}
+
+#[test]
+fn a_failed_read(rt: HostRuntime) -> Result<(), Fail> {
+    let reader = Slow {
+        bytes: TWICE,
+        fails: true,
+    };
+    let mut out = Vec::new(rt.alloc());
+    let answer = convert(rt.alloc(), Format::NTriples, None, reader, &mut out);
+    assert_eq!(rt; answer, Err(ConvertFault::Read));
+    assert_eq!(rt; out.as_slice(), TWICE_OUT);
+    Ok(())
+}
+
+#[test]
+fn failed_writes(rt: HostRuntime) -> Result<(), Fail> {
+    let mut full = Narrow {
+        room: 40,
+        taken: 0,
+        fails: false,
+    };
+    let answer = convert(rt.alloc(), Format::NQuads, None, TWICE, &mut full);
+    assert_eq!(rt; answer, Err(ConvertFault::Write));
+    let mut broken = Narrow {
+        room: 0,
+        taken: 0,
+        fails: true,
+    };
+    let answer = convert(rt.alloc(), Format::NQuads, None, TWICE, &mut broken);
+    assert_eq!(rt; answer, Err(ConvertFault::Write));
+    let mut wide = Narrow {
+        room: 200,
+        taken: 0,
+        fails: true,
+    };
+    assert_eq!(rt;
+        convert(rt.alloc(), Format::NQuads, None, TWICE, &mut wide),
+        Ok(())
+    );
+    Ok(())
+}
+
+fn words_of(alloc: Global, line: &str) -> Result<Vec<String>, AllocError> {
+    line.split(' ')
+        .map(|word| String::from_str(alloc, word))
+        .try_collect(alloc)
+}
+
+// What the program answers, and what it writes on its output and its error.
+#[derive(Drop)]
+struct Ran {
+    status: u8,
+    out: Vec<u8>,
+    errors: Vec<u8>,
+}
+
+fn run_line<T: Files + AllocGlobal>(rt: &T, line: &str, input: &[u8]) -> Result<Ran, AllocError> {
+    let words = words_of(rt.alloc(), line)?;
+    let mut out = Vec::new(rt.alloc());
+    let mut errors = Vec::new(rt.alloc());
+    let status = start(rt, words.as_slice(), input, &mut out, &mut errors);
+    Ok(Ran {
+        status,
+        out,
+        errors,
+    })
+}
+
+#[test]
+fn converts(rt: HostRuntime) -> Result<(), Fail> {
+    let ran = run_line(&rt, "convert --from nquads", FOUR)?;
+    assert_eq!(rt; ran.status, 0);
+    assert_eq!(rt; ran.out.as_slice(), FOUR_OUT);
+    assert!(rt; ran.errors.is_empty());
+    Ok(())
+}
+
+#[test]
+fn a_graph_in_triples(rt: HostRuntime) -> Result<(), Fail> {
+    let input =
+        b"<http://e/s> <http://e/p> \"x\" .\n<http://e/s> <http://e/p> \"x\" <http://e/g> .\n";
+    let ran = run_line(&rt, "convert --from ntriples", input.as_slice())?;
+    assert_eq!(rt; ran.status, 1);
+    assert_eq!(rt;
+        ran.out.as_slice(),
+        b"<http://e/s> <http://e/p> \"x\" .\n".as_slice()
+    );
+    assert_eq!(rt;
+        ran.errors.as_slice(),
+        b"rdfkeep: refused: Syntax line 2\n".as_slice()
+    );
+    Ok(())
+}
+
+fn is_usage_fault<T: Files + AllocGlobal>(rt: &T, line: &str) -> Result<bool, AllocError> {
+    let ran = run_line(rt, line, FOUR)?;
+    Ok(ran.status == 2 && ran.out.is_empty() && !ran.errors.is_empty())
+}
+
+#[test]
+fn wrong_words(rt: HostRuntime) -> Result<(), Fail> {
+    assert!(rt; is_usage_fault(&rt, "convert")?);
+    assert!(rt; is_usage_fault(&rt, "convert --from turtle")?);
+    assert!(rt; is_usage_fault(&rt, "convert --from nquads a b")?);
+    assert!(rt; is_usage_fault(&rt, "run --stop --stop")?);
+    assert!(rt; is_usage_fault(&rt, "run --data")?);
+    assert!(rt; is_usage_fault(&rt, "run --format state")?);
+    assert!(rt; is_usage_fault(&rt, "load")?);
+    let mut out = Vec::new(rt.alloc());
+    let mut errors = Vec::new(rt.alloc());
+    assert_eq!(rt; start(&rt, &[], FOUR, &mut out, &mut errors), 2);
+    assert!(rt; out.is_empty());
+    Ok(())
+}
+
+fn is_shown<T: Files + AllocGlobal>(rt: &T, line: &str) -> Result<bool, AllocError> {
+    let ran = run_line(rt, line, FOUR)?;
+    Ok(ran.status == 0 && !ran.out.is_empty() && ran.errors.is_empty())
+}
+
+#[test]
+fn help_and_version(rt: HostRuntime) -> Result<(), Fail> {
+    assert!(rt; is_shown(&rt, "--help")?);
+    assert!(rt; is_shown(&rt, "--version")?);
+    assert!(rt; is_shown(&rt, "run --help")?);
+    assert!(rt; is_shown(&rt, "run --version")?);
+    assert!(rt; is_shown(&rt, "convert --help")?);
+    assert!(rt; is_shown(&rt, "convert --version")?);
+    Ok(())
+}
+
+fn ends<T: Files + AllocGlobal>(
+    rt: &T,
+    line: &str,
+    status: u8,
+    error: &[u8],
+) -> Result<bool, AllocError> {
+    let ran = run_line(rt, line, b"")?;
+    Ok(ran.status == status && ran.out.is_empty() && ran.errors.as_slice() == error)
+}
+
+#[test]
+fn bases_and_files(rt: HostRuntime) -> Result<(), Fail> {
+    let bad_base = b"rdfkeep: bad base\n".as_slice();
+    let unread = b"rdfkeep: read failed\n".as_slice();
+    assert!(rt; ends(&rt, "run --base e --data no/file", 2, bad_base)?);
+    assert!(rt; ends(&rt, "convert --from nquads --base a:> no/file", 2, bad_base)?);
+    assert!(rt; ends(&rt, "convert --from nquads --base a:b no/file", 3, unread)?);
+    assert!(rt; ends(&rt, "convert --from nquads .", 3, unread)?);
+    assert!(rt; ends(&rt, "run --data no/file no/script", 3, unread)?);
+    assert!(rt; ends(&rt, "run --data .", 3, unread)?);
+    assert!(rt; ends(&rt, "run --format ntriples no/script", 3, unread)?);
+    assert!(rt; ends(&rt, "run .", 3, unread)?);
+    Ok(())
+}

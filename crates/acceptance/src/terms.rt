@@ -1,0 +1,288 @@
+//! Values from outside, each call once, and what no clause says.
+use rdf_terms::*;
+use std::alloc::Global;
+use std::cmp::Ordering;
+use std::test::Fail;
+
+fn iri_of(alloc: Global, text: &str) -> Result<Term, Fail> {
+    Ok(Term::Iri(Iri::new(alloc, text)?))
+}
+
+fn typed_of(alloc: Global, lexical: &str, datatype: &str) -> Result<Term, Fail> {
+    let datatype = Iri::new(alloc, datatype)?;
+    Ok(Term::Literal(Literal::new(alloc, lexical, datatype)?))
+}
+
+fn tagged_of(alloc: Global, lexical: &str, tag: &str) -> Result<Term, Fail> {
+    let literal = Literal::tagged(alloc, lexical, tag)?.ok_or("no tag")?;
+    Ok(Term::Literal(literal))
+}
+
+fn text_of(alloc: Global, term: &Term) -> Result<Vec<u8>, Fail> {
+    let mut out = Vec::new(alloc);
+    write_term(alloc, term, &mut out)?;
+    Ok(out)
+}
+
+#[test]
+fn iris(rt: HostRuntime) {
+    let alloc = rt.alloc();
+    for text in [
+        "http://e/a",
+        "a:",
+        "urn:x-y:z",
+        "a+1.-:b%20",
+        "http://e/\u{e9}",
+    ] {
+        assert!(rt; Iri::new(alloc, text).is_ok(), "{text}");
+    }
+}
+
+#[test]
+fn relative_iris(rt: HostRuntime) {
+    let alloc = rt.alloc();
+    for text in ["", "a", "/a", "1a:b", ":b", "a/b:c", "a b:c", "<a> b"] {
+        let made = Iri::new(alloc, text);
+        assert!(rt; matches!(made, Err(IriFault::Relative)), "{text}");
+    }
+}
+
+#[test]
+fn bad_characters(rt: HostRuntime) {
+    let alloc = rt.alloc();
+    for text in [
+        "a:b c", "a:<", "a:>", "a:\"", "a:{", "a:}", "a:|", "a:^", "a:`", "a:\\", "a:\0",
+    ] {
+        let made = Iri::new(alloc, text);
+        assert!(rt; matches!(made, Err(IriFault::BadCharacter)), "{text}");
+    }
+}
+
+#[test]
+fn iris_from_texts(rt: HostRuntime) -> Result<(), Fail> {
+    let alloc = rt.alloc();
+    let iri = Iri::from_text(Text::new(alloc, "http://example.org/#spiderman")?)?;
+    assert_eq!(rt; iri.as_str(), "http://example.org/#spiderman");
+    assert!(rt; iri.copy()? == iri);
+    let bad = Iri::from_text(Text::new(alloc, "a: b")?);
+    assert!(rt; matches!(bad, Err(IriFault::BadCharacter)));
+    Ok(())
+}
+
+#[test]
+fn fault_names(rt: HostRuntime) {
+    assert_eq!(rt; IriFault::Relative.name(), "Relative");
+    assert_eq!(rt; IriFault::BadCharacter.name(), "BadCharacter");
+    assert_eq!(rt; IriFault::NoMemory.name(), "NoMemory");
+    assert_eq!(rt; NoMemory.name(), "NoMemory");
+}
+
+#[test]
+fn texts(rt: HostRuntime) -> Result<(), Fail> {
+    let alloc = rt.alloc();
+    let text = Text::new(alloc, "\u{3c0}\n")?;
+    assert_eq!(rt; text.as_str(), "\u{3c0}\n");
+    assert!(rt; text.copy()? == text);
+    let same = Text::from(String::from_str(alloc, "\u{3c0}\n")?);
+    assert!(rt; same == text);
+    Ok(())
+}
+
+#[test]
+fn tags(rt: HostRuntime) -> Result<(), Fail> {
+    let alloc = rt.alloc();
+    for tag in ["en", "EN-us", "de-1996", "x-a-b1"] {
+        assert!(rt; Literal::tagged(alloc, "x", tag)?.is_some(), "{tag}");
+    }
+    for tag in ["", "-", "en-", "e1", "en--us", "en_us", "1", "en-\u{e9}"] {
+        assert!(rt; Literal::tagged(alloc, "x", tag)?.is_none(), "{tag}");
+    }
+    Ok(())
+}
+
+#[test]
+fn tagged_literals(rt: HostRuntime) -> Result<(), Fail> {
+    let alloc = rt.alloc();
+    let lexical = Text::new(alloc, "Cette S\u{e9}rie")?;
+    let literal = Literal::tagged_from_text(alloc, lexical, "fr-BE")?.ok_or("no tag")?;
+    assert_eq!(rt; literal.lexical(), "Cette S\u{e9}rie");
+    assert_eq!(rt; literal.tag().ok_or("no tag")?, "fr-be");
+    let datatype = "http://www.w3.org/1999/02/22-rdf-syntax-ns#langString";
+    assert_eq!(rt; literal.datatype().as_str(), datatype);
+    assert!(rt; literal.copy()? == literal);
+    Ok(())
+}
+
+#[test]
+fn typed_literals(rt: HostRuntime) -> Result<(), Fail> {
+    let alloc = rt.alloc();
+    let datatype = Iri::new(alloc, "http://www.w3.org/2001/XMLSchema#integer")?;
+    let literal = Literal::from_text(Text::new(alloc, "01")?, datatype.copy()?);
+    assert_eq!(rt; literal.lexical(), "01");
+    assert!(rt; *literal.datatype() == datatype && literal.tag().is_none());
+    assert!(rt; Literal::new(alloc, "01", datatype.copy()?)? == literal);
+    assert!(rt; Literal::new(alloc, "1", datatype)? != literal);
+    Ok(())
+}
+
+#[test]
+fn text_of_blank_nodes(rt: HostRuntime) -> Result<(), Fail> {
+    let text = text_of(rt.alloc(), &Term::Blank(18446744073709551615))?;
+    assert_eq!(rt; text.as_slice(), b"_:b18446744073709551615".as_slice());
+    let text = text_of(rt.alloc(), &Term::Blank(0))?;
+    assert_eq!(rt; text.as_slice(), b"_:b0".as_slice());
+    Ok(())
+}
+
+#[test]
+fn text_of_iris(rt: HostRuntime) -> Result<(), Fail> {
+    let alloc = rt.alloc();
+    let text = text_of(alloc, &iri_of(alloc, "http://e/\u{e9}")?)?;
+    assert_eq!(rt; text.as_slice(), "<http://e/\u{e9}>".as_bytes());
+    Ok(())
+}
+
+#[test]
+fn text_of_strings(rt: HostRuntime) -> Result<(), Fail> {
+    let alloc = rt.alloc();
+    let string = "http://www.w3.org/2001/XMLSchema#string";
+    let text = text_of(alloc, &typed_of(alloc, "a\"\\\n\r\tb\u{7f}", string)?)?;
+    assert_eq!(rt; text.as_slice(), b"\"a\\\"\\\\\\n\\r\tb\x7f\"".as_slice());
+    Ok(())
+}
+
+#[test]
+fn text_of_typed_literals(rt: HostRuntime) -> Result<(), Fail> {
+    let alloc = rt.alloc();
+    let text = text_of(alloc, &typed_of(alloc, "1", "http://e/d")?)?;
+    assert_eq!(rt; text.as_slice(), b"\"1\"^^<http://e/d>".as_slice());
+    let text = text_of(alloc, &tagged_of(alloc, "hi", "EN-us")?)?;
+    assert_eq!(rt; text.as_slice(), b"\"hi\"@en-us".as_slice());
+    Ok(())
+}
+
+#[test]
+fn text_is_appended(rt: HostRuntime) -> Result<(), Fail> {
+    let alloc = rt.alloc();
+    let mut out = text_of(alloc, &Term::Blank(7))?;
+    write_term(alloc, &Term::Blank(8), &mut out)?;
+    assert_eq!(rt; out.as_slice(), b"_:b7_:b8".as_slice());
+    Ok(())
+}
+
+#[test]
+fn terms_in_order(rt: HostRuntime) -> Result<(), Fail> {
+    let alloc = rt.alloc();
+    let iri = iri_of(alloc, "z:")?;
+    assert_eq!(rt;
+        compare_terms(&Term::Blank(9), &Term::Blank(10)),
+        Ordering::Less
+    );
+    assert_eq!(rt; compare_terms(&Term::Blank(10), &iri), Ordering::Less);
+    let literal = typed_of(alloc, "", "a:")?;
+    assert_eq!(rt; compare_terms(&iri, &literal), Ordering::Less);
+    assert!(rt; same_term(&literal, &literal.copy()?));
+    Ok(())
+}
+
+#[test]
+fn tags_in_order(rt: HostRuntime) -> Result<(), Fail> {
+    let alloc = rt.alloc();
+    let datatype = "http://www.w3.org/1999/02/22-rdf-syntax-ns#langString";
+    let plain = typed_of(alloc, "a", datatype)?;
+    let tagged = tagged_of(alloc, "a", "EN")?;
+    assert_eq!(rt; compare_terms(&plain, &tagged), Ordering::Less);
+    assert!(rt; !same_term(&plain, &tagged));
+    Ok(())
+}
+
+#[test]
+fn same_literals(rt: HostRuntime) -> Result<(), Fail> {
+    let alloc = rt.alloc();
+    let (one, other) = (typed_of(alloc, "a", "a:b")?, typed_of(alloc, "a", "a:c")?);
+    assert!(rt; !same_term(&one, &other));
+    let (one, other) = (tagged_of(alloc, "a", "EN")?, tagged_of(alloc, "a", "en")?);
+    assert!(rt; same_term(&one, &other));
+    Ok(())
+}
+
+fn quad_of(alloc: Global, graph: GraphName, subject: u64, object: u64) -> Result<Quad, Fail> {
+    let predicate = iri_of(alloc, "a:")?;
+    let quad = Quad::new(graph, Term::Blank(subject), predicate, Term::Blank(object));
+    Ok(quad.ok_or("no quad")?)
+}
+
+#[test]
+fn places(rt: HostRuntime) -> Result<(), Fail> {
+    let quad = quad_of(rt.alloc(), GraphName::Named(Term::Blank(1)), 0, 2)?;
+    assert!(rt; *quad.graph() == GraphName::Named(Term::Blank(1)));
+    assert!(rt; *quad.subject() == Term::Blank(0));
+    assert!(rt; matches!(quad.predicate(), Term::Iri(_)));
+    assert!(rt; *quad.object() == Term::Blank(2));
+    Ok(())
+}
+
+#[test]
+fn parts(rt: HostRuntime) -> Result<(), Fail> {
+    let quad = quad_of(rt.alloc(), GraphName::Default, 0, 2)?;
+    let (graph, subject, predicate, object) = quad.into_parts();
+    assert!(rt; graph == GraphName::Default && matches!(&predicate, Term::Iri(_)));
+    assert!(rt; subject == Term::Blank(0) && object == Term::Blank(2));
+    Ok(())
+}
+
+#[test]
+fn quad_copies(rt: HostRuntime) -> Result<(), Fail> {
+    let named = GraphName::Named(Term::Blank(1));
+    let quad = quad_of(rt.alloc(), named.copy()?, 0, 2)?;
+    assert!(rt; *quad.graph() == named);
+    assert!(rt; same_quad(&quad.copy()?, &quad));
+    Ok(())
+}
+
+#[test]
+fn wrong_subjects(rt: HostRuntime) -> Result<(), Fail> {
+    let alloc = rt.alloc();
+    let (literal, iri) = (typed_of(alloc, "", "a:")?, iri_of(alloc, "a:")?);
+    let quad = Quad::new(GraphName::Default, literal, iri, Term::Blank(1));
+    assert!(rt; quad.is_none());
+    Ok(())
+}
+
+#[test]
+fn wrong_predicates(rt: HostRuntime) -> Result<(), Fail> {
+    let literal = typed_of(rt.alloc(), "", "a:")?;
+    let blank = Term::Blank(0);
+    let quad = Quad::new(GraphName::Default, Term::Blank(1), blank, Term::Blank(1));
+    assert!(rt; quad.is_none());
+    let quad = Quad::new(GraphName::Default, Term::Blank(1), literal, Term::Blank(1));
+    assert!(rt; quad.is_none());
+    Ok(())
+}
+
+#[test]
+fn wrong_graphs(rt: HostRuntime) -> Result<(), Fail> {
+    let alloc = rt.alloc();
+    let (literal, iri) = (typed_of(alloc, "", "a:")?, iri_of(alloc, "a:")?);
+    let named = GraphName::Named(literal);
+    assert!(rt; Quad::new(named, Term::Blank(0), iri, Term::Blank(1)).is_none());
+    Ok(())
+}
+
+#[test]
+fn quads_in_order(rt: HostRuntime) -> Result<(), Fail> {
+    let plain = quad_of(rt.alloc(), GraphName::Default, 9, 0)?;
+    let named = quad_of(rt.alloc(), GraphName::Named(Term::Blank(0)), 0, 0)?;
+    assert_eq!(rt; compare_quads(&plain, &named), Ordering::Less);
+    Ok(())
+}
+
+#[test]
+fn laws(rt: HostRuntime) -> Result<(), Fail> {
+    let quad = quad_of(rt.alloc(), GraphName::Default, 0, 0)?;
+    quad_is_one(&quad);
+    term_is_one(quad.subject());
+    texts_differ();
+    orders_are_total();
+    Ok(())
+}

@@ -1,0 +1,5 @@
+mod DeltaLemmas
+mod ListingLemmas
+mod SortedLemmas
+mod StateLemmas
+mod TreeLemmas

@@ -1,0 +1,12 @@
+use Rattle.std.proofs.Common.{◌≡◌, ◌∙◌, sym, ap, length, arith, [], List}
+use Rattle.std.proofs.lemmas.List.{nil_from_length}
+use borrow.Author.Tests.{eqb-true}
+use Rattle.std.specs.FinSet as set
+use Rattle.rdf_dataset.proofs.SortedLemmas.{union_nothing}
+use Rattle.rdf_dataset.proofs.sorted.Sorted.unite.Goals as goal
+
+pub returns-then-is_empty-clause-ok : goal.returns-then-is_empty-clause-ok
+returns-then-is_empty-clause-ok g c =
+    let none : length c.more.inside.items.items ≡ 0 = sym c.more.inside.items.ok.0 ∙ eqb-true c.more.inside.items.len 0 (sym c.if-is_empty.ensures) in
+    let nil = sym c.more.view_is ∙ nil_from_length c.more.inside.items.items none in
+    union_nothing g.met.T.Item.in_order g.met.T.Item.apart (set.from_list c.args.self.now) (set.from_list c.args.more.now) (ap (λ xs. set.from_list {R = g.T.Item.order} xs) nil)

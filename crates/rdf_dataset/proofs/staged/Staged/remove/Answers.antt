@@ -1,0 +1,14 @@
+use Rattle.std.proofs.Common.{◌≡◌, ◌∙◌, sym, ap, subst}
+use Rattle.rdf_dataset.specs.State.{State, IsSound, IsTermBelow, IsQuadBelow, IsEmptyGraph, applied, net_between, with_name, without_name, with_quad, without_quad}
+use Rattle.rdf_dataset.specs.Staging.{Staging, staged}
+use Rattle.rdf_terms.specs.declared.quad.GraphName.TheVariants.{Named}
+use Rattle.rdf_dataset.proofs.StateLemmas.{restaged, sound_with_name, sound_without_name, sound_with_quad, sound_without_quad, quad_there, not_false}
+use Rattle.rdf_dataset.proofs.staged.Staged.remove.Goals as goal
+
+pub invariant_of-self-2 : goal.invariant_of-self-2
+invariant_of-self-2 g c = (restaged (g.D.Source.contents c.self.inside.under.now) (without_quad (applied c.self.inside.edits (g.D.Source.contents c.self.inside.under.now)) c.args.quad.now) c.remove.new.self (c.in_ok-remove.ensures.ok (g.D.Source.contents c.self.inside.under.now) (applied c.self.inside.edits (g.D.Source.contents c.self.inside.under.now)) c.self.invariant.0 c.contains-beneath.ensures) (sound_without_quad (applied c.self.inside.edits (g.D.Source.contents c.self.inside.under.now)) c.args.quad.now c.self.invariant.1)).0
+
+pub returns-clause-ok : goal.returns-clause-ok
+returns-clause-ok g c =
+    (restaged (g.D.Source.contents c.self.inside.under.now) (without_quad (applied c.self.inside.edits (g.D.Source.contents c.self.inside.under.now)) c.args.quad.now) c.remove.new.self (c.in_ok-remove.ensures.ok (g.D.Source.contents c.self.inside.under.now) (applied c.self.inside.edits (g.D.Source.contents c.self.inside.under.now)) c.self.invariant.0 c.contains-beneath.ensures) (sound_without_quad (applied c.self.inside.edits (g.D.Source.contents c.self.inside.under.now)) c.args.quad.now c.self.invariant.1)).1
+    ∙ ap (λ (s : Staging). staged s (without_quad s.now c.args.quad.now)) c.self.view_is

@@ -1,0 +1,7 @@
+pub mod Delta
+pub mod Laws
+pub mod Merging
+pub mod Places
+pub mod Sorted
+pub mod Staging
+pub mod State

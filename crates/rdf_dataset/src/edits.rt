@@ -1,0 +1,190 @@
+//! A net that grows by one change after another. Each method is told whether what lies beneath has
+//! the quad or the name.
+ghost use Rattle.std.specs.Prelude.{◌≡◌, ◌≤◌, ◌+◌, length, option_copied, not, IfOk, OnOk, OnErr};
+ghost use Rattle.std.specs.FinSet as set;
+ghost use Rattle.rdf_dataset.specs.Sorted.{ListsOnce};
+ghost use Rattle.rdf_terms.specs.Order.{term_cmp};
+ghost use Rattle.rdf_dataset.specs.State.{State, Names, IsKnownGraph, matches, net_between, with_quad, without_quad, with_name, without_name};
+
+use crate::listing::append_matching_of;
+use crate::net::Net;
+use crate::tree::Tree;
+use crate::tree_delta::TreeDelta;
+use rdf_terms::{GraphName, NoMemory, Quad, Term};
+use std::alloc::Global;
+use std::marker::Model;
+
+/// Quads and graph names that were added and removed, and the blank counter before and after.
+#[derive(Drop)]
+pub(crate) struct Edits {
+    pub(crate) quads: TreeDelta<Quad>,
+    pub(crate) names: TreeDelta<Term>,
+    pub(crate) before: u64,
+    pub(crate) after: u64,
+}
+
+impl Model for Edits {
+    ghost use Rattle.std.specs.FinSet as set;
+    ghost use Rattle.rdf_dataset.specs.State.{Change, change_code};
+
+    ghost Value = { Change };
+
+    ghost coded = { change_code };
+
+    ghost view = { λ n. record {
+      added = set.from_list n.quads.added;
+      removed = set.from_list n.quads.removed;
+      names_added = set.from_list n.names.added;
+      names_removed = set.from_list n.names.removed;
+      before = n.before;
+      after = n.after;
+    } };
+}
+
+impl Edits {
+    /// From any state with this counter to itself.
+    pub(crate) fn none(alloc: Global, counter: u64) -> Edits
+        ensures { (s : State) → s.next ≡ counter → result ≡ net_between s s }
+    {
+        Edits {
+            quads: TreeDelta::none(alloc),
+            names: TreeDelta::none(alloc),
+            before: counter,
+            after: counter,
+        }
+    }
+
+    /// The same as a net.
+    pub(crate) fn into_net(self, alloc: Global) -> Result<Net, NoMemory>
+        ensures { IfOk result (λ net. net ≡ self) }
+    {
+        let Edits {
+            quads,
+            names,
+            before,
+            after,
+        } = self;
+        Ok(Net {
+            quads: quads.into_delta(alloc)?,
+            names: names.into_delta(alloc)?,
+            before,
+            after,
+        })
+    }
+
+    /// Whether the quad is there at the end.
+    pub(crate) fn has_quad(&self, beneath: bool, quad: &Quad) -> bool
+        ensures { (s t : State) → self.now ≡ net_between s t → beneath ≡ set.contains s.quads quad.now → result ≡ set.contains t.quads quad.now }
+    {
+        self.quads.contains(beneath, quad)
+    }
+
+    /// Whether the name is there at the end.
+    pub(crate) fn has_name(&self, beneath: bool, name: &Term) -> bool
+        ensures { (s t : State) → self.now ≡ net_between s t → beneath ≡ set.contains s.names name.now → result ≡ set.contains t.names name.now }
+    {
+        self.names.contains(beneath, name)
+    }
+
+    pub(crate) fn add_name(&mut self, beneath: bool, name: Term) -> Result<bool, NoMemory>
+        ensures ok { OnOk result ((s t : State) → self.old ≡ net_between s t → beneath ≡ set.contains s.names name →
+            self.new ≡ net_between s (with_name t name)) }
+        ensures new { IfOk result (λ new. (s t : State) → self.old ≡ net_between s t → beneath ≡ set.contains s.names name →
+            new ≡ not (set.contains t.names name)) }
+        ensures err { OnErr result (self.new ≡ self.old) }
+    {
+        self.names.insert(beneath, name)
+    }
+
+    pub(crate) fn drop_name(&mut self, beneath: bool, name: &Term) -> Result<bool, NoMemory>
+        ensures ok { OnOk result ((s t : State) → self.old ≡ net_between s t → beneath ≡ set.contains s.names name.now →
+            self.new ≡ net_between s (without_name t name.now)) }
+        ensures was { IfOk result (λ was. (s t : State) → self.old ≡ net_between s t → beneath ≡ set.contains s.names name.now →
+            was ≡ set.contains t.names name.now) }
+        ensures err { OnErr result (self.new ≡ self.old) }
+    {
+        self.names.remove(beneath, name)
+    }
+
+    pub(crate) fn remove(&mut self, beneath: bool, quad: &Quad) -> Result<bool, NoMemory>
+        ensures ok { OnOk result ((s t : State) → self.old ≡ net_between s t → beneath ≡ set.contains s.quads quad.now →
+            self.new ≡ net_between s (without_quad t quad.now)) }
+        ensures was { IfOk result (λ was. (s t : State) → self.old ≡ net_between s t → beneath ≡ set.contains s.quads quad.now →
+            was ≡ set.contains t.quads quad.now) }
+        ensures err { OnErr result (self.new ≡ self.old) }
+    {
+        self.quads.remove(beneath, quad)
+    }
+
+    // The growths that can be refused come first; one that was made is taken back where the next is refused.
+    pub(crate) fn insert(
+        &mut self,
+        beneath: bool,
+        named: bool,
+        quad: Quad,
+    ) -> Result<bool, NoMemory>
+        ensures ok { OnOk result ((s t : State) → self.old ≡ net_between s t → beneath ≡ set.contains s.quads quad → IsKnownGraph s.names named quad.graph →
+            self.new ≡ net_between s (with_quad t quad)) }
+        ensures new { IfOk result (λ new. (s t : State) → self.old ≡ net_between s t → beneath ≡ set.contains s.quads quad →
+            new ≡ not (set.contains t.quads quad)) }
+        ensures err { OnErr result (self.new ≡ self.old) }
+    {
+        let GraphName::Named(name) = quad.graph() else {
+            return self.quads.insert(beneath, quad);
+        };
+        let name = name.copy()?;
+        if named {
+            let new = self.quads.insert(beneath, quad)?;
+            self.names.removed.remove(&name);
+            return Ok(new);
+        }
+        let again = name.copy()?;
+        let added = self.names.added.insert(name)?;
+        match self.quads.insert(beneath, quad) {
+            Ok(new) => Ok(new),
+            Err(refused) => {
+                take_back(&mut self.names.added, added, &again);
+                Err(refused)
+            }
+        }
+    }
+
+    /// Makes a listing of the names at the beginning one of those at the end.
+    pub(crate) fn amend_names(&self, found: &mut Vec<Term>) -> Result<(), NoMemory>
+        ensures ok { OnOk result ((s t : State) → self.now ≡ net_between s t → ListsOnce s.names found.old.items → ListsOnce t.names found.new.items) }
+    {
+        found.retain(|name| !self.names.removed.contains(name));
+        self.names.added.append_copies(found)
+    }
+
+    /// Makes a listing of the matching quads at the beginning one of those at the end, and answers
+    /// how many more were looked at.
+    pub(crate) fn amend_quads(
+        &self,
+        found: &mut Vec<Quad>,
+        graph: &GraphName,
+        subject: Option<&Term>,
+        predicate: Option<&Term>,
+        object: Option<&Term>,
+    ) -> Result<usize, NoMemory>
+        ensures ok { OnOk result ((s t : State) → self.now ≡ net_between s t →
+            ListsOnce (set.retain s.quads (matches graph.now (option_copied subject.entry) (option_copied predicate.entry) (option_copied object.entry))) found.old.items →
+            ListsOnce (set.retain t.quads (matches graph.now (option_copied subject.entry) (option_copied predicate.entry) (option_copied object.entry))) found.new.items) }
+        ensures looked { IfOk result (λ looked. length found.new.items ≤ length found.old.items + looked) }
+    {
+        found.retain(|quad| !self.quads.removed.contains(quad));
+        let added = &self.quads.added;
+        append_matching_of(found, added, graph, subject, predicate, object)?;
+        Ok(added.len())
+    }
+}
+
+// Makes the tree what it was before the name went in, which was new or not.
+fn take_back(names: &mut Tree<Term>, added: bool, name: &Term)
+    ensures { (before : Names) → set.from_list {R = term_cmp} names.old ≡ set.insert before name.now → added ≡ not (set.contains before name.now) →
+        set.from_list {R = term_cmp} names.new ≡ before }
+{
+    if added {
+        names.remove(name);
+    }
+}

@@ -1,0 +1,164 @@
+//! A set of items, kept as a sorted list without repeats.
+ghost use Rattle.std.specs.Prelude.{◌≡◌, [], ◌∷◌, ◌++◌, List, length, IsOk, IfOk, IfErr, OnOk, OnErr, MatchOption};
+ghost use Rattle.std.specs.FinSet as set;
+ghost use Rattle.std.specs.List.Sorted.{IsStrictlySortedBy};
+ghost use Rattle.rdf_dataset.specs.Places.{IsFoundAt, IsGapAt};
+ghost use Rattle.rdf_dataset.specs.Merging.{PopsGreatest};
+
+use crate::item::Item;
+use rdf_terms::NoMemory;
+use std::alloc::Global;
+use std::cmp::Ordering;
+use std::marker::Model;
+
+/// Items in strictly rising order.
+#[derive(Drop)]
+pub(crate) struct Sorted<T: Item> {
+    items: Vec<T>,
+}
+
+impl<T: Item> Model for Sorted<T> {
+    ghost use Rattle.std.specs.Prelude.{List};
+    ghost use Rattle.std.specs.List.Sorted.{IsStrictlySortedBy};
+
+    ghost Value = { List T };
+
+    ghost view = { λ s. s.items.items };
+
+    ghost invariant = { λ s. IsStrictlySortedBy T.order s.items.items };
+}
+
+impl<T: Item> Sorted<T> {
+    /// No items.
+    pub(crate) fn new(alloc: Global) -> Sorted<T>
+        ensures { result ≡ [] }
+    {
+        Sorted {
+            items: Vec::new(alloc),
+        }
+    }
+
+    /// The items of a list that is sorted already.
+    pub(crate) fn from_rising(items: Vec<T>) -> Sorted<T>
+        requires { IsStrictlySortedBy T.order items.items }
+        ensures { result ≡ items.items }
+    {
+        Sorted { items }
+    }
+
+    pub(crate) fn as_slice(&self) -> &[T]
+        ensures items { result.now ≡ self.now }
+        ensures sorted { IsStrictlySortedBy T.order self.now }
+    {
+        self.items.as_slice()
+    }
+
+    // Where the item stands, or where it would go.
+    fn search(&self, item: &T) -> Result<usize, usize>
+        ensures found { IfOk result (IsFoundAt T.order self.now item.now) }
+        ensures absent { IfErr result (IsGapAt T.order self.now item.now) }
+    {
+        self.items.binary_search_by(|other| other.compare(item))
+    }
+
+    pub(crate) fn contains(&self, item: &T) -> bool
+        ensures { result ≡ set.contains (set.from_list {R = T.order} self.now) item.now }
+    {
+        self.search(item).is_ok()
+    }
+
+    /// Takes the other's items out.
+    pub(crate) fn subtract(&mut self, gone: &Sorted<T>)
+        ensures { set.from_list {R = T.order} self.new ≡ set.difference (set.from_list self.old) (set.from_list gone.now) }
+    {
+        self.items.retain(|item| !gone.contains(item));
+    }
+
+    /// An equal list.
+    pub(crate) fn copy(&self) -> Result<Sorted<T>, NoMemory>
+        ensures { IfOk result (λ copy. copy ≡ self.now) }
+    {
+        let mut items = Vec::new(*self.items.allocator());
+        append_copies(&mut items, &self.items)?;
+        Ok(Sorted { items })
+    }
+
+    /// Adds the other's items, or changes nothing.
+    pub(crate) fn unite(&mut self, more: &Sorted<T>) -> Result<(), NoMemory>
+        ensures ok { OnOk result (set.from_list {R = T.order} self.new ≡ set.union (set.from_list self.old) (set.from_list more.now)) }
+        ensures err { OnErr result (self.new ≡ self.old) }
+        ensures free { more.now ≡ [] → IsOk result }
+    {
+        if more.items.is_empty() {
+            return Ok(());
+        }
+        let more = more.copy()?;
+        merge_into(&mut self.items, more.items)
+    }
+}
+
+/// Appends equal items, or changes nothing.
+pub(crate) fn append_copies<T: Item>(out: &mut Vec<T>, items: &[T]) -> Result<(), NoMemory>
+    ensures ok { OnOk result (out.new.items ≡ out.old.items ++ items.now) }
+    ensures err { OnErr result (out.new.items ≡ out.old.items) }
+{
+    let before = out.len();
+    for item in items {
+        if let Err(refused) = append_copy(out, item) {
+            out.truncate(before);
+            return Err(refused);
+        }
+    }
+    Ok(())
+}
+
+/// Appends an equal item, or changes nothing.
+pub(crate) fn append_copy<T: Item>(out: &mut Vec<T>, item: &T) -> Result<(), NoMemory>
+    ensures ok { OnOk result (out.new.items ≡ out.old.items ++ item.now ∷ []) }
+    ensures err { OnErr result (out.new.items ≡ out.old.items) }
+{
+    out.push(item.copied()?)?;
+    Ok(())
+}
+
+// Merges two lists from their ends; the memory is taken before any item moves.
+fn merge_into<T: Item>(items: &mut Vec<T>, more: Vec<T>) -> Result<(), NoMemory>
+    requires items { IsStrictlySortedBy T.order items.old.items }
+    requires more { IsStrictlySortedBy T.order more.items }
+    ensures sorted { IsStrictlySortedBy T.order items.new.items }
+    ensures ok { OnOk result (set.from_list {R = T.order} items.new.items ≡ set.union (set.from_list items.old.items) (set.from_list more.items)) }
+    ensures err { OnErr result (items.new.items ≡ items.old.items) }
+{
+    let Some(room) = items.len().checked_add(more.len()) else {
+        return Err(NoMemory);
+    };
+    let mut merged = Vec::with_capacity(*items.allocator(), room)?;
+    let mut more = more;
+    while let Some(item) = pop_greatest(items, &mut more) {
+        merged.push(item).unwrap();
+    }
+    merged.reverse();
+    *items = merged;
+    Ok(())
+}
+
+// The greatest of the items at the two ends; one that stands at both is taken from both.
+fn pop_greatest<T: Item>(items: &mut Vec<T>, more: &mut Vec<T>) -> Option<T>
+    ensures { MatchOption result ((items.old.items ≡ []) × (more.old.items ≡ []))
+        (PopsGreatest T.order items.old.items more.old.items items.new.items more.new.items) }
+{
+    let Some(item) = items.last() else {
+        return more.pop();
+    };
+    let Some(other) = more.last() else {
+        return items.pop();
+    };
+    match item.compare(other) {
+        Ordering::Less => more.pop(),
+        Ordering::Equal => {
+            more.pop();
+            items.pop()
+        }
+        Ordering::Greater => items.pop(),
+    }
+}
