@@ -19,8 +19,6 @@ mod reference;
 mod resolution;
 mod resolution_laws;
 mod term;
-#[cfg(test)]
-mod tests;
 mod text;
 mod write;
 

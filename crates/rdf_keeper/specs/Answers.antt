@@ -1,0 +1,37 @@
+-- The answers to commands, as bytes.
+use Rattle.std.specs.Prelude.{◌≡◌, ◌⊎◌, ℕ, Bool, true, false, List, [], ◌∷◌, ◌++◌, codes, decimal, length}
+use Rattle.std.specs.List.{concat}
+use Rattle.rdf_keeper.specs.Commands.{Asked, act, show, bad, unended}
+use Rattle.rdf_keeper.specs.Faults.{name_of}
+use Rattle.rdf_keeper.specs.Listing.{Shows}
+use Rattle.rdf_keeper.specs.Session.{Session, Step, Reply, Changed, Done, Refused}
+use Rattle.rdf_keeper.specs.declared.fault.KeeperFault.{KeeperFault}
+use Rattle.rdf_keeper.specs.declared.fault.KeeperFault.TheVariants.{BadCommand, NoEnd, NoMemory, Line}
+
+-- the line of a fault in a text
+abbrev pub place_text : KeeperFault → List ℕ
+place_text (Line fault) = codes " line " ++ decimal fault.line
+place_text _ = []
+
+-- the answer line of a reply
+abbrev pub reply_line : Reply → List ℕ
+reply_line (Changed c) = codes "ok +" ++ decimal c.added ++ codes " -" ++ decimal c.removed ++ 10 ∷ []
+reply_line Done = codes "ok" ++ 10 ∷ []
+reply_line (Refused fault) = codes "refused: " ++ name_of fault ++ place_text fault ++ 10 ∷ []
+
+-- the answer line after this many lines
+abbrev pub count_line : ℕ → List ℕ
+count_line n = codes "ok " ++ decimal n ++ 10 ∷ []
+
+abbrev pub is_refused : Reply → Bool
+is_refused (Refused fault) = true
+is_refused _ = false
+
+-- the bytes of an answer, whether it is a refusal, and the session after it
+abbrev pub Answers : Asked → Session → List ℕ → Bool → Session → Type 0
+Answers (act c) s text refused t = (reply : Reply) × Step s c reply t × (text ≡ reply_line reply) × (refused ≡ is_refused reply)
+Answers (show listing) s text refused t =
+    (t ≡ s) × (((lines : List (List ℕ)) × Shows listing s lines × (text ≡ concat lines ++ count_line (length lines)) × (refused ≡ false))
+    ⊎ ((text ≡ reply_line (Refused NoMemory)) × (refused ≡ true)))
+Answers bad s text refused t = (t ≡ s) × (text ≡ reply_line (Refused BadCommand)) × (refused ≡ true)
+Answers unended s text refused t = (t ≡ s) × (text ≡ reply_line (Refused NoEnd)) × (refused ≡ true)

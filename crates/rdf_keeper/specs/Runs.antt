@@ -1,0 +1,39 @@
+-- What a session writes for its commands, and how it ends.
+use Rattle.std.specs.Prelude.{◌≡◌, ◌≢◌, ◌⊎◌, ℕ, Bool, true, false, ◌&&◌, ◌||◌, List, [], ◌∷◌, ◌++◌, Option, None}
+use Rattle.std.specs.Io.KnownBytes.{Appends, Consumes, IsAtEnd}
+use Rattle.rdf_keeper.specs.Session.{Session}
+use Rattle.rdf_keeper.specs.Lines.{raw_lines, upto_last_end}
+use Rattle.rdf_keeper.specs.Commands.{Asked, commands}
+use Rattle.rdf_keeper.specs.Answers.{Answers}
+use Rattle.rdf_keeper.specs.declared.script.output.Status.{Status}
+use Rattle.rdf_keeper.specs.declared.script.output.Status.TheVariants.{Accepted, Refused, ReadFailed, WriteFailed, NoMemory}
+
+-- the status after the last command
+abbrev pub final : Status → Bool → Status
+final Accepted true = Refused
+final status refused = status
+
+-- From old, with something refused or not so far, the commands may write out, and end with new and the status.
+-- The relation tells the answers that a command may have, the first status is that of a session that comes to
+-- the end of its commands.
+abbrev pub Runs : (Asked → Session → List ℕ → Bool → Session → Type 0) → Bool → Status → Bool → List Asked → Session → List ℕ → Session → Status → Type 0
+Runs May stop last refused [] old out new status =
+    -- all are answered, or memory for the next one is wanting
+    (out ≡ []) × (new ≡ old) × ((status ≡ final last refused) ⊎ (status ≡ NoMemory))
+Runs May stop last refused (c ∷ cs) old out new status =
+    -- no memory to take the command
+    ((out ≡ []) × (new ≡ old) × (status ≡ NoMemory)) ⊎
+    ((text : List ℕ) × (is_refused : Bool) × (mid : Session) × May c old text is_refused mid ×
+    -- a front of the answer is written
+    (((rest : List ℕ) × (text ≡ out ++ rest) × (rest ≢ []) × (new ≡ mid) × (status ≡ WriteFailed))
+    -- the first refusal ends it
+    ⊎ (((stop && is_refused) ≡ true) × (out ≡ text) × (new ≡ mid) × (status ≡ Refused))
+    ⊎ (((stop && is_refused) ≡ false) × (rest : List ℕ) × (out ≡ text ++ rest) × Runs May stop last (refused || is_refused) cs mid rest new status)))
+
+-- what a session may read and write, where the reader has before left and then after
+abbrev pub RunsOver : Bool → Option (List ℕ) → Option (List ℕ) → Session → List ℕ → Session → Status → Type 0
+RunsOver stop before after old out new status = (read : List ℕ) × Consumes before after read ×
+    -- the reader's end was read
+    ((IsAtEnd after × Runs Answers stop Accepted false (commands true None (raw_lines read)) old out new status)
+    -- or a fault came, or nothing more was read
+    ⊎ Runs Answers stop ReadFailed false (commands false None (raw_lines (upto_last_end read))) old out new status)

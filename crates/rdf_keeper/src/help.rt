@@ -1,0 +1,57 @@
+//! The texts that the program shows a newcomer.
+
+/// The name of the program.
+pub(crate) const NAME: &str = "rdfkeep";
+
+/// The version of the program.
+pub(crate) const VERSION: &str = "0.1.0";
+
+/// What the program is for.
+pub(crate) const ABOUT: &str = "Keeps an RDF dataset, and takes back what was changed";
+
+/// What `run` does, in one line.
+pub(crate) const RUN_ABOUT: &str =
+    "Runs a script of commands on a dataset, and prints an answer to each";
+
+/// A script, and what it prints.
+pub(crate) const RUN_EXAMPLE: &str = "\
+Commands:
+  %load nquads       load the lines up to %end (or: %load ntriples)
+  %print             print the quads
+  %graphs            print the names of the graphs
+  %undo, %redo       take back the last change, or make it again
+  %mark NAME         give this state a name
+  %rollback NAME     go back to the state of that name
+  %changes           print what differs from the start
+  %commit            make this state the start
+
+Example: a script that loads one statement, prints it and takes it back
+  %load nquads
+  <http://example.org/ada> <http://example.org/knows> <http://example.org/bob> .
+  %end
+  %print
+  %undo
+
+It prints
+  ok +1 -0
+  <http://example.org/ada> <http://example.org/knows> <http://example.org/bob> .
+  ok 1
+  ok +0 -1
+
+Exit status: 0 all commands were accepted, 1 one was refused, 2 the words, the base or the data
+are wrong, 3 reading or writing failed, 4 memory was wanting.";
+
+/// What `convert` does, in one line.
+pub(crate) const CONVERT_ABOUT: &str =
+    "Writes each statement of a document as a canonical line of N-Quads";
+
+/// A conversion, and what it prints.
+pub(crate) const CONVERT_EXAMPLE: &str = "\
+The statements keep their order and their repeats; blank nodes become _:b0, _:b1 and so on.
+A faulty line ends the conversion: the statements before it are written.
+
+Example:
+  rdfkeep convert --from ntriples people.nt > people.nq
+
+Exit status: 0 the whole document was written, 1 a line is faulty, 2 the words or the base are
+wrong, 3 reading or writing failed, 4 memory was wanting.";

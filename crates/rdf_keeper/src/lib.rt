@@ -1,0 +1,25 @@
+//! The keeper of an RDF dataset: loads with undo, redo, marks, rollback and commit, scripts of these,
+//! conversion of documents, and the whole program `rdfkeep` over its words.
+#![tactic(auto)]
+
+mod conversion;
+mod fault;
+mod format;
+mod help;
+mod keeper;
+mod law;
+mod listing;
+mod load;
+mod marks;
+mod outcome;
+mod program;
+mod script;
+mod words;
+
+pub use conversion::{ConvertFault, convert};
+pub use fault::{Counts, KeeperFault};
+pub use format::Format;
+pub use keeper::Keeper;
+pub use law::{a_script_has_one_output, standing_requests};
+pub use program::start;
+pub use script::{Settings, Status, run};

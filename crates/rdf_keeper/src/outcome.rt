@@ -1,0 +1,146 @@
+//! How the program ends.
+ghost use Rattle.std.specs.Prelude.{◌≡◌, ◌++◌, ◌+◌, ◌≤◌, length, ℕ, List};
+ghost use Rattle.std.specs.Io.KnownBytes.{Appends};
+ghost use Rattle.rdf_lines.specs.FaultName.{fault_name};
+ghost use Rattle.rdf_keeper.specs.Faults.{name_of};
+ghost use Rattle.arrayvec.specs.ArrayVec.{array_vec_len};
+ghost use Rattle.rdf_keeper.specs.Program.{status_of, error_line, outcome_of, refused, refused_at};
+
+use crate::conversion::ConvertFault;
+use crate::script::output::write_whole;
+use crate::fault::KeeperFault;
+use arrayvec::ArrayVec;
+use itoa::Buffer;
+use rdf_lines::LineFault;
+use std::io::Write;
+
+/// How the program ends.
+#[derive(Clone, Copy, Debug, PartialEq, Eq)]
+pub(crate) enum Outcome {
+    /// All was accepted, or shown.
+    Done,
+    /// A command of the script was refused.
+    SomeRefused,
+    /// A line of the document that is converted is faulty.
+    BadDocument(LineFault),
+    /// The words are no command line of the program.
+    BadWords,
+    /// The base is no IRI.
+    BadBase,
+    /// The data that the session begins with are refused.
+    BadData(KeeperFault),
+    /// A file doesn't open, or a read failed.
+    ReadFailed,
+    /// A write failed.
+    WriteFailed,
+    /// A growth was refused.
+    NoMemory,
+}
+
+/// How a conversion ends the program.
+pub(crate) fn outcome_of(answer: Result<(), ConvertFault>) -> Outcome
+    ensures { result ≡ outcome_of answer }
+{
+    match answer {
+        Ok(()) => Outcome::Done,
+        Err(ConvertFault::Document(fault)) => Outcome::BadDocument(fault),
+        Err(ConvertFault::Read) => Outcome::ReadFailed,
+        Err(ConvertFault::Write) => Outcome::WriteFailed,
+        Err(ConvertFault::NoMemory) => Outcome::NoMemory,
+    }
+}
+
+fn status_of(outcome: &Outcome) -> u8
+    ensures { result ≡ status_of outcome.now }
+{
+    match outcome {
+        Outcome::Done => 0,
+        Outcome::SomeRefused | Outcome::BadDocument(_) => 1,
+        Outcome::BadWords | Outcome::BadBase | Outcome::BadData(_) => 2,
+        Outcome::ReadFailed | Outcome::WriteFailed => 3,
+        Outcome::NoMemory => 4,
+    }
+}
+
+fn line_fault_name(fault: LineFault) -> &'static [u8]
+    ensures name { result.now ≡ fault_name fault.kind }
+    ensures short { length result.now ≤ 8 }
+{
+    fault.name().as_bytes()
+}
+
+fn keeper_fault_name(fault: KeeperFault) -> &'static [u8]
+    ensures name { result.now ≡ name_of fault }
+    ensures short { length result.now ≤ 16 }
+{
+    fault.name().as_bytes()
+}
+
+fn append(line: &mut ArrayVec<u8, 64>, text: &[u8])
+    requires { array_vec_len line.old + length text.now ≤ 64 }
+    ensures items { line.new.items ≡ line.old.items ++ text.now }
+    ensures len { array_vec_len line.new ≡ array_vec_len line.old + length text.now }
+{
+    line.try_extend_from_slice(text).unwrap();
+}
+
+// A refusal at a line of a document.
+fn refused_at(fault: LineFault) -> ArrayVec<u8, 64>
+    ensures { result.items ≡ refused_at fault }
+{
+    let mut buffer = Buffer::new();
+    let mut line = ArrayVec::new();
+    append(&mut line, b"rdfkeep: refused: ");
+    append(&mut line, line_fault_name(fault));
+    append(&mut line, b" line ");
+    append(&mut line, buffer.format(fault.line).as_bytes());
+    append(&mut line, b"\n");
+    line
+}
+
+fn refused(fault: KeeperFault) -> ArrayVec<u8, 64>
+    ensures { result.items ≡ refused fault }
+{
+    if let KeeperFault::Line(at) = fault {
+        return refused_at(at);
+    }
+    let mut line = ArrayVec::new();
+    append(&mut line, b"rdfkeep: refused: ");
+    append(&mut line, keeper_fault_name(fault));
+    append(&mut line, b"\n");
+    line
+}
+
+fn plain(text: &[u8]) -> ArrayVec<u8, 64>
+    requires { length text.now ≤ 64 }
+    ensures { result.items ≡ text.now }
+{
+    let mut line = ArrayVec::new();
+    append(&mut line, text);
+    line
+}
+
+// The line for standard error. It takes no memory.
+fn error_line(outcome: &Outcome) -> ArrayVec<u8, 64>
+    ensures { result.items ≡ error_line outcome.now }
+{
+    match outcome {
+        Outcome::Done | Outcome::SomeRefused | Outcome::BadWords => plain(b""),
+        Outcome::BadDocument(fault) => refused_at(*fault),
+        Outcome::BadBase => plain(b"rdfkeep: bad base\n"),
+        Outcome::BadData(fault) => refused(*fault),
+        Outcome::ReadFailed => plain(b"rdfkeep: read failed\n"),
+        Outcome::WriteFailed => plain(b"rdfkeep: write failed\n"),
+        Outcome::NoMemory => plain(b"rdfkeep: no memory\n"),
+    }
+}
+
+/// Writes the line of an ending to standard error, as far as that takes it, and answers the exit status.
+pub(crate) fn report<E: Write>(outcome: &Outcome, errors: &mut E) -> u8
+    ensures status { result ≡ status_of outcome.now }
+    ensures line { (front more : List ℕ) × (error_line outcome.now ≡ front ++ more) × Appends (E.contents errors.old) (E.contents errors.new) front }
+{
+    let line = error_line(outcome);
+    let _ = write_whole(errors, line.as_slice());
+    status_of(outcome)
+}

@@ -1,0 +1,207 @@
+//! The whole program, over its words, its standard input, output and error.
+ghost use Rattle.std.specs.Prelude.{◌≡◌, ◌≢◌, ◌≤◌, ℕ, List, [], Some, Result};
+ghost use Rattle.std.specs.Io.KnownBytes.{Appends};
+ghost use Rattle.rdf_keeper.specs.Request.{line_format};
+ghost use Rattle.rdf_keeper.specs.Convert.{Converts};
+ghost use Rattle.rdf_keeper.specs.Program.{status_of, outcome_of};
+ghost use Rattle.rdf_keeper.specs.declared.conversion.ConvertFault.{ConvertFault};
+
+use crate::conversion::convert;
+use crate::format::Format;
+use crate::outcome::{Outcome, outcome_of, report};
+use crate::script::input::{Ending, read_all};
+use crate::script::output::write_whole;
+use crate::fault::KeeperFault;
+use crate::keeper::Keeper;
+use crate::script::{Settings, Status, run};
+use crate::words::{Asked, ConvertWords, RunWords, WordsFault, read_words};
+use rdf_terms::{Iri, IriFault};
+use std::alloc::Global;
+use std::fs;
+use std::io::{Read, Write};
+use std::rt::Files;
+
+// The base that the words give, if any.
+fn base_of(alloc: Global, word: Option<&str>) -> Result<Option<Iri>, Outcome> {
+    match word {
+        None => Ok(None),
+        Some(text) => match Iri::new(alloc, text) {
+            Ok(iri) => Ok(Some(iri)),
+            Err(IriFault::NoMemory) => Err(Outcome::NoMemory),
+            Err(IriFault::Relative | IriFault::BadCharacter) => Err(Outcome::BadBase),
+        },
+    }
+}
+
+// Loads a file into the keeper and makes it the start.
+fn begin<T: Files>(
+    rt: &T,
+    alloc: Global,
+    keeper: &mut Keeper,
+    path: &str,
+    format: Format,
+) -> Result<(), Outcome> {
+    let Ok(mut file) = fs::open(rt, path) else {
+        return Err(Outcome::ReadFailed);
+    };
+    let mut text = Vec::new(alloc);
+    match read_all(&mut file, &mut text) {
+        Ending::AtEnd => {}
+        Ending::Failed => return Err(Outcome::ReadFailed),
+        Ending::NoMemory => return Err(Outcome::NoMemory),
+    }
+    match keeper.load(format, text.as_slice()) {
+        Ok(_) => {
+            keeper.commit();
+            Ok(())
+        }
+        Err(KeeperFault::NoMemory) => Err(Outcome::NoMemory),
+        Err(fault) => Err(Outcome::BadData(fault)),
+    }
+}
+
+// Runs a script to its end.
+fn run_all<R: Read + Drop, W: Write>(
+    alloc: Global,
+    mut keeper: Keeper,
+    mut reader: R,
+    writer: &mut W,
+    settings: Settings,
+) -> Outcome
+    ensures { status_of result ≢ 2 }
+{
+    match run(alloc, &mut keeper, &mut reader, writer, settings) {
+        Status::Accepted => Outcome::Done,
+        Status::Refused => Outcome::SomeRefused,
+        Status::ReadFailed => Outcome::ReadFailed,
+        Status::WriteFailed => Outcome::WriteFailed,
+        Status::NoMemory => Outcome::NoMemory,
+    }
+}
+
+fn run_words<T: Files, R: Read + Drop, W: Write>(
+    rt: &T,
+    alloc: Global,
+    words: RunWords<'_>,
+    reader: R,
+    writer: &mut W,
+) -> Outcome
+    ensures { status_of result ≡ 2 → Appends (W.contents writer.old) (W.contents writer.new) [] }
+{
+    let mut keeper = match base_of(alloc, words.base) {
+        Ok(base) => Keeper::new(alloc, base),
+        Err(outcome) => return outcome,
+    };
+    if let Some(path) = words.data {
+        if let Err(outcome) = begin(rt, alloc, &mut keeper, path, words.format) {
+            return outcome;
+        }
+    }
+    let settings = Settings { stop: words.stop };
+    match words.script {
+        None => run_all(alloc, keeper, reader, writer, settings),
+        Some(path) => match fs::open(rt, path) {
+            Ok(file) => run_all(alloc, keeper, file, writer, settings),
+            Err(_) => Outcome::ReadFailed,
+        },
+    }
+}
+
+// Converts a document to its end.
+fn convert_all<R: Read + Drop, W: Write>(
+    alloc: Global,
+    format: Format,
+    base: Option<Iri>,
+    reader: R,
+    writer: &mut W,
+) -> Outcome
+    ensures told { status_of result ≢ 2 }
+    ensures written { (text : List ℕ) → R.remaining reader ≡ Some text →
+        (out : List ℕ) × (answer : Result (Unit {0}) ConvertFault) × Appends (W.contents writer.old) (W.contents writer.new) out
+        × Converts (line_format format) text out answer × (result ≡ outcome_of answer) }
+{
+    outcome_of(convert(alloc, format, base, reader, writer))
+}
+
+fn convert_words<T: Files, R: Read + Drop, W: Write>(
+    rt: &T,
+    alloc: Global,
+    words: ConvertWords<'_>,
+    reader: R,
+    writer: &mut W,
+) -> Outcome
+    ensures { status_of result ≡ 2 → Appends (W.contents writer.old) (W.contents writer.new) [] }
+{
+    let base = match base_of(alloc, words.base) {
+        Ok(base) => base,
+        Err(outcome) => return outcome,
+    };
+    match words.file {
+        None => convert_all(alloc, words.from, base, reader, writer),
+        Some(path) => match fs::open(rt, path) {
+            Ok(file) => convert_all(alloc, words.from, base, file, writer),
+            Err(_) => Outcome::ReadFailed,
+        },
+    }
+}
+
+fn show<W: Write>(text: &str, writer: &mut W) -> Outcome
+    ensures { status_of result ≢ 2 }
+{
+    match write_whole(writer, text.as_bytes()) {
+        Ok(()) => Outcome::Done,
+        Err(_) => Outcome::WriteFailed,
+    }
+}
+
+// Does what the words ask for.
+fn answer_words<T: Files + AllocGlobal, R: Read + Drop, W: Write, E: Write>(
+    rt: &T,
+    words: &[String],
+    reader: R,
+    writer: &mut W,
+    errors: &mut E,
+) -> Outcome
+    ensures silent { status_of result ≡ 2 → Appends (W.contents writer.old) (W.contents writer.new) [] }
+    ensures quiet { status_of result ≡ 0 → Appends (E.contents errors.old) (E.contents errors.new) [] }
+{
+    let alloc = rt.alloc();
+    match read_words(alloc, words) {
+        Ok(Asked::Run(asked)) => run_words(rt, alloc, asked, reader, writer),
+        Ok(Asked::Convert(asked)) => convert_words(rt, alloc, asked, reader, writer),
+        Ok(Asked::Shown(text)) => show(text.as_str(), writer),
+        Err(WordsFault::Usage(text)) => {
+            let _ = write_whole(errors, text.as_str().as_bytes());
+            Outcome::BadWords
+        }
+        Err(WordsFault::NoMemory) => Outcome::NoMemory,
+    }
+}
+
+/// The whole program `rdfkeep`, over its words (without its own name), its standard input, output and error. Answers
+/// the exit status:
+///
+/// - 0 where all was accepted, written or shown;
+/// - 1 where a command of the script was refused, or a line of the document that is converted is faulty;
+/// - 2 where the words are no command line of the program, the base is no IRI, or the start data are refused;
+/// - 3 where a file doesn't open, or a read or a write failed;
+/// - 4 where memory was wanting.
+///
+/// Faults are found in this order: the words, the base, the start data (opened, read, loaded), the script (opened),
+/// and then those of the session.
+pub fn start<T: Files + AllocGlobal, R: Read + Drop, W: Write, E: Write>(
+    rt: &T,
+    words: &[String],
+    reader: R,
+    writer: &mut W,
+    errors: &mut E,
+) -> u8
+    ensures status { result ≤ 4 }
+    // where the words, the base or the start data are wrong, nothing is written
+    ensures silent { result ≡ 2 → Appends (W.contents writer.old) (W.contents writer.new) [] }
+    // where all went well, nothing is complained of
+    ensures quiet { result ≡ 0 → Appends (E.contents errors.old) (E.contents errors.new) [] }
+{
+    let outcome = answer_words(rt, words, reader, writer, errors);
+    report(&outcome, errors)
+}

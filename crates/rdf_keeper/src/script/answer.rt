@@ -1,0 +1,170 @@
+//! The answers to commands.
+ghost use Rattle.std.specs.Prelude.{◌≡◌, ◌++◌, ◌+◌, ◌≤◌, ◌∷◌, [], ℕ, List, length, IfOk, Ok, Err};
+ghost use Rattle.std.specs.List.{concat};
+ghost use Rattle.arrayvec.specs.ArrayVec.{array_vec_len};
+ghost use Rattle.rdf_keeper.specs.Answers.{Answers, count_line, is_refused, place_text, reply_line};
+ghost use Rattle.rdf_keeper.specs.Asks.{asked_of};
+ghost use Rattle.rdf_keeper.specs.Listing.{Shows};
+ghost use Rattle.rdf_keeper.specs.Session.{Reply, reply_of, reply_of_mark, Done as DoneReply};
+
+use crate::fault::{Counts, KeeperFault};
+use crate::keeper::Keeper;
+use crate::listing::{append_change, append_names};
+use crate::script::command::{Command, Listing};
+use arrayvec::ArrayVec;
+use itoa::Buffer;
+use rdf_terms::NoMemory;
+use std::alloc::Global;
+
+/// An answer: its payload, and its last line, which takes no memory.
+#[derive(Drop)]
+pub(crate) struct Answer {
+    pub(crate) payload: Vec<u8>,
+    pub(crate) line: ArrayVec<u8, 64>,
+    pub(crate) refused: bool,
+}
+
+fn append(line: &mut ArrayVec<u8, 64>, text: &[u8])
+    requires { array_vec_len line.old + length text.now ≤ 64 }
+    ensures items { line.new.items ≡ line.old.items ++ text.now }
+    ensures len { array_vec_len line.new ≡ array_vec_len line.old + length text.now }
+{
+    line.try_extend_from_slice(text).unwrap();
+}
+
+fn append_place(line: &mut ArrayVec<u8, 64>, fault: KeeperFault)
+    requires { array_vec_len line.old ≤ 32 }
+    ensures items { line.new.items ≡ line.old.items ++ place_text fault }
+    ensures len { array_vec_len line.new ≤ 60 }
+{
+    if let KeeperFault::Line(fault) = fault {
+        let mut buffer = Buffer::new();
+        append(line, b" line ");
+        append(line, buffer.format(fault.line).as_bytes());
+    }
+}
+
+fn line_of(reply: Result<Counts, KeeperFault>) -> ArrayVec<u8, 64>
+    ensures { result.items ≡ reply_line (reply_of reply) }
+{
+    let mut line = ArrayVec::new();
+    match reply {
+        Ok(counts) => {
+            let mut buffer = Buffer::new();
+            append(&mut line, b"ok +");
+            append(&mut line, buffer.format(counts.added).as_bytes());
+            append(&mut line, b" -");
+            append(&mut line, buffer.format(counts.removed).as_bytes());
+        }
+        Err(fault) => {
+            append(&mut line, b"refused: ");
+            append(&mut line, fault.name().as_bytes());
+            append_place(&mut line, fault);
+        }
+    }
+    append(&mut line, b"\n");
+    line
+}
+
+fn count_line(count: u64) -> ArrayVec<u8, 64>
+    ensures { result.items ≡ count_line count }
+{
+    let mut line = ArrayVec::new();
+    let mut buffer = Buffer::new();
+    append(&mut line, b"ok ");
+    append(&mut line, buffer.format(count).as_bytes());
+    append(&mut line, b"\n");
+    line
+}
+
+fn done(alloc: Global) -> Answer
+    ensures payload { result.payload.items ≡ [] }
+    ensures line { result.line.items ≡ reply_line DoneReply }
+    ensures refused { result.refused ≡ is_refused DoneReply }
+{
+    let mut line = ArrayVec::new();
+    append(&mut line, b"ok\n");
+    Answer {
+        payload: Vec::new(alloc),
+        line,
+        refused: false,
+    }
+}
+
+fn without_payload(alloc: Global, reply: Result<Counts, KeeperFault>) -> Answer
+    ensures payload { result.payload.items ≡ [] }
+    ensures line { result.line.items ≡ reply_line (reply_of reply) }
+    ensures refused { result.refused ≡ is_refused (reply_of reply) }
+{
+    Answer {
+        payload: Vec::new(alloc),
+        refused: reply.is_err(),
+        line: line_of(reply),
+    }
+}
+
+fn marked(alloc: Global, reply: Result<(), NoMemory>) -> Answer
+    ensures payload { result.payload.items ≡ [] }
+    ensures line { result.line.items ≡ reply_line (reply_of_mark reply) }
+    ensures refused { result.refused ≡ is_refused (reply_of_mark reply) }
+{
+    match reply {
+        Ok(()) => done(alloc),
+        Err(NoMemory) => without_payload(alloc, Err(KeeperFault::NoMemory)),
+    }
+}
+
+// Appends the lines of what the session shows, and answers how many there are.
+fn append_listing(
+    alloc: Global,
+    keeper: &Keeper,
+    listing: Listing,
+    out: &mut Vec<u8>,
+) -> Result<u64, NoMemory>
+    ensures { IfOk result (λ count. (lines : List (List ℕ)) × Shows listing keeper.now lines
+        × (out.new.items ≡ out.old.items ++ concat lines) × (count ≡ length lines)) }
+{
+    match listing {
+        Listing::Changes => append_change(alloc, &keeper.changes()?, out),
+        Listing::Graphs => {
+            let names = keeper.names()?;
+            append_names(alloc, b"", names.as_slice(), out)?;
+            Ok(names.len() as u64)
+        }
+        Listing::Quads => keeper.write_quads(out),
+    }
+}
+
+fn show(alloc: Global, keeper: &Keeper, listing: Listing) -> Answer
+    ensures { Answers (asked_of (Command.Show listing)) keeper.now (result.payload.items ++ result.line.items) result.refused keeper.now }
+{
+    let mut payload = Vec::new(alloc);
+    match append_listing(alloc, keeper, listing, &mut payload) {
+        Ok(count) => Answer {
+            payload,
+            line: count_line(count),
+            refused: false,
+        },
+        Err(NoMemory) => without_payload(alloc, Err(KeeperFault::NoMemory)),
+    }
+}
+
+/// Acts on the keeper, and makes the answer.
+pub(crate) fn serve(alloc: Global, keeper: &mut Keeper, command: Command<'_>) -> Answer
+    ensures { Answers (asked_of command.entry) keeper.old (result.payload.items ++ result.line.items) result.refused keeper.new }
+{
+    match command {
+        Command::Load(format, text) => without_payload(alloc, keeper.load(format, text)),
+        Command::Undo => without_payload(alloc, keeper.undo()),
+        Command::Redo => without_payload(alloc, keeper.redo()),
+        Command::Mark(name) => marked(alloc, keeper.mark(name)),
+        Command::Rollback(name) => without_payload(alloc, keeper.rollback(name)),
+        Command::Commit => {
+            keeper.commit();
+            done(alloc)
+        }
+        Command::Show(listing) => show(alloc, keeper, listing),
+        Command::Bad => without_payload(alloc, Err(KeeperFault::BadCommand)),
+        Command::Unended => without_payload(alloc, Err(KeeperFault::NoEnd)),
+    }
+}

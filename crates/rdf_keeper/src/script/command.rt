@@ -1,0 +1,171 @@
+//! What the lines of a script ask for.
+ghost use Rattle.std.specs.Prelude.{◌≡◌, ◌∷◌, ◌||◌, nat_eq, ◌&&◌, length, nat_le};
+ghost use Rattle.std.specs.List.{list_all};
+ghost use Rattle.rdf_keeper.specs.Commands.{asked, is_comment, format_named, format_of, line_of_words, named, opens_other, plain};
+ghost use Rattle.rdf_keeper.specs.Asks.{asked_of, line_of};
+ghost use Rattle.rdf_keeper.specs.LineWords.{is_name, is_name_byte, words};
+
+use crate::format::Format;
+use crate::script::line::next_word;
+
+/// What a session can show.
+#[derive(Clone, Copy, Debug, PartialEq, Eq)]
+pub enum Listing {
+    /// The net between the base and the state now.
+    Changes,
+    /// The names of the graphs.
+    Graphs,
+    /// The quads.
+    Quads,
+}
+
+/// A command, with its name or the text of its body.
+#[derive(Clone, Copy)]
+pub(crate) enum Command<'a> {
+    Load(Format, &'a [u8]),
+    Undo,
+    Redo,
+    Mark(&'a [u8]),
+    Rollback(&'a [u8]),
+    Commit,
+    Show(Listing),
+    /// No command.
+    Bad,
+    /// A body without an end.
+    Unended,
+}
+
+/// What a line outside bodies is.
+#[derive(Clone, Copy)]
+pub(crate) enum Line<'a> {
+    /// No words, or a comment.
+    Skipped,
+    /// A body begins; its text is loaded where the format is known.
+    Opens(Option<Format>),
+    Asks(Command<'a>),
+}
+
+fn is_comment(word: &[u8]) -> bool
+    ensures { result ≡ is_comment word.now }
+{
+    match word {
+        [] => false,
+        [first, ..] => *first == b'#',
+    }
+}
+
+fn format_named(word: &[u8]) -> Option<Format>
+    ensures { result ≡ format_named word.now }
+{
+    if word == b"nquads".as_slice() {
+        Some(Format::NQuads)
+    } else if word == b"ntriples".as_slice() {
+        Some(Format::NTriples)
+    } else {
+        None
+    }
+}
+
+// The format that the words of a text name.
+fn format_of(text: &[u8]) -> Option<Format>
+    ensures { result ≡ format_of (words text.now) }
+{
+    match next_word(text) {
+        None => None,
+        Some((word, rest)) => match next_word(rest) {
+            None => format_named(word),
+            Some(_) => None,
+        },
+    }
+}
+
+fn is_name_byte(byte: u8) -> bool
+    ensures { result ≡ is_name_byte byte }
+{
+    byte.is_ascii_alphanumeric() || matches!(byte, b'_' | b'-' | b'.')
+}
+
+fn are_name_bytes(word: &[u8]) -> bool
+    ensures { result ≡ list_all is_name_byte word.now }
+{
+    word.iter().all(|b| is_name_byte(*b))
+}
+
+fn is_name(word: &[u8]) -> bool
+    ensures { result ≡ is_name word.now }
+{
+    1 <= word.len() && word.len() <= 64 && are_name_bytes(word)
+}
+
+// A command of one word.
+fn plain(word: &[u8]) -> Command<'_>
+    ensures { asked_of result ≡ plain word.now }
+{
+    if word == b"%undo".as_slice() {
+        Command::Undo
+    } else if word == b"%redo".as_slice() {
+        Command::Redo
+    } else if word == b"%commit".as_slice() {
+        Command::Commit
+    } else if word == b"%changes".as_slice() {
+        Command::Show(Listing::Changes)
+    } else if word == b"%graphs".as_slice() {
+        Command::Show(Listing::Graphs)
+    } else if word == b"%print".as_slice() {
+        Command::Show(Listing::Quads)
+    } else {
+        Command::Bad
+    }
+}
+
+// A command with a name.
+fn named<'a>(word: &'a [u8], name: &'a [u8]) -> Command<'a>
+    ensures { asked_of result ≡ named word.now name.now }
+{
+    if !is_name(name) {
+        Command::Bad
+    } else if word == b"%mark".as_slice() {
+        Command::Mark(name)
+    } else if word == b"%rollback".as_slice() {
+        Command::Rollback(name)
+    } else {
+        Command::Bad
+    }
+}
+
+// A command without a body: its first word, and what comes after it.
+fn asked<'a>(word: &'a [u8], text: &'a [u8]) -> Command<'a>
+    ensures { asked_of result ≡ asked word.now (words text.now) }
+{
+    match next_word(text) {
+        None => plain(word),
+        Some((name, rest)) => match next_word(rest) {
+            None => named(word, name),
+            Some(_) => Command::Bad,
+        },
+    }
+}
+
+fn opens_other(word: &[u8]) -> bool
+    ensures { result ≡ opens_other word.now }
+{
+    word == b"%update".as_slice() || word == b"%query".as_slice()
+}
+
+/// What a line outside bodies, without its end, is.
+pub(crate) fn read_line(line: &[u8]) -> Line<'_>
+    ensures { line_of result ≡ line_of_words (words line.now) }
+{
+    let Some((word, rest)) = next_word(line) else {
+        return Line::Skipped;
+    };
+    if is_comment(word) {
+        Line::Skipped
+    } else if word == b"%load".as_slice() {
+        Line::Opens(format_of(rest))
+    } else if opens_other(word) {
+        Line::Opens(None)
+    } else {
+        Line::Asks(asked(word, rest))
+    }
+}

@@ -1,0 +1,75 @@
+//! Lines and their words.
+ghost use Rattle.std.specs.Prelude.{◌≡◌, [], ◌∷◌, ◌++◌, ◌<◌, ◌≤◌, length, nat_eq, MatchOption, IfSome, not};
+ghost use Rattle.std.specs.List.{position_from};
+ghost use Rattle.rdf_keeper.specs.LineWords.{is_gap, words};
+ghost use Rattle.rdf_keeper.specs.Lines.{bare, raw_lines};
+
+/// The first line with its end, and the rest.
+pub(crate) fn first_line(text: &[u8]) -> (&[u8], &[u8])
+    requires { 0 < length text.now }
+    ensures lines { raw_lines text.now ≡ result.0.now ∷ raw_lines result.1.now }
+    ensures parts { text.now ≡ result.0.now ++ result.1.now }
+    ensures falls { length result.1.now < length text.now }
+{
+    match line_end(text) {
+        Some(i) => text.split_at(i + 1),
+        None => text.split_at(text.len()),
+    }
+}
+
+fn line_end(text: &[u8]) -> Option<usize>
+    ensures place { result ≡ position_from (λ b. nat_eq b 10) 0 text.now }
+    ensures within { IfSome result (λ i. i < length text.now) }
+{
+    text.iter().position(|b| *b == b'\n')
+}
+
+/// The line without its end.
+pub(crate) fn without_end(line: &[u8]) -> &[u8]
+    ensures { result.now ≡ bare line.now }
+{
+    let n = line.len();
+    if n > 0 && line[n - 1] == b'\n' {
+        if n > 1 && line[n - 2] == b'\r' {
+            &line[..n - 2]
+        } else {
+            &line[..n - 1]
+        }
+    } else {
+        line
+    }
+}
+
+fn is_gap(byte: u8) -> bool
+    ensures { result ≡ is_gap byte }
+{
+    byte == b' ' || byte == b'\t'
+}
+
+fn gap_len(text: &[u8]) -> Option<usize>
+    ensures place { result ≡ position_from (λ b. not (is_gap b)) 0 text.now }
+    ensures within { IfSome result (λ i. i < length text.now) }
+{
+    text.iter().position(|b| !is_gap(*b))
+}
+
+fn word_len(text: &[u8]) -> Option<usize>
+    ensures place { result ≡ position_from is_gap 0 text.now }
+    ensures within { IfSome result (λ i. i < length text.now) }
+{
+    text.iter().position(|b| is_gap(*b))
+}
+
+/// The first word of a text, and what comes after it.
+pub(crate) fn next_word(text: &[u8]) -> Option<(&[u8], &[u8])>
+    ensures { MatchOption result (words text.now ≡ []) (λ r. words text.now ≡ r.0.now ∷ words r.1.now) }
+{
+    let Some(gap) = gap_len(text) else {
+        return None;
+    };
+    let from = text.split_at(gap).1;
+    match word_len(from) {
+        Some(end) => Some(from.split_at(end)),
+        None => Some(from.split_at(from.len())),
+    }
+}
