@@ -1,6 +1,8 @@
 //! Streams in pieces, and the lines of quads.
 
-use rdf_lines::{FaultKind, LineFault, LineFormat, LineReader, read_lines, write_quad, write_sorted};
+use rdf_lines::{
+    FaultKind, LineFault, LineFormat, LineReader, read_lines, write_quad, write_sorted,
+};
 use rdf_terms::{Quad, Term};
 use std::io;
 use std::io::{ErrorKind, Read};
@@ -46,7 +48,8 @@ fn fails_at(answer: &Result<Option<Quad>, LineFault>, line: u64, kind: FaultKind
 }
 
 // A CR LF over a piece's end, an empty line, a comment, LF CR as two line ends, and a faulty seventh line.
-const TEXT: &[u8] = b"_:a <a:p> _:b .\r\n\r\n#\n\r_:b <a:p> _:a .\r_:c <a:p> _:a _:c .\n<s> <a:p> _:a .";
+const TEXT: &[u8] =
+    b"_:a <a:p> _:b .\r\n\r\n#\n\r_:b <a:p> _:a .\r_:c <a:p> _:a _:c .\n<s> <a:p> _:a .";
 
 #[test]
 fn one_byte_pieces(rt: HostRuntime) -> Result<(), Fail> {
@@ -78,7 +81,11 @@ fn read_fault(rt: HostRuntime) -> Result<(), Fail> {
 
 #[test]
 fn ends(rt: HostRuntime) -> Result<(), Fail> {
-    let mut lines = LineReader::new(rt.alloc(), LineFormat::NTriples, b"_:a <a:p> _:b .\r\n_:b <a:p> _:a .".as_slice())?;
+    let mut lines = LineReader::new(
+        rt.alloc(),
+        LineFormat::NTriples,
+        b"_:a <a:p> _:b .\r\n_:b <a:p> _:a .".as_slice(),
+    )?;
     assert!(rt; matches!(lines.next(), Ok(Some(_))));
     assert!(rt; matches!(lines.next(), Ok(Some(_))));
     assert!(rt; matches!(lines.next(), Ok(None)));
@@ -88,7 +95,11 @@ fn ends(rt: HostRuntime) -> Result<(), Fail> {
 
 #[test]
 fn held_bytes(rt: HostRuntime) -> Result<(), Fail> {
-    let quads = read_lines(rt.alloc(), LineFormat::NQuads, b"_:a <a:p> _:b .\r\n\r\n#\n\r_:b <a:p> _:a .\r_:c <a:p> _:a _:c .")?;
+    let quads = read_lines(
+        rt.alloc(),
+        LineFormat::NQuads,
+        b"_:a <a:p> _:b .\r\n\r\n#\n\r_:b <a:p> _:a .\r_:c <a:p> _:a _:c .",
+    )?;
     assert_eq!(rt; quads.len(), 3);
     match read_lines(rt.alloc(), LineFormat::NQuads, TEXT) {
         Ok(_) => assert!(rt; false),
@@ -100,13 +111,14 @@ fn held_bytes(rt: HostRuntime) -> Result<(), Fail> {
 #[test]
 fn texts(rt: HostRuntime) -> Result<(), Fail> {
     let alloc = rt.alloc();
-    let quads = read_lines(alloc, LineFormat::NQuads, b"_:a <a:p> _:b _:c .\n_:b <a:p> _:a .\n_:a <a:p> _:b .\n")?;
+    let quads = read_lines(
+        alloc,
+        LineFormat::NQuads,
+        b"_:a <a:p> _:b _:c .\n_:b <a:p> _:a .\n_:a <a:p> _:b .\n",
+    )?;
     let mut text = Vec::new(alloc);
     write_quad(alloc, &quads[0], &mut text)?;
-    assert_eq!(rt;
-        text.as_slice(),
-        b"_:b0 <a:p> _:b1 _:b2 .\n".as_slice()
-    );
+    assert_eq!(rt; text.as_slice(), b"_:b0 <a:p> _:b1 _:b2 .\n".as_slice());
     let mut all = Vec::new(alloc);
     write_sorted(alloc, quads.as_slice(), &mut all)?;
     let mut expected = Vec::new(alloc);

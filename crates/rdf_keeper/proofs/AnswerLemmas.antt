@@ -1,15 +1,14 @@
 -- Replies and their lines.
-use Rattle.std.proofs.Common.{◌≡◌, ℕ, ◌≤◌, List, ◌++◌, length, refl, lit≤}
+use Rattle.std.proofs.Common.{◌≡◌, ℕ, ◌≤◌, List, length, lit≤}
 use Rattle.std.specs.Prelude.{Result, Ok, Err, IfOk, IfErr, OnErr}
-use Rattle.rdf_lines.specs.declared.fault.LineFault.{LineFault}
 use Rattle.rdf_lines.specs.declared.fault.FaultKind.{FaultKind}
 use Rattle.rdf_lines.specs.declared.fault.FaultKind.TheVariants as kind
 use Rattle.rdf_lines.specs.FaultName.{fault_name}
 use Rattle.rdf_dataset.specs.State.{State}
 use Rattle.rdf_keeper.specs.Faults.{name_of}
-use Rattle.rdf_keeper.specs.Request.{Request, Load, Makes, IsRefused}
+use Rattle.rdf_keeper.specs.Request.{Request, Load, Makes}
 use Rattle.rdf_keeper.specs.Session.{Session, Step, MayRefuse, Do, now, accepted, counts_between, reply_of}
-use Rattle.rdf_keeper.specs.Staging.{TellsFault, Stages}
+use Rattle.rdf_keeper.specs.Staging.{TellsFault}
 use Rattle.rdf_keeper.specs.declared.fault.Counts.{Counts}
 use Rattle.rdf_keeper.specs.declared.fault.KeeperFault.{KeeperFault}
 use Rattle.rdf_keeper.specs.declared.fault.KeeperFault.TheVariants.{NothingToUndo, NothingToRedo, NoSuchMark, MarkAhead, BadCommand, NoEnd, NoMemory, BlankNumbers, Line}

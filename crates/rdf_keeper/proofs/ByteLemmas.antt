@@ -1,7 +1,7 @@
 -- Bytes that are read and written one piece after another.
 use Rattle.std.proofs.Common.{◌≡◌, ℕ, List, [], ◌++◌, Option, Some, None, refl, sym, ap, ◌∙◌, append_assoc, take, drop}
 use Rattle.std.proofs.lemmas.List.{take-append-drop}
-use Rattle.std.specs.Prelude.{Result, Ok, Err, ◌≢◌, ◌∷◌}
+use Rattle.std.specs.Prelude.{Err, ◌≢◌, ◌∷◌}
 use Rattle.rdf_keeper.specs.Output.{WritesTo}
 use Rattle.rdf_keeper.specs.declared.script.output.WriteFault.{WriteFault}
 use Rattle.std.specs.Io.KnownBytes.{Appends, Consumes, Keeps}

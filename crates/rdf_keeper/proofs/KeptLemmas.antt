@@ -1,5 +1,5 @@
 -- Chains of nets: the states that they go through, and the steps of a session over them.
-use Rattle.std.proofs.Common.{◌≡◌, ◌≢◌, ℕ, zero, suc, pred, ◌+◌, ◌-◌, ◌<◌, ◌≤◌, List, [], ◌∷◌, ◌++◌, length, take, get_or, Option, Some, None, refl, sym, ap, ◌∙◌, subst, arith, add-one, length-append, length-take}
+use Rattle.std.proofs.Common.{◌≡◌, ℕ, zero, suc, ◌+◌, ◌-◌, ◌<◌, ◌≤◌, List, [], ◌∷◌, ◌++◌, length, take, get_or, Option, Some, refl, sym, ap, ◌∙◌, subst, arith, add-one, length-append, length-take}
 use Rattle.std.specs.Prelude.{filter, nat_le}
 use mathlib.Core.Bool.{true≢false, true, false}
 use Rattle.std.specs.FinSet as set
@@ -7,7 +7,7 @@ use Rattle.std.specs.List.{AllByRecursion}
 use Rattle.rdf_dataset.specs.State.{State, Change, IsSound, Begins, Ends, net_between, applied, turned}
 use Rattle.rdf_keeper.proofs.NetLemmas.{applied_is, turned_is, one_end}
 use Rattle.rdf_keeper.specs.History.{place_of}
-use Rattle.rdf_keeper.specs.Session.{Session, Step, MayRefuse, Undo, Redo, Rollback, Changed, Refused, AddsSome, RemovesSome, all_states, counts_between, now, state_at, accepted}
+use Rattle.rdf_keeper.specs.Session.{Session, Step, Undo, Redo, Rollback, Changed, Refused, all_states, counts_between, now, accepted}
 use Rattle.rdf_keeper.specs.Kept.{before_all, states_after, AreNets, session_from, base_of, IsKept, nets_between}
 use Rattle.rdf_keeper.specs.declared.fault.Counts.{Counts}
 use Rattle.rdf_keeper.specs.declared.fault.KeeperFault.TheVariants.{NoMemory}

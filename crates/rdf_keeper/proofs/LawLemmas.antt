@@ -1,10 +1,10 @@
 -- The states and the standing requests of a session go on together.
-use Rattle.std.proofs.Common.{◌≡◌, ℕ, zero, suc, ◌+◌, ◌-◌, ◌<◌, ◌≤◌, Bool, not, List, [], ◌∷◌, ◌++◌, length, take, get_or, Option, Some, None, refl, sym, ap, ◌∙◌, subst, arith, length-append, length-take}
+use Rattle.std.proofs.Common.{◌≡◌, ℕ, zero, suc, ◌+◌, ◌-◌, ◌≤◌, not, List, [], ◌∷◌, ◌++◌, length, take, get_or, Option, refl, sym, ap, ◌∙◌, subst, arith, length-append, length-take}
 use Rattle.std.specs.Prelude.{filter, find, nat_le, unwrap_or, option_map}
 use Rattle.rdf_dataset.specs.State.{State}
 use Rattle.rdf_keeper.specs.Request.{Request, Makes}
-use Rattle.rdf_keeper.specs.History.{History, nothing, pushed, moved, marked, place_of, is_named}
-use Rattle.rdf_keeper.specs.Session.{Session, Command, Reply, Do, Undo, Redo, Mark, Rollback, Commit, Changed, Done, Refused, Step, now, fresh, at_place, with_mark, accepted}
+use Rattle.rdf_keeper.specs.History.{nothing, pushed, moved, marked, place_of, is_named}
+use Rattle.rdf_keeper.specs.Session.{Session, Command, Reply, Do, Undo, Redo, Mark, Rollback, Commit, Changed, Done, Refused, Step, fresh}
 use Rattle.rdf_keeper.specs.Law.{Run, Requests, kept_after, requests_of, Follows, MakesAll}
 
 -- the standing requests belong to the states

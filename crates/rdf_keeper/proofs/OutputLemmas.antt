@@ -1,5 +1,5 @@
 -- Where memory never lacks, each command has one answer, and a script one output.
-use Rattle.std.proofs.Common.{◌≡◌, ◌≢◌, ◌⊎◌, inl, inr, ℕ, ◌+◌, ◌-◌, ◌<◌, ◌≤◌, Bool, true, false, ◌&&◌, ◌||◌, List, [], ◌∷◌, ◌++◌, map, length, Option, Some, None, refl, sym, ap, ◌∙◌, subst, arith}
+use Rattle.std.proofs.Common.{◌≡◌, ◌≢◌, ◌⊎◌, inl, inr, ℕ, ◌+◌, ◌<◌, ◌≤◌, Bool, true, false, ◌&&◌, ◌||◌, List, [], ◌∷◌, ◌++◌, map, length, Option, Some, None, refl, sym, ap, ◌∙◌, subst, arith}
 use mathlib.Core.Bool.{true≢false}
 use Rattle.std.specs.Prelude.{codes}
 use Rattle.rdf_lines.specs.QuadText.{quad_text}
@@ -10,21 +10,20 @@ use Rattle.rdf_lines.specs.declared.fault.LineFault.{LineFault}
 use Rattle.rdf_lines.specs.declared.format.LineFormat.{LineFormat}
 use Rattle.rdf_lines.specs.Document.{IsDocument, EachTextIsOneDocument}
 use Rattle.rdf_dataset.specs.State.{State, last_number, net_between}
-use Rattle.rdf_keeper.specs.Answers.{Answers, count_line, is_refused, reply_line}
+use Rattle.rdf_keeper.specs.Answers.{count_line, is_refused, reply_line}
 use Rattle.rdf_keeper.specs.Commands.{Asked, act, bad, show, unended}
 use Rattle.rdf_keeper.specs.History.{place_of}
-use Rattle.rdf_keeper.specs.Listing.{ListsChange, Shows, name_line}
+use Rattle.rdf_keeper.specs.Listing.{Shows, name_line}
 use Rattle.rdf_keeper.specs.OneOutput.{FullAnswers, IsWhole, OneOutput}
-use Rattle.rdf_keeper.specs.Request.{Request, Load, Makes, IsRefused, blank_limit, line_format, loaded}
+use Rattle.rdf_keeper.specs.Request.{Request, Load, Makes, blank_limit, line_format, loaded}
 use Rattle.rdf_keeper.specs.Runs.{Runs, final}
-use Rattle.rdf_keeper.specs.Session.{Session, Command, Reply, Do, Undo, Redo, Mark, Rollback, Commit, Changed, Done, Refused as RefusedReply, MayRefuse, Step, accepted, counts_between, fresh, now, with_mark}
-use Rattle.rdf_keeper.specs.declared.fault.Counts.{Counts}
+use Rattle.rdf_keeper.specs.Session.{Session, Command, Reply, Do, Undo, Redo, Mark, Rollback, Commit, Changed, Done, Refused as RefusedReply, MayRefuse, Step, accepted, counts_between, now}
 use Rattle.rdf_keeper.specs.declared.fault.KeeperFault.{KeeperFault}
-use Rattle.rdf_keeper.specs.declared.fault.KeeperFault.TheVariants.{NothingToUndo, NothingToRedo, NoSuchMark, MarkAhead, BadCommand, NoEnd, NoMemory as NoMemoryFault, BlankNumbers, Line as LineFaultOf}
+use Rattle.rdf_keeper.specs.declared.fault.KeeperFault.TheVariants.{NothingToUndo, NothingToRedo, NoSuchMark, MarkAhead, NoMemory as NoMemoryFault, BlankNumbers, Line as LineFaultOf}
 use Rattle.rdf_keeper.specs.declared.script.command.Listing.{Listing}
 use Rattle.rdf_keeper.specs.declared.script.command.Listing.TheVariants.{Changes, Graphs, Quads}
 use Rattle.rdf_keeper.specs.declared.script.output.Status.{Status}
-use Rattle.rdf_keeper.specs.declared.script.output.Status.TheVariants.{Accepted, Refused, ReadFailed, WriteFailed, NoMemory}
+use Rattle.rdf_keeper.specs.declared.script.output.Status.TheVariants.{Accepted, WriteFailed, NoMemory}
 use Rattle.rdf_keeper.proofs.SortedLemmas.{one_listing}
 
 -- ---- refusals but for want of memory

@@ -1,5 +1,5 @@
 -- The steps of a session over its commands.
-use Rattle.std.proofs.Common.{◌≡◌, ◌≢◌, ◌⊎◌, inl, inr, ℕ, Bool, true, false, ◌&&◌, ◌||◌, List, [], ◌∷◌, ◌++◌, refl, sym, ap, ◌∙◌, Option, Some, None, subst, append-nil, append_assoc}
+use Rattle.std.proofs.Common.{◌≡◌, ◌≢◌, inl, inr, ℕ, Bool, true, false, ◌&&◌, ◌||◌, List, [], ◌∷◌, ◌++◌, refl, sym, Option, Some, None, subst, append-nil}
 use Rattle.std.specs.Prelude.{Result, Ok, Err, is_err}
 use Rattle.std.specs.Io.KnownBytes.{Appends}
 use Rattle.rdf_keeper.specs.Session.{Session}
@@ -8,7 +8,7 @@ use Rattle.rdf_keeper.specs.Answers.{Answers}
 use Rattle.rdf_keeper.specs.Output.{WritesTo}
 use Rattle.rdf_keeper.specs.Runs.{Runs, final}
 use Rattle.rdf_keeper.specs.declared.script.output.Status.{Status}
-use Rattle.rdf_keeper.specs.declared.script.output.Status.TheVariants.{Accepted, Refused, ReadFailed, WriteFailed, NoMemory}
+use Rattle.rdf_keeper.specs.declared.script.output.Status.TheVariants.{Refused, WriteFailed, NoMemory}
 use Rattle.rdf_keeper.specs.declared.script.output.WriteFault.{WriteFault}
 
 pub wrote_ok : (a b : Option (List ℕ)) (text : List ℕ) (r : Result (Unit {0}) WriteFault) → is_err r ≡ false → WritesTo a text r b → Appends a b text

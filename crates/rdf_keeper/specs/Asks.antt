@@ -1,5 +1,4 @@
 -- What the code's commands and lines stand for.
-use Rattle.std.specs.Prelude.{ℕ, List}
 use Rattle.rdf_keeper.specs.Commands.{Asked, act, show, bad, unended, Line as LineMeaning, skipped, opens, asks}
 use Rattle.rdf_keeper.specs.Request.{Load as LoadRequest}
 use Rattle.rdf_keeper.specs.Session as session

@@ -1,17 +1,16 @@
 -- Examples that compute.
-use Rattle.std.specs.Prelude.{◌≡◌, ℕ, ◌+◌, List, [], ◌∷◌, ◌++◌, true, false, codes, Option, Some, None, refl}
-use Rattle.rdf_lines.specs.declared.fault.FaultKind.TheVariants.{Syntax}
+use Rattle.std.specs.Prelude.{◌≡◌, ℕ, List, [], ◌∷◌, true, false, codes, None, refl}
 use Rattle.rdf_terms.specs.Quad.{QuadParts}
-use Rattle.rdf_terms.specs.declared.quad.GraphName.TheVariants.{Default, Named}
+use Rattle.rdf_terms.specs.declared.quad.GraphName.TheVariants.{Named}
 use Rattle.rdf_terms.specs.declared.term.Term.TheVariants.{Blank, Iri}
-use Rattle.rdf_keeper.specs.Answers.{count_line, reply_line}
+use Rattle.rdf_keeper.specs.Answers.{reply_line}
 use Rattle.rdf_keeper.specs.Commands.{Asked, act, bad, commands, show, unended}
 use Rattle.rdf_keeper.specs.History.{History, marked, moved, nothing, place_of, pushed}
-use Rattle.rdf_keeper.specs.LineWords.{is_name, words}
-use Rattle.rdf_keeper.specs.Lines.{bare, raw_lines, upto_last_end}
+use Rattle.rdf_keeper.specs.LineWords.{is_name}
+use Rattle.rdf_keeper.specs.Lines.{raw_lines, upto_last_end}
 use Rattle.rdf_keeper.specs.Request.{Load, blank_limit, quad_from}
-use Rattle.rdf_keeper.specs.Session.{Changed, Commit, Do, Done, Mark, Refused, Rollback, Undo}
-use Rattle.rdf_keeper.specs.declared.fault.KeeperFault.TheVariants.{BadCommand, Line, NoEnd}
+use Rattle.rdf_keeper.specs.Session.{Do, Done, Mark, Refused, Undo}
+use Rattle.rdf_keeper.specs.declared.fault.KeeperFault.TheVariants.{NoEnd}
 use Rattle.rdf_keeper.specs.declared.format.Format.TheVariants.{NQuads}
 use Rattle.rdf_keeper.specs.declared.script.command.Listing.TheVariants.{Quads}
 

@@ -1,7 +1,7 @@
 -- What a keeper holds, seen as a session: the dataset is the state now, the entries are the nets between neighbours.
 use Rattle.std.specs.Prelude.{◌≡◌, ℕ, ◌≤◌, List, [], ◌∷◌, length, take, slice_index_or, Option}
 use Rattle.rdf_dataset.specs.State.{State, Change, IsSound, net_between, applied, turned}
-use Rattle.rdf_keeper.specs.Session.{Session, state_at}
+use Rattle.rdf_keeper.specs.Session.{Session}
 
 -- the state before the changes, from the one after them
 abbrev pub before_all : List Change → State → State

@@ -1,9 +1,9 @@
 -- What the states of a session have to do with the requests that stand.
-use Rattle.std.specs.Prelude.{◌≡◌, ℕ, ◌+◌, ◌-◌, List, [], ◌∷◌, take, Option, Some, None, unwrap_or}
+use Rattle.std.specs.Prelude.{◌≡◌, ◌+◌, ◌-◌, List, [], ◌∷◌, unwrap_or}
 use Rattle.rdf_dataset.specs.State.{State}
 use Rattle.rdf_keeper.specs.History.{History, nothing, pushed, moved, marked, place_of}
 use Rattle.rdf_keeper.specs.Request.{Request, Makes}
-use Rattle.rdf_keeper.specs.Session.{Session, Command, Reply, Do, Undo, Redo, Mark, Rollback, Commit, Changed, Done, Refused, Step, now}
+use Rattle.rdf_keeper.specs.Session.{Session, Command, Reply, Do, Undo, Redo, Mark, Rollback, Commit, Refused, Step}
 
 -- the session after commands with these replies
 abbrev pub Run : Session → List (Command × Reply) → Session → Type 0

@@ -1,5 +1,5 @@
 -- Requests, and what they make of a state: a dataset (RDF 1.1 Concepts, section 4) with a counter of blank nodes.
-use Rattle.std.specs.Prelude.{◌≡◌, ℕ, ◌+◌, ◌<◌, ◌≤◌, List, [], ◌∷◌, map, max, Option, Some, None}
+use Rattle.std.specs.Prelude.{◌≡◌, ℕ, ◌+◌, ◌<◌, ◌≤◌, List, [], ◌∷◌, map, max, Some, None}
 use Rattle.std.specs.List.{flat_map}
 use Rattle.std.specs.FinSet as set
 use Rattle.rdf_terms.specs.Quad.{QuadParts}
@@ -8,7 +8,6 @@ use Rattle.rdf_terms.specs.declared.quad.GraphName.TheVariants.{Default, Named}
 use Rattle.rdf_terms.specs.declared.term.Term.{Term}
 use Rattle.rdf_terms.specs.declared.term.Term.TheVariants.{Blank}
 use Rattle.rdf_dataset.specs.State.{State, last_number}
-use Rattle.rdf_lines.specs.declared.fault.LineFault.{LineFault}
 use Rattle.rdf_lines.specs.declared.format.LineFormat.{LineFormat}
 use Rattle.rdf_lines.specs.declared.format.LineFormat.TheVariants as line
 use Rattle.rdf_lines.specs.Document.{IsDocument}

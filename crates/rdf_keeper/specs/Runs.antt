@@ -1,6 +1,6 @@
 -- What a session writes for its commands, and how it ends.
 use Rattle.std.specs.Prelude.{◌≡◌, ◌≢◌, ◌⊎◌, ℕ, Bool, true, false, ◌&&◌, ◌||◌, List, [], ◌∷◌, ◌++◌, Option, None}
-use Rattle.std.specs.Io.KnownBytes.{Appends, Consumes, IsAtEnd}
+use Rattle.std.specs.Io.KnownBytes.{Consumes, IsAtEnd}
 use Rattle.rdf_keeper.specs.Session.{Session}
 use Rattle.rdf_keeper.specs.Lines.{raw_lines, upto_last_end}
 use Rattle.rdf_keeper.specs.Commands.{Asked, commands}

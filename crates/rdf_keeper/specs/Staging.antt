@@ -1,5 +1,5 @@
 -- What reading and staging a load answer.
-use Rattle.std.specs.Prelude.{◌≡◌, ◌+◌, ◌<◌, ◌≤◌, ℕ, List, Option, Some, None, Result, Ok, Err}
+use Rattle.std.specs.Prelude.{◌≡◌, ◌+◌, ◌<◌, ◌≤◌, ℕ, List, Some, Result, Ok, Err}
 use Rattle.rdf_dataset.specs.State.{State, Change, IsSound, net_between, last_number}
 use Rattle.rdf_terms.specs.Quad.{QuadParts}
 use Rattle.rdf_lines.specs.Document.{IsDocument}

@@ -7,8 +7,8 @@ ghost use Rattle.arrayvec.specs.ArrayVec.{array_vec_len};
 ghost use Rattle.rdf_keeper.specs.Program.{status_of, error_line, outcome_of, refused, refused_at};
 
 use crate::conversion::ConvertFault;
-use crate::script::output::write_whole;
 use crate::fault::KeeperFault;
+use crate::script::output::write_whole;
 use arrayvec::ArrayVec;
 use itoa::Buffer;
 use rdf_lines::LineFault;

@@ -7,12 +7,12 @@ ghost use Rattle.rdf_keeper.specs.Program.{status_of, outcome_of};
 ghost use Rattle.rdf_keeper.specs.declared.conversion.ConvertFault.{ConvertFault};
 
 use crate::conversion::convert;
+use crate::fault::KeeperFault;
 use crate::format::Format;
+use crate::keeper::Keeper;
 use crate::outcome::{Outcome, outcome_of, report};
 use crate::script::input::{Ending, read_all};
 use crate::script::output::write_whole;
-use crate::fault::KeeperFault;
-use crate::keeper::Keeper;
 use crate::script::{Settings, Status, run};
 use crate::words::{Asked, ConvertWords, RunWords, WordsFault, read_words};
 use rdf_terms::{Iri, IriFault};

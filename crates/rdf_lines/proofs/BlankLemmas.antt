@@ -50,7 +50,7 @@ module _ (labels : List (List ℕ)) where
 
 -- ---- each number of a label is below the number of labels
 
-number_below : (known : List (List ℕ)) (l : List ℕ) → has known l ≡ true → number_of known l < length known
+pub number_below : (known : List (List ℕ)) (l : List ℕ) → has known l ≡ true → number_of known l < length known
 number_below [] l h = absurd (true≢false (sym h))
 number_below (k ∷ ks) l h = by (pointwise nat_eq l k) refl (number_below ks l)
   where
@@ -60,7 +60,7 @@ number_below (k ∷ ks) l h = by (pointwise nat_eq l k) refl (number_below ks l)
         let there : number_of ks l < length ks = later (sym (ap (λ v. v || has ks l) e) ∙ h) in
         subst (λ v. cond (not v) (1 + number_of ks l) 0 < length (k ∷ ks)) (sym e) (let z : 1 + number_of ks l < length (k ∷ ks) = omega (arith, there) in z)
 
-all_known : (known all : List (List ℕ)) → AllByRecursion (λ l. has (all_noted known all) l ≡ true) all
+pub all_known : (known all : List (List ℕ)) → AllByRecursion (λ l. has (all_noted known all) l ≡ true) all
 all_known known [] = tt
 all_known known (l ∷ ls) = (all_noted-has (noted known l) ls l (noted-own known l), all_known (noted known l) ls)
 
@@ -78,7 +78,7 @@ below all n (k, l, is) =
 
 -- ---- each number below is a label's
 
-number_new : (known : List (List ℕ)) (l : List ℕ) → has known l ≡ false → number_of (known ++ l ∷ []) l ≡ length known
+pub number_new : (known : List (List ℕ)) (l : List ℕ) → has known l ≡ false → number_of (known ++ l ∷ []) l ≡ length known
 number_new [] l h = ap (λ v. cond (not v) (1 + 0) 0) (nat_list_eq_equiv.refl l)
 number_new (k ∷ ks) l h = by (pointwise nat_eq l k) refl (number_new ks l)
   where

@@ -20,7 +20,7 @@ use Rattle.rdf_terms.specs.declared.quad.Quad.{Quad}
 abbrev pub has : List (List ℕ) → List ℕ → Bool
 has known label = list_any (pointwise nat_eq label) known
 
-has-append : (known more : List (List ℕ)) (l : List ℕ) → has known l ≡ true → has (known ++ more) l ≡ true
+pub has-append : (known more : List (List ℕ)) (l : List ℕ) → has known l ≡ true → has (known ++ more) l ≡ true
 has-append [] more l h = absurd (true≢false (sym h))
 has-append (k ∷ ks) more l h = by (pointwise nat_eq l k) refl (λ there. has-append ks more l there)
   where
@@ -28,7 +28,7 @@ has-append (k ∷ ks) more l h = by (pointwise nat_eq l k) refl (λ there. has-a
     by true e later = ap (λ v. v || has (ks ++ more) l) e
     by false e later = ap (λ v. v || has (ks ++ more) l) e ∙ later (sym (ap (λ v. v || has ks l) e) ∙ h)
 
-number_of-append : (known more : List (List ℕ)) (l : List ℕ) → has known l ≡ true → number_of (known ++ more) l ≡ number_of known l
+pub number_of-append : (known more : List (List ℕ)) (l : List ℕ) → has known l ≡ true → number_of (known ++ more) l ≡ number_of known l
 number_of-append [] more l h = absurd (true≢false (sym h))
 number_of-append (k ∷ ks) more l h = by (pointwise nat_eq l k) refl (λ there. number_of-append ks more l there)
   where
@@ -37,7 +37,7 @@ number_of-append (k ∷ ks) more l h = by (pointwise nat_eq l k) refl (λ there.
     by false e later =
         ap (λ n. cond (not (pointwise nat_eq l k)) (1 + n) 0) (later (sym (ap (λ v. v || has ks l) e) ∙ h))
 
-has-own : (known : List (List ℕ)) (l : List ℕ) → has (known ++ l ∷ []) l ≡ true
+pub has-own : (known : List (List ℕ)) (l : List ℕ) → has (known ++ l ∷ []) l ≡ true
 has-own [] l = ap (λ v. v || false) (nat_list_eq_equiv.refl l)
 has-own (k ∷ ks) l = by (pointwise nat_eq l k) (has-own ks l)
   where

@@ -12,9 +12,15 @@ pub mod LineLemmas
 pub mod LinePieceLemmas
 pub mod PieceLemmas
 pub mod ReaderLemmas
+pub mod RenamedLemmas
+pub mod RoundTripLemmas
 pub mod SortLemmas
 pub mod SoundLemmas
 pub mod StepLemmas
 pub mod TagForms
 pub mod TagLemmas
 pub mod TermLemmas
+pub mod WrittenLineLemmas
+pub mod WrittenPieceLemmas
+pub mod WrittenTagLemmas
+pub mod WrittenTextLemmas

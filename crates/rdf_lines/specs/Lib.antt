@@ -9,4 +9,5 @@ pub mod Pieces
 pub mod QuadText
 pub mod Reader
 pub mod Reading
+pub mod RoundTrip
 pub mod Written

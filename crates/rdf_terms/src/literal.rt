@@ -2,6 +2,7 @@
 ghost use Rattle.std.specs.Prelude.{◌≡◌, ◌==◌, not, IfOk, IsTrue, if◌then◌else◌, option_map};
 ghost use Rattle.std.specs.Char.{is_ascii_alphabetic, is_ascii_alphanumeric};
 ghost use Rattle.std.specs.List.{list_all, slice_split, take_while};
+ghost use Rattle.std.specs.Str.{str_to_ascii_lowercase};
 ghost use Rattle.rdf_terms.specs.Literal.{LiteralParts, is_tag, is_subtag, is_literal, tagged};
 
 use crate::fault::NoMemory;
@@ -89,11 +90,11 @@ impl Literal {
         let _ = lexical.as_str();
         let datatype = Iri::lang_string(alloc)?;
         let _ = datatype.as_str();
-        let lowered = Text::from(tag.to_ascii_lowercase(alloc)?);
+        let tag = lowered(alloc, tag)?;
         Ok(Some(Literal {
             lexical,
             datatype,
-            tag: Some(lowered),
+            tag: Some(tag),
         }))
     }
 
@@ -140,6 +141,13 @@ impl Literal {
             },
         })
     }
+}
+
+// The tag with its capitals lowered, ASCII letters only.
+fn lowered(alloc: Global, tag: &str) -> Result<Text, NoMemory>
+    ensures { IfOk result (λ t. t ≡ str_to_ascii_lowercase tag.now) }
+{
+    Ok(Text::from(tag.to_ascii_lowercase(alloc)?))
 }
 
 fn are_alphanumeric(text: &[u8]) -> bool

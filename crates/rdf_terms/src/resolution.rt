@@ -14,7 +14,6 @@ use crate::reference::Reference;
 use crate::text::Text;
 use std::alloc::Global;
 
-
 /// The IRI that the reference means against the base (RFC 3986, section 5.2). A reference with a
 /// scheme means itself, its dot segments too; any other one takes from the base what it lacks, and
 /// a path that isn't the base's own loses its dot segments.

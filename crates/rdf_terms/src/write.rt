@@ -1,6 +1,8 @@
 //! The text of terms, in canonical N-Triples (RDF 1.1 N-Triples, section 4).
-ghost use Rattle.std.specs.Prelude.{◌≡◌, ◌++◌, take, length, codes, OnOk, OnErr};
+ghost use Rattle.std.specs.Cmp.Lexicographic.{pointwise};
+ghost use Rattle.std.specs.Prelude.{◌≡◌, ◌++◌, nat_eq, take, length, codes, OnOk, OnErr};
 ghost use Rattle.std.specs.List.{flat_map};
+ghost use Rattle.rdf_terms.specs.Literal.{xsd_string};
 ghost use Rattle.rdf_terms.specs.TermText.{escaped, suffix_text, datatype_text, literal_text, term_text};
 
 use crate::fault::NoMemory;
@@ -103,11 +105,17 @@ fn append_datatype(datatype: &Iri, out: &mut Vec<u8>) -> Result<(), NoMemory>
     ensures ok { OnOk result (out.new.items ≡ out.old.items ++ datatype_text datatype.now) }
     ensures kept { take (length out.old.items) out.new.items ≡ out.old.items }
 {
-    if datatype.as_str() == "http://www.w3.org/2001/XMLSchema#string" {
+    if is_xsd_string(datatype) {
         return Ok(());
     }
     out.extend_from_slice(b"^^<")?;
     out.extend_from_slice(datatype.as_str().as_bytes())?;
     out.extend_from_slice(b">")?;
     Ok(())
+}
+
+fn is_xsd_string(datatype: &Iri) -> bool
+    ensures { result ≡ pointwise nat_eq datatype.now xsd_string }
+{
+    datatype.as_str() == "http://www.w3.org/2001/XMLSchema#string"
 }

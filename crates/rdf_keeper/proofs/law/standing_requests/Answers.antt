@@ -1,7 +1,5 @@
-use Rattle.std.proofs.Common.{◌≡◌, ap, ◌∙◌, take}
 use Rattle.rdf_keeper.specs.History.{nothing}
 use Rattle.rdf_keeper.specs.Session.{fresh}
-use Rattle.rdf_keeper.specs.Law.{requests_of, MakesAll}
 use Rattle.rdf_keeper.proofs.LawLemmas.{run_agrees, fresh_agrees, standing}
 use Rattle.rdf_keeper.proofs.law.standing_requests.Goals as goal
 

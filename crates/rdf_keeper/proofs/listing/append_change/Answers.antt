@@ -1,4 +1,4 @@
-use Rattle.std.proofs.Common.{◌≡◌, ◌++◌, ℕ, List, map, refl, arith, length-append}
+use Rattle.std.proofs.Common.{◌++◌, ℕ, List, map, refl, arith, length-append}
 use Rattle.std.proofs.lemmas.List.{length-map}
 use Rattle.std.specs.Prelude.{codes}
 use Rattle.rdf_lines.specs.QuadText.{quad_text}

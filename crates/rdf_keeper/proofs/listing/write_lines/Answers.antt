@@ -1,4 +1,4 @@
-use Rattle.std.proofs.Common.{◌≡◌, ◌∙◌, ◌++◌, [], ap, append_assoc}
+use Rattle.std.proofs.Common.{◌∙◌, ◌++◌, ap, append_assoc}
 use Rattle.rdf_lines.specs.QuadText.{quad_text}
 use Rattle.rdf_keeper.proofs.ListingLemmas.{line_more, lines_end}
 use Rattle.rdf_keeper.proofs.listing.write_lines.Goals as goal

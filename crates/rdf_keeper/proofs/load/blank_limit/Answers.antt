@@ -1,5 +1,3 @@
-use Rattle.std.proofs.Common.{◌≡◌, ℕ, arith, rules, sym, ap, ◌∙◌}
-use Rattle.std.specs.Prelude.{min, max}
 use Rattle.rdf_keeper.proofs.LoadLemmas.{blank_limit-drop, blank_limit-end, limit_step, limit_end}
 use Rattle.rdf_keeper.proofs.load.blank_limit.Goals as goal
 

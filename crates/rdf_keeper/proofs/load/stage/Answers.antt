@@ -1,6 +1,6 @@
-use Rattle.std.proofs.Common.{◌≡◌, ◌+◌, ◌≤◌, ℕ, arith, rules, sym, ap, ◌∙◌, subst, refl, length}
+use Rattle.std.proofs.Common.{◌≡◌, arith, rules, sym, ap, ◌∙◌, subst, length}
 use Rattle.std.specs.Vec.Iter.{into_iter_items, into_iter_len}
-use Rattle.rdf_dataset.specs.State.{State, IsSound, IsQuadBelow, net_between}
+use Rattle.rdf_dataset.specs.State.{IsSound, IsQuadBelow, net_between}
 use Rattle.rdf_keeper.proofs.LoadLemmas.{none_left, quad_below, staging_begins, staging_ends, staging_goes_on, staging_room}
 use Rattle.rdf_keeper.proofs.load.stage.Goals as goal
 

@@ -1,4 +1,4 @@
-use Rattle.std.proofs.Common.{◌∙◌, ◌≡◌, ◌∷◌, [], ◌++◌, List, take, ap, length}
+use Rattle.std.proofs.Common.{◌∙◌, ◌∷◌, [], ◌++◌, List, take, ap, length}
 use Rattle.rdf_dataset.specs.State.{Change}
 use Rattle.rdf_keeper.proofs.KeptLemmas.{accepted_any, begins_here, kept, length-extended}
 use Rattle.rdf_keeper.proofs.keeper.Keeper.accept.Goals as goal

@@ -1,4 +1,4 @@
-use Rattle.std.proofs.Common.{◌≡◌, ◌∙◌, ap}
+use Rattle.std.proofs.Common.{◌∙◌, ap}
 use Rattle.rdf_keeper.specs.Session.{Session}
 use Rattle.rdf_keeper.specs.Kept.{nets_between}
 use Rattle.rdf_keeper.proofs.KeptLemmas.{entries_are}

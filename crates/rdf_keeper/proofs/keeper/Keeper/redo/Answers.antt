@@ -1,8 +1,7 @@
-use Rattle.std.proofs.Common.{◌≡◌, ◌≢◌, ℕ, ◌+◌, ◌-◌, ◌<◌, ◌≤◌, refl, sym, ap, ◌∙◌, subst, arith, rules, length}
+use Rattle.std.proofs.Common.{◌≡◌, ◌≢◌, ℕ, ◌<◌, ◌≤◌, refl, sym, ◌∙◌, subst, arith, length}
 use Rattle.std.proofs.lemmas.Result.{err_from_is_err_and}
-use Rattle.rdf_keeper.specs.Session.{Session, Step, Undo, Redo, Rollback, Changed, Refused, reply_of}
-use Rattle.rdf_keeper.specs.declared.fault.KeeperFault.TheVariants.{NoMemory, NothingToRedo}
-use Rattle.rdf_keeper.proofs.KeptLemmas.{redo_begins, undo_step, redo_step, rollback_step, undo_refused, redo_refused, rollback_refused, kept, length-states_after}
+use Rattle.rdf_keeper.specs.Session.{Session}
+use Rattle.rdf_keeper.proofs.KeptLemmas.{redo_begins, redo_step, redo_refused, kept, length-states_after}
 use Rattle.rdf_keeper.proofs.keeper.Keeper.redo.Goals as goal
 
 below : (k n m l : ℕ) → k ≤ l → n ≡ m → m ≡ l → k ≢ n → k < l

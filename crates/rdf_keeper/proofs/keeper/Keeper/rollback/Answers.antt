@@ -1,10 +1,6 @@
-use Rattle.std.proofs.Common.{◌≡◌, ◌≢◌, ℕ, ◌+◌, ◌-◌, ◌<◌, ◌≤◌, ◌∷◌, get_or, refl, sym, ap, ◌∙◌, subst, arith, rules, length, add-one}
-use Rattle.std.proofs.lemmas.Result.{err_from_is_err_and}
+use Rattle.std.proofs.Common.{◌≤◌, sym, ap, ◌∙◌, arith}
 use Rattle.rdf_dataset.specs.State.{State, net_between}
-use Rattle.rdf_keeper.specs.Session.{Session, Step, Undo, Redo, Rollback, Changed, Refused, reply_of}
-use Rattle.rdf_keeper.specs.Kept.{AreNets, states_after}
-use Rattle.rdf_keeper.specs.declared.fault.KeeperFault.TheVariants.{NoMemory, NothingToRedo}
-use Rattle.rdf_keeper.proofs.KeptLemmas.{rollback_ends, rollback_step, rollback_refused, kept, length-states_after, length-extended, at}
+use Rattle.rdf_keeper.proofs.KeptLemmas.{rollback_ends, rollback_step, kept}
 use Rattle.rdf_keeper.proofs.keeper.Keeper.rollback.Goals as goal
 
 pub revert-requires : goal.revert-requires

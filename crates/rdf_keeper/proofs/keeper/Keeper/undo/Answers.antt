@@ -1,8 +1,6 @@
-use Rattle.std.proofs.Common.{◌≡◌, ◌≢◌, ℕ, ◌+◌, ◌-◌, ◌<◌, ◌≤◌, refl, sym, ap, ◌∙◌, subst, arith, rules, length}
+use Rattle.std.proofs.Common.{◌≢◌, ℕ, ◌<◌, arith}
 use Rattle.std.proofs.lemmas.Result.{err_from_is_err_and}
-use Rattle.rdf_keeper.specs.Session.{Session, Step, Undo, Redo, Rollback, Changed, Refused, reply_of}
-use Rattle.rdf_keeper.specs.declared.fault.KeeperFault.TheVariants.{NoMemory, NothingToRedo}
-use Rattle.rdf_keeper.proofs.KeptLemmas.{undo_ends, undo_step, redo_step, rollback_step, undo_refused, redo_refused, rollback_refused, kept, length-states_after}
+use Rattle.rdf_keeper.proofs.KeptLemmas.{undo_ends, undo_step, undo_refused, kept}
 use Rattle.rdf_keeper.proofs.keeper.Keeper.undo.Goals as goal
 
 above_zero : (k : ℕ) → k ≢ 0 → 0 < k

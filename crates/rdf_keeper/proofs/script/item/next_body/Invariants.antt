@@ -1,4 +1,4 @@
-use Rattle.std.proofs.Common.{◌≡◌, ◌++◌, [], length, Some, ◌≤◌, List, ℕ}
+use Rattle.std.proofs.Common.{◌≡◌, ◌++◌, [], length, Some, List, ℕ}
 use Rattle.rdf_keeper.specs.Lines.{raw_lines}
 use Rattle.rdf_keeper.specs.Commands.{commands}
 use Rattle.rdf_keeper.proofs.script.item.next_body.Given as goal

@@ -1,4 +1,4 @@
-use Rattle.std.proofs.Common.{◌≡◌, ◌∷◌, ◌+◌, ◌∙◌, ap, sym, refl, List, ℕ, take, drop, zero-add}
+use Rattle.std.proofs.Common.{◌≡◌, ◌∷◌, ◌∙◌, ap, sym, List, ℕ, take, drop, zero-add}
 use Rattle.rdf_keeper.specs.Lines.{raw_lines}
 use Rattle.rdf_keeper.proofs.LineLemmas.{raw_lines-first, cut-some, cut-none, cut}
 use Rattle.rdf_keeper.proofs.script.line.first_line.Goals as goal

@@ -1,4 +1,4 @@
-use Rattle.std.proofs.Common.{◌≡◌, ◌++◌, ◌∙◌, ap, sym, refl, List, ℕ, take, drop, append_assoc}
+use Rattle.std.proofs.Common.{◌++◌, take}
 use Rattle.rdf_keeper.proofs.ByteLemmas.{Appends-chain, split_on}
 use Rattle.rdf_keeper.proofs.script.output.write_whole.Goals as goal
 

@@ -1,6 +1,4 @@
-use Rattle.std.proofs.Common.{◌≡◌, [], ◌++◌, ◌∙◌, ap, sym, refl, List, ℕ, append_assoc, append-nil, subst}
-use Rattle.rdf_keeper.specs.Session.{Session}
-use Rattle.rdf_keeper.specs.Runs.{Runs}
+use Rattle.std.proofs.Common.{[], ◌++◌, ◌∙◌, sym, append_assoc, append-nil}
 use Rattle.rdf_keeper.proofs.ByteLemmas.{Appends-chain}
 use Rattle.rdf_keeper.proofs.RunLemmas.{wrote_ok, wrote_err, write_failed, stopped, goes_on, at_end, closed}
 use Rattle.rdf_keeper.proofs.script.runner.run_text.Goals as goal

@@ -1,4 +1,4 @@
-use Rattle.std.proofs.Common.{◌≡◌, ◌++◌, ℕ, List, None, false, length}
+use Rattle.std.proofs.Common.{◌++◌, ℕ, List, None, false, length}
 use Rattle.std.specs.Io.KnownBytes.{Appends}
 use Rattle.rdf_keeper.specs.Session.{Session}
 use Rattle.rdf_keeper.specs.Lines.{raw_lines}

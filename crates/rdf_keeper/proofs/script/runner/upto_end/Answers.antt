@@ -1,5 +1,4 @@
-use Rattle.std.proofs.Common.{◌≡◌, ◌≢◌, ◌≤◌, ◌<◌, ℕ, zero, suc, ◌-◌, arith, length, take, sym, ap, ◌∙◌, refl, nat_eq, false, rules, get_or, List, []}
-use Rattle.std.proofs.lemmas.Bool.Decides.{Decides-eqb}
+use Rattle.std.proofs.Common.{◌≡◌, ◌≤◌, ℕ, zero, suc, arith, take, sym, ◌∙◌, refl, List}
 use Rattle.rdf_keeper.specs.Lines.{upto_last_end}
 use Rattle.rdf_keeper.proofs.LineLemmas.{upto-step, upto-stop, not_same}
 use Rattle.rdf_keeper.proofs.script.runner.upto_end.Goals as goal
