@@ -69,12 +69,12 @@ const TWICE_OUT: &[u8] = b"<http://e/s> <http://e/p> \"x\" .\n<http://e/s> <http
 
 #[test]
 fn pieces_of_one_byte(rt: HostRuntime) -> Result<(), Fail> {
-    let reader = Slow {
+    let mut reader = Slow {
         bytes: FOUR,
         fails: false,
     };
     let mut out = Vec::new(rt.alloc());
-    let answer = convert(rt.alloc(), Format::NQuads, None, reader, &mut out);
+    let answer = convert(rt.alloc(), Format::NQuads, None, &mut reader, &mut out);
     assert_eq!(rt; answer, Ok(()));
     assert_eq!(rt; out.as_slice(), FOUR_OUT);
     Ok(())
@@ -82,15 +82,20 @@ fn pieces_of_one_byte(rt: HostRuntime) -> Result<(), Fail> {
 
 #[test]
 fn a_failed_read(rt: HostRuntime) -> Result<(), Fail> {
-    let reader = Slow {
+    let mut reader = Slow {
         bytes: TWICE,
         fails: true,
     };
     let mut out = Vec::new(rt.alloc());
-    let answer = convert(rt.alloc(), Format::NTriples, None, reader, &mut out);
+    let answer = convert(rt.alloc(), Format::NTriples, None, &mut reader, &mut out);
     assert_eq!(rt; answer, Err(ConvertFault::Read));
     assert_eq!(rt; out.as_slice(), TWICE_OUT);
     Ok(())
+}
+
+fn written(alloc: Global, writer: &mut Narrow) -> Result<(), ConvertFault> {
+    let mut reader = TWICE;
+    convert(alloc, Format::NQuads, None, &mut reader, writer)
 }
 
 #[test]
@@ -100,24 +105,21 @@ fn failed_writes(rt: HostRuntime) -> Result<(), Fail> {
         taken: 0,
         fails: false,
     };
-    let answer = convert(rt.alloc(), Format::NQuads, None, TWICE, &mut full);
+    let answer = written(rt.alloc(), &mut full);
     assert_eq!(rt; answer, Err(ConvertFault::Write));
     let mut broken = Narrow {
         room: 0,
         taken: 0,
         fails: true,
     };
-    let answer = convert(rt.alloc(), Format::NQuads, None, TWICE, &mut broken);
+    let answer = written(rt.alloc(), &mut broken);
     assert_eq!(rt; answer, Err(ConvertFault::Write));
     let mut wide = Narrow {
         room: 200,
         taken: 0,
         fails: true,
     };
-    assert_eq!(rt;
-        convert(rt.alloc(), Format::NQuads, None, TWICE, &mut wide),
-        Ok(())
-    );
+    assert_eq!(rt; written(rt.alloc(), &mut wide), Ok(()));
     Ok(())
 }
 

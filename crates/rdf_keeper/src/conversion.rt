@@ -106,10 +106,23 @@ fn gather<W: Write>(
 ///
 /// A line that is faulty, a failed read or want of memory ends it: what comes before is written. A write call that
 /// fails or takes nothing ends it too.
-pub fn convert<R: Read + Drop, W: Write>(
+pub fn convert<R: Read, W: Write>(
     alloc: Global,
     format: Format,
     _base: Option<Iri>,
+    reader: &mut R,
+    writer: &mut W,
+) -> Result<(), ConvertFault>
+    ensures { (text : List ℕ) → R.remaining reader.old ≡ Some text →
+        (out : List ℕ) × Appends (W.contents writer.old) (W.contents writer.new) out × Converts (line_format format) text out result }
+{
+    convert_from(alloc, format, reader, writer)
+}
+
+// Converts what a reader gives that it takes over.
+fn convert_from<R: Read + Drop, W: Write>(
+    alloc: Global,
+    format: Format,
     reader: R,
     writer: &mut W,
 ) -> Result<(), ConvertFault>

@@ -112,7 +112,7 @@ fn convert_all<R: Read + Drop, W: Write>(
     alloc: Global,
     format: Format,
     base: Option<Iri>,
-    reader: R,
+    mut reader: R,
     writer: &mut W,
 ) -> Outcome
     ensures told { status_of result ≢ 2 }
@@ -120,7 +120,7 @@ fn convert_all<R: Read + Drop, W: Write>(
         (out : List ℕ) × (answer : Result (Unit {0}) ConvertFault) × Appends (W.contents writer.old) (W.contents writer.new) out
         × Converts (line_format format) text out answer × (result ≡ outcome_of answer) }
 {
-    outcome_of(convert(alloc, format, base, reader, writer))
+    outcome_of(convert(alloc, format, base, &mut reader, writer))
 }
 
 fn convert_words<T: Files, R: Read + Drop, W: Write>(

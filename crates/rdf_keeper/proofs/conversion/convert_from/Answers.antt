@@ -7,7 +7,7 @@ use Rattle.rdf_lines.specs.Reader.{LineState, Step, fresh}
 use Rattle.rdf_keeper.specs.Convert.{Finishes, Gathers}
 use Rattle.rdf_keeper.specs.Request.{line_format}
 use Rattle.rdf_keeper.proofs.ConvertLemmas.{SoFar, none_read, nothing_yet, at_end, at_fault, gathered, gathered_fault}
-use Rattle.rdf_keeper.proofs.conversion.convert.Goals as goal
+use Rattle.rdf_keeper.proofs.conversion.convert_from.Goals as goal
 
 pub returns-in_default : goal.returns-in_default
 returns-in_default g c text e =
