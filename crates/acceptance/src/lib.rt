@@ -3,6 +3,8 @@
 #![tactic(auto)]
 
 #[cfg(test)]
+mod datasets;
+#[cfg(test)]
 mod documents;
 #[cfg(test)]
 mod lines;

@@ -1,4 +1,5 @@
 mod DeltaLemmas
+mod KeepLemmas
 mod ListingLemmas
 mod SortedLemmas
 mod StateLemmas

@@ -1,25 +1,24 @@
 -- Strictly rising lists, the sets of their items, and what an edit makes of both.
-use Rattle.std.proofs.Common.{◌≡◌, ◌⊎◌, ℕ, zero, suc, ◌+◌, ◌<◌, ◌≤◌, Bool, true, false, cond, not, ◌&&◌, ◌||◌, List, [], ◌∷◌, ◌++◌, length, take, drop, get_or, refl, sym, ap, ◌∙◌, subst, arith, length-append, length-drop, length-take, ◌-◌, Result, Ok, Err, IfOk, IfErr, is_ok, Option, Some, None, MatchOption, reverse}
-use mathlib.Core.Bool.{true≢false}
+use Rattle.std.proofs.Common.{◌≡◌, ℕ, zero, suc, ◌+◌, ◌<◌, ◌≤◌, Bool, true, false, cond, not, ◌&&◌, ◌||◌, List, [], ◌∷◌, ◌++◌, length, take, drop, get_or, refl, sym, ap, ◌∙◌, subst, arith, length-append, length-drop, length-take, ◌-◌, Result, Ok, Err, IfOk, IfErr, is_ok, Option, Some, None, MatchOption, reverse}
 use Rattle.std.specs.Prelude.{filter}
 use Rattle.std.specs.declared.cmp.Ordering.{Ordering}
 use Rattle.std.specs.declared.cmp.Ordering.TheVariants.{Less, Equal, Greater}
-use Rattle.std.specs.Ordering.{eq_by_cmp, is_eq, is_lt, ordering_reverse, ordering_index}
+use Rattle.std.specs.Ordering.{eq_by_cmp, is_eq, is_lt, ordering_reverse}
 use Rattle.std.specs.Cmp.{IsTotalOrder, Equal-is, tied_itself}
 use Rattle.std.specs.List.{AllByRecursion, AllWithin, list_any, slice_get}
 use Rattle.std.specs.Option.{option_to_list}
 use Rattle.std.proofs.lemmas.List.{reverse-append, append-nil, append_cancel_left, nil_from_length}
 use Rattle.std.proofs.lemmas.Option.{slice_get_within, get_or_from_slice_get, slice_get-get_or}
 use Rattle.std.proofs.lemmas.List.Sorted.{list_any-IsPermutation, IsPermutation-reverse, IsPermutation-sym}
-use Rattle.std.specs.List.Sorted.{IsStrictlySortedBy, IsSortedBy, IsBinarySearchResult, IsSearchInRange, IsNonDecreasingBy}
+use Rattle.std.specs.List.Sorted.{IsStrictlySortedBy, IsSortedBy, IsBinarySearchResult, IsSearchInRange}
 use Rattle.std.proofs.lemmas.List.Sorted.{searchable_from_sorted}
 use Rattle.std.proofs.lemmas.Map.Keys.{Less-from_sorted}
 use Rattle.std.proofs.lemmas.List.{take-append-drop, append_assoc}
 use Rattle.std.specs.FinSet as set
-use Rattle.std.specs.FinSet.{contains, from_list, IsAntisymmetric, same_set, contains-from_list, contains-insert, contains-remove, contains-union, contains-difference, contains-empty, len-empty, len-insert, contains-retain}
+use Rattle.std.specs.FinSet.{contains, from_list, IsAntisymmetric, same_set, contains-from_list, contains-insert, contains-remove, contains-union, contains-difference, contains-empty, len-empty, len-insert}
 use Rattle.rdf_dataset.specs.Places.{IsFoundAt, IsGapAt}
 use Rattle.rdf_dataset.specs.Merging.{PopsGreatest, IsMerging}
-use Rattle.rdf_dataset.specs.Sorted.{ListsOnce, ListsSorted, AppendsOnce}
+use Rattle.rdf_dataset.specs.Sorted.{ListsOnce, ListsSorted}
 
 -- ---- a fact of each item
 

@@ -1,5 +1,5 @@
 -- States, the nets between them, and what keeps a state sound.
-use Rattle.std.proofs.Common.{◌≡◌, ◌⊎◌, inl, inr, ℕ, ◌+◌, ◌≤◌, ◌<◌, Bool, true, false, not, ◌&&◌, ◌||◌, List, [], ◌∷◌, refl, sym, ap, ◌∙◌, subst, IsTrue, arith, length}
+use Rattle.std.proofs.Common.{◌≡◌, ◌⊎◌, inl, inr, ℕ, ◌+◌, ◌≤◌, Bool, true, false, not, ◌&&◌, ◌||◌, List, [], ◌∷◌, refl, sym, ap, ◌∙◌, subst, IsTrue, arith}
 use mathlib.Core.Bool.{true≢false}
 use Rattle.std.specs.declared.cmp.Ordering.{Ordering}
 use Rattle.std.specs.Ordering.{eq_by_cmp, is_eq}
@@ -16,8 +16,8 @@ use Rattle.rdf_terms.specs.OrderLaws.{term_cmp_total, term_cmp-IsAntisymmetric, 
 use Rattle.rdf_dataset.specs.State.{State, Change, Quads, Names, IsSound, IsQuadBelow, IsGraphBelow, IsTermBelow, IsNamed, IsEmptyGraph, IsKnownGraph, with_graph, with_quad, without_quad, with_name, without_name, with_blanks, net_between, applied, last_number}
 use Rattle.rdf_dataset.specs.Staging.{Staging}
 use Rattle.rdf_dataset.specs.Delta.{IsDelta, Leads}
-use Rattle.rdf_dataset.proofs.SortedLemmas.{tie_same, tie_itself, or-false, at_tie, insert_there}
-use Rattle.rdf_dataset.proofs.DeltaLemmas.{turned, ends_at, applied as delta_applied, taken_back as delta_taken_back}
+use Rattle.rdf_dataset.proofs.SortedLemmas.{tie_same, tie_itself, at_tie, insert_there}
+use Rattle.rdf_dataset.proofs.DeltaLemmas.{ends_at, applied as delta_applied, taken_back as delta_taken_back}
 
 -- ---- nets
 

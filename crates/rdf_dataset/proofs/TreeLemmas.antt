@@ -7,7 +7,6 @@ use Rattle.std.specs.Ordering.{eq_by_cmp, is_eq, ordering_reverse}
 use Rattle.std.specs.Cmp.{IsTotalOrder}
 use Rattle.std.specs.List.{list_any}
 use Rattle.std.specs.List.Sorted.{IsStrictlySortedBy}
-use Rattle.std.specs.FinSet as set
 use Rattle.std.specs.FinSet.{contains, from_list, insert, remove, IsAntisymmetric, same_set, contains-insert, contains-remove}
 use Rattle.rdf_dataset.proofs.SortedLemmas.{has_of}
 

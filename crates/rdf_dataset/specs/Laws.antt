@@ -1,5 +1,5 @@
 -- Laws on states that callers use.
-use Rattle.std.specs.Prelude.{◌≡◌, Bool, true, false, ◌&&◌, List, [], ◌++◌, IsTrue, Option, None, refl}
+use Rattle.std.specs.Prelude.{◌≡◌, true, false, ◌&&◌, List, [], ◌++◌, None}
 use mathlib.Core.Path.{sym, ap, ◌∙◌}
 use mathlib.Core.Bool.{true≢false}
 use Rattle.std.specs.Ordering.{eq_by_cmp, is_eq}
@@ -11,7 +11,7 @@ use Rattle.rdf_terms.specs.Quad.{QuadParts}
 use Rattle.rdf_terms.specs.Order.{graph_cmp, quad_cmp}
 use Rattle.rdf_terms.specs.OrderLaws.{graph_cmp_total, quad_cmp-IsAntisymmetric}
 use Rattle.rdf_dataset.specs.State.{State, IsEmptyGraph, matches}
-use Rattle.rdf_dataset.specs.Sorted.{ListsOnce, AppendsOnce}
+use Rattle.rdf_dataset.specs.Sorted.{AppendsOnce}
 
 no_front : {A : Type 0} (xs ys : List A) → xs ≡ [] → xs ++ ys ≡ ys
 no_front xs ys e = ap (λ l. l ++ ys) e

@@ -58,14 +58,14 @@ impl Dataset {
     pub fn quads(&self) -> &[Quad]
         ensures { ListsSorted self.now.quads result.now }
     {
-        self.quads.as_slice()
+        self.quads.listing()
     }
 
     /// The graph names, each once, in order.
     pub fn names_sorted(&self) -> &[Term]
         ensures { ListsSorted self.now.names result.now }
     {
-        self.names.as_slice()
+        self.names.listing()
     }
 
     /// Goes to the state where a net that begins here ends. It takes no memory where the net added

@@ -1,9 +1,12 @@
 //! A set of items, kept as a sorted list without repeats.
-ghost use Rattle.std.specs.Prelude.{◌≡◌, [], ◌∷◌, ◌++◌, List, length, IsOk, IfOk, IfErr, OnOk, OnErr, MatchOption};
+ghost use Rattle.std.specs.Prelude.{◌≡◌, [], ◌∷◌, ◌++◌, ◌≤◌, List, length, take, filter, not, IsOk, IfOk, IfErr, OnOk, OnErr, MatchOption};
 ghost use Rattle.std.specs.FinSet as set;
+ghost use Rattle.std.specs.List.{AllByRecursion};
 ghost use Rattle.std.specs.List.Sorted.{IsStrictlySortedBy};
+ghost use Rattle.std.specs.declared.cmp.Ordering.TheVariants.{Less};
 ghost use Rattle.rdf_dataset.specs.Places.{IsFoundAt, IsGapAt};
 ghost use Rattle.rdf_dataset.specs.Merging.{PopsGreatest};
+ghost use Rattle.rdf_dataset.specs.Sorted.{ListsSorted};
 
 use crate::item::Item;
 use rdf_terms::NoMemory;
@@ -53,6 +56,13 @@ impl<T: Item> Sorted<T> {
         self.items.as_slice()
     }
 
+    /// The items, each once, in order.
+    pub(crate) fn listing(&self) -> &[T]
+        ensures { ListsSorted (set.from_list {R = T.order} self.now) result.now }
+    {
+        self.items.as_slice()
+    }
+
     // Where the item stands, or where it would go.
     fn search(&self, item: &T) -> Result<usize, usize>
         ensures found { IfOk result (IsFoundAt T.order self.now item.now) }
@@ -71,7 +81,8 @@ impl<T: Item> Sorted<T> {
     pub(crate) fn subtract(&mut self, gone: &Sorted<T>)
         ensures { set.from_list {R = T.order} self.new ≡ set.difference (set.from_list self.old) (set.from_list gone.now) }
     {
-        self.items.retain(|item| !gone.contains(item));
+        let kept = keep_others(&mut self.items, gone.as_slice());
+        self.items.truncate(kept);
     }
 
     /// An equal list.
@@ -161,4 +172,45 @@ fn pop_greatest<T: Item>(items: &mut Vec<T>, more: &mut Vec<T>) -> Option<T>
         }
         Ordering::Greater => items.pop(),
     }
+}
+
+// Moves the items that aren't among the other ones to the front, in order, and answers how many they are.
+fn keep_others<T: Item>(items: &mut Vec<T>, others: &[T]) -> usize
+    requires items { IsStrictlySortedBy T.order items.old.items }
+    requires others { IsStrictlySortedBy T.order others.now }
+    ensures { take result items.new.items ≡ filter (λ x. not (set.contains (set.from_list {R = T.order} others.now) x)) items.old.items }
+{
+    let mut kept = 0;
+    let mut passed = 0;
+    for place in 0..items.len() {
+        match find_from(others, passed, &items[place]) {
+            Ok(found) => passed = found,
+            Err(gap) => {
+                passed = gap;
+                items.swap(kept, place);
+                kept += 1;
+            }
+        }
+    }
+    kept
+}
+
+// Where the item stands, or where it would go, at or behind a place before which all is less.
+fn find_from<T: Item>(items: &[T], from: usize, item: &T) -> Result<usize, usize>
+    requires sorted { IsStrictlySortedBy T.order items.now }
+    requires inside { from ≤ length items.now }
+    requires before { AllByRecursion (λ y. T.order y item.now ≡ Less) (take from items.now) }
+    ensures found { IfOk result (IsFoundAt T.order items.now item.now) }
+    ensures less { IfOk result (λ place. AllByRecursion (λ y. T.order y item.now ≡ Less) (take place items.now)) }
+    ensures absent { IfErr result (IsGapAt T.order items.now item.now) }
+{
+    let mut place = from;
+    while place < items.len() {
+        match items[place].compare(item) {
+            Ordering::Less => place += 1,
+            Ordering::Equal => return Ok(place),
+            Ordering::Greater => return Err(place),
+        }
+    }
+    Err(place)
 }

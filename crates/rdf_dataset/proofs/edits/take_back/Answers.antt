@@ -1,4 +1,4 @@
-use Rattle.std.proofs.Common.{◌≡◌, ◌∙◌, sym, ap}
+use Rattle.std.proofs.Common.{◌∙◌, sym, ap}
 use Rattle.std.specs.FinSet as set
 use Rattle.rdf_dataset.proofs.StateLemmas.{name_back, name_still, not_true, not_false}
 use Rattle.rdf_dataset.proofs.edits.take_back.Goals as goal

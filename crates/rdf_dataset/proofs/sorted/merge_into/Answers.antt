@@ -1,5 +1,3 @@
-use Rattle.std.proofs.Common.{◌≡◌, ◌∙◌, sym, ap}
-use Rattle.std.specs.FinSet as set
 use Rattle.rdf_dataset.proofs.SortedLemmas.{merge_end}
 use Rattle.rdf_dataset.proofs.sorted.merge_into.Goals as goal
 

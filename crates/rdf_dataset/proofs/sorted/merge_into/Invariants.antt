@@ -1,4 +1,4 @@
-use Rattle.std.proofs.Common.{◌≡◌, ◌+◌, ◌≤◌, ℕ, length}
+use Rattle.std.proofs.Common.{◌+◌, ◌≤◌, length}
 use Rattle.std.specs.Vec.{vec_capacity}
 use Rattle.rdf_dataset.specs.Merging.{IsMerging}
 use Rattle.rdf_dataset.proofs.sorted.merge_into.Given as goal

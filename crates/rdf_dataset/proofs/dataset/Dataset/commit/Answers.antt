@@ -1,4 +1,4 @@
-use Rattle.std.proofs.Common.{◌≡◌, ◌∙◌, sym, ap}
+use Rattle.std.proofs.Common.{◌∙◌, sym, ap}
 use Rattle.std.proofs.lemmas.Result.{on_ok_weaker}
 use Rattle.rdf_dataset.specs.State.{Change, net_between}
 use Rattle.rdf_terms.specs.OrderLaws.{quad_cmp_total, term_cmp_total}

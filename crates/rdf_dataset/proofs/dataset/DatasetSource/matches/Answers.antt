@@ -1,4 +1,4 @@
-use Rattle.std.proofs.Common.{◌≡◌, ◌∙◌, ap, sym, subst, ◌++◌, arith, length, length-append}
+use Rattle.std.proofs.Common.{◌∙◌, ap, subst, ◌++◌, arith, length, length-append}
 use Rattle.std.specs.Prelude.{filter, option_copied}
 use Rattle.std.specs.FinSet as set
 use Rattle.rdf_dataset.specs.State.{State, matches}

@@ -1,6 +1,5 @@
-use Rattle.std.proofs.Common.{◌≡◌, ◌∙◌, ap, sym, subst, ◌++◌}
+use Rattle.std.proofs.Common.{◌∙◌, ap, subst, ◌++◌}
 use Rattle.std.proofs.lemmas.Result.{on_ok_weaker}
-use Rattle.std.specs.FinSet as set
 use Rattle.rdf_dataset.specs.State.{State}
 use Rattle.rdf_dataset.specs.Sorted.{ListsOnce}
 use Rattle.rdf_terms.specs.OrderLaws.{term_cmp_total, term_cmp-IsAntisymmetric}

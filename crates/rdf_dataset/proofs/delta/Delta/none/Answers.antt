@@ -1,5 +1,3 @@
-use Rattle.std.proofs.Common.{◌≡◌, ◌∙◌, sym, ap, List}
-use Rattle.rdf_dataset.specs.Delta.{IsDelta}
 use Rattle.rdf_dataset.proofs.DeltaLemmas.{no_delta}
 use Rattle.rdf_dataset.proofs.delta.Delta.none.Goals as goal
 

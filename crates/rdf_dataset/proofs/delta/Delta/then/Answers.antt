@@ -1,5 +1,3 @@
-use Rattle.std.proofs.Common.{◌≡◌, ◌∙◌, sym, ap, List}
-use Rattle.rdf_dataset.specs.Delta.{IsDelta}
 use Rattle.rdf_dataset.proofs.DeltaLemmas.{two_deltas, turned}
 use Rattle.rdf_dataset.proofs.delta.Delta.then.Goals as goal
 

@@ -1,10 +1,10 @@
-use Rattle.std.proofs.Common.{◌≡◌, ◌∙◌, sym, ap, subst, not, rules, arith, length, length-append, ◌++◌}
+use Rattle.std.proofs.Common.{◌∙◌, sym, ap, subst, not, rules, arith, length, length-append, ◌++◌}
 use Rattle.std.specs.Prelude.{filter, option_copied}
 use Rattle.std.proofs.lemmas.Fn.{filter_same}
 use Rattle.std.specs.FinSet as set
 use Rattle.rdf_terms.specs.Order.{quad_cmp}
 use Rattle.rdf_terms.specs.OrderLaws.{quad_cmp_total, quad_cmp-IsAntisymmetric}
-use Rattle.rdf_dataset.specs.State.{State, matches}
+use Rattle.rdf_dataset.specs.State.{matches}
 use Rattle.rdf_dataset.specs.Sorted.{ListsOnce}
 use Rattle.rdf_dataset.proofs.ListingLemmas.{staged_matching, filter_short}
 use Rattle.rdf_dataset.proofs.StateLemmas.{leads_of}

@@ -1,8 +1,6 @@
-use Rattle.std.proofs.Common.{◌≡◌, ◌∙◌, sym, ap, subst, not}
+use Rattle.std.proofs.Common.{◌∙◌, sym, ap}
 use Rattle.std.specs.FinSet as set
-use Rattle.rdf_terms.specs.Order.{term_cmp}
 use Rattle.rdf_terms.specs.OrderLaws.{term_cmp_total, term_cmp-IsAntisymmetric}
-use Rattle.rdf_dataset.specs.State.{Names}
 use Rattle.rdf_dataset.proofs.DeltaLemmas.{insert_known, insert_new}
 use Rattle.rdf_dataset.proofs.StateLemmas.{net_with_quad, named_delta, known_name, leads_of}
 use Rattle.rdf_dataset.proofs.edits.Edits.insert.Goals as goal

@@ -1,6 +1,5 @@
-use Rattle.std.proofs.Common.{◌≡◌, ◌∙◌, sym, Result, Ok, Err, Bool, true, false, is_ok, IfOk, IfErr}
-use Rattle.rdf_dataset.specs.Places.{IsFoundAt, IsGapAt}
-use Rattle.rdf_dataset.proofs.SortedLemmas.{found_has, gap_has_not, searched_has}
+use Rattle.std.proofs.Common.{◌∙◌}
+use Rattle.rdf_dataset.proofs.SortedLemmas.{searched_has}
 use Rattle.rdf_dataset.proofs.sorted.Sorted.contains.Goals as goal
 
 pub returns : goal.returns

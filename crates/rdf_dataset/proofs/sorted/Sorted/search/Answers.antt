@@ -1,4 +1,4 @@
-use Rattle.std.proofs.Common.{◌≡◌, ◌∙◌, sym, ap, rules}
+use Rattle.std.proofs.Common.{rules}
 use Rattle.std.proofs.lemmas.Fn.{always_returns_same}
 use Rattle.rdf_dataset.proofs.SortedLemmas.{search_found, search_gap}
 use Rattle.rdf_dataset.proofs.sorted.Sorted.search.Goals as goal

@@ -1,4 +1,4 @@
-use Rattle.std.proofs.Common.{◌≡◌, ◌∙◌, sym, ap, length, arith, [], List}
+use Rattle.std.proofs.Common.{◌≡◌, ◌∙◌, sym, ap, length}
 use Rattle.std.proofs.lemmas.List.{nil_from_length}
 use borrow.Author.Tests.{eqb-true}
 use Rattle.std.specs.FinSet as set

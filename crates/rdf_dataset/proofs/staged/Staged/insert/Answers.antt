@@ -1,8 +1,7 @@
-use Rattle.std.proofs.Common.{◌≡◌, ◌∙◌, sym, ap, subst}
-use Rattle.rdf_dataset.specs.State.{State, IsSound, IsTermBelow, IsQuadBelow, IsEmptyGraph, IsKnownGraph, applied, net_between, with_name, without_name, with_quad, without_quad}
+use Rattle.std.proofs.Common.{◌∙◌, sym, ap, subst}
+use Rattle.rdf_dataset.specs.State.{State, IsQuadBelow, IsKnownGraph, applied, with_quad}
 use Rattle.rdf_dataset.specs.Staging.{Staging, staged}
-use Rattle.rdf_terms.specs.declared.quad.GraphName.TheVariants.{Named}
-use Rattle.rdf_dataset.proofs.StateLemmas.{restaged, sound_with_name, sound_without_name, sound_with_quad, sound_without_quad, quad_there, not_false}
+use Rattle.rdf_dataset.proofs.StateLemmas.{restaged, sound_with_quad, quad_there, not_false}
 use Rattle.rdf_dataset.proofs.staged.Staged.insert.Goals as goal
 
 pub invariant_of-self-2 : goal.invariant_of-self-2

@@ -1,5 +1,4 @@
-use Rattle.std.proofs.Common.{◌≡◌, ◌∙◌, sym, ap, subst}
-use Rattle.rdf_dataset.specs.State.{State, IsSound, net_between}
+use Rattle.std.proofs.Common.{sym}
 use Rattle.rdf_dataset.proofs.StateLemmas.{restaged}
 use Rattle.rdf_dataset.proofs.staged.Staged.over.Goals as goal
 

@@ -1,4 +1,4 @@
-use Rattle.std.proofs.Common.{◌≡◌, ◌∙◌, ap, not}
+use Rattle.std.proofs.Common.{◌∙◌, ap, not}
 use Rattle.std.specs.FinSet as set
 use Rattle.rdf_dataset.proofs.TreeLemmas.{tree_has, tree_insert}
 use Rattle.rdf_dataset.proofs.tree.Tree.insert.Goals as goal

@@ -1,4 +1,4 @@
-use Rattle.std.proofs.Common.{◌≡◌, ◌∙◌, ap}
+use Rattle.std.proofs.Common.{◌∙◌, ap}
 use Rattle.std.specs.FinSet as set
 use Rattle.rdf_dataset.proofs.TreeLemmas.{tree_has, tree_remove}
 use Rattle.rdf_dataset.proofs.tree.Tree.remove.Goals as goal

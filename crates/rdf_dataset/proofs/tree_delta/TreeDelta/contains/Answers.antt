@@ -1,4 +1,4 @@
-use Rattle.std.proofs.Common.{◌≡◌, ◌∙◌, sym, ap, not}
+use Rattle.std.proofs.Common.{◌∙◌, sym, ap, not}
 use Rattle.rdf_dataset.proofs.DeltaLemmas.{has_known, has_new}
 use Rattle.rdf_dataset.proofs.tree_delta.TreeDelta.contains.Goals as goal
 

@@ -1,4 +1,4 @@
-use Rattle.std.proofs.Common.{◌≡◌, ◌∙◌, sym, ap, not, OnOk, IfOk}
+use Rattle.std.proofs.Common.{◌∙◌, sym, ap, not}
 use Rattle.std.proofs.lemmas.Result.{on_ok_weaker, IfOk-weaker}
 use Rattle.rdf_dataset.proofs.DeltaLemmas.{has_new, lost_known, insert_known, insert_new}
 use Rattle.rdf_dataset.proofs.tree_delta.TreeDelta.insert.Goals as goal

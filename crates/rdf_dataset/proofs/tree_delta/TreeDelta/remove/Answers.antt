@@ -1,4 +1,4 @@
-use Rattle.std.proofs.Common.{◌≡◌, ◌∙◌, sym, ap, not, OnOk, IfOk}
+use Rattle.std.proofs.Common.{◌∙◌, sym, ap, not}
 use Rattle.std.specs.FinSet as set
 use Rattle.std.proofs.lemmas.Result.{on_ok_weaker, IfOk-weaker}
 use Rattle.rdf_dataset.proofs.DeltaLemmas.{has_new, has_known, remove_known, remove_new}
