@@ -25,7 +25,7 @@ test: $(CHECKED)
 
 $(CHECKED): $(SOURCES) tools/fail-alloc Makefile
 	@echo "make: refusing each allocation of the tests in turn" >&2
-	tools/fail-alloc rdf_terms
+	tools/fail-alloc refusals
 	@echo "make: proving everything from nothing, which takes up to an hour" >&2
 	rt ci
 	@mkdir -p out && touch $(CHECKED)

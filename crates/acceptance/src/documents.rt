@@ -4,6 +4,7 @@ use rdf_lines::{
     FaultKind, LineFault, LineFormat, LineReader, read_lines, write_quad, write_sorted,
 };
 use rdf_terms::{Quad, Term};
+use std::alloc::Global;
 use std::io;
 use std::io::{ErrorKind, Read};
 use std::test::Fail;
@@ -32,19 +33,31 @@ impl Read for Slow {
     }
 }
 
-fn blanks(quad: &Quad) -> (u64, u64) {
+// The numbers of the subject and the object, where they are blank nodes.
+fn numbers(quad: &Quad) -> Option<(u64, u64)> {
     match (quad.subject(), quad.object()) {
-        (Term::Blank(subject), Term::Blank(object)) => (*subject, *object),
-        (Term::Blank(subject), _) => (*subject, 99),
-        _ => (99, 99),
+        (Term::Blank(subject), Term::Blank(object)) => Some((*subject, *object)),
+        _ => None,
     }
 }
 
-fn fails_at(answer: &Result<Option<Quad>, LineFault>, line: u64, kind: FaultKind) -> bool {
-    match answer {
+// The numbers in the next statement.
+fn next_numbers<R: Read + Drop>(lines: &mut LineReader<R>) -> Option<(u64, u64)> {
+    match lines.next() {
+        Ok(Some(quad)) => numbers(&quad),
+        _ => None,
+    }
+}
+
+fn fails<R: Read + Drop>(lines: &mut LineReader<R>, line: u64, kind: FaultKind) -> bool {
+    match lines.next() {
         Err(fault) => fault.line == line && fault.kind == kind,
         Ok(_) => false,
     }
+}
+
+fn ends<R: Read + Drop>(lines: &mut LineReader<R>) -> bool {
+    matches!(lines.next(), Ok(None))
 }
 
 // A CR LF over a piece's end, an empty line, a comment, LF CR as two line ends, and a faulty seventh line.
@@ -58,11 +71,11 @@ fn one_byte_pieces(rt: HostRuntime) -> Result<(), Fail> {
         fails: false,
     };
     let mut lines = LineReader::new(rt.alloc(), LineFormat::NQuads, reader)?;
-    assert_eq!(rt; blanks(&lines.next()?.ok_or("first")?), (0, 1));
-    assert_eq!(rt; blanks(&lines.next()?.ok_or("second")?), (1, 0));
-    assert_eq!(rt; blanks(&lines.next()?.ok_or("third")?), (2, 0));
-    assert!(rt; fails_at(&lines.next(), 7, FaultKind::Relative));
-    assert!(rt; fails_at(&lines.next(), 7, FaultKind::Failed));
+    assert!(rt; next_numbers(&mut lines) == Some((0, 1)));
+    assert!(rt; next_numbers(&mut lines) == Some((1, 0)));
+    assert!(rt; next_numbers(&mut lines) == Some((2, 0)));
+    assert!(rt; fails(&mut lines, 7, FaultKind::Relative));
+    assert!(rt; fails(&mut lines, 7, FaultKind::Failed));
     Ok(())
 }
 
@@ -73,58 +86,68 @@ fn read_fault(rt: HostRuntime) -> Result<(), Fail> {
         fails: true,
     };
     let mut lines = LineReader::new(rt.alloc(), LineFormat::NQuads, reader)?;
-    assert!(rt; matches!(lines.next(), Ok(Some(_))));
-    assert!(rt; fails_at(&lines.next(), 2, FaultKind::Read));
-    assert!(rt; fails_at(&lines.next(), 2, FaultKind::Failed));
+    assert!(rt; next_numbers(&mut lines) == Some((0, 1)));
+    assert!(rt; fails(&mut lines, 2, FaultKind::Read));
+    assert!(rt; fails(&mut lines, 2, FaultKind::Failed));
     Ok(())
 }
 
 #[test]
-fn ends(rt: HostRuntime) -> Result<(), Fail> {
-    let mut lines = LineReader::new(
-        rt.alloc(),
-        LineFormat::NTriples,
-        b"_:a <a:p> _:b .\r\n_:b <a:p> _:a .".as_slice(),
-    )?;
-    assert!(rt; matches!(lines.next(), Ok(Some(_))));
-    assert!(rt; matches!(lines.next(), Ok(Some(_))));
-    assert!(rt; matches!(lines.next(), Ok(None)));
-    assert!(rt; matches!(lines.next(), Ok(None)));
+fn last_line_without_end(rt: HostRuntime) -> Result<(), Fail> {
+    let text = b"_:a <a:p> _:b .\r\n_:b <a:p> _:a .".as_slice();
+    let mut lines = LineReader::new(rt.alloc(), LineFormat::NTriples, text)?;
+    assert!(rt; next_numbers(&mut lines) == Some((0, 1)));
+    assert!(rt; next_numbers(&mut lines) == Some((1, 0)));
+    assert!(rt; ends(&mut lines) && ends(&mut lines));
     Ok(())
 }
 
-#[test]
-fn held_bytes(rt: HostRuntime) -> Result<(), Fail> {
-    let quads = read_lines(
-        rt.alloc(),
-        LineFormat::NQuads,
-        b"_:a <a:p> _:b .\r\n\r\n#\n\r_:b <a:p> _:a .\r_:c <a:p> _:a _:c .",
-    )?;
-    assert_eq!(rt; quads.len(), 3);
-    match read_lines(rt.alloc(), LineFormat::NQuads, TEXT) {
-        Ok(_) => assert!(rt; false),
-        Err(fault) => assert_eq!(rt; (fault.line, fault.name()), (7, "Relative")),
+// The number of statements, or the line of the fault.
+fn count_or_line(alloc: Global, bytes: &[u8]) -> Result<usize, u64> {
+    match read_lines(alloc, LineFormat::NQuads, bytes) {
+        Ok(quads) => Ok(quads.len()),
+        Err(fault) => Err(fault.line),
     }
-    Ok(())
 }
 
 #[test]
-fn texts(rt: HostRuntime) -> Result<(), Fail> {
-    let alloc = rt.alloc();
-    let quads = read_lines(
-        alloc,
-        LineFormat::NQuads,
+fn held_bytes(rt: HostRuntime) {
+    let sound = b"_:a <a:p> _:b .\r\n\r\n#\n\r_:b <a:p> _:a .\r_:c <a:p> _:a _:c .";
+    assert!(rt; count_or_line(rt.alloc(), sound) == Ok(3));
+    assert!(rt; count_or_line(rt.alloc(), TEXT) == Err(7));
+}
+
+fn sorted(alloc: Global, bytes: &[u8]) -> Result<Vec<u8>, Fail> {
+    let quads = read_lines(alloc, LineFormat::NQuads, bytes)?;
+    let mut text = Vec::new(alloc);
+    write_sorted(alloc, quads.as_slice(), &mut text)?;
+    Ok(text)
+}
+
+#[test]
+fn sorted_text(rt: HostRuntime) -> Result<(), Fail> {
+    let text = sorted(
+        rt.alloc(),
         b"_:a <a:p> _:b _:c .\n_:b <a:p> _:a .\n_:a <a:p> _:b .\n",
     )?;
+    let wanted = b"_:b0 <a:p> _:b1 .\n_:b1 <a:p> _:b0 .\n_:b0 <a:p> _:b1 _:b2 .\n".as_slice();
+    assert!(rt; text.as_slice() == wanted);
+    Ok(())
+}
+
+// The text of the first statement.
+fn first(alloc: Global, bytes: &[u8]) -> Result<Vec<u8>, Fail> {
+    let quads = read_lines(alloc, LineFormat::NQuads, bytes)?;
     let mut text = Vec::new(alloc);
-    write_quad(alloc, &quads[0], &mut text)?;
-    assert_eq!(rt; text.as_slice(), b"_:b0 <a:p> _:b1 _:b2 .\n".as_slice());
-    let mut all = Vec::new(alloc);
-    write_sorted(alloc, quads.as_slice(), &mut all)?;
-    let mut expected = Vec::new(alloc);
-    write_quad(alloc, &quads[2], &mut expected)?;
-    write_quad(alloc, &quads[1], &mut expected)?;
-    write_quad(alloc, &quads[0], &mut expected)?;
-    assert_eq!(rt; all.as_slice(), expected.as_slice());
+    if let [quad, ..] = quads.as_slice() {
+        write_quad(alloc, quad, &mut text)?;
+    }
+    Ok(text)
+}
+
+#[test]
+fn canonical_line(rt: HostRuntime) -> Result<(), Fail> {
+    let text = first(rt.alloc(), b"<a:s><a:p>\"x\\t\"@EN<a:g>.# c")?;
+    assert!(rt; text.as_slice() == b"<a:s> <a:p> \"x\t\"@en <a:g> .\n".as_slice());
     Ok(())
 }

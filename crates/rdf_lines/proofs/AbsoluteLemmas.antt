@@ -1,8 +1,8 @@
 -- Whether each IRI of a statement has a scheme.
-use Rattle.std.proofs.Common.{◌≡◌, ℕ, Bool, true, false, List, Option, Some, None, refl, sym, ap, subst, ◌∙◌, inl, inr}
+use Rattle.std.proofs.Common.{◌≡◌, ℕ, true, List, Option, Some, None, refl, sym, ap, subst, ◌∙◌, inl, inr}
 use Rattle.rdf_terms.specs.Iri.{has_scheme}
 use Rattle.std.proofs.lemmas.Bool.{cases_Bool}
-use Rattle.rdf_terms.specs.Reading.{◌>>=◌, expect, iri_at, quoted_at}
+use Rattle.rdf_terms.specs.Reading.{expect, iri_at, quoted_at}
 use Rattle.rdf_terms.specs.Literal.{LiteralParts, xsd_string, lang_string, is_tag, tagged}
 use Rattle.rdf_terms.proofs.OptionLemmas.{bind_some, some_is, some_pair, none_is, guard_some}
 use Rattle.rdf_lines.specs.declared.written.WrittenNode.{WrittenNode}

@@ -12,7 +12,7 @@ use Rattle.rdf_lines.specs.Grammar.{Reads}
 use Rattle.rdf_lines.specs.Line.{IsAbsolute, Says, Tells}
 use Rattle.rdf_lines.specs.Reading.{is_end, statement_at}
 use Rattle.rdf_lines.specs.Written.{absolute_statement}
-use Rattle.rdf_lines.proofs.LineLemmas.{meant, line_at, line_sound, one_reading, no_reading, end_sound, statement_sound}
+use Rattle.rdf_lines.proofs.LineLemmas.{meant, line_at, line_sound, one_reading, no_reading, end_sound}
 use Rattle.rdf_lines.proofs.AbsoluteLemmas.{Ready, absolute_sound, not_absolute, statement_ready}
 
 -- what one answer says of the line, against another

@@ -1,20 +1,19 @@
 -- A whole line: what is read is its reading, and its reading is read.
-use Rattle.std.proofs.Common.{◌≡◌, ◌≢◌, ◌⊎◌, ℕ, Bool, true, false, eqb, ◌==◌, ◌||◌, ◌&&◌, List, [], ◌∷◌, ◌++◌, Option, Some, None, refl, sym, ap, subst, ◌∙◌, inl, inr, arith}
+use Rattle.std.proofs.Common.{◌≡◌, ◌⊎◌, ℕ, true, false, eqb, ◌==◌, List, [], ◌∷◌, Option, Some, None, refl, sym, ap, subst, ◌∙◌, inl, inr}
 use Rattle.std.specs.Prelude.{option_map, if◌then◌else◌}
-use Rattle.std.proofs.lemmas.Bool.{cases_Bool, eqb-true, eq-eqb, and_parts, and_from, or_left, or_right, true≢false}
+use Rattle.std.proofs.lemmas.Bool.{cases_Bool, eqb-true, eq-eqb, and_parts, or_left, or_right, true≢false}
 use Rattle.rdf_terms.specs.Quoted.{IsIriRef}
 use Rattle.rdf_terms.specs.Reading.{◌>>=◌, iri_at}
 use Rattle.rdf_terms.proofs.OptionLemmas.{bind_some, some_is, some_pair, none_is, guard_some}
 use Rattle.rdf_lines.specs.declared.format.LineFormat.{LineFormat}
 use Rattle.rdf_lines.specs.declared.format.LineFormat.TheVariants.{NTriples, NQuads}
 use Rattle.rdf_lines.specs.declared.written.WrittenNode.{WrittenNode}
-use Rattle.rdf_lines.specs.declared.written.WrittenObject.{WrittenObject}
 use Rattle.rdf_lines.specs.declared.written.WrittenStatement.{WrittenStatement}
 use Rattle.rdf_lines.specs.declared.statement.Node.{Node}
 use Rattle.rdf_lines.specs.declared.statement.Object.{Object}
 use Rattle.rdf_lines.specs.declared.statement.Statement.{Statement}
-use Rattle.rdf_lines.specs.Reading.{first_is, skip_white, node_at, object_at, may_name_graph, begins_node, graph_at, is_empty_or_comment, is_end, stops_at, statement_at}
-use Rattle.rdf_lines.specs.Grammar.{is_white, Gap, Next, HasNode, HasObject, HasGraph, EmptyOrComment, Ends, IsStatement, Reads}
+use Rattle.rdf_lines.specs.Reading.{first_is, skip_white, node_at, object_at, begins_node, graph_at, is_empty_or_comment, is_end, stops_at, statement_at}
+use Rattle.rdf_lines.specs.Grammar.{is_white, HasNode, HasGraph, EmptyOrComment, Ends, IsStatement, Reads}
 use Rattle.rdf_lines.proofs.LinePieceLemmas.{NotWhite, Begins, iri_reader, gap_skip, skip_gap, skip_twice, black_begins, next_sound, next_complete, first_begins, first_other, differs}
 use Rattle.rdf_lines.proofs.TermLemmas.{meant_node, written_node, meant-written, meant_object, NoMark, node_sound, node_begins, node_complete, object_sound, object_complete}
 

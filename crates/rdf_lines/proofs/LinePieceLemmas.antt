@@ -1,13 +1,13 @@
 -- A reader of a piece, its form, and the pieces of a line.
-use Rattle.std.proofs.Common.{◌≡◌, ◌≢◌, ℕ, ◌+◌, ◌≤◌, Bool, true, false, eqb, List, [], ◌∷◌, ◌++◌, length, Option, Some, refl, sym, ap, subst, ◌∙◌, inl, inr, length-append, arith}
+use Rattle.std.proofs.Common.{◌≡◌, ◌≢◌, ℕ, ◌≤◌, true, false, eqb, List, [], ◌∷◌, ◌++◌, length, Option, Some, refl, sym, ap, subst, ◌∙◌, inl, inr, length-append, arith}
 use Rattle.std.specs.List.{AllByRecursion}
 use Rattle.std.proofs.lemmas.Bool.{cases_Bool, eq-eqb, ne_eqb, true≢false}
-use Rattle.rdf_terms.specs.Reading.{expect, iri_at, quoted_at}
+use Rattle.rdf_terms.specs.Reading.{iri_at, quoted_at}
 use Rattle.rdf_terms.specs.Quoted.{IsIriRef}
 use Rattle.rdf_terms.proofs.OptionLemmas.{some_pair}
 use Rattle.rdf_terms.proofs.QuotedLemmas.{iri_sound, iri_complete, quoted_sound, quoted_complete}
 use Rattle.rdf_lines.specs.Reading.{first_is, skip_white, label_at, label_end_at, tag_at, tag_end_at}
-use Rattle.rdf_lines.specs.Grammar.{is_white, IsString, IsBlankLabel, IsLabelName, IsTag, IsTagName, Takes, Gap, Next}
+use Rattle.rdf_lines.specs.Grammar.{is_white, IsString, IsBlankLabel, IsTag, Takes, Gap, Next}
 use Rattle.rdf_lines.proofs.GreedyLemmas.{greedy_sound, greedy_complete}
 use Rattle.rdf_lines.proofs.BlankLabelLemmas.{label_greedy}
 use Rattle.rdf_lines.proofs.TagLemmas.{tag_greedy}

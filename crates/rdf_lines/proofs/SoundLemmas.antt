@@ -1,16 +1,15 @@
 -- A line says sound terms: texts of Unicode characters, IRIs and literals.
-use Rattle.std.proofs.Common.{◌≡◌, ◌≢◌, ◌⊎◌, ◌<◌, ℕ, Bool, true, false, not, eqb, ltb, ◌||◌, ◌&&◌, List, [], ◌∷◌, ◌++◌, Option, Some, None, Ok, refl, sym, ap, subst, ◌∙◌, inl, inr, arith}
+use Rattle.std.proofs.Common.{◌≡◌, ◌<◌, ℕ, Bool, true, false, not, eqb, ltb, ◌||◌, ◌&&◌, List, [], ◌∷◌, ◌++◌, Option, Some, None, refl, sym, ap, ◌∙◌, inl, inr, arith}
 use Rattle.std.specs.List.{list_all}
-use Rattle.std.specs.Char.{IsScalar}
-use Rattle.std.specs.Str.{chars, encode_utf8_all, is_utf8, IsUtf8, str_to_ascii_lowercase}
-use Rattle.std.proofs.lemmas.Bool.{cases_Bool, and_parts, and_from, ltb-true, lt-ltb, true≢false}
+use Rattle.std.specs.Str.{chars, encode_utf8_all, is_utf8, str_to_ascii_lowercase}
+use Rattle.std.proofs.lemmas.Bool.{cases_Bool, and_parts, and_from, ltb-true, lt-ltb}
 use Rattle.std.proofs.lemmas.Str.{is_utf8-from_IsUtf8, scalars-chars}
 use lib.Utf8.{scalar, scalars}
 use Rattle.rdf_terms.specs.Characters.{short_escape}
 use Rattle.rdf_terms.specs.Escapes.{Writes}
 use Rattle.rdf_terms.specs.Quoted.{IsIriCharacter, IsStringCharacter, IsIriRef}
 use Rattle.rdf_terms.specs.Iri.{has_scheme, has_forbidden, is_iri}
-use Rattle.rdf_terms.specs.Literal.{LiteralParts, xsd_string, lang_string, is_literal, is_tag, tagged, tag_fits}
+use Rattle.rdf_terms.specs.Literal.{LiteralParts, xsd_string, lang_string, is_literal, is_tag}
 use Rattle.rdf_terms.proofs.AllowedLemmas.{all_allowed}
 use Rattle.rdf_terms.proofs.OptionLemmas.{some_is, none_is}
 use Rattle.rdf_terms.proofs.TagLemmas.{is_literal-tagged}
@@ -20,9 +19,8 @@ use Rattle.rdf_lines.specs.declared.statement.Node.{Node}
 use Rattle.rdf_lines.specs.declared.statement.Node.TheVariants as node
 use Rattle.rdf_lines.specs.declared.statement.Object.{Object}
 use Rattle.rdf_lines.specs.declared.statement.Object.TheVariants as object
-use Rattle.rdf_lines.specs.declared.statement.Statement.{Statement}
-use Rattle.rdf_lines.specs.Grammar.{IsString, IsBlankLabel, IsTag, IsMarked, Takes, Gap, Next, typed, HasNode, HasPlain, HasTagged, HasTyped, HasLiteral, HasObject, HasGraph, IsStatement}
-use Rattle.rdf_lines.specs.Line.{IsAbsoluteNode, IsAbsoluteObject, IsAbsoluteGraph, IsSoundNode, IsSoundObject, IsSoundGraph, IsSoundStatement, StatementsAreSound}
+use Rattle.rdf_lines.specs.Grammar.{IsString, IsMarked, Gap, Next, typed, HasNode, HasLiteral, HasObject, HasGraph}
+use Rattle.rdf_lines.specs.Line.{IsAbsoluteNode, IsAbsoluteObject, IsAbsoluteGraph, IsSoundNode, IsSoundObject, IsSoundGraph, StatementsAreSound}
 use Rattle.rdf_lines.proofs.TagForms.{tag_form, encodes_low, AllLow}
 
 -- ---- characters

@@ -1,10 +1,10 @@
 -- Nodes, literals and objects: what is read is there, and what is there is read.
-use Rattle.std.proofs.Common.{◌≡◌, ◌≢◌, ◌⊎◌, ℕ, Bool, true, false, List, [], ◌∷◌, ◌++◌, Option, Some, None, refl, sym, ap, subst, ◌∙◌, inl, inr, arith}
+use Rattle.std.proofs.Common.{◌≡◌, ◌⊎◌, ℕ, true, false, List, ◌∷◌, Option, Some, refl, sym, ap, subst, ◌∙◌, inl, inr}
 use Rattle.std.proofs.lemmas.Bool.{cases_Bool}
 use Rattle.rdf_terms.specs.Literal.{LiteralParts, xsd_string, is_tag, tagged}
 use Rattle.rdf_terms.specs.Quoted.{IsIriRef}
-use Rattle.rdf_terms.specs.Reading.{◌>>=◌, expect, iri_at, quoted_at}
-use Rattle.rdf_terms.proofs.OptionLemmas.{bind_some, some_is, some_pair, none_is, guard_some}
+use Rattle.rdf_terms.specs.Reading.{expect, iri_at, quoted_at}
+use Rattle.rdf_terms.proofs.OptionLemmas.{bind_some, some_is, some_pair, guard_some}
 use Rattle.rdf_terms.proofs.QuotedLemmas.{expect_sound, expect_complete}
 use Rattle.rdf_lines.specs.declared.written.WrittenNode.{WrittenNode}
 use Rattle.rdf_lines.specs.declared.written.WrittenNode.TheVariants as written
@@ -15,9 +15,9 @@ use Rattle.rdf_lines.specs.declared.statement.Node.TheVariants as node
 use Rattle.rdf_lines.specs.declared.statement.Object.{Object}
 use Rattle.rdf_lines.specs.declared.statement.Object.TheVariants as object
 use Rattle.rdf_lines.specs.Reading.{first_is, skip_white, label_at, tag_at, node_at, tagged_literal, tagged_at, typed_at, suffix_at, literal_at, object_at}
-use Rattle.rdf_lines.specs.Grammar.{IsString, IsBlankLabel, IsTag, IsTagName, Takes, Gap, Next, HasNode, typed, HasPlain, HasTagged, HasTyped, HasLiteral, HasObject}
+use Rattle.rdf_lines.specs.Grammar.{IsString, IsBlankLabel, IsTag, Next, HasNode, typed, HasLiteral, HasObject}
 use Rattle.rdf_lines.proofs.TagForms.{tag_form}
-use Rattle.rdf_lines.proofs.LinePieceLemmas.{Begins, IsReader, iri_reader, string_reader, label_reader, tag_reader, gap_skip, skip_gap, black_begins, next_sound, next_complete, next_begins, first_begins, first_other, differs}
+use Rattle.rdf_lines.proofs.LinePieceLemmas.{Begins, iri_reader, string_reader, label_reader, tag_reader, gap_skip, skip_gap, black_begins, next_sound, next_complete, next_begins, first_begins, first_other, differs}
 
 -- ---- nodes
 

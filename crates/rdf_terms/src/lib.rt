@@ -33,6 +33,7 @@ pub use laws::{
 };
 pub use literal::Literal;
 pub use quad::{GraphName, Quad, compare_quads, same_quad};
+pub use quoted::{iris_are_read, strings_are_read};
 pub use resolution::resolve;
 pub use resolution_laws::{
     components_are_unique, dots_are_removed, dots_before_slashes, one_meaning, pieces_are_the_path,

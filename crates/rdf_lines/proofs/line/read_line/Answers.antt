@@ -1,4 +1,4 @@
-use Rattle.std.proofs.Common.{Some, ap, sym, ◌∙◌}
+use Rattle.std.proofs.Common.{ap, sym, ◌∙◌}
 use Rattle.rdf_lines.specs.Reading.{is_end, statement_at}
 use Rattle.rdf_lines.proofs.AnswerLemmas.{tells_nothing, tells_syntax, tells_relative, tells_statement}
 use Rattle.rdf_lines.proofs.line.read_line.Goals as goal

@@ -1,5 +1,5 @@
-use Rattle.std.proofs.Common.{◌≡◌, Some, sym, ap, ◌∙◌}
-use Rattle.rdf_lines.specs.Reading.{label_part_at, label_rest}
+use Rattle.std.proofs.Common.{sym, ap, ◌∙◌}
+use Rattle.rdf_lines.specs.Reading.{label_part_at}
 use Rattle.rdf_lines.proofs.BlankLabelLemmas.{label_less, label_step, label_stop}
 use Rattle.rdf_lines.proofs.name.label_rest.Goals as goal
 
