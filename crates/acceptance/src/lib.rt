@@ -3,8 +3,6 @@
 #![tactic(auto)]
 
 #[cfg(test)]
-mod datasets;
-#[cfg(test)]
 mod documents;
 #[cfg(test)]
 mod lines;
