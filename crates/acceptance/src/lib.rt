@@ -11,6 +11,10 @@ mod program;
 #[cfg(test)]
 mod resolution;
 #[cfg(test)]
+mod rows;
+#[cfg(test)]
 mod sessions;
+#[cfg(test)]
+mod streams;
 #[cfg(test)]
 mod terms;
