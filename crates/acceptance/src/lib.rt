@@ -3,6 +3,8 @@
 #![tactic(auto)]
 
 #[cfg(test)]
+mod dataset;
+#[cfg(test)]
 mod documents;
 #[cfg(test)]
 mod lines;
@@ -18,3 +20,9 @@ mod sessions;
 mod streams;
 #[cfg(test)]
 mod terms;
+#[cfg(test)]
+mod tokens;
+#[cfg(test)]
+mod turtle;
+#[cfg(test)]
+mod turtle_standard;

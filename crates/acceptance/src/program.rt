@@ -122,13 +122,17 @@ fn words_of(alloc: Global, line: &str) -> Result<Vec<String>, AllocError> {
 
 // What the program answers, and what it writes on its output and its error.
 #[derive(Drop)]
-struct Ran {
-    status: u8,
-    out: Vec<u8>,
-    errors: Vec<u8>,
+pub(crate) struct Ran {
+    pub(crate) status: u8,
+    pub(crate) out: Vec<u8>,
+    pub(crate) errors: Vec<u8>,
 }
 
-fn run_line<T: Files + AllocGlobal>(rt: &T, line: &str, input: &[u8]) -> Result<Ran, AllocError> {
+pub(crate) fn run_line<T: Files + AllocGlobal>(
+    rt: &T,
+    line: &str,
+    input: &[u8],
+) -> Result<Ran, AllocError> {
     let words = words_of(rt.alloc(), line)?;
     let mut out = Vec::new(rt.alloc());
     let mut errors = Vec::new(rt.alloc());
@@ -138,6 +142,17 @@ fn run_line<T: Files + AllocGlobal>(rt: &T, line: &str, input: &[u8]) -> Result<
         out,
         errors,
     })
+}
+
+// Whether a document of Turtle, against the base `http://e/`, gives just these lines.
+pub(crate) fn is_converted<T: Files + AllocGlobal>(
+    rt: &T,
+    text: &str,
+    lines: &str,
+) -> Result<bool, AllocError> {
+    let line = "convert --from turtle --base http://e/";
+    let ran = run_line(rt, line, text.as_bytes())?;
+    Ok(ran.status == 0 && ran.out.as_slice() == lines.as_bytes() && ran.errors.is_empty())
 }
 
 #[test]
@@ -175,7 +190,7 @@ fn is_usage_fault<T: Files + AllocGlobal>(rt: &T, line: &str) -> Result<bool, Al
 fn wrong_words(rt: HostRuntime) -> Result<(), Fail> {
     for line in [
         "convert",
-        "convert --from turtle",
+        "convert --from trig",
         "convert --from nquads a b",
         "run --stop --stop",
         "run --data",

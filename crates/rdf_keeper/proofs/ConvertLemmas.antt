@@ -1,6 +1,6 @@
 -- What is written of a document, and how that ends.
 use Rattle.std.proofs.Common.{◌≡◌, ◌≢◌, ◌∙◌, inl, inr, ap, refl, sym, subst, ℕ, List, [], ◌∷◌, ◌++◌, append_assoc, append-nil, Option, Some, None}
-use Rattle.std.specs.Prelude.{◌⊎◌, Bool, true, Result, Ok, Err, is_err, OnErr}
+use Rattle.std.specs.Prelude.{◌⊎◌, true, Result, Ok, Err, is_err, OnErr}
 use Rattle.std.specs.Io.KnownBytes.{Appends}
 use Rattle.rdf_lines.specs.declared.fault.FaultKind.{FaultKind}
 use Rattle.rdf_lines.specs.declared.fault.FaultKind.TheVariants as kind
@@ -10,30 +10,30 @@ use Rattle.rdf_terms.specs.declared.quad.Quad.{Quad}
 use Rattle.rdf_lines.specs.Document.{IsDocument, EachTextIsOneDocument}
 use Rattle.rdf_lines.specs.QuadText.{quad_text}
 use Rattle.rdf_lines.specs.Reader.{LineState, Step, Calls, fresh, AnswersAreTheDocument}
-use Rattle.rdf_keeper.specs.Convert.{lines_of, Converts, Gathers, Finishes, fault_of_kind}
+use Rattle.rdf_keeper.specs.Convert.{lines_of, ConvertsLines, Gathers, Finishes, fault_of_kind}
 use Rattle.rdf_keeper.specs.declared.conversion.ConvertFault.{ConvertFault}
 use Rattle.rdf_keeper.specs.declared.conversion.ConvertFault.TheVariants.{Document, Read, Write, NoMemory}
 use Rattle.rdf_keeper.proofs.ByteLemmas.{Appends-chain}
 use Rattle.rdf_keeper.proofs.DocumentLemmas.{found, Begins, one_quad, whole, faulty, begins}
 use Rattle.rdf_keeper.proofs.FrontLemmas.{before_read_fault}
 
-lines_of-append : (quads others : List Quad) → lines_of (quads ++ others) ≡ lines_of quads ++ lines_of others
+pub lines_of-append : (quads others : List Quad) → lines_of (quads ++ others) ≡ lines_of quads ++ lines_of others
 lines_of-append [] others = refl
 lines_of-append (q ∷ quads) others = ap (λ t. quad_text q ++ t) (lines_of-append quads others) ∙ sym (append_assoc (quad_text q) (lines_of quads) (lines_of others))
 
-lines_of-push : (quads : List Quad) (q : Quad) → lines_of (quads ++ q ∷ []) ≡ lines_of quads ++ quad_text q
+pub lines_of-push : (quads : List Quad) (q : Quad) → lines_of (quads ++ q ∷ []) ≡ lines_of quads ++ quad_text q
 lines_of-push quads q = lines_of-append quads (q ∷ []) ∙ ap (λ t. lines_of quads ++ t) (append-nil (quad_text q))
 
-more_left : (xs ys : List ℕ) → xs ≢ [] → xs ++ ys ≢ []
+pub more_left : (xs ys : List ℕ) → xs ≢ [] → xs ++ ys ≢ []
 more_left [] ys h e = h refl
 more_left (x ∷ xs) ys h e = cc
 
 -- an answer, and what was written before it
 abbrev pub Outcome : Option (List ℕ) → Option (List ℕ) → LineFormat → List ℕ → Result (Unit {0}) ConvertFault → Type 0
-Outcome before after format text answer = (out : List ℕ) × Appends before after out × Converts format text out answer
+Outcome before after format text answer = (out : List ℕ) × Appends before after out × ConvertsLines format text out answer
 
 -- a proper front of the lines of the first statements
-cut_short : (format : LineFormat) (text out more : List ℕ) (quads : List Quad) → Begins format text quads → lines_of quads ≡ out ++ more → more ≢ [] → Converts format text out (Err Write)
+cut_short : (format : LineFormat) (text out more : List ℕ) (quads : List Quad) → Begins format text quads → lines_of quads ≡ out ++ more → more ≢ [] → ConvertsLines format text out (Err Write)
 cut_short format text out more quads (others, ending, doc) parts some = (
   quads ++ others,
   ending,
@@ -44,17 +44,17 @@ cut_short format text out more quads (others, ending, doc) parts some = (
 )
 
 -- the lines of the first statements
-wanting : (format : LineFormat) (text out : List ℕ) (quads : List Quad) → Begins format text quads → out ≡ lines_of quads → Converts format text out (Err NoMemory)
+wanting : (format : LineFormat) (text out : List ℕ) (quads : List Quad) → Begins format text quads → out ≡ lines_of quads → ConvertsLines format text out (Err NoMemory)
 wanting format text out quads (others, ending, doc) is = (quads, others, ending, doc, is)
 
 pub finished : (start before after : Option (List ℕ)) (format : LineFormat) (text out held : List ℕ) (quads : List Quad) (given answer : Result (Unit {0}) ConvertFault)
-    → Appends start before out → out ++ held ≡ lines_of quads → Begins format text quads → Converts format text (out ++ held) given → Finishes before held given answer after → Outcome start after format text answer
+    → Appends start before out → out ++ held ≡ lines_of quads → Begins format text quads → ConvertsLines format text (out ++ held) given → Finishes before held given answer after → Outcome start after format text answer
 finished start before after format text out held quads given answer wrote are doc at f = elim f [
-  | inl done ↦ (out ++ held, Appends-chain start before after out held wrote done.1, subst (Converts format text (out ++ held)) (sym done.0) at)
+  | inl done ↦ (out ++ held, Appends-chain start before after out held wrote done.1, subst (ConvertsLines format text (out ++ held)) (sym done.0) at)
   | inr cut ↦
       let front = cut.1 in
       let parts : lines_of quads ≡ (out ++ front.0) ++ front.1 = sym are ∙ ap (λ t. out ++ t) front.3 ∙ sym (append_assoc out front.0 front.1) in
-      (out ++ front.0, Appends-chain start before after out front.0 wrote front.2, subst (Converts format text (out ++ front.0)) (sym cut.0) (cut_short format text (out ++ front.0) front.1 quads doc parts front.4))
+      (out ++ front.0, Appends-chain start before after out front.0 wrote front.2, subst (ConvertsLines format text (out ++ front.0)) (sym cut.0) (cut_short format text (out ++ front.0) front.1 quads doc parts front.4))
 ]
 
 -- ---- the loop: the statements so far are written, but for what is held
@@ -80,7 +80,7 @@ module _ (law : AnswersAreTheDocument) (each : EachTextIsOneDocument) (format : 
         (quads, whole law each format text quads document next calls step, are) f
 
     of_fault : (quads : List Quad) (out : List ℕ) (f : LineFault) (k : FaultKind) → f.kind ≡ k → Calls (fresh format (Some text)) (found quads) document → out ++ held ≡ lines_of quads → Step document (Err f) next
-        → IsDocument format text quads (Some f) ⊎ ((f.kind ≡ kind.Read) ⊎ (f.kind ≡ kind.NoMemory)) → Converts format text (out ++ held) (Err (fault_of_kind f k))
+        → IsDocument format text quads (Some f) ⊎ ((f.kind ≡ kind.Read) ⊎ (f.kind ≡ kind.NoMemory)) → ConvertsLines format text (out ++ held) (Err (fault_of_kind f k))
     of_fault quads out f kind.Read is calls are step why =
         let front = before_read_fault format text quads document next f is calls step in (front.0, front.1, quads, front.2, front.3, are)
     of_fault quads out f kind.NoMemory is calls are step why = wanting format text (out ++ held) quads (begins law each format text quads document calls) are
@@ -93,7 +93,7 @@ module _ (law : AnswersAreTheDocument) (each : EachTextIsOneDocument) (format : 
         → given ≡ fault_of_kind f f.kind → Finishes now held (Err given) answer after → Outcome before after format text answer
     at_fault after f given answer (quads, out, wrote, calls, are) step is ends =
         finished before now after format text out held quads (Err given) answer wrote are (begins law each format text quads document calls)
-        (subst (λ (k : ConvertFault). Converts format text (out ++ held) (Err k)) (sym is)
+        (subst (λ (k : ConvertFault). ConvertsLines format text (out ++ held) (Err k)) (sym is)
         (of_fault quads out f f.kind refl calls are step (faulty law each format text quads document next f calls step))) ends
 
     -- one more statement, whose line is gathered or not

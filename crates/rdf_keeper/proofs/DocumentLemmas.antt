@@ -1,6 +1,6 @@
 -- The answers of a reader of lines up to some statement.
-use Rattle.std.proofs.Common.{◌≡◌, ◌∙◌, inl, inr, ap, refl, sym, subst, ℕ, List, [], ◌∷◌, ◌++◌, map, Option, Some, None, append-nil}
-use Rattle.std.specs.Prelude.{◌⊎◌, Result, Ok, Err}
+use Rattle.std.proofs.Common.{◌≡◌, ◌∙◌, inl, inr, ap, refl, sym, subst, ℕ, List, [], ◌∷◌, ◌++◌, map, Option, Some, None}
+use Rattle.std.specs.Prelude.{◌⊎◌, Ok, Err}
 use Rattle.rdf_lines.specs.declared.fault.LineFault.{LineFault}
 use Rattle.rdf_lines.specs.declared.fault.FaultKind.TheVariants.{Read, NoMemory}
 use Rattle.rdf_lines.specs.declared.format.LineFormat.{LineFormat}

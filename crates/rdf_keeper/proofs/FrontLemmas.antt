@@ -1,6 +1,6 @@
 -- What was answered before a failed read: the statements of the lines wholly read.
 use Rattle.std.proofs.Common.{◌≡◌, ◌∙◌, inl, inr, ap, refl, sym, subst, ℕ, ◌+◌, arith, Bool, true, false, List, [], ◌∷◌, ◌++◌, length, append_assoc, Option, Some, None}
-use Rattle.std.specs.Prelude.{Result, Ok, Err}
+use Rattle.std.specs.Prelude.{Ok, Err}
 use Rattle.std.specs.Io.KnownBytes.{Consumes}
 use Rattle.rdf_lines.specs.declared.fault.FaultKind.{FaultKind}
 use Rattle.rdf_lines.specs.declared.fault.FaultKind.TheVariants.{Read, NoMemory}
@@ -8,14 +8,13 @@ use Rattle.rdf_lines.specs.declared.fault.LineFault.{LineFault}
 use Rattle.rdf_lines.specs.declared.format.LineFormat.{LineFormat}
 use Rattle.rdf_lines.specs.declared.statement.Statement.{Statement}
 use Rattle.rdf_terms.specs.declared.quad.Quad.{Quad}
-use Rattle.rdf_lines.specs.declared.state.State.{State}
 use Rattle.rdf_lines.specs.declared.state.State.TheVariants.{Reading, Ended}
 use Rattle.rdf_lines.specs.Document.{IsDocument, Reads as ReadsAll}
 use Rattle.rdf_lines.specs.Labels.{labels_of, all_noted, quad_in}
 use Rattle.rdf_lines.specs.Line.{Says}
 use Rattle.rdf_lines.specs.Lines.{lines_behind}
 use Rattle.rdf_lines.specs.Pieces.{Hold, onto}
-use Rattle.rdf_lines.specs.Reader.{LineState, Answer, AreSilent, Taken, FailsBehind, FaultOf, Reads, Step, StepAt, Calls, fresh, state_after}
+use Rattle.rdf_lines.specs.Reader.{LineState, AreSilent, Taken, FaultOf, Reads, Step, StepAt, Calls, fresh}
 use Rattle.rdf_lines.proofs.LawLemmas.{quads_of, first_quad}
 use Rattle.rdf_keeper.specs.Convert.{whole_lines}
 use Rattle.rdf_keeper.proofs.DocumentLemmas.{found}

@@ -14,5 +14,6 @@ pub mod OutcomeLemmas
 pub mod OutputLemmas
 pub mod RunLemmas
 pub mod SortedLemmas
+pub mod TurtleLemmas
 pub mod WholeLineLemmas
 pub mod WordLemmas

@@ -1,5 +1,5 @@
 -- The lines of a front of a text.
-use Rattle.std.proofs.Common.{◌≡◌, ◌∙◌, ap, refl, sym, ℕ, Bool, true, false, cond, ◌&&◌, ◌||◌, List, [], ◌∷◌, ◌++◌, append_assoc}
+use Rattle.std.proofs.Common.{◌≡◌, ◌∙◌, ap, refl, sym, ℕ, Bool, true, false, cond, ◌&&◌, ◌||◌, List, [], ◌∷◌, ◌++◌}
 use Rattle.std.specs.Prelude.{not}
 use Rattle.rdf_lines.specs.Lines.{lines_behind, onto_first, is_line_feed, is_return}
 use Rattle.rdf_lines.specs.Pieces.{Hold, onto}

@@ -6,11 +6,16 @@ use Rattle.rdf_keeper.specs.Faults.{name_of}
 use Rattle.rdf_keeper.specs.Listing.{Shows}
 use Rattle.rdf_keeper.specs.Session.{Session, Step, Reply, Changed, Done, Refused}
 use Rattle.rdf_keeper.specs.declared.fault.KeeperFault.{KeeperFault}
-use Rattle.rdf_keeper.specs.declared.fault.KeeperFault.TheVariants.{BadCommand, NoEnd, NoMemory, Line}
+use Rattle.rdf_keeper.specs.declared.fault.KeeperFault.TheVariants.{BadCommand, NoEnd, NoMemory, Line, Turtle}
+
+-- the number of a line
+abbrev pub line_text : ℕ → List ℕ
+line_text number = codes " line " ++ decimal number
 
 -- the line of a fault in a text
 abbrev pub place_text : KeeperFault → List ℕ
-place_text (Line fault) = codes " line " ++ decimal fault.line
+place_text (Line fault) = line_text fault.line
+place_text (Turtle fault) = line_text fault.line
 place_text _ = []
 
 -- the answer line of a reply

@@ -1,12 +1,12 @@
 -- The commands of a script.
-use Rattle.std.specs.Prelude.{ℕ, Bool, false, ◌||◌, List, [], ◌∷◌, ◌++◌, nat_eq, codes, if◌then◌else◌, Option, Some, None}
+use Rattle.std.specs.Prelude.{ℕ, Bool, false, ◌||◌, List, [], ◌∷◌, ◌++◌, nat_eq, codes, if◌then◌else◌, Option, Some, None, unwrap_or}
 use Rattle.std.specs.Str.{bytes_eq}
 use Rattle.rdf_keeper.specs.Lines.{bare}
 use Rattle.rdf_keeper.specs.Request.{Load}
 use Rattle.rdf_keeper.specs.Session as session
 use Rattle.rdf_keeper.specs.LineWords.{words, is_name}
 use Rattle.rdf_keeper.specs.declared.format.Format.{Format}
-use Rattle.rdf_keeper.specs.declared.format.Format.TheVariants.{NQuads, NTriples}
+use Rattle.rdf_keeper.specs.declared.format.Format.TheVariants.{NQuads, NTriples, Turtle}
 use Rattle.rdf_keeper.specs.declared.script.command.Listing.{Listing}
 use Rattle.rdf_keeper.specs.declared.script.command.Listing.TheVariants.{Changes, Graphs, Quads}
 
@@ -30,7 +30,13 @@ pub data Line : Type 0 where
 abbrev pub format_named : List ℕ → Option Format
 format_named word =
     if bytes_eq word (codes "nquads") then Some NQuads else
-    if bytes_eq word (codes "ntriples") then Some NTriples else None
+    if bytes_eq word (codes "ntriples") then Some NTriples else
+    if bytes_eq word (codes "turtle") then Some Turtle else None
+
+-- the format that a word of a command line names, and N-Quads without one
+abbrev pub format_of_word : Option (List ℕ) → Format
+format_of_word (Some word) = unwrap_or (format_named word) NQuads
+format_of_word None = NQuads
 
 -- the format that the words after %load name
 abbrev pub format_of : List (List ℕ) → Option Format

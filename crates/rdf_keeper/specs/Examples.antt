@@ -38,7 +38,7 @@ end_and_space : script (codes "%load nquads\n%end \n%end") ≡ act (Do (Load NQu
 end_and_space = refl
 
 -- a body is read over before a bad command is refused
-bad_commands : script (codes "%load turtle\nx\n%end\n%frob\n%undo now\n%rollback\n") ≡ bad ∷ bad ∷ bad ∷ bad ∷ []
+bad_commands : script (codes "%load trig\nx\n%end\n%frob\n%undo now\n%rollback\n") ≡ bad ∷ bad ∷ bad ∷ bad ∷ []
 bad_commands = refl
 
 -- of a text that goes on, only whole lines count

@@ -1,8 +1,9 @@
 -- The printed words of refusals.
 use Rattle.std.specs.Prelude.{ℕ, List, codes}
-use Rattle.rdf_lines.specs.FaultName.{fault_name}
+use Rattle.rdf_lines.specs.FaultName as lines
+use Rattle.rdf_turtle.specs.FaultName as turtle
 use Rattle.rdf_keeper.specs.declared.fault.KeeperFault.{KeeperFault}
-use Rattle.rdf_keeper.specs.declared.fault.KeeperFault.TheVariants.{NothingToUndo, NothingToRedo, NoSuchMark, MarkAhead, BadCommand, NoEnd, NoMemory, BlankNumbers, Line}
+use Rattle.rdf_keeper.specs.declared.fault.KeeperFault.TheVariants.{NothingToUndo, NothingToRedo, NoSuchMark, MarkAhead, BadCommand, NoEnd, NoMemory, BlankNumbers, Line, Turtle}
 
 abbrev pub name_of : KeeperFault → List ℕ
 name_of NothingToUndo = codes "NothingToUndo"
@@ -13,4 +14,5 @@ name_of BadCommand = codes "BadCommand"
 name_of NoEnd = codes "NoEnd"
 name_of NoMemory = codes "NoMemory"
 name_of BlankNumbers = codes "BlankNumbers"
-name_of (Line fault) = fault_name fault.kind
+name_of (Line fault) = lines.fault_name fault.kind
+name_of (Turtle fault) = turtle.fault_name fault.kind

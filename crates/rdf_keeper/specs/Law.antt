@@ -1,5 +1,5 @@
 -- What the states of a session have to do with the requests that stand.
-use Rattle.std.specs.Prelude.{◌≡◌, ◌+◌, ◌-◌, List, [], ◌∷◌, unwrap_or}
+use Rattle.std.specs.Prelude.{◌≡◌, ℕ, ◌+◌, ◌-◌, List, [], ◌∷◌, Option, unwrap_or}
 use Rattle.rdf_dataset.specs.State.{State}
 use Rattle.rdf_keeper.specs.History.{History, nothing, pushed, moved, marked, place_of}
 use Rattle.rdf_keeper.specs.Request.{Request, Makes}
@@ -27,14 +27,14 @@ abbrev pub requests_of : Requests → List (Command × Reply) → Requests
 requests_of h [] = h
 requests_of h (event ∷ events) = requests_of (kept_after h event) events
 
--- each state is what its request makes of the state before
-abbrev pub Follows : State → List Request → List State → Type 0
-Follows s [] [] = Unit {0}
-Follows s (r ∷ requests) (t ∷ states) = Makes r s t × Follows t requests states
-Follows s [] (t ∷ states) = ⊥
-Follows s (r ∷ requests) [] = ⊥
+-- against the base IRI, each state is what its request makes of the state before
+abbrev pub Follows : Option (List ℕ) → State → List Request → List State → Type 0
+Follows base_iri s [] [] = Unit {0}
+Follows base_iri s (r ∷ requests) (t ∷ states) = Makes base_iri r s t × Follows base_iri t requests states
+Follows base_iri s [] (t ∷ states) = ⊥
+Follows base_iri s (r ∷ requests) [] = ⊥
 
 -- what requests make of a state, one after another
-abbrev pub MakesAll : List Request → State → State → Type 0
-MakesAll [] s t = t ≡ s
-MakesAll (r ∷ requests) s t = (mid : State) × Makes r s mid × MakesAll requests mid t
+abbrev pub MakesAll : Option (List ℕ) → List Request → State → State → Type 0
+MakesAll base_iri [] s t = t ≡ s
+MakesAll base_iri (r ∷ requests) s t = (mid : State) × Makes base_iri r s mid × MakesAll base_iri requests mid t

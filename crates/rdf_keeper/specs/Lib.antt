@@ -2,6 +2,7 @@ pub mod Answers
 pub mod Asks
 pub mod Commands
 pub mod Convert
+pub mod Documents
 pub mod Examples
 pub mod Faults
 pub mod History

@@ -1,10 +1,14 @@
--- Where memory never lacks, a script has one output.
-use Rattle.std.specs.Prelude.{◌≡◌, ◌≢◌, ℕ, Bool, false, List}
+-- Where memory never lacks, a script has one output, but for the lines of some faults of Turtle texts.
+use Rattle.std.specs.Prelude.{◌≡◌, ◌≢◌, ◌⊎◌, ℕ, Bool, true, false, List, [], ◌∷◌}
+use Rattle.rdf_turtle.specs.DocumentLaws.{has_free_line}
+use Rattle.rdf_turtle.specs.declared.fault.TurtleFaultKind.{TurtleFaultKind}
 use Rattle.rdf_keeper.specs.Answers.{Answers, reply_line}
-use Rattle.rdf_keeper.specs.Commands.{Asked}
+use Rattle.rdf_keeper.specs.Commands.{Asked, act}
+use Rattle.rdf_keeper.specs.Request.{Load}
 use Rattle.rdf_keeper.specs.Runs.{Runs}
-use Rattle.rdf_keeper.specs.Session.{Session, Refused as RefusedReply}
-use Rattle.rdf_keeper.specs.declared.fault.KeeperFault.TheVariants.{NoMemory as NoMemoryFault}
+use Rattle.rdf_keeper.specs.Session.{Session, Do, Refused as RefusedReply}
+use Rattle.rdf_keeper.specs.declared.fault.KeeperFault.TheVariants.{NoMemory as NoMemoryFault, Turtle as TurtleFault}
+use Rattle.rdf_keeper.specs.declared.format.Format.TheVariants.{Turtle}
 use Rattle.rdf_keeper.specs.declared.script.output.Status.{Status}
 use Rattle.rdf_keeper.specs.declared.script.output.Status.TheVariants.{Accepted, Refused}
 
@@ -18,9 +22,37 @@ IsWhole Accepted = Unit {0}
 IsWhole Refused = Unit {0}
 IsWhole _ = ⊥
 
--- two whole runs of the same commands in which no answer is that memory is wanting are the same
+-- The text refuses a load of Turtle by a fault of this kind, whose line is the reader's own choice.
+abbrev pub HasFreeLine : TurtleFaultKind → Asked → List ℕ → Type 0
+HasFreeLine kind (act (Do (Load Turtle document))) text =
+    (has_free_line kind ≡ true) × ((line : ℕ) × (text ≡ reply_line (RefusedReply (TurtleFault (record { line = line; kind = kind })))))
+HasFreeLine kind _ text = ⊥
+
+-- Two answers to a command are the same; or both refuse it by one kind of fault, and their lines are the reader's own choice.
+abbrev pub SameAnswer : Asked → List ℕ → List ℕ → Type 0
+SameAnswer c text other = (text ≡ other) ⊎ ((kind : TurtleFaultKind) × HasFreeLine kind c text × HasFreeLine kind c other)
+
+-- the same, answer by answer, to the first of the commands
+abbrev pub SameAnswers : List Asked → List (List ℕ) → List (List ℕ) → Type 0
+SameAnswers commands [] [] = Unit {0}
+SameAnswers (c ∷ commands) (text ∷ texts) (other ∷ others) = SameAnswer c text other × SameAnswers commands texts others
+SameAnswers commands texts others = ⊥
+
+-- the answer has no line that is the reader's own choice
+abbrev pub FirmAnswers : Asked → Session → List ℕ → Bool → Session → Type 0
+FirmAnswers c s text refused t = FullAnswers c s text refused t × ((kind : TurtleFaultKind) → ¬ HasFreeLine kind c text)
+
+-- Two whole runs of the same commands in which no answer is that memory is wanting have the same answers, one by one,
+-- but for such lines, and end alike.
 abbrev pub OneOutput : Type 0
-OneOutput = (stop : Bool) (commands : List Asked) (s t u : Session) (out other : List ℕ) (status otherwise : Status)
-    → Runs FullAnswers stop Accepted false commands s out t status → IsWhole status
-    → Runs FullAnswers stop Accepted false commands s other u otherwise → IsWhole otherwise
-    → (out ≡ other) × (t ≡ u) × (status ≡ otherwise)
+OneOutput = (stop : Bool) (commands : List Asked) (s t u : Session) (answers others : List (List ℕ)) (status otherwise : Status)
+    → Runs FullAnswers stop Accepted false commands s answers t status → IsWhole status
+    → Runs FullAnswers stop Accepted false commands s others u otherwise → IsWhole otherwise
+    → SameAnswers commands answers others × (t ≡ u) × (status ≡ otherwise)
+
+-- Where no answer of one run has such a line, the answers of the other are the same.
+abbrev pub OneText : Type 0
+OneText = (stop : Bool) (commands : List Asked) (s t u : Session) (answers others : List (List ℕ)) (status otherwise : Status)
+    → Runs FirmAnswers stop Accepted false commands s answers t status → IsWhole status
+    → Runs FullAnswers stop Accepted false commands s others u otherwise → IsWhole otherwise
+    → (answers ≡ others) × (t ≡ u) × (status ≡ otherwise)

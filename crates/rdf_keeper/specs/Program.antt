@@ -1,10 +1,12 @@
 -- How the program ends: its exit status, and its line on standard error.
-use Rattle.std.specs.Prelude.{ℕ, List, [], ◌++◌, codes, decimal, Result, Ok, Err}
-use Rattle.rdf_lines.specs.declared.fault.LineFault.{LineFault}
-use Rattle.rdf_lines.specs.FaultName.{fault_name}
+use Rattle.std.specs.Prelude.{ℕ, List, [], ◌++◌, codes, Result, Ok, Err}
+use Rattle.rdf_keeper.specs.Answers.{line_text}
+use Rattle.rdf_keeper.specs.Convert.{document_fault_line, document_fault_name}
 use Rattle.rdf_keeper.specs.Faults.{name_of}
+use Rattle.rdf_keeper.specs.declared.conversion.DocumentFault.{DocumentFault}
+use Rattle.rdf_keeper.specs.declared.conversion.DocumentFault.TheVariants as document
 use Rattle.rdf_keeper.specs.declared.fault.KeeperFault.{KeeperFault}
-use Rattle.rdf_keeper.specs.declared.fault.KeeperFault.TheVariants.{Line}
+use Rattle.rdf_keeper.specs.declared.fault.KeeperFault.TheVariants.{Line, Turtle}
 use Rattle.rdf_keeper.specs.declared.conversion.ConvertFault.{ConvertFault}
 use Rattle.rdf_keeper.specs.declared.conversion.ConvertFault.TheVariants as fault
 use Rattle.rdf_keeper.specs.declared.outcome.Outcome.{Outcome}
@@ -29,12 +31,13 @@ status_of ReadFailed = 3
 status_of WriteFailed = 3
 status_of NoMemory = 4
 
--- a faulty line of a document
-abbrev pub refused_at : LineFault → List ℕ
-refused_at at = codes "rdfkeep: refused: " ++ fault_name at.kind ++ codes " line " ++ decimal at.line ++ codes "\n"
+-- a fault of a document
+abbrev pub refused_at : DocumentFault → List ℕ
+refused_at at = codes "rdfkeep: refused: " ++ document_fault_name at ++ line_text (document_fault_line at) ++ codes "\n"
 
 abbrev pub refused : KeeperFault → List ℕ
-refused (Line at) = refused_at at
+refused (Line at) = refused_at (document.Line at)
+refused (Turtle at) = refused_at (document.Turtle at)
 refused fault = codes "rdfkeep: refused: " ++ name_of fault ++ codes "\n"
 
 -- the line on standard error; what is wrong with words is said by a text of its own

@@ -1,5 +1,5 @@
 -- Requests, and what they make of a state: a dataset (RDF 1.1 Concepts, section 4) with a counter of blank nodes.
-use Rattle.std.specs.Prelude.{◌≡◌, ℕ, ◌+◌, ◌<◌, ◌≤◌, List, [], ◌∷◌, map, max, Some, None}
+use Rattle.std.specs.Prelude.{◌≡◌, ℕ, ◌+◌, ◌<◌, ◌≤◌, List, [], ◌∷◌, map, max, Option}
 use Rattle.std.specs.List.{flat_map}
 use Rattle.std.specs.FinSet as set
 use Rattle.rdf_terms.specs.Quad.{QuadParts}
@@ -8,19 +8,16 @@ use Rattle.rdf_terms.specs.declared.quad.GraphName.TheVariants.{Default, Named}
 use Rattle.rdf_terms.specs.declared.term.Term.{Term}
 use Rattle.rdf_terms.specs.declared.term.Term.TheVariants.{Blank}
 use Rattle.rdf_dataset.specs.State.{State, last_number}
-use Rattle.rdf_lines.specs.declared.format.LineFormat.{LineFormat}
-use Rattle.rdf_lines.specs.declared.format.LineFormat.TheVariants as line
-use Rattle.rdf_lines.specs.Document.{IsDocument}
+use Rattle.rdf_keeper.specs.Documents.{IsDocument, IsFaulty}
 use Rattle.rdf_keeper.specs.declared.fault.KeeperFault.{KeeperFault}
-use Rattle.rdf_keeper.specs.declared.fault.KeeperFault.TheVariants.{BlankNumbers, Line}
+use Rattle.rdf_keeper.specs.declared.fault.KeeperFault.TheVariants.{BlankNumbers}
 use Rattle.rdf_keeper.specs.declared.format.Format.{Format}
-use Rattle.rdf_keeper.specs.declared.format.Format.TheVariants.{NQuads, NTriples}
 
 pub data Request : Type 0 where
   -- the document of a text comes in
   Load : Format → List ℕ → Request
 
--- ---- the blank nodes of a document, whose labels mean nothing outside it (RDF 1.1 N-Quads, section 2.4)
+-- ---- the blank nodes of a document, whose labels mean nothing outside it (RDF 1.1 N-Quads, section 2.4; RDF 1.1 Turtle, section 2.6)
 
 -- the least number above that of the term, where it is a blank node
 abbrev pub term_limit : Term → ℕ
@@ -78,19 +75,14 @@ with_all s qs = record {
 abbrev pub loaded : State → List QuadParts → State
 loaded s qs = with_all (record s { next = s.next + blank_limit qs }) (map (quad_from s.next) qs)
 
-abbrev pub line_format : Format → LineFormat
-line_format NQuads = line.NQuads
-line_format NTriples = line.NTriples
+-- ---- what a request makes of a state against the session's base IRI, and why it is refused
 
--- ---- what a request makes of a state, and why it is refused
+abbrev pub Makes : Option (List ℕ) → Request → State → State → Type 0
+Makes base (Load format text) s t =
+    (quads : List QuadParts) × IsDocument format base text quads × (s.next + blank_limit quads ≤ last_number) × (t ≡ loaded s quads)
 
-abbrev pub Makes : Request → State → State → Type 0
-Makes (Load format text) s t =
-    (quads : List QuadParts) × IsDocument (line_format format) text quads None × (s.next + blank_limit quads ≤ last_number) × (t ≡ loaded s quads)
-
-abbrev pub IsRefused : Request → State → KeeperFault → Type 0
--- the text has a faulty line
-IsRefused (Load format text) s (Line fault) = (quads : List QuadParts) × IsDocument (line_format format) text quads (Some fault)
+abbrev pub IsRefused : Option (List ℕ) → Request → State → KeeperFault → Type 0
 -- its blank nodes would bring the counter past the last number
-IsRefused (Load format text) s BlankNumbers = (quads : List QuadParts) × IsDocument (line_format format) text quads None × (last_number < s.next + blank_limit quads)
-IsRefused request s _ = ⊥
+IsRefused base (Load format text) s BlankNumbers = (quads : List QuadParts) × IsDocument format base text quads × (last_number < s.next + blank_limit quads)
+-- the text is no document
+IsRefused base (Load format text) s fault = IsFaulty format base text fault

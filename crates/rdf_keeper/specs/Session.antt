@@ -74,7 +74,7 @@ RemovesSome net = ¬ ((net.removed ≡ set.empty) × (net.names_removed ≡ set.
 -- why a command may be refused at a session
 abbrev pub MayRefuse : Session → Command → KeeperFault → Type 0
 MayRefuse s (Do request) NoMemory = Unit {0}
-MayRefuse s (Do request) fault = IsRefused request (now s) fault
+MayRefuse s (Do request) fault = IsRefused s.base_iri request (now s) fault
 MayRefuse s Undo NothingToUndo = s.states.cursor ≡ 0
 -- going back puts in what the entry removed
 MayRefuse s Undo NoMemory = (0 < s.states.cursor) × RemovesSome (net_between (state_at s (s.states.cursor - 1)) (now s))
@@ -90,7 +90,7 @@ MayRefuse s _ _ = ⊥
 abbrev pub Step : Session → Command → Reply → Session → Type 0
 Step old c (Refused fault) new = MayRefuse old c fault × (new ≡ old)
 Step old (Do request) (Changed counts) new =
-    (after : State) × Makes request (now old) after × (new ≡ accepted after old) × (counts ≡ counts_between (now old) after)
+    (after : State) × Makes old.base_iri request (now old) after × (new ≡ accepted after old) × (counts ≡ counts_between (now old) after)
 Step old Undo (Changed counts) new =
     (0 < old.states.cursor) × (new ≡ at_place (old.states.cursor - 1) old) × (counts ≡ counts_between (now old) (now new))
 Step old Redo (Changed counts) new =

@@ -5,6 +5,7 @@ ghost use Rattle.rdf_keeper.specs.declared.fault.KeeperFault.TheVariants.{NoMemo
 
 use rdf_lines::LineFault;
 use rdf_terms::NoMemory as NoMemoryFault;
+use rdf_turtle::TurtleFault;
 use std::alloc::{AllocError, AllocFailed};
 use thiserror::Error;
 
@@ -38,6 +39,9 @@ pub enum KeeperFault {
     /// A line of a loaded text is faulty.
     #[error("line {}: {}", .0.line, .0.name())]
     Line(LineFault),
+    /// A loaded text is no document of Turtle.
+    #[error("line {}: {}", .0.line, .0.name())]
+    Turtle(TurtleFault),
 }
 
 impl KeeperFault {
@@ -55,6 +59,7 @@ impl KeeperFault {
             KeeperFault::NoMemory => "NoMemory",
             KeeperFault::BlankNumbers => "BlankNumbers",
             KeeperFault::Line(fault) => fault.name(),
+            KeeperFault::Turtle(fault) => fault.name(),
         }
     }
 }

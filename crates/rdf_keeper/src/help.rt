@@ -16,7 +16,8 @@ pub(crate) const RUN_ABOUT: &str =
 /// A script, and what it prints.
 pub(crate) const RUN_EXAMPLE: &str = "\
 Commands:
-  %load nquads       load the lines up to %end (or: %load ntriples)
+  %load nquads       load the lines up to %end, a document of N-Quads;
+                     also %load ntriples and %load turtle
   %print             print the quads
   %graphs            print the names of the graphs
   %undo, %redo       take back the last change, or make it again
@@ -48,10 +49,14 @@ pub(crate) const CONVERT_ABOUT: &str =
 /// A conversion, and what it prints.
 pub(crate) const CONVERT_EXAMPLE: &str = "\
 The statements keep their order and their repeats; blank nodes become _:b0, _:b1 and so on.
-A faulty line ends the conversion: the statements before it are written.
 
-Example:
+nquads and ntriples are written while they are read. A faulty line ends the conversion: the
+statements before it are written. turtle is read whole, and a faulty document writes nothing.
+In Turtle a relative IRI, like <ada>, needs @base in the document or --base here.
+
+Examples:
   rdfkeep convert --from ntriples people.nt > people.nq
+  rdfkeep convert --from turtle --base http://example.org/ people.ttl > people.nq
 
-Exit status: 0 the whole document was written, 1 a line is faulty, 2 the words or the base are
-wrong, 3 reading or writing failed, 4 memory was wanting.";
+Exit status: 0 the whole document was written, 1 the document is faulty, 2 the words or the base
+are wrong, 3 reading or writing failed, 4 memory was wanting.";

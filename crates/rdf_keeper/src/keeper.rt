@@ -69,16 +69,16 @@ impl Keeper {
         }
     }
 
-    /// Loads a document: its quads come in, each with the name of its graph, and its blank node j becomes
+    /// Loads a document, against the session's base where it is Turtle: its quads come in, each with the name of its graph, and its blank node j becomes
     /// the node with the number of the counter and j more. Counts are of the quads that are new.
     ///
     /// # Errors
-    /// `Line` at the first faulty line, `BlankNumbers` where the counter would pass 10^18, `NoMemory`; the
+    /// `Line` at the first faulty line, `Turtle` where the text is no document of Turtle, `BlankNumbers` where the counter would pass 10^18, `NoMemory`; the
     /// session is then as it was.
     pub fn load(&mut self, format: Format, text: &[u8]) -> Result<Counts, KeeperFault>
         ensures { Step self.old (Do (Load format text.now)) (reply_of result) self.new }
     {
-        let quads = read(self.alloc, format, text)?;
+        let quads = read(self.alloc, format, text, self.base_iri.as_ref())?;
         let net = stage(self.alloc, &self.dataset, quads)?;
         self.accept(net)
     }

@@ -16,7 +16,7 @@ mod program;
 mod script;
 mod words;
 
-pub use conversion::{ConvertFault, convert};
+pub use conversion::{ConvertFault, DocumentFault, convert};
 pub use fault::{Counts, KeeperFault};
 pub use format::Format;
 pub use keeper::Keeper;

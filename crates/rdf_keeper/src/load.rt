@@ -1,15 +1,19 @@
 //! Loads: a document's quads come in, its blank nodes numbered on from the counter.
 ghost use Rattle.std.specs.Prelude.{◌≡◌, ◌+◌, ◌<◌, ◌≤◌, ◌^◌, min, MatchResult, None};
+ghost use Rattle.std.specs.Option.{option_copied};
 ghost use Rattle.rdf_dataset.specs.State.{last_number};
-ghost use Rattle.rdf_lines.specs.Document.{IsDocument};
-ghost use Rattle.rdf_keeper.specs.Request.{blank_limit, graph_from, graph_limit, quad_from, line_format, quad_limit, term_from, term_limit};
-ghost use Rattle.rdf_keeper.specs.Staging.{Stages, TellsFault};
+ghost use Rattle.rdf_lines.specs.Document as lines;
+ghost use Rattle.rdf_turtle.specs.Document as turtle;
+ghost use Rattle.rdf_keeper.specs.Documents.{IsDocument};
+ghost use Rattle.rdf_keeper.specs.Request.{blank_limit, graph_from, graph_limit, quad_from, quad_limit, term_from, term_limit};
+ghost use Rattle.rdf_keeper.specs.Staging.{Stages, TellsFault, TellsLineFault, TellsTurtleFault, turtle_refusal};
 
 use crate::fault::KeeperFault;
-use crate::format::{Format, line_format};
+use crate::format::Format;
 use rdf_dataset::{Dataset, Net, Staged};
-use rdf_lines::{FaultKind, LineFault, read_lines};
-use rdf_terms::{GraphName, Quad, Term};
+use rdf_lines::{FaultKind, LineFault, LineFormat, read_lines};
+use rdf_terms::{GraphName, Iri, Quad, Term};
+use rdf_turtle::{TurtleFault, TurtleFaultKind, read_turtle};
 use std::alloc::Global;
 
 // The greatest blank counter.
@@ -90,13 +94,13 @@ fn quad_from(first: u64, quad: Quad) -> Quad
     moved.unwrap()
 }
 
-/// The quads of a text.
-pub(crate) fn read(alloc: Global, format: Format, text: &[u8]) -> Result<Vec<Quad>, KeeperFault>
+// The quads of a text of lines.
+fn read_in_lines(alloc: Global, format: LineFormat, text: &[u8]) -> Result<Vec<Quad>, KeeperFault>
     ensures { MatchResult result
-        (λ quads. IsDocument (line_format format) text.now quads.items None)
-        (λ fault. TellsFault format text.now fault) }
+        (λ quads. lines.IsDocument format text.now quads.items None)
+        (λ fault. TellsLineFault format text.now fault) }
 {
-    match read_lines(alloc, line_format(format), text) {
+    match read_lines(alloc, format, text) {
         Ok(quads) => Ok(quads),
         Err(
             LineFault {
@@ -105,6 +109,50 @@ pub(crate) fn read(alloc: Global, format: Format, text: &[u8]) -> Result<Vec<Qua
             },
         ) => Err(KeeperFault::NoMemory),
         Err(fault) => Err(KeeperFault::Line(fault)),
+    }
+}
+
+fn turtle_refusal(fault: TurtleFault) -> KeeperFault
+    ensures { result ≡ turtle_refusal fault fault.kind }
+{
+    match fault.kind {
+        TurtleFaultKind::NoMemory => KeeperFault::NoMemory,
+        TurtleFaultKind::NotUtf8
+        | TurtleFaultKind::Token
+        | TurtleFaultKind::TooDeep
+        | TurtleFaultKind::Syntax
+        | TurtleFaultKind::UnknownPrefix
+        | TurtleFaultKind::Relative => KeeperFault::Turtle(fault),
+    }
+}
+
+// The quads of a text of Turtle.
+fn read_in_turtle(alloc: Global, text: &[u8], base: Option<&Iri>) -> Result<Vec<Quad>, KeeperFault>
+    ensures { MatchResult result
+        (λ quads. turtle.IsDocument (option_copied base.entry) text.now quads.items)
+        (λ fault. TellsTurtleFault (option_copied base.entry) text.now fault) }
+{
+    match read_turtle(alloc, text, base) {
+        Ok(quads) => Ok(quads),
+        Err(fault) => Err(turtle_refusal(fault)),
+    }
+}
+
+/// The quads of a text, against a base that the line formats don't use.
+pub(crate) fn read(
+    alloc: Global,
+    format: Format,
+    text: &[u8],
+    base: Option<&Iri>,
+) -> Result<Vec<Quad>, KeeperFault>
+    ensures { MatchResult result
+        (λ quads. IsDocument format (option_copied base.entry) text.now quads.items)
+        (λ fault. TellsFault format (option_copied base.entry) text.now fault) }
+{
+    match format {
+        Format::NQuads => read_in_lines(alloc, LineFormat::NQuads, text),
+        Format::NTriples => read_in_lines(alloc, LineFormat::NTriples, text),
+        Format::Turtle => read_in_turtle(alloc, text, base),
     }
 }
 

@@ -1,17 +1,16 @@
 //! How the program ends.
 ghost use Rattle.std.specs.Prelude.{◌≡◌, ◌++◌, ◌+◌, ◌≤◌, length, ℕ, List};
 ghost use Rattle.std.specs.Io.KnownBytes.{Appends};
-ghost use Rattle.rdf_lines.specs.FaultName.{fault_name};
+ghost use Rattle.rdf_keeper.specs.Convert.{document_fault_name};
 ghost use Rattle.rdf_keeper.specs.Faults.{name_of};
 ghost use Rattle.arrayvec.specs.ArrayVec.{array_vec_len};
 ghost use Rattle.rdf_keeper.specs.Program.{status_of, error_line, outcome_of, refused, refused_at};
 
-use crate::conversion::ConvertFault;
+use crate::conversion::{ConvertFault, DocumentFault};
 use crate::fault::KeeperFault;
 use crate::script::output::write_whole;
 use arrayvec::ArrayVec;
 use itoa::Buffer;
-use rdf_lines::LineFault;
 use std::io::Write;
 
 /// How the program ends.
@@ -21,8 +20,8 @@ pub(crate) enum Outcome {
     Done,
     /// A command of the script was refused.
     SomeRefused,
-    /// A line of the document that is converted is faulty.
-    BadDocument(LineFault),
+    /// The document that is converted is faulty.
+    BadDocument(DocumentFault),
     /// The words are no command line of the program.
     BadWords,
     /// The base is no IRI.
@@ -62,9 +61,9 @@ fn status_of(outcome: &Outcome) -> u8
     }
 }
 
-fn line_fault_name(fault: LineFault) -> &'static [u8]
-    ensures name { result.now ≡ fault_name fault.kind }
-    ensures short { length result.now ≤ 8 }
+fn document_fault_name(fault: DocumentFault) -> &'static [u8]
+    ensures name { result.now ≡ document_fault_name fault }
+    ensures short { length result.now ≤ 16 }
 {
     fault.name().as_bytes()
 }
@@ -84,16 +83,16 @@ fn append(line: &mut ArrayVec<u8, 64>, text: &[u8])
     line.try_extend_from_slice(text).unwrap();
 }
 
-// A refusal at a line of a document.
-fn refused_at(fault: LineFault) -> ArrayVec<u8, 64>
+// The refusal of a document.
+fn refused_at(fault: DocumentFault) -> ArrayVec<u8, 64>
     ensures { result.items ≡ refused_at fault }
 {
     let mut buffer = Buffer::new();
     let mut line = ArrayVec::new();
     append(&mut line, b"rdfkeep: refused: ");
-    append(&mut line, line_fault_name(fault));
+    append(&mut line, document_fault_name(fault));
     append(&mut line, b" line ");
-    append(&mut line, buffer.format(fault.line).as_bytes());
+    append(&mut line, buffer.format(fault.line()).as_bytes());
     append(&mut line, b"\n");
     line
 }
@@ -101,8 +100,10 @@ fn refused_at(fault: LineFault) -> ArrayVec<u8, 64>
 fn refused(fault: KeeperFault) -> ArrayVec<u8, 64>
     ensures { result.items ≡ refused fault }
 {
-    if let KeeperFault::Line(at) = fault {
-        return refused_at(at);
+    match fault {
+        KeeperFault::Line(at) => return refused_at(DocumentFault::Line(at)),
+        KeeperFault::Turtle(at) => return refused_at(DocumentFault::Turtle(at)),
+        _ => {}
     }
     let mut line = ArrayVec::new();
     append(&mut line, b"rdfkeep: refused: ");

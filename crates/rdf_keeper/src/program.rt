@@ -1,7 +1,6 @@
 //! The whole program, over its words, its standard input, output and error.
 ghost use Rattle.std.specs.Prelude.{◌≡◌, ◌≢◌, ◌≤◌, ℕ, List, [], Some, Result};
 ghost use Rattle.std.specs.Io.KnownBytes.{Appends};
-ghost use Rattle.rdf_keeper.specs.Request.{line_format};
 ghost use Rattle.rdf_keeper.specs.Convert.{Converts};
 ghost use Rattle.rdf_keeper.specs.Program.{status_of, outcome_of};
 ghost use Rattle.rdf_keeper.specs.declared.conversion.ConvertFault.{ConvertFault};
@@ -118,7 +117,7 @@ fn convert_all<R: Read + Drop, W: Write>(
     ensures told { status_of result ≢ 2 }
     ensures written { (text : List ℕ) → R.remaining reader ≡ Some text →
         (out : List ℕ) × (answer : Result (Unit {0}) ConvertFault) × Appends (W.contents writer.old) (W.contents writer.new) out
-        × Converts (line_format format) text out answer × (result ≡ outcome_of answer) }
+        × Converts format base text out answer × (result ≡ outcome_of answer) }
 {
     outcome_of(convert(alloc, format, base, &mut reader, writer))
 }
@@ -182,7 +181,7 @@ fn answer_words<T: Files + AllocGlobal, R: Read + Drop, W: Write, E: Write>(
 /// the exit status:
 ///
 /// - 0 where all was accepted, written or shown;
-/// - 1 where a command of the script was refused, or a line of the document that is converted is faulty;
+/// - 1 where a command of the script was refused, or the document that is converted is faulty;
 /// - 2 where the words are no command line of the program, the base is no IRI, or the start data are refused;
 /// - 3 where a file doesn't open, or a read or a write failed;
 /// - 4 where memory was wanting.

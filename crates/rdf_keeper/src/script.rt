@@ -1,7 +1,7 @@
 //! Scripts of commands, and their answers.
 
 mod answer;
-mod command;
+pub(crate) mod command;
 pub(crate) mod input;
 mod item;
 mod line;

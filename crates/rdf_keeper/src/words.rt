@@ -1,7 +1,11 @@
 //! What the words of a command line ask for.
+ghost use Rattle.std.specs.Prelude.{◌≡◌};
+ghost use Rattle.std.specs.Option.{option_copied};
+ghost use Rattle.rdf_keeper.specs.Commands.{format_of_word};
 
 use crate::format::Format;
 use crate::help::{ABOUT, CONVERT_ABOUT, CONVERT_EXAMPLE, NAME, RUN_ABOUT, RUN_EXAMPLE, VERSION};
+use crate::script::command::format_named;
 use clap::error::ErrorKind;
 use clap::{Arg, ArgAction, ArgMatches, Command, Error};
 use std::alloc::{AllocError, Global};
@@ -47,13 +51,12 @@ impl From<AllocError> for WordsFault {
     }
 }
 
-static FORMATS: [&str; 2] = ["nquads", "ntriples"];
+static FORMATS: [&str; 3] = ["nquads", "ntriples", "turtle"];
 
 fn base_word<'a>(alloc: Global) -> Arg<'a> {
-    Arg::new(alloc, "base")
-        .long("base")
-        .value_name("IRI")
-        .help("The base of relative IRIs; the line formats need none")
+    Arg::new(alloc, "base").long("base").value_name("IRI").help(
+        "What relative IRIs of Turtle are resolved against; the line formats have none",
+    )
 }
 
 fn run_command<'a>(alloc: Global) -> Result<Command<'a>, AllocError> {
@@ -114,10 +117,13 @@ fn program<'a>(alloc: Global) -> Result<Command<'a>, AllocError> {
         .subcommand(convert_command(alloc)?)
 }
 
-fn format_named(word: Option<&str>) -> Format {
+// The format that a word names; N-Quads without one.
+fn format_of(word: Option<&str>) -> Format
+    ensures { result ≡ format_of_word (option_copied word.entry) }
+{
     match word {
-        Some(name) if name == "ntriples" => Format::NTriples,
-        _ => Format::NQuads,
+        Some(name) => format_named(name.as_bytes()).unwrap_or(Format::NQuads),
+        None => Format::NQuads,
     }
 }
 
@@ -125,7 +131,7 @@ fn run_words<'a>(matches: &ArgMatches<'a>) -> RunWords<'a> {
     RunWords {
         base: matches.get_str("base"),
         data: matches.get_str("data"),
-        format: format_named(matches.get_str("format")),
+        format: format_of(matches.get_str("format")),
         stop: matches.get_flag("stop"),
         script: matches.get_str("script"),
     }
@@ -133,7 +139,7 @@ fn run_words<'a>(matches: &ArgMatches<'a>) -> RunWords<'a> {
 
 fn convert_words<'a>(matches: &ArgMatches<'a>) -> ConvertWords<'a> {
     ConvertWords {
-        from: format_named(matches.get_str("from")),
+        from: format_of(matches.get_str("from")),
         base: matches.get_str("base"),
         file: matches.get_str("file"),
     }

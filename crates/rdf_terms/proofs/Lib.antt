@@ -4,6 +4,7 @@ pub mod CutLemmas
 pub mod DotLawLemmas
 pub mod DotLemmas
 pub mod EscapeLemmas
+pub mod ExampleLemmas
 pub mod LoopLemmas
 pub mod OptionLemmas
 pub mod PlaceLemmas

@@ -4,6 +4,8 @@ pub mod Comparisons
 pub mod Cuts
 pub mod Dots
 pub mod Escapes
+pub mod Examples
+pub mod formers
 pub mod Iri
 pub mod Literal
 pub mod Names

@@ -8,9 +8,11 @@ mod cursor;
 mod cuts;
 mod dots;
 mod escape;
+mod examples;
 mod fault;
 mod iri;
 mod iri_reference;
+mod items;
 mod laws;
 mod literal;
 mod quad;
@@ -25,9 +27,11 @@ mod write;
 pub use character::{is_forbidden_in_iri, is_pn_chars, is_pn_chars_base, is_pn_chars_u};
 pub use cursor::Cursor;
 pub use escape::{one_value, unescape};
+pub use examples::the_standards_examples_hold;
 pub use fault::{IriFault, NoMemory};
 pub use iri::Iri;
 pub use iri_reference::IriReference;
+pub use items::Items;
 pub use laws::{
     comparisons_are_the_order, orders_are_total, quad_is_one, term_is_one, texts_differ,
 };

@@ -129,6 +129,10 @@ impl Hash for Text {
 }
 
 impl fmt::Debug for Text {
+    ghost use Rattle.std.specs.Fmt.{debug_str};
+
+    ghost debug_output = { debug_str };
+
     fn fmt<W: fmt::Write>(&self, f: &mut fmt::Formatter<W>) -> fmt::Result {
         write!(f, "{:?}", self.as_str())
     }

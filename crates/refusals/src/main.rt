@@ -1,15 +1,32 @@
 //! Calls the library where any allocation may be refused. Each call that is refused leaves what it
 //! was lent as it was, and is made again; so the program writes the same whichever allocation is
 //! refused, and `tools/fail-alloc` compares.
+//!
+//! For each byte of its input the program first takes memory and gives it back. So `tools/fail-alloc`
+//! has always the same allocation refused, and chooses by the input which one of the library's that is.
 #![tactic(auto)]
 
+mod retry;
+mod script;
 mod sessions;
 mod terms;
 
+use std::alloc::Global;
 use std::io;
+use std::io::Read;
 
 fn main(rt: HostRuntime) -> io::Result<()> {
     let alloc = rt.alloc();
+    let mut input = [0u8; 1024];
+    let bytes = rt.stdin().read(&mut input)?;
+    for _ in 0..bytes {
+        take_and_give_back(alloc);
+    }
     println!(rt; "{}", terms::outcome(alloc))?;
-    println!(rt; "{}", sessions::outcome(alloc))
+    println!(rt; "{}", sessions::outcome(alloc))?;
+    println!(rt; "{}", script::outcome(alloc))
+}
+
+fn take_and_give_back(alloc: Global) {
+    let _ = Vec::<u8>::with_capacity(alloc, 1);
 }

@@ -1,160 +1,191 @@
-//! A session over the keeper: loads, undo, redo, a mark, a rollback and what is shown; and a script.
-use rdf_keeper::{Counts, Format, Keeper, KeeperFault, Settings, Status, run};
+//! A session of a mark, five loads, another mark, an undo, a redo and a rollback over the loads. Each
+//! load is of the same text and brings a quad in a graph of its own, so what the session shows is known
+//! at each place.
+use crate::retry::{changes, names, shown};
+use rdf_keeper::{Counts, Format, Keeper, KeeperFault};
+use rdf_terms::Term;
 use std::alloc::Global;
 
-const FIRST: &[u8] = b"<a:s> <a:p> \"x\" .\n";
+const TEXT: &[u8] = b"_:b <a:p> _:b _:b .\n";
 
-const SECOND: &[u8] = b"_:b <a:p> _:b <a:g> .\n";
+// What is shown after the five loads; after fewer, as many of these lines.
+const LINES: &[u8] =
+    b"_:b0 <a:p> _:b0 _:b0 .\n_:b1 <a:p> _:b1 _:b1 .\n_:b2 <a:p> _:b2 _:b2 .\n_:b3 <a:p> _:b3 _:b3 .\n_:b4 <a:p> _:b4 _:b4 .\n";
 
-const SCRIPT: &[u8] = b"%load nquads\n<a:s> <a:p> \"x\" .\n%end\n%print\n%undo\n%print\n";
+const LINE: usize = 23;
 
-const OUTPUT: &[u8] = b"ok +1 -0\n<a:s> <a:p> \"x\" .\nok 1\nok +0 -1\nok 0\n";
+#[derive(Clone, Copy)]
+enum Command {
+    Load,
+    MarkFront,
+    MarkBack,
+    Undo,
+    Redo,
+    Rollback,
+}
 
-/// Whether each call that is refused leaves the session, and answers as it should when it is made
-/// again.
+// The cursor, the number of the loads, and the places of the two marks.
+#[derive(Clone, Copy)]
+struct Place {
+    at: usize,
+    of: usize,
+    front: Option<usize>,
+    back: Option<usize>,
+}
+
+impl Place {
+    fn new(at: usize, of: usize, front: Option<usize>, back: Option<usize>) -> Place {
+        Place {
+            at,
+            of,
+            front,
+            back,
+        }
+    }
+}
+
+/// Whether each call that is refused leaves quads, names, net, counter, marks and cursor, and answers
+/// as it should when it is made again.
 pub fn outcome(alloc: Global) -> &'static str {
-    match (session(alloc), script(alloc)) {
-        (Some(true), Some(true)) => "sessions: as without a refusal",
+    match session(alloc) {
+        Some(true) => "sessions: as without a refusal",
         _ => "sessions: changed by a refusal",
     }
 }
 
 fn session(alloc: Global) -> Option<bool> {
     let mut keeper = Keeper::new(alloc, None);
-    let first = load(alloc, &mut keeper, FIRST)?;
-    mark(&mut keeper)?;
-    let second = load(alloc, &mut keeper, SECOND)?;
-    let back = undo(alloc, &mut keeper)?;
-    let again = redo(alloc, &mut keeper)?;
-    let rolled = rollback(alloc, &mut keeper)?;
-    let counted = (first, second, again) == (added(1), added(1), added(1));
-    let taken = (back, rolled) == (removed(1), removed(1));
-    Some(counted && taken && changes(&keeper)? == 1 && shown(alloc, &keeper)?.as_slice() == FIRST)
+    let begun = Place::new(0, 0, None, None);
+    survives(alloc, &mut keeper, Command::MarkFront, begun)?;
+    let loaded = loads(alloc, &mut keeper)?;
+    let full = Place::new(5, 5, Some(0), None);
+    survives(alloc, &mut keeper, Command::MarkBack, full)?;
+    let told = has_names(&keeper, 5) && has_changes(&keeper, 5);
+    Some(loaded && told && moves(alloc, &mut keeper)?)
 }
 
-fn added(count: u64) -> Counts {
-    Counts {
-        added: count,
-        removed: 0,
-    }
+// Whether the cursor goes through the five loads.
+fn moves(alloc: Global, keeper: &mut Keeper) -> Option<bool> {
+    let full = Place::new(5, 5, Some(0), Some(5));
+    let back = survives(alloc, keeper, Command::Undo, full)?;
+    let one_less = Place::new(4, 5, Some(0), Some(5));
+    let forth = survives(alloc, keeper, Command::Redo, one_less)?;
+    let rolled = survives(alloc, keeper, Command::Rollback, full)?;
+    let front = Place::new(0, 5, Some(0), Some(5));
+    let at_front = is_cursor(keeper, front);
+    let steps = back == counts(0, 1) && forth == counts(1, 0) && rolled == counts(0, 5);
+    Some(steps && at_front && has_lines(alloc, keeper, 0))
 }
 
-fn removed(count: u64) -> Counts {
-    Counts {
-        added: 0,
-        removed: count,
-    }
-}
-
-// The quads as text.
-fn shown(alloc: Global, keeper: &Keeper) -> Option<Vec<u8>> {
-    let mut text = Vec::new(alloc);
-    if keeper.write_quads(&mut text).is_err() {
-        if !text.is_empty() {
-            return None;
+// Whether each of five loads adds one quad.
+fn loads(alloc: Global, keeper: &mut Keeper) -> Option<bool> {
+    for loads in 0..5usize {
+        let before = Place::new(loads, loads, Some(0), None);
+        if survives(alloc, keeper, Command::Load, before)? != counts(1, 0) {
+            return Some(false);
         }
-        keeper.write_quads(&mut text).ok()?;
     }
-    Some(text)
+    Some(true)
 }
 
-// Whether the session shows this text and has this counter.
-fn is_as_before(alloc: Global, keeper: &Keeper, text: &[u8], next: u64) -> bool {
-    match shown(alloc, keeper) {
-        Some(now) => now.as_slice() == text && keeper.next_blank() == next,
-        None => false,
-    }
+fn counts(added: u64, removed: u64) -> Counts {
+    Counts { added, removed }
 }
 
-fn load(alloc: Global, keeper: &mut Keeper, text: &[u8]) -> Option<Counts> {
-    let before = shown(alloc, keeper)?;
-    let next = keeper.next_blank();
-    let answer = keeper.load(Format::NQuads, text);
+// The answer of the command, or where it was refused, its answer when it is made again in a session
+// that is still at the place.
+fn survives(alloc: Global, keeper: &mut Keeper, command: Command, before: Place) -> Option<Counts> {
+    let answer = done(keeper, command);
     if answer != Err(KeeperFault::NoMemory) {
         return answer.ok();
     }
-    if is_as_before(alloc, keeper, before.as_slice(), next) {
-        keeper.load(Format::NQuads, text).ok()
+    if is_at(alloc, keeper, before) {
+        done(keeper, command).ok()
     } else {
         None
     }
 }
 
-fn undo(alloc: Global, keeper: &mut Keeper) -> Option<Counts> {
-    let before = shown(alloc, keeper)?;
-    let next = keeper.next_blank();
-    let answer = keeper.undo();
-    if answer != Err(KeeperFault::NoMemory) {
-        return answer.ok();
-    }
-    if is_as_before(alloc, keeper, before.as_slice(), next) {
-        keeper.undo().ok()
-    } else {
-        None
+fn done(keeper: &mut Keeper, command: Command) -> Result<Counts, KeeperFault> {
+    match command {
+        Command::Load => keeper.load(Format::NQuads, TEXT),
+        Command::MarkFront => marked(keeper, b"front"),
+        Command::MarkBack => marked(keeper, b"back"),
+        Command::Undo => keeper.undo(),
+        Command::Redo => keeper.redo(),
+        Command::Rollback => keeper.rollback(b"front"),
     }
 }
 
-fn redo(alloc: Global, keeper: &mut Keeper) -> Option<Counts> {
-    let before = shown(alloc, keeper)?;
-    let next = keeper.next_blank();
-    let answer = keeper.redo();
-    if answer != Err(KeeperFault::NoMemory) {
-        return answer.ok();
-    }
-    if is_as_before(alloc, keeper, before.as_slice(), next) {
-        keeper.redo().ok()
-    } else {
-        None
+fn marked(keeper: &mut Keeper, name: &[u8]) -> Result<Counts, KeeperFault> {
+    match keeper.mark(name) {
+        Ok(()) => Ok(counts(0, 0)),
+        Err(_) => Err(KeeperFault::NoMemory),
     }
 }
 
-fn mark(keeper: &mut Keeper) -> Option<()> {
-    if keeper.mark(b"m").is_err() {
-        keeper.mark(b"m").ok()?;
-    }
-    Some(())
+// Whether the session shows what it should at the place, and has its cursor and marks there.
+fn is_at(alloc: Global, keeper: &mut Keeper, place: Place) -> bool {
+    is_cursor(keeper, place) && shows(alloc, keeper, place.at)
 }
 
-fn rollback(alloc: Global, keeper: &mut Keeper) -> Option<Counts> {
-    let before = shown(alloc, keeper)?;
-    let next = keeper.next_blank();
-    let answer = keeper.rollback(b"m");
-    if answer != Err(KeeperFault::NoMemory) {
-        return answer.ok();
-    }
-    if is_as_before(alloc, keeper, before.as_slice(), next) {
-        keeper.rollback(b"m").ok()
-    } else {
-        None
-    }
+fn shows(alloc: Global, keeper: &Keeper, loads: usize) -> bool {
+    has_lines(alloc, keeper, loads) && has_names(keeper, loads) && has_changes(keeper, loads)
 }
 
-// The number of quads that were added since the base.
-fn changes(keeper: &Keeper) -> Option<usize> {
-    match keeper.changes() {
-        Ok(net) => Some(net.added().len()),
-        Err(_) => Some(keeper.changes().ok()?.added().len()),
+fn has_lines(alloc: Global, keeper: &Keeper, loads: usize) -> bool {
+    match (
+        shown(alloc, keeper),
+        LINES.get(..loads.saturating_mul(LINE)),
+    ) {
+        (Some(text), Some(lines)) => text.as_slice() == lines,
+        _ => false,
     }
 }
 
-fn script(alloc: Global) -> Option<bool> {
-    let (output, status) = ran(alloc);
-    if output.as_slice() == OUTPUT && status == Status::Accepted {
-        return Some(true);
+fn has_names(keeper: &Keeper, loads: usize) -> bool {
+    let Some(names) = names(keeper) else {
+        return false;
+    };
+    let mut number = 0u64;
+    for name in &names {
+        if *name != Term::Blank(number) {
+            return false;
+        }
+        number = number.saturating_add(1);
     }
-    // a command, or the session itself, was refused
-    if status != Status::Refused && status != Status::NoMemory && status != Status::WriteFailed {
-        return None;
-    }
-    let (output, status) = ran(alloc);
-    Some(output.as_slice() == OUTPUT && status == Status::Accepted)
+    names.len() == loads
 }
 
-fn ran(alloc: Global) -> (Vec<u8>, Status) {
-    let mut keeper = Keeper::new(alloc, None);
-    let mut reader = SCRIPT;
-    let mut output = Vec::new(alloc);
-    let settings = Settings { stop: false };
-    let status = run(alloc, &mut keeper, &mut reader, &mut output, settings);
-    (output, status)
+fn has_changes(keeper: &Keeper, loads: usize) -> bool {
+    let Some(net) = changes(keeper) else {
+        return false;
+    };
+    net.added().len() == loads
+        && net.names_added().len() == loads
+        && net.removed().is_empty()
+        && net.names_removed().is_empty()
+}
+
+// Whether cursor, counter and marks are those of the place. It takes no memory and changes nothing.
+fn is_cursor(keeper: &mut Keeper, place: Place) -> bool {
+    let first = place.at != 0 || keeper.undo() == Err(KeeperFault::NothingToUndo);
+    let last = place.at != place.of || keeper.redo() == Err(KeeperFault::NothingToRedo);
+    let marks = is_mark(keeper, b"front", place.front, place.at)
+        && is_mark(keeper, b"back", place.back, place.at);
+    first
+        && last
+        && marks
+        && keeper.entries().len() == place.of
+        && keeper.next_blank() == place.at as u64
+}
+
+// A mark behind the cursor isn't asked for, since a rollback to it would be a change.
+fn is_mark(keeper: &mut Keeper, name: &[u8], mark: Option<usize>, at: usize) -> bool {
+    match mark {
+        None => keeper.rollback(name) == Err(KeeperFault::NoSuchMark),
+        Some(place) if place > at => keeper.rollback(name) == Err(KeeperFault::MarkAhead),
+        Some(place) if place == at => keeper.rollback(name) == Ok(counts(0, 0)),
+        Some(_) => true,
+    }
 }

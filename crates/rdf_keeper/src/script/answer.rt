@@ -2,7 +2,7 @@
 ghost use Rattle.std.specs.Prelude.{◌≡◌, ◌++◌, ◌+◌, ◌≤◌, ◌∷◌, [], ℕ, List, length, IfOk, Ok, Err};
 ghost use Rattle.std.specs.List.{concat};
 ghost use Rattle.arrayvec.specs.ArrayVec.{array_vec_len};
-ghost use Rattle.rdf_keeper.specs.Answers.{Answers, count_line, is_refused, place_text, reply_line};
+ghost use Rattle.rdf_keeper.specs.Answers.{Answers, count_line, is_refused, line_text, place_text, reply_line};
 ghost use Rattle.rdf_keeper.specs.Asks.{asked_of};
 ghost use Rattle.rdf_keeper.specs.Listing.{Shows};
 ghost use Rattle.rdf_keeper.specs.Session.{Reply, reply_of, reply_of_mark, Done as DoneReply};
@@ -32,15 +32,25 @@ fn append(line: &mut ArrayVec<u8, 64>, text: &[u8])
     line.try_extend_from_slice(text).unwrap();
 }
 
+fn append_line_number(line: &mut ArrayVec<u8, 64>, number: u64)
+    requires { array_vec_len line.old ≤ 32 }
+    ensures items { line.new.items ≡ line.old.items ++ line_text number }
+    ensures len { array_vec_len line.new ≤ 60 }
+{
+    let mut buffer = Buffer::new();
+    append(line, b" line ");
+    append(line, buffer.format(number).as_bytes());
+}
+
 fn append_place(line: &mut ArrayVec<u8, 64>, fault: KeeperFault)
     requires { array_vec_len line.old ≤ 32 }
     ensures items { line.new.items ≡ line.old.items ++ place_text fault }
     ensures len { array_vec_len line.new ≤ 60 }
 {
-    if let KeeperFault::Line(fault) = fault {
-        let mut buffer = Buffer::new();
-        append(line, b" line ");
-        append(line, buffer.format(fault.line).as_bytes());
+    match fault {
+        KeeperFault::Line(fault) => append_line_number(line, fault.line),
+        KeeperFault::Turtle(fault) => append_line_number(line, fault.line),
+        _ => {}
     }
 }
 

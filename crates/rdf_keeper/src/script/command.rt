@@ -54,13 +54,16 @@ fn is_comment(word: &[u8]) -> bool
     }
 }
 
-fn format_named(word: &[u8]) -> Option<Format>
+/// The format of a name.
+pub(crate) fn format_named(word: &[u8]) -> Option<Format>
     ensures { result ≡ format_named word.now }
 {
     if word == b"nquads".as_slice() {
         Some(Format::NQuads)
     } else if word == b"ntriples".as_slice() {
         Some(Format::NTriples)
+    } else if word == b"turtle".as_slice() {
+        Some(Format::Turtle)
     } else {
         None
     }

@@ -1,5 +1,6 @@
 //! Sessions from bytes to bytes.
 ghost use Rattle.std.specs.Prelude.{◌≡◌, ◌++◌, ℕ, List, [], Bool, false, None, ◌&&◌, ◌||◌};
+ghost use Rattle.std.specs.List.{concat};
 ghost use Rattle.std.specs.Io.KnownBytes.{Appends, Consumes, IsAtEnd};
 ghost use Rattle.rdf_keeper.specs.Session.{Session};
 ghost use Rattle.rdf_keeper.specs.Lines.{raw_lines, upto_last_end};
@@ -62,8 +63,8 @@ fn run_text<W: Write>(
     writer: &mut W,
     stop: bool,
 ) -> Status
-    ensures { (out : List ℕ) × Appends (W.contents writer.old) (W.contents writer.new) out ×
-        Runs Answers stop last false (commands ended None (raw_lines text.now)) keeper.old out keeper.new result }
+    ensures { (answers : List (List ℕ)) × Appends (W.contents writer.old) (W.contents writer.new) (concat answers) ×
+        Runs Answers stop last false (commands ended None (raw_lines text.now)) keeper.old answers keeper.new result }
 {
     let mut rest = text;
     let mut refused = false;
@@ -103,8 +104,8 @@ pub fn run<R: Read, W: Write>(
     writer: &mut W,
     settings: Settings,
 ) -> Status
-    ensures { (out : List ℕ) × Appends (W.contents writer.old) (W.contents writer.new) out ×
-        RunsOver settings.stop (R.remaining reader.old) (R.remaining reader.new) keeper.old out keeper.new result }
+    ensures { (answers : List (List ℕ)) × Appends (W.contents writer.old) (W.contents writer.new) (concat answers) ×
+        RunsOver settings.stop (R.remaining reader.old) (R.remaining reader.new) keeper.old answers keeper.new result }
 {
     let mut held = Vec::new(alloc);
     match read_all(reader, &mut held) {

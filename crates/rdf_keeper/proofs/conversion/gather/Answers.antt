@@ -1,4 +1,4 @@
-use Rattle.std.proofs.Common.{◌≡◌, ◌∙◌, sym, ap, subst, ℕ, List}
+use Rattle.std.proofs.Common.{◌≡◌, ◌∙◌, sym, subst, ℕ, List}
 use Rattle.rdf_lines.specs.QuadText.{quad_text}
 use Rattle.rdf_keeper.specs.Convert.{Finishes}
 use Rattle.rdf_keeper.specs.declared.conversion.ConvertFault.TheVariants.{NoMemory}

@@ -1,0 +1,291 @@
+//! Each call of a dataset, a view and a net once, with answers from outside.
+ghost use Rattle.std.specs.Prelude.{◌≡◌, ℕ, ◌≤◌, IfSome};
+ghost use Rattle.rdf_dataset.specs.State.{IsTermBelow, IsGraphBelow, IsQuadBelow, Begins};
+
+use rdf_dataset::{Dataset, Net, Source, Staged};
+use rdf_terms::{GraphName, Iri, NoMemory, Quad, Term, same_quad};
+use std::alloc::Global;
+use std::test::Fail;
+
+// A blank node with a number below 4.
+fn node(number: u64) -> Term
+    ensures { (next : ℕ) → 4 ≤ next → IsTermBelow next result }
+{
+    Term::Blank(number % 4)
+}
+
+// The default graph for 0, else one that a blank node names.
+fn graph(number: u64) -> GraphName
+    ensures { (next : ℕ) → 4 ≤ next → IsGraphBelow next result }
+{
+    match number {
+        0 => GraphName::Default,
+        _ => GraphName::Named(node(number)),
+    }
+}
+
+fn quad(alloc: Global, graph_number: u64, object: u64) -> Option<Quad>
+    ensures { IfSome result (λ q. (next : ℕ) → 4 ≤ next → IsQuadBelow next q) }
+{
+    let predicate = Iri::new(alloc, "a:p").ok()?;
+    Quad::new(
+        graph(graph_number),
+        node(0),
+        Term::Iri(predicate),
+        node(object),
+    )
+}
+
+// Whether the quad is new in the view.
+fn insert<D: Source>(
+    alloc: Global,
+    view: &mut Staged<'_, D>,
+    graph_number: u64,
+    object: u64,
+) -> Option<bool>
+    ensures { view.new.under ≡ view.old.under }
+{
+    let quad = quad(alloc, graph_number, object)?;
+    if view.next_blank() < 4 {
+        return None;
+    }
+    view.insert(quad).ok()
+}
+
+// Whether the quad was in the view.
+fn remove<D: Source>(
+    alloc: Global,
+    view: &mut Staged<'_, D>,
+    graph_number: u64,
+    object: u64,
+) -> Option<bool>
+    ensures { view.new.under ≡ view.old.under }
+{
+    let quad = quad(alloc, graph_number, object)?;
+    view.remove(&quad).ok()
+}
+
+fn has<D: Source>(alloc: Global, source: &D, graph_number: u64, object: u64) -> Option<bool> {
+    let quad = quad(alloc, graph_number, object)?;
+    Some(source.contains(&quad))
+}
+
+// The net of an insertion, and the dataset's state at its beginning.
+fn insertion(alloc: Global, dataset: &Dataset, graph_number: u64, object: u64) -> Option<Net>
+    ensures { IfSome result (λ net. Begins net dataset.now) }
+{
+    let mut view = Staged::over(alloc, dataset);
+    insert(alloc, &mut view, graph_number, object)?;
+    match view.into_net() {
+        Ok(net) => Some(net),
+        Err(_) => None,
+    }
+}
+
+// The dataset with one quad more.
+fn with_quad(alloc: Global, dataset: Dataset, graph_number: u64, object: u64) -> Option<Dataset> {
+    let mut dataset = dataset;
+    let net = insertion(alloc, &dataset, graph_number, object)?;
+    dataset.commit(&net).ok()?;
+    Some(dataset)
+}
+
+// The dataset of two quads in the default graph and one in a named one.
+fn three(alloc: Global) -> Option<Dataset> {
+    let none = Dataset::starting_at(alloc, 4);
+    let one = with_quad(alloc, none, 0, 1)?;
+    let two = with_quad(alloc, one, 0, 2)?;
+    with_quad(alloc, two, 3, 1)
+}
+
+#[test]
+fn new_datasets(rt: HostRuntime) {
+    let empty = Dataset::new(rt.alloc());
+    assert!(rt; empty.quads().is_empty() && empty.names_sorted().is_empty());
+    assert_eq!(rt; empty.next_blank(), 0);
+    assert_eq!(rt; Dataset::starting_at(rt.alloc(), 7).next_blank(), 7);
+}
+
+#[test]
+fn insert_twice(rt: HostRuntime) {
+    let alloc = rt.alloc();
+    let dataset = Dataset::starting_at(alloc, 4);
+    let mut view = Staged::over(alloc, &dataset);
+    assert!(rt; insert(alloc, &mut view, 3, 1) == Some(true));
+    assert!(rt; insert(alloc, &mut view, 3, 1) == Some(false));
+    assert!(rt; has(alloc, &view, 3, 1) == Some(true));
+    assert!(rt; has(alloc, &view, 0, 1) == Some(false));
+    assert!(rt; view.has_name(&Term::Blank(3)) && view.next_blank() == 4);
+    assert!(rt; has(alloc, &dataset, 3, 1) == Some(false));
+}
+
+#[test]
+fn remove_keeps_the_name(rt: HostRuntime) -> Result<(), Fail> {
+    let alloc = rt.alloc();
+    let dataset = three(alloc).ok_or("no memory")?;
+    let mut view = Staged::over(alloc, &dataset);
+    assert!(rt; remove(alloc, &mut view, 3, 1) == Some(true));
+    assert!(rt; remove(alloc, &mut view, 3, 1) == Some(false));
+    assert!(rt; has(alloc, &view, 3, 1) == Some(false));
+    assert!(rt; view.has_name(&Term::Blank(3)));
+    Ok(())
+}
+
+#[test]
+fn counters(rt: HostRuntime) {
+    let dataset = Dataset::starting_at(rt.alloc(), 999_999_999_999_999_999);
+    let mut view = Staged::over(rt.alloc(), &dataset);
+    assert!(rt; view.take_blanks(2).is_none());
+    assert!(rt; view.take_blanks(1) == Some(999_999_999_999_999_999));
+    assert_eq!(rt; view.next_blank(), 1_000_000_000_000_000_000);
+    assert!(rt; view.take_blanks(1).is_none());
+    assert!(rt; view.take_blanks(18_446_744_073_709_551_615).is_none());
+    assert!(rt; view.take_blanks(0) == Some(1_000_000_000_000_000_000));
+    assert_eq!(rt; dataset.next_blank(), 999_999_999_999_999_999);
+}
+
+// How many quads of the default graph are listed, and whether those with the two objects are.
+fn listed<D: Source>(
+    alloc: Global,
+    source: &D,
+    one: u64,
+    other: u64,
+) -> Option<(usize, bool, bool)> {
+    let mut found = Vec::new(alloc);
+    source
+        .matches(&GraphName::Default, None, None, None, &mut found)
+        .ok()?;
+    let (first, second) = (quad(alloc, 0, one)?, quad(alloc, 0, other)?);
+    let quads = found.as_slice();
+    Some((
+        quads.len(),
+        is_among(quads, &first),
+        is_among(quads, &second),
+    ))
+}
+
+fn is_among(quads: &[Quad], quad: &Quad) -> bool {
+    for other in quads {
+        if same_quad(other, quad) {
+            return true;
+        }
+    }
+    false
+}
+
+// A quad beneath is removed, another is inserted anew, and a third is new.
+#[test]
+fn matches_over_two_layers(rt: HostRuntime) -> Result<(), Fail> {
+    let alloc = rt.alloc();
+    let dataset = three(alloc).ok_or("no memory")?;
+    assert!(rt; listed(alloc, &dataset, 1, 2) == Some((2, true, true)));
+    let mut view = Staged::over(alloc, &dataset);
+    assert!(rt; remove(alloc, &mut view, 0, 1) == Some(true));
+    assert!(rt; insert(alloc, &mut view, 0, 2) == Some(false));
+    assert!(rt; insert(alloc, &mut view, 0, 3) == Some(true));
+    assert!(rt; listed(alloc, &view, 2, 3) == Some((2, true, true)));
+    assert!(rt; listed(alloc, &view, 1, 2) == Some((2, false, true)));
+    Ok(())
+}
+
+// How many quads with the object are listed, in the default graph.
+fn count_of_object<D: Source>(alloc: Global, source: &D, object: u64) -> Option<usize> {
+    let mut found = Vec::new(alloc);
+    let subject = node(0);
+    let object = node(object);
+    source
+        .matches(
+            &GraphName::Default,
+            Some(&subject),
+            None,
+            Some(&object),
+            &mut found,
+        )
+        .ok()?;
+    Some(found.len())
+}
+
+#[test]
+fn bound_places(rt: HostRuntime) -> Result<(), Fail> {
+    let dataset = three(rt.alloc()).ok_or("no memory")?;
+    assert!(rt; count_of_object(rt.alloc(), &dataset, 1) == Some(1));
+    assert!(rt; count_of_object(rt.alloc(), &dataset, 3) == Some(0));
+    Ok(())
+}
+
+#[test]
+fn commit_and_revert(rt: HostRuntime) -> Result<(), Fail> {
+    let alloc = rt.alloc();
+    let mut dataset = Dataset::starting_at(alloc, 4);
+    let net = insertion(alloc, &dataset, 3, 1).ok_or("no memory")?;
+    dataset.commit(&net)?;
+    assert!(rt; dataset.quads().len() == 1 && dataset.names_sorted().len() == 1);
+    assert!(rt; has(alloc, &dataset, 3, 1) == Some(true) && dataset.has_name(&Term::Blank(3)));
+    dataset.revert(&net)?;
+    assert!(rt; dataset.quads().is_empty() && dataset.names_sorted().is_empty());
+    Ok(())
+}
+
+#[test]
+fn there_and_back(rt: HostRuntime) -> Result<(), Fail> {
+    let alloc = rt.alloc();
+    let dataset = Dataset::starting_at(alloc, 4);
+    let there = insertion(alloc, &dataset, 3, 1).ok_or("no memory")?;
+    let back = insertion(alloc, &dataset, 3, 1)
+        .ok_or("no memory")?
+        .reversed();
+    assert!(rt; there.added().len() == 1 && there.names_added().len() == 1);
+    assert!(rt; back.removed().len() == 1 && back.names_removed().len() == 1);
+    let still = there.then(&back)?;
+    assert!(rt; still.added().is_empty() && still.removed().is_empty());
+    assert!(rt; still.names_added().is_empty() && still.names_removed().is_empty());
+    assert!(rt; still.before() == 4 && still.after() == 4);
+    Ok(())
+}
+
+#[test]
+fn empty_nets(rt: HostRuntime) {
+    let net = Net::empty(rt.alloc(), 9);
+    assert!(rt; net.added().is_empty() && net.names_removed().is_empty());
+    assert!(rt; net.before() == 9 && net.after() == 9);
+}
+
+// How many names there are, and whether the name is among them.
+fn named<D: Source>(alloc: Global, source: &D, name: &Term) -> Option<(usize, bool)> {
+    let mut names = Vec::new(alloc);
+    source.names(&mut names).ok()?;
+    Some((names.len(), names.as_slice().contains(name)))
+}
+
+#[test]
+fn view_over_a_view(rt: HostRuntime) -> Result<(), Fail> {
+    let alloc = rt.alloc();
+    let dataset = three(alloc).ok_or("no memory")?;
+    let mut lower = Staged::over(alloc, &dataset);
+    assert!(rt; remove(alloc, &mut lower, 3, 1) == Some(true));
+    assert!(rt; insert(alloc, &mut lower, 2, 1) == Some(true));
+    let mut upper = Staged::over(alloc, &lower);
+    assert!(rt; insert(alloc, &mut upper, 3, 1) == Some(true));
+    assert!(rt; remove(alloc, &mut upper, 2, 1) == Some(true));
+    assert!(rt; upper.take_blanks(2) == Some(4) && upper.next_blank() == 6);
+    assert!(rt; named(alloc, &upper, &Term::Blank(2)) == Some((2, true)));
+    assert!(rt; has(alloc, &lower, 2, 1) == Some(true) && lower.next_blank() == 4);
+    assert!(rt; has(alloc, &upper, 2, 1) == Some(false));
+    Ok(())
+}
+
+// What a name's adding, adding again, dropping and dropping again answer.
+fn of_a_name(alloc: Global) -> Result<(bool, bool, bool, bool), NoMemory> {
+    let dataset = Dataset::starting_at(alloc, 4);
+    let mut view = Staged::over(alloc, &dataset);
+    let added = view.add_name(Term::Blank(2))?;
+    let again = view.add_name(Term::Blank(2))?;
+    let dropped = view.drop_name(&Term::Blank(2))?;
+    let gone = view.drop_name(&Term::Blank(2))?;
+    Ok((added, again, dropped, gone))
+}
+
+#[test]
+fn names(rt: HostRuntime) {
+    assert!(rt; of_a_name(rt.alloc()) == Ok((true, false, true, false)));
+}

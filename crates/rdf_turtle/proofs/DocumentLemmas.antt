@@ -1,0 +1,344 @@
+-- A text says one thing: the quads of a document, or a fault.
+use Rattle.std.proofs.Common.{◌≡◌, ◌≢◌, zero, cond, ok_or, ◌<◌, ◌≤◌, ◌+◌, ◌⊎◌, inl, inr, ℕ, suc, Bool, true, false, List, [], ◌∷◌, ◌++◌, length, take, Option, Some, None, Result, Ok, Err, refl, sym, ap, subst, ◌∙◌, append_assoc, length-append, arith}
+use Rattle.std.proofs.lemmas.Bool.{cases_lt}
+use Rattle.std.proofs.lemmas.List.{append_cancel_left}
+use Rattle.std.proofs.lemmas.Str.{encodes-append, length-le-encodes}
+use Rattle.std.specs.List.{slice_get}
+use Rattle.std.specs.Str.{chars, encode_utf8_all, IsUtf8, IsValidUpTo}
+use Rattle.rdf_terms.specs.Reading.{byte_count}
+use Rattle.rdf_terms.specs.declared.quad.Quad.{Quad}
+use Rattle.rdf_turtle.specs.declared.fault.TurtleFault.{TurtleFault}
+use Rattle.rdf_turtle.specs.declared.fault.TurtleFaultKind.{TurtleFaultKind}
+use Rattle.rdf_turtle.specs.declared.fault.TurtleFaultKind.TheVariants as fault
+use Rattle.rdf_turtle.specs.declared.lexeme.Lexeme.{Lexeme}
+use Rattle.rdf_turtle.specs.declared.lexeme.Terminal.{Terminal}
+use Rattle.rdf_turtle.specs.declared.token.Token.{Token}
+use Rattle.rdf_turtle.specs.declared.tree.Statement.{Statement}
+use Rattle.rdf_turtle.specs.Document.{HasTokens, HasTree, IsDocument, FaultIs, IsFaulty, TellsFault}
+use Rattle.rdf_turtle.specs.DocumentLaws.{has_free_line, SameFault, OneDocument, NeverBoth, OneFault}
+use Rattle.rdf_turtle.specs.Grammar as grammar
+use Rattle.rdf_turtle.specs.Lexemes.{Stands, IsLexeme, AreLexemes, terminal_of}
+use Rattle.rdf_turtle.specs.Lines.{line_of}
+use Rattle.rdf_turtle.specs.Kept.{IsFaultOf}
+use Rattle.rdf_turtle.specs.Known.{declares_first}
+use Rattle.rdf_turtle.specs.Meaning.{answer, triples_of}
+use Rattle.rdf_turtle.specs.Nesting.{IsTooDeep, IsTooDeepAt, open_after, max_open}
+use Rattle.rdf_turtle.specs.Stops.{Explains}
+use Rattle.rdf_turtle.specs.Tokens.{Says}
+use Rattle.rdf_turtle.proofs.GrammarWhole.{document_unique}
+use Rattle.rdf_turtle.proofs.TokenLists.{one_token_list}
+
+-- ---- a byte's place cuts a text one way
+
+count_cons : (c : ℕ) (cs : List ℕ) → byte_count (c ∷ cs) ≡ byte_count (c ∷ []) + byte_count cs
+count_cons c cs = omega (arith, ap length (encodes-append (c ∷ []) cs), length-append (encode_utf8_all (c ∷ [])) (encode_utf8_all cs))
+
+count_positive : (c : ℕ) (cs : List ℕ) → 0 < byte_count (c ∷ cs)
+count_positive c cs = omega (arith, length-le-encodes (c ∷ cs))
+
+first_same : (c d : ℕ) (cs ds : List ℕ) → c ∷ cs ≡ d ∷ ds → c ≡ d
+first_same c d cs ds e = cc
+
+others_same : (c d : ℕ) (cs ds : List ℕ) → c ∷ cs ≡ d ∷ ds → cs ≡ ds
+others_same c d cs ds e = cc
+
+both_same : (c d : ℕ) (cs ds : List ℕ) → c ≡ d → cs ≡ ds → c ∷ cs ≡ d ∷ ds
+both_same c d cs ds e f = cc
+
+same_cut : (a b r s : List ℕ) → a ++ r ≡ b ++ s → byte_count a ≡ byte_count b → (a ≡ b) × (r ≡ s)
+same_cut [] [] r s e n = (refl, e)
+same_cut [] (d ∷ b) r s e n = absurd (omega (arith, n, count_positive d b))
+same_cut (c ∷ a) [] r s e n = absurd (omega (arith, n, count_positive c a))
+same_cut (c ∷ a) (d ∷ b) r s e n =
+    let first : c ≡ d = first_same c d (a ++ r) (b ++ s) e in
+    let one : byte_count (c ∷ []) ≡ byte_count (d ∷ []) = ap (λ (x : ℕ). byte_count (x ∷ [])) first in
+    let count : byte_count a ≡ byte_count b = omega (arith, n, count_cons c a, count_cons d b, one) in
+    let rest = same_cut a b r s (others_same c d (a ++ r) (b ++ s) e) count in
+    (both_same c d a b first rest.0, rest.1)
+
+-- ---- a text has one list of tokens, and one of lexemes
+
+one_slice : (text : List ℕ) (start stop : ℕ) (s t : List ℕ) → Stands text start stop s → Stands text start stop t → s ≡ t
+one_slice text start stop s t h k =
+    let front = same_cut h.0 k.0 (s ++ h.1) (t ++ k.1) (sym h.2 ∙ k.2) (sym h.3 ∙ k.3) in
+    let both = same_cut (h.0 ++ s) (k.0 ++ t) h.1 k.1 (append_assoc h.0 s h.1 ∙ sym h.2 ∙ k.2 ∙ sym (append_assoc k.0 t k.1)) (sym h.4 ∙ k.4) in
+    append_cancel_left h.0 s t (both.0 ∙ ap (λ (b : List ℕ). b ++ t) (sym front.0))
+
+parts_same : (x y : Terminal) (s t : List ℕ) (a b : Lexeme) → x ≡ y → s ≡ t → a ≡ record { terminal = x; text = s } → b ≡ record { terminal = y; text = t } → a ≡ b
+parts_same x y s t a b e f g h = cc
+
+one_lexeme : (text : List ℕ) (token : Token) (a b : Lexeme) → IsLexeme text token a → IsLexeme text token b → a ≡ b
+one_lexeme text token a b h k =
+    let slice : a.text ≡ b.text = one_slice text token.start token.stop a.text b.text h.0 k.0 in
+    parts_same a.terminal b.terminal a.text b.text a b (h.1 ∙ ap (λ (s : List ℕ). terminal_of token.kind s) slice ∙ sym k.1) slice refl refl
+
+lists_same : (a b : Lexeme) (ls ms : List Lexeme) → a ≡ b → ls ≡ ms → a ∷ ls ≡ b ∷ ms
+lists_same a b ls ms e f = cc
+
+one_lexemes : (text : List ℕ) (tokens : List Token) (ls ms : List Lexeme) → AreLexemes text tokens ls → AreLexemes text tokens ms → ls ≡ ms
+one_lexemes text [] [] [] h k = refl
+one_lexemes text [] [] (m ∷ ms) h k = absurd k
+one_lexemes text [] (l ∷ ls) ms h k = absurd h
+one_lexemes text (t ∷ ts) [] ms h k = absurd h
+one_lexemes text (t ∷ ts) (l ∷ ls) [] h k = absurd k
+one_lexemes text (t ∷ ts) (l ∷ ls) (m ∷ ms) h k = lists_same l m ls ms (one_lexeme text t l m h.0 k.0) (one_lexemes text ts ls ms h.1 k.1)
+
+ok_same : {A E : Type 0} (a b : A) → ◌≡◌ {A = Result A E} (Ok a) (Ok b) → a ≡ b
+ok_same a b e = cc
+
+err_same : {A E : Type 0} (a b : E) → ◌≡◌ {A = Result A E} (Err a) (Err b) → a ≡ b
+err_same a b e = cc
+
+ok_err : {A E : Type 0} (a : A) (b : E) → ◌≡◌ {A = Result A E} (Ok a) (Err b) → ⊥
+ok_err a b e = cc
+
+one_tokens : (text : List ℕ) (ts us : List Token) (ls ms : List Lexeme) → HasTokens text ts ls → HasTokens text us ms → (ts ≡ us) × (ls ≡ ms)
+one_tokens text ts us ls ms h k =
+    let e : ts ≡ us = ok_same ts us (one_token_list (chars text) (Ok ts) (Ok us) h.list k.list) in
+    (e, one_lexemes (chars text) us ls ms (subst (λ (x : List Token). AreLexemes (chars text) x ls) e h.pieces) k.pieces)
+
+one_tree : (text : List ℕ) (a b : List Statement) → HasTree text a → HasTree text b → a ≡ b
+one_tree text a b h k =
+    let e = one_tokens text h.tokens k.tokens h.lexemes k.lexemes h.list k.list in
+    document_unique h.lexemes a b h.reads (subst (λ (x : List Lexeme). grammar.IsDocument x b) (sym e.1) k.reads)
+
+same_answer : (base : Option (List ℕ)) (text : List ℕ) (a b : List Statement) → HasTree text a → HasTree text b → answer base a ≡ answer base b
+same_answer base text a b h k = ap (λ (x : List Statement). answer base x) (one_tree text a b h k)
+
+pub one_document : OneDocument
+one_document base text a b h k = ok_same a b (sym h.2 ∙ same_answer base text h.0 k.0 h.1 k.1 ∙ k.2)
+
+-- ---- what stands before a fault
+
+abbrev Listed : List ℕ → Type 0
+Listed text = (tokens : List Token) × (lexemes : List Lexeme) × HasTokens text tokens lexemes
+
+abbrev Shallow : List ℕ → Type 0
+Shallow text = (tokens : List Token) × (lexemes : List Lexeme) × HasTokens text tokens lexemes × ¬ (IsTooDeep lexemes)
+
+abbrev Read : List ℕ → Type 0
+Read text = (tree : List Statement) × HasTree text tree
+
+listed_tree : (text : List ℕ) → Read text → Listed text
+listed_tree text h = (h.1.tokens, h.1.lexemes, h.1.list)
+
+shallow_tree : (text : List ℕ) → Read text → Shallow text
+shallow_tree text h = (h.1.tokens, h.1.lexemes, h.1.list, h.1.shallow)
+
+no_token : (text : List ℕ) (place : ℕ) → Says (chars text) (Err place) → Listed text → ⊥
+no_token text place h k = ok_err k.0 place (one_token_list (chars text) (Ok k.0) (Err place) k.2.list h)
+
+deep : (lexemes : List Lexeme) (place : ℕ) → IsTooDeepAt lexemes place → IsTooDeep lexemes
+deep lexemes place h = (place + 1, omega (arith, h.over))
+
+not_shallow : (text : List ℕ) (tokens : List Token) (lexemes : List Lexeme) (place : ℕ) → HasTokens text tokens lexemes → IsTooDeepAt lexemes place → Shallow text → ⊥
+not_shallow text tokens lexemes place h d k =
+    k.3 (subst IsTooDeep (one_tokens text tokens k.0 lexemes k.1 h k.2).1 (deep lexemes place d))
+
+no_tree : (text : List ℕ) (tokens : List Token) (lexemes : List Lexeme) → HasTokens text tokens lexemes → ((tree : List Statement) → ¬ (grammar.IsDocument lexemes tree)) → Read text → ⊥
+no_tree text tokens lexemes h none k =
+    none k.0 (subst (λ (x : List Lexeme). grammar.IsDocument x k.0) (sym (one_tokens text tokens k.1.tokens lexemes k.1.lexemes h k.1.list).1) k.1.reads)
+
+no_answer : (base : Option (List ℕ)) (text : List ℕ) (quads : List Quad) (tree : List Statement) (kind : TurtleFaultKind) → IsDocument base text quads → HasTree text tree → answer base tree ≡ Err kind → ⊥
+no_answer base text quads tree kind h k e = ok_err quads kind (sym h.2 ∙ same_answer base text h.0 tree h.1 k ∙ e)
+
+clash : (base : Option (List ℕ)) (text : List ℕ) (a b : List Statement) (j k : TurtleFaultKind) → HasTree text a → HasTree text b → answer base a ≡ Err j → answer base b ≡ Err k → j ≡ k
+clash base text a b j k h i e f = err_same j k (sym e ∙ same_answer base text a b h i ∙ f)
+
+not_both : (base : Option (List ℕ)) (text : List ℕ) (quads : List Quad) (kind : TurtleFaultKind) (line : ℕ) → IsDocument base text quads → FaultIs base text kind line → ⊥
+not_both base text quads fault.NotUtf8 line h f = f.0 h.1.list.utf8
+not_both base text quads fault.Token line h f = no_token text f.1.0 f.1.1 (listed_tree text (h.0, h.1))
+not_both base text quads fault.TooDeep line h f = not_shallow text f.0 f.1 f.3 f.4 f.5 (shallow_tree text (h.0, h.1))
+not_both base text quads fault.Syntax line h f = no_tree text f.0 f.1 f.2 f.4 (h.0, h.1)
+not_both base text quads fault.UnknownPrefix line h f = no_answer base text quads f.0 fault.UnknownPrefix h f.1 f.2
+not_both base text quads fault.Relative line h f = no_answer base text quads f.0 fault.Relative h f.1 f.2
+not_both base text quads fault.NoMemory line h f = f
+
+pub never_both : NeverBoth
+never_both base text quads f h k = not_both base text quads f.kind f.line h k
+
+-- ---- a text has one fault
+
+front_place : (text : List ℕ) (m n : ℕ) → IsValidUpTo text m → IsValidUpTo text n → ¬ (m < n)
+front_place text m n h k lt = h.longest n lt k.front
+
+no_other : (m n : ℕ) → ¬ (m < n) → ¬ (n < m) → m ≡ n
+no_other m n a b = elim (cases_lt m n) [
+  | inl l ↦ absurd (a l)
+  | inr l ↦ elim (cases_lt n m) [
+    | inl k ↦ absurd (b k)
+    | inr k ↦ omega (arith, l, k)
+  ]
+]
+
+one_front : (text : List ℕ) (m n : ℕ) → IsValidUpTo text m → IsValidUpTo text n → m ≡ n
+one_front text m n h k = no_other m n (front_place text m n h k) (front_place text n m k h)
+
+opener_place : (lexemes : List Lexeme) (m n : ℕ) → IsTooDeepAt lexemes m → IsTooDeepAt lexemes n → ¬ (m < n)
+opener_place lexemes m n h k lt = omega (arith, h.over, k.first (m + 1) (omega (arith, lt)))
+
+one_opener : (lexemes : List Lexeme) (m n : ℕ) → IsTooDeepAt lexemes m → IsTooDeepAt lexemes n → m ≡ n
+one_opener lexemes m n h k = no_other m n (opener_place lexemes m n h k) (opener_place lexemes n m k h)
+
+some_same : (a b : Token) → Some a ≡ Some b → a ≡ b
+some_same a b e = cc
+
+same_opener : (text : List ℕ) (ts us : List Token) (ls ms : List Lexeme) (t u : Token) (m n : ℕ) → HasTokens text ts ls → HasTokens text us ms → IsTooDeepAt ls m → IsTooDeepAt ms n
+    → slice_get ts m ≡ Some t → slice_get us n ≡ Some u → t ≡ u
+same_opener text ts us ls ms t u m n h k d e p q =
+    let lists = one_tokens text ts us ls ms h k in
+    let place : m ≡ n = one_opener ms m n (subst (λ (x : List Lexeme). IsTooDeepAt x m) lists.1 d) e in
+    some_same t u (sym p ∙ ap (λ (x : List Token). slice_get x m) lists.0 ∙ ap (λ (x : ℕ). slice_get us x) place ∙ q)
+
+abbrev Same : TurtleFaultKind → TurtleFaultKind → ℕ → ℕ → Type 0
+Same j k m n = (j ≡ k) × ((has_free_line j ≡ false) → m ≡ n)
+
+clash_bool : (b : Bool) → b ≡ true → b ≡ false → ⊥
+clash_bool b e f = cc
+
+free : (k : TurtleFaultKind) (m n : ℕ) → has_free_line k ≡ true → Same k k m n
+free k m n e = (refl, λ f. absurd (clash_bool (has_free_line k) e f))
+
+other_kind : fault.UnknownPrefix ≡ fault.Relative → ⊥
+other_kind e = cc
+
+same_kind : (base : Option (List ℕ)) (text : List ℕ) (j k : TurtleFaultKind) (m n : ℕ) → FaultIs base text j m → FaultIs base text k n → Same j k m n
+same_kind base text fault.NotUtf8 fault.NotUtf8 m n h i = (refl, λ f. h.1.2 ∙ ap (line_of text) (one_front text h.1.0 i.1.0 h.1.1 i.1.1) ∙ sym i.1.2)
+same_kind base text fault.NotUtf8 fault.Token m n h i = absurd (h.0 i.0)
+same_kind base text fault.NotUtf8 fault.TooDeep m n h i = absurd (h.0 i.4.utf8)
+same_kind base text fault.NotUtf8 fault.Syntax m n h i = absurd (h.0 i.2.utf8)
+same_kind base text fault.NotUtf8 fault.UnknownPrefix m n h i = absurd (h.0 i.1.list.utf8)
+same_kind base text fault.NotUtf8 fault.Relative m n h i = absurd (h.0 i.1.list.utf8)
+same_kind base text fault.NotUtf8 fault.NoMemory m n h i = absurd i
+same_kind base text fault.Token fault.NotUtf8 m n h i = absurd (i.0 h.0)
+same_kind base text fault.Token fault.Token m n h i = (refl, λ f. h.1.2 ∙ ap (line_of text) (err_same h.1.0 i.1.0 (one_token_list (chars text) (Err h.1.0) (Err i.1.0) h.1.1 i.1.1)) ∙ sym i.1.2)
+same_kind base text fault.Token fault.TooDeep m n h i = absurd (no_token text h.1.0 h.1.1 (i.0, i.1, i.4))
+same_kind base text fault.Token fault.Syntax m n h i = absurd (no_token text h.1.0 h.1.1 (i.0, i.1, i.2))
+same_kind base text fault.Token fault.UnknownPrefix m n h i = absurd (no_token text h.1.0 h.1.1 (listed_tree text (i.0, i.1)))
+same_kind base text fault.Token fault.Relative m n h i = absurd (no_token text h.1.0 h.1.1 (listed_tree text (i.0, i.1)))
+same_kind base text fault.Token fault.NoMemory m n h i = absurd i
+same_kind base text fault.TooDeep fault.NotUtf8 m n h i = absurd (i.0 h.4.utf8)
+same_kind base text fault.TooDeep fault.Token m n h i = absurd (no_token text i.1.0 i.1.1 (h.0, h.1, h.4))
+same_kind base text fault.TooDeep fault.TooDeep m n h i = (refl, λ f. h.7 ∙ ap (λ (t : Token). line_of text t.start) (same_opener text h.0 i.0 h.1 i.1 h.2 i.2 h.3 i.3 h.4 i.4 h.5 i.5 h.6 i.6) ∙ sym i.7)
+same_kind base text fault.TooDeep fault.Syntax m n h i = absurd (not_shallow text h.0 h.1 h.3 h.4 h.5 (i.0, i.1, i.2, i.3))
+same_kind base text fault.TooDeep fault.UnknownPrefix m n h i = absurd (not_shallow text h.0 h.1 h.3 h.4 h.5 (shallow_tree text (i.0, i.1)))
+same_kind base text fault.TooDeep fault.Relative m n h i = absurd (not_shallow text h.0 h.1 h.3 h.4 h.5 (shallow_tree text (i.0, i.1)))
+same_kind base text fault.TooDeep fault.NoMemory m n h i = absurd i
+same_kind base text fault.Syntax fault.NotUtf8 m n h i = absurd (i.0 h.2.utf8)
+same_kind base text fault.Syntax fault.Token m n h i = absurd (no_token text i.1.0 i.1.1 (h.0, h.1, h.2))
+same_kind base text fault.Syntax fault.TooDeep m n h i = absurd (not_shallow text i.0 i.1 i.3 i.4 i.5 (h.0, h.1, h.2, h.3))
+same_kind base text fault.Syntax fault.Syntax m n h i = free fault.Syntax m n refl
+same_kind base text fault.Syntax fault.UnknownPrefix m n h i = absurd (no_tree text h.0 h.1 h.2 h.4 (i.0, i.1))
+same_kind base text fault.Syntax fault.Relative m n h i = absurd (no_tree text h.0 h.1 h.2 h.4 (i.0, i.1))
+same_kind base text fault.Syntax fault.NoMemory m n h i = absurd i
+same_kind base text fault.UnknownPrefix fault.NotUtf8 m n h i = absurd (i.0 h.1.list.utf8)
+same_kind base text fault.UnknownPrefix fault.Token m n h i = absurd (no_token text i.1.0 i.1.1 (listed_tree text (h.0, h.1)))
+same_kind base text fault.UnknownPrefix fault.TooDeep m n h i = absurd (not_shallow text i.0 i.1 i.3 i.4 i.5 (shallow_tree text (h.0, h.1)))
+same_kind base text fault.UnknownPrefix fault.Syntax m n h i = absurd (no_tree text i.0 i.1 i.2 i.4 (h.0, h.1))
+same_kind base text fault.UnknownPrefix fault.UnknownPrefix m n h i = free fault.UnknownPrefix m n refl
+same_kind base text fault.UnknownPrefix fault.Relative m n h i = absurd (other_kind (clash base text h.0 i.0 fault.UnknownPrefix fault.Relative h.1 i.1 h.2 i.2))
+same_kind base text fault.UnknownPrefix fault.NoMemory m n h i = absurd i
+same_kind base text fault.Relative fault.NotUtf8 m n h i = absurd (i.0 h.1.list.utf8)
+same_kind base text fault.Relative fault.Token m n h i = absurd (no_token text i.1.0 i.1.1 (listed_tree text (h.0, h.1)))
+same_kind base text fault.Relative fault.TooDeep m n h i = absurd (not_shallow text i.0 i.1 i.3 i.4 i.5 (shallow_tree text (h.0, h.1)))
+same_kind base text fault.Relative fault.Syntax m n h i = absurd (no_tree text i.0 i.1 i.2 i.4 (h.0, h.1))
+same_kind base text fault.Relative fault.UnknownPrefix m n h i = absurd (other_kind (clash base text i.0 h.0 fault.UnknownPrefix fault.Relative i.1 h.1 i.2 h.2))
+same_kind base text fault.Relative fault.Relative m n h i = free fault.Relative m n refl
+same_kind base text fault.Relative fault.NoMemory m n h i = absurd i
+same_kind base text fault.NoMemory k m n h i = absurd h
+
+pub one_fault : OneFault
+one_fault base text a b h k = same_kind base text a.kind b.kind a.line b.line h k
+
+-- ---- what a reader answers
+
+memory_tells : (base : Option (List ℕ)) (text : List ℕ) (f : TurtleFault) → f.kind ≡ fault.NoMemory → f.line ≡ 0 → TellsFault base text f f.kind
+memory_tells base text f e l = subst (λ (k : TurtleFaultKind). TellsFault base text f k) (sym e) l
+
+tells_at : (base : Option (List ℕ)) (text : List ℕ) (f : TurtleFault) (k : TurtleFaultKind) → FaultIs base text k f.line → IsFaulty base text f → TellsFault base text f k
+tells_at base text f fault.NotUtf8 h i = i
+tells_at base text f fault.Token h i = i
+tells_at base text f fault.TooDeep h i = i
+tells_at base text f fault.Syntax h i = i
+tells_at base text f fault.UnknownPrefix h i = i
+tells_at base text f fault.Relative h i = i
+tells_at base text f fault.NoMemory h i = absurd h
+
+fault_tells : (base : Option (List ℕ)) (text : List ℕ) (f : TurtleFault) (k : TurtleFaultKind) → f.kind ≡ k → FaultIs base text k f.line → TellsFault base text f f.kind
+fault_tells base text f k e h =
+    subst (λ (x : TurtleFaultKind). TellsFault base text f x) (sym e) (tells_at base text f k h (subst (λ (x : TurtleFaultKind). FaultIs base text x f.line) (sym e) h))
+
+same_lengths : (text : List ℕ) (ts : List Token) (ls : List Lexeme) → AreLexemes text ts ls → length ls ≡ length ts
+same_lengths text [] [] h = refl
+same_lengths text [] (l ∷ ls) h = absurd h
+same_lengths text (t ∷ ts) [] h = absurd h
+same_lengths text (t ∷ ts) (l ∷ ls) h = omega (arith, same_lengths text ts ls h.1)
+
+got : (xs : List Token) (n : ℕ) → n < length xs → (x : Token) × (slice_get xs n ≡ Some x)
+got [] n h = absurd (omega (arith, h))
+got (x ∷ xs) zero h = (x, refl)
+got (x ∷ xs) (suc n) h = got xs n (omega (arith, h))
+
+not_deep : ◌≡◌ {A = TurtleFaultKind} fault.Syntax fault.TooDeep → ⊥
+not_deep e = cc
+
+-- the parser's fault is the text's
+stop_is : (base : Option (List ℕ)) (text : List ℕ) (ts : List Token) (ls : List Lexeme) (k : TurtleFaultKind) (place start line : ℕ) → HasTokens text ts ls
+    → (IsTooDeep ls → k ≡ fault.TooDeep) → Explains ls k place → ((token : Token) → slice_get ts place ≡ Some token → start ≡ token.start)
+    → k ≢ fault.NoMemory → line ≡ line_of text start → FaultIs base text k line
+stop_is base text ts ls fault.TooDeep place start line h deep why at some l =
+    let found = got ts place (subst (λ (n : ℕ). place < n) (same_lengths (chars text) ts ls h.pieces) why.within) in
+    (ts, ls, found.0, place, h, why, found.1, l ∙ ap (line_of text) (at found.0 found.1))
+stop_is base text ts ls fault.Syntax place start line h deep why at some l = (ts, ls, h, λ d. not_deep (deep d), why)
+stop_is base text ts ls fault.NoMemory place start line h deep why at some l = absurd (some refl)
+stop_is base text ts ls fault.NotUtf8 place start line h deep why at some l = absurd why
+stop_is base text ts ls fault.Token place start line h deep why at some l = absurd why
+stop_is base text ts ls fault.UnknownPrefix place start line h deep why at some l = absurd why
+stop_is base text ts ls fault.Relative place start line h deep why at some l = absurd why
+
+same_or_not : (k : TurtleFaultKind) → (k ≡ fault.NoMemory) ⊎ (k ≢ fault.NoMemory)
+same_or_not fault.NoMemory = inl refl
+same_or_not fault.NotUtf8 = inr (λ e. cc)
+same_or_not fault.Token = inr (λ e. cc)
+same_or_not fault.TooDeep = inr (λ e. cc)
+same_or_not fault.Syntax = inr (λ e. cc)
+same_or_not fault.UnknownPrefix = inr (λ e. cc)
+same_or_not fault.Relative = inr (λ e. cc)
+
+pub stop_tells : (base : Option (List ℕ)) (text : List ℕ) (ts : List Token) (ls : List Lexeme) (k : TurtleFaultKind) (place start : ℕ) (f : TurtleFault) → HasTokens text ts ls
+    → (IsTooDeep ls → k ≡ fault.TooDeep) → Explains ls k place → ((token : Token) → slice_get ts place ≡ Some token → start ≡ token.start)
+    → f.kind ≡ k → (k ≢ fault.NoMemory → f.line ≡ line_of text start) → (k ≡ fault.NoMemory → f.line ≡ 0) → TellsFault base text f f.kind
+stop_tells base text ts ls k place start f h deep why at e l none = elim (same_or_not k) [
+  | inl m ↦ memory_tells base text f (e ∙ m) (none m)
+  | inr n ↦ fault_tells base text f k e (stop_is base text ts ls k place start f.line h deep why at n (l n))
+]
+
+-- the fault of the triples is the text's
+answer_kind : (b : Bool) (o : Option (List Quad)) (k : TurtleFaultKind) → ◌≡◌ {A = Result (List Quad) TurtleFaultKind} (cond b (ok_or o fault.Relative) (Err fault.UnknownPrefix)) (Err k)
+    → (k ≡ fault.UnknownPrefix) ⊎ (k ≡ fault.Relative)
+answer_kind true None k e = inr (err_same k fault.Relative (sym e))
+answer_kind true (Some x) k e = absurd (ok_err x k e)
+answer_kind false o k e = inl (err_same k fault.UnknownPrefix (sym e))
+
+name_is : (base : Option (List ℕ)) (text : List ℕ) (tree : List Statement) (k : TurtleFaultKind) (line : ℕ) → HasTree text tree → answer base tree ≡ Err k
+    → (k ≡ fault.UnknownPrefix) ⊎ (k ≡ fault.Relative) → FaultIs base text k line
+name_is base text tree k line h e (inl u) = subst (λ (x : TurtleFaultKind). FaultIs base text x line) (sym u) (tree, h, e ∙ ap (λ (x : TurtleFaultKind). Err x) u)
+name_is base text tree k line h e (inr r) = subst (λ (x : TurtleFaultKind). FaultIs base text x line) (sym r) (tree, h, e ∙ ap (λ (x : TurtleFaultKind). Err x) r)
+
+fault_of : (o : Result (List Quad) TurtleFaultKind) (k : TurtleFaultKind) → IsFaultOf o k → k ≢ fault.NoMemory → o ≡ Err k
+fault_of o fault.NoMemory h n = absurd (n refl)
+fault_of o fault.NotUtf8 h n = h
+fault_of o fault.Token h n = h
+fault_of o fault.TooDeep h n = h
+fault_of o fault.Syntax h n = h
+fault_of o fault.UnknownPrefix h n = h
+fault_of o fault.Relative h n = h
+
+pub name_tells : (base : Option (List ℕ)) (text : List ℕ) (tree : List Statement) (k : TurtleFaultKind) (start : ℕ) (f : TurtleFault) → HasTree text tree → IsFaultOf (answer base tree) k
+    → f.kind ≡ k → (k ≢ fault.NoMemory → f.line ≡ line_of text start) → (k ≡ fault.NoMemory → f.line ≡ 0) → TellsFault base text f f.kind
+name_tells base text tree k start f h is e l none = elim (same_or_not k) [
+  | inl m ↦ memory_tells base text f (e ∙ m) (none m)
+  | inr n ↦
+      let a : answer base tree ≡ Err k = fault_of (answer base tree) k is n in
+      fault_tells base text f k e (name_is base text tree k f.line h a (answer_kind (declares_first [] tree) (triples_of base tree) k a))
+]

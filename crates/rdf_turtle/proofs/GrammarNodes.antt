@@ -1,0 +1,358 @@
+-- Lists, brackets and nodes are read just as they are derived.
+use Rattle.std.proofs.Common.{◌≡◌, ℕ, zero, suc, ◌<◌, Bool, true, false, List, [], ◌∷◌, length, Option, Some, None, refl, ◌∙◌, ap, arith, inl, inr, ◌⊎◌}
+use Rattle.std.specs.Prelude.{option_to_list}
+use Rattle.rdf_turtle.specs.declared.lexeme.Terminal.{Terminal}
+use Rattle.rdf_turtle.specs.declared.lexeme.Terminal.TheVariants as terminal
+use Rattle.rdf_turtle.specs.declared.tree.Node.{Node}
+use Rattle.rdf_turtle.specs.declared.tree.Node.TheVariants as n
+use Rattle.rdf_turtle.specs.declared.tree.Property.{Property}
+use Rattle.rdf_turtle.specs.Steps as steps
+use Rattle.rdf_turtle.specs.Rules as rule
+use Rattle.rdf_turtle.specs.Rules.{Lexemes, Rule, sees, next_terminal}
+use Rattle.rdf_turtle.specs.Derivations as grammar
+use Rattle.rdf_turtle.specs.Derivations.{Derives, Then, Star, stop, more}
+use Rattle.rdf_turtle.specs.Reading as read
+use Rattle.rdf_turtle.specs.Grammar as g
+use Rattle.rdf_turtle.proofs.GrammarDecides.{Test, always, Decides, then_decides, pure_decides, the_decides, value_decides, repeat_decides}
+use Rattle.rdf_turtle.proofs.GrammarProductions.{behind, one_decides, starts_with, seq, last, the_terminal, value_terminal, terminal_seen, seen_terminal, also, unseen, maybe_decides, iri_terminal, iri_strict, iri_decides, verb_begins, verb_decides, ends_node, after_node, literal_decides, literal_strict, begins_literal, literal_begins}
+
+-- ---- what may follow
+
+abbrev pub closes_objects : Option Terminal → Bool
+closes_objects (Some terminal.Semicolon) = true
+closes_objects (Some terminal.Dot) = true
+closes_objects (Some terminal.CloseBracket) = true
+closes_objects _ = false
+
+abbrev pub closes_list : Option Terminal → Bool
+closes_list (Some terminal.Dot) = true
+closes_list (Some terminal.CloseBracket) = true
+closes_list _ = false
+
+abbrev pub ends_objects : Test
+ends_objects us = closes_objects (next_terminal us)
+
+abbrev pub ends_list : Test
+ends_list us = closes_list (next_terminal us)
+
+objects_node : (k : Option Terminal) → closes_objects k ≡ true → ends_node k ≡ true
+objects_node (Some terminal.Semicolon) h = refl
+objects_node (Some terminal.Dot) h = refl
+objects_node (Some terminal.CloseBracket) h = refl
+objects_node _ h = absurd (cc)
+
+list_objects : (k : Option Terminal) → closes_list k ≡ true → closes_objects k ≡ true
+list_objects (Some terminal.Dot) h = refl
+list_objects (Some terminal.CloseBracket) h = refl
+list_objects _ h = absurd (cc)
+
+objects_no_verb : (k : Option Terminal) → closes_objects k ≡ true → read.begins_verb k ≡ false
+objects_no_verb (Some terminal.Semicolon) h = refl
+objects_no_verb (Some terminal.Dot) h = refl
+objects_no_verb (Some terminal.CloseBracket) h = refl
+objects_no_verb _ h = absurd (cc)
+
+node_ends : (k : Option Terminal) → read.begins_node k ≡ true → ends_node k ≡ true
+node_ends (Some terminal.AtWord) h = absurd (cc)
+node_ends (Some terminal.AtPrefix) h = absurd (cc)
+node_ends (Some terminal.AtBase) h = absurd (cc)
+node_ends (Some terminal.Caret) h = absurd (cc)
+node_ends _ h = refl
+
+literal_no_subject : (k : Option Terminal) → begins_literal k ≡ true → read.begins_subject k ≡ false
+literal_no_subject (Some terminal.Text) h = refl
+literal_no_subject (Some terminal.Integer) h = refl
+literal_no_subject (Some terminal.Decimal) h = refl
+literal_no_subject (Some terminal.Double) h = refl
+literal_no_subject (Some terminal.True) h = refl
+literal_no_subject (Some terminal.False) h = refl
+literal_no_subject _ h = absurd (cc)
+
+subject_node : (k : Option Terminal) → read.begins_subject k ≡ true → read.begins_node k ≡ true
+subject_node (Some terminal.BlankLabel) h = refl
+subject_node (Some terminal.OpenBracket) h = refl
+subject_node (Some terminal.Open) h = refl
+subject_node (Some terminal.Iri) h = refl
+subject_node (Some terminal.Pname) h = refl
+subject_node _ h = absurd (cc)
+
+literal_node : (k : Option Terminal) → begins_literal k ≡ true → read.begins_node k ≡ true
+literal_node (Some terminal.Text) h = refl
+literal_node (Some terminal.Integer) h = refl
+literal_node (Some terminal.Decimal) h = refl
+literal_node (Some terminal.Double) h = refl
+literal_node (Some terminal.True) h = refl
+literal_node (Some terminal.False) h = refl
+literal_node _ h = absurd (cc)
+
+-- what begins with a lexeme of terminal k passes the tests that k passes
+seen_passes : (test : Option Terminal → Bool) (k : Terminal) → test (Some k) ≡ true → (us : Lexemes) → sees k us ≡ true → test (next_terminal us) ≡ true
+seen_passes test k h us s = rw (seen_terminal k us s) h
+
+-- ---- over a rule for nodes
+
+pub record IsNodeRule (node : Rule Node) (Node' : Derives Node) : Type 0 where
+  pub decides : Decides node Node' after_node
+  pub begins : (ts : Lexemes) (x : Node) (us : Lexemes) → Node' ts x us → read.sees_node ts ≡ true
+  pub strict : (ts : Lexemes) (x : Node) (us : Lexemes) → Node' ts x us → length us < length ts
+
+module _ (node : Rule Node) (Node' : Derives Node) (r : IsNodeRule node Node') where
+  comma_starts : (ts : Lexemes) (x : List Node) (us : Lexemes) → grammar.one (grammar.◌>>◌ (grammar.the terminal.Comma) Node') ts x us → (sees terminal.Comma ts ≡ true) × (length us < length ts)
+  comma_starts ts x us h = let s = starts_with terminal.Comma Node' node after_node r.decides ts h.first h.mid h.reads in (s.0, let l = s.1 in omega (arith, ap length h.goes.1))
+
+  commas_decide : Decides (rule.repeat (sees terminal.Comma) (rule.one (steps.◌>>◌ (rule.the terminal.Comma) node))) (Star (grammar.one (grammar.◌>>◌ (grammar.the terminal.Comma) Node'))) ends_objects
+  commas_decide = repeat_decides (sees terminal.Comma) _ _ after_node ends_objects (one_decides _ _ after_node (behind terminal.Comma node Node' after_node r.decides))
+      comma_starts (unseen closes_objects terminal.Comma refl) (λ us h. objects_node (next_terminal us) h) (seen_passes ends_node terminal.Comma refl)
+
+  commas_begin : (ts : Lexemes) (xs : List Node) (us : Lexemes) → Star (grammar.one (grammar.◌>>◌ (grammar.the terminal.Comma) Node')) ts xs us → ends_objects us ≡ true → after_node ts ≡ true
+  commas_begin ts xs us stop h = objects_node (next_terminal ts) h
+  commas_begin ts xs us (more {mid = mid} {x = x} q s) h = seen_passes ends_node terminal.Comma refl ts (comma_starts ts x mid q).0
+
+  objects_decide : Decides (read.objects node) (g.Objects Node') ends_objects
+  unfolding read.objects
+  objects_decide =
+      then_decides _ _ _ _ after_node ends_objects r.decides
+      (λ first. then_decides _ _ _ _ ends_objects ends_objects commas_decide (λ others. pure_decides (first ∷ others) ends_objects) (λ a mid b us h e. rw h.1 e))
+      (λ a mid b us h e. commas_begin mid h.first h.mid h.reads (rw h.goes.1 e))
+
+  property_decides : Decides (read.property node) (g.VerbObjects Node') ends_objects
+  unfolding read.property
+  property_decides =
+      seq _ _ _ _ ends_objects verb_decides (λ v. then_decides _ _ _ _ ends_objects ends_objects objects_decide (λ os. pure_decides (read.property_with v os) ends_objects) (λ a mid b us h e. rw h.1 e))
+
+  property_begins : (ts : Lexemes) (x : Property) (us : Lexemes) → g.VerbObjects Node' ts x us → read.sees_verb ts ≡ true
+  property_begins ts x us h = verb_begins ts h.first h.mid h.reads
+
+  some_property_decides : Decides (read.some_property node) (grammar.maybe (g.VerbObjects Node')) ends_objects
+  unfolding read.some_property
+  some_property_decides = maybe_decides read.sees_verb (read.property node) (g.VerbObjects Node') ends_objects ends_objects property_decides
+      property_begins (λ us h. objects_no_verb (next_terminal us) h) (λ us h. h)
+
+  abbrev Some_more : Derives (List Property)
+  Some_more = grammar.◌<$>◌ option_to_list (grammar.maybe (g.VerbObjects Node'))
+
+  some_more_decides : Decides (steps.◌<$>◌ option_to_list (read.some_property node)) Some_more ends_objects
+  some_more_decides = last option_to_list _ _ ends_objects some_property_decides
+
+  more_starts : (ts : Lexemes) (x : List Property) (us : Lexemes) → grammar.◌>>◌ (grammar.the terminal.Semicolon) Some_more ts x us → (sees terminal.Semicolon ts ≡ true) × (length us < length ts)
+  more_starts ts x us h = starts_with terminal.Semicolon Some_more _ ends_objects some_more_decides ts x us h
+
+  mores_decide : Decides (rule.repeat (sees terminal.Semicolon) (read.more node)) (Star (grammar.◌>>◌ (grammar.the terminal.Semicolon) Some_more)) ends_list
+  mores_decide = repeat_decides (sees terminal.Semicolon) _ _ ends_objects ends_list (behind terminal.Semicolon _ Some_more ends_objects some_more_decides)
+      more_starts (unseen closes_list terminal.Semicolon refl) (λ us h. list_objects (next_terminal us) h) (seen_passes closes_objects terminal.Semicolon refl)
+
+  mores_begin : (ts : Lexemes) (xs : List Property) (us : Lexemes) → Star (grammar.◌>>◌ (grammar.the terminal.Semicolon) Some_more) ts xs us → ends_list us ≡ true → ends_objects ts ≡ true
+  mores_begin ts xs us stop h = list_objects (next_terminal ts) h
+  mores_begin ts xs us (more {mid = mid} {x = x} q s) h = seen_passes closes_objects terminal.Semicolon refl ts (more_starts ts x mid q).0
+
+  pub pred_list_decides : Decides (read.pred_list node) (g.PredList Node') ends_list
+  unfolding read.pred_list
+  pred_list_decides =
+      then_decides _ _ _ _ ends_objects ends_list property_decides
+      (λ first. then_decides _ _ _ _ ends_list ends_list mores_decide (λ others. pure_decides (first ∷ others) ends_list) (λ a mid b us h e. rw h.1 e))
+      (λ a mid b us h e. mores_begin mid h.first h.mid h.reads (rw h.goes.1 e))
+
+  pred_list_begins : (ts : Lexemes) (x : List Property) (us : Lexemes) → g.PredList Node' ts x us → read.sees_verb ts ≡ true
+  pred_list_begins ts x us h = property_begins ts h.first h.mid h.reads
+
+  abbrev pub Some_pred_list : Derives (List Property)
+  Some_pred_list = grammar.◌<$>◌ read.all_of (grammar.maybe (g.PredList Node'))
+
+  pub some_pred_list_decides : Decides (read.some_pred_list node) Some_pred_list ends_list
+  unfolding read.some_pred_list
+  some_pred_list_decides = last read.all_of _ _ ends_list (maybe_decides read.sees_verb (read.pred_list node) (g.PredList Node') ends_list ends_list pred_list_decides
+      pred_list_begins (λ us h. objects_no_verb (next_terminal us) (list_objects (next_terminal us) h)) (λ us h. h))
+
+  -- "[" predList? "]"
+  abbrev pub Bracketed : Derives (List Property)
+  Bracketed = grammar.◌>>=◌ (grammar.the terminal.OpenBracket) (λ _. grammar.◌>>=◌ Some_pred_list (λ ps. grammar.◌>>=◌ (grammar.the terminal.CloseBracket) (λ _. grammar.pure ps)))
+
+  pub bracketed_decides : Decides (read.bracketed node) Bracketed always
+  unfolding read.bracketed
+  bracketed_decides =
+      seq _ _ _ _ always (the_decides terminal.OpenBracket) (λ _.
+      then_decides _ _ _ _ ends_list always some_pred_list_decides (λ ps. seq _ _ _ _ always (the_decides terminal.CloseBracket) (λ _. pure_decides ps always))
+      (λ a mid b us h e. let at = the_terminal terminal.CloseBracket mid h.mid h.first h.reads in rw at refl))
+
+  items_start : (ts : Lexemes) (x : List Node) (us : Lexemes) → grammar.one Node' ts x us → (read.sees_node ts ≡ true) × (length us < length ts)
+  items_start ts x us h = (r.begins ts h.first h.mid h.reads, let l = r.strict ts h.first h.mid h.reads in omega (arith, ap length h.goes.1))
+
+  close_no_node : (us : Lexemes) → sees terminal.Close us ≡ true → read.sees_node us ≡ false
+  close_no_node us s = rw (seen_terminal terminal.Close us s) refl
+
+  items_decide : Decides (rule.repeat read.sees_node (rule.one node)) (Star (grammar.one Node')) (sees terminal.Close)
+  items_decide = repeat_decides read.sees_node _ _ after_node (sees terminal.Close) (one_decides _ _ after_node r.decides)
+      items_start close_no_node (seen_passes ends_node terminal.Close refl) (λ us h. node_ends (next_terminal us) h)
+
+  collection_decides : Decides (read.collection node) (g.Collection Node') always
+  unfolding read.collection
+  collection_decides =
+      seq _ _ _ _ always (the_decides terminal.Open) (λ _.
+      then_decides _ _ _ _ (sees terminal.Close) always items_decide (λ items. seq _ _ _ _ always (the_decides terminal.Close) (λ _. pure_decides items always))
+      (λ a mid b us h e. terminal_seen terminal.Close mid (the_terminal terminal.Close mid h.mid h.first h.reads)))
+
+  -- ---- subjects
+
+  abbrev pub AnySubject : Derives Node
+  AnySubject = grammar.◌∣◌ (grammar.◌<$>◌ n.Name g.Iri) (grammar.◌∣◌ (grammar.◌<$>◌ n.Label (grammar.value terminal.BlankLabel)) (grammar.◌∣◌ (grammar.◌<$>◌ n.Blank Bracketed) (grammar.◌<$>◌ n.Collection (g.Collection Node'))))
+
+  named : Decides (steps.◌<$>◌ n.Name read.iri) (grammar.◌<$>◌ n.Name g.Iri) always
+  named = last n.Name _ _ always iri_decides
+
+  labelled : Decides (steps.◌<$>◌ n.Label (rule.value terminal.BlankLabel)) (grammar.◌<$>◌ n.Label (grammar.value terminal.BlankLabel)) always
+  labelled = last n.Label _ _ always (value_decides terminal.BlankLabel)
+
+  blank : Decides (steps.◌<$>◌ n.Blank (read.bracketed node)) (grammar.◌<$>◌ n.Blank Bracketed) always
+  blank = last n.Blank _ _ always bracketed_decides
+
+  listed : Decides (steps.◌<$>◌ n.Collection (read.collection node)) (grammar.◌<$>◌ n.Collection (g.Collection Node')) always
+  listed = last n.Collection _ _ always collection_decides
+
+  subject_sound : (k : Option Terminal) (ts : Lexemes) (x : Node) (us : Lexemes) → read.subject_by node k ts ≡ Some (x, us) → AnySubject ts x us
+  subject_sound (Some terminal.BlankLabel) ts x us h = inr (inl (labelled.sound ts x us h))
+  subject_sound (Some terminal.OpenBracket) ts x us h = inr (inr (inl (blank.sound ts x us h)))
+  subject_sound (Some terminal.Open) ts x us h = inr (inr (inr (listed.sound ts x us h)))
+  subject_sound _ ts x us h = inl (named.sound ts x us h)
+
+  subject_named : (ts : Lexemes) (x : Node) (us : Lexemes) → grammar.◌<$>◌ n.Name g.Iri ts x us → (next_terminal ts ≡ Some terminal.Iri) ⊎ (next_terminal ts ≡ Some terminal.Pname) → read.subject_by node (next_terminal ts) ts ≡ Some (x, us)
+  subject_named ts x us h (inl q) = rw q (named.complete ts x us h refl)
+  subject_named ts x us h (inr q) = rw q (named.complete ts x us h refl)
+
+  subject_complete : (ts : Lexemes) (x : Node) (us : Lexemes) → AnySubject ts x us → read.subject_by node (next_terminal ts) ts ≡ Some (x, us)
+  subject_complete ts x us (inl h) = subject_named ts x us h (iri_terminal ts h.first h.mid h.reads)
+  subject_complete ts x us (inr (inl h)) = rw (value_terminal terminal.BlankLabel ts h.mid h.first h.reads) (labelled.complete ts x us h refl)
+  subject_complete ts x us (inr (inr (inl h))) = rw (the_terminal terminal.OpenBracket ts h.reads.mid h.reads.first h.reads.reads) (blank.complete ts x us h refl)
+  subject_complete ts x us (inr (inr (inr h))) = rw (the_terminal terminal.Open ts h.reads.mid h.reads.first h.reads.reads) (listed.complete ts x us h refl)
+
+  iri_subject : (ts : Lexemes) → (next_terminal ts ≡ Some terminal.Iri) ⊎ (next_terminal ts ≡ Some terminal.Pname) → read.begins_subject (next_terminal ts) ≡ true
+  iri_subject ts (inl q) = rw q refl
+  iri_subject ts (inr q) = rw q refl
+
+  subject_begins : (ts : Lexemes) (x : Node) (us : Lexemes) → AnySubject ts x us → read.begins_subject (next_terminal ts) ≡ true
+  subject_begins ts x us (inl h) = iri_subject ts (iri_terminal ts h.first h.mid h.reads)
+  subject_begins ts x us (inr (inl h)) = rw (value_terminal terminal.BlankLabel ts h.mid h.first h.reads) refl
+  subject_begins ts x us (inr (inr (inl h))) = rw (the_terminal terminal.OpenBracket ts h.reads.mid h.reads.first h.reads.reads) refl
+  subject_begins ts x us (inr (inr (inr h))) = rw (the_terminal terminal.Open ts h.reads.mid h.reads.first h.reads.reads) refl
+
+  bracketed_strict : (ts : Lexemes) (x : List Property) (us : Lexemes) → Bracketed ts x us → length us < length ts
+  bracketed_strict ts x us h =
+      let a = some_pred_list_decides.shorter h.mid h.goes.first h.goes.mid h.goes.reads in
+      let z = h.goes.goes in
+      omega (arith, ap length h.reads.2, ap length z.reads.2, ap length z.goes.1)
+
+  collection_strict : (ts : Lexemes) (x : List Node) (us : Lexemes) → g.Collection Node' ts x us → length us < length ts
+  collection_strict ts x us h =
+      let a = items_decide.shorter h.mid h.goes.first h.goes.mid h.goes.reads in
+      let z = h.goes.goes in
+      omega (arith, ap length h.reads.2, ap length z.reads.2, ap length z.goes.1)
+
+  subject_strict : (ts : Lexemes) (x : Node) (us : Lexemes) → AnySubject ts x us → length us < length ts
+  subject_strict ts x us (inl h) = let e = iri_strict ts h.first h.mid h.reads in omega (arith, ap length h.goes.1)
+  subject_strict ts x us (inr (inl h)) = omega (arith, ap length h.reads.3, ap length h.goes.1)
+  subject_strict ts x us (inr (inr (inl h))) = let e = bracketed_strict ts h.first h.mid h.reads in omega (arith, ap length h.goes.1)
+  subject_strict ts x us (inr (inr (inr h))) = let e = collection_strict ts h.first h.mid h.reads in omega (arith, ap length h.goes.1)
+
+  pub subject_decides : Decides (read.subject node) AnySubject always
+  unfolding read.subject
+  subject_decides = record {
+    sound = λ ts x us h. subject_sound (next_terminal ts) ts x us h;
+    complete = λ ts x us h _. subject_complete ts x us h;
+    shorter = λ ts x us h. let e = subject_strict ts x us h in omega arith;
+  }
+
+  -- ---- objects
+
+  abbrev AnyObject : Derives Node
+  AnyObject = grammar.◌∣◌ AnySubject (grammar.◌<$>◌ n.Literal g.ALiteral)
+
+  literals : Decides (steps.◌<$>◌ n.Literal read.literal) (grammar.◌<$>◌ n.Literal g.ALiteral) after_node
+  literals = last n.Literal _ _ after_node literal_decides
+
+  object_sound : (b : Bool) (ts : Lexemes) (x : Node) (us : Lexemes) → read.object_by node b ts ≡ Some (x, us) → AnyObject ts x us
+  object_sound true ts x us h = inl (subject_decides.sound ts x us h)
+  object_sound false ts x us h = inr (literals.sound ts x us h)
+
+  object_complete : (ts : Lexemes) (x : Node) (us : Lexemes) → AnyObject ts x us → after_node us ≡ true → read.object_by node (read.begins_subject (next_terminal ts)) ts ≡ Some (x, us)
+  object_complete ts x us (inl h) e = rw (subject_begins ts x us h) (subject_decides.complete ts x us h refl)
+  object_complete ts x us (inr h) e = rw (literal_no_subject (next_terminal ts) (literal_begins ts h.first h.mid h.reads)) (literals.complete ts x us h e)
+
+  object_strict : (ts : Lexemes) (x : Node) (us : Lexemes) → AnyObject ts x us → length us < length ts
+  object_strict ts x us (inl h) = subject_strict ts x us h
+  object_strict ts x us (inr h) = let e = literal_strict ts h.first h.mid h.reads in omega (arith, ap length h.goes.1)
+
+  object_begins : (ts : Lexemes) (x : Node) (us : Lexemes) → AnyObject ts x us → read.sees_node ts ≡ true
+  object_begins ts x us (inl h) = subject_node (next_terminal ts) (subject_begins ts x us h)
+  object_begins ts x us (inr h) = literal_node (next_terminal ts) (literal_begins ts h.first h.mid h.reads)
+
+  any_decides : Decides (read.object node) AnyObject after_node
+  unfolding read.object
+  any_decides = record {
+    sound = λ ts x us h. object_sound (read.begins_subject (next_terminal ts)) ts x us h;
+    complete = object_complete;
+    shorter = λ ts x us h. let e = object_strict ts x us h in omega arith;
+  }
+
+  -- ---- "[" "]" and propList
+
+  pub bracketed_is : (ts : Lexemes) (ps : List Property) (us : Lexemes) → Bracketed ts ps us → (g.Anonymous Node' ts ps us) ⊎ (g.PropList Node' ts ps us)
+  bracketed_is ts ps us h = at h.goes.reads.first h.goes.reads.reads h.goes.reads.goes
+    where
+      at : (o : Option (List Property)) → grammar.maybe (g.PredList Node') h.mid o h.goes.reads.mid → grammar.pure (read.all_of o) h.goes.reads.mid h.goes.first h.goes.mid
+          → (g.Anonymous Node' ts ps us) ⊎ (g.PropList Node' ts ps us)
+      at None m e =
+          let z = h.goes.goes in
+          inl (record { first = tt; mid = h.mid; reads = h.reads; goes = record { first = tt; mid = z.mid; reads = rw (m ∙ e.1) z.reads; goes = (e.0 ∙ z.goes.0, z.goes.1) } })
+      at (Some qs) m e =
+          let z = h.goes.goes in
+          inr (record { first = tt; mid = h.mid; reads = h.reads; goes = record { first = qs; mid = h.goes.reads.mid; reads = m; goes = record { first = tt; mid = z.mid; reads = rw e.1 z.reads; goes = (e.0 ∙ z.goes.0, z.goes.1) } } })
+
+  pub anonymous_is : (ts : Lexemes) (ps : List Property) (us : Lexemes) → g.Anonymous Node' ts ps us → Bracketed ts ps us
+  anonymous_is ts ps us h = record {
+    first = tt;
+    mid = h.mid;
+    reads = h.reads;
+    goes = record { first = []; mid = h.mid; reads = record { first = None; mid = h.mid; reads = refl; goes = (refl, refl) }; goes = h.goes };
+  }
+
+  pub prop_list_is : (ts : Lexemes) (ps : List Property) (us : Lexemes) → g.PropList Node' ts ps us → Bracketed ts ps us
+  prop_list_is ts ps us h = record {
+    first = tt;
+    mid = h.mid;
+    reads = h.reads;
+    goes = record { first = h.goes.first; mid = h.goes.mid; reads = record { first = Some h.goes.first; mid = h.goes.mid; reads = h.goes.reads; goes = (refl, refl) }; goes = h.goes.goes };
+  }
+
+  blank_object : (ts : Lexemes) (x : Node) (us : Lexemes) (ps : List Property) (mid : Lexemes) → (g.Anonymous Node' ts ps mid) ⊎ (g.PropList Node' ts ps mid) → grammar.pure (n.Blank ps) mid x us → g.Object Node' ts x us
+  blank_object ts x us ps mid (inl a) e = inr (inl (inr (record { first = ps; mid = mid; reads = a; goes = e })))
+  blank_object ts x us ps mid (inr a) e = inr (inr (inr (inl (record { first = ps; mid = mid; reads = a; goes = e }))))
+
+  object_there : (ts : Lexemes) (x : Node) (us : Lexemes) → AnyObject ts x us → g.Object Node' ts x us
+  object_there ts x us (inl (inl h)) = inl h
+  object_there ts x us (inl (inr (inl h))) = inr (inl (inl h))
+  object_there ts x us (inl (inr (inr (inl h)))) = blank_object ts x us h.first h.mid (bracketed_is ts h.first h.mid h.reads) h.goes
+  object_there ts x us (inl (inr (inr (inr h)))) = inr (inr (inl h))
+  object_there ts x us (inr h) = inr (inr (inr (inr h)))
+
+  object_back : (ts : Lexemes) (x : Node) (us : Lexemes) → g.Object Node' ts x us → AnyObject ts x us
+  object_back ts x us (inl h) = inl (inl h)
+  object_back ts x us (inr (inl (inl h))) = inl (inr (inl h))
+  object_back ts x us (inr (inl (inr h))) = inl (inr (inr (inl (record { first = h.first; mid = h.mid; reads = anonymous_is ts h.first h.mid h.reads; goes = h.goes }))))
+  object_back ts x us (inr (inr (inl h))) = inl (inr (inr (inr h)))
+  object_back ts x us (inr (inr (inr (inl h)))) = inl (inr (inr (inl (record { first = h.first; mid = h.mid; reads = prop_list_is ts h.first h.mid h.reads; goes = h.goes }))))
+  object_back ts x us (inr (inr (inr (inr h)))) = inr h
+
+  pub object_rule : IsNodeRule (read.object node) (g.Object Node')
+  object_rule = record {
+    decides = also _ AnyObject (g.Object Node') after_node any_decides object_there object_back;
+    begins = λ ts x us h. object_begins ts x us (object_back ts x us h);
+    strict = λ ts x us h. object_strict ts x us (object_back ts x us h);
+  }
+
+pub node_rule : (depth : ℕ) → IsNodeRule (read.node depth) (g.Objects_at depth)
+unfolding read.node
+node_rule zero = record {
+  decides = record { sound = λ ts x us h. absurd (cc); complete = λ ts x us h _. absurd h; shorter = λ ts x us h. absurd h };
+  begins = λ ts x us h. absurd h;
+  strict = λ ts x us h. absurd h;
+}
+node_rule (suc depth) = object_rule (read.node depth) (g.Objects_at depth) (node_rule depth)

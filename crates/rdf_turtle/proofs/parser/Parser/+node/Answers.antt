@@ -1,0 +1,77 @@
+use Rattle.std.proofs.Common.{arith, sym}
+use Rattle.std.proofs.lemmas.Result.{err_from_is_err_and}
+use Rattle.rdf_turtle.specs.declared.lexeme.Terminal.TheVariants as terminal
+use Rattle.rdf_turtle.specs.Reading.{node, objects, pred_list}
+use Rattle.rdf_turtle.proofs.GrammarRepeats.{grown_starts, grown_on, grown_behind, grown_fails_behind, going_fails, fails_on, fails_first, fails_then, deeper}
+use Rattle.rdf_turtle.proofs.GrammarLists.{one_reads, node_seen, sees_some, more_reads, more_fails, none_pushed, one_pushed}
+use Rattle.rdf_turtle.proofs.parser.Parser.+node.Goals as goal
+
+-- ---- node
+
+pub node-returns-clause-reads : goal.node-returns-clause-reads
+unfolding node
+node-returns-clause-reads t c = rw (deeper (λ n. node n c.args.self.now) c.args.depth (omega arith)) c.object.ensures.reads
+
+-- ---- objects
+
+pub objects-loop-all-init : goal.objects-loop-all-init
+objects-loop-all-init t c = record { grown = grown_starts _ _ _ _; shorter = omega arith }
+
+pub objects-returns-in_err-node-2-clause-reads : goal.objects-returns-in_err-node-2-clause-reads
+unfolding objects
+objects-returns-in_err-node-2-clause-reads t c =
+    let seen = sym c.loop-all-test.ensures.found in
+    let p = err_from_is_err_and c.from_residual-in_err-node-2.result c.from_residual-in_err-node-2.ensures.1 in
+    rw (p.1, p.2) (fails_then _ _ _ _ _ c.in_ok-node.ensures.reads (fails_first _ _ _ (grown_fails_behind _ terminal.Comma _ _ _ c.loop-all.invariant.grown seen seen c.loop-all-test.ensures.left c.in_err-node-2.ensures.reads)))
+
+pub objects-loop-all-preserved : goal.objects-loop-all-preserved
+objects-loop-all-preserved t c =
+    let seen = sym c.loop-all-test.ensures.found in
+    record {
+      grown = grown_behind _ terminal.Comma _ _ _ _ _ c.loop-all.invariant.grown seen seen c.loop-all-test.ensures.left c.in_ok-node-2.ensures.reads (omega (arith, c.in_ok-node-2.ensures.shorter)) c.in_ok-push-2.ensures.ok;
+      shorter = omega (arith, c.in_ok-node-2.ensures.shorter, c.loop-all-test.ensures.shorter);
+    }
+
+-- ---- collection
+
+pub collection-loop-items-init : goal.collection-loop-items-init
+collection-loop-items-init t c = rw c.new-items.ensures record { grown = grown_starts _ _ _ _; shorter = omega arith }
+
+pub collection-loop-items-preserved : goal.collection-loop-items-preserved
+collection-loop-items-preserved t c =
+    let seen = node_seen c.loop-items.self c.peek.ensures c.loop-items-test.ensures in
+    record {
+      grown = grown_on _ _ _ c.loop-items.invariant.grown seen (one_reads (node c.args.depth) _ _ _ c.in_ok-node.ensures.reads) c.in_ok-node.ensures.shorter c.in_ok-push.ensures.ok;
+      shorter = omega (arith, c.in_ok-node.ensures.shorter);
+    }
+
+-- ---- predicate lists
+
+pub pred_list-loop-self-init : goal.pred_list-loop-self-init
+pred_list-loop-self-init t c = record { grown = grown_starts _ _ _ _; shorter = omega arith }
+
+pub pred_list-returns-in_err-property-2-clause-reads : goal.pred_list-returns-in_err-property-2-clause-reads
+unfolding pred_list
+pred_list-returns-in_err-property-2-clause-reads t c =
+    let seen = sym c.loop-self-test.ensures.found in
+    let p = err_from_is_err_and c.from_residual-in_err-property-2.result c.from_residual-in_err-property-2.ensures.1 in
+    rw (p.1, p.2) (fails_then _ _ _ _ _ c.in_ok-property.ensures.reads (fails_first _ _ _ (fails_on _ c.in_err-property-2.ensures.reads
+    (λ none. going_fails c.loop-self.invariant.grown.going (sees_some terminal.Semicolon _ seen) seen (more_fails (node c.args.depth) _ _ seen c.loop-self-test.ensures.left none)))))
+
+pub pred_list-loop-self-preserved-in_ok-push-2 : goal.pred_list-loop-self-preserved-in_ok-push-2
+pred_list-loop-self-preserved-in_ok-push-2 t c =
+    let seen = sym c.loop-self-test.ensures.found in
+    let read = more_reads (node c.args.depth) _ _ _ _ seen c.loop-self-test.ensures.left c.in_ok-property-2.ensures.reads in
+    record {
+      grown = grown_on _ _ _ c.loop-self.invariant.grown seen read (omega (arith, c.in_ok-property-2.ensures.shorter, c.loop-self-test.ensures.shorter)) (one_pushed _ _ _ _ c.in_ok-push-2.ensures.ok c.in-Some.is);
+      shorter = omega (arith, c.in_ok-property-2.ensures.shorter, c.loop-self-test.ensures.shorter);
+    }
+
+pub pred_list-loop-self-preserved : goal.pred_list-loop-self-preserved
+pred_list-loop-self-preserved t c =
+    let seen = sym c.loop-self-test.ensures.found in
+    let read = more_reads (node c.args.depth) _ _ _ _ seen c.loop-self-test.ensures.left c.in_ok-property-2.ensures.reads in
+    record {
+      grown = grown_on _ _ _ c.loop-self.invariant.grown seen read (omega (arith, c.in_ok-property-2.ensures.shorter, c.loop-self-test.ensures.shorter)) (none_pushed _ _ c.in_default.is);
+      shorter = omega (arith, c.in_ok-property-2.ensures.shorter, c.loop-self-test.ensures.shorter);
+    }

@@ -1,0 +1,161 @@
+-- The grammar of Turtle as it is written (Turtle 1.1, section 6.5, by the numbers of its rules), with no look at the next lexeme.
+use Rattle.std.specs.Prelude.{◌≡◌, ℕ, zero, suc, true, false, List, [], ◌∷◌, option_to_list}
+use Rattle.rdf_turtle.specs.declared.lexeme.Terminal.TheVariants as terminal
+use Rattle.rdf_turtle.specs.declared.lexeme.Lexeme.{Lexeme}
+use Rattle.rdf_turtle.specs.declared.tree.Name.{Name}
+use Rattle.rdf_turtle.specs.declared.tree.Name.TheVariants.{Full}
+use Rattle.rdf_turtle.specs.declared.tree.Verb.{Verb}
+use Rattle.rdf_turtle.specs.declared.tree.Verb.TheVariants as v
+use Rattle.rdf_turtle.specs.declared.tree.Literal.{Literal}
+use Rattle.rdf_turtle.specs.declared.tree.Literal.TheVariants as l
+use Rattle.rdf_turtle.specs.declared.tree.Node.{Node}
+use Rattle.rdf_turtle.specs.declared.tree.Node.TheVariants as n
+use Rattle.rdf_turtle.specs.declared.tree.Property.{Property}
+use Rattle.rdf_turtle.specs.declared.tree.Statement.{Statement}
+use Rattle.rdf_turtle.specs.declared.tree.Statement.TheVariants as s
+use Rattle.rdf_turtle.specs.Values.{prefix_part, local_part}
+use Rattle.rdf_turtle.specs.Rules.{Piece, Lexemes}
+use Rattle.rdf_turtle.specs.Reading.{prefixed, property_with, all_of}
+use Rattle.rdf_turtle.specs.Derivations.{Derives, ◌>>=◌, ◌>>◌, ◌<$>◌, ◌∣◌, pure, the, value, one, maybe, Star}
+
+-- 135s: iri = IRIREF | PrefixedName
+abbrev pub Iri : Derives Name
+Iri = (Full <$> value terminal.Iri) ∣ (prefixed <$> value terminal.Pname)
+
+-- 9: verb = predicate | "a", and 11: predicate = iri
+abbrev pub AVerb : Derives Verb
+AVerb = (v.Name <$> Iri) ∣ (the terminal.A >> pure v.Type)
+
+-- LANGTAG: at this place the words of directives are tags too
+abbrev pub Tag : Derives Piece
+Tag = value terminal.AtWord ∣ value terminal.AtPrefix ∣ value terminal.AtBase
+
+-- 128s: RDFLiteral = String ( LANGTAG | "^^" iri )?
+abbrev pub Suffix : Piece → Derives Literal
+Suffix form = (l.Tagged form <$> Tag) ∣ (the terminal.Caret >> l.Typed form <$> Iri) ∣ pure (l.Plain form)
+
+abbrev pub AText : Derives Literal
+AText = value terminal.Text >>= Suffix
+
+-- 13: literal = RDFLiteral | NumericLiteral | BooleanLiteral, 16: NumericLiteral = INTEGER | DECIMAL | DOUBLE, and 133s: BooleanLiteral = "true" | "false"
+abbrev pub ALiteral : Derives Literal
+ALiteral = AText ∣ (l.Integer <$> value terminal.Integer) ∣ (l.Decimal <$> value terminal.Decimal) ∣ (l.Double <$> value terminal.Double) ∣ (the terminal.True >> pure (l.Boolean true)) ∣ (the terminal.False >> pure (l.Boolean false))
+
+-- object is the grammar of what stands inside brackets
+module _ (object : Derives Node) where
+  -- 8: objectList = object ( "," object )*
+  abbrev pub Objects : Derives (List Node)
+  Objects = do
+    first ← object
+    others ← Star (one (the terminal.Comma >> object))
+    pure (first ∷ others)
+
+  -- verb objectList
+  abbrev pub VerbObjects : Derives Property
+  VerbObjects = do
+    verb ← AVerb
+    objects ← Objects
+    pure (property_with verb objects)
+
+  -- 7: predicateObjectList = verb objectList ( ";" ( verb objectList )? )*
+  abbrev pub PredList : Derives (List Property)
+  PredList = do
+    first ← VerbObjects
+    others ← Star (the terminal.Semicolon >> option_to_list <$> maybe VerbObjects)
+    pure (first ∷ others)
+
+  -- 162s: ANON = "[" "]"
+  abbrev pub Anonymous : Derives (List Property)
+  Anonymous = do
+    the terminal.OpenBracket
+    the terminal.CloseBracket
+    pure []
+
+  -- 14: blankNodePropertyList = "[" predicateObjectList "]"
+  abbrev pub PropList : Derives (List Property)
+  PropList = do
+    the terminal.OpenBracket
+    ps ← PredList
+    the terminal.CloseBracket
+    pure ps
+
+  -- 137s: BlankNode = BLANK_NODE_LABEL | ANON
+  abbrev pub Blank : Derives Node
+  Blank = (n.Label <$> value terminal.BlankLabel) ∣ (n.Blank <$> Anonymous)
+
+  -- 15: collection = "(" object* ")"
+  abbrev pub Collection : Derives (List Node)
+  Collection = do
+    the terminal.Open
+    items ← Star (one object)
+    the terminal.Close
+    pure items
+
+  -- 10: subject = iri | BlankNode | collection
+  abbrev pub Subject : Derives Node
+  Subject = (n.Name <$> Iri) ∣ Blank ∣ (n.Collection <$> Collection)
+
+  -- 12: object = iri | BlankNode | collection | blankNodePropertyList | literal
+  abbrev pub Object : Derives Node
+  Object = (n.Name <$> Iri) ∣ Blank ∣ (n.Collection <$> Collection) ∣ (n.Blank <$> PropList) ∣ (n.Literal <$> ALiteral)
+
+-- An object whose brackets nest less than so deep.
+abbrev pub Objects_at : ℕ → Derives Node
+Objects_at zero ts x us = ⊥
+Objects_at (suc depth) ts x us = Object (Objects_at depth) ts x us
+
+-- 139s: PNAME_NS, a prefixed name of which the local part is empty
+abbrev pub Namespace : Derives Piece
+Namespace ts v us = (t : Lexeme) × (t.terminal ≡ terminal.Pname) × (local_part t.text ≡ []) × (prefix_part t.text ≡ v) × (ts ≡ t ∷ us)
+
+-- PNAME_NS IRIREF
+abbrev pub Binding : Derives Statement
+Binding = do
+  prefix ← Namespace
+  reference ← value terminal.Iri
+  pure (s.Prefix prefix reference)
+
+-- IRIREF
+abbrev pub Base : Derives Statement
+Base = s.Base <$> value terminal.Iri
+
+-- something, and a dot behind it
+abbrev pub Dotted : {A : Type 0} → Derives A → Derives A
+Dotted P = do
+  x ← P
+  the terminal.Dot
+  pure x
+
+-- 3: directive = prefixID | base | sparqlPrefix | sparqlBase, 4: prefixID = "@prefix" PNAME_NS IRIREF ".", 5: base = "@base" IRIREF ".",
+-- 6s: sparqlPrefix = "PREFIX" PNAME_NS IRIREF, and 5s: sparqlBase = "BASE" IRIREF
+abbrev pub Directive : Derives Statement
+Directive = (the terminal.AtPrefix >> Dotted Binding) ∣ (the terminal.AtBase >> Dotted Base) ∣ (the terminal.Prefix >> Binding) ∣ (the terminal.Base >> Base)
+
+module _ (inner object : Derives Node) where
+  -- 6: triples = subject predicateObjectList | blankNodePropertyList predicateObjectList?
+  abbrev pub About : Derives Statement
+  About = do
+    subject ← Subject inner
+    ps ← PredList object
+    pure (s.Triples subject ps)
+
+  abbrev pub AboutBlank : Derives Statement
+  AboutBlank = do
+    inside ← PropList inner
+    ps ← maybe (PredList object)
+    pure (s.Triples (n.Blank inside) (all_of ps))
+
+  abbrev pub Triples : Derives Statement
+  Triples = About ∣ AboutBlank
+
+  -- 2: statement = directive | triples "."
+  abbrev pub AStatement : Derives Statement
+  AStatement = Directive ∣ Dotted Triples
+
+-- 1: turtleDoc = statement*
+abbrev pub Document : ℕ → Derives (List Statement)
+Document depth = Star (one (AStatement (Objects_at depth) (Objects_at (suc depth))))
+
+-- All of the lexemes are this document.
+abbrev pub IsDocument : Lexemes → List Statement → Type 0
+IsDocument ts ss = (depth : ℕ) × Document depth ts ss []

@@ -1,0 +1,112 @@
+-- The pieces of the text that stand in a tree, and the lexemes that they are.
+use Rattle.std.specs.Prelude.{◌≡◌, List, [], ◌∷◌, ◌++◌, map}
+use Rattle.std.specs.List.{AllByRecursion}
+use Rattle.rdf_turtle.specs.declared.lexeme.Terminal.{Terminal}
+use Rattle.rdf_turtle.specs.declared.lexeme.Terminal.TheVariants as terminal
+use Rattle.rdf_turtle.specs.declared.lexeme.Lexeme.{Lexeme}
+use Rattle.rdf_turtle.specs.declared.tree.Name.{Name}
+use Rattle.rdf_turtle.specs.declared.tree.Name.TheVariants.{Full, Prefixed}
+use Rattle.rdf_turtle.specs.declared.tree.Verb.{Verb}
+use Rattle.rdf_turtle.specs.declared.tree.Verb.TheVariants as v
+use Rattle.rdf_turtle.specs.declared.tree.Literal.{Literal}
+use Rattle.rdf_turtle.specs.declared.tree.Literal.TheVariants as l
+use Rattle.rdf_turtle.specs.declared.tree.Node.{Node}
+use Rattle.rdf_turtle.specs.declared.tree.Node.TheVariants as n
+use Rattle.rdf_turtle.specs.declared.tree.Node.TheOpen.{Node-F, Property-F}
+use Rattle.rdf_turtle.specs.declared.tree.Node.TheFolds.{fold-Node, fold-Property}
+use Rattle.rdf_turtle.specs.declared.tree.Property.{Property}
+use Rattle.rdf_turtle.specs.declared.tree.Statement.{Statement}
+use Rattle.rdf_turtle.specs.declared.tree.Statement.TheVariants as s
+use Rattle.rdf_turtle.specs.Values.{prefix_part, local_part}
+use Rattle.rdf_turtle.specs.Rules.{Piece, Lexemes}
+use Rattle.rdf_turtle.specs.Grammar.{IsDocument}
+
+-- a terminal, and the pieces of a lexeme of it: of a Pname its prefix and its local part
+abbrev pub Leaf : Type 0
+Leaf = Terminal × List Piece
+
+abbrev pub leaf : Terminal → Piece → Leaf
+leaf k text = (k, text ∷ [])
+
+-- behind a text each word with an at sign is a tag
+abbrev pub leaf_by : Terminal → Piece → Leaf
+leaf_by terminal.Pname text = (terminal.Pname, prefix_part text ∷ local_part text ∷ [])
+leaf_by terminal.AtPrefix text = leaf terminal.AtWord text
+leaf_by terminal.AtBase text = leaf terminal.AtWord text
+leaf_by k text = leaf k text
+
+-- one of the lexemes is this leaf
+pub record Stands (ts : Lexemes) (x : Leaf) : Type 0 where
+  pub front : Lexemes
+  pub lexeme : Lexeme
+  pub behind : Lexemes
+  pub place : ts ≡ front ++ lexeme ∷ behind
+  pub is : leaf_by lexeme.terminal lexeme.text ≡ x
+
+abbrev pub AllStand : Lexemes → List Leaf → Type 0
+AllStand ts leaves = AllByRecursion (Stands ts) leaves
+
+abbrev pub joined : List (List Leaf) → List Leaf
+joined [] = []
+joined (x ∷ xs) = x ++ joined xs
+
+abbrev pub name_leaves : Name → List Leaf
+name_leaves (Full reference) = leaf terminal.Iri reference ∷ []
+name_leaves (Prefixed prefix local) = (terminal.Pname, prefix ∷ local ∷ []) ∷ []
+
+abbrev pub verb_leaves : Verb → List Leaf
+verb_leaves (v.Name name) = name_leaves name
+verb_leaves v.Type = []
+
+abbrev pub literal_leaves : Literal → List Leaf
+literal_leaves (l.Plain form) = leaf terminal.Text form ∷ []
+literal_leaves (l.Tagged form tag) = leaf terminal.Text form ∷ leaf terminal.AtWord tag ∷ []
+literal_leaves (l.Typed form datatype) = leaf terminal.Text form ∷ name_leaves datatype
+literal_leaves (l.Integer form) = leaf terminal.Integer form ∷ []
+literal_leaves (l.Decimal form) = leaf terminal.Decimal form ∷ []
+literal_leaves (l.Double form) = leaf terminal.Double form ∷ []
+literal_leaves (l.Boolean value) = []
+
+abbrev pub property_leaves_of : Property-F (List Leaf) (List Leaf) → List Leaf
+property_leaves_of p = verb_leaves p.verb ++ joined p.objects
+
+abbrev pub node_leaves_of : Node-F (List Leaf) (List Leaf) → List Leaf
+node_leaves_of (Node-F.Name name) = name_leaves name
+node_leaves_of (Node-F.Label label) = leaf terminal.BlankLabel label ∷ []
+node_leaves_of (Node-F.Blank properties) = joined properties
+node_leaves_of (Node-F.Collection items) = joined items
+node_leaves_of (Node-F.Literal literal) = literal_leaves literal
+
+abbrev pub node_leaves : Node → List Leaf
+node_leaves = fold-Node (List Leaf) (List Leaf) node_leaves_of property_leaves_of
+
+abbrev pub property_leaves : Property → List Leaf
+property_leaves = fold-Property (List Leaf) (List Leaf) node_leaves_of property_leaves_of
+
+abbrev pub statement_leaves : Statement → List Leaf
+statement_leaves (s.Prefix prefix reference) = (terminal.Pname, prefix ∷ [] ∷ []) ∷ leaf terminal.Iri reference ∷ []
+statement_leaves (s.Base reference) = leaf terminal.Iri reference ∷ []
+statement_leaves (s.Triples subject properties) = node_leaves subject ++ joined (map property_leaves properties)
+
+abbrev pub document_leaves : List Statement → List Leaf
+document_leaves document = joined (map statement_leaves document)
+
+-- a literal is no subject
+abbrev pub IsSubject : Node → Type 0
+IsSubject (n.Literal literal) = ⊥
+IsSubject _ = Unit {0}
+
+abbrev pub HasSubject : Statement → Type 0
+HasSubject (s.Triples subject properties) = IsSubject subject
+HasSubject _ = Unit {0}
+
+-- ---- laws
+
+abbrev pub OneDocument : Type 0
+OneDocument = (ts : Lexemes) (one other : List Statement) → IsDocument ts one → IsDocument ts other → one ≡ other
+
+abbrev pub DocumentsHaveSubjects : Type 0
+DocumentsHaveSubjects = (ts : Lexemes) (document : List Statement) → IsDocument ts document → AllByRecursion HasSubject document
+
+abbrev pub LeavesAreLexemes : Type 0
+LeavesAreLexemes = (ts : Lexemes) (document : List Statement) → IsDocument ts document → AllStand ts (document_leaves document)

@@ -1,0 +1,168 @@
+-- The triples of a document: the tree is gone through as it stands in the text (Turtle 1.1, section 7.2 and 7.3).
+use Rattle.std.specs.Prelude.{ℕ, Bool, true, false, List, [], ◌∷◌, ◌++◌, Option, None, map, Result, Err, if◌then◌else◌, ok_or, option_and_then}
+use Rattle.std.specs.Option.{option_map}
+use Rattle.std.specs.Map.{lookup}
+use Rattle.std.specs.Str.{encode_utf8_all}
+use Rattle.rdf_terms.specs.Literal.{xsd_string, is_tag, tagged}
+use Rattle.rdf_terms.specs.Quad.{QuadParts}
+use Rattle.rdf_terms.specs.declared.term.Term.{Term}
+use Rattle.rdf_terms.specs.declared.term.Term.TheVariants as t
+use Rattle.rdf_turtle.specs.declared.tree.Name.{Name}
+use Rattle.rdf_turtle.specs.declared.tree.Name.TheVariants.{Full, Prefixed}
+use Rattle.rdf_turtle.specs.declared.tree.Verb.{Verb}
+use Rattle.rdf_turtle.specs.declared.tree.Verb.TheVariants as v
+use Rattle.rdf_turtle.specs.declared.tree.Literal.{Literal}
+use Rattle.rdf_turtle.specs.declared.tree.Literal.TheVariants as l
+use Rattle.rdf_turtle.specs.declared.tree.Node.{Node}
+use Rattle.rdf_turtle.specs.declared.tree.Node.TheOpen.{Node-F, Property-F}
+use Rattle.rdf_turtle.specs.declared.tree.Node.TheFolds.{fold-Node, fold-Property}
+use Rattle.rdf_turtle.specs.declared.tree.Property.{Property}
+use Rattle.rdf_turtle.specs.declared.tree.Statement.{Statement}
+use Rattle.rdf_turtle.specs.declared.tree.Statement.TheVariants as s
+use Rattle.rdf_turtle.specs.declared.fault.TurtleFaultKind.{TurtleFaultKind}
+use Rattle.rdf_turtle.specs.declared.fault.TurtleFaultKind.TheVariants.{UnknownPrefix, Relative}
+use Rattle.rdf_turtle.specs.Known.{declares_first}
+use Rattle.rdf_turtle.specs.References.{resolve, iri_text}
+use Rattle.rdf_turtle.specs.Values.{iri_value, text_value, local_value, tag_value}
+use Rattle.rdf_turtle.specs.Vocabulary.{rdf_type, rdf_first, rdf_rest, rdf_nil, xsd_integer, xsd_decimal, xsd_double, xsd_boolean, boolean_text}
+use Rattle.rdf_turtle.specs.Steps.{◌>>=◌, ◌>>◌, ◌<$>◌, pure, none, each}
+use Rattle.rdf_turtle.specs.State.{State, Does, key_of, same_key, start, fresh, labelled, says, declares, moves_base}
+
+-- a value that may be missing
+abbrev pub known : {A : Type 0} → (State → Option A) → Does A
+known f = λ s. option_map (λ a. (a, s)) (f s)
+
+-- ---- IRIs and literals
+
+-- a reference, resolved against the base in force (Turtle 1.1, section 6.3)
+unfoldable pub resolved : List ℕ → Does (List ℕ)
+resolved reference = known (λ s. resolve s.base (iri_value reference))
+
+-- a reference, or what the prefix stands for, followed by the local part (Turtle 1.1, section 2.4)
+abbrev pub iri_of : Name → State → Option (List ℕ)
+iri_of (Full reference) = λ s. resolve s.base (iri_value reference)
+iri_of (Prefixed prefix local) = λ s. option_and_then (λ i. iri_text (i ++ local_value local)) (lookup (same_key (key_of prefix)) s.prefixes)
+
+unfoldable pub iri : Name → Does (List ℕ)
+iri name = known (iri_of name)
+
+-- `a` is rdf:type (Turtle 1.1, section 2.4)
+unfoldable pub verb : Verb → Does (List ℕ)
+verb (v.Name name) = iri name
+verb v.Type = pure rdf_type
+
+abbrev pub untagged : List ℕ → List ℕ → Term
+untagged lexical datatype = t.Literal (record { lexical = lexical; datatype = datatype; tag = None })
+
+-- numbers keep their text (Turtle 1.1, section 2.5)
+unfoldable pub literal : Literal → Does Term
+literal (l.Plain text) = pure (untagged (text_value text) xsd_string)
+literal (l.Tagged text tag) =
+    if is_tag (tag_value tag) then pure (t.Literal (tagged (text_value text) (tag_value tag))) else none
+literal (l.Typed text name) = untagged (text_value text) <$> iri name
+literal (l.Integer text) = pure (untagged (encode_utf8_all text) xsd_integer)
+literal (l.Decimal text) = pure (untagged (encode_utf8_all text) xsd_decimal)
+literal (l.Double text) = pure (untagged (encode_utf8_all text) xsd_double)
+literal (l.Boolean value) = pure (untagged (boolean_text value) xsd_boolean)
+
+-- ---- nodes
+
+-- A node stands for a term, and then says the triples inside it. Some may be a statement alone.
+pub record Meaning : Type 0 where
+  pub term : Does Term
+  pub inside : Term → Does (Unit {0})
+  pub alone : Bool
+
+abbrev pub only : Does Term → Meaning
+only term = record { term = term; inside = λ _. pure tt; alone = false }
+
+-- for an object the triple itself, then those inside the object
+unfoldable pub object : Term → List ℕ → Meaning → Does (Unit {0})
+object subject predicate x = do
+  o ← x.term
+  says subject predicate o
+  x.inside o
+
+-- a verb has one object or more
+abbrev pub objects : Term → List ℕ → List Meaning → Does (Unit {0})
+objects subject predicate [] = none
+objects subject predicate (x ∷ xs) = each (object subject predicate) (x ∷ xs)
+
+-- behind a cell its rdf:rest: rdf:nil, or the next cell, which has its rdf:first and those inside the element
+-- (Turtle 1.1, section 2.8)
+abbrev pub behind : Term → List Meaning → Does (Unit {0})
+behind cell [] = says cell rdf_rest (t.Iri rdf_nil)
+behind cell (x ∷ xs) = do
+  next ← fresh
+  says cell rdf_rest next
+  object next rdf_first x
+  behind next xs
+
+-- rdf:nil, or a first cell with the triples of the list
+abbrev pub list_term : List Meaning → Does Term
+list_term [] = pure (t.Iri rdf_nil)
+list_term (x ∷ xs) = fresh
+
+abbrev pub list_inside : List Meaning → Term → Does (Unit {0})
+list_inside [] cell = pure tt
+list_inside (x ∷ xs) cell = object cell rdf_first x >> behind cell xs
+
+abbrev pub collection : List Meaning → Meaning
+collection xs = record { term = list_term xs; inside = list_inside xs; alone = false }
+
+-- what a verb and its objects say of a subject
+abbrev pub Says : Type 0
+Says = Term → Does (Unit {0})
+
+abbrev pub property_of : Property-F Meaning Says → Says
+property_of p = λ subject. verb p.verb >>= (λ predicate. objects subject predicate p.objects)
+
+abbrev pub is_some_property : List Says → Bool
+is_some_property [] = false
+is_some_property (p ∷ ps) = true
+
+abbrev pub node_of : Node-F Meaning Says → Meaning
+node_of (Node-F.Name name) = only (t.Iri <$> iri name)
+node_of (Node-F.Label label) = only (labelled (key_of label))
+node_of (Node-F.Blank properties) = record { term = fresh; inside = λ blank. each (λ p. p blank) properties; alone = is_some_property properties }
+node_of (Node-F.Collection items) = collection items
+node_of (Node-F.Literal l) = only (literal l)
+
+abbrev pub meaning : Node → Meaning
+meaning = fold-Node Meaning Says node_of property_of
+
+abbrev pub property : Property → Says
+property = fold-Property Meaning Says node_of property_of
+
+abbrev pub properties : Term → List Property → Does (Unit {0})
+properties subject ps = each (λ p. p subject) (map property ps)
+
+-- ---- statements
+
+-- a subject has properties, behind it or inside its brackets
+abbrev pub has_properties : Bool → List Property → Bool
+has_properties alone [] = alone
+has_properties alone (p ∷ ps) = true
+
+-- a directive, or the triples inside the subject, then those of its properties
+unfoldable pub statement : Statement → Does (Unit {0})
+statement (s.Prefix prefix reference) = resolved reference >>= declares (key_of prefix)
+statement (s.Base reference) = resolved reference >>= moves_base
+statement (s.Triples node ps) =
+    if has_properties (meaning node).alone ps
+    then (do
+      subject ← (meaning node).term
+      (meaning node).inside subject
+      properties subject ps)
+    else none
+
+abbrev pub document : List Statement → Does (Unit {0})
+document ss = each (λ f. f) (map statement ss)
+
+-- the triples of a document, in order; none where something has no meaning
+unfoldable pub triples_of : Option (List ℕ) → List Statement → Option (List QuadParts)
+triples_of base ss = option_map (λ p. (p.1).quads) (document ss (start base))
+
+-- what is answered to a document: its triples, or the first fault, UnknownPrefix before Relative over the whole text
+abbrev pub answer : Option (List ℕ) → List Statement → Result (List QuadParts) TurtleFaultKind
+answer base ss = if declares_first [] ss then ok_or (triples_of base ss) Relative else Err UnknownPrefix

@@ -1,0 +1,98 @@
+//! Turtle documents, from bytes to quads.
+ghost use Rattle.std.specs.Prelude.{◌≡◌, ◌≢◌, ℕ, List, Some, MatchResult, slice_get};
+ghost use Rattle.std.specs.Option.{option_copied};
+ghost use Rattle.std.specs.Str.{IsUtf8};
+ghost use Rattle.rdf_turtle.specs.declared.fault.TurtleFaultKind.TheVariants.{NoMemory as NoMemoryKind};
+ghost use Rattle.rdf_turtle.specs.declared.token.Token.{Token as Held};
+ghost use Rattle.rdf_turtle.specs.Document.{IsDocument, TellsFault};
+ghost use Rattle.rdf_turtle.specs.DocumentLaws.{OneDocument, NeverBoth, OneFault};
+ghost use Rattle.rdf_turtle.specs.Lines.{line_of};
+
+use crate::fault::{TurtleFault, TurtleFaultKind};
+use crate::lexemes::lexemes;
+use crate::line::line_at;
+use crate::list::tokens;
+use crate::meaning::triples_of;
+use crate::placed::PlacedFault;
+use crate::read::{Stop, parse_document};
+use crate::token::Token;
+use rdf_terms::{Iri, Quad};
+use std::alloc::Global;
+
+// The fault of this kind, at the line of that byte; want of memory has no line.
+fn fault_at(text: &[u8], kind: TurtleFaultKind, place: usize) -> TurtleFault
+    ensures kind { result.kind ≡ kind }
+    ensures line { kind ≢ NoMemoryKind → result.line ≡ line_of text.now place }
+    ensures no_line { kind ≡ NoMemoryKind → result.line ≡ 0 }
+{
+    let line = match kind {
+        TurtleFaultKind::NoMemory => 0,
+        _ => line_at(text, place),
+    };
+    TurtleFault { line, kind }
+}
+
+// The byte where the token of that number starts, or the end of the text.
+fn start_of(text: &[u8], tokens: &[Token], number: usize) -> usize
+    ensures { (token : Held) → slice_get tokens.now number ≡ Some token → result ≡ token.start }
+{
+    match tokens.get(number) {
+        Some(token) => token.start,
+        None => text.len(),
+    }
+}
+
+// The quads of a text that is UTF-8.
+fn read_text(alloc: Global, text: &str, base: Option<&Iri>) -> Result<Vec<Quad>, TurtleFault>
+    requires { IsUtf8 text.now }
+    ensures { MatchResult result
+        (λ quads. IsDocument (option_copied base.entry) text.now quads.items)
+        (λ fault. TellsFault (option_copied base.entry) text.now fault fault.kind) }
+{
+    let tokens = tokens(alloc, text)?;
+    let Ok(lexemes) = lexemes(alloc, text, tokens.as_slice()) else {
+        return Err(fault_at(text.as_bytes(), TurtleFaultKind::NoMemory, 0));
+    };
+    let tree = match parse_document(alloc, lexemes.as_slice()) {
+        Ok(tree) => tree,
+        Err(Stop { kind, place }) => {
+            let start = start_of(text.as_bytes(), tokens.as_slice(), place);
+            return Err(fault_at(text.as_bytes(), kind, start));
+        }
+    };
+    match triples_of(alloc, base, tree.as_slice()) {
+        Ok(quads) => Ok(quads),
+        Err(PlacedFault { kind, start }) => Err(fault_at(text.as_bytes(), kind, start)),
+    }
+}
+
+/// The quads of a Turtle document (Turtle 1.1, sections 6 and 7), in the order of the text. All are in
+/// the default graph; blank nodes are numbered from 0 by their places in the text; references are
+/// resolved against `base`, until the text declares another.
+///
+/// # Errors
+/// The first of these that applies, with the number of its line: [`TurtleFaultKind::NotUtf8`],
+/// [`TurtleFaultKind::Token`], [`TurtleFaultKind::TooDeep`], [`TurtleFaultKind::Syntax`],
+/// [`TurtleFaultKind::UnknownPrefix`], [`TurtleFaultKind::Relative`]; and [`TurtleFaultKind::NoMemory`]
+/// at any point, with line 0.
+pub fn read_turtle(
+    alloc: Global,
+    bytes: &[u8],
+    base: Option<&Iri>,
+) -> Result<Vec<Quad>, TurtleFault>
+    ensures { MatchResult result
+        (λ quads. IsDocument (option_copied base.entry) bytes.now quads.items)
+        (λ fault. TellsFault (option_copied base.entry) bytes.now fault fault.kind) }
+{
+    match str::from_utf8(bytes) {
+        Ok(text) => read_text(alloc, text, base),
+        Err(fault) => Err(fault_at(bytes, TurtleFaultKind::NotUtf8, fault.valid_up_to())),
+    }
+}
+
+/// A text is one document at most, or faulty, and never both.
+pub fn one_meaning()
+    ensures document { OneDocument }
+    ensures never_both { NeverBoth }
+    ensures fault { OneFault }
+{}

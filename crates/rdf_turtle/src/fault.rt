@@ -1,0 +1,93 @@
+//! Why a text is not read.
+ghost use Rattle.std.specs.Prelude.{◌≡◌};
+ghost use Rattle.rdf_turtle.specs.FaultName.{fault_name};
+ghost use Rattle.rdf_turtle.specs.declared.fault.TurtleFaultKind.TheVariants.{NoMemory as NoMemoryKind};
+
+use rdf_terms::NoMemory;
+use std::alloc::{AllocError, AllocFailed};
+use thiserror::Error;
+
+/// Why a text is not read. Where several apply, the first of them is the fault.
+#[derive(Clone, Copy, Debug, Error, PartialEq, Eq)]
+pub enum TurtleFaultKind {
+    /// The text isn't UTF-8.
+    #[error("NotUtf8")]
+    NotUtf8,
+    /// Somewhere no token begins.
+    #[error("Token")]
+    Token,
+    /// More than 100 brackets are open at once.
+    #[error("TooDeep")]
+    TooDeep,
+    /// The tokens aren't a document of the grammar.
+    #[error("Syntax")]
+    Syntax,
+    /// A prefix is used that isn't declared before.
+    #[error("UnknownPrefix")]
+    UnknownPrefix,
+    /// A relative reference has no base.
+    #[error("Relative")]
+    Relative,
+    /// Memory was wanting.
+    #[error("NoMemory")]
+    NoMemory,
+}
+
+/// A fault, and the number of the line that has it: the first line is line 1, and want of memory
+/// has line 0.
+#[derive(Clone, Copy, Debug, Error, PartialEq, Eq)]
+#[error("{kind} line {line}")]
+pub struct TurtleFault {
+    pub line: u64,
+    pub kind: TurtleFaultKind,
+}
+
+impl TurtleFaultKind {
+    /// The printed word.
+    pub fn name(self) -> &'static str
+        ensures { result.now ≡ fault_name self }
+    {
+        match self {
+            TurtleFaultKind::NotUtf8 => "NotUtf8",
+            TurtleFaultKind::Token => "Token",
+            TurtleFaultKind::TooDeep => "TooDeep",
+            TurtleFaultKind::Syntax => "Syntax",
+            TurtleFaultKind::UnknownPrefix => "UnknownPrefix",
+            TurtleFaultKind::Relative => "Relative",
+            TurtleFaultKind::NoMemory => "NoMemory",
+        }
+    }
+}
+
+impl TurtleFault {
+    /// The printed word of its kind.
+    pub fn name(self) -> &'static str
+        ensures { result.now ≡ fault_name self.kind }
+    {
+        self.kind.name()
+    }
+}
+
+impl From<NoMemory> for TurtleFaultKind {
+    ghost from_gives = { λ _ e. e ≡ NoMemoryKind };
+
+    fn from(_e: NoMemory) -> TurtleFaultKind {
+        TurtleFaultKind::NoMemory
+    }
+}
+
+impl From<AllocError> for TurtleFaultKind {
+    ghost from_gives = { λ _ e. e ≡ NoMemoryKind };
+
+    fn from(_e: AllocError) -> TurtleFaultKind {
+        TurtleFaultKind::NoMemory
+    }
+}
+
+impl<T: Drop> From<AllocFailed<T>> for TurtleFaultKind {
+    ghost from_gives = { λ _ e. e ≡ NoMemoryKind };
+
+    fn from(_e: AllocFailed<T>) -> TurtleFaultKind {
+        TurtleFaultKind::NoMemory
+    }
+}
