@@ -27,7 +27,7 @@ any_low (d ∷ ds) b low e =
     ]
 
 -- what is forbidden is ASCII
-forbidden_low : (b : ℕ) → is_forbidden b ≡ true → b < 128
+pub forbidden_low : (b : ℕ) → is_forbidden b ≡ true → b < 128
 forbidden_low b e =
     elim (or_cases (nat_lt b 33) (list_any (λ d. b == d) (codes "<>\"{}|^`\\")) e) [
       | inl control ↦ omega (arith, ltb-true b 33 control)

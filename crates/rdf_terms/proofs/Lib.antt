@@ -4,9 +4,11 @@ pub mod CutLemmas
 pub mod DotLawLemmas
 pub mod DotLemmas
 pub mod EscapeLemmas
+pub mod EscapedLemmas
 pub mod ExampleLemmas
 pub mod LoopLemmas
 pub mod OptionLemmas
+pub mod PastLemmas
 pub mod PlaceLemmas
 pub mod QuadLemmas
 pub mod QuotedLemmas

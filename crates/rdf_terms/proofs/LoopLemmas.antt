@@ -1,13 +1,21 @@
 -- Reading characters one after the other, as a loop does, and what an IRI's text never holds.
-use Rattle.std.proofs.Common.{◌≡◌, ℕ, false, eqb, List, [], ◌∷◌, ◌++◌, Option, Some, None, refl, sym, ap, ◌∙◌, inl, inr, append_assoc}
+use Rattle.std.proofs.Common.{◌≡◌, ℕ, Bool, false, eqb, List, [], ◌∷◌, ◌++◌, Option, Some, None, refl, sym, ap, ◌∙◌, inl, inr, append_assoc}
 use Rattle.std.proofs.lemmas.List.{append-nil}
-use Rattle.std.proofs.lemmas.Bool.{cases_Bool}
+use Rattle.std.proofs.lemmas.Bool.{cases_Bool, or_parts}
 use Rattle.std.specs.Prelude.{option_map}
 use Rattle.std.specs.Char.{encode_utf8}
-use Rattle.rdf_terms.specs.Reading.{up_to, expect}
+use Rattle.std.specs.List.{list_any}
+use Rattle.std.specs.Str.{encode_utf8_all}
+use Rattle.rdf_terms.specs.Reading.{between, up_to, expect}
+use Rattle.rdf_terms.specs.Runs.{IsPast}
 use Rattle.rdf_terms.proofs.OptionLemmas.{none_is}
+use Rattle.rdf_terms.proofs.PlaceLemmas.{between_is}
 use Rattle.rdf_terms.proofs.QuotedLemmas.{expect_sound}
 use Rattle.rdf_terms.proofs.RunLemmas.{IsOne, with_front, run_at, run_step, run_last}
+
+-- a character that passes no such test stands for itself
+abbrev pub IsPlain : (List ℕ → Option (ℕ × List ℕ)) → (ℕ → Bool) → Type 0
+IsPlain one stops = (c : ℕ) (rest : List ℕ) → stops c ≡ false → one (c ∷ rest) ≡ Some (c, rest)
 
 regroup : (front more : List ℕ) (read : Option (List ℕ × List ℕ)) → with_front front (with_front more read) ≡ with_front (front ++ more) read
 regroup front more None = refl
@@ -29,6 +37,35 @@ run_fails : (one : List ℕ → Option (ℕ × List ℕ)) (last : ℕ) (cs : Lis
 unfolding up_to
 run_fails one last [] e f = refl
 run_fails one last (d ∷ cs) e f = rw (not_last last d cs f, e) refl
+
+-- what has been read, and what is read from here, are the whole
+abbrev pub RunsTo : (List ℕ → Option (ℕ × List ℕ)) → ℕ → List ℕ → List ℕ → Option (List ℕ × List ℕ) → Type 0
+RunsTo one last front cs total = with_front front (run_at one last cs) ≡ total
+
+-- ---- over characters that stand for themselves
+
+no_front : (read : Option (List ℕ × List ℕ)) → with_front [] read ≡ read
+no_front None = refl
+no_front (Some x) = refl
+
+run_past : {Form : List ℕ → ℕ → Type 0} (one : List ℕ → Option (ℕ × List ℕ)) (last : ℕ) → IsOne Form one last
+    → (stops : ℕ → Bool) → IsPlain one stops → (over rest : List ℕ) → list_any stops over ≡ false
+    → run_at one last (over ++ rest) ≡ with_front (encode_utf8_all over) (run_at one last rest)
+run_past one last is stops plain [] rest h = sym (no_front (run_at one last rest))
+run_past one last is stops plain (c ∷ over) rest h =
+    let parts = or_parts (stops c) (list_any stops over) h in
+    run_step one last is (c ∷ (over ++ rest)) c (over ++ rest) (plain c (over ++ rest) parts.0)
+    ∙ ap (with_front (encode_utf8 c)) (run_past one last is stops plain over rest parts.1)
+    ∙ regroup (encode_utf8 c) (encode_utf8_all over) (run_at one last rest)
+
+pub goes_past : {Form : List ℕ → ℕ → Type 0} (one : List ℕ → Option (ℕ × List ℕ)) (last : ℕ) → IsOne Form one last
+    → (stops : ℕ → Bool) → IsPlain one stops → (front cs rest : List ℕ) (total : Option (List ℕ × List ℕ)) → IsPast stops cs rest
+    → with_front front (run_at one last cs) ≡ total → with_front (front ++ encode_utf8_all (between cs rest)) (run_at one last rest) ≡ total
+goes_past one last is stops plain front cs rest total past so_far =
+    ap (λ (t : List ℕ). with_front (front ++ encode_utf8_all t) (run_at one last rest)) (between_is cs rest past.0 past.1)
+    ∙ sym (regroup front (encode_utf8_all past.0) (run_at one last rest))
+    ∙ ap (with_front front) (sym (ap (run_at one last) past.1 ∙ run_past one last is stops plain past.0 rest past.2))
+    ∙ so_far
 
 -- no character, and not the last one either
 pub fails : (one : List ℕ → Option (ℕ × List ℕ)) (last : ℕ) (front cs : List ℕ) (total : Option (List ℕ × List ℕ)) → one cs ≡ None → expect last cs ≡ None
@@ -55,6 +92,13 @@ pub place_goes_on : {Form : List ℕ → ℕ → Type 0} (one : List ℕ → Opt
     → (cs : List ℕ) (c : ℕ) (rest : List ℕ) → one cs ≡ Some (c, rest) → behind (run_at one last rest) ≡ behind (run_at one last cs)
 place_goes_on one last is cs c rest e =
     sym (ap behind (run_step one last is cs c rest e) ∙ behind-front (encode_utf8 c) (run_at one last rest))
+
+pub place_goes_past : {Form : List ℕ → ℕ → Type 0} (one : List ℕ → Option (ℕ × List ℕ)) (last : ℕ) → IsOne Form one last
+    → (stops : ℕ → Bool) → IsPlain one stops → (cs rest : List ℕ) → IsPast stops cs rest → behind (run_at one last rest) ≡ behind (run_at one last cs)
+place_goes_past one last is stops plain cs rest past =
+    sym (ap (λ (t : List ℕ). behind (run_at one last t)) past.1
+    ∙ ap behind (run_past one last is stops plain past.0 rest past.2)
+    ∙ behind-front (encode_utf8_all past.0) (run_at one last rest))
 
 pub place_fails : (one : List ℕ → Option (ℕ × List ℕ)) (last : ℕ) (cs : List ℕ) → one cs ≡ None → expect last cs ≡ None → None ≡ behind (run_at one last cs)
 place_fails one last cs h f = sym (ap behind (run_fails one last cs h f))

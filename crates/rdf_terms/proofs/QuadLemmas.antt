@@ -1,10 +1,9 @@
 -- A quad of four terms, and `==` of quads.
-use Rattle.std.proofs.Common.{◌≡◌, ◌∙◌, sym, ap, rules, refl, Bool, true, false, ◌&&◌, if◌then◌else◌, Option, None, Some, IsTrue}
+use Rattle.std.proofs.Common.{◌≡◌, ◌∙◌, sym, ap, rules, Bool, true, ◌&&◌, if◌then◌else◌, None, Some}
 use Rattle.std.proofs.lemmas.Bool.{and_from, and_parts}
 use Rattle.rdf_terms.specs.Term.{is_term}
 use Rattle.rdf_terms.specs.Quad.{QuadParts, is_graph, is_quad, has_right_kinds}
 use Rattle.rdf_terms.specs.declared.quad.GraphName.{GraphName}
-use Rattle.rdf_terms.specs.declared.term.Term.{Term}
 use Rattle.rdf_terms.specs.contracts.quad.GraphNamePartialEq.TheImpl as of_graphs
 use Rattle.rdf_terms.specs.contracts.quad.QuadPartialEq.TheImpl as of_quads
 use Rattle.rdf_terms.proofs.TermEq.{term_eq, term_eq-same, term_eq-own}

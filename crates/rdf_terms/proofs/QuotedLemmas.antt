@@ -5,6 +5,7 @@ use Rattle.std.proofs.lemmas.Bool.{cases_Bool, eqb-true, eqb-false, eq-eqb, ne_e
 use Rattle.rdf_terms.specs.Iri.{is_forbidden}
 use Rattle.rdf_terms.specs.Characters.{short_escape}
 use Rattle.rdf_terms.specs.Reading.{◌>>=◌, expect, numeric_at, escape_at, allowed_only, iri_character_at, string_character_at, iri_body_at, iri_at, quoted_body_at, quoted_at}
+use Rattle.rdf_terms.specs.Runs.{ends_run}
 use Rattle.rdf_terms.specs.Escapes.{IsNumericEscape, IsShortEscape}
 use Rattle.rdf_terms.specs.Quoted.{IsIriCharacter, IsStringCharacter, IsIriRef, IsQuoted}
 use Rattle.rdf_terms.proofs.OptionLemmas.{bind_some, some_is, some_pair, none_is, guard_some, guard_none}
@@ -55,7 +56,7 @@ iri_character_sound (d ∷ cs) c rest e =
           (c ∷ [], ap (λ (x : ℕ). x ∷ cs) a.1 ∙ ap (λ (t : List ℕ). c ∷ t) a.2, (a.0, inl refl))
     ]
 
-iri_character-plain : (c : ℕ) (rest : List ℕ) → is_forbidden c ≡ false → iri_character_at (c ∷ rest) ≡ Some (c, rest)
+pub iri_character-plain : (c : ℕ) (rest : List ℕ) → is_forbidden c ≡ false → iri_character_at (c ∷ rest) ≡ Some (c, rest)
 unfolding iri_character_at
 iri_character-plain c rest h = rw (ne_eqb c 92 (not_forbidden c 92 h forbids_backslash)) (allowed_complete c rest h)
 
@@ -158,6 +159,12 @@ string_character_sound q (d ∷ cs) c rest e =
 string_character-plain : (q : ℕ) (c : ℕ) (rest : List ℕ) → c ≢ q → c ≢ 92 → c ≢ 10 → c ≢ 13 → string_character_at q (c ∷ rest) ≡ Some (c, rest)
 unfolding string_character_at
 string_character-plain q c rest p o r s = rw (ne_eqb c 92 o, ne_eqb c q p, ne_eqb c 10 r, ne_eqb c 13 s) refl
+
+pub string_character-run : (q : ℕ) (c : ℕ) (rest : List ℕ) → ends_run q c ≡ false → string_character_at q (c ∷ rest) ≡ Some (c, rest)
+unfolding string_character_at
+string_character-run q c rest h =
+    let parts = or_parts (eqb c 92) ((eqb c q || eqb c 10) || eqb c 13) h in
+    rw (parts.0, parts.1) refl
 
 string_character-escape : (q : ℕ) (rest : List ℕ) → string_character_at q (92 ∷ rest) ≡ escape_at rest
 unfolding string_character_at

@@ -10,7 +10,6 @@ use Rattle.std.specs.List.{flat_map}
 use Rattle.std.specs.Str.Parse.{digits_value}
 use Rattle.rdf_terms.specs.Literal.{LiteralParts, xsd_string, lang_string, tag_fits}
 use Rattle.rdf_terms.specs.TermText.{escaped, datatype_text, suffix_text, literal_text, TextsDiffer}
-use Rattle.rdf_terms.specs.Term.{is_term}
 use Rattle.rdf_terms.specs.declared.term.Term.TheVariants.{Blank, Iri, Literal}
 
 head : List ℕ → ℕ

@@ -2,9 +2,6 @@
 use Rattle.std.specs.Prelude.{◌≡◌, ◌↔◌, Bool, IsTrue}
 use Rattle.std.specs.declared.cmp.Ordering.{Ordering}
 use Rattle.rdf_terms.specs.Order.{term_cmp, graph_cmp, quad_cmp}
-use Rattle.rdf_terms.specs.declared.quad.GraphName.{GraphName}
-use Rattle.rdf_terms.specs.declared.quad.Quad.{Quad}
-use Rattle.rdf_terms.specs.declared.term.Term.{Term}
 use Rattle.rdf_terms.specs.contracts.term.TermOrd.TheImpl as order_of_terms
 use Rattle.rdf_terms.specs.contracts.quad.GraphNameOrd.TheImpl as order_of_graphs
 use Rattle.rdf_terms.specs.contracts.quad.QuadOrd.TheImpl as order_of_quads

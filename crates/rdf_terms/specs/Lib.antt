@@ -5,7 +5,6 @@ pub mod Cuts
 pub mod Dots
 pub mod Escapes
 pub mod Examples
-pub mod formers
 pub mod Iri
 pub mod Literal
 pub mod Names
@@ -19,5 +18,7 @@ pub mod Reference
 pub mod Resolution
 pub mod ResolutionLaws
 pub mod Rewriting
+pub mod Runs
 pub mod Term
 pub mod TermText
+pub mod formers

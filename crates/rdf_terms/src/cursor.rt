@@ -1,8 +1,11 @@
 //! A place in a text, seen as the list of the characters that follow it.
 ghost use Rattle.std.specs.Prelude.{◌≡◌, ℕ, List, [], ◌∷◌, MatchOption, MatchBool};
 ghost use Rattle.std.specs.Str.{chars, encode_utf8_all};
+ghost use Rattle.rdf_terms.specs.Iri.{is_forbidden};
 ghost use Rattle.rdf_terms.specs.Reading.{LeadsTo, between, byte_count, expect};
+ghost use Rattle.rdf_terms.specs.Runs.{IsPast, ends_run};
 
+use crate::runs::{iri_stop, string_stop};
 use std::marker::Model;
 
 /// A place in a text. A contract sees the characters that follow it, by their code points.
@@ -71,6 +74,34 @@ impl<'a> Cursor<'a> {
             Some(rest)
         } else {
             None
+        }
+    }
+
+    /// The place behind the characters that stand for themselves in an IRI, which begin here.
+    pub(crate) fn past_iri_run(&self) -> Cursor<'a>
+        ensures { IsPast is_forbidden self.now result }
+    {
+        match iri_stop(self.rest.as_bytes()) {
+            Some(stop) => Cursor {
+                rest: &self.rest[stop..],
+            },
+            None => Cursor { rest: "" },
+        }
+    }
+
+    /// The place behind characters that stand for themselves in a string between such quotes, which
+    /// begin here: all of them where the quote is ASCII.
+    pub(crate) fn past_string_run(&self, quote: char) -> Cursor<'a>
+        ensures { IsPast (ends_run quote) self.now result }
+    {
+        if !quote.is_ascii() {
+            return self.fork();
+        }
+        match string_stop(self.rest.as_bytes(), quote as u8) {
+            Some(stop) => Cursor {
+                rest: &self.rest[stop..],
+            },
+            None => Cursor { rest: "" },
         }
     }
 

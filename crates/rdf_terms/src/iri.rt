@@ -1,5 +1,5 @@
 //! IRIs (RDF 1.1 Concepts, section 3.2).
-ghost use Rattle.std.specs.Prelude.{◌≡◌, ◌↔◌, ◌&&◌, false, length, IsTrue, IsErrOf, IfOk};
+ghost use Rattle.std.specs.Prelude.{◌≡◌, ◌↔◌, ◌&&◌, false, length, IsTrue, IsErrOf, IfOk, if◌then◌else◌};
 ghost use Rattle.std.specs.List.{list_all};
 ghost use Rattle.rdf_terms.specs.Iri.{has_scheme, has_forbidden, is_forbidden, is_scheme, is_scheme_byte, is_iri};
 ghost use Rattle.rdf_terms.specs.Literal.{lang_string, xsd_string};
@@ -60,6 +60,19 @@ impl Iri {
     {
         check(text.as_str())?;
         Ok(Iri { text })
+    }
+
+    /// The IRI of this text, which has no character that stands in no IRI, or `None` where it has
+    /// no scheme.
+    pub(crate) fn from_allowed(text: Text) -> Option<Iri>
+        requires { has_forbidden text ≡ false }
+        ensures { result ≡ (if has_scheme text then Some text else None) }
+    {
+        if has_scheme(text.as_str().as_bytes()) {
+            Some(Iri { text })
+        } else {
+            None
+        }
     }
 
     /// The datatype of literals with a language tag.
@@ -123,14 +136,22 @@ fn check(text: &str) -> Result<(), IriFault>
     Ok(())
 }
 
-fn is_forbidden(b: u8) -> bool
+// A byte that may stand in an IRI stands at its own place, or an `x` for those from U+007F on, and
+// a `<` at every other place.
+static IRI_MAP: [u8; 256] = *b"\
+    <<<<<<<<<<<<<<<<<<<<<<<<<<<<<<<<\
+    <!<#$%&'()*+,-./0123456789:;<=<?\
+    @ABCDEFGHIJKLMNOPQRSTUVWXYZ[<]<_\
+    <abcdefghijklmnopqrstuvwxyz<<<~x\
+    xxxxxxxxxxxxxxxxxxxxxxxxxxxxxxxx\
+    xxxxxxxxxxxxxxxxxxxxxxxxxxxxxxxx\
+    xxxxxxxxxxxxxxxxxxxxxxxxxxxxxxxx\
+    xxxxxxxxxxxxxxxxxxxxxxxxxxxxxxxx";
+
+pub(crate) fn is_forbidden(b: u8) -> bool
     ensures { result ≡ is_forbidden b }
 {
-    b <= b' '
-        || matches!(
-            b,
-            b'<' | b'>' | b'"' | b'{' | b'}' | b'|' | b'^' | b'`' | b'\\'
-        )
+    IRI_MAP[b as usize] == b'<'
 }
 
 fn is_scheme_byte(b: u8) -> bool

@@ -43,9 +43,6 @@ impl IriReference {
     pub fn into_iri(self) -> Option<Iri>
         ensures { result ≡ (if has_scheme self then Some self else None) }
     {
-        match Iri::from_text(self.text) {
-            Ok(iri) => Some(iri),
-            Err(_) => None,
-        }
+        Iri::from_allowed(self.text)
     }
 }

@@ -20,6 +20,7 @@ mod quoted;
 mod reference;
 mod resolution;
 mod resolution_laws;
+mod runs;
 mod term;
 mod text;
 mod write;

@@ -23,10 +23,12 @@ impl<'a> Cursor<'a> {
         };
         let mut text = String::new(alloc);
         loop {
-            if let Some(behind) = rest.expect('>') {
+            let stop = rest.past_iri_run();
+            text.push_str(rest.text_up_to(&stop))?;
+            if let Some(behind) = stop.expect('>') {
                 return Ok(Some((IriReference::from_text(Text::from(text)), behind)));
             }
-            let Some((c, behind)) = rest.iri_character() else {
+            let Some((c, behind)) = stop.iri_character() else {
                 return Ok(None);
             };
             text.push(c)?;
@@ -47,10 +49,12 @@ impl<'a> Cursor<'a> {
         };
         let mut text = String::new(alloc);
         loop {
-            if let Some(behind) = rest.expect(quote) {
+            let stop = rest.past_string_run(quote);
+            text.push_str(rest.text_up_to(&stop))?;
+            if let Some(behind) = stop.expect(quote) {
                 return Ok(Some((Text::from(text), behind)));
             }
-            let Some((c, behind)) = rest.string_character(quote) else {
+            let Some((c, behind)) = stop.string_character(quote) else {
                 return Ok(None);
             };
             text.push(c)?;
@@ -64,10 +68,11 @@ impl<'a> Cursor<'a> {
     {
         let mut rest = self.expect('<')?;
         loop {
-            if let Some(behind) = rest.expect('>') {
+            let stop = rest.past_iri_run();
+            if let Some(behind) = stop.expect('>') {
                 return Some(behind);
             }
-            let (_, behind) = rest.iri_character()?;
+            let (_, behind) = stop.iri_character()?;
             rest = behind;
         }
     }
@@ -79,10 +84,11 @@ impl<'a> Cursor<'a> {
     {
         let mut rest = self.expect(quote)?;
         loop {
-            if let Some(behind) = rest.expect(quote) {
+            let stop = rest.past_string_run(quote);
+            if let Some(behind) = stop.expect(quote) {
                 return Some(behind);
             }
-            let (_, behind) = rest.string_character(quote)?;
+            let (_, behind) = stop.string_character(quote)?;
             rest = behind;
         }
     }

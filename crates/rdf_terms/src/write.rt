@@ -1,8 +1,9 @@
 //! The text of terms, in canonical N-Triples (RDF 1.1 N-Triples, section 4).
 ghost use Rattle.std.specs.Cmp.Lexicographic.{pointwise};
-ghost use Rattle.std.specs.Prelude.{◌≡◌, ◌++◌, nat_eq, take, length, codes, OnOk, OnErr};
+ghost use Rattle.std.specs.Prelude.{◌≡◌, ◌++◌, ◌<◌, nat_eq, take, length, codes, position, IfSome, OnOk, OnErr};
 ghost use Rattle.std.specs.List.{flat_map};
 ghost use Rattle.rdf_terms.specs.Literal.{xsd_string};
+ghost use Rattle.rdf_terms.specs.Runs.{is_escaped};
 ghost use Rattle.rdf_terms.specs.TermText.{escaped, suffix_text, datatype_text, literal_text, term_text};
 
 use crate::fault::NoMemory;
@@ -62,10 +63,23 @@ fn append_escaped(text: &[u8], out: &mut Vec<u8>) -> Result<(), NoMemory>
     ensures ok { OnOk result (out.new.items ≡ out.old.items ++ flat_map escaped text.now) }
     ensures kept { take (length out.old.items) out.new.items ≡ out.old.items }
 {
-    for b in text {
-        append_byte(*b, out)?;
+    let mut rest = text;
+    while let Some(place) = first_escaped(rest) {
+        out.extend_from_slice(&rest[..place])?;
+        append_byte(rest[place], out)?;
+        rest = &rest[place + 1..];
     }
+    out.extend_from_slice(rest)?;
     Ok(())
+}
+
+// Where the first byte stands that is escaped.
+fn first_escaped(text: &[u8]) -> Option<usize>
+    ensures first { result ≡ position is_escaped text.now }
+    ensures within { IfSome result (λ n. n < length text.now) }
+{
+    text.iter()
+        .position(|b| matches!(*b, b'"' | b'\\' | b'\n' | b'\r'))
 }
 
 fn append_byte(b: u8, out: &mut Vec<u8>) -> Result<(), NoMemory>

@@ -6,6 +6,7 @@
 //! has always the same allocation refused, and chooses by the input which one of the library's that is.
 #![tactic(auto)]
 
+mod conversions;
 mod retry;
 mod script;
 mod sessions;
@@ -24,7 +25,8 @@ fn main(rt: HostRuntime) -> io::Result<()> {
     }
     println!(rt; "{}", terms::outcome(alloc))?;
     println!(rt; "{}", sessions::outcome(alloc))?;
-    println!(rt; "{}", script::outcome(alloc))
+    println!(rt; "{}", script::outcome(alloc))?;
+    println!(rt; "{}", conversions::outcome(alloc))
 }
 
 fn take_and_give_back(alloc: Global) {

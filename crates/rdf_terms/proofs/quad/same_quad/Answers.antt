@@ -1,4 +1,4 @@
-use Rattle.std.proofs.Common.{◌≡◌, ◌∙◌, sym, subst, true, IsTrue}
+use Rattle.std.proofs.Common.{◌≡◌, ◌∙◌, sym, subst, true}
 use Rattle.rdf_terms.proofs.QuadLemmas.{quad_eq-same, quad_eq-own}
 use Rattle.rdf_terms.specs.contracts.quad.QuadPartialEq.TheImpl as of_quads
 use Rattle.rdf_terms.proofs.quad.same_quad.Goals as goal

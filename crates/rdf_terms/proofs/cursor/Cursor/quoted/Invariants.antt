@@ -3,8 +3,8 @@ use Rattle.rdf_terms.specs.Reading.{quoted_body_at}
 use Rattle.rdf_terms.proofs.RunLemmas.{with_front}
 use Rattle.rdf_terms.proofs.cursor.Cursor.quoted.Given as goal
 
-abbrev pub invariant-loop-behind : goal.invariant-loop-behind
-invariant-loop-behind l = with_front (string_bytes l.text) (quoted_body_at l.quote l.rest) ≡ quoted_body_at l.quote l.initial.rest
+abbrev pub invariant-loop-text : goal.invariant-loop-text
+invariant-loop-text l = with_front (string_bytes l.text) (quoted_body_at l.quote l.rest) ≡ quoted_body_at l.quote l.initial.rest
 
-abbrev pub decreases-loop-behind : goal.decreases-loop-behind
-decreases-loop-behind l = length l.rest
+abbrev pub decreases-loop-text : goal.decreases-loop-text
+decreases-loop-text l = length l.rest

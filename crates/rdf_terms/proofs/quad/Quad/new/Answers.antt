@@ -1,5 +1,5 @@
-use Rattle.std.proofs.Common.{◌≡◌, ◌∙◌, sym, true, false}
-use Rattle.rdf_terms.specs.Quad.{QuadParts, has_right_kinds}
+use Rattle.std.proofs.Common.{◌∙◌, sym, true, false}
+use Rattle.rdf_terms.specs.Quad.{QuadParts}
 use Rattle.rdf_terms.proofs.QuadLemmas.{is_quad-from, answered}
 use Rattle.rdf_terms.proofs.quad.Quad.new.Goals as goal
 
