@@ -1,5 +1,9 @@
 //! Tokens of Turtle and SPARQL, and what they stand for.
-use rdf_turtle::{Kind, TurtleFaultKind, token_text, tokens, tokens_have_forms};
+ghost use Rattle.std.specs.List.{AllByRecursion};
+ghost use Rattle.std.specs.Str.{chars};
+ghost use Rattle.rdf_turtle.specs.Tokens.{HasItsForm};
+
+use rdf_turtle::{Kind, Token, TurtleFaultKind, token_text, tokens, tokens_have_forms};
 use std::alloc::Global;
 
 // Whether a text has tokens of these kinds, that stop at these bytes.
@@ -71,11 +75,11 @@ fn no_tokens(rt: HostRuntime) {
     assert!(rt; token_fault(rt.alloc(), "<a> | <b>") == Some(1));
 }
 
-// What the token stands for, where it is the first of a text.
-fn text_of(alloc: Global, text: &str) -> Option<String> {
-    tokens_have_forms();
-    let list = tokens(alloc, text).ok()?;
-    match list.as_slice() {
+// What the first token stands for.
+fn first_text(alloc: Global, text: &str, list: &[Token]) -> Option<String>
+    requires { AllByRecursion (HasItsForm (chars text.now)) list.now }
+{
+    match list {
         [token, ..] => match token.kind {
             Kind::Iri => token_text(alloc, token, text).ok(),
             Kind::Text => token_text(alloc, token, text).ok(),
@@ -83,6 +87,14 @@ fn text_of(alloc: Global, text: &str) -> Option<String> {
             _ => None,
         },
         [] => None,
+    }
+}
+
+fn text_of(alloc: Global, text: &str) -> Option<String> {
+    tokens_have_forms();
+    match tokens(alloc, text) {
+        Ok(list) => first_text(alloc, text, list.as_slice()),
+        Err(_) => None,
     }
 }
 

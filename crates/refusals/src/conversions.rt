@@ -45,7 +45,7 @@ impl Attempt {
     }
 }
 
-fn attempt(alloc: Global, format: Format, base: Option<Iri>, text: &[u8]) -> Attempt {
+fn converted(alloc: Global, format: Format, base: Option<Iri>, text: &[u8]) -> Attempt {
     let mut reader = text;
     let mut output = Vec::new(alloc);
     let answer = convert(alloc, format, base, &mut reader, &mut output);
@@ -53,11 +53,11 @@ fn attempt(alloc: Global, format: Format, base: Option<Iri>, text: &[u8]) -> Att
 }
 
 fn lines(alloc: Global) -> bool {
-    let first = attempt(alloc, Format::NQuads, None, LINES);
+    let first = converted(alloc, Format::NQuads, None, LINES);
     if first.is_whole(LINES_OUT) {
         return true;
     }
-    let again = attempt(alloc, Format::NQuads, None, LINES);
+    let again = converted(alloc, Format::NQuads, None, LINES);
     first.is_refused(LINES_OUT) && again.is_whole(LINES_OUT)
 }
 
@@ -69,10 +69,10 @@ fn base(alloc: Global) -> Option<Iri> {
 }
 
 fn turtle(alloc: Global) -> Option<bool> {
-    let first = attempt(alloc, Format::Turtle, Some(base(alloc)?), TURTLE);
+    let first = converted(alloc, Format::Turtle, Some(base(alloc)?), TURTLE);
     if first.is_whole(TURTLE_OUT) {
         return Some(true);
     }
-    let again = attempt(alloc, Format::Turtle, Some(base(alloc)?), TURTLE);
+    let again = converted(alloc, Format::Turtle, Some(base(alloc)?), TURTLE);
     Some(first.is_refused(TURTLE_OUT) && again.is_whole(TURTLE_OUT))
 }

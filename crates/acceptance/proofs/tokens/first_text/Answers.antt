@@ -1,0 +1,13 @@
+use Rattle.std.proofs.Common.{rules, ◌<◌, length}
+use Rattle.std.specs.Str.{chars}
+use Rattle.acceptance.proofs.TokenLemmas.{first_has}
+use Rattle.acceptance.proofs.tokens.first_text.Goals as goal
+
+pub token_text-requires-clause-form : goal.token_text-requires-clause-form
+token_text-requires-clause-form c = first_has (chars c.args.text.now) c.args.list.now _ c.requires (search rules)
+
+pub token_text-requires-in-Text-clause-form : goal.token_text-requires-in-Text-clause-form
+token_text-requires-in-Text-clause-form c = first_has (chars c.args.text.now) c.args.list.now _ c.requires (search rules)
+
+pub token_text-requires-in-Pname-clause-form : goal.token_text-requires-in-Pname-clause-form
+token_text-requires-in-Pname-clause-form c = first_has (chars c.args.text.now) c.args.list.now _ c.requires (search rules)
