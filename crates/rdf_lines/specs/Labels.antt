@@ -1,4 +1,4 @@
--- Blank node labels become numbers in order of first appearance. RDF 1.1 N-Quads, section 3.1: labels are local to the document.
+-- Blank node labels become numbers in order of first appearance. RDF 1.1 N-Quads, section 2.4: labels are local to the document.
 use Rattle.std.specs.Prelude.{ℕ, List, [], ◌∷◌, ◌++◌, nat_eq, if◌then◌else◌, map, Option, Some, None}
 use Rattle.std.specs.List.{list_any, position_or_len, flat_map}
 use Rattle.std.specs.Cmp.Lexicographic.{pointwise}
