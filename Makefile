@@ -1,7 +1,7 @@
 # Builds, runs and checks rdfkeep. It needs make and the Rattle toolchain's command `rt`, and no network.
 #
 #   make           the program, proved and built, at ./rdfkeep
-#   make example   the program on the example script of the README
+#   make example   the program on the example scripts, and what it prints compared
 #   make test      every proof, wrong body, test and refused allocation
 #
 # A second call does nothing again that is done.
@@ -19,15 +19,18 @@ rdfkeep: $(SOURCES)
 	cp crates/rdfkeep/out/rdfkeep rdfkeep
 
 example: rdfkeep
-	./rdfkeep run examples/first.rdfkeep
+	@mkdir -p out
+	./rdfkeep run examples/first.rdfkeep > out/first.out
+	@cat out/first.out
+	@cmp out/first.out examples/first.out
+	@./rdfkeep run --base http://example.org/tea/ examples/concepts.rdfkeep > out/concepts.out || test $$? -eq 1
+	@cmp out/concepts.out examples/concepts.out
 
 test: $(CHECKED)
 
 $(CHECKED): $(SOURCES) tools/fail-alloc Makefile
-	@echo "make: refusing each allocation of the tests in turn" >&2
-	tools/fail-alloc refusals
-	@echo "make: proving everything from nothing, which takes up to an hour" >&2
-	rt ci
+	@echo "make: proving everything from nothing, which takes one to two hours; beside it each allocation of the tests is refused in turn" >&2
+	tools/fail-alloc refusals & allocations=$$!; rt ci; proofs=$$?; wait $$allocations && test $$proofs -eq 0
 	@mkdir -p out && touch $(CHECKED)
 
 clean:

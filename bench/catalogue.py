@@ -15,28 +15,28 @@ WORDS = ("blue green small large oak steel lamp table chair clock cotton woollen
 TAGS = ("en", "de", "fr", "en-GB", "pt-BR")
 
 
-def text(random):
-    return " ".join(random.choice(WORDS) for _ in range(random.randint(1, 4)))
+def text(source):
+    return " ".join(source.choice(WORDS) for _ in range(source.randint(1, 4)))
 
 
-def fields(random, item):
+def fields(source, item):
     """The predicate and the object of one statement."""
-    kind = random.randrange(8)
+    kind = source.randrange(8)
     if kind == 0:
-        return TERM % "name", '"%s"@%s' % (text(random), random.choice(TAGS))
+        return TERM % "name", '"%s"@%s' % (text(source), source.choice(TAGS))
     if kind == 1:
-        return TERM % "description", '"%s"' % text(random)
+        return TERM % "description", '"%s"' % text(source)
     if kind == 2:
-        return TERM % "hasCurrencyValue", '"%d.%02d"^^%s' % (random.randint(1, 999), random.randint(0, 99), XSD % "decimal")
+        return TERM % "hasCurrencyValue", '"%d.%02d"^^%s' % (source.randint(1, 999), source.randint(0, 99), XSD % "decimal")
     if kind == 3:
-        return TERM % "amountOfThisGood", '"%d"^^%s' % (random.randint(0, 5000), XSD % "integer")
+        return TERM % "amountOfThisGood", '"%d"^^%s' % (source.randint(0, 5000), XSD % "integer")
     if kind == 4:
-        return TERM % "isSimilarTo", ITEM % random.randint(1, 200_000)
+        return TERM % "isSimilarTo", ITEM % source.randint(1, 200_000)
     if kind == 5:
-        return TERM % "offers", "_:offer%d" % random.randint(1, 100_000)
+        return TERM % "offers", "_:offer%d" % source.randint(1, 100_000)
     if kind == 6:
         return TERM % "validFrom", '"20%02d-%02d-%02d"^^%s' % (
-            random.randint(0, 25), random.randint(1, 12), random.randint(1, 28), XSD % "date")
+            source.randint(0, 25), source.randint(1, 12), source.randint(1, 28), XSD % "date")
     return "<http://www.w3.org/1999/02/22-rdf-syntax-ns#type>", TERM % "ProductOrServiceModel"
 
 

@@ -1,18 +1,26 @@
 #!/usr/bin/env bash
-# Converts one file of catalogue-like N-Quads with rdfkeep, serdi and rapper, in one go, and prints what each takes.
-# Usage: bench/convert.sh [RDFKEEP [LINES [SEED]]], where RDFKEEP is the built program (apt-get install serdi raptor2-utils time).
+# Converts one catalogue with rdfkeep, serdi and rapper, in one go, and prints what each takes.
+# Usage: bench/convert.sh nquads|turtle [RDFKEEP [COUNT [SEED]]], where RDFKEEP is the built program and COUNT the
+# number of lines or triples (apt-get install serdi raptor2-utils time).
 set -euo pipefail
+format=${1:?usage: bench/convert.sh nquads|turtle [RDFKEEP [COUNT [SEED]]]}
 here=$(cd "$(dirname "$0")" && pwd)
-rdfkeep=${1:-$here/../crates/rdfkeep/out/rdfkeep}
-lines=${2:-1000000}
-seed=${3:-1}
+rdfkeep=${2:-$here/../rdfkeep}
+count=${3:-1000000}
+seed=${4:-1}
+case $format in
+    nquads) catalogue=catalogue.py written=nquads ;;
+    turtle) catalogue=turtle_catalogue.py written=ntriples ;;
+    *) echo "convert.sh: no such format: $format" >&2; exit 2 ;;
+esac
 work=$(mktemp -d)
 trap 'rm -rf "$work"' EXIT
 
-python3 "$here/catalogue.py" "$lines" "$seed" > "$work/in.nq"
-printf 'input: %s lines, %s MB, seed %s\n' "$lines" "$(($(stat -c %s "$work/in.nq") / 1000000))" "$seed"
+input=$work/input
+python3 "$here/$catalogue" "$count" "$seed" > "$input"
+printf 'input: %s statements, %s MB, seed %s\n' "$count" "$(($(stat -c %s "$input") / 1000000))" "$seed"
 
-# the command's output goes to a file, what it takes to another: user seconds, wall seconds, kilobytes
+# the command's output goes to a file, what it takes to another: user seconds, wall seconds, kibibytes
 measure() {
     local name=$1
     shift
@@ -21,11 +29,11 @@ measure() {
     }
 }
 
-cat "$work/in.nq" > /dev/null
+cat "$input" > /dev/null
 for round in 1 2 3; do
-    measure "rdfkeep.$round" "$rdfkeep" convert --from nquads "$work/in.nq"
-    measure "serdi.$round" serdi -i nquads -o nquads "$work/in.nq"
-    measure "rapper.$round" rapper -q -i nquads -o nquads "$work/in.nq"
+    measure "rdfkeep.$round" "$rdfkeep" convert --from "$format" "$input"
+    measure "serdi.$round" serdi -i "$format" -o nquads "$input"
+    measure "rapper.$round" rapper -q -i "$format" -o "$written" "$input"
 done
 
 python3 - "$work" <<'PY'
@@ -43,7 +51,7 @@ for name in ("rdfkeep", "serdi", "rapper"):
     with open(f"{work}/{name}.1.out", "rb") as out:
         count = sum(1 for _ in out)
     best[name] = (user, wall)
-    print("%-8s %8.2f %8.2f %10.1f %10d" % (name, user, wall, peak / 1024, count))
+    print("%-8s %8.2f %8.2f %10.1f %10d" % (name, user, wall, peak * 1024 / 1e6, count))
 for other in ("serdi", "rapper"):
     print("rdfkeep / %-6s user %.2f, wall %.2f" % (other, best["rdfkeep"][0] / max(best[other][0], 0.01), best["rdfkeep"][1] / max(best[other][1], 0.01)))
 PY

@@ -18,58 +18,58 @@ WORDS = ("blue green small large oak steel lamp table chair clock cotton woollen
 TAGS = ("en", "de", "fr", "en-GB", "pt-BR")
 
 
-def text(random):
-    return " ".join(random.choice(WORDS) for _ in range(random.randint(1, 4)))
+def text(source):
+    return " ".join(source.choice(WORDS) for _ in range(source.randint(1, 4)))
 
 
-def names(random):
+def names(source):
     """A label in several languages, and how many triples it is."""
-    tags = random.sample(TAGS, random.randint(1, 3))
-    return "gr:name " + ", ".join('"%s"@%s' % (text(random), tag) for tag in tags), len(tags)
+    tags = source.sample(TAGS, source.randint(1, 3))
+    return "gr:name " + ", ".join('"%s"@%s' % (text(source), tag) for tag in tags), len(tags)
 
 
-def similar(random):
-    others = [random.randint(1, 200_000) for _ in range(random.randint(1, 3))]
+def similar(source):
+    others = [source.randint(1, 200_000) for _ in range(source.randint(1, 3))]
     return "gr:isSimilarTo " + ", ".join("item:%d" % other for other in others), len(others)
 
 
-def price(random):
+def price(source):
     """A node without a name: the triple that points at it, and its own."""
     return ("gr:hasPriceSpecification [ a gr:UnitPriceSpecification ; gr:hasCurrencyValue %d.%02d ;\n"
-            "        gr:hasCurrency \"EUR\" ]" % (random.randint(1, 999), random.randint(0, 99))), 4
+            "        gr:hasCurrency \"EUR\" ]" % (source.randint(1, 999), source.randint(0, 99))), 4
 
 
-def parts(random):
+def parts(source):
     """A list: the triple that points at it, and two for each cell."""
-    length = random.randint(0, 4)
-    return "gr:hasParts ( %s)" % "".join("item:%d " % random.randint(1, 200_000) for _ in range(length)), 1 + 2 * length
+    length = source.randint(0, 4)
+    return "gr:hasParts ( %s)" % "".join("item:%d " % source.randint(1, 200_000) for _ in range(length)), 1 + 2 * length
 
 
-def field(random):
-    kind = random.randrange(10)
+def field(source):
+    kind = source.randrange(10)
     if kind <= 1:
-        return names(random)
+        return names(source)
     if kind == 2:
-        return 'gr:description """%s\n%s"""' % (text(random), text(random)), 1
+        return 'gr:description """%s\n%s"""' % (text(source), text(source)), 1
     if kind == 3:
-        return "gr:amountOfThisGood %d" % random.randint(0, 5000), 1
+        return "gr:amountOfThisGood %d" % source.randint(0, 5000), 1
     if kind == 4:
-        return "gr:weight %d.%dE%d" % (random.randint(1, 9), random.randint(0, 999), random.randint(-3, 3)), 1
+        return "gr:weight %d.%dE%d" % (source.randint(1, 9), source.randint(0, 999), source.randint(-3, 3)), 1
     if kind == 5:
-        return "gr:isUsed %s" % random.choice(("true", "false")), 1
+        return "gr:isUsed %s" % source.choice(("true", "false")), 1
     if kind == 6:
-        return similar(random)
+        return similar(source)
     if kind == 7:
-        return price(random)
+        return price(source)
     if kind == 8:
-        return parts(random)
-    return 'gr:validFrom "20%02d-%02d-%02d"^^xsd:date' % (random.randint(0, 25), random.randint(1, 12), random.randint(1, 28)), 1
+        return parts(source)
+    return 'gr:validFrom "20%02d-%02d-%02d"^^xsd:date' % (source.randint(0, 25), source.randint(1, 12), source.randint(1, 28)), 1
 
 
-def subject(random, number):
-    kind = random.randrange(10)
+def subject(source, number):
+    kind = source.randrange(10)
     if kind == 0:
-        return "_:offer%d" % random.randint(1, 100_000)
+        return "_:offer%d" % source.randint(1, 100_000)
     if kind == 1:
         return "<http://example.org/other/item?id=%d>" % number
     return "item:%d" % number

@@ -14,10 +14,13 @@ const ANSWERS: &[u8] = b"ok +1 -0\n<http://e/s> <http://e/p> \"x\" .\nok 1\nok +
 const ANSWERED: [usize; 7] = [0, 0, 0, 9, 46, 55, 60];
 
 const LINES: &[u8] =
-    b"<http://e/s> <http://e/p> \"x\" .\n<http://e/s> <http://e/p> \"x\" .\n<http://e/s> <http://e/p> \"y\" .\n";
+    b"<http://e/s> <http://e/p> \"a\\u0041\\\"b\"@EN-us <http://e/g> . # c\n_:x:y <http://e/p> _:z1 .\n<http://e/s><http://e/p>_:x:y.\n<http://e/s> <http://e/p> \"1\"^^<http://www.w3.org/2001/XMLSchema#string> .\n";
 
-// How many bytes of these lines are due where so many of them are wholly read: they are canonical.
-const CONVERTED: [usize; 4] = [0, 32, 64, 96];
+const CONVERTED: &[u8] =
+    b"<http://e/s> <http://e/p> \"aA\\\"b\"@en-us <http://e/g> .\n_:b0 <http://e/p> _:b1 .\n<http://e/s> <http://e/p> _:b0 .\n<http://e/s> <http://e/p> \"1\" .\n";
+
+// How many bytes of the converted lines are due where so many lines are wholly read.
+const CONVERTED_UP_TO: [usize; 5] = [0, 55, 80, 113, 145];
 
 // Gives its bytes one at a call, and then fails.
 #[derive(Drop)]
@@ -140,8 +143,8 @@ fn conversion_read(alloc: Global, read: usize) -> Option<bool> {
         bytes: LINES.get(..read)?,
     };
     let mut output = Vec::new(alloc);
-    let answer = convert(alloc, Format::NTriples, None, &mut reader, &mut output);
-    let wanted = due(LINES, read, &CONVERTED, LINES)?;
+    let answer = convert(alloc, Format::NQuads, None, &mut reader, &mut output);
+    let wanted = due(LINES, read, &CONVERTED_UP_TO, CONVERTED)?;
     Some(answer == Err(ConvertFault::Read) && output.as_slice() == wanted)
 }
 
@@ -156,14 +159,14 @@ fn each_read_of_a_conversion(rt: HostRuntime) {
 fn conversion_written(alloc: Global, room: usize, fails: bool) -> bool {
     let mut reader = LINES;
     let mut writer = writer_with(alloc, room, fails);
-    let answer = convert(alloc, Format::NTriples, None, &mut reader, &mut writer);
+    let answer = convert(alloc, Format::NQuads, None, &mut reader, &mut writer);
     let Narrow { taken, .. } = writer;
-    answer == Err(ConvertFault::Write) && Some(taken.as_slice()) == LINES.get(..room)
+    answer == Err(ConvertFault::Write) && Some(taken.as_slice()) == CONVERTED.get(..room)
 }
 
 #[test]
 fn each_write_of_a_conversion(rt: HostRuntime) {
-    for room in 0..LINES.len() {
+    for room in 0..CONVERTED.len() {
         assert!(rt; conversion_written(rt.alloc(), room, true), "{room}");
         assert!(rt; conversion_written(rt.alloc(), room, false), "{room}");
     }

@@ -83,7 +83,7 @@ fn texts(rt: HostRuntime) -> Result<(), Fail> {
     let text = Text::new(alloc, "\u{3c0}\n")?;
     assert_eq!(rt; text.as_str(), "\u{3c0}\n");
     assert!(rt; text.copy()? == text);
-    let same = Text::from(String::from_str(alloc, "\u{3c0}\n")?);
+    let same = Text::from_string(String::from_str(alloc, "\u{3c0}\n")?)?;
     assert!(rt; same == text);
     Ok(())
 }

@@ -10,10 +10,11 @@ use Rattle.rdf_terms.specs.declared.term.Term.{Term}
 use Rattle.rdf_terms.specs.declared.term.Term.TheVariants.{Blank, Iri, Literal}
 use Rattle.rdf_terms.specs.declared.quad.GraphName.{GraphName}
 use Rattle.rdf_terms.specs.declared.quad.GraphName.TheVariants.{Default, Named}
-use Rattle.rdf_terms.specs.Quad.{QuadParts, is_quad, may_name_graph}
+use Rattle.rdf_terms.specs.Term.{is_term}
+use Rattle.rdf_terms.specs.Quad.{QuadParts, is_graph, is_quad, has_right_kinds, may_name_graph}
 use Rattle.rdf_terms.specs.Order.{term_cmp, quad_cmp}
 use Rattle.rdf_terms.specs.OrderLaws.{term_cmp_total, term_cmp-IsAntisymmetric, quad_cmp_total, quad_cmp-IsAntisymmetric}
-use Rattle.rdf_dataset.specs.State.{State, Change, Quads, Names, IsSound, IsQuadBelow, IsGraphBelow, IsTermBelow, IsNamed, IsEmptyGraph, IsKnownGraph, with_graph, with_quad, without_quad, with_name, without_name, with_blanks, net_between, applied, last_number}
+use Rattle.rdf_dataset.specs.State.{State, Change, Quads, Names, IsSound, IsQuadBelow, IsGraphBelow, IsTermBelow, IsNamed, IsEmptyGraph, IsKnownGraph, is_graph_name, with_graph, with_quad, without_quad, with_name, without_name, with_blanks, net_between, applied, last_number}
 use Rattle.rdf_dataset.specs.Staging.{Staging}
 use Rattle.rdf_dataset.specs.Delta.{IsDelta, Leads}
 use Rattle.rdf_dataset.proofs.SortedLemmas.{tie_same, tie_itself, at_tie, insert_there}
@@ -112,14 +113,19 @@ name_below names next (Named name) b all n h =
       | inr m ↦ all n m
     ]
 
-graph_of_quad : (q : QuadParts) → IsTrue (is_quad q) → IsTrue (may_name_graph q.graph)
-graph_of_quad q r = first_of _ _ (first_of _ _ r)
+both_of : (a b : Bool) → IsTrue a → IsTrue b → IsTrue (a && b)
+both_of true b h k = k
+both_of false b h k = h
 
-name_right : (names : Names) (g : GraphName) → IsTrue (may_name_graph g) → ((n : Term) → IsTrue (contains names n) → IsTrue (may_name_graph (Named n))) → (n : Term) → IsTrue (contains (with_graph names g) n) → IsTrue (may_name_graph (Named n))
+graph_of_quad : (q : QuadParts) → IsTrue (is_quad q) → IsTrue (is_graph q.graph && may_name_graph q.graph)
+graph_of_quad q r =
+    both_of (is_graph q.graph) (may_name_graph q.graph) (first_of (is_graph q.graph) _ (second_of (has_right_kinds q) _ r)) (first_of (may_name_graph q.graph) _ (first_of (has_right_kinds q) _ r))
+
+name_right : (names : Names) (g : GraphName) → IsTrue (is_graph g && may_name_graph g) → ((n : Term) → IsTrue (contains names n) → IsTrue (is_graph_name n)) → (n : Term) → IsTrue (contains (with_graph names g) n) → IsTrue (is_graph_name n)
 name_right names Default r all n h = all n h
 name_right names (Named name) r all n h =
     elim (either (eq_by_cmp term_cmp n name) (contains names n) (sym (contains-insert term_cmp_total names name n) ∙ h)) [
-      | inl t ↦ subst (λ n. IsTrue (may_name_graph (Named n))) (sym (tie_same term_cmp_total term_cmp-IsAntisymmetric n name t)) r
+      | inl t ↦ subst (λ n. IsTrue (is_graph_name n)) (sym (tie_same term_cmp_total term_cmp-IsAntisymmetric n name t)) r
       | inr m ↦ all n m
     ]
 
@@ -147,10 +153,10 @@ sound_without_quad s q h =
     let still = λ (p : QuadParts) (m : IsTrue (contains (remove s.quads q) p)). second_of (not (eq_by_cmp quad_cmp p q)) (contains s.quads p) (sym (contains-remove quad_cmp_total s.quads q p) ∙ m) in
     record { right_quads = λ p m. h.right_quads p (still p m); right_names = h.right_names; named = λ p m. h.named p (still p m); quads_below = λ p m. h.quads_below p (still p m); names_below = h.names_below; limit = h.limit }
 
-pub sound_with_name : (s : State) (n : Term) → IsSound s → IsTrue (may_name_graph (Named n)) → IsTermBelow s.next n → IsSound (with_name s n)
-sound_with_name s n h r b = record {
+pub sound_with_name : (s : State) (n : Term) → IsSound s → IsTrue (is_term n) → IsTrue (may_name_graph (Named n)) → IsTermBelow s.next n → IsSound (with_name s n)
+sound_with_name s n h t r b = record {
   right_quads = h.right_quads;
-  right_names = name_right s.names (Named n) r h.right_names;
+  right_names = name_right s.names (Named n) (both_of (is_term n) (may_name_graph (Named n)) t r) h.right_names;
   named = λ p m. named_more s.names (Named n) p.graph (h.named p m);
   quads_below = h.quads_below;
   names_below = name_below s.names s.next (Named n) b h.names_below;

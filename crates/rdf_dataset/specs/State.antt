@@ -1,5 +1,5 @@
 -- The states of a dataset, and the net between two of them (RDF 1.1 Concepts, section 4).
-use Rattle.std.specs.Prelude.{◌≡◌, ℕ, ◌<◌, ◌≤◌, ◌+◌, Option, None, Some, IsTrue, refl, ⊤, Bool, true, ◌&&◌}
+use Rattle.std.specs.Prelude.{◌≡◌, ℕ, ◌<◌, ◌≤◌, ◌+◌, Option, None, Some, IsTrue, refl, ⊤, Bool, true, not, ◌&&◌}
 use Rattle.std.specs.Coded.{Coded, code_by, coded×, coded_ℕ}
 use Rattle.std.specs.Ordering.{eq_by_cmp}
 use Rattle.std.specs.FinSet as set
@@ -7,7 +7,8 @@ use Rattle.rdf_terms.specs.declared.term.Term.{Term}
 use Rattle.rdf_terms.specs.declared.term.Term.TheVariants.{Blank, Iri, Literal}
 use Rattle.rdf_terms.specs.declared.quad.GraphName.{GraphName}
 use Rattle.rdf_terms.specs.declared.quad.GraphName.TheVariants.{Default, Named}
-use Rattle.rdf_terms.specs.Quad.{QuadParts, is_quad, may_name_graph}
+use Rattle.rdf_terms.specs.Term.{is_term, is_literal_term}
+use Rattle.rdf_terms.specs.Quad.{QuadParts, is_quad}
 use Rattle.rdf_terms.specs.Order.{term_cmp, graph_cmp, quad_cmp}
 use Rattle.rdf_terms.specs.Codes.{coded_term, coded_quad}
 
@@ -59,11 +60,15 @@ abbrev pub IsNamed : Names → GraphName → Type 0
 IsNamed names Default = ⊤
 IsNamed names (Named name) = IsTrue (set.contains names name)
 
+-- an IRI or a blank node (RDF 1.1 Concepts, section 4)
+abbrev pub is_graph_name : Term → Bool
+is_graph_name name = is_term name && not (is_literal_term name)
+
 -- a state of a dataset: each place of a quad holds a term of a right kind, each name is an IRI or a blank node, each graph
 -- that has a quad has its name, all blank nodes have numbers below the next one, and that one is at most the last number
 pub record IsSound (s : State) : Type 0 where
   pub right_quads : (q : QuadParts) → IsTrue (set.contains s.quads q) → IsTrue (is_quad q)
-  pub right_names : (n : Term) → IsTrue (set.contains s.names n) → IsTrue (may_name_graph (Named n))
+  pub right_names : (n : Term) → IsTrue (set.contains s.names n) → IsTrue (is_graph_name n)
   pub named : (q : QuadParts) → IsTrue (set.contains s.quads q) → IsNamed s.names q.graph
   pub quads_below : (q : QuadParts) → IsTrue (set.contains s.quads q) → IsQuadBelow s.next q
   pub names_below : (n : Term) → IsTrue (set.contains s.names n) → IsTermBelow s.next n

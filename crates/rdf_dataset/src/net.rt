@@ -92,7 +92,8 @@ impl Net {
 
     /// The net the other way. It takes no memory.
     pub fn reversed(self) -> Net
-        ensures { result ≡ turned self }
+        ensures value { result ≡ turned self }
+        ensures between { (s t : State) → self ≡ net_between s t → result ≡ net_between t s }
     {
         let Net {
             quads,

@@ -9,7 +9,7 @@ ghost use Rattle.rdf_dataset.specs.Staging.{Staging, staged};
 use crate::edits::Edits;
 use crate::net::Net;
 use crate::source::Source;
-use rdf_terms::{GraphName, NoMemory, Quad, Term};
+use rdf_terms::{GraphName, NoMemory, Quad, Term, term_is_one};
 use std::alloc::Global;
 use std::marker::Model;
 
@@ -74,6 +74,7 @@ impl<'a, D: Source> Staged<'a, D> {
         ensures new { IfOk result (λ new. new ≡ not (set.contains self.old.now.names name)) }
         ensures err { OnErr result (self.new ≡ self.old) }
     {
+        term_is_one(&name);
         let beneath = self.under.has_name(&name);
         Ok(self.edits.add_name(beneath, name)?)
     }

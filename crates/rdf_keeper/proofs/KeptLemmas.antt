@@ -6,6 +6,7 @@ use Rattle.std.specs.FinSet as set
 use Rattle.std.specs.List.{AllByRecursion}
 use Rattle.rdf_dataset.specs.State.{State, Change, IsSound, Begins, Ends, net_between, applied, turned}
 use Rattle.rdf_keeper.proofs.NetLemmas.{applied_is, turned_is, one_end}
+use Rattle.rdf_keeper.specs.GivesBack.{IsPlaced}
 use Rattle.rdf_keeper.specs.History.{place_of}
 use Rattle.rdf_keeper.specs.Session.{Session, Step, Undo, Redo, Rollback, Changed, Refused, all_states, counts_between, now, accepted}
 use Rattle.rdf_keeper.specs.Kept.{before_all, states_after, AreNets, session_from, base_of, IsKept, nets_between}
@@ -108,6 +109,10 @@ module _ (iri : Base) (base s : State) (ns : List Change) (k : ℕ) (marks : Mar
   -- and so is each state of the session
   pub all_sound : AllByRecursion IsSound (all_states o)
   all_sound = subst (λ x. AllByRecursion IsSound (all_states x)) view (c.sound, after_sound base ns c.nets)
+
+  -- its cursor lies in the list of these
+  pub placed_there : IsPlaced o
+  placed_there = subst IsPlaced view (rw (length-states_after base ns) c.within)
 
   pub now_is : s ≡ now o
   now_is = c.current ∙ ap now view

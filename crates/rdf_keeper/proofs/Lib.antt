@@ -1,8 +1,12 @@
 pub mod AnswerLemmas
 pub mod ByteLemmas
+pub mod ByteOutputLemmas
 pub mod ConvertLemmas
+pub mod CutLemmas
 pub mod DocumentLemmas
+pub mod ExampleLemmas
 pub mod FrontLemmas
+pub mod GivesBackLemmas
 pub mod KeptLemmas
 pub mod LawLemmas
 pub mod LineLemmas
@@ -15,5 +19,6 @@ pub mod OutputLemmas
 pub mod RunLemmas
 pub mod SortedLemmas
 pub mod TurtleLemmas
+pub mod UndoRedoLemmas
 pub mod WholeLineLemmas
 pub mod WordLemmas

@@ -5,10 +5,12 @@ pub mod Convert
 pub mod Documents
 pub mod Examples
 pub mod Faults
+pub mod GivesBack
 pub mod History
 pub mod Input
 pub mod Kept
 pub mod Law
+pub mod LineLaws
 pub mod LineWords
 pub mod Lines
 pub mod Listing
@@ -20,3 +22,4 @@ pub mod Request
 pub mod Runs
 pub mod Session
 pub mod Staging
+pub mod UndoRedo

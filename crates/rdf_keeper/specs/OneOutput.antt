@@ -1,11 +1,13 @@
 -- Where memory never lacks, a script has one output, but for the lines of some faults of Turtle texts.
-use Rattle.std.specs.Prelude.{◌≡◌, ◌≢◌, ◌⊎◌, ℕ, Bool, true, false, List, [], ◌∷◌}
+use Rattle.std.specs.Prelude.{◌≡◌, ◌≢◌, ◌⊎◌, ℕ, Bool, true, false, List, [], ◌∷◌, Option, Some, None}
+use Rattle.std.specs.List.{AllByRecursion}
 use Rattle.rdf_turtle.specs.DocumentLaws.{has_free_line}
 use Rattle.rdf_turtle.specs.declared.fault.TurtleFaultKind.{TurtleFaultKind}
 use Rattle.rdf_keeper.specs.Answers.{Answers, reply_line}
-use Rattle.rdf_keeper.specs.Commands.{Asked, act}
+use Rattle.rdf_keeper.specs.Commands.{Asked, act, commands}
+use Rattle.rdf_keeper.specs.Lines.{raw_lines}
 use Rattle.rdf_keeper.specs.Request.{Load}
-use Rattle.rdf_keeper.specs.Runs.{Runs}
+use Rattle.rdf_keeper.specs.Runs.{Runs, RunsOver}
 use Rattle.rdf_keeper.specs.Session.{Session, Do, Refused as RefusedReply}
 use Rattle.rdf_keeper.specs.declared.fault.KeeperFault.TheVariants.{NoMemory as NoMemoryFault, Turtle as TurtleFault}
 use Rattle.rdf_keeper.specs.declared.format.Format.TheVariants.{Turtle}
@@ -55,4 +57,32 @@ abbrev pub OneText : Type 0
 OneText = (stop : Bool) (commands : List Asked) (s t u : Session) (answers others : List (List ℕ)) (status otherwise : Status)
     → Runs FirmAnswers stop Accepted false commands s answers t status → IsWhole status
     → Runs FullAnswers stop Accepted false commands s others u otherwise → IsWhole otherwise
+    → (answers ≡ others) × (t ≡ u) × (status ≡ otherwise)
+
+-- ---- the same of the bytes that a session's reader gives, in the words of `run`
+
+-- no answer is that memory is wanting
+abbrev pub AreFull : List (List ℕ) → Type 0
+AreFull answers = AllByRecursion (λ text. text ≢ reply_line (RefusedReply NoMemoryFault)) answers
+
+-- Two sessions that begin alike and are given readers of the same bytes, in whatever pieces these come, in which no answer
+-- is that memory is wanting, and which come to their end, have the same answers to the commands of these bytes, one by one,
+-- but for such lines, and end alike.
+abbrev pub OneOutputOfBytes : Type 0
+OneOutputOfBytes = (stop : Bool) (text : List ℕ) (after other : Option (List ℕ)) (s t u : Session) (answers others : List (List ℕ)) (status otherwise : Status)
+    → RunsOver stop (Some text) after s answers t status → IsWhole status → AreFull answers
+    → RunsOver stop (Some text) other s others u otherwise → IsWhole otherwise → AreFull others
+    → SameAnswers (commands true None (raw_lines text)) answers others × (t ≡ u) × (status ≡ otherwise)
+
+-- no answer has a line that is the reader's own choice
+abbrev pub AreFirm : List Asked → List (List ℕ) → Type 0
+AreFirm commands [] = Unit {0}
+AreFirm [] (text ∷ texts) = ⊥
+AreFirm (c ∷ commands) (text ∷ texts) = ((kind : TurtleFaultKind) → ¬ HasFreeLine kind c text) × AreFirm commands texts
+
+-- Where no answer of one of them has such a line, the answers of the other are the same, to the byte.
+abbrev pub OneTextOfBytes : Type 0
+OneTextOfBytes = (stop : Bool) (text : List ℕ) (after other : Option (List ℕ)) (s t u : Session) (answers others : List (List ℕ)) (status otherwise : Status)
+    → RunsOver stop (Some text) after s answers t status → IsWhole status → AreFull answers → AreFirm (commands true None (raw_lines text)) answers
+    → RunsOver stop (Some text) other s others u otherwise → IsWhole otherwise → AreFull others
     → (answers ≡ others) × (t ≡ u) × (status ≡ otherwise)

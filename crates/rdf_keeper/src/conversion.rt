@@ -65,7 +65,8 @@ pub enum ConvertFault {
     /// The bytes could not be written.
     #[error("write failed")]
     Write,
-    /// A growth was refused. The statements before it are written.
+    /// A growth was refused. Of a document of lines the statements before it are written; of one of Turtle nothing while
+    /// it is read, and afterwards the first of its lines.
     #[error("no memory")]
     NoMemory,
 }

@@ -91,6 +91,8 @@ impl<T: Drop> From<AllocFailed<T>> for KeeperFault {
 /// How many quads a command added and removed.
 #[derive(Clone, Copy, Debug, PartialEq, Eq)]
 pub struct Counts {
+    /// Quads that are there now and weren't before.
     pub added: u64,
+    /// Quads that were there before and aren't now.
     pub removed: u64,
 }

@@ -3,6 +3,7 @@ ghost use Rattle.std.specs.Prelude.{◌≡◌, ℕ, List, ◌+◌, ◌≤◌, �
 ghost use Rattle.std.specs.FinSet as set;
 ghost use Rattle.std.specs.List.{AllByRecursion, concat};
 ghost use Rattle.rdf_dataset.specs.State.{Begins, empty_state, IsSound, State, net_between};
+ghost use Rattle.rdf_keeper.specs.GivesBack.{IsPlaced};
 ghost use Rattle.rdf_keeper.specs.Kept.{AreNets, nets_between, states_after};
 ghost use Rattle.rdf_dataset.specs.Sorted.{ListsSorted};
 ghost use Rattle.rdf_keeper.specs.Listing.{ListsQuads};
@@ -230,6 +231,7 @@ impl Keeper {
     pub fn next_blank(&self) -> u64
         ensures value { result ≡ (now self.now).next }
         ensures sound { AllByRecursion IsSound (all_states self.now) }
+        ensures placed { IsPlaced self.now }
     {
         Source::next_blank(&self.dataset)
     }

@@ -3,6 +3,7 @@
 #![tactic(auto)]
 
 mod conversion;
+mod examples;
 mod fault;
 mod format;
 mod help;
@@ -17,9 +18,12 @@ mod script;
 mod words;
 
 pub use conversion::{ConvertFault, DocumentFault, convert};
+pub use examples::the_worked_examples_hold;
 pub use fault::{Counts, KeeperFault};
 pub use format::Format;
 pub use keeper::Keeper;
-pub use law::{a_script_has_one_output, standing_requests};
+pub use law::{
+    a_script_has_one_output, script_lines_are_the_text, standing_requests, undo_gives_back,
+};
 pub use program::start;
 pub use script::{Settings, Status, run};

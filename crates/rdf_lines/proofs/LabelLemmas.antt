@@ -13,7 +13,7 @@ use Rattle.rdf_terms.specs.Quad.{has_right_kinds}
 use Rattle.rdf_terms.specs.declared.term.Term.{Term}
 use Rattle.rdf_terms.specs.declared.term.Term.TheVariants as term
 use Rattle.rdf_terms.specs.declared.quad.GraphName.{GraphName}
-use Rattle.rdf_terms.specs.declared.quad.GraphName.TheVariants.{Default, Named}
+use Rattle.rdf_terms.specs.declared.quad.GraphName.TheVariants.{Named}
 use Rattle.rdf_terms.specs.declared.quad.Quad.{Quad}
 
 -- whether the label is known

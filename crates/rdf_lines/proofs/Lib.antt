@@ -7,6 +7,7 @@ pub mod GreedyLemmas
 pub mod HeldLemmas
 pub mod LabelLemmas
 pub mod LawLemmas
+pub mod LineEndLemmas
 pub mod LineLaws
 pub mod LineLemmas
 pub mod LinePieceLemmas

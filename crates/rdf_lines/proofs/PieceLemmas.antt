@@ -3,7 +3,7 @@ use Rattle.std.proofs.Common.{◌≡◌, ◌≢◌, ◌∙◌, ap, refl, sym, �
 use Rattle.std.specs.Io.KnownBytes.{Consumes, prepend_known}
 use Rattle.std.proofs.lemmas.List.{drop-take, drop-drop, take_more, take_all, drop_all}
 use Rattle.rdf_lines.specs.Lines.{lines_behind, onto_first, is_line_feed, is_return}
-use Rattle.rdf_lines.specs.Pieces.{onto, Hold, feed_len, Held, TakesPart, HasLine, ahead, room}
+use Rattle.rdf_lines.specs.Pieces.{onto, Hold, feed_len, Held, TakesPart, HasLine, HasNoLine, ahead, room}
 use Rattle.std.specs.Prelude.{Result, Ok, Err, is_ok, is_err}
 use Rattle.rdf_lines.specs.declared.fault.FaultKind.TheVariants.{NoMemory}
 use Rattle.memchr.specs.Find.{NoneBefore, Nowhere, Passes, is_byte2}
@@ -32,7 +32,7 @@ onto-none (x ∷ y ∷ ys) h = ap (onto_first x) (onto-none (y ∷ ys) (λ e. cc
 abbrev pub is_end : ℕ → Bool
 is_end b = is_line_feed b || is_return b
 
-other : (b : ℕ) (bs : List ℕ) → is_end b ≡ false → lines_behind false (b ∷ bs) ≡ onto_first b (lines_behind false bs)
+pub other : (b : ℕ) (bs : List ℕ) → is_end b ≡ false → lines_behind false (b ∷ bs) ≡ onto_first b (lines_behind false bs)
 other b bs e = ap (λ v. cond v ([] ∷ lines_behind (is_return b) bs) (onto_first b (lines_behind false bs))) e
 
 ended : (b : ℕ) (bs : List ℕ) → is_end b ≡ true → lines_behind false (b ∷ bs) ≡ [] ∷ lines_behind (is_return b) bs
@@ -58,7 +58,7 @@ ended_front xs k h none e tail =
     ∙ onto-cons (take k xs) [] _ ∙ ap (λ l. l ∷ lines_behind (is_return (get_or xs k 0)) tail) (append-nil (take k xs))
 
 -- behind a CR or not
-not_feed : (behind : Bool) (b : ℕ) (bs : List ℕ) → (behind && is_line_feed b) ≡ false → lines_behind behind (b ∷ bs) ≡ lines_behind false (b ∷ bs)
+pub not_feed : (behind : Bool) (b : ℕ) (bs : List ℕ) → (behind && is_line_feed b) ≡ false → lines_behind behind (b ∷ bs) ≡ lines_behind false (b ∷ bs)
 not_feed behind b bs e = ap (λ v. cond v (lines_behind false bs) (cond (is_end b) ([] ∷ lines_behind (is_return b) bs) (onto_first b (lines_behind false bs)))) e
 
 feed : (behind : Bool) (b : ℕ) (bs : List ℕ) → (behind && is_line_feed b) ≡ true → lines_behind behind (b ∷ bs) ≡ lines_behind false bs
@@ -274,3 +274,13 @@ line_at behind by piece rest f i is_feed is_rest none here is_by = (
     at_rest l n e tail =
         ap (λ m. lines_behind behind (take m piece ++ tail)) (let q : f + i + 1 ≡ f + suc i = omega arith in q) ∙ line_in behind piece i f is_feed l n e tail
         ∙ ap (λ m. take m (drop f piece) ∷ lines_behind (is_return (get_or (drop f piece) i 0)) tail) (let q : i ≡ (f + i) - f = omega arith in q)
+
+-- a piece that has no line whole
+pub front_only : (behind : Bool) (piece rest : List ℕ) (f : ℕ) → f ≡ feed_len behind piece → rest ≡ drop f piece → Nowhere (Passes (is_byte2 10 13) rest) 0 (length rest) → HasNoLine behind piece
+front_only behind [] rest f is_feed is_rest none = ([], behind, Hold-none behind)
+front_only behind (b ∷ bs) rest f is_feed is_rest none = (
+  rest,
+  false,
+  subst (λ r. Hold behind (b ∷ bs) [] r false) (sym is_rest)
+      (front_in behind (b ∷ bs) f (omega arith) is_feed (subst (λ r. NoEndBefore (length r) r) is_rest (λ j l. not_true _ (none j (omega arith) l)))),
+)

@@ -1,11 +1,11 @@
 -- The numbers that a document's blank nodes get, where their labels were written for numbers.
-use Rattle.std.proofs.Common.{◌≡◌, ◌∙◌, ap, refl, sym, subst, inl, inr, ◌⊎◌, ℕ, zero, suc, ◌<◌, ◌≤◌, ◌^◌, arith, true, false, cond, nat_eq, List, [], ◌∷◌, ◌++◌, length, length-append, map, get_or, append_assoc, true≢false, Contains}
+use Rattle.std.proofs.Common.{◌≡◌, ◌∙◌, ap, refl, sym, subst, inl, inr, ◌⊎◌, ℕ, zero, suc, ◌<◌, ◌≤◌, ◌^◌, arith, true, false, cond, nat_eq, List, [], ◌∷◌, ◌++◌, length, length-append, map, get_or, append_assoc, true≢false, None, Contains}
 use Rattle.std.specs.Cmp.Lexicographic.{pointwise, bytes_decides}
 use Rattle.std.specs.List.{flat_map, AllByRecursion}
 use Rattle.std.proofs.lemmas.Bool.{cases_Bool, cases_lt, or_from, ltb-true, not-true}
 use Rattle.std.proofs.lemmas.List.Folds.{list_any-append}
 use Rattle.std.proofs.lemmas.List.Elements.{All-from_recursion, recursion_from_All}
-use Rattle.std.proofs.lemmas.List.Sorted.{All-permutation}
+use Rattle.std.proofs.lemmas.List.Sorted.{All-permutation, IsPermutation-refl}
 use Rattle.std.proofs.lemmas.List.Sums.{passes_at_first}
 use Rattle.rdf_terms.specs.Term.{is_term, is_literal_term, is_iri_term}
 use Rattle.rdf_terms.specs.Quad.{is_graph, is_quad, may_name_graph}
@@ -16,10 +16,14 @@ use Rattle.rdf_terms.specs.declared.quad.GraphName.TheVariants.{Default, Named}
 use Rattle.rdf_terms.specs.declared.quad.Quad.{Quad}
 use Rattle.rdf_lines.specs.Labels.{labels_in, labels_in_object, labels_in_graph, labels_of, noted, all_noted, number_of, term_in, object_in, graph_in, quad_in, numbered}
 use Rattle.rdf_lines.specs.Blanks.{blanks_in, blanks_in_graph, blanks_of}
-use Rattle.rdf_lines.specs.RoundTrip.{label_of, node_of, predicate_of, object_of, graph_of, statement_of, renamed_term, renamed_graph, renamed, SaysRenamed, DocumentsAreReadBack, SortedTextsAreReadBack, NumberedDocumentsAreReadBack}
+use Rattle.rdf_lines.specs.RoundTrip.{label_of, node_of, predicate_of, object_of, graph_of, statement_of, renamed_term, renamed_graph, renamed, SaysRenamed, DocumentsAreReadBack, SortedTextsAreReadBack, NumberedDocumentsAreReadBack, NumberedSortedTextsAreReadBack}
+use Rattle.rdf_lines.specs.declared.format.LineFormat.TheVariants.{NQuads}
+use Rattle.rdf_lines.specs.Document.{IsDocument}
+use Rattle.rdf_lines.specs.QuadText.{quad_text}
 use Rattle.rdf_lines.proofs.LabelLemmas.{has, has-append, has-own, number_of-append}
 use Rattle.rdf_lines.proofs.BlankLemmas.{number_below, all_known, number_new}
 use Rattle.rdf_lines.proofs.RoundTripLemmas.{QuadTests, quad_tests, label_of-injective}
+use Rattle.rdf_lines.proofs.SortLemmas.{one_text}
 use Rattle.rdf_lines.proofs.WrittenLineLemmas.{reads_all}
 
 -- ---- the labels of the statements are those of the blank numbers
@@ -321,3 +325,9 @@ numbered_documents_are_read_back quads h order =
     let c = counted 0 ns (omega arith) (all_small quads h) (in_order ns [] ns 0 order refl tt) in
     let fixed = quads_fixed (rename (labels_for quads)) quads h (all_stay (labels_for quads) c.count c.labels c.bound ns c.below) in
     (map statement_of quads, reads_all 1 quads h, sym fixed ∙ again quads h)
+
+pub numbered_sorted_texts_are_read_back : NumberedSortedTextsAreReadBack
+numbered_sorted_texts_are_read_back quads text h order ordered is =
+    subst (λ (t : List ℕ). IsDocument NQuads t quads None)
+    (sym (one_text quads text (flat_map quad_text quads) is (quads, IsPermutation-refl quads, ordered, refl)))
+    (numbered_documents_are_read_back quads h order)

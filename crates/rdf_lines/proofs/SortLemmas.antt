@@ -1,5 +1,5 @@
 -- Lists in order with the same elements are the same list.
-use Rattle.std.proofs.Common.{◌≡◌, ◌∙◌, ap, refl, sym, subst, ℕ, ◌+◌, ◌≤◌, ◌<◌, arith, Bool, true, false, cond, List, [], ◌∷◌, ◌++◌, length, map, true≢false, suc, IsSorted, IsPermutation, get_or}
+use Rattle.std.proofs.Common.{◌≡◌, ◌∙◌, ap, refl, sym, ℕ, ◌+◌, ◌≤◌, ◌<◌, arith, Bool, true, false, cond, List, [], ◌∷◌, length, map, true≢false, suc, IsSorted, IsPermutation, get_or}
 use Rattle.std.specs.List.{sum_by, flat_map, AllByRecursion}
 use Rattle.std.specs.Cmp.{IsTotalOrder}
 use Rattle.std.specs.Ordering.{is_lt, is_gt, ordering_reverse}
@@ -12,8 +12,7 @@ use Rattle.std.proofs.lemmas.List.Sorted.{sum_by-IsPermutation, sorted_far, rank
 use Rattle.std.proofs.lemmas.List.Sums.{sum_by-cons}
 use Rattle.rdf_terms.specs.Order.{quad_cmp}
 use Rattle.rdf_terms.specs.OrderLaws.{quad_cmp_total, quad_cmp-IsAntisymmetric}
-use Rattle.rdf_terms.specs.declared.quad.Quad.{Quad}
-use Rattle.rdf_lines.specs.QuadText.{quad_text, IsSortedText, SortedTextIsOne}
+use Rattle.rdf_lines.specs.QuadText.{quad_text, SortedTextIsOne}
 
 -- a sum over a list, from its front
 abbrev tally : {X : Type 0} → (X → ℕ) → List X → ℕ

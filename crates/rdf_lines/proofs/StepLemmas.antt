@@ -1,16 +1,15 @@
 -- The law of the reader call by call.
-use Rattle.std.proofs.Common.{◌≡◌, ◌∙◌, inl, inr, ap, refl, sym, subst, ℕ, ◌+◌, Bool, true, false, List, [], ◌∷◌, ◌++◌, length, append_assoc, Option, Some, None}
+use Rattle.std.proofs.Common.{◌≡◌, ◌∙◌, inl, inr, ap, refl, sym, subst, ℕ, ◌+◌, Bool, true, false, List, [], ◌∷◌, ◌++◌, length, append_assoc, Some, None}
 use Rattle.std.specs.Prelude.{Ok, Err}
 use Rattle.rdf_lines.specs.declared.fault.LineFault.{LineFault}
 use Rattle.rdf_lines.specs.declared.format.LineFormat.{LineFormat}
-use Rattle.rdf_lines.specs.declared.state.State.TheVariants.{Reading, Ended}
 use Rattle.rdf_terms.specs.declared.quad.Quad.{Quad}
 use Rattle.rdf_lines.specs.Lines.{lines, lines_behind}
 use Rattle.rdf_lines.specs.Line.{Says}
 use Rattle.rdf_lines.specs.Labels.{all_noted, labels_of, quad_in}
 use Rattle.rdf_lines.specs.Pieces.{onto}
 use Rattle.rdf_lines.specs.Document.{Reads as ReadsAll, IsDocument, HasSaid, ReadsFront}
-use Rattle.rdf_lines.specs.Reader.{LineState, Answer, AreSilent, Taken, FailsBehind, FaultOf, Reads, Step, StepAt, HasRead, StopsAt, StartsWithNothing, QuadsAddUp, EndIsTheDocument, FaultStops, fresh, fault, state_after}
+use Rattle.rdf_lines.specs.Reader.{LineState, Answer, AreSilent, Taken, FaultOf, Step, StepAt, HasRead, StopsAt, StartsWithNothing, QuadsAddUp, EndIsTheDocument, FaultStops, fresh, fault, state_after}
 use Rattle.rdf_lines.proofs.PieceLemmas.{Consumes-none, Hold-none}
 use Rattle.rdf_lines.proofs.ReaderLemmas.{taken_on, fails_on}
 use Rattle.rdf_lines.proofs.LawLemmas.{known, at_end, taken_lines, fault_says, same_fault}

@@ -4,6 +4,7 @@ pub mod FaultName
 pub mod Grammar
 pub mod Labels
 pub mod Line
+pub mod LineEnds
 pub mod Lines
 pub mod Pieces
 pub mod QuadText

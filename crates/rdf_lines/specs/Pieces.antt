@@ -1,5 +1,5 @@
 -- A reader with the unread rest of its last piece, and what is taken of it.
-use Rattle.std.specs.Prelude.{◌≡◌, ◌≢◌, ℕ, ◌<◌, ◌≤◌, ◌+◌, ◌-◌, ◌*◌, ◌^◌, ◌&&◌, Bool, true, false, List, [], ◌∷◌, ◌++◌, length, take, drop, slice_range, if◌then◌else◌, Option, Result, Ok, Err}
+use Rattle.std.specs.Prelude.{◌≡◌, ◌≢◌, ℕ, ◌<◌, ◌≤◌, ◌+◌, ◌*◌, ◌&&◌, Bool, true, false, List, [], ◌∷◌, ◌++◌, length, take, drop, slice_range, if◌then◌else◌, Option, Result, Ok, Err}
 use Rattle.std.specs.Io.KnownBytes.{Consumes, IsAtEnd, prepend_known}
 use Rattle.rdf_lines.specs.Lines.{lines_behind, onto_first, is_line_feed}
 use Rattle.rdf_lines.specs.declared.fault.FaultKind.{FaultKind}
@@ -66,6 +66,10 @@ feed_len behind (b ∷ bs) = if behind && is_line_feed b then 1 else 0
 abbrev pub HasLine : Bool → List ℕ → Place → Type 0
 HasLine behind piece p =
     (p.start ≤ p.end) × (p.end < length piece) × Hold behind (take (p.end + 1) piece) (slice_range piece p.start p.end ∷ []) [] p.by_return
+
+-- the piece has no line whole: all of it is the front of one
+abbrev pub HasNoLine : Bool → List ℕ → Type 0
+HasNoLine behind piece = (front : List ℕ) × (now : Bool) × Hold behind piece [] front now
 
 -- the part of the line that the held piece has goes behind what the line had
 abbrev pub TakesPart : Held → Bool → List ℕ → Result Bool FaultKind → Held → Bool → List ℕ → Type 0

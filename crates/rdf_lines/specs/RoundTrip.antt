@@ -106,3 +106,9 @@ AreNumberedInOrder quads = (front back : List ℕ) (number smaller : ℕ) → fl
 abbrev pub NumberedDocumentsAreReadBack : Type 0
 NumberedDocumentsAreReadBack =
     (quads : List Quad) → AllByRecursion (λ q. IsTrue (is_quad q)) quads → AreNumberedInOrder quads → IsDocument NQuads (flat_map quad_text quads) quads None
+
+-- Where such quads are sorted, their sorted text says the very same, in this order.
+abbrev pub NumberedSortedTextsAreReadBack : Type 0
+NumberedSortedTextsAreReadBack =
+    (quads : List Quad) (text : List ℕ) → AllByRecursion (λ q. IsTrue (is_quad q)) quads → AreNumberedInOrder quads → IsSorted quad_cmp quads
+    → IsSortedText quads text → IsDocument NQuads text quads None

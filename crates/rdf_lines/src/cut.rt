@@ -1,6 +1,6 @@
 //! Lines out of pieces.
-ghost use Rattle.std.specs.Prelude.{◌≡◌, ◌<◌, ◌≤◌, length, IfSome};
-ghost use Rattle.rdf_lines.specs.Pieces.{ahead, room, feed_len, Fills, TakesPart, TakesLine, Spends, HasLine};
+ghost use Rattle.std.specs.Prelude.{◌≡◌, ◌<◌, ◌≤◌, length, MatchOption};
+ghost use Rattle.rdf_lines.specs.Pieces.{ahead, room, feed_len, Fills, TakesPart, TakesLine, Spends, HasLine, HasNoLine};
 
 use crate::fault::FaultKind;
 use crate::pieces::Pieces;
@@ -49,9 +49,9 @@ pub struct Place {
     pub by_return: bool,
 }
 
-/// Where the first line lies that the piece has whole, with its end.
+/// Where the first line lies that the piece has whole, with its end; `None` where it has none.
 pub fn whole_line(piece: &[u8], behind_return: bool) -> Option<Place>
-    ensures { IfSome result (λ p. HasLine behind_return piece.now p) }
+    ensures { MatchOption result (HasNoLine behind_return piece.now) (HasLine behind_return piece.now) }
 {
     let start = feed_len(piece, behind_return);
     let rest = piece.split_at(start).1;

@@ -34,7 +34,9 @@ pub enum FaultKind {
 #[derive(Clone, Copy, Debug, Error, PartialEq, Eq)]
 #[error("{kind} line {line}")]
 pub struct LineFault {
+    /// The number of the line, from 1.
     pub line: u64,
+    /// Why it could not be read.
     pub kind: FaultKind,
 }
 

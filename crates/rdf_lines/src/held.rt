@@ -1,6 +1,7 @@
 //! The statements of held bytes.
 ghost use Rattle.std.specs.Prelude.{◌≡◌, ◌<◌, ◌∷◌, length, MatchResult, None};
 ghost use Rattle.rdf_lines.specs.Lines.{lines};
+ghost use Rattle.rdf_lines.specs.LineEnds.{LinesAreTheText, NoOthersAreTheText};
 ghost use Rattle.rdf_lines.specs.Document.{IsDocument, TellsFault, EachTextIsOneDocument};
 ghost use Rattle.rdf_lines.specs.Blanks.{BlankNumbersAreBelow};
 
@@ -29,7 +30,12 @@ fn first_line(text: &[u8]) -> (&[u8], &[u8])
     }
 }
 
-/// The statements of a text.
+/// The quads of a document of lines (RDF 1.1 N-Triples, section 2; RDF 1.1 N-Quads, section 2), in the order of its lines. Labels
+/// are numbered from 0 by first appearance: subject, object and graph of each statement.
+///
+/// # Errors
+/// The first faulty line, with its number from 1, and the first of these that applies to it: [`FaultKind::NotUtf8`],
+/// [`FaultKind::Syntax`], [`FaultKind::Relative`]; or [`FaultKind::NoMemory`] at any line. Never `Read` or `Failed`.
 pub fn read_lines(alloc: Global, format: LineFormat, bytes: &[u8]) -> Result<Vec<Quad>, LineFault>
     ensures { MatchResult result
         (λ quads. IsDocument format bytes.now quads.items None)
@@ -60,6 +66,14 @@ pub fn read_lines(alloc: Global, format: LineFormat, bytes: &[u8]) -> Result<Vec
     }
     Ok(quads)
 }
+
+/// The lines of a text, each with its end, are the text, and no others are (N-Triples, section 7,
+/// EOL): no line holds LF or CR, and LF, CR or CRLF ends each, or the end of the text one that isn't
+/// empty.
+pub fn lines_are_the_text()
+    ensures there { LinesAreTheText }
+    ensures alone { NoOthersAreTheText }
+{}
 
 /// Each text is a document, and just one.
 pub fn each_text_is_one_document()

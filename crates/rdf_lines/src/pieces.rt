@@ -1,5 +1,5 @@
 //! The pieces of a stream.
-ghost use Rattle.std.specs.Prelude.{◌≡◌, ◌≤◌, ◌+◌, ◌^◌, [], length, drop, IfOk, OnOk};
+ghost use Rattle.std.specs.Prelude.{◌≡◌, ◌<◌, ◌≤◌, ◌+◌, ◌^◌, [], length, drop, IfOk, OnOk};
 ghost use Rattle.rdf_lines.specs.Pieces.{Refills};
 
 use crate::fault::FaultKind;
@@ -70,6 +70,7 @@ impl<R: Read + Drop> Pieces<R> {
         ensures size { length self.new.held ≤ 65536 }
         ensures calls { OnOk result (self.new.calls + 1 ≡ self.old.calls) }
         ensures falls { self.new.calls ≤ self.old.calls }
+        ensures tries { 0 < self.old.calls → self.new.calls < self.old.calls }
     {
         self.start = 0;
         self.end = 0;

@@ -57,7 +57,11 @@ fn state_after(answer: &Result<Option<Quad>, LineFault>, next: State) -> State
 }
 
 impl<R: Read + Drop> LineReader<R> {
-    /// A reader of the lines that `reader` gives. It calls `reader` at most 2^40 times.
+    /// A reader of the lines that `reader` gives. It calls `reader` at most 2^40 times, and takes it for faulty where it
+    /// hasn't ended then.
+    ///
+    /// # Errors
+    /// [`NoMemory`] where memory for its buffer is wanting.
     pub fn new(alloc: Global, format: LineFormat, reader: R) -> Result<Self, NoMemory>
         ensures { IfOk result (λ r. r ≡ fresh format (R.remaining reader)) }
     {
@@ -145,7 +149,12 @@ impl<R: Read + Drop> LineReader<R> {
         matches!(self.state, State::Reading)
     }
 
-    /// The next statement, or none at the end.
+    /// The quad of the next statement, or `None` at the end and from then on. Labels are numbered from 0 by first appearance.
+    ///
+    /// # Errors
+    /// A fault with the number of its line: [`FaultKind::NotUtf8`], [`FaultKind::Syntax`] or [`FaultKind::Relative`] where the
+    /// next line that isn't blank is faulty; [`FaultKind::Read`] and [`FaultKind::NoMemory`] at the line that isn't wholly
+    /// read; and [`FaultKind::Failed`], with the line of the fault before, from the first fault on.
     pub fn next(&mut self) -> Result<Option<Quad>, LineFault>
         ensures step { Step self.old result self.new }
         ensures falls { FallsAtQuad self.old result self.new }

@@ -1,5 +1,5 @@
 //! What is written is read back.
-ghost use Rattle.rdf_lines.specs.RoundTrip.{EachLineIsReadBack, LinesDiffer, DocumentsAreReadBack, SortedTextsAreReadBack, NumberedDocumentsAreReadBack};
+ghost use Rattle.rdf_lines.specs.RoundTrip.{EachLineIsReadBack, LinesDiffer, DocumentsAreReadBack, SortedTextsAreReadBack, NumberedDocumentsAreReadBack, NumberedSortedTextsAreReadBack};
 
 /// The line of a quad, without its LF, says the quad's statement in N-Quads (N-Quads, section 2),
 /// and so nothing else ([`one_answer`](crate::one_answer)). A blank node's label is `b` and its
@@ -28,4 +28,10 @@ pub fn sorted_texts_are_read_back()
 /// Where the blank numbers come in order of first appearance, the quads are the very same.
 pub fn numbered_documents_are_read_back()
     ensures { NumberedDocumentsAreReadBack }
+{}
+
+/// What [`write_sorted`](crate::write_sorted) writes of sorted quads whose blank numbers come in order
+/// of first appearance is a document with no fault, and its quads are the very same.
+pub fn numbered_sorted_texts_are_read_back()
+    ensures { NumberedSortedTextsAreReadBack }
 {}

@@ -5,14 +5,18 @@ use rdf_terms::{Iri, Literal, Text};
 /// A blank node label, without its `_:`, or an IRI.
 #[derive(Debug, Drop)]
 pub enum Node {
+    /// A blank node, by its label without `_:`.
     Label(Text),
+    /// An IRI.
     Iri(Iri),
 }
 
 /// What may stand as an object.
 #[derive(Debug, Drop)]
 pub enum Object {
+    /// An IRI or a blank node.
     Node(Node),
+    /// A literal.
     Literal(Literal),
 }
 

@@ -9,7 +9,10 @@ use rdf_terms::{GraphName, NoMemory, Quad, Term, write_term};
 use std::alloc::Global;
 
 /// Appends the line of the quad: its terms as canonical N-Triples, then its graph if it has a name, one space after each, then
-/// a dot and LF (RDF 1.1 N-Quads, section 2). A refusal leaves the vector as it was.
+/// a dot and LF (RDF 1.1 N-Quads, section 2).
+///
+/// # Errors
+/// [`NoMemory`] where memory is wanting; the vector is then as it was.
 pub fn write_quad(alloc: Global, quad: &Quad, out: &mut Vec<u8>) -> Result<(), NoMemory>
     ensures ok { OnOk result (out.new.items ≡ out.old.items ++ quad_text quad.now) }
     ensures err { OnErr result (out.new.items ≡ out.old.items) }
@@ -55,7 +58,9 @@ fn append_graph(alloc: Global, graph: &GraphName, out: &mut Vec<u8>) -> Result<(
 }
 
 /// Appends the lines of the quads, repeats included, by graph, subject, predicate and object, the default graph first.
-/// A refusal leaves the vector as it was.
+///
+/// # Errors
+/// [`NoMemory`] where memory is wanting; the vector is then as it was.
 pub fn write_sorted(alloc: Global, quads: &[Quad], out: &mut Vec<u8>) -> Result<(), NoMemory>
     ensures ok { OnOk result ((text : List ℕ) × IsSortedText quads.now text × (out.new.items ≡ out.old.items ++ text)) }
     ensures err { OnErr result (out.new.items ≡ out.old.items) }

@@ -7,6 +7,7 @@ use Rattle.rdf_terms.specs.Characters.{short_escape}
 use Rattle.rdf_terms.specs.Reading.{◌>>=◌, expect, numeric_at, escape_at, allowed_only, iri_character_at, string_character_at, iri_body_at, iri_at, quoted_body_at, quoted_at}
 use Rattle.rdf_terms.specs.Runs.{ends_run}
 use Rattle.rdf_terms.specs.Escapes.{IsNumericEscape, IsShortEscape}
+use Rattle.rdf_terms.specs.ReadingLaws.{IsEscapeBehind}
 use Rattle.rdf_terms.specs.Quoted.{IsIriCharacter, IsStringCharacter, IsIriRef, IsQuoted}
 use Rattle.rdf_terms.proofs.OptionLemmas.{bind_some, some_is, some_pair, none_is, guard_some, guard_none}
 use Rattle.rdf_terms.proofs.EscapeLemmas.{numeric_sound, numeric_complete}
@@ -136,6 +137,14 @@ pub escape-numeric : (piece : List ℕ) (c : ℕ) (rest : List ℕ) → IsNumeri
 unfolding escape_at
 escape-numeric [] c rest h = absurd (elim h.form [ inl s ↦ cc s.0 | inr l ↦ cc l.0 ])
 escape-numeric (d ∷ piece) c rest h = rw (numeric_letter d c piece h) (numeric_complete (d ∷ piece) c rest h)
+
+-- less its backslash, a short escape is its letter
+short_tail : (piece : List ℕ) (d : ℕ) → (92 ∷ piece) ≡ 92 ∷ d ∷ [] → piece ≡ d ∷ []
+short_tail piece d e = cc
+
+pub escape_complete : (piece : List ℕ) (c : ℕ) (rest : List ℕ) → IsEscapeBehind piece c → escape_at (piece ++ rest) ≡ Some (c, rest)
+escape_complete piece c rest (inl n) = escape-numeric piece c rest n
+escape_complete piece c rest (inr s) = ap (λ (t : List ℕ). escape_at (t ++ rest)) (short_tail piece s.0 s.1) ∙ escape-short s.0 c rest s.2
 
 string_character_sound : (q : ℕ) (cs : List ℕ) (c : ℕ) (rest : List ℕ) → string_character_at q cs ≡ Some (c, rest) → (piece : List ℕ) × (cs ≡ piece ++ rest) × IsStringCharacter q piece c
 unfolding string_character_at

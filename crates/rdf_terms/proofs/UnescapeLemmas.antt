@@ -9,7 +9,7 @@ use Rattle.rdf_terms.specs.Escapes.{IsNumericEscape, IsCharacter, Writes}
 use Rattle.rdf_terms.proofs.OptionLemmas.{some_pair, none_is}
 use Rattle.rdf_terms.proofs.QuotedLemmas.{numeric_begins, escape_sound, escape-short, escape-numeric}
 
-character_sound : (cs : List ℕ) (c : ℕ) (rest : List ℕ) → character_at cs ≡ Some (c, rest) → (piece : List ℕ) × (cs ≡ piece ++ rest) × IsCharacter piece c
+pub character_sound : (cs : List ℕ) (c : ℕ) (rest : List ℕ) → character_at cs ≡ Some (c, rest) → (piece : List ℕ) × (cs ≡ piece ++ rest) × IsCharacter piece c
 unfolding character_at
 character_sound [] c rest e = none_is (c, rest) e
 character_sound (d ∷ cs) c rest e =
@@ -30,7 +30,7 @@ character-escape : (rest : List ℕ) → character_at (92 ∷ rest) ≡ escape_a
 unfolding character_at
 character-escape rest = refl
 
-character_complete : (piece : List ℕ) (c : ℕ) (rest : List ℕ) → IsCharacter piece c → character_at (piece ++ rest) ≡ Some (c, rest)
+pub character_complete : (piece : List ℕ) (c : ℕ) (rest : List ℕ) → IsCharacter piece c → character_at (piece ++ rest) ≡ Some (c, rest)
 character_complete piece c rest (inl h) = ap (λ (t : List ℕ). character_at (t ++ rest)) h.0 ∙ character-plain c rest h.1
 character_complete piece c rest (inr (inl n)) =
     let b = numeric_begins piece c n in

@@ -15,6 +15,7 @@ use Rattle.rdf_terms.specs.declared.quad.GraphName.{GraphName}
 use Rattle.rdf_terms.specs.declared.quad.GraphName.TheVariants.{Default, Named}
 use Rattle.rdf_terms.specs.declared.term.Term.{Term}
 use Rattle.rdf_terms.specs.declared.term.Term.TheVariants.{Blank, Iri, Literal}
+use Rattle.rdf_terms.specs.contracts.iri.IriOrd.TheImpl as of_iris
 use Rattle.rdf_terms.specs.contracts.literal.LiteralOrd.TheImpl as of_literals
 use Rattle.rdf_terms.specs.contracts.term.TermOrd.TheImpl as of_terms
 use Rattle.rdf_terms.specs.contracts.term.TermOrd.TheImpl.Laws as laws_of_terms
@@ -30,6 +31,9 @@ tag_order None None = refl
 tag_order None (Some t) = refl
 tag_order (Some s) None = refl
 tag_order (Some s) (Some t) = refl
+
+pub iri_order : (a b : List ℕ) → (of_iris.ghosts).cmp a b ≡ text_cmp a b
+iri_order a b = refl
 
 pub literal_order : (a b : LiteralParts) → (of_literals.ghosts).cmp a b ≡ literal_cmp a b
 literal_order a b =

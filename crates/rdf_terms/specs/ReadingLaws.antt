@@ -1,12 +1,18 @@
--- What the readers of IRIs and quoted strings answer is what stands there, and what stands there is answered, whatever follows.
-use Rattle.std.specs.Prelude.{◌≡◌, ℕ, List, ◌++◌, Option, Some}
+-- What the readers of IRIs, quoted strings, characters and escapes answer is what stands there, and what stands there is
+-- answered, whatever follows.
+use Rattle.std.specs.Prelude.{◌≡◌, ℕ, ◌⊎◌, List, ◌∷◌, ◌++◌, Option, Some}
+use Rattle.rdf_terms.specs.Escapes.{IsNumericEscape, IsShortEscape}
 
 -- the front of the text has the form and says the value, and the rest follows it
-abbrev pub StandsAt : (List ℕ → List ℕ → Type 0) → List ℕ → List ℕ → List ℕ → Type 0
-StandsAt Form cs text rest = (slice : List ℕ) × (cs ≡ slice ++ rest) × Form slice text
+abbrev pub StandsAt : {V : Type 0} → (List ℕ → V → Type 0) → List ℕ → V → List ℕ → Type 0
+StandsAt Form cs value rest = (slice : List ℕ) × (cs ≡ slice ++ rest) × Form slice value
 
-abbrev pub IsSoundReader : (List ℕ → List ℕ → Type 0) → (List ℕ → Option (List ℕ × List ℕ)) → Type 0
-IsSoundReader Form read = (cs text rest : List ℕ) → read cs ≡ Some (text, rest) → StandsAt Form cs text rest
+abbrev pub IsSoundReader : {V : Type 0} → (List ℕ → V → Type 0) → (List ℕ → Option (V × List ℕ)) → Type 0
+IsSoundReader {V = V} Form read = (cs : List ℕ) (value : V) (rest : List ℕ) → read cs ≡ Some (value, rest) → StandsAt Form cs value rest
 
-abbrev pub IsCompleteReader : (List ℕ → List ℕ → Type 0) → (List ℕ → Option (List ℕ × List ℕ)) → Type 0
-IsCompleteReader Form read = (slice text rest : List ℕ) → Form slice text → read (slice ++ rest) ≡ Some (text, rest)
+abbrev pub IsCompleteReader : {V : Type 0} → (List ℕ → V → Type 0) → (List ℕ → Option (V × List ℕ)) → Type 0
+IsCompleteReader {V = V} Form read = (slice : List ℕ) (value : V) (rest : List ℕ) → Form slice value → read (slice ++ rest) ≡ Some (value, rest)
+
+-- a UCHAR or an ECHAR, less its backslash (Turtle 1.1, section 6.5)
+abbrev pub IsEscapeBehind : List ℕ → ℕ → Type 0
+IsEscapeBehind piece c = IsNumericEscape (92 ∷ piece) c ⊎ IsShortEscape (92 ∷ piece) c

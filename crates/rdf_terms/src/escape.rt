@@ -1,7 +1,8 @@
 //! Escapes, the characters that they may stand for, and texts with their escapes read.
 ghost use Rattle.std.specs.Prelude.{◌≡◌, ◌<◌, IfOk, IfSome, string_bytes, option_map};
 ghost use Rattle.rdf_terms.specs.Reading.{hex_at, hex4_at, numeric_at, escape_at, character_at, iri_character_at, string_character_at};
-ghost use Rattle.rdf_terms.specs.Escapes.{Unescapes, WritesOnce};
+ghost use Rattle.rdf_terms.specs.Escapes.{IsCharacter, Unescapes, WritesOnce};
+ghost use Rattle.rdf_terms.specs.ReadingLaws.{IsSoundReader, IsCompleteReader, IsEscapeBehind};
 
 use crate::character::is_forbidden_in_iri;
 use crate::cursor::Cursor;
@@ -55,7 +56,7 @@ impl<'a> Cursor<'a> {
 
     /// UCHAR or ECHAR: any escape, behind its backslash.
     #[tactic(auto, unfolding(crate::specs::Reading::escape_at, crate::specs::Characters::short_escape))]
-    pub fn escape(&self) -> Option<(char, Cursor<'a>)>
+    pub(crate) fn escape(&self) -> Option<(char, Cursor<'a>)>
         ensures { result ≡ escape_at self.now }
     {
         let mut rest = self.fork();
@@ -87,7 +88,7 @@ impl<'a> Cursor<'a> {
 
     /// One character of an IRI.
     #[tactic(auto, unfolding(crate::specs::Reading::iri_character_at, crate::specs::Reading::allowed_only))]
-    pub fn iri_character(&self) -> Option<(char, Cursor<'a>)>
+    pub(crate) fn iri_character(&self) -> Option<(char, Cursor<'a>)>
         ensures { result ≡ iri_character_at self.now }
     {
         let mut rest = self.fork();
@@ -106,7 +107,7 @@ impl<'a> Cursor<'a> {
 
     /// One character of a string between such quotes.
     #[tactic(auto, unfolding(crate::specs::Reading::string_character_at))]
-    pub fn string_character(&self, quote: char) -> Option<(char, Cursor<'a>)>
+    pub(crate) fn string_character(&self, quote: char) -> Option<(char, Cursor<'a>)>
         ensures { result ≡ string_character_at quote self.now }
     {
         let mut rest = self.fork();
@@ -145,4 +146,18 @@ pub fn unescape(alloc: Global, text: &str) -> Result<Option<String>, NoMemory>
 /// A text writes one value at most.
 pub fn one_value()
     ensures { WritesOnce }
+{}
+
+/// What is read behind a backslash is an escape, UCHAR or ECHAR (Turtle 1.1, section 6.5), and an
+/// escape is read, whatever follows it.
+pub fn escapes_are_read()
+    ensures sound { IsSoundReader IsEscapeBehind escape_at }
+    ensures complete { IsCompleteReader IsEscapeBehind escape_at }
+{}
+
+/// What is read as a character stands for itself or is an escape, and one is read, whatever
+/// follows it.
+pub fn characters_are_read()
+    ensures sound { IsSoundReader IsCharacter character_at }
+    ensures complete { IsCompleteReader IsCharacter character_at }
 {}

@@ -34,7 +34,8 @@ impl IriReference {
 
     /// The characters of the reference.
     pub fn as_str(&self) -> &str
-        ensures { result.now ≡ self.now }
+        ensures value { result.now ≡ self.now }
+        ensures allowed { has_forbidden self.now ≡ false }
     {
         self.text.as_str()
     }

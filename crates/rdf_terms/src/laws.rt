@@ -2,7 +2,7 @@
 ghost use Rattle.std.specs.Prelude.{IsTrue};
 ghost use Rattle.std.specs.Cmp.{IsTotalOrder};
 ghost use Rattle.std.specs.FinSet.{IsAntisymmetric};
-ghost use Rattle.rdf_terms.specs.Comparisons.{TermsAreOrdered, GraphsAreOrdered, QuadsAreOrdered, TermsAreEqual, GraphsAreEqual, QuadsAreEqual};
+ghost use Rattle.rdf_terms.specs.Comparisons.{IrisAreOrdered, LiteralsAreOrdered, TermsAreOrdered, GraphsAreOrdered, QuadsAreOrdered, IrisAreEqual, LiteralsAreEqual, TermsAreEqual, GraphsAreEqual, QuadsAreEqual};
 ghost use Rattle.rdf_terms.specs.Order.{term_cmp, graph_cmp, quad_cmp};
 ghost use Rattle.rdf_terms.specs.Quad.{is_graph, is_quad};
 ghost use Rattle.rdf_terms.specs.Term.{is_term};
@@ -55,17 +55,22 @@ pub fn texts_differ()
 pub fn orders_are_total()
     ensures terms { IsTotalOrder term_cmp }
     ensures terms_apart { IsAntisymmetric term_cmp }
+    ensures graphs { IsTotalOrder graph_cmp }
     ensures graphs_apart { IsAntisymmetric graph_cmp }
     ensures quads { IsTotalOrder quad_cmp }
     ensures quads_apart { IsAntisymmetric quad_cmp }
 {}
 
-/// The code's comparisons of terms, graph names and quads are these orders, and its `==` the
-/// equality of values; so callers may sort and search by them.
+/// The code's comparisons of IRIs, literals, terms, graph names and quads are these orders, and its
+/// `==` the equality of values; so callers may sort and search by them.
 pub fn comparisons_are_the_order()
+    ensures iris { IrisAreOrdered }
+    ensures literals { LiteralsAreOrdered }
     ensures terms { TermsAreOrdered }
     ensures graphs { GraphsAreOrdered }
     ensures quads { QuadsAreOrdered }
+    ensures same_iris { IrisAreEqual }
+    ensures same_literals { LiteralsAreEqual }
     ensures same_terms { TermsAreEqual }
     ensures same_graphs { GraphsAreEqual }
     ensures same_quads { QuadsAreEqual }

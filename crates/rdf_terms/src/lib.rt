@@ -27,7 +27,7 @@ mod write;
 
 pub use character::{is_forbidden_in_iri, is_pn_chars, is_pn_chars_base, is_pn_chars_u};
 pub use cursor::Cursor;
-pub use escape::{one_value, unescape};
+pub use escape::{characters_are_read, escapes_are_read, one_value, unescape};
 pub use examples::the_standards_examples_hold;
 pub use fault::{IriFault, NoMemory};
 pub use iri::Iri;

@@ -147,7 +147,7 @@ impl Literal {
 fn lowered(alloc: Global, tag: &str) -> Result<Text, NoMemory>
     ensures { IfOk result (λ t. t ≡ str_to_ascii_lowercase tag.now) }
 {
-    Ok(Text::from(tag.to_ascii_lowercase(alloc)?))
+    Text::from_string(tag.to_ascii_lowercase(alloc)?)
 }
 
 fn are_alphanumeric(text: &[u8]) -> bool

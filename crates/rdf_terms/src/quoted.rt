@@ -26,7 +26,7 @@ impl<'a> Cursor<'a> {
             let stop = rest.past_iri_run();
             text.push_str(rest.text_up_to(&stop))?;
             if let Some(behind) = stop.expect('>') {
-                return Ok(Some((IriReference::from_text(Text::from(text)), behind)));
+                return Ok(Some((IriReference::from_text(Text::from_string(text)?), behind)));
             }
             let Some((c, behind)) = stop.iri_character() else {
                 return Ok(None);
@@ -52,7 +52,7 @@ impl<'a> Cursor<'a> {
             let stop = rest.past_string_run(quote);
             text.push_str(rest.text_up_to(&stop))?;
             if let Some(behind) = stop.expect(quote) {
-                return Ok(Some((Text::from(text), behind)));
+                return Ok(Some((Text::from_string(text)?, behind)));
             }
             let Some((c, behind)) = stop.string_character(quote) else {
                 return Ok(None);

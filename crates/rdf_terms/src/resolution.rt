@@ -48,21 +48,21 @@ fn resolved(alloc: Global, base: &Iri, reference: &str) -> Result<Iri, NoMemory>
     ensures sound { IfOk result (λ iri. IsTrue (is_iri iri)) }
 {
     let text = resolved_text(alloc, base.as_str().as_bytes(), reference.as_bytes())?;
-    Ok(iri_of(text))
+    Ok(iri_of(text)?)
 }
 
 // The IRI of bytes that are known to be one.
-fn iri_of(bytes: Vec<u8>) -> Iri
+fn iri_of(bytes: Vec<u8>) -> Result<Iri, NoMemory>
     requires { IsTrue (is_iri bytes.items) }
-    ensures { result ≡ bytes.items }
+    ensures { IfOk result (λ iri. iri ≡ bytes.items) }
 {
     let Ok(text) = String::from_utf8(bytes) else {
         unreachable!()
     };
-    let Ok(iri) = Iri::from_text(Text::from(text)) else {
+    let Ok(iri) = Iri::from_text(Text::from_string(text)?) else {
         unreachable!()
     };
-    iri
+    Ok(iri)
 }
 
 #[tactic(auto, unfolding(crate::specs::Rewriting::resolved))]

@@ -1,5 +1,5 @@
 //! A text that contracts see as its UTF-8 bytes, and nothing else.
-ghost use Rattle.std.specs.Prelude.{◌≡◌, IfOk, IsTrue, Some, nat_eq, refl};
+ghost use Rattle.std.specs.Prelude.{◌≡◌, IfOk, IsTrue, Some, nat_eq, refl, string_bytes};
 ghost use Rattle.std.specs.Str.{is_utf8};
 ghost use Rattle.std.specs.Ordering.{nat_cmp};
 ghost use Rattle.std.specs.Hash as fed;
@@ -14,24 +14,26 @@ use std::cmp::Ordering;
 use std::fmt;
 use std::hash::{Hash, Hasher};
 use std::marker::Model;
+use std::rc::RcStr;
 
 /// A text of Unicode characters. A contract sees its UTF-8 bytes, so two texts are equal where
-/// their bytes are, and texts are ordered by their bytes, which is the order of code points.
+/// their bytes are, and texts are ordered by their bytes, which is the order of code points. Copies
+/// of a text share its bytes.
 #[derive(Drop)]
 pub struct Text {
-    string: String,
+    string: RcStr,
 }
 
 impl Model for Text {
     ghost use Rattle.std.specs.Prelude.{ℕ, List, IsTrue};
-    ghost use Rattle.std.specs.String.{string_bytes};
+    ghost use Rattle.std.specs.Rc.{rc_str_bytes};
     ghost use Rattle.std.specs.Str.{is_utf8};
 
     ghost Value = { List ℕ };
 
-    ghost view = { λ t. string_bytes t.string };
+    ghost view = { λ t. rc_str_bytes t.string };
 
-    ghost invariant = { λ t. IsTrue (is_utf8 (string_bytes t.string)) };
+    ghost invariant = { λ t. IsTrue (is_utf8 (rc_str_bytes t.string)) };
 }
 
 impl Text {
@@ -43,7 +45,20 @@ impl Text {
         ensures { IfOk result (λ t. t ≡ text.now) }
     {
         Ok(Text {
-            string: String::from_str(alloc, text)?,
+            string: RcStr::from_str(alloc, text)?,
+        })
+    }
+
+    /// The text of a string, which it takes over.
+    ///
+    /// # Errors
+    /// [`NoMemory`] where memory is wanting.
+    pub fn from_string(string: String) -> Result<Text, NoMemory>
+        ensures { IfOk result (λ t. t ≡ string_bytes string) }
+    {
+        let _ = string.as_str();
+        Ok(Text {
+            string: RcStr::from_string(string)?,
         })
     }
 
@@ -65,18 +80,6 @@ impl Text {
         Ok(Text {
             string: self.string.clone()?,
         })
-    }
-}
-
-impl From<String> for Text {
-    ghost use Rattle.std.specs.Prelude.{◌≡◌};
-    ghost use Rattle.std.specs.String.{string_bytes};
-
-    ghost from_gives = { λ s t. t ≡ string_bytes s };
-
-    fn from(string: String) -> Text {
-        let _ = string.as_str();
-        Text { string }
     }
 }
 

@@ -1,10 +1,10 @@
 -- A text says one thing: the quads of a document, or a fault.
-use Rattle.std.proofs.Common.{◌≡◌, ◌≢◌, zero, cond, ok_or, ◌<◌, ◌≤◌, ◌+◌, ◌⊎◌, inl, inr, ℕ, suc, Bool, true, false, List, [], ◌∷◌, ◌++◌, length, take, Option, Some, None, Result, Ok, Err, refl, sym, ap, subst, ◌∙◌, append_assoc, length-append, arith}
+use Rattle.std.proofs.Common.{◌≡◌, ◌≢◌, zero, cond, ok_or, ◌<◌, ◌+◌, ◌⊎◌, inl, inr, ℕ, suc, Bool, true, false, List, [], ◌∷◌, ◌++◌, length, Option, Some, None, Result, Ok, Err, refl, sym, ap, subst, ◌∙◌, append_assoc, length-append, arith}
 use Rattle.std.proofs.lemmas.Bool.{cases_lt}
 use Rattle.std.proofs.lemmas.List.{append_cancel_left}
 use Rattle.std.proofs.lemmas.Str.{encodes-append, length-le-encodes}
 use Rattle.std.specs.List.{slice_get}
-use Rattle.std.specs.Str.{chars, encode_utf8_all, IsUtf8, IsValidUpTo}
+use Rattle.std.specs.Str.{chars, encode_utf8_all, IsValidUpTo}
 use Rattle.rdf_terms.specs.Reading.{byte_count}
 use Rattle.rdf_terms.specs.declared.quad.Quad.{Quad}
 use Rattle.rdf_turtle.specs.declared.fault.TurtleFault.{TurtleFault}
@@ -15,14 +15,14 @@ use Rattle.rdf_turtle.specs.declared.lexeme.Terminal.{Terminal}
 use Rattle.rdf_turtle.specs.declared.token.Token.{Token}
 use Rattle.rdf_turtle.specs.declared.tree.Statement.{Statement}
 use Rattle.rdf_turtle.specs.Document.{HasTokens, HasTree, IsDocument, FaultIs, IsFaulty, TellsFault}
-use Rattle.rdf_turtle.specs.DocumentLaws.{has_free_line, SameFault, OneDocument, NeverBoth, OneFault}
+use Rattle.rdf_turtle.specs.DocumentLaws.{has_free_line, OneDocument, NeverBoth, OneFault}
 use Rattle.rdf_turtle.specs.Grammar as grammar
 use Rattle.rdf_turtle.specs.Lexemes.{Stands, IsLexeme, AreLexemes, terminal_of}
 use Rattle.rdf_turtle.specs.Lines.{line_of}
 use Rattle.rdf_turtle.specs.Kept.{IsFaultOf}
 use Rattle.rdf_turtle.specs.Known.{declares_first}
 use Rattle.rdf_turtle.specs.Meaning.{answer, triples_of}
-use Rattle.rdf_turtle.specs.Nesting.{IsTooDeep, IsTooDeepAt, open_after, max_open}
+use Rattle.rdf_turtle.specs.Nesting.{IsTooDeep, IsTooDeepAt}
 use Rattle.rdf_turtle.specs.Stops.{Explains}
 use Rattle.rdf_turtle.specs.Tokens.{Says}
 use Rattle.rdf_turtle.proofs.GrammarWhole.{document_unique}
@@ -268,13 +268,13 @@ fault_tells : (base : Option (List ℕ)) (text : List ℕ) (f : TurtleFault) (k 
 fault_tells base text f k e h =
     subst (λ (x : TurtleFaultKind). TellsFault base text f x) (sym e) (tells_at base text f k h (subst (λ (x : TurtleFaultKind). FaultIs base text x f.line) (sym e) h))
 
-same_lengths : (text : List ℕ) (ts : List Token) (ls : List Lexeme) → AreLexemes text ts ls → length ls ≡ length ts
+pub same_lengths : (text : List ℕ) (ts : List Token) (ls : List Lexeme) → AreLexemes text ts ls → length ls ≡ length ts
 same_lengths text [] [] h = refl
 same_lengths text [] (l ∷ ls) h = absurd h
 same_lengths text (t ∷ ts) [] h = absurd h
 same_lengths text (t ∷ ts) (l ∷ ls) h = omega (arith, same_lengths text ts ls h.1)
 
-got : (xs : List Token) (n : ℕ) → n < length xs → (x : Token) × (slice_get xs n ≡ Some x)
+pub got : (xs : List Token) (n : ℕ) → n < length xs → (x : Token) × (slice_get xs n ≡ Some x)
 got [] n h = absurd (omega (arith, h))
 got (x ∷ xs) zero h = (x, refl)
 got (x ∷ xs) (suc n) h = got xs n (omega (arith, h))
@@ -314,13 +314,13 @@ stop_tells base text ts ls k place start f h deep why at e l none = elim (same_o
 ]
 
 -- the fault of the triples is the text's
-answer_kind : (b : Bool) (o : Option (List Quad)) (k : TurtleFaultKind) → ◌≡◌ {A = Result (List Quad) TurtleFaultKind} (cond b (ok_or o fault.Relative) (Err fault.UnknownPrefix)) (Err k)
+pub answer_kind : (b : Bool) (o : Option (List Quad)) (k : TurtleFaultKind) → ◌≡◌ {A = Result (List Quad) TurtleFaultKind} (cond b (ok_or o fault.Relative) (Err fault.UnknownPrefix)) (Err k)
     → (k ≡ fault.UnknownPrefix) ⊎ (k ≡ fault.Relative)
 answer_kind true None k e = inr (err_same k fault.Relative (sym e))
 answer_kind true (Some x) k e = absurd (ok_err x k e)
 answer_kind false o k e = inl (err_same k fault.UnknownPrefix (sym e))
 
-name_is : (base : Option (List ℕ)) (text : List ℕ) (tree : List Statement) (k : TurtleFaultKind) (line : ℕ) → HasTree text tree → answer base tree ≡ Err k
+pub name_is : (base : Option (List ℕ)) (text : List ℕ) (tree : List Statement) (k : TurtleFaultKind) (line : ℕ) → HasTree text tree → answer base tree ≡ Err k
     → (k ≡ fault.UnknownPrefix) ⊎ (k ≡ fault.Relative) → FaultIs base text k line
 name_is base text tree k line h e (inl u) = subst (λ (x : TurtleFaultKind). FaultIs base text x line) (sym u) (tree, h, e ∙ ap (λ (x : TurtleFaultKind). Err x) u)
 name_is base text tree k line h e (inr r) = subst (λ (x : TurtleFaultKind). FaultIs base text x line) (sym r) (tree, h, e ∙ ap (λ (x : TurtleFaultKind). Err x) r)

@@ -23,7 +23,7 @@ use Rattle.rdf_turtle.proofs.ValueTexts.{text_value_is}
 
 -- ---- the bytes of a slice
 
-scalars_parts : (xs ys : List ℕ) → scalars (xs ++ ys) ≡ true → (scalars xs ≡ true) × (scalars ys ≡ true)
+pub scalars_parts : (xs ys : List ℕ) → scalars (xs ++ ys) ≡ true → (scalars xs ≡ true) × (scalars ys ≡ true)
 scalars_parts [] ys h = (refl, h)
 scalars_parts (x ∷ xs) ys h =
     let p = and_parts (scalar x) (scalars (xs ++ ys)) h in
@@ -173,3 +173,15 @@ pub token_says : (text : List ℕ) (token : Token) (slice bytes : List ℕ) → 
 token_says text token slice bytes h s stands e =
     let form = subst (HasForm token.kind) (stands_once text token.start token.stop h.1 slice (token_stands text token h) stands) h.6 in
     (slice, stands, subst (SaysBy token.kind slice) (sym e) (says_by token.kind slice form s))
+
+-- the slice determines what is said
+said_value : (k : Kind) (slice bytes : List ℕ) → SaysBy k slice bytes → bytes ≡ value_by k slice
+said_value kind.Iri slice bytes h = iri_value_is slice bytes h
+said_value kind.Text slice bytes h = h.2 ∙ text_value_is slice h.0 h.1
+said_value kind.Pname slice bytes h =
+    h.6 ∙ local_value_is h.1 h.2 h.5 ∙ ap local_value (sym (ap local_part h.3 ∙ local_part_is h.0 h.1 h.4))
+said_value other slice bytes h = absurd h
+
+pub one_token_text : (text : List ℕ) (token : Token) (a b : List ℕ) → TokenSays text token a → TokenSays text token b → a ≡ b
+one_token_text text token a b h k =
+    said_value token.kind h.0 a h.2 ∙ ap (λ (s : List ℕ). value_by token.kind s) (stands_once text token.start token.stop h.0 k.0 h.1 k.1) ∙ sym (said_value token.kind k.0 b k.2)

@@ -1,3 +1,8 @@
+pub mod BaseDocuments
+pub mod BaseLeaves
+pub mod BaseSteps
+pub mod BaseTrees
+pub mod DocumentCases
 pub mod DocumentLemmas
 pub mod GrammarDecides
 pub mod GrammarDepths
@@ -10,10 +15,13 @@ pub mod GrammarRepeats
 pub mod GrammarStatements
 pub mod GrammarWhole
 pub mod LexemeLemmas
+pub mod LineLemmas
 pub mod ScopeBlanks
+pub mod ScopePrefixes
 pub mod ScopeReferences
 pub mod ScopeSteps
 pub mod ScopeTexts
+pub mod TagForms
 pub mod TokenClaims
 pub mod TokenDispatch
 pub mod TokenEnds
@@ -34,3 +42,4 @@ pub mod ValueNames
 pub mod ValuePlaces
 pub mod ValuePnames
 pub mod ValueTexts
+mod AnswerLemmas

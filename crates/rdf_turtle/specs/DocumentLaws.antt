@@ -1,5 +1,5 @@
 -- A text says one thing: the quads of a document, or a fault.
-use Rattle.std.specs.Prelude.{◌≡◌, ℕ, Bool, true, false, List, Option}
+use Rattle.std.specs.Prelude.{◌≡◌, ◌⊎◌, ℕ, Bool, true, false, List, Option}
 use Rattle.rdf_terms.specs.declared.quad.Quad.{Quad}
 use Rattle.rdf_turtle.specs.declared.fault.TurtleFault.{TurtleFault}
 use Rattle.rdf_turtle.specs.declared.fault.TurtleFaultKind.{TurtleFaultKind}
@@ -16,6 +16,10 @@ has_free_line kind = false
 -- the same fault, but for a line that is free
 abbrev pub SameFault : TurtleFault → TurtleFault → Type 0
 SameFault a b = (a.kind ≡ b.kind) × ((has_free_line a.kind ≡ false) → a.line ≡ b.line)
+
+-- each text is a document or faulty, against each base
+abbrev pub SomeMeaning : Type 0
+SomeMeaning = (base : Option (List ℕ)) (text : List ℕ) → ((quads : List Quad) × IsDocument base text quads) ⊎ ((fault : TurtleFault) × IsFaulty base text fault)
 
 abbrev pub OneDocument : Type 0
 OneDocument = (base : Option (List ℕ)) (text : List ℕ) (a b : List Quad) → IsDocument base text a → IsDocument base text b → a ≡ b

@@ -1,3 +1,4 @@
+pub mod Bases
 pub mod Blanks
 pub mod Characters
 pub mod Derivations
@@ -11,6 +12,7 @@ pub mod Known
 pub mod Leaves
 pub mod LexemeLaws
 pub mod Lexemes
+pub mod LineLaws
 pub mod Lines
 pub mod Meaning
 pub mod Nesting
@@ -18,6 +20,7 @@ pub mod Reading
 pub mod References
 pub mod Rules
 pub mod State
+pub mod StateLaws
 pub mod Steps
 pub mod Stops
 pub mod TokenReading

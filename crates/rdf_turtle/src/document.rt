@@ -1,11 +1,12 @@
 //! Turtle documents, from bytes to quads.
-ghost use Rattle.std.specs.Prelude.{◌≡◌, ◌≢◌, ℕ, List, Some, MatchResult, slice_get};
+ghost use Rattle.std.specs.Prelude.{◌≡◌, ◌≢◌, ℕ, List, Option, Some, MatchResult, slice_get};
 ghost use Rattle.std.specs.Option.{option_copied};
 ghost use Rattle.std.specs.Str.{IsUtf8};
 ghost use Rattle.rdf_turtle.specs.declared.fault.TurtleFaultKind.TheVariants.{NoMemory as NoMemoryKind};
 ghost use Rattle.rdf_turtle.specs.declared.token.Token.{Token as Held};
-ghost use Rattle.rdf_turtle.specs.Document.{IsDocument, TellsFault};
-ghost use Rattle.rdf_turtle.specs.DocumentLaws.{OneDocument, NeverBoth, OneFault};
+ghost use Rattle.rdf_turtle.specs.Bases.{RelativeLacksABase};
+ghost use Rattle.rdf_turtle.specs.Document.{HasTree, IsDocument, TellsFault};
+ghost use Rattle.rdf_turtle.specs.DocumentLaws.{SomeMeaning, OneDocument, NeverBoth, OneFault};
 ghost use Rattle.rdf_turtle.specs.Lines.{line_of};
 
 use crate::fault::{TurtleFault, TurtleFaultKind};
@@ -16,7 +17,8 @@ use crate::meaning::triples_of;
 use crate::placed::PlacedFault;
 use crate::read::{Stop, parse_document};
 use crate::token::Token;
-use rdf_terms::{Iri, Quad};
+use crate::tree::Statement;
+use rdf_terms::{Iri, Items, Quad};
 use std::alloc::Global;
 
 // The fault of this kind, at the line of that byte; want of memory has no line.
@@ -42,12 +44,12 @@ fn start_of(text: &[u8], tokens: &[Token], number: usize) -> usize
     }
 }
 
-// The quads of a text that is UTF-8.
-fn read_text(alloc: Global, text: &str, base: Option<&Iri>) -> Result<Vec<Quad>, TurtleFault>
+// The tree of a text that is UTF-8. Its tokens are let go when the tree stands.
+fn read_tree<'a>(alloc: Global, text: &'a str) -> Result<Items<Statement<'a>>, TurtleFault>
     requires { IsUtf8 text.now }
     ensures { MatchResult result
-        (λ quads. IsDocument (option_copied base.entry) text.now quads.items)
-        (λ fault. TellsFault (option_copied base.entry) text.now fault fault.kind) }
+        (λ tree. HasTree text.now tree)
+        (λ fault. (base : Option (List ℕ)) → TellsFault base text.now fault fault.kind) }
 {
     let tokens = tokens(alloc, text)?;
     let Ok(lexemes) = lexemes(alloc, text, tokens.as_slice()) else {
@@ -60,7 +62,21 @@ fn read_text(alloc: Global, text: &str, base: Option<&Iri>) -> Result<Vec<Quad>,
             return Err(fault_at(text.as_bytes(), kind, start));
         }
     };
-    match triples_of(alloc, base, tree.as_slice()) {
+    Ok(tree)
+}
+
+// The quads of a text that is UTF-8.
+fn read_text(alloc: Global, text: &str, base: Option<&Iri>) -> Result<Vec<Quad>, TurtleFault>
+    requires { IsUtf8 text.now }
+    ensures { MatchResult result
+        (λ quads. IsDocument (option_copied base.entry) text.now quads.items)
+        (λ fault. TellsFault (option_copied base.entry) text.now fault fault.kind) }
+{
+    let tree = match read_tree(alloc, text) {
+        Ok(tree) => tree,
+        Err(fault) => return Err(fault),
+    };
+    match triples_of(alloc, base, tree.into_vec()) {
         Ok(quads) => Ok(quads),
         Err(PlacedFault { kind, start }) => Err(fault_at(text.as_bytes(), kind, start)),
     }
@@ -90,9 +106,12 @@ pub fn read_turtle(
     }
 }
 
-/// A text is one document at most, or faulty, and never both.
+/// Each text is one document, or faulty, and never both. It is Relative just where each prefix is
+/// declared first, and somewhere a reference without a scheme stands while no base is in force.
 pub fn one_meaning()
+    ensures there { SomeMeaning }
     ensures document { OneDocument }
     ensures never_both { NeverBoth }
     ensures fault { OneFault }
+    ensures relative { RelativeLacksABase }
 {}

@@ -38,7 +38,9 @@ pub enum TurtleFaultKind {
 #[derive(Clone, Copy, Debug, Error, PartialEq, Eq)]
 #[error("{kind} line {line}")]
 pub struct TurtleFault {
+    /// The number of the line, from 1; 0 where memory was wanting.
     pub line: u64,
+    /// Why the text is not read.
     pub kind: TurtleFaultKind,
 }
 

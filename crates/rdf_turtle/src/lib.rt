@@ -30,20 +30,20 @@ mod tag;
 mod token;
 mod tree;
 mod value;
+mod vocabulary;
 
 pub use document::{one_meaning, read_turtle};
 pub use fault::{TurtleFault, TurtleFaultKind};
 pub use laws::{documents_have_subjects, leaves_are_lexemes, one_document};
 pub use lexeme::{Lexeme, Terminal};
 pub use lexemes::lexemes_have_forms;
+pub use line::line_ends_are_counted;
 pub use list::{one_token_list, some_token_list, tokens, tokens_have_forms};
-pub use meaning::{blank_numbers_are_below, references_are_resolved, triples_of};
-pub use placed::PlacedFault;
-pub use read::{Stop, parse_document};
+pub use meaning::{blank_numbers_are_below, prefixes_are_replaced, references_are_resolved};
 pub use slice::Slice;
 pub use token::{Kind, Token};
 pub use tree::{Literal, Name, Node, Property, Statement, Verb};
 pub use value::{
-    iris_have_values, locals_have_values, pnames_are_iris, pnames_have_parts, texts_have_values,
-    token_text,
+    iris_have_values, locals_have_values, one_token_text, pnames_are_iris, pnames_have_parts,
+    texts_have_values, token_text,
 };

@@ -1,5 +1,6 @@
 //! The lines of a text.
 ghost use Rattle.std.specs.Prelude.{◌≡◌, take};
+ghost use Rattle.rdf_turtle.specs.LineLaws.{TextsHaveLines, LineEndsAreCounted};
 ghost use Rattle.rdf_turtle.specs.Lines as spec;
 
 /// Whether such a byte, with these behind it, is the last of a line end.
@@ -37,3 +38,10 @@ pub fn line_at(text: &[u8], place: usize) -> u64
     }
     line
 }
+
+/// Each text is lines with their ends: LF, CRLF, or a CR behind which no LF stands. Just these ends are
+/// counted.
+pub fn line_ends_are_counted()
+    ensures there { TextsHaveLines }
+    ensures counted { LineEndsAreCounted }
+{}

@@ -7,6 +7,7 @@ ghost use Rattle.rdf_turtle.specs.Meaning as spec;
 ghost use Rattle.rdf_turtle.specs.Kept.{Gives, IsFaultOf};
 ghost use Rattle.rdf_turtle.specs.Blanks.{BlankNumbersAreBelow};
 ghost use Rattle.rdf_turtle.specs.References.{ReferencesAreResolved};
+ghost use Rattle.rdf_turtle.specs.StateLaws.{PrefixesAreReplaced};
 
 use crate::fault::TurtleFaultKind;
 use crate::known::first_unknown;
@@ -17,64 +18,6 @@ use crate::tree::{Literal as Written, Node, Property, Statement, Verb};
 use crate::value::{tag_value, text_value};
 use rdf_terms::{Iri, Literal, NoMemory, Quad, Term, Text};
 use std::alloc::Global;
-
-// The IRI of a text that is known to be one.
-fn known_iri(alloc: Global, text: &str) -> Result<Iri, NoMemory>
-    ensures { IfOk result (λ iri. iri ≡ text.now) }
-{
-    match Iri::new(alloc, text) {
-        Ok(iri) => Ok(iri),
-        Err(_) => Err(NoMemory),
-    }
-}
-
-fn rdf_type(alloc: Global) -> Result<Iri, NoMemory>
-    ensures { IfOk result (λ iri. iri ≡ word.rdf_type) }
-{
-    known_iri(alloc, "http://www.w3.org/1999/02/22-rdf-syntax-ns#type")
-}
-
-fn rdf_first(alloc: Global) -> Result<Iri, NoMemory>
-    ensures { IfOk result (λ iri. iri ≡ word.rdf_first) }
-{
-    known_iri(alloc, "http://www.w3.org/1999/02/22-rdf-syntax-ns#first")
-}
-
-fn rdf_rest(alloc: Global) -> Result<Iri, NoMemory>
-    ensures { IfOk result (λ iri. iri ≡ word.rdf_rest) }
-{
-    known_iri(alloc, "http://www.w3.org/1999/02/22-rdf-syntax-ns#rest")
-}
-
-fn rdf_nil(alloc: Global) -> Result<Iri, NoMemory>
-    ensures { IfOk result (λ iri. iri ≡ word.rdf_nil) }
-{
-    known_iri(alloc, "http://www.w3.org/1999/02/22-rdf-syntax-ns#nil")
-}
-
-fn xsd_integer(alloc: Global) -> Result<Iri, NoMemory>
-    ensures { IfOk result (λ iri. iri ≡ word.xsd_integer) }
-{
-    known_iri(alloc, "http://www.w3.org/2001/XMLSchema#integer")
-}
-
-fn xsd_decimal(alloc: Global) -> Result<Iri, NoMemory>
-    ensures { IfOk result (λ iri. iri ≡ word.xsd_decimal) }
-{
-    known_iri(alloc, "http://www.w3.org/2001/XMLSchema#decimal")
-}
-
-fn xsd_double(alloc: Global) -> Result<Iri, NoMemory>
-    ensures { IfOk result (λ iri. iri ≡ word.xsd_double) }
-{
-    known_iri(alloc, "http://www.w3.org/2001/XMLSchema#double")
-}
-
-fn xsd_boolean(alloc: Global) -> Result<Iri, NoMemory>
-    ensures { IfOk result (λ iri. iri ≡ word.xsd_boolean) }
-{
-    known_iri(alloc, "http://www.w3.org/2001/XMLSchema#boolean")
-}
 
 fn boolean_text(alloc: Global, value: bool) -> Result<Text, NoMemory>
     ensures { IfOk result (λ text. text ≡ word.boolean_text value) }
@@ -130,7 +73,7 @@ impl<'a> Scope<'a> {
     {
         match verb {
             Verb::Name(name) => self.iri(name),
-            Verb::Type => Ok(rdf_type(self.alloc)?),
+            Verb::Type => Ok(self.vocabulary.rdf_type()?),
         }
     }
 
@@ -139,7 +82,7 @@ impl<'a> Scope<'a> {
         ensures { Gives (spec.literal literal.now self.old) result self.new }
     {
         let (text, datatype) = match literal {
-            Written::Plain(text) => (text_value(self.alloc, text)?, Iri::xsd_string(self.alloc)?),
+            Written::Plain(text) => (text_value(self.alloc, text)?, self.vocabulary.xsd_string()?),
             Written::Tagged(text, tag) => {
                 let text = text_value(self.alloc, text)?;
                 let tagged = Literal::tagged_from_text(self.alloc, text, tag_value(tag))?;
@@ -149,11 +92,20 @@ impl<'a> Scope<'a> {
                 let datatype = self.iri(name)?;
                 (text_value(self.alloc, text)?, datatype)
             }
-            Written::Integer(text) => (as_written(self.alloc, text)?, xsd_integer(self.alloc)?),
-            Written::Decimal(text) => (as_written(self.alloc, text)?, xsd_decimal(self.alloc)?),
-            Written::Double(text) => (as_written(self.alloc, text)?, xsd_double(self.alloc)?),
+            Written::Integer(text) => (
+                as_written(self.alloc, text)?,
+                self.vocabulary.xsd_integer()?,
+            ),
+            Written::Decimal(text) => (
+                as_written(self.alloc, text)?,
+                self.vocabulary.xsd_decimal()?,
+            ),
+            Written::Double(text) => (as_written(self.alloc, text)?, self.vocabulary.xsd_double()?),
             Written::Boolean(value) => {
-                (boolean_text(self.alloc, *value)?, xsd_boolean(self.alloc)?)
+                (
+                    boolean_text(self.alloc, *value)?,
+                    self.vocabulary.xsd_boolean()?,
+                )
             }
         };
         Ok(Term::Literal(Literal::from_text(text, datatype)))
@@ -168,7 +120,7 @@ impl<'a> Scope<'a> {
             Node::Label(label) => self.labelled(label),
             Node::Blank(_) => self.fresh(),
             Node::Collection(items) => match items.as_slice() {
-                [] => Ok(Term::Iri(rdf_nil(self.alloc)?)),
+                [] => Ok(Term::Iri(self.vocabulary.rdf_nil()?)),
                 [_, ..] => self.fresh(),
             },
             Node::Literal(literal) => self.literal(literal),
@@ -185,7 +137,7 @@ impl<'a> Scope<'a> {
             Node::Collection(items) => match items.as_slice() {
                 [] => Ok(()),
                 [first, rest @ ..] => {
-                    let predicate = rdf_first(self.alloc)?;
+                    let predicate = self.vocabulary.rdf_first()?;
                     self.object(term, &predicate, first)?;
                     self.behind(term, rest)
                 }
@@ -223,8 +175,8 @@ impl<'a> Scope<'a> {
     fn behind(&mut self, cell: &Term, items: &[Node<'a>]) -> Result<(), TurtleFaultKind>
         ensures { Gives (spec.behind cell.now (map spec.meaning items.now) self.old) result self.new }
     {
-        let first = rdf_first(self.alloc)?;
-        let rest = rdf_rest(self.alloc)?;
+        let first = self.vocabulary.rdf_first()?;
+        let rest = self.vocabulary.rdf_rest()?;
         let mut cell = cell.copy()?;
         for item in items {
             let next = self.fresh()?;
@@ -233,7 +185,7 @@ impl<'a> Scope<'a> {
             self.object(&next, &first, item)?;
             cell = next;
         }
-        let nil = Term::Iri(rdf_nil(self.alloc)?);
+        let nil = Term::Iri(self.vocabulary.rdf_nil()?);
         self.says(&cell, &rest, nil)
     }
 
@@ -302,11 +254,12 @@ impl<'a> Scope<'a> {
         }
     }
 
-    fn document(&mut self, statements: &[Statement<'a>]) -> Result<(), TurtleFaultKind>
-        ensures { Gives (spec.document statements.now self.old) result self.new }
+    // Each statement's tree is let go when its triples are said.
+    fn document(&mut self, statements: Vec<Statement<'a>>) -> Result<(), TurtleFaultKind>
+        ensures { Gives (spec.document statements.entry.items self.old) result self.new }
     {
         for statement in statements {
-            self.statement(statement)?;
+            self.statement(&statement)?;
         }
         Ok(())
     }
@@ -320,22 +273,22 @@ impl<'a> Scope<'a> {
 /// first such name; else [`TurtleFaultKind::Relative`] at the first relative reference without a
 /// base; [`TurtleFaultKind::NoMemory`] where memory is wanting.
 #[tactic(auto, unfolding(crate::specs::Meaning::triples_of))]
-pub fn triples_of(
+pub(crate) fn triples_of(
     alloc: Global,
     base: Option<&Iri>,
-    statements: &[Statement<'_>],
+    statements: Vec<Statement<'_>>,
 ) -> Result<Vec<Quad>, PlacedFault>
     ensures { MatchResult result
-        (λ quads. spec.answer (option_copied base.entry) statements.now ≡ Ok quads.items)
-        (λ fault. IsFaultOf (spec.answer (option_copied base.entry) statements.now) fault.kind) }
+        (λ quads. spec.answer (option_copied base.entry) statements.entry.items ≡ Ok quads.items)
+        (λ fault. IsFaultOf (spec.answer (option_copied base.entry) statements.entry.items) fault.kind) }
 {
-    if let Some(start) = first_unknown(alloc, statements)? {
+    if let Some(start) = first_unknown(alloc, statements.as_slice())? {
         return Err(PlacedFault {
             kind: TurtleFaultKind::UnknownPrefix,
             start,
         });
     }
-    let mut scope = Scope::new(alloc, copied(base)?);
+    let mut scope = Scope::new(alloc, copied(base)?)?;
     match scope.document(statements) {
         Ok(()) => Ok(scope.into_quads()),
         Err(kind) => Err(PlacedFault {
@@ -355,4 +308,10 @@ pub fn blank_numbers_are_below()
 /// nothing else (RFC 3986, section 5.2).
 pub fn references_are_resolved()
     ensures { ReferencesAreResolved }
+{}
+
+/// Behind the declaration of a prefix it stands for that IRI, and each other prefix for what it stood
+/// for before (Turtle 1.1, section 2.4).
+pub fn prefixes_are_replaced()
+    ensures { PrefixesAreReplaced }
 {}

@@ -8,9 +8,9 @@ use rdf_terms::NoMemory;
 /// A fault, and the byte of the text where the first name concerned starts; where memory is wanting
 /// the byte says nothing.
 #[derive(Clone, Copy, Debug, PartialEq, Eq)]
-pub struct PlacedFault {
-    pub kind: TurtleFaultKind,
-    pub start: usize,
+pub(crate) struct PlacedFault {
+    pub(crate) kind: TurtleFaultKind,
+    pub(crate) start: usize,
 }
 
 impl From<NoMemory> for PlacedFault {

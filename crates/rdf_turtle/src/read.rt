@@ -18,9 +18,9 @@ use std::alloc::Global;
 /// Why lexemes aren't read, and at which of them: the first with which no document can begin, or
 /// their number where only more of them could make a document.
 #[derive(Clone, Copy, Debug, PartialEq, Eq)]
-pub struct Stop {
-    pub kind: TurtleFaultKind,
-    pub place: usize,
+pub(crate) struct Stop {
+    pub(crate) kind: TurtleFaultKind,
+    pub(crate) place: usize,
 }
 
 /// The statements of the document that all of the lexemes are (Turtle 1.1, section 6.5).
@@ -28,7 +28,7 @@ pub struct Stop {
 /// # Errors
 /// `TooDeep` where more than 100 brackets are open at once, at the first lexeme behind which they
 /// are; `Syntax` where the lexemes are no document; `NoMemory` where memory is wanting.
-pub fn parse_document<'a>(
+pub(crate) fn parse_document<'a>(
     alloc: Global,
     lexemes: &[Lexeme<'a>],
 ) -> Result<Items<Statement<'a>>, Stop>

@@ -6,12 +6,14 @@ ghost use Rattle.rdf_turtle.specs.References as references;
 ghost use Rattle.rdf_turtle.specs.State as state;
 ghost use Rattle.rdf_turtle.specs.Meaning as meaning;
 ghost use Rattle.rdf_turtle.specs.Kept.{Finds, Gives};
+ghost use Rattle.rdf_turtle.specs.Values as values;
 
 use crate::fault::TurtleFaultKind;
 use crate::key::Key;
 use crate::slice::Slice;
 use crate::tree::Name;
 use crate::value::{iri_value, local_value};
+use crate::vocabulary::Vocabulary;
 use indexmap::IndexMap;
 use rdf_terms::{GraphName, Iri, IriFault, NoMemory, Quad, Term, Text, resolve};
 use std::alloc::Global;
@@ -39,7 +41,19 @@ fn joined(alloc: Global, front: &str, back: &str) -> Result<Text, NoMemory>
     let mut text = String::with_capacity(alloc, front.len().saturating_add(back.len()))?;
     text.push_str(front)?;
     text.push_str(back)?;
-    Ok(Text::from(text))
+    Text::from_string(text)
+}
+
+// The text, and what the local part behind it stands for.
+fn joined_local(alloc: Global, front: &str, local: &Slice<'_>) -> Result<Text, NoMemory>
+    ensures { IfOk result (λ text. text ≡ front.now ++ values.local_value local.now) }
+{
+    let part = local.as_str();
+    if !part.contains('\\') {
+        return joined(alloc, front, part);
+    }
+    let value = local_value(alloc, local)?;
+    joined(alloc, front, value.as_str())
 }
 
 /// The text, which must be an IRI.
@@ -58,6 +72,7 @@ fn iri_text(text: Text) -> Result<Iri, TurtleFaultKind>
 #[derive(Drop)]
 pub(crate) struct Scope<'a> {
     pub(crate) alloc: Global,
+    pub(crate) vocabulary: Vocabulary,
     at: usize,
     base: Option<Iri>,
     prefixes: IndexMap<Key<'a>, Iri>,
@@ -76,18 +91,19 @@ impl<'a> Model for Scope<'a> {
 
 impl<'a> Scope<'a> {
     /// No prefixes, no labels and no triples.
-    pub(crate) fn new(alloc: Global, base: Option<Iri>) -> Scope<'a>
-        ensures { result ≡ state.start base }
+    pub(crate) fn new(alloc: Global, base: Option<Iri>) -> Result<Scope<'a>, NoMemory>
+        ensures { IfOk result (λ scope. scope ≡ state.start base) }
     {
-        Scope {
+        Ok(Scope {
             alloc,
+            vocabulary: Vocabulary::new(alloc)?,
             at: 0,
             base,
             prefixes: IndexMap::new(alloc),
             labels: IndexMap::new(alloc),
             next: 0,
             quads: Vec::new(alloc),
-        }
+        })
     }
 
     /// Where the name stands that was looked at last.
@@ -196,8 +212,7 @@ impl<'a> Scope<'a> {
         let Some(iri) = self.prefixes.get(&Key::of(prefix)) else {
             return Err(TurtleFaultKind::Relative);
         };
-        let local = local_value(self.alloc, local)?;
-        let text = joined(self.alloc, iri.as_str(), local.as_str())?;
+        let text = joined_local(self.alloc, iri.as_str(), local)?;
         Ok(iri_text(text)?)
     }
 

@@ -41,7 +41,7 @@ impl<'a> Slice<'a> {
     }
 
     /// The byte at which it starts.
-    pub fn start(&self) -> usize {
+    pub(crate) fn start(&self) -> usize {
         self.start
     }
 

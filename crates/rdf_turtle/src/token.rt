@@ -13,8 +13,11 @@ pub enum Kind {
     AtWord,
     /// A string between quotes, short or long.
     Text,
+    /// INTEGER: digits, perhaps behind a sign.
     Integer,
+    /// DECIMAL: a dot with digits behind it.
     Decimal,
+    /// DOUBLE: a number with an exponent.
     Double,
     /// A variable of SPARQL: `?` or `$` and a name.
     Var,
@@ -27,7 +30,10 @@ pub enum Kind {
 /// A token of a text: its form, the byte where it starts and the byte behind it.
 #[derive(Clone, Copy, Debug, PartialEq, Eq)]
 pub struct Token {
+    /// Its form.
     pub kind: Kind,
+    /// The byte where it starts.
     pub start: usize,
+    /// The byte behind it.
     pub stop: usize,
 }

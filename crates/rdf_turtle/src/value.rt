@@ -4,6 +4,7 @@ ghost use Rattle.std.specs.Str.{chars, encode_utf8_all};
 ghost use Rattle.std.specs.List.{list_any};
 ghost use Rattle.rdf_terms.specs.Iri.{is_forbidden, has_forbidden};
 ghost use Rattle.rdf_turtle.specs.Lexemes.{TokenSays, SaysText, value_by};
+ghost use Rattle.rdf_turtle.specs.LexemeLaws.{OneTokenText};
 ghost use Rattle.rdf_turtle.specs.Tokens.{HasItsForm};
 ghost use Rattle.rdf_turtle.specs.Values as spec;
 ghost use Rattle.rdf_turtle.specs.ValueLaws.{IrisHaveValues, IriValuesAreAllowed, TextsHaveValues, PrefixesAreParts, LocalsAreParts, LocalsHaveMeanings, LocalsHaveValues, PnamesAreIris};
@@ -109,7 +110,7 @@ fn unescaped(alloc: Global, body: &str) -> Result<Text, NoMemory>
         return Text::new(alloc, body);
     }
     match unescape(alloc, body)? {
-        Some(text) => Ok(Text::from(text)),
+        Some(text) => Text::from_string(text),
         None => Text::new(alloc, ""),
     }
 }
@@ -169,7 +170,7 @@ pub(crate) fn local_value(alloc: Global, slice: &Slice<'_>) -> Result<Text, NoMe
             value.push(c)?;
         }
     }
-    Ok(Text::from(value))
+    Text::from_string(value)
 }
 
 /// The tag behind an `@`.
@@ -213,6 +214,11 @@ fn value_by(alloc: Global, kind: Kind, slice: &Slice<'_>) -> Result<Text, NoMemo
         _ => local_value(alloc, &local_part(slice)),
     }
 }
+
+/// A token of a text says one thing at most.
+pub fn one_token_text()
+    ensures { OneTokenText }
+{}
 
 /// An IRIREF says its value alone, in which each character may stand in an IRI.
 pub fn iris_have_values()

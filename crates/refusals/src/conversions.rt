@@ -4,10 +4,10 @@ use rdf_terms::{Iri, IriFault};
 use std::alloc::Global;
 
 const LINES: &[u8] =
-    b"<a:s> <a:p> \"a\\u0041\\\"b\"@EN-us <a:g> . # c\n_:x:y <a:p> _:z1 .\n<a:s><a:p>_:x:y.\n";
+    b"<http://e/s> <http://e/p> \"a\\u0041\\\"b\"@EN-us <http://e/g> . # c\n_:x:y <http://e/p> _:z1 .\n<http://e/s><http://e/p>_:x:y.\n<http://e/s> <http://e/p> \"1\"^^<http://www.w3.org/2001/XMLSchema#string> .\n";
 
 const LINES_OUT: &[u8] =
-    b"<a:s> <a:p> \"aA\\\"b\"@en-us <a:g> .\n_:b0 <a:p> _:b1 .\n<a:s> <a:p> _:b0 .\n";
+    b"<http://e/s> <http://e/p> \"aA\\\"b\"@en-us <http://e/g> .\n_:b0 <http://e/p> _:b1 .\n<http://e/s> <http://e/p> _:b0 .\n<http://e/s> <http://e/p> \"1\" .\n";
 
 const TURTLE: &[u8] = b"@prefix p: <x> . <s> p:p 1. _:a <p> ( [] ), \"\\n\"@EN .";
 

@@ -13,7 +13,7 @@ iri_of-requires c =
 
 pub returns-clause-value : goal.returns-clause-value
 returns-clause-value c =
-    let e : c.iri_of.result ≡ resolved c.args.base.now c.args.reference.now =
-    c.iri_of.ensures ∙ c.in_ok-text.ensures ∙ ap (λ (x : List ℕ). resolved x c.as_bytes-2.result.now) (c.as_bytes.ensures.value ∙ c.as_str.ensures.value)
+    let e : c.in_ok-iri_of.field-0 ≡ resolved c.args.base.now c.args.reference.now =
+    c.in_ok-iri_of.ensures ∙ c.in_ok-text.ensures ∙ ap (λ (x : List ℕ). resolved x c.as_bytes-2.result.now) (c.as_bytes.ensures.value ∙ c.as_str.ensures.value)
     ∙ ap (resolved c.args.base.now) c.as_bytes-2.ensures.value in
     rw e (resolves c.args.base.now c.args.reference.now (scheme_from_iri c.args.base.now c.as_str.ensures.sound))

@@ -1,4 +1,4 @@
-use Rattle.std.proofs.Common.{string_bytes, ◌∙◌, arith}
+use Rattle.std.proofs.Common.{◌≡◌, ℕ, List, IfOk, subst, string_bytes, ◌∙◌, arith}
 use Rattle.std.proofs.lemmas.Bool.{ne_eqb, eq-eqb}
 use Rattle.rdf_turtle.proofs.ValueNames.{local_plain, read_start, read_backslash, read_other, read_all}
 use Rattle.rdf_turtle.proofs.value.local_value.Goals as goal
@@ -19,4 +19,6 @@ loop-c-preserved c =
     read_backslash c.args.slice.now (string_bytes c.loop-c.value) c.loop-c.rest _ c.in-Some.c c.in-Some.ensures (eq-eqb c.in-Some.c 92 (omega arith)) c.loop-c.invariant
 
 pub returns : goal.returns
-returns c = c.from.ensures ∙ read_all c.args.slice.now (string_bytes c.loop-c.value) c.loop-c.rest c.in_default.ensures.0 c.loop-c.invariant
+returns c =
+    subst (λ (b : List ℕ). IfOk c.from_string.result (λ v. v ≡ b)) (read_all c.args.slice.now (string_bytes c.loop-c.value) c.loop-c.rest c.in_default.ensures.0 c.loop-c.invariant)
+    c.from_string.ensures

@@ -1,4 +1,4 @@
-use Rattle.std.proofs.Common.{string_bytes, sym, ◌∙◌}
+use Rattle.std.proofs.Common.{string_bytes}
 use Rattle.rdf_turtle.proofs.ValueEscapes.{unescaped_plain, unescaped_by}
 use Rattle.rdf_turtle.proofs.value.unescaped.Goals as goal
 
@@ -8,7 +8,7 @@ returns-then-not-contains c = rw (unescaped_plain c.args.body.now c.utf8.body c.
 pub returns-in-Some : goal.returns-in-Some
 returns-in-Some c =
     let meant = rw c.in-Some.is at (unescaped_by string_bytes c.args.body.now c.in_ok-text.field-0 c.in_ok-text.ensures) in
-    c.from.ensures ∙ sym meant
+    rw meant c.from_string.ensures
 
 pub returns-in-None : goal.returns-in-None
 returns-in-None c =

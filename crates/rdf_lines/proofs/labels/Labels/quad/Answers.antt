@@ -1,4 +1,4 @@
-use Rattle.std.proofs.Common.{◌≡◌, ◌∙◌, sym, ap, is_some}
+use Rattle.std.proofs.Common.{◌∙◌, sym, ap, is_some}
 use Rattle.std.proofs.lemmas.Option.{same_Some}
 use Rattle.rdf_lines.proofs.LabelLemmas.{quad_in-by_places, made}
 use Rattle.rdf_lines.proofs.labels.Labels.quad.Goals as goal

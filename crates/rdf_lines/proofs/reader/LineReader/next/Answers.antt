@@ -1,4 +1,4 @@
-use Rattle.std.proofs.Common.{le_refl, arith, ◌<◌, ◌≤◌, sym, ◌∙◌, ap, subst, false, [], ◌++◌, ◌≡◌, Option, Some, None, Ok, Err}
+use Rattle.std.proofs.Common.{le_refl, arith, sym, ◌∙◌, ap, subst, false, [], ◌++◌, ◌≡◌, Option, Some, None, Ok, Err}
 use Rattle.rdf_lines.specs.declared.state.State.TheVariants.{Reading}
 use Rattle.rdf_terms.specs.declared.quad.Quad.{Quad}
 use Rattle.rdf_lines.specs.Reader.{LineState, OneLine, FallsAtOk}

@@ -20,7 +20,7 @@ from_text-requires c =
     let past : RunsTo iri_character_at 62 (string_bytes c.push_str.new.self) c.past_iri_run-stop.result (iri_body_at c.in-Some.rest) =
     rw (c.in_ok-push_str.ensures.bytes, c.text_up_to.ensures)
     (goes_past iri_character_at 62 iri_one is_forbidden iri_character-plain (string_bytes c.loop-text.text) c.loop-text.rest c.past_iri_run-stop.result _ c.past_iri_run-stop.ensures c.loop-text.invariant) in
-    ap has_forbidden c.from.ensures
+    ap has_forbidden c.in_ok-from_string.ensures
     ∙ iri_allowed c.args.self.now (string_bytes c.push_str.new.self) c.in-Some-expect.behind
     (ap (λ o. o >>= iri_body_at) (sym c.in-Some.ensures)
     ∙ sym (is_done iri_character_at 62 (string_bytes c.push_str.new.self) c.past_iri_run-stop.result c.in-Some-expect.behind (iri_body_at c.in-Some.rest) (sym c.in-Some-expect.ensures) past))
@@ -31,7 +31,7 @@ returns-in-Some-expect c =
     let past : RunsTo iri_character_at 62 (string_bytes c.push_str.new.self) c.past_iri_run-stop.result (iri_body_at c.in-Some.rest) =
     rw (c.in_ok-push_str.ensures.bytes, c.text_up_to.ensures)
     (goes_past iri_character_at 62 iri_one is_forbidden iri_character-plain (string_bytes c.loop-text.text) c.loop-text.rest c.past_iri_run-stop.result _ c.past_iri_run-stop.ensures c.loop-text.invariant) in
-    rw (c.from_text.ensures, c.from.ensures, sym c.in-Some.ensures)
+    rw (c.from_text.ensures, c.in_ok-from_string.ensures, sym c.in-Some.ensures)
     (is_done iri_character_at 62 (string_bytes c.push_str.new.self) c.past_iri_run-stop.result c.in-Some-expect.behind (iri_body_at c.in-Some.rest) (sym c.in-Some-expect.ensures) past)
 
 pub returns-in_default-iri_character : goal.returns-in_default-iri_character

@@ -1,6 +1,0 @@
-use Rattle.std.specs.String.{string_bytes}
-use Rattle.rdf_terms.proofs.Utf8Lemmas.{text_from}
-use Rattle.rdf_terms.proofs.text.TextFromString.from.Goals as goal
-
-pub invariant_of-result : goal.invariant_of-result
-invariant_of-result c = text_from (string_bytes c.args.string) (rw c.as_str.ensures.value at c.as_str.utf8)

@@ -1,0 +1,271 @@
+-- The steps of a reading fail just where a reference lacks a base.
+use Rattle.std.proofs.Common.{◌≡◌, ◌∙◌, ap, refl, sym, subst, ℕ, Bool, true, false, ◌||◌, ◌&&◌, not, List, [], ◌∷◌, ◌++◌, Option, Some, None, IsTrue, IfSome, is_some}
+use Rattle.std.proofs.lemmas.Bool.{and_parts}
+use Rattle.std.specs.List.{list_any}
+use Rattle.std.specs.Map.{lookup}
+use Rattle.std.specs.Option.{option_map, option_and_then}
+use Rattle.std.specs.Str.{IsUtf8, is_utf8}
+use Rattle.rdf_terms.specs.Iri.{has_scheme, has_forbidden, is_iri}
+use Rattle.rdf_terms.specs.Literal.{is_tag}
+use Rattle.rdf_terms.specs.Quad.{has_right_kinds}
+use Rattle.rdf_terms.specs.Rewriting as rewriting
+use Rattle.rdf_terms.specs.Term.{is_literal_term}
+use Rattle.rdf_terms.specs.declared.term.Term.{Term}
+use Rattle.rdf_terms.specs.declared.term.Term.TheVariants as t
+use Rattle.rdf_terms.proofs.CleanLemmas.{resolved_iri}
+use Rattle.rdf_terms.proofs.Utf8Lemmas.{iri_from}
+use Rattle.rdf_turtle.specs.declared.tree.Name.{Name}
+use Rattle.rdf_turtle.specs.declared.tree.Name.TheVariants.{Full, Prefixed}
+use Rattle.rdf_turtle.specs.declared.tree.Verb.{Verb}
+use Rattle.rdf_turtle.specs.declared.tree.Verb.TheVariants as v
+use Rattle.rdf_turtle.specs.declared.tree.Literal.{Literal}
+use Rattle.rdf_turtle.specs.declared.tree.Literal.TheVariants as l
+use Rattle.rdf_turtle.specs.Bases.{lacks, lacks_name, lacks_verb, lacks_literal}
+use Rattle.rdf_turtle.specs.Forms.{IsLocal}
+use Rattle.rdf_turtle.specs.Known.{holds, known_name, known_verb, known_literal}
+use Rattle.rdf_turtle.specs.Meaning.{Meaning, Says, known, resolved, iri_of, iri, verb, untagged, literal, object, objects, behind, list_term, list_inside}
+use Rattle.rdf_turtle.specs.References.{resolve, iri_text}
+use Rattle.rdf_turtle.specs.State.{State, Does, key_of, same_key, fresh, labelled, labelled_as, triple, says}
+use Rattle.rdf_turtle.specs.Steps.{Outcome, and_then, each}
+use Rattle.rdf_turtle.specs.Values.{iri_value, local_value, text_value, tag_value}
+use Rattle.rdf_turtle.specs.Vocabulary.{rdf_first, rdf_rest, rdf_nil}
+use Rattle.rdf_turtle.proofs.ValueIris.{iri_value_allowed}
+use Rattle.rdf_turtle.proofs.ValuePnames.{pname_iri}
+
+-- a base is in force or not, and each declared prefix stands for an IRI
+pub record Given (based : Bool) (declared : List (List ℕ)) (s : State) : Type 0 where
+  pub base : is_some s.base ≡ based
+  pub base_iri : IfSome s.base (λ b. IsTrue (is_iri b))
+  pub known : (p : List ℕ) → list_any (same_key p) declared ≡ true → (i : List ℕ) × (lookup (same_key p) s.prefixes ≡ Some i) × IsTrue (is_iri i)
+
+pub record Fine {A : Type 0} (based : Bool) (declared : List (List ℕ)) (Good : A → Type 0) (o : Outcome State A) : Type 0 where
+  pub value : A
+  pub state : State
+  pub is : o ≡ Some (value, state)
+  pub given : Given based declared state
+  pub good : Good value
+
+-- what the pieces of a name, a verb and a literal are in a document
+abbrev pub NameFormed : Name → Type 0
+NameFormed (Full r) = IsUtf8 (iri_value r)
+NameFormed (Prefixed prefix local) = IsLocal local
+
+abbrev pub VerbFormed : Verb → Type 0
+VerbFormed (v.Name name) = NameFormed name
+VerbFormed v.Type = Unit {0}
+
+abbrev pub LiteralFormed : Literal → Type 0
+LiteralFormed (l.Tagged text tag) = is_tag (tag_value tag) ≡ true
+LiteralFormed (l.Typed text name) = NameFormed name
+LiteralFormed _ = Unit {0}
+
+abbrev pub Any : {A : Type 0} → A → Type 0
+Any a = Unit {0}
+
+abbrev pub IsIri : List ℕ → Type 0
+IsIri i = IsTrue (is_iri i)
+
+abbrev pub NoLiteral : Term → Type 0
+NoLiteral x = is_literal_term x ≡ false
+
+abbrev pub IsMore : {A : Type 0} → List A → Type 0
+IsMore [] = ⊥
+IsMore (x ∷ xs) = Unit {0}
+
+module _ (based : Bool) (declared : List (List ℕ)) where
+  -- an outcome that is missing just where the flag is set
+  abbrev pub Comes : {A : Type 0} → Bool → (A → Type 0) → Outcome State A → Type 0
+  Comes true Good o = o ≡ None
+  Comes false Good o = Fine based declared Good o
+
+  abbrev pub Goes : {A : Type 0} → Bool → (A → Type 0) → Does A → Type 0
+  Goes flag Good f = (s : State) → Given based declared s → Comes flag Good (f s)
+
+  pub then_goes : {A B : Type 0} (b c : Bool) (f : Does A) (g : A → Does B) (P : A → Type 0) (Q : B → Type 0)
+      → Goes b P f → ((a : A) → P a → Goes c Q (g a)) → Goes (b || c) Q (λ s. and_then (f s) g)
+  then_goes true c f g P Q p q = λ s h. ap (λ o. and_then o g) (p s h)
+  then_goes false c f g P Q p q = λ s h. (let r = p s h in subst (λ o. Comes c Q (and_then o g)) (sym r.is) (q r.value r.good r.state r.given))
+
+  pub pure_goes : {A : Type 0} (a : A) (P : A → Type 0) → P a → Goes false P (λ s. Some (a, s))
+  pure_goes a P good = λ s h. record { value = a; state = s; is = refl; given = h; good = good }
+
+  pub map_goes : {A B : Type 0} (b : Bool) (f : Does A) (g : A → B) (P : A → Type 0) (Q : B → Type 0) → Goes b P f → ((a : A) → P a → Q (g a)) → Goes b Q (λ s. and_then (f s) (λ a u. Some (g a, u)))
+  map_goes true f g P Q p q = λ s h. ap (λ o. and_then o (λ a u. Some (g a, u))) (p s h)
+  map_goes false f g P Q p q = λ s h. (let r = p s h in record { value = g r.value; state = r.state; is = ap (λ o. and_then o (λ a u. Some (g a, u))) r.is; given = r.given; good = q r.value r.good })
+
+  pub wide_goes : {A : Type 0} (b : Bool) (f : Does A) (P Q : A → Type 0) → Goes b P f → ((a : A) → P a → Q a) → Goes b Q f
+  wide_goes true f P Q p q = p
+  wide_goes false f P Q p q = λ s h. (let r = p s h in record { value = r.value; state = r.state; is = r.is; given = r.given; good = q r.value r.good })
+
+  pub weak_goes : {A : Type 0} (b : Bool) (f : Does A) (P : A → Type 0) → Goes b P f → Goes b Any f
+  weak_goes b f P p = wide_goes b f P Any p (λ a h. tt)
+
+  -- ---- IRIs
+
+  -- a value that may be missing
+  record There {A : Type 0} (P : A → Type 0) (o : Option A) : Type 0 where
+    value : A
+    is : o ≡ Some value
+    good : P value
+
+  abbrev Finds : {A : Type 0} → Bool → (A → Type 0) → Option A → Type 0
+  Finds true P o = o ≡ None
+  Finds false P o = There P o
+
+  known_goes : {A : Type 0} (b : Bool) (f : State → Option A) (P : A → Type 0) → ((s : State) → Given based declared s → Finds b P (f s)) → Goes b P (known f)
+  known_goes {A = A} true f P p = λ s h. ap (λ o. option_map {U = A × State} (λ a. (a, s)) o) (p s h)
+  known_goes {A = A} false f P p = λ s h. (let r = p s h in record { value = r.value; state = s; is = ap (λ o. option_map {U = A × State} (λ a. (a, s)) o) r.is; given = h; good = r.good })
+
+  resolve_finds : (o : Option (List ℕ)) (v : List ℕ) (has : Bool) → IfSome o (λ b. IsTrue (is_iri b)) → IsUtf8 v → has_forbidden v ≡ false → has_scheme v ≡ has
+      → Finds (not (is_some o) && not has) IsIri (resolve o v)
+  unfolding resolve
+  resolve_finds None v true base utf8 allowed scheme = record { value = v; is = rw (allowed, scheme) refl; good = iri_from v utf8 scheme allowed }
+  resolve_finds None v false base utf8 allowed scheme = rw (allowed, scheme) refl
+  resolve_finds (Some b) v true base utf8 allowed scheme = record { value = v; is = rw (allowed, scheme) refl; good = iri_from v utf8 scheme allowed }
+  resolve_finds (Some b) v false base utf8 allowed scheme = record { value = rewriting.resolved b v; is = rw (allowed, scheme) refl; good = resolved_iri b v base utf8 allowed }
+
+  reference_finds : (r : List ℕ) → IsUtf8 (iri_value r) → (s : State) → Given based declared s → Finds (lacks based r) IsIri (resolve s.base (iri_value r))
+  reference_finds r utf8 s h =
+      subst (λ (b : Bool). Finds (not b && not (has_scheme (iri_value r))) IsIri (resolve s.base (iri_value r))) h.base
+      (resolve_finds s.base (iri_value r) (has_scheme (iri_value r)) h.base_iri utf8 (iri_value_allowed r) refl)
+
+  pub resolved_goes : (r : List ℕ) → IsUtf8 (iri_value r) → Goes (lacks based r) IsIri (resolved r)
+  unfolding resolved
+  resolved_goes r utf8 = known_goes (lacks based r) (λ s. resolve s.base (iri_value r)) IsIri (reference_finds r utf8)
+
+  text_found : (i : List ℕ) → IsTrue (is_iri i) → iri_text i ≡ Some i
+  unfolding iri_text
+  text_found i h = let both : (has_scheme i && not (has_forbidden i)) ≡ true = (and_parts (is_utf8 i) (has_scheme i && not (has_forbidden i)) h).1 in rw both refl
+
+  prefixed_finds : (prefix local : List ℕ) → IsLocal local → list_any (same_key (key_of prefix)) declared ≡ true → (s : State) → Given based declared s → There IsIri (iri_of (Prefixed prefix local) s)
+  prefixed_finds prefix local is in_scope s h =
+      let k = h.known (key_of prefix) in_scope in
+      let whole : IsTrue (is_iri (k.0 ++ local_value local)) = pname_iri k.0 local k.2 is in
+      record {
+        value = k.0 ++ local_value local;
+        is = ap (λ o. option_and_then (λ i. iri_text (i ++ local_value local)) o) k.1 ∙ text_found (k.0 ++ local_value local) whole;
+        good = whole;
+      }
+
+  pub iri_goes : (name : Name) → NameFormed name → known_name declared name ≡ true → Goes (lacks_name based name) IsIri (iri name)
+  unfolding iri
+  iri_goes (Full r) form in_scope = known_goes (lacks based r) (λ s. resolve s.base (iri_value r)) IsIri (reference_finds r form)
+  iri_goes (Prefixed prefix local) form in_scope = known_goes false (iri_of (Prefixed prefix local)) IsIri (prefixed_finds prefix local form in_scope)
+
+  pub verb_goes : (w : Verb) → VerbFormed w → known_verb declared w ≡ true → Goes (lacks_verb based w) Any (verb w)
+  unfolding verb
+  verb_goes (v.Name name) form in_scope = weak_goes (lacks_name based name) (iri name) IsIri (iri_goes name form in_scope)
+  verb_goes v.Type form in_scope = pure_goes _ Any tt
+
+  pub literal_goes : (w : Literal) → LiteralFormed w → known_literal declared w ≡ true → Goes (lacks_literal based w) Any (literal w)
+  unfolding literal
+  literal_goes (l.Plain text) form in_scope = pure_goes _ Any tt
+  literal_goes (l.Tagged text tag) form in_scope = rw form (pure_goes _ Any tt)
+  literal_goes (l.Typed text name) form in_scope = map_goes (lacks_name based name) (iri name) (untagged (text_value text)) IsIri Any (iri_goes name form in_scope) (λ a h. tt)
+  literal_goes (l.Integer text) form in_scope = pure_goes _ Any tt
+  literal_goes (l.Decimal text) form in_scope = pure_goes _ Any tt
+  literal_goes (l.Double text) form in_scope = pure_goes _ Any tt
+  literal_goes (l.Boolean value) form in_scope = pure_goes _ Any tt
+
+  -- ---- terms
+
+  pub fresh_goes : Goes false NoLiteral fresh
+  unfolding fresh
+  fresh_goes = λ s h. record { value = t.Blank s.next; state = _; is = refl; given = record { base = h.base; base_iri = h.base_iri; known = h.known }; good = refl }
+
+  labelled_as_goes : (label : List ℕ) (o : Option ℕ) → Goes false NoLiteral (labelled_as label o)
+  labelled_as_goes label (Some n) = λ s h. record { value = t.Blank n; state = s; is = refl; given = h; good = refl }
+  labelled_as_goes label None = λ s h. record { value = t.Blank s.next; state = _; is = refl; given = record { base = h.base; base_iri = h.base_iri; known = h.known }; good = refl }
+
+  pub labelled_goes : (label : List ℕ) → Goes false NoLiteral (labelled label)
+  unfolding labelled
+  labelled_goes label = λ s h. labelled_as_goes label (lookup (same_key label) s.labels) s h
+
+  right : (subject o : Term) (predicate : List ℕ) → NoLiteral subject → has_right_kinds (triple subject predicate o) ≡ true
+  right subject o predicate h = rw h refl
+
+  pub says_goes : (subject o : Term) (predicate : List ℕ) → NoLiteral subject → Goes false Any (says subject predicate o)
+  unfolding says
+  says_goes subject o predicate h = λ s given. (
+      let kinds = right subject o predicate h in
+      record { value = tt; state = record s { quads = s.quads ++ triple subject predicate o ∷ [] }; is = rw kinds refl; given = record { base = given.base; base_iri = given.base_iri; known = given.known }; good = tt })
+
+  -- ---- nodes
+
+  -- A node's term and what is inside it come, but for where the flags are set. Unless it is a literal, the term is none.
+  pub record NodeGoes (plain : Bool) (m : Meaning) (flag : Bool) : Type 0 where
+    pub term_flag : Bool
+    pub inside_flag : Bool
+    pub both : (term_flag || inside_flag) ≡ flag
+    pub term : Goes term_flag (λ x. plain ≡ true → NoLiteral x) m.term
+    pub inside : (x : Term) → (plain ≡ true → NoLiteral x) → Goes inside_flag Any (m.inside x)
+
+  abbrev pub SomeGoes : Meaning → Bool → Type 0
+  SomeGoes m flag = (plain : Bool) × NodeGoes plain m flag
+
+  abbrev pub SaysGoes : Says → Bool → Type 0
+  SaysGoes f flag = (x : Term) → NoLiteral x → Goes flag Any (f x)
+
+  object_goes : (predicate : List ℕ) (m : Meaning) (flag : Bool) → SomeGoes m flag → SaysGoes (λ x. object x predicate m) flag
+  unfolding object
+  object_goes predicate m flag some x h =
+      let g = some.1 in
+      subst (λ (b : Bool). Goes b Any (λ s. and_then (m.term s) (λ o u. and_then (says x predicate o u) (λ _. m.inside o)))) g.both
+      (then_goes g.term_flag g.inside_flag m.term (λ o u. and_then (says x predicate o u) (λ _. m.inside o)) (λ o. some.0 ≡ true → NoLiteral o) Any g.term
+      (λ o k. then_goes false g.inside_flag (says x predicate o) (λ _. m.inside o) Any Any (says_goes x o predicate h) (λ _ _. g.inside o k)))
+
+  -- each with its flag
+  abbrev pub AllGo : List Meaning → List Bool → Type 0
+  AllGo [] [] = Unit {0}
+  AllGo [] (b ∷ bs) = ⊥
+  AllGo (m ∷ ms) [] = ⊥
+  AllGo (m ∷ ms) (b ∷ bs) = SomeGoes m b × AllGo ms bs
+
+  each_object_goes : (predicate : List ℕ) (ms : List Meaning) (bs : List Bool) → AllGo ms bs → SaysGoes (λ x. each (object x predicate) ms) (list_any holds bs)
+  each_object_goes predicate [] [] all x h = pure_goes _ Any tt
+  each_object_goes predicate [] (b ∷ bs) all x h = absurd all
+  each_object_goes predicate (m ∷ ms) [] all x h = absurd all
+  each_object_goes predicate (m ∷ ms) (b ∷ bs) all x h =
+      then_goes b (list_any holds bs) (object x predicate m) (λ _. each (object x predicate) ms) Any Any (object_goes predicate m b all.0 x h) (λ _ _. each_object_goes predicate ms bs all.1 x h)
+
+  objects_go : (predicate : List ℕ) (ms : List Meaning) (bs : List Bool) → IsMore ms → AllGo ms bs → SaysGoes (λ x. objects x predicate ms) (list_any holds bs)
+  objects_go predicate [] bs none all = absurd none
+  objects_go predicate (m ∷ ms) bs there all = each_object_goes predicate (m ∷ ms) bs all
+
+  pub property_goes : (w : Verb) (ms : List Meaning) (bs : List Bool) → VerbFormed w → known_verb declared w ≡ true → IsMore ms → AllGo ms bs
+      → SaysGoes (λ x s. and_then (verb w s) (λ predicate. objects x predicate ms)) (lacks_verb based w || list_any holds bs)
+  property_goes w ms bs form in_scope there all x h =
+      then_goes (lacks_verb based w) (list_any holds bs) (verb w) (λ predicate. objects x predicate ms) Any Any (verb_goes w form in_scope) (λ predicate _. objects_go predicate ms bs there all x h)
+
+  abbrev pub AllSay : List Says → List Bool → Type 0
+  AllSay [] [] = Unit {0}
+  AllSay [] (b ∷ bs) = ⊥
+  AllSay (f ∷ fs) [] = ⊥
+  AllSay (f ∷ fs) (b ∷ bs) = SaysGoes f b × AllSay fs bs
+
+  pub each_goes : (fs : List Says) (bs : List Bool) → AllSay fs bs → SaysGoes (λ x. each (λ p. p x) fs) (list_any holds bs)
+  each_goes [] [] all x h = pure_goes _ Any tt
+  each_goes [] (b ∷ bs) all x h = absurd all
+  each_goes (f ∷ fs) [] all x h = absurd all
+  each_goes (f ∷ fs) (b ∷ bs) all x h =
+      then_goes b (list_any holds bs) (f x) (λ _. each (λ p. p x) fs) Any Any (all.0 x h) (λ _ _. each_goes fs bs all.1 x h)
+
+  behind_goes : (ms : List Meaning) (bs : List Bool) → AllGo ms bs → SaysGoes (λ x. behind x ms) (list_any holds bs)
+  behind_goes [] [] all x h = says_goes x (t.Iri rdf_nil) rdf_rest h
+  behind_goes [] (b ∷ bs) all x h = absurd all
+  behind_goes (m ∷ ms) [] all x h = absurd all
+  behind_goes (m ∷ ms) (b ∷ bs) all x h =
+      then_goes false (b || list_any holds bs) fresh (λ next s. and_then (says x rdf_rest next s) (λ _ u. and_then (object next rdf_first m u) (λ _. behind next ms))) NoLiteral Any fresh_goes
+      (λ next k. then_goes false (b || list_any holds bs) (says x rdf_rest next) (λ _ u. and_then (object next rdf_first m u) (λ _. behind next ms)) Any Any (says_goes x next rdf_rest h)
+      (λ _ _. then_goes b (list_any holds bs) (object next rdf_first m) (λ _. behind next ms) Any Any (object_goes rdf_first m b all.0 next k) (λ _ _. behind_goes ms bs all.1 next k)))
+
+  pub list_term_goes : (ms : List Meaning) → Goes false NoLiteral (list_term ms)
+  list_term_goes [] = pure_goes (t.Iri rdf_nil) NoLiteral refl
+  list_term_goes (m ∷ ms) = fresh_goes
+
+  pub list_inside_goes : (ms : List Meaning) (bs : List Bool) → AllGo ms bs → SaysGoes (list_inside ms) (list_any holds bs)
+  list_inside_goes [] [] all x h = pure_goes _ Any tt
+  list_inside_goes [] (b ∷ bs) all x h = absurd all
+  list_inside_goes (m ∷ ms) [] all x h = absurd all
+  list_inside_goes (m ∷ ms) (b ∷ bs) all x h =
+      then_goes b (list_any holds bs) (object x rdf_first m) (λ _. behind x ms) Any Any (object_goes rdf_first m b all.0 x h) (λ _ _. behind_goes ms bs all.1 x h)
