@@ -293,16 +293,16 @@ module _ (P : Derives Node) (p : Gives P GoodNode) where
   property_gives : Gives (g.VerbObjects P) GoodProperty
   property_gives = then_gives _ _ VerbFormed _ verb_gives (λ verb h. then_gives _ _ SomeNodes _ objects_give (λ objects hs. pure_gives (read.property_with verb objects) GoodProperty (good_property verb objects h hs)))
 
-  pred_list_gives : Gives (g.PredList P) SomeProperties
-  pred_list_gives = then_gives _ _ GoodProperty _ property_gives (λ first h. then_gives _ _ AllProperties _
+  predicate_object_list_gives : Gives (g.PredicateObjectList P) SomeProperties
+  predicate_object_list_gives = then_gives _ _ GoodProperty _ property_gives (λ first h. then_gives _ _ AllProperties _
       (star_gives _ GoodProperty (behind_gives terminal.Semicolon _ AllProperties (map_gives option_to_list _ (IsGoodOption GoodProperty) AllProperties (maybe_gives _ GoodProperty property_gives) some_property)))
       (λ others hs. pure_gives (first ∷ others) SomeProperties ((h, hs), tt)))
 
   anonymous_gives : Gives (g.Anonymous P) AllProperties
   anonymous_gives = behind_gives terminal.OpenBracket _ AllProperties (closed_gives terminal.CloseBracket [] AllProperties tt)
 
-  prop_list_gives : Gives (g.PropList P) SomeProperties
-  prop_list_gives = behind_gives terminal.OpenBracket _ SomeProperties (then_gives _ _ SomeProperties _ pred_list_gives (λ ps h. closed_gives terminal.CloseBracket ps SomeProperties h))
+  blank_node_property_list_gives : Gives (g.BlankNodePropertyList P) SomeProperties
+  blank_node_property_list_gives = behind_gives terminal.OpenBracket _ SomeProperties (then_gives _ _ SomeProperties _ predicate_object_list_gives (λ ps h. closed_gives terminal.CloseBracket ps SomeProperties h))
 
   collection_gives : Gives (g.Collection P) (AllByRecursion GoodNode)
   collection_gives = behind_gives terminal.Open _ (AllByRecursion GoodNode) (then_gives _ _ (AllByRecursion GoodNode) _ (star_gives _ GoodNode (one_gives P GoodNode p)) (λ items h. closed_gives terminal.Close items (AllByRecursion GoodNode) h))
@@ -318,7 +318,7 @@ module _ (P : Derives Node) (p : Gives P GoodNode) where
       or_gives _ _ GoodNode (map_gives n.Name _ NameFormed GoodNode iri_gives (λ a h. subject_good (n.Name a) (good_name a h)))
       (or_gives _ _ GoodNode (or_gives _ _ GoodNode (map_gives n.Label _ _ GoodNode (value_gives terminal.BlankLabel) (λ a h. subject_good (n.Label a) (good_label a))) (map_gives n.Blank _ AllProperties GoodNode anonymous_gives (λ ps h. subject_good (n.Blank ps) (good_blank ps h))))
       (or_gives _ _ GoodNode (map_gives n.Collection _ (AllByRecursion GoodNode) GoodNode collection_gives (λ xs h. subject_good (n.Collection xs) (good_collection xs h)))
-      (or_gives _ _ GoodNode (map_gives n.Blank _ SomeProperties GoodNode prop_list_gives (λ ps h. subject_good (n.Blank ps) (good_blank ps h.0))) (map_gives n.Literal _ LiteralFormed GoodNode literal_gives good_literal))))
+      (or_gives _ _ GoodNode (map_gives n.Blank _ SomeProperties GoodNode blank_node_property_list_gives (λ ps h. subject_good (n.Blank ps) (good_blank ps h.0))) (map_gives n.Literal _ LiteralFormed GoodNode literal_gives good_literal))))
 
 objects_at_give : (depth : ℕ) → Gives (g.Objects_at depth) GoodNode
 unfolding Gives
@@ -378,11 +378,11 @@ some_properties (Some ps) h = h.0
 
 module _ (I P : Derives Node) (i : Gives I GoodNode) (p : Gives P GoodNode) where
   about_gives : Gives (g.About I P) GoodStatement
-  about_gives = then_gives _ _ GoodSubject _ (subject_gives I i) (λ subject h. then_gives _ _ SomeProperties _ (pred_list_gives P p)
+  about_gives = then_gives _ _ GoodSubject _ (subject_gives I i) (λ subject h. then_gives _ _ SomeProperties _ (predicate_object_list_gives P p)
       (λ ps hs. pure_gives (s.Triples subject ps) GoodStatement (record { subject = h; properties = hs.0; some = some_behind (meaning subject).alone ps hs.1 })))
 
   about_blank_gives : Gives (g.AboutBlank I P) GoodStatement
-  about_blank_gives = then_gives _ _ SomeProperties _ (prop_list_gives I i) (λ inside h. then_gives _ _ (IsGoodOption SomeProperties) _ (maybe_gives _ SomeProperties (pred_list_gives P p))
+  about_blank_gives = then_gives _ _ SomeProperties _ (blank_node_property_list_gives I i) (λ inside h. then_gives _ _ (IsGoodOption SomeProperties) _ (maybe_gives _ SomeProperties (predicate_object_list_gives P p))
       (λ ps hs. pure_gives (s.Triples (n.Blank inside) (read.all_of ps)) GoodStatement (record { subject = good_blank inside h.0; properties = some_properties ps hs; some = some_either inside (read.all_of ps) h.1 })))
 
   statement_gives : Gives (g.AStatement I P) GoodStatement

@@ -198,16 +198,16 @@ module _ (all : Lexemes) where
     some_property None h = tt
     some_property (Some x) h = (h, tt)
 
-    pred_list_gives : Gives all (g.PredList P) (AllByRecursion GoodProperty)
-    pred_list_gives = then_gives _ _ GoodProperty _ property_gives (λ first h. then_gives _ _ (AllByRecursion GoodProperty) _
+    predicate_object_list_gives : Gives all (g.PredicateObjectList P) (AllByRecursion GoodProperty)
+    predicate_object_list_gives = then_gives _ _ GoodProperty _ property_gives (λ first h. then_gives _ _ (AllByRecursion GoodProperty) _
         (star_gives _ GoodProperty (behind_gives terminal.Semicolon _ (AllByRecursion GoodProperty) (map_gives option_to_list _ (IsGoodOption GoodProperty) (AllByRecursion GoodProperty) (maybe_gives _ GoodProperty property_gives) some_property)))
         (λ others hs. pure_gives (first ∷ others) (AllByRecursion GoodProperty) (h, hs)))
 
     anonymous_gives : Gives all (g.Anonymous P) (AllByRecursion GoodProperty)
     anonymous_gives = behind_gives terminal.OpenBracket _ (AllByRecursion GoodProperty) (closed_gives terminal.CloseBracket [] (AllByRecursion GoodProperty) tt)
 
-    prop_list_gives : Gives all (g.PropList P) (AllByRecursion GoodProperty)
-    prop_list_gives = behind_gives terminal.OpenBracket _ (AllByRecursion GoodProperty) (then_gives _ _ (AllByRecursion GoodProperty) _ pred_list_gives (λ ps h. closed_gives terminal.CloseBracket ps (AllByRecursion GoodProperty) h))
+    blank_node_property_list_gives : Gives all (g.BlankNodePropertyList P) (AllByRecursion GoodProperty)
+    blank_node_property_list_gives = behind_gives terminal.OpenBracket _ (AllByRecursion GoodProperty) (then_gives _ _ (AllByRecursion GoodProperty) _ predicate_object_list_gives (λ ps h. closed_gives terminal.CloseBracket ps (AllByRecursion GoodProperty) h))
 
     collection_gives : Gives all (g.Collection P) (AllByRecursion GoodNode)
     collection_gives = behind_gives terminal.Open _ (AllByRecursion GoodNode) (then_gives _ _ (AllByRecursion GoodNode) _ (star_gives _ GoodNode (one_gives P GoodNode p)) (λ items h. closed_gives terminal.Close items (AllByRecursion GoodNode) h))
@@ -241,7 +241,7 @@ module _ (all : Lexemes) where
         or_gives _ _ GoodNode (map_gives n.Name _ _ GoodNode iri_gives good_name)
         (or_gives _ _ GoodNode (or_gives _ _ GoodNode (map_gives n.Label _ _ GoodNode (value_gives terminal.BlankLabel) good_label) (map_gives n.Blank _ _ GoodNode anonymous_gives good_blank))
         (or_gives _ _ GoodNode (map_gives n.Collection _ _ GoodNode collection_gives good_collection)
-        (or_gives _ _ GoodNode (map_gives n.Blank _ _ GoodNode prop_list_gives good_blank) (map_gives n.Literal _ _ GoodNode literal_gives good_literal))))
+        (or_gives _ _ GoodNode (map_gives n.Blank _ _ GoodNode blank_node_property_list_gives good_blank) (map_gives n.Literal _ _ GoodNode literal_gives good_literal))))
 
   objects_at_give : (depth : ℕ) → Gives all (g.Objects_at depth) GoodNode
   unfolding Gives
@@ -279,11 +279,11 @@ module _ (all : Lexemes) where
 
   module _ (I P : Derives Node) (i : Gives all I GoodNode) (p : Gives all P GoodNode) where
     about_gives : Gives all (g.About I P) GoodStatement
-    about_gives = then_gives _ _ (GoodSubject I i) _ (subject_gives I i) (λ subject h. then_gives _ _ (AllByRecursion GoodProperty) _ (pred_list_gives P p)
+    about_gives = then_gives _ _ (GoodSubject I i) _ (subject_gives I i) (λ subject h. then_gives _ _ (AllByRecursion GoodProperty) _ (predicate_object_list_gives P p)
         (λ ps hs. pure_gives (s.Triples subject ps) GoodStatement (all_joined all (node_leaves subject) (joined (map property_leaves ps)) h.0 (properties_stand ps hs), h.1)))
 
     about_blank_gives : Gives all (g.AboutBlank I P) GoodStatement
-    about_blank_gives = then_gives _ _ (AllByRecursion GoodProperty) _ (prop_list_gives I i) (λ inside h. then_gives _ _ (IsGoodOption (AllByRecursion GoodProperty)) _ (maybe_gives _ (AllByRecursion GoodProperty) (pred_list_gives P p))
+    about_blank_gives = then_gives _ _ (AllByRecursion GoodProperty) _ (blank_node_property_list_gives I i) (λ inside h. then_gives _ _ (IsGoodOption (AllByRecursion GoodProperty)) _ (maybe_gives _ (AllByRecursion GoodProperty) (predicate_object_list_gives P p))
         (λ ps hs. pure_gives (s.Triples (n.Blank inside) (read.all_of ps)) GoodStatement
         (all_joined all (node_leaves (n.Blank inside)) (joined (map property_leaves (read.all_of ps))) (stand_by all _ _ (leaves-Blank inside) (properties_stand inside h)) (properties_stand (read.all_of ps) (some_properties ps hs)), tt)))
 

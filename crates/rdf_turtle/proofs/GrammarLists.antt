@@ -7,7 +7,7 @@ use Rattle.rdf_turtle.specs.declared.lexeme.Terminal.TheVariants as terminal
 use Rattle.rdf_turtle.specs.declared.tree.Node.{Node}
 use Rattle.rdf_turtle.specs.declared.tree.Property.{Property}
 use Rattle.rdf_turtle.specs.Rules.{Lexemes, Rule, one, the, sees, next, next_terminal}
-use Rattle.rdf_turtle.specs.Reading.{more, some_property, begins_node, sees_node, is_more}
+use Rattle.rdf_turtle.specs.Reading.{more, optional_property, begins_node, sees_node, is_more}
 
 pub one_reads : {A : Type 0} (p : Rule A) (ts us : Lexemes) (x : A) → p ts ≡ Some (x, us) → one p ts ≡ Some (x ∷ [], us)
 one_reads p ts us x h = rw h refl
@@ -27,14 +27,14 @@ sees_some k [] h = absurd (cc)
 sees_some k (t ∷ ts) h = omega arith
 
 module _ (node : Rule Node) where
-  pub more_reads : (now mid then : Lexemes) (o : Option Property) → sees terminal.Semicolon now ≡ true → mid ≡ next now → some_property node mid ≡ Some (o, then)
+  pub more_reads : (now mid then : Lexemes) (o : Option Property) → sees terminal.Semicolon now ≡ true → mid ≡ next now → optional_property node mid ≡ Some (o, then)
       → more node now ≡ Some (option_to_list o, then)
   unfolding the
-  more_reads now mid then o s m h = let e : some_property node (next now) ≡ Some (o, then) = ap (some_property node) (sym m) ∙ h in rw (s, e) refl
+  more_reads now mid then o s m h = let e : optional_property node (next now) ≡ Some (o, then) = ap (optional_property node) (sym m) ∙ h in rw (s, e) refl
 
-  pub more_fails : (now mid : Lexemes) → sees terminal.Semicolon now ≡ true → mid ≡ next now → some_property node mid ≡ None → more node now ≡ None
+  pub more_fails : (now mid : Lexemes) → sees terminal.Semicolon now ≡ true → mid ≡ next now → optional_property node mid ≡ None → more node now ≡ None
   unfolding the
-  more_fails now mid s m h = let e : some_property node (next now) ≡ None = ap (some_property node) (sym m) ∙ h in rw (s, e) refl
+  more_fails now mid s m h = let e : optional_property node (next now) ≡ None = ap (optional_property node) (sym m) ∙ h in rw (s, e) refl
 
 pub none_pushed : {A : Type 0} (l : List A) (o : Option A) → o ≡ None → l ≡ l ++ option_to_list o
 none_pushed l o h = rw h (sym (append-nil l))

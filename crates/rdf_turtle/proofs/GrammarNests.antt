@@ -148,8 +148,8 @@ module _ (limit b : ℕ) where
     verb_objects_keeps : Keeps limit b (g.VerbObjects P) (g.VerbObjects Q)
     verb_objects_keeps = then_keeps limit b _ _ _ _ verb_keeps (λ verb. then_keeps limit b _ _ _ _ objects_keeps (λ objects. pure_keeps limit b (read.property_with verb objects)))
 
-    pred_list_keeps : Keeps limit b (g.PredList P) (g.PredList Q)
-    pred_list_keeps = then_keeps limit b _ _ _ _ verb_objects_keeps (λ first. then_keeps limit b _ _ _ _
+    predicate_object_list_keeps : Keeps limit b (g.PredicateObjectList P) (g.PredicateObjectList Q)
+    predicate_object_list_keeps = then_keeps limit b _ _ _ _ verb_objects_keeps (λ first. then_keeps limit b _ _ _ _
         (star_keeps limit b _ _ (behind_keeps limit b terminal.Semicolon _ _ refl (map_keeps limit b option_to_list _ _ (maybe_keeps limit b _ _ verb_objects_keeps)))) (λ others. pure_keeps limit b (first ∷ others)))
 
 -- what stands in brackets
@@ -157,8 +157,8 @@ module _ (limit b : ℕ) (P Q : Derives Node) (p : Keeps limit (b + 1) P Q) wher
   anonymous_keeps : Keeps limit b (g.Anonymous P) (g.Anonymous Q)
   anonymous_keeps = pair_keeps limit b terminal.OpenBracket terminal.CloseBracket [] refl (omega arith)
 
-  prop_list_keeps : Keeps limit b (g.PropList P) (g.PropList Q)
-  prop_list_keeps = enclosed limit b terminal.OpenBracket terminal.CloseBracket _ _ grammar.pure refl (omega arith) (pred_list_keeps limit (b + 1) P Q p) (λ a ts x us d. d.1)
+  blank_node_property_list_keeps : Keeps limit b (g.BlankNodePropertyList P) (g.BlankNodePropertyList Q)
+  blank_node_property_list_keeps = enclosed limit b terminal.OpenBracket terminal.CloseBracket _ _ grammar.pure refl (omega arith) (predicate_object_list_keeps limit (b + 1) P Q p) (λ a ts x us d. d.1)
 
   blank_keeps : Keeps limit b (g.Blank P) (g.Blank Q)
   blank_keeps = or_keeps limit b _ _ _ _ (leaf_keeps limit b n.Label terminal.BlankLabel refl) (map_keeps limit b n.Blank _ _ anonymous_keeps)
@@ -174,7 +174,7 @@ module _ (limit b : ℕ) (P Q : Derives Node) (p : Keeps limit (b + 1) P Q) wher
 
   object_keeps : Keeps limit b (g.Object P) (g.Object Q)
   object_keeps = or_keeps limit b _ _ _ _ named_keeps (or_keeps limit b _ _ _ _ blank_keeps (or_keeps limit b _ _ _ _ (map_keeps limit b n.Collection _ _ collection_keeps)
-      (or_keeps limit b _ _ _ _ (map_keeps limit b n.Blank _ _ prop_list_keeps) (map_keeps limit b n.Literal _ _ (literal_keeps limit b)))))
+      (or_keeps limit b _ _ _ _ (map_keeps limit b n.Blank _ _ blank_node_property_list_keeps) (map_keeps limit b n.Literal _ _ (literal_keeps limit b)))))
 
 objects_at : (limit d b : ℕ) → Keeps limit b (g.Objects_at d) (g.Objects_at (suc limit - b))
 unfolding Keeps
@@ -206,10 +206,10 @@ module _ (limit : ℕ) where
 
   module _ (I J P Q : Derives Node) (i : Keeps limit 1 I J) (p : Keeps limit 0 P Q) where
     about_keeps : Keeps limit 0 (g.About I P) (g.About J Q)
-    about_keeps = then_keeps limit 0 _ _ _ _ (subject_keeps limit 0 I J i) (λ subject. then_keeps limit 0 _ _ _ _ (pred_list_keeps limit 0 P Q p) (λ ps. pure_keeps limit 0 (s.Triples subject ps)))
+    about_keeps = then_keeps limit 0 _ _ _ _ (subject_keeps limit 0 I J i) (λ subject. then_keeps limit 0 _ _ _ _ (predicate_object_list_keeps limit 0 P Q p) (λ ps. pure_keeps limit 0 (s.Triples subject ps)))
 
     about_blank_keeps : Keeps limit 0 (g.AboutBlank I P) (g.AboutBlank J Q)
-    about_blank_keeps = then_keeps limit 0 _ _ _ _ (prop_list_keeps limit 0 I J i) (λ inside. then_keeps limit 0 _ _ _ _ (maybe_keeps limit 0 _ _ (pred_list_keeps limit 0 P Q p)) (λ ps. pure_keeps limit 0 (s.Triples (n.Blank inside) (read.all_of ps))))
+    about_blank_keeps = then_keeps limit 0 _ _ _ _ (blank_node_property_list_keeps limit 0 I J i) (λ inside. then_keeps limit 0 _ _ _ _ (maybe_keeps limit 0 _ _ (predicate_object_list_keeps limit 0 P Q p)) (λ ps. pure_keeps limit 0 (s.Triples (n.Blank inside) (read.all_of ps))))
 
     statement_keeps : Keeps limit 0 (g.AStatement I P) (g.AStatement J Q)
     statement_keeps = or_keeps limit 0 _ _ _ _ directive_keeps (dotted_keeps _ _ (or_keeps limit 0 _ _ _ _ about_keeps about_blank_keeps))

@@ -123,16 +123,16 @@ module _ (node : Rule Node) (Node' : Derives Node) (r : IsNodeRule node Node') w
   property_begins : (ts : Lexemes) (x : Property) (us : Lexemes) → g.VerbObjects Node' ts x us → read.sees_verb ts ≡ true
   property_begins ts x us h = verb_begins ts h.first h.mid h.reads
 
-  some_property_decides : Decides (read.some_property node) (grammar.maybe (g.VerbObjects Node')) ends_objects
-  unfolding read.some_property
-  some_property_decides = maybe_decides read.sees_verb (read.property node) (g.VerbObjects Node') ends_objects ends_objects property_decides
+  optional_property_decides : Decides (read.optional_property node) (grammar.maybe (g.VerbObjects Node')) ends_objects
+  unfolding read.optional_property
+  optional_property_decides = maybe_decides read.sees_verb (read.property node) (g.VerbObjects Node') ends_objects ends_objects property_decides
       property_begins (λ us h. objects_no_verb (next_terminal us) h) (λ us h. h)
 
   abbrev Some_more : Derives (List Property)
   Some_more = grammar.◌<$>◌ option_to_list (grammar.maybe (g.VerbObjects Node'))
 
-  some_more_decides : Decides (steps.◌<$>◌ option_to_list (read.some_property node)) Some_more ends_objects
-  some_more_decides = last option_to_list _ _ ends_objects some_property_decides
+  some_more_decides : Decides (steps.◌<$>◌ option_to_list (read.optional_property node)) Some_more ends_objects
+  some_more_decides = last option_to_list _ _ ends_objects optional_property_decides
 
   more_starts : (ts : Lexemes) (x : List Property) (us : Lexemes) → grammar.◌>>◌ (grammar.the terminal.Semicolon) Some_more ts x us → (sees terminal.Semicolon ts ≡ true) × (length us < length ts)
   more_starts ts x us h = starts_with terminal.Semicolon Some_more _ ends_objects some_more_decides ts x us h
@@ -145,33 +145,33 @@ module _ (node : Rule Node) (Node' : Derives Node) (r : IsNodeRule node Node') w
   mores_begin ts xs us stop h = list_objects (next_terminal ts) h
   mores_begin ts xs us (more {mid = mid} {x = x} q s) h = seen_passes closes_objects terminal.Semicolon refl ts (more_starts ts x mid q).0
 
-  pub pred_list_decides : Decides (read.pred_list node) (g.PredList Node') ends_list
-  unfolding read.pred_list
-  pred_list_decides =
+  pub predicate_object_list_decides : Decides (read.predicate_object_list node) (g.PredicateObjectList Node') ends_list
+  unfolding read.predicate_object_list
+  predicate_object_list_decides =
       then_decides _ _ _ _ ends_objects ends_list property_decides
       (λ first. then_decides _ _ _ _ ends_list ends_list mores_decide (λ others. pure_decides (first ∷ others) ends_list) (λ a mid b us h e. rw h.1 e))
       (λ a mid b us h e. mores_begin mid h.first h.mid h.reads (rw h.goes.1 e))
 
-  pred_list_begins : (ts : Lexemes) (x : List Property) (us : Lexemes) → g.PredList Node' ts x us → read.sees_verb ts ≡ true
-  pred_list_begins ts x us h = property_begins ts h.first h.mid h.reads
+  predicate_object_list_begins : (ts : Lexemes) (x : List Property) (us : Lexemes) → g.PredicateObjectList Node' ts x us → read.sees_verb ts ≡ true
+  predicate_object_list_begins ts x us h = property_begins ts h.first h.mid h.reads
 
-  abbrev pub Some_pred_list : Derives (List Property)
-  Some_pred_list = grammar.◌<$>◌ read.all_of (grammar.maybe (g.PredList Node'))
+  abbrev pub OptionalPredicateObjectList : Derives (List Property)
+  OptionalPredicateObjectList = grammar.◌<$>◌ read.all_of (grammar.maybe (g.PredicateObjectList Node'))
 
-  pub some_pred_list_decides : Decides (read.some_pred_list node) Some_pred_list ends_list
-  unfolding read.some_pred_list
-  some_pred_list_decides = last read.all_of _ _ ends_list (maybe_decides read.sees_verb (read.pred_list node) (g.PredList Node') ends_list ends_list pred_list_decides
-      pred_list_begins (λ us h. objects_no_verb (next_terminal us) (list_objects (next_terminal us) h)) (λ us h. h))
+  pub optional_predicate_object_list_decides : Decides (read.optional_predicate_object_list node) OptionalPredicateObjectList ends_list
+  unfolding read.optional_predicate_object_list
+  optional_predicate_object_list_decides = last read.all_of _ _ ends_list (maybe_decides read.sees_verb (read.predicate_object_list node) (g.PredicateObjectList Node') ends_list ends_list predicate_object_list_decides
+      predicate_object_list_begins (λ us h. objects_no_verb (next_terminal us) (list_objects (next_terminal us) h)) (λ us h. h))
 
-  -- "[" predList? "]"
+  -- "[" predicateObjectList? "]"
   abbrev pub Bracketed : Derives (List Property)
-  Bracketed = grammar.◌>>=◌ (grammar.the terminal.OpenBracket) (λ _. grammar.◌>>=◌ Some_pred_list (λ ps. grammar.◌>>=◌ (grammar.the terminal.CloseBracket) (λ _. grammar.pure ps)))
+  Bracketed = grammar.◌>>=◌ (grammar.the terminal.OpenBracket) (λ _. grammar.◌>>=◌ OptionalPredicateObjectList (λ ps. grammar.◌>>=◌ (grammar.the terminal.CloseBracket) (λ _. grammar.pure ps)))
 
   pub bracketed_decides : Decides (read.bracketed node) Bracketed always
   unfolding read.bracketed
   bracketed_decides =
       seq _ _ _ _ always (the_decides terminal.OpenBracket) (λ _.
-      then_decides _ _ _ _ ends_list always some_pred_list_decides (λ ps. seq _ _ _ _ always (the_decides terminal.CloseBracket) (λ _. pure_decides ps always))
+      then_decides _ _ _ _ ends_list always optional_predicate_object_list_decides (λ ps. seq _ _ _ _ always (the_decides terminal.CloseBracket) (λ _. pure_decides ps always))
       (λ a mid b us h e. let at = the_terminal terminal.CloseBracket mid h.mid h.first h.reads in rw at refl))
 
   items_start : (ts : Lexemes) (x : List Node) (us : Lexemes) → grammar.one Node' ts x us → (read.sees_node ts ≡ true) × (length us < length ts)
@@ -236,7 +236,7 @@ module _ (node : Rule Node) (Node' : Derives Node) (r : IsNodeRule node Node') w
 
   bracketed_strict : (ts : Lexemes) (x : List Property) (us : Lexemes) → Bracketed ts x us → length us < length ts
   bracketed_strict ts x us h =
-      let a = some_pred_list_decides.shorter h.mid h.goes.first h.goes.mid h.goes.reads in
+      let a = optional_predicate_object_list_decides.shorter h.mid h.goes.first h.goes.mid h.goes.reads in
       let z = h.goes.goes in
       omega (arith, ap length h.reads.2, ap length z.reads.2, ap length z.goes.1)
 
@@ -294,11 +294,11 @@ module _ (node : Rule Node) (Node' : Derives Node) (r : IsNodeRule node Node') w
 
   -- ---- "[" "]" and propList
 
-  pub bracketed_is : (ts : Lexemes) (ps : List Property) (us : Lexemes) → Bracketed ts ps us → (g.Anonymous Node' ts ps us) ⊎ (g.PropList Node' ts ps us)
+  pub bracketed_is : (ts : Lexemes) (ps : List Property) (us : Lexemes) → Bracketed ts ps us → (g.Anonymous Node' ts ps us) ⊎ (g.BlankNodePropertyList Node' ts ps us)
   bracketed_is ts ps us h = at h.goes.reads.first h.goes.reads.reads h.goes.reads.goes
     where
-      at : (o : Option (List Property)) → grammar.maybe (g.PredList Node') h.mid o h.goes.reads.mid → grammar.pure (read.all_of o) h.goes.reads.mid h.goes.first h.goes.mid
-          → (g.Anonymous Node' ts ps us) ⊎ (g.PropList Node' ts ps us)
+      at : (o : Option (List Property)) → grammar.maybe (g.PredicateObjectList Node') h.mid o h.goes.reads.mid → grammar.pure (read.all_of o) h.goes.reads.mid h.goes.first h.goes.mid
+          → (g.Anonymous Node' ts ps us) ⊎ (g.BlankNodePropertyList Node' ts ps us)
       at None m e =
           let z = h.goes.goes in
           inl (record { first = tt; mid = h.mid; reads = h.reads; goes = record { first = tt; mid = z.mid; reads = rw (m ∙ e.1) z.reads; goes = (e.0 ∙ z.goes.0, z.goes.1) } })
@@ -314,15 +314,15 @@ module _ (node : Rule Node) (Node' : Derives Node) (r : IsNodeRule node Node') w
     goes = record { first = []; mid = h.mid; reads = record { first = None; mid = h.mid; reads = refl; goes = (refl, refl) }; goes = h.goes };
   }
 
-  pub prop_list_is : (ts : Lexemes) (ps : List Property) (us : Lexemes) → g.PropList Node' ts ps us → Bracketed ts ps us
-  prop_list_is ts ps us h = record {
+  pub blank_node_property_list_is : (ts : Lexemes) (ps : List Property) (us : Lexemes) → g.BlankNodePropertyList Node' ts ps us → Bracketed ts ps us
+  blank_node_property_list_is ts ps us h = record {
     first = tt;
     mid = h.mid;
     reads = h.reads;
     goes = record { first = h.goes.first; mid = h.goes.mid; reads = record { first = Some h.goes.first; mid = h.goes.mid; reads = h.goes.reads; goes = (refl, refl) }; goes = h.goes.goes };
   }
 
-  blank_object : (ts : Lexemes) (x : Node) (us : Lexemes) (ps : List Property) (mid : Lexemes) → (g.Anonymous Node' ts ps mid) ⊎ (g.PropList Node' ts ps mid) → grammar.pure (n.Blank ps) mid x us → g.Object Node' ts x us
+  blank_object : (ts : Lexemes) (x : Node) (us : Lexemes) (ps : List Property) (mid : Lexemes) → (g.Anonymous Node' ts ps mid) ⊎ (g.BlankNodePropertyList Node' ts ps mid) → grammar.pure (n.Blank ps) mid x us → g.Object Node' ts x us
   blank_object ts x us ps mid (inl a) e = inr (inl (inr (record { first = ps; mid = mid; reads = a; goes = e })))
   blank_object ts x us ps mid (inr a) e = inr (inr (inr (inl (record { first = ps; mid = mid; reads = a; goes = e }))))
 
@@ -338,7 +338,7 @@ module _ (node : Rule Node) (Node' : Derives Node) (r : IsNodeRule node Node') w
   object_back ts x us (inr (inl (inl h))) = inl (inr (inl h))
   object_back ts x us (inr (inl (inr h))) = inl (inr (inr (inl (record { first = h.first; mid = h.mid; reads = anonymous_is ts h.first h.mid h.reads; goes = h.goes }))))
   object_back ts x us (inr (inr (inl h))) = inl (inr (inr (inr h)))
-  object_back ts x us (inr (inr (inr (inl h)))) = inl (inr (inr (inl (record { first = h.first; mid = h.mid; reads = prop_list_is ts h.first h.mid h.reads; goes = h.goes }))))
+  object_back ts x us (inr (inr (inr (inl h)))) = inl (inr (inr (inl (record { first = h.first; mid = h.mid; reads = blank_node_property_list_is ts h.first h.mid h.reads; goes = h.goes }))))
   object_back ts x us (inr (inr (inr (inr h)))) = inr h
 
   pub object_rule : IsNodeRule (read.object node) (g.Object Node')

@@ -19,7 +19,7 @@ use Rattle.rdf_turtle.specs.Reading as read
 use Rattle.rdf_turtle.specs.Grammar as g
 use Rattle.rdf_turtle.proofs.GrammarDecides.{Test, always, Decides, then_decides, pure_decides, the_decides, value_decides, repeat_decides, same_is, same_refl, got, some_pair}
 use Rattle.rdf_turtle.proofs.GrammarProductions.{behind, one_decides, seq, last, the_terminal, value_terminal, any_the, iri_terminal}
-use Rattle.rdf_turtle.proofs.GrammarNodes.{ends_list, IsNodeRule, node_rule, Bracketed, bracketed_decides, Some_pred_list, some_pred_list_decides, pred_list_decides, AnySubject, subject_decides, bracketed_is, anonymous_is, prop_list_is}
+use Rattle.rdf_turtle.proofs.GrammarNodes.{ends_list, IsNodeRule, node_rule, Bracketed, bracketed_decides, OptionalPredicateObjectList, optional_predicate_object_list_decides, predicate_object_list_decides, AnySubject, subject_decides, bracketed_is, anonymous_is, blank_node_property_list_is}
 
 -- ---- directives
 
@@ -84,26 +84,26 @@ ended (t ∷ ts) = false
 
 module _ (inner node : Rule Node) (Inner Node' : Derives Node) (ri : IsNodeRule inner Inner) (r : IsNodeRule node Node') where
   abbrev Behind : List Property → Derives (List Property)
-  Behind [] = g.PredList Node'
-  Behind (p ∷ ps) = Some_pred_list node Node' r
+  Behind [] = g.PredicateObjectList Node'
+  Behind (p ∷ ps) = OptionalPredicateObjectList node Node' r
 
-  behind_decides : (inside : List Property) → Decides (read.pred_list_behind node inside) (Behind inside) ends_list
-  behind_decides [] = pred_list_decides node Node' r
-  behind_decides (p ∷ ps) = some_pred_list_decides node Node' r
+  behind_decides : (inside : List Property) → Decides (read.predicate_object_list_behind node inside) (Behind inside) ends_list
+  behind_decides [] = predicate_object_list_decides node Node' r
+  behind_decides (p ∷ ps) = optional_predicate_object_list_decides node Node' r
 
-  behind_empty : (inside : List Property) → [] ≡ inside → (mid : Lexemes) (ps : List Property) (us : Lexemes) → Behind inside mid ps us → g.PredList Node' mid ps us
+  behind_empty : (inside : List Property) → [] ≡ inside → (mid : Lexemes) (ps : List Property) (us : Lexemes) → Behind inside mid ps us → g.PredicateObjectList Node' mid ps us
   behind_empty [] e mid ps us d = d
   behind_empty (x ∷ xs) e mid ps us d = absurd (cc)
 
-  empty_behind : (inside : List Property) → [] ≡ inside → (mid : Lexemes) (ps : List Property) (us : Lexemes) → g.PredList Node' mid ps us → Behind inside mid ps us
+  empty_behind : (inside : List Property) → [] ≡ inside → (mid : Lexemes) (ps : List Property) (us : Lexemes) → g.PredicateObjectList Node' mid ps us → Behind inside mid ps us
   empty_behind [] e mid ps us d = d
   empty_behind (x ∷ xs) e mid ps us d = absurd (cc)
 
-  behind_some : (inside : List Property) (p : Property) (qs : List Property) → p ∷ qs ≡ inside → (mid : Lexemes) (ps : List Property) (us : Lexemes) → Behind inside mid ps us → Some_pred_list node Node' r mid ps us
+  behind_some : (inside : List Property) (p : Property) (qs : List Property) → p ∷ qs ≡ inside → (mid : Lexemes) (ps : List Property) (us : Lexemes) → Behind inside mid ps us → OptionalPredicateObjectList node Node' r mid ps us
   behind_some [] p qs e mid ps us d = absurd (cc)
   behind_some (x ∷ xs) p qs e mid ps us d = d
 
-  some_behind : (inside : List Property) (p : Property) (qs : List Property) → p ∷ qs ≡ inside → (mid : Lexemes) (ps : List Property) (us : Lexemes) → Some_pred_list node Node' r mid ps us → Behind inside mid ps us
+  some_behind : (inside : List Property) (p : Property) (qs : List Property) → p ∷ qs ≡ inside → (mid : Lexemes) (ps : List Property) (us : Lexemes) → OptionalPredicateObjectList node Node' r mid ps us → Behind inside mid ps us
   some_behind [] p qs e mid ps us d = absurd (cc)
   some_behind (x ∷ xs) p qs e mid ps us d = d
 
@@ -116,27 +116,27 @@ module _ (inner node : Rule Node) (Inner Node' : Derives Node) (ri : IsNodeRule 
       (λ inside. then_decides _ _ _ _ ends_list ends_list (behind_decides inside) (λ ps. pure_decides (s.Triples (n.Blank inside) ps) ends_list) (λ a mid b us h e. rw h.1 e))
 
   abbrev AboutSubject : Derives Statement
-  AboutSubject = grammar.◌>>=◌ (AnySubject inner Inner ri) (λ subject. grammar.◌>>=◌ (g.PredList Node') (λ ps. grammar.pure (s.Triples subject ps)))
+  AboutSubject = grammar.◌>>=◌ (AnySubject inner Inner ri) (λ subject. grammar.◌>>=◌ (g.PredicateObjectList Node') (λ ps. grammar.pure (s.Triples subject ps)))
 
   about_subject_decides : Decides (read.about_subject inner node) AboutSubject ends_list
   unfolding read.about_subject
   about_subject_decides = seq _ _ _ _ ends_list (subject_decides inner Inner ri)
-      (λ subject. then_decides _ _ _ _ ends_list ends_list (pred_list_decides node Node' r) (λ ps. pure_decides (s.Triples subject ps) ends_list) (λ a mid b us h e. rw h.1 e))
+      (λ subject. then_decides _ _ _ _ ends_list ends_list (predicate_object_list_decides node Node' r) (λ ps. pure_decides (s.Triples subject ps) ends_list) (λ a mid b us h e. rw h.1 e))
 
   abbrev Rest : Node → Derives Statement
-  Rest subject = grammar.◌>>=◌ (g.PredList Node') (λ ps. grammar.pure (s.Triples subject ps))
+  Rest subject = grammar.◌>>=◌ (g.PredicateObjectList Node') (λ ps. grammar.pure (s.Triples subject ps))
 
   abbrev MaybeRest : List Property → Derives Statement
-  MaybeRest inside = grammar.◌>>=◌ (grammar.maybe (g.PredList Node')) (λ ps. grammar.pure (s.Triples (n.Blank inside) (read.all_of ps)))
+  MaybeRest inside = grammar.◌>>=◌ (grammar.maybe (g.PredicateObjectList Node')) (λ ps. grammar.pure (s.Triples (n.Blank inside) (read.all_of ps)))
 
   -- a propList isn't empty
-  prop_list_some : (ts : Lexemes) (inside : List Property) (mid : Lexemes) → g.PropList Inner ts inside mid → (p : Property) × (qs : List Property) × (p ∷ qs ≡ inside)
-  prop_list_some ts inside mid h = let l = h.goes.reads in (l.first, l.goes.first, l.goes.goes.0 ∙ h.goes.goes.goes.0)
+  blank_node_property_list_some : (ts : Lexemes) (inside : List Property) (mid : Lexemes) → g.BlankNodePropertyList Inner ts inside mid → (p : Property) × (qs : List Property) × (p ∷ qs ≡ inside)
+  blank_node_property_list_some ts inside mid h = let l = h.goes.reads in (l.first, l.goes.first, l.goes.goes.0 ∙ h.goes.goes.goes.0)
 
   maybe_rest : (inside : List Property) (ts : Lexemes) (x : Statement) (us : Lexemes) → Rest (n.Blank inside) ts x us → MaybeRest inside ts x us
   maybe_rest inside ts x us h = record { first = Some h.first; mid = h.mid; reads = h.reads; goes = h.goes }
 
-  bracketed_there : (ts : Lexemes) (x : Statement) (us : Lexemes) (inside : List Property) (mid : Lexemes) → (g.Anonymous Inner ts inside mid) ⊎ (g.PropList Inner ts inside mid)
+  bracketed_there : (ts : Lexemes) (x : Statement) (us : Lexemes) (inside : List Property) (mid : Lexemes) → (g.Anonymous Inner ts inside mid) ⊎ (g.BlankNodePropertyList Inner ts inside mid)
       → grammar.◌>>=◌ (Behind inside) (λ ps. grammar.pure (s.Triples (n.Blank inside) ps)) mid x us → g.Triples Inner Node' ts x us
   bracketed_there ts x us inside mid (inl a) d =
       inl (record {
@@ -146,7 +146,7 @@ module _ (inner node : Rule Node) (Inner Node' : Derives Node) (ri : IsNodeRule 
         goes = record { first = d.first; mid = d.mid; reads = behind_empty inside a.goes.goes.0 mid d.first d.mid d.reads; goes = d.goes };
       })
   bracketed_there ts x us inside mid (inr a) d =
-      let e = prop_list_some ts inside mid a in
+      let e = blank_node_property_list_some ts inside mid a in
       let m = behind_some inside e.0 e.1 e.2 mid d.first d.mid d.reads in
       inr (record {
         first = inside;
@@ -155,7 +155,7 @@ module _ (inner node : Rule Node) (Inner Node' : Derives Node) (ri : IsNodeRule 
         goes = record { first = m.first; mid = m.mid; reads = m.reads; goes = (ap (s.Triples (n.Blank inside)) m.goes.0 ∙ d.goes.0, m.goes.1 ∙ d.goes.1) };
       })
 
-  subject_there : (ts : Lexemes) (x : Statement) (us : Lexemes) (inside : List Property) (mid : Lexemes) → (g.Anonymous Inner ts inside mid) ⊎ (g.PropList Inner ts inside mid)
+  subject_there : (ts : Lexemes) (x : Statement) (us : Lexemes) (inside : List Property) (mid : Lexemes) → (g.Anonymous Inner ts inside mid) ⊎ (g.BlankNodePropertyList Inner ts inside mid)
       → Rest (n.Blank inside) mid x us → g.Triples Inner Node' ts x us
   subject_there ts x us inside mid (inl a) d = inl (record { first = n.Blank inside; mid = mid; reads = inr (inl (inr (record { first = inside; mid = mid; reads = a; goes = (refl, refl) }))); goes = d })
   subject_there ts x us inside mid (inr a) d = inr (record { first = inside; mid = mid; reads = a; goes = maybe_rest inside mid x us d })
@@ -204,14 +204,14 @@ module _ (inner node : Rule Node) (Inner Node' : Derives Node) (ri : IsNodeRule 
   triples_complete : (ts : Lexemes) (x : Statement) (us : Lexemes) → g.Triples Inner Node' ts x us → ends_list us ≡ true → read.triples_by inner node (next_terminal ts) ts ≡ Some (x, us)
   triples_complete ts x us (inl h) e = about_complete ts x us h.first h.mid h.reads h.goes e
   triples_complete ts x us (inr h) e =
-      let p = prop_list_some ts h.first h.mid h.reads in
+      let p = blank_node_property_list_some ts h.first h.mid h.reads in
       let z = h.goes in
       let m = some_behind h.first p.0 p.1 p.2 h.mid (read.all_of z.first) z.mid (record { first = z.first; mid = z.mid; reads = z.reads; goes = (refl, refl) }) in
       rw (the_terminal terminal.OpenBracket ts h.reads.mid h.reads.first h.reads.reads)
       (about_blank_decides.complete ts x us (record {
         first = h.first;
         mid = h.mid;
-        reads = prop_list_is inner Inner ri ts h.first h.mid h.reads;
+        reads = blank_node_property_list_is inner Inner ri ts h.first h.mid h.reads;
         goes = record { first = read.all_of z.first; mid = z.mid; reads = m; goes = z.goes };
       }) e)
 
@@ -239,12 +239,12 @@ module _ (inner node : Rule Node) (Inner Node' : Derives Node) (ri : IsNodeRule 
       at (inr (inl (inr a))) = inl (record { first = h.first; mid = h.mid; reads = inr (inr (inl (record { first = a.first; mid = a.mid; reads = anonymous_is inner Inner ri ts a.first a.mid a.reads; goes = a.goes }))); goes = h.goes })
       at (inr (inr a)) = inl (record { first = h.first; mid = h.mid; reads = inr (inr (inr a)); goes = h.goes })
   triples_back ts x us (inr h) =
-      let p = prop_list_some ts h.first h.mid h.reads in
+      let p = blank_node_property_list_some ts h.first h.mid h.reads in
       let z = h.goes in
       inr (record {
         first = h.first;
         mid = h.mid;
-        reads = prop_list_is inner Inner ri ts h.first h.mid h.reads;
+        reads = blank_node_property_list_is inner Inner ri ts h.first h.mid h.reads;
         goes = record { first = read.all_of z.first; mid = z.mid; reads = some_behind h.first p.0 p.1 p.2 h.mid (read.all_of z.first) z.mid (record { first = z.first; mid = z.mid; reads = z.reads; goes = (refl, refl) }); goes = z.goes };
       })
 

@@ -58,8 +58,8 @@ module _ (object : Derives Node) where
     pure (property_with verb objects)
 
   -- 7: predicateObjectList = verb objectList ( ";" ( verb objectList )? )*
-  abbrev pub PredList : Derives (List Property)
-  PredList = do
+  abbrev pub PredicateObjectList : Derives (List Property)
+  PredicateObjectList = do
     first ← VerbObjects
     others ← Star (the terminal.Semicolon >> option_to_list <$> maybe VerbObjects)
     pure (first ∷ others)
@@ -72,10 +72,10 @@ module _ (object : Derives Node) where
     pure []
 
   -- 14: blankNodePropertyList = "[" predicateObjectList "]"
-  abbrev pub PropList : Derives (List Property)
-  PropList = do
+  abbrev pub BlankNodePropertyList : Derives (List Property)
+  BlankNodePropertyList = do
     the terminal.OpenBracket
-    ps ← PredList
+    ps ← PredicateObjectList
     the terminal.CloseBracket
     pure ps
 
@@ -97,7 +97,7 @@ module _ (object : Derives Node) where
 
   -- 12: object = iri | BlankNode | collection | blankNodePropertyList | literal
   abbrev pub Object : Derives Node
-  Object = (n.Name <$> Iri) ∣ Blank ∣ (n.Collection <$> Collection) ∣ (n.Blank <$> PropList) ∣ (n.Literal <$> ALiteral)
+  Object = (n.Name <$> Iri) ∣ Blank ∣ (n.Collection <$> Collection) ∣ (n.Blank <$> BlankNodePropertyList) ∣ (n.Literal <$> ALiteral)
 
 -- An object whose brackets nest less than so deep.
 abbrev pub Objects_at : ℕ → Derives Node
@@ -136,13 +136,13 @@ module _ (inner object : Derives Node) where
   abbrev pub About : Derives Statement
   About = do
     subject ← Subject inner
-    ps ← PredList object
+    ps ← PredicateObjectList object
     pure (s.Triples subject ps)
 
   abbrev pub AboutBlank : Derives Statement
   AboutBlank = do
-    inside ← PropList inner
-    ps ← maybe (PredList object)
+    inside ← BlankNodePropertyList inner
+    ps ← maybe (PredicateObjectList object)
     pure (s.Triples (n.Blank inside) (all_of ps))
 
   abbrev pub Triples : Derives Statement

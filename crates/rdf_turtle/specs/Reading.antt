@@ -125,34 +125,34 @@ module _ (node : Rule Node) where
     pure (property_with v os)
 
   -- ( verb objectList )?
-  unfoldable pub some_property : Rule (Option Property)
-  some_property = optional sees_verb property
+  unfoldable pub optional_property : Rule (Option Property)
+  optional_property = optional sees_verb property
 
   -- ";" ( verb objectList )?
   abbrev pub more : Rule (List Property)
-  more = the terminal.Semicolon >> (option_to_list <$> some_property)
+  more = the terminal.Semicolon >> (option_to_list <$> optional_property)
 
   -- predicateObjectList = verb objectList ( ";" ( verb objectList )? )*
-  unfoldable pub pred_list : Rule (List Property)
-  pred_list = do
+  unfoldable pub predicate_object_list : Rule (List Property)
+  predicate_object_list = do
     first ← property
     others ← repeat (sees terminal.Semicolon) more
     pure (first ∷ others)
 
   -- predicateObjectList?
-  unfoldable pub some_pred_list : Rule (List Property)
-  some_pred_list = all_of <$> optional sees_verb pred_list
+  unfoldable pub optional_predicate_object_list : Rule (List Property)
+  optional_predicate_object_list = all_of <$> optional sees_verb predicate_object_list
 
   -- behind ANON predicateObjectList, behind blankNodePropertyList predicateObjectList?
-  abbrev pub pred_list_behind : List Property → Rule (List Property)
-  pred_list_behind [] = pred_list
-  pred_list_behind (p ∷ ps) = some_pred_list
+  abbrev pub predicate_object_list_behind : List Property → Rule (List Property)
+  predicate_object_list_behind [] = predicate_object_list
+  predicate_object_list_behind (p ∷ ps) = optional_predicate_object_list
 
   -- "[" predicateObjectList? "]", which is ANON and blankNodePropertyList
   unfoldable pub bracketed : Rule (List Property)
   bracketed = do
     the terminal.OpenBracket
-    ps ← some_pred_list
+    ps ← optional_predicate_object_list
     the terminal.CloseBracket
     pure ps
 
@@ -214,13 +214,13 @@ module _ (inner node : Rule Node) where
   unfoldable pub about_blank : Rule Statement
   about_blank = do
     inside ← bracketed inner
-    ps ← pred_list_behind node inside
+    ps ← predicate_object_list_behind node inside
     pure (s.Triples (n.Blank inside) ps)
 
   unfoldable pub about_subject : Rule Statement
   about_subject = do
     subject ← subject inner
-    ps ← pred_list node
+    ps ← predicate_object_list node
     pure (s.Triples subject ps)
 
   -- triples = subject predicateObjectList | blankNodePropertyList predicateObjectList?

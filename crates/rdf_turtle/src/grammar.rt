@@ -173,7 +173,7 @@ impl<'a> Parser<'_, 'a> {
         ensures shorter { OnOk result (length self.new < length self.old) }
     {
         self.expect(Terminal::OpenBracket)?;
-        let properties = self.some_pred_list(depth)?;
+        let properties = self.optional_predicate_object_list(depth)?;
         self.expect(Terminal::CloseBracket)?;
         Ok(properties)
     }
@@ -194,27 +194,33 @@ impl<'a> Parser<'_, 'a> {
     }
 
     #[cycle(node)]
-    #[tactic(auto, unfolding(crate::specs::Reading::some_pred_list))]
-    pub fn some_pred_list(&mut self, depth: usize) -> Result<Items<Property<'a>>, TurtleFaultKind>
-        ensures reads { Reads (spec.some_pred_list (spec.node depth) self.old) result self.new }
+    #[tactic(auto, unfolding(crate::specs::Reading::optional_predicate_object_list))]
+    pub fn optional_predicate_object_list(
+        &mut self,
+        depth: usize,
+    ) -> Result<Items<Property<'a>>, TurtleFaultKind>
+        ensures reads { Reads (spec.optional_predicate_object_list (spec.node depth) self.old) result self.new }
         ensures shorter { OnOk result (length self.new ≤ length self.old) }
     {
         if !begins_verb(self.peek()) {
             return Ok(Items::new(self.alloc));
         }
-        self.pred_list(depth)
+        self.predicate_object_list(depth)
     }
 
     #[cycle(node)]
-    #[tactic(auto, unfolding(crate::specs::Reading::pred_list))]
-    pub fn pred_list(&mut self, depth: usize) -> Result<Items<Property<'a>>, TurtleFaultKind>
-        ensures reads { Reads (spec.pred_list (spec.node depth) self.old) result self.new }
+    #[tactic(auto, unfolding(crate::specs::Reading::predicate_object_list))]
+    pub fn predicate_object_list(
+        &mut self,
+        depth: usize,
+    ) -> Result<Items<Property<'a>>, TurtleFaultKind>
+        ensures reads { Reads (spec.predicate_object_list (spec.node depth) self.old) result self.new }
         ensures shorter { OnOk result (length self.new < length self.old) }
     {
         let mut all = Items::new(self.alloc);
         all.push(self.property(depth)?)?;
         while self.eat(Terminal::Semicolon) {
-            if let Some(property) = self.some_property(depth)? {
+            if let Some(property) = self.optional_property(depth)? {
                 all.push(property)?;
             }
         }
@@ -222,9 +228,9 @@ impl<'a> Parser<'_, 'a> {
     }
 
     #[cycle(node)]
-    #[tactic(auto, unfolding(crate::specs::Reading::some_property))]
-    fn some_property(&mut self, depth: usize) -> Result<Option<Property<'a>>, TurtleFaultKind>
-        ensures reads { Reads (spec.some_property (spec.node depth) self.old) result self.new }
+    #[tactic(auto, unfolding(crate::specs::Reading::optional_property))]
+    fn optional_property(&mut self, depth: usize) -> Result<Option<Property<'a>>, TurtleFaultKind>
+        ensures reads { Reads (spec.optional_property (spec.node depth) self.old) result self.new }
         ensures shorter { OnOk result (length self.new ≤ length self.old) }
     {
         if !begins_verb(self.peek()) {

@@ -30,16 +30,16 @@ impl<'a> Parser<'_, 'a> {
         Ok(Statement::Base(self.value(Terminal::Iri)?))
     }
 
-    fn pred_list_behind(
+    fn predicate_object_list_behind(
         &mut self,
         inside: &[Property<'a>],
     ) -> Result<Items<Property<'a>>, TurtleFaultKind>
-        ensures reads { Reads (spec.pred_list_behind (spec.node 101) inside.now self.old) result self.new }
+        ensures reads { Reads (spec.predicate_object_list_behind (spec.node 101) inside.now self.old) result self.new }
         ensures shorter { OnOk result (length self.new ≤ length self.old) }
     {
         match inside {
-            [] => self.pred_list(MAX_OPEN + 1),
-            [_, ..] => self.some_pred_list(MAX_OPEN + 1),
+            [] => self.predicate_object_list(MAX_OPEN + 1),
+            [_, ..] => self.optional_predicate_object_list(MAX_OPEN + 1),
         }
     }
 
@@ -49,7 +49,7 @@ impl<'a> Parser<'_, 'a> {
         ensures shorter { OnOk result (length self.new < length self.old) }
     {
         let inside = self.bracketed(MAX_OPEN)?;
-        let properties = self.pred_list_behind(inside.as_slice())?;
+        let properties = self.predicate_object_list_behind(inside.as_slice())?;
         Ok(Statement::Triples(Node::Blank(inside), properties))
     }
 
@@ -59,7 +59,7 @@ impl<'a> Parser<'_, 'a> {
         ensures shorter { OnOk result (length self.new < length self.old) }
     {
         let subject = self.subject(MAX_OPEN)?;
-        let properties = self.pred_list(MAX_OPEN + 1)?;
+        let properties = self.predicate_object_list(MAX_OPEN + 1)?;
         Ok(Statement::Triples(subject, properties))
     }
 

@@ -1,7 +1,7 @@
 use Rattle.std.proofs.Common.{arith, sym}
 use Rattle.std.proofs.lemmas.Result.{err_from_is_err_and}
 use Rattle.rdf_turtle.specs.declared.lexeme.Terminal.TheVariants as terminal
-use Rattle.rdf_turtle.specs.Reading.{node, objects, pred_list}
+use Rattle.rdf_turtle.specs.Reading.{node, objects, predicate_object_list}
 use Rattle.rdf_turtle.proofs.GrammarRepeats.{grown_starts, grown_on, grown_behind, grown_fails_behind, going_fails, fails_on, fails_first, fails_then, deeper}
 use Rattle.rdf_turtle.proofs.GrammarLists.{one_reads, node_seen, sees_some, more_reads, more_fails, none_pushed, one_pushed}
 use Rattle.rdf_turtle.proofs.parser.Parser.+node.Goals as goal
@@ -47,19 +47,19 @@ collection-loop-items-preserved t c =
 
 -- ---- predicate lists
 
-pub pred_list-loop-self-init : goal.pred_list-loop-self-init
-pred_list-loop-self-init t c = record { grown = grown_starts _ _ _ _; shorter = omega arith }
+pub predicate_object_list-loop-self-init : goal.predicate_object_list-loop-self-init
+predicate_object_list-loop-self-init t c = record { grown = grown_starts _ _ _ _; shorter = omega arith }
 
-pub pred_list-returns-in_err-property-2-clause-reads : goal.pred_list-returns-in_err-property-2-clause-reads
-unfolding pred_list
-pred_list-returns-in_err-property-2-clause-reads t c =
+pub predicate_object_list-returns-in_err-property-2-clause-reads : goal.predicate_object_list-returns-in_err-property-2-clause-reads
+unfolding predicate_object_list
+predicate_object_list-returns-in_err-property-2-clause-reads t c =
     let seen = sym c.loop-self-test.ensures.found in
     let p = err_from_is_err_and c.from_residual-in_err-property-2.result c.from_residual-in_err-property-2.ensures.1 in
     rw (p.1, p.2) (fails_then _ _ _ _ _ c.in_ok-property.ensures.reads (fails_first _ _ _ (fails_on _ c.in_err-property-2.ensures.reads
     (λ none. going_fails c.loop-self.invariant.grown.going (sees_some terminal.Semicolon _ seen) seen (more_fails (node c.args.depth) _ _ seen c.loop-self-test.ensures.left none)))))
 
-pub pred_list-loop-self-preserved-in_ok-push-2 : goal.pred_list-loop-self-preserved-in_ok-push-2
-pred_list-loop-self-preserved-in_ok-push-2 t c =
+pub predicate_object_list-loop-self-preserved-in_ok-push-2 : goal.predicate_object_list-loop-self-preserved-in_ok-push-2
+predicate_object_list-loop-self-preserved-in_ok-push-2 t c =
     let seen = sym c.loop-self-test.ensures.found in
     let read = more_reads (node c.args.depth) _ _ _ _ seen c.loop-self-test.ensures.left c.in_ok-property-2.ensures.reads in
     record {
@@ -67,8 +67,8 @@ pred_list-loop-self-preserved-in_ok-push-2 t c =
       shorter = omega (arith, c.in_ok-property-2.ensures.shorter, c.loop-self-test.ensures.shorter);
     }
 
-pub pred_list-loop-self-preserved : goal.pred_list-loop-self-preserved
-pred_list-loop-self-preserved t c =
+pub predicate_object_list-loop-self-preserved : goal.predicate_object_list-loop-self-preserved
+predicate_object_list-loop-self-preserved t c =
     let seen = sym c.loop-self-test.ensures.found in
     let read = more_reads (node c.args.depth) _ _ _ _ seen c.loop-self-test.ensures.left c.in_ok-property-2.ensures.reads in
     record {

@@ -16,14 +16,14 @@ decreases-objects l = 10 * l.depth + 1
 abbrev pub decreases-property : goal.decreases-property
 decreases-property l = 10 * l.depth + 2
 
-abbrev pub decreases-some_property : goal.decreases-some_property
-decreases-some_property l = 10 * l.depth + 3
+abbrev pub decreases-optional_property : goal.decreases-optional_property
+decreases-optional_property l = 10 * l.depth + 3
 
-abbrev pub decreases-pred_list : goal.decreases-pred_list
-decreases-pred_list l = 10 * l.depth + 4
+abbrev pub decreases-predicate_object_list : goal.decreases-predicate_object_list
+decreases-predicate_object_list l = 10 * l.depth + 4
 
-abbrev pub decreases-some_pred_list : goal.decreases-some_pred_list
-decreases-some_pred_list l = 10 * l.depth + 5
+abbrev pub decreases-optional_predicate_object_list : goal.decreases-optional_predicate_object_list
+decreases-optional_predicate_object_list l = 10 * l.depth + 5
 
 abbrev pub decreases-collection : goal.decreases-collection
 decreases-collection l = 10 * l.depth + 6
@@ -46,14 +46,14 @@ invariant-objects-loop-all l = let p = one (the terminal.Comma >> spec.node l.de
 abbrev pub decreases-objects-loop-all : goal.decreases-objects-loop-all
 decreases-objects-loop-all l = length l.self
 
-abbrev pub invariant-pred_list-loop-self : goal.invariant-pred_list-loop-self
-invariant-pred_list-loop-self l = let p = spec.more (spec.node l.depth) in record {
+abbrev pub invariant-predicate_object_list-loop-self : goal.invariant-predicate_object_list-loop-self
+invariant-predicate_object_list-loop-self l = let p = spec.more (spec.node l.depth) in record {
   grown : Grown (sees terminal.Semicolon) p (repeat (sees terminal.Semicolon) p l.initial.self) l.initial.all l.all l.self;
   shorter : length l.self ≤ length l.initial.self;
 }
 
-abbrev pub decreases-pred_list-loop-self : goal.decreases-pred_list-loop-self
-decreases-pred_list-loop-self l = length l.self
+abbrev pub decreases-predicate_object_list-loop-self : goal.decreases-predicate_object_list-loop-self
+decreases-predicate_object_list-loop-self l = length l.self
 
 abbrev pub invariant-collection-loop-items : goal.invariant-collection-loop-items
 invariant-collection-loop-items l = let p = one (spec.node l.depth) in record {
