@@ -42,4 +42,13 @@ pub mod ValueNames
 pub mod ValuePlaces
 pub mod ValuePnames
 pub mod ValueTexts
+pub mod WrittenCuts
+pub mod WrittenLines
+pub mod WrittenMeanings
+pub mod WrittenNumbers
+pub mod WrittenTags
+pub mod WrittenTerms
+pub mod WrittenTexts
+pub mod WrittenTokens
+pub mod WrittenTrees
 mod AnswerLemmas

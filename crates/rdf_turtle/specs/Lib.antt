@@ -28,3 +28,4 @@ pub mod Tokens
 pub mod ValueLaws
 pub mod Values
 pub mod Vocabulary
+pub mod WrittenLaws

@@ -1,5 +1,6 @@
 //! What holds of each document and its tree.
 ghost use Rattle.rdf_turtle.specs.Leaves.{OneDocument, DocumentsHaveSubjects, LeavesAreLexemes};
+ghost use Rattle.rdf_turtle.specs.WrittenLaws.{WrittenTriplesAreTurtle};
 
 /// No lexemes are two documents (Turtle 1.1, section 6.5): the grammar has one tree at most for
 /// them, however deep their brackets nest.
@@ -16,4 +17,12 @@ pub fn documents_have_subjects()
 /// of the right terminal.
 pub fn leaves_are_lexemes()
     ensures { LeavesAreLexemes }
+{}
+
+/// N-Triples is a subset of Turtle (RDF 1.1 N-Triples, section 1): the canonical lines of triples
+/// are a Turtle document of these very triples, in this order, against any base. A line has the text
+/// of each term ([`rdf_terms::write_term`]) and a space behind it, then a dot and LF. The blank
+/// numbers come in order of first appearance, from 0.
+pub fn written_triples_are_turtle()
+    ensures { WrittenTriplesAreTurtle }
 {}

@@ -34,7 +34,9 @@ mod vocabulary;
 
 pub use document::{one_meaning, read_turtle};
 pub use fault::{TurtleFault, TurtleFaultKind};
-pub use laws::{documents_have_subjects, leaves_are_lexemes, one_document};
+pub use laws::{
+    documents_have_subjects, leaves_are_lexemes, one_document, written_triples_are_turtle,
+};
 pub use lexeme::{Lexeme, Terminal};
 pub use lexemes::lexemes_have_forms;
 pub use line::line_ends_are_counted;
