@@ -148,7 +148,7 @@ module _ (inner object : Derives Node) (reads : (x : Term) (ps : List Slice) →
       (then_from (node_of x ∷ []) (lexemes_of ps) (objects_derive x ps) (refl, refl))
 
   properties_derive : (p x : Term) (ps : List Slice) → is_iri_term p ≡ true
-      → g.PredList object (lexemes_of (term_slices p ++ (term_slices x ++ ps))) (property_with (verb_of p) (node_of x ∷ []) ∷ []) (lexemes_of ps)
+      → g.PredicateObjectList object (lexemes_of (term_slices p ++ (term_slices x ++ ps))) (property_with (verb_of p) (node_of x ∷ []) ∷ []) (lexemes_of ps)
   properties_derive p x ps h =
       then_from (property_with (verb_of p) (node_of x ∷ [])) (lexemes_of ps) (property_derives p x ps h) (then_from [] (lexemes_of ps) stop (refl, refl))
 
