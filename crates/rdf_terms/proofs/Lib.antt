@@ -15,8 +15,11 @@ pub mod QuotedLemmas
 pub mod ReferenceLemmas
 pub mod ResolutionLemmas
 pub mod RunLemmas
+pub mod SkipLemmas
 pub mod StepLemmas
+pub mod TagForms
 pub mod TagLemmas
+pub mod TagReadings
 pub mod TermEq
 pub mod TextLemmas
 pub mod UnescapeLemmas

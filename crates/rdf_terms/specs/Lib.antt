@@ -19,6 +19,8 @@ pub mod Resolution
 pub mod ResolutionLaws
 pub mod Rewriting
 pub mod Runs
+pub mod Skips
+pub mod Tags
 pub mod Term
 pub mod TermText
 pub mod formers

@@ -1,6 +1,6 @@
 -- What the readers of IRIs, quoted strings, characters and escapes answer is what stands there, and what stands there is
 -- answered, whatever follows.
-use Rattle.std.specs.Prelude.{◌≡◌, ℕ, ◌⊎◌, List, ◌∷◌, ◌++◌, Option, Some}
+use Rattle.std.specs.Prelude.{◌≡◌, ◌≤◌, ℕ, ◌⊎◌, List, ◌∷◌, ◌++◌, length, Option, Some}
 use Rattle.rdf_terms.specs.Escapes.{IsNumericEscape, IsShortEscape}
 
 -- the front of the text has the form and says the value, and the rest follows it
@@ -16,3 +16,8 @@ IsCompleteReader {V = V} Form read = (slice : List ℕ) (value : V) (rest : List
 -- a UCHAR or an ECHAR, less its backslash (Turtle 1.1, section 6.5)
 abbrev pub IsEscapeBehind : List ℕ → ℕ → Type 0
 IsEscapeBehind piece c = IsNumericEscape (92 ∷ piece) c ⊎ IsShortEscape (92 ∷ piece) c
+
+-- What is found to end a name does end one, and no name ends behind it.
+pub record IsGreedy (IsName : List ℕ → Type 0) (end_at : List ℕ → Option (List ℕ)) : Type 0 where
+  pub sound : (cs rest : List ℕ) → end_at cs ≡ Some rest → (name : List ℕ) × (cs ≡ name ++ rest) × IsName name
+  pub claims : (name after : List ℕ) → IsName name → (rest : List ℕ) × (end_at (name ++ after) ≡ Some rest) × (length rest ≤ length after)

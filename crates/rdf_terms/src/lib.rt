@@ -21,6 +21,8 @@ mod reference;
 mod resolution;
 mod resolution_laws;
 mod runs;
+mod skip;
+mod tag;
 mod term;
 mod text;
 mod write;
@@ -43,6 +45,7 @@ pub use resolution::resolve;
 pub use resolution_laws::{
     components_are_unique, dots_are_removed, dots_before_slashes, one_meaning, pieces_are_the_path,
 };
+pub use tag::tags_are_read;
 pub use term::{Term, compare_terms, same_term};
 pub use text::Text;
 pub use write::write_term;
