@@ -2,10 +2,12 @@
 use Rattle.std.proofs.Common.{◌≡◌, ℕ, ◌<◌, ◌≤◌, true, false, eqb, ltb, ◌==◌, ◌||◌, ◌&&◌, List, [], ◌∷◌, ◌++◌, length, Some, None, refl, sym, ap, ◌∙◌, inl, inr, length-append, arith}
 use Rattle.std.proofs.lemmas.Bool.{cases_Bool, eqb-true, eq-eqb, lt-ltb, le-ltb, ltb-true, or_cases, and_parts, or_left, or_right, and_from}
 use Rattle.rdf_terms.specs.Characters.{is_pn_chars_base, is_pn_chars_u, is_pn_chars}
+use Rattle.rdf_terms.specs.ReadingLaws.{IsGreedy}
+use Rattle.rdf_terms.specs.Skips.{skip}
 use Rattle.rdf_terms.proofs.OptionLemmas.{some_is, none_is, guard_some}
+use Rattle.rdf_terms.proofs.SkipLemmas.{skip_no_longer}
 use Rattle.rdf_lines.specs.Reading.{skip_dots, label_rest, label_part_at, label_end_at}
 use Rattle.rdf_lines.specs.Grammar.{is_label_start, is_label_part, IsLabelRest, IsLabelName}
-use Rattle.rdf_lines.proofs.GreedyLemmas.{IsGreedy}
 
 part_from_dot : is_label_part 46 ≡ false
 unfolding is_label_part is_pn_chars is_pn_chars_u is_pn_chars_base
@@ -26,7 +28,7 @@ cons_parts a b xs ys e = (cc, cc)
 
 label_over_dots : (cs : List ℕ) (c : ℕ) (rest : List ℕ) → skip_dots cs ≡ c ∷ rest → is_label_part c ≡ true
     → (0 < length (label_rest cs).0) × ((label_rest cs).1 ≡ (label_rest rest).1)
-unfolding skip_dots
+unfolding skip
 label_over_dots [] c rest e p = absurd cc
 label_over_dots (d ∷ cs) c rest e p =
     elim (cases_Bool (eqb d 46)) [
@@ -51,7 +53,7 @@ unfolding label_rest
 label_nil = (refl, refl)
 
 label_stops : (cs : List ℕ) → Stops (skip_dots cs) → ((label_rest cs).0 ≡ []) × ((label_rest cs).1 ≡ cs)
-unfolding skip_dots
+unfolding skip
 label_stops [] h = label_nil
 label_stops (d ∷ cs) h =
     elim (cases_Bool (eqb d 46)) [
@@ -63,15 +65,6 @@ label_stops (d ∷ cs) h =
       | inr not ↦
           let part : is_label_part d ≡ false = rw not at h in
           rw (rest_leaves d cs (rw (part, not) refl)) (refl, refl)
-    ]
-
-length_skip_dots : (cs : List ℕ) → length (skip_dots cs) ≤ length cs
-unfolding skip_dots
-length_skip_dots [] = omega arith
-length_skip_dots (c ∷ cs) =
-    elim (cases_Bool (eqb c 46)) [
-      | inl is ↦ rw is (omega (arith, length_skip_dots cs))
-      | inr not ↦ rw not (omega arith)
     ]
 
 part_some : (cs rest : List ℕ) → label_part_at cs ≡ Some rest → (c : ℕ) × (cs ≡ c ∷ rest) × (is_label_part c ≡ true)
@@ -93,7 +86,7 @@ part_none (c ∷ cs) e =
 pub label_less : (cs rest : List ℕ) → label_part_at (skip_dots cs) ≡ Some rest → length rest < length cs
 label_less cs rest e =
     let p = part_some (skip_dots cs) rest e in
-    omega (arith, length_skip_dots cs, ap length p.1)
+    omega (arith, skip_no_longer (λ c. c == 46) cs, ap length p.1)
 
 pub label_step : (cs rest : List ℕ) → label_part_at (skip_dots cs) ≡ Some rest → (label_rest cs).1 ≡ (label_rest rest).1
 label_step cs rest e =

@@ -2,16 +2,12 @@
 use Rattle.std.proofs.Common.{◌≡◌, ℕ, ◌≤◌, List, [], ◌∷◌, ◌++◌, length, Option, Some, refl, sym, ap, ◌∙◌, append_assoc, length-append, arith}
 use Rattle.std.specs.Str.{encode_utf8_all}
 use Rattle.rdf_terms.specs.Reading.{◌>>=◌, expect, between}
+use Rattle.rdf_terms.specs.ReadingLaws.{IsGreedy}
 use Rattle.rdf_terms.proofs.OptionLemmas.{bind_some, some_is, some_pair}
 use Rattle.rdf_terms.proofs.QuotedLemmas.{expect_sound, expect_complete}
 use Rattle.rdf_terms.proofs.PlaceLemmas.{between_is}
 use Rattle.rdf_lines.specs.Reading.{name_at}
 use Rattle.rdf_lines.specs.Grammar.{IsMarked, Takes}
-
--- What is found to end a name does end one, and no name ends behind it.
-pub record IsGreedy (IsName : List ℕ → Type 0) (end_at : List ℕ → Option (List ℕ)) : Type 0 where
-  pub sound : (cs rest : List ℕ) → end_at cs ≡ Some rest → (name : List ℕ) × (cs ≡ name ++ rest) × IsName name
-  pub claims : (name after : List ℕ) → IsName name → (rest : List ℕ) × (end_at (name ++ after) ≡ Some rest) × (length rest ≤ length after)
 
 -- behind the characters of a mark
 abbrev pub marked_at : List ℕ → (List ℕ → Option (List ℕ × List ℕ)) → List ℕ → Option (List ℕ × List ℕ)

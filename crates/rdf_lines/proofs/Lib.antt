@@ -18,8 +18,6 @@ pub mod RoundTripLemmas
 pub mod SortLemmas
 pub mod SoundLemmas
 pub mod StepLemmas
-pub mod TagForms
-pub mod TagLemmas
 pub mod TermLemmas
 pub mod WrittenLineLemmas
 pub mod WrittenPieceLemmas

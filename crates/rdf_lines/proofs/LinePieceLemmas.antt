@@ -1,16 +1,18 @@
 -- A reader of a piece, its form, and the pieces of a line.
 use Rattle.std.proofs.Common.{◌≡◌, ◌≢◌, ℕ, ◌≤◌, true, false, eqb, List, [], ◌∷◌, ◌++◌, length, Option, Some, refl, sym, ap, subst, ◌∙◌, inl, inr, length-append, arith}
-use Rattle.std.specs.List.{AllByRecursion}
 use Rattle.std.proofs.lemmas.Bool.{cases_Bool, eq-eqb, ne_eqb, true≢false}
 use Rattle.rdf_terms.specs.Reading.{iri_at, quoted_at}
 use Rattle.rdf_terms.specs.Quoted.{IsIriRef}
 use Rattle.rdf_terms.proofs.OptionLemmas.{some_pair}
+use Rattle.rdf_terms.specs.Skips.{skip}
+use Rattle.rdf_terms.specs.Tags.{tag_end_at}
 use Rattle.rdf_terms.proofs.QuotedLemmas.{iri_sound, iri_complete, quoted_sound, quoted_complete}
-use Rattle.rdf_lines.specs.Reading.{first_is, skip_white, label_at, label_end_at, tag_at, tag_end_at}
+use Rattle.rdf_terms.proofs.SkipLemmas.{skip_over, skip_front, skip_stop, skip_end}
+use Rattle.rdf_terms.proofs.TagReadings.{tag_greedy}
+use Rattle.rdf_lines.specs.Reading.{first_is, skip_white, label_at, label_end_at, tag_at}
 use Rattle.rdf_lines.specs.Grammar.{is_white, IsString, IsBlankLabel, IsTag, Takes, Gap, Next}
 use Rattle.rdf_lines.proofs.GreedyLemmas.{greedy_sound, greedy_complete}
 use Rattle.rdf_lines.proofs.BlankLabelLemmas.{label_greedy}
-use Rattle.rdf_lines.proofs.TagLemmas.{tag_greedy}
 
 abbrev pub NotWhite : List ℕ → Type 0
 NotWhite [] = Unit {0}
@@ -102,29 +104,17 @@ tag_reader = record {
 -- ---- gaps
 
 pub gap_skip : (cs : List ℕ) → Gap cs (skip_white cs)
-unfolding skip_white
-gap_skip [] = ([], tt, refl)
-gap_skip (c ∷ cs) =
-    elim (cases_Bool (is_white c)) [
-      | inl is ↦ let g = gap_skip cs in rw is (c ∷ g.0, (is, g.1), ap (λ (t : List ℕ). c ∷ t) g.2)
-      | inr not ↦ rw not ([], tt, refl)
-    ]
-
-skip_over : (white start : List ℕ) → AllByRecursion (λ c. is_white c ≡ true) white → skip_white (white ++ start) ≡ skip_white start
-unfolding skip_white
-skip_over [] start h = refl
-skip_over (c ∷ white) start h = rw h.0 (skip_over white start h.1)
+gap_skip cs = let f = skip_front is_white cs in (f.0, f.2, f.1)
 
 skip_none : (start : List ℕ) → NotWhite start → skip_white start ≡ start
-unfolding skip_white
-skip_none [] h = refl
-skip_none (c ∷ cs) h = rw h refl
+skip_none [] h = skip_end is_white
+skip_none (c ∷ cs) h = skip_stop is_white c cs h
 
 pub skip_gap : (cs start : List ℕ) → Gap cs start → NotWhite start → skip_white cs ≡ start
-skip_gap cs start g h = ap skip_white g.2 ∙ skip_over g.0 start g.1 ∙ skip_none start h
+skip_gap cs start g h = ap skip_white g.2 ∙ skip_over is_white g.0 start g.1 ∙ skip_none start h
 
 skipped_black : (cs : List ℕ) → NotWhite (skip_white cs)
-unfolding skip_white
+unfolding skip
 skipped_black [] = tt
 skipped_black (c ∷ cs) =
     elim (cases_Bool (is_white c)) [

@@ -21,7 +21,7 @@ use Rattle.rdf_lines.specs.declared.statement.Object.{Object}
 use Rattle.rdf_lines.specs.declared.statement.Object.TheVariants as object
 use Rattle.rdf_lines.specs.Grammar.{IsString, IsMarked, Gap, Next, typed, HasNode, HasLiteral, HasObject, HasGraph}
 use Rattle.rdf_lines.specs.Line.{IsAbsoluteNode, IsAbsoluteObject, IsAbsoluteGraph, IsSoundNode, IsSoundObject, IsSoundGraph, StatementsAreSound}
-use Rattle.rdf_lines.proofs.TagForms.{tag_form, encodes_low, AllLow}
+use Rattle.rdf_terms.proofs.TagForms.{tag_form, encodes_low, AllLow}
 
 -- ---- characters
 

@@ -21,7 +21,8 @@ use Rattle.rdf_lines.specs.Document.{Reads}
 use Rattle.rdf_lines.specs.QuadText.{quad_text}
 use Rattle.rdf_lines.specs.RoundTrip.{statement_of}
 use Rattle.rdf_lines.proofs.WrittenTextLemmas.{AllPass, is_digit, by_escape, decimal_digits}
-use Rattle.rdf_lines.proofs.WrittenTagLemmas.{is_end, tag_name, tag_no_end}
+use Rattle.rdf_terms.proofs.TagForms.{tag_name}
+use Rattle.rdf_lines.proofs.WrittenTagLemmas.{is_end, tag_no_end}
 use Rattle.rdf_lines.proofs.WrittenPieceLemmas.{iri_allowed, tag_parts, literal_parts}
 use Rattle.rdf_lines.proofs.RoundTripLemmas.{QuadTests, quad_tests, end_text, line_of, quad_line, says_statement}
 

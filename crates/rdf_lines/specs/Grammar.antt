@@ -1,13 +1,13 @@
 -- The grammar of a line (RDF 1.1 N-Triples, sections 2 and 7; RDF 1.1 N-Quads, sections 2 and 4): relations between the
 -- characters of a line and what they say. A text is the UTF-8 of its characters.
-use Rattle.std.specs.Prelude.{◌≡◌, ◌<◌, ◌≤◌, ◌⊎◌, ℕ, Bool, true, List, [], ◌∷◌, ◌++◌, length, codes, Option, Some, None, ◌==◌, ◌||◌}
+use Rattle.std.specs.Prelude.{◌≡◌, ◌≤◌, ◌⊎◌, ℕ, Bool, true, List, [], ◌∷◌, ◌++◌, length, codes, Option, Some, None, ◌==◌, ◌||◌}
 use Rattle.std.specs.Int.{is_in_range}
 use Rattle.std.specs.List.{AllByRecursion}
-use Rattle.std.specs.Char.{is_ascii_alphabetic, is_ascii_alphanumeric}
 use Rattle.std.specs.Str.{encode_utf8_all}
 use Rattle.rdf_terms.specs.Characters.{is_pn_chars_u, is_pn_chars}
 use Rattle.rdf_terms.specs.Quoted.{IsIriRef, IsQuoted}
 use Rattle.rdf_terms.specs.Literal.{LiteralParts, xsd_string, tagged}
+use Rattle.rdf_terms.specs.Tags.{IsTagName}
 use Rattle.rdf_lines.specs.declared.format.LineFormat.{LineFormat}
 use Rattle.rdf_lines.specs.declared.format.LineFormat.TheVariants.{NTriples, NQuads}
 use Rattle.rdf_lines.specs.declared.statement.Node.{Node}
@@ -39,18 +39,6 @@ IsLabelRest (c ∷ d ∷ cs) = ((is_label_part c ≡ true) ⊎ (c ≡ 46)) × Is
 abbrev pub IsLabelName : List ℕ → Type 0
 IsLabelName [] = ⊥
 IsLabelName (c ∷ cs) = (is_label_start c ≡ true) × IsLabelRest cs
-
--- groups of `-` and one or more ASCII letters or digits
-abbrev pub IsGroups : List ℕ → List (List ℕ) → Type 0
-IsGroups slice [] = slice ≡ []
-IsGroups slice (group ∷ groups) =
-    (others : List ℕ) × (slice ≡ 45 ∷ (group ++ others)) × (0 < length group) × AllByRecursion (λ c. is_ascii_alphanumeric c ≡ true) group × IsGroups others groups
-
--- one or more ASCII letters, then groups
-abbrev pub IsTagName : List ℕ → Type 0
-IsTagName name =
-    (c : ℕ) × (letters others : List ℕ) × (groups : List (List ℕ)) × (name ≡ c ∷ (letters ++ others)) × (is_ascii_alphabetic c ≡ true)
-    × AllByRecursion (λ d. is_ascii_alphabetic d ≡ true) letters × IsGroups others groups
 
 -- a mark, and a name whose text is said
 abbrev pub IsMarked : List ℕ → (List ℕ → Type 0) → List ℕ → List ℕ → Type 0

@@ -1,9 +1,10 @@
 -- Reading a line from left to right: what stands at the front of a list of characters, and what follows it.
 use Rattle.std.specs.Prelude.{ℕ, Bool, true, false, List, [], ◌∷◌, length, Option, Some, None, nat_lt, ◌==◌, ◌||◌, ◌&&◌, if◌then◌else◌}
-use Rattle.std.specs.Char.{is_ascii_alphabetic, is_ascii_alphanumeric}
 use Rattle.std.specs.Str.{encode_utf8_all}
 use Rattle.rdf_terms.specs.Reading.{◌>>=◌, expect, between, iri_at, quoted_at}
 use Rattle.rdf_terms.specs.Literal.{LiteralParts, xsd_string, is_tag, tagged}
+use Rattle.rdf_terms.specs.Skips.{skip}
+use Rattle.rdf_terms.specs.Tags.{tag_end_at}
 use Rattle.rdf_lines.specs.Grammar.{is_white, is_label_start, is_label_part, typed}
 use Rattle.rdf_lines.specs.declared.format.LineFormat.{LineFormat}
 use Rattle.rdf_lines.specs.declared.format.LineFormat.TheVariants.{NTriples, NQuads}
@@ -17,15 +18,13 @@ unfoldable pub first_is : ℕ → List ℕ → Bool
 first_is wanted [] = false
 first_is wanted (c ∷ _) = c == wanted
 
-unfoldable pub skip_white : List ℕ → List ℕ
-skip_white [] = []
-skip_white (c ∷ cs) = if is_white c then skip_white cs else c ∷ cs
+abbrev pub skip_white : List ℕ → List ℕ
+skip_white cs = skip is_white cs
 
 -- ---- blank labels
 
-unfoldable pub skip_dots : List ℕ → List ℕ
-skip_dots [] = []
-skip_dots (c ∷ cs) = if c == 46 then skip_dots cs else c ∷ cs
+abbrev pub skip_dots : List ℕ → List ℕ
+skip_dots cs = skip (λ c. c == 46) cs
 
 unfoldable pub label_part_at : List ℕ → Option (List ℕ)
 label_part_at [] = None
@@ -56,27 +55,6 @@ label_at cs = do
   name_at label_end_at name
 
 -- ---- tags
-
-unfoldable pub skip_letters : List ℕ → List ℕ
-skip_letters [] = []
-skip_letters (c ∷ cs) = if is_ascii_alphabetic c then skip_letters cs else c ∷ cs
-
-unfoldable pub begins_group : List ℕ → Bool
-begins_group [] = false
-begins_group (c ∷ _) = is_ascii_alphanumeric c
-
--- what follows groups, within one or not
-unfoldable pub skip_groups : Bool → List ℕ → List ℕ
-skip_groups within [] = []
-skip_groups within (c ∷ cs) =
-    if within && is_ascii_alphanumeric c then skip_groups true cs
-    else if (c == 45) && begins_group cs then skip_groups true cs
-    else c ∷ cs
-
--- behind `@`
-unfoldable pub tag_end_at : List ℕ → Option (List ℕ)
-tag_end_at [] = None
-tag_end_at (c ∷ cs) = if is_ascii_alphabetic c then Some (skip_groups false (skip_letters cs)) else None
 
 unfoldable pub tag_at : List ℕ → Option (List ℕ × List ℕ)
 tag_at cs = do

@@ -2,7 +2,7 @@
 ghost use Rattle.std.specs.Prelude.{◌≡◌, IfOk};
 ghost use Rattle.rdf_lines.specs.Reading as reading;
 
-use crate::name::{first_is, skip_white, tag_end};
+use crate::name::{first_is, skip_white};
 use crate::node::node;
 use crate::written::WrittenObject;
 use rdf_terms::{Cursor, Iri, Literal, NoMemory, Text};
@@ -20,7 +20,7 @@ fn tagged<'a>(
     let Some(name) = at.expect('@') else {
         return Ok(None);
     };
-    let Some(rest) = tag_end(&name) else {
+    let Some(rest) = name.tag_end() else {
         return Ok(None);
     };
     let Some(literal) = Literal::tagged_from_text(alloc, lexical, name.text_up_to(&rest))? else {

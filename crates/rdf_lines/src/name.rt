@@ -1,7 +1,7 @@
-//! Names behind a mark: the labels of blank nodes, and language tags.
-ghost use Rattle.std.specs.Prelude.{◌≡◌, false, IfOk};
+//! Gaps, and the labels of blank nodes.
+ghost use Rattle.std.specs.Prelude.{◌≡◌, IfOk};
 ghost use Rattle.rdf_lines.specs.Grammar as grammar;
-ghost use Rattle.rdf_lines.specs.Reading.{first_is, skip_white, skip_dots, label_rest, label_part_at, label_end_at, label_at, skip_letters, begins_group, skip_groups, tag_end_at};
+ghost use Rattle.rdf_lines.specs.Reading.{first_is, skip_white, skip_dots, label_rest, label_part_at, label_end_at, label_at};
 
 use rdf_terms::{Cursor, NoMemory, Text, is_pn_chars, is_pn_chars_u};
 use std::alloc::Global;
@@ -18,18 +18,10 @@ pub fn first_is(at: &Cursor<'_>, wanted: char) -> bool
 }
 
 /// The place behind spaces and tabs.
-#[tactic(auto, unfolding(crate::specs::Reading::skip_white))]
 pub fn skip_white<'a>(at: &Cursor<'a>) -> Cursor<'a>
     ensures { result ≡ skip_white at.now }
 {
-    let mut rest = at.fork();
-    while let Some(c) = rest.peek() {
-        if !matches!(c, ' ' | '\t') {
-            return rest;
-        }
-        rest.bump();
-    }
-    rest
+    at.skip(|c| matches!(c, ' ' | '\t'))
 }
 
 /// Whether a label may begin with the character: PN_CHARS_U, which holds `:` in the line formats, or a digit.
@@ -49,18 +41,10 @@ fn is_label_part(c: char) -> bool
 }
 
 /// The place behind the dots that stand here.
-#[tactic(auto, unfolding(crate::specs::Reading::skip_dots))]
 fn skip_dots<'a>(at: &Cursor<'a>) -> Cursor<'a>
     ensures { result ≡ skip_dots at.now }
 {
-    let mut rest = at.fork();
-    while let Some(c) = rest.peek() {
-        if c != '.' {
-            return rest;
-        }
-        rest.bump();
-    }
-    rest
+    at.skip(|c| c == '.')
 }
 
 /// The place behind one character of a label.
@@ -119,68 +103,4 @@ pub fn blank_node_label<'a>(
     };
     let label = Text::new(alloc, name.text_up_to(&rest))?;
     Ok(Some((label, rest)))
-}
-
-/// The place behind ASCII letters.
-#[tactic(auto, unfolding(crate::specs::Reading::skip_letters))]
-fn skip_letters<'a>(at: &Cursor<'a>) -> Cursor<'a>
-    ensures { result ≡ skip_letters at.now }
-{
-    let mut rest = at.fork();
-    while let Some(c) = rest.peek() {
-        if !c.is_ascii_alphabetic() {
-            return rest;
-        }
-        rest.bump();
-    }
-    rest
-}
-
-/// Whether an ASCII letter or digit follows.
-#[tactic(auto, unfolding(crate::specs::Reading::begins_group))]
-fn begins_group(at: &Cursor<'_>) -> bool
-    ensures { result ≡ begins_group at.now }
-{
-    match at.peek() {
-        Some(c) => c.is_ascii_alphanumeric(),
-        None => false,
-    }
-}
-
-/// The place behind groups of `-` and letters or digits.
-#[tactic(auto, unfolding(crate::specs::Reading::skip_groups))]
-fn skip_groups<'a>(at: &Cursor<'a>) -> Cursor<'a>
-    ensures { result ≡ skip_groups false at.now }
-{
-    let mut rest = at.fork();
-    let mut within = false;
-    while let Some(c) = rest.peek() {
-        let mut behind = rest.fork();
-        behind.bump();
-        let goes_on = within && c.is_ascii_alphanumeric();
-        if !goes_on {
-            if c != '-' {
-                return rest;
-            }
-            if !begins_group(&behind) {
-                return rest;
-            }
-        }
-        within = true;
-        rest = behind;
-    }
-    rest
-}
-
-/// The place behind a language tag, from behind its `@`.
-#[tactic(auto, unfolding(crate::specs::Reading::tag_end_at))]
-pub fn tag_end<'a>(at: &Cursor<'a>) -> Option<Cursor<'a>>
-    ensures { result ≡ tag_end_at at.now }
-{
-    let mut rest = at.fork();
-    if rest.bump()?.is_ascii_alphabetic() {
-        Some(skip_groups(&skip_letters(&rest)))
-    } else {
-        None
-    }
 }

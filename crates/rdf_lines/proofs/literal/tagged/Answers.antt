@@ -1,5 +1,5 @@
 use Rattle.std.proofs.Common.{sym}
-use Rattle.rdf_lines.proofs.TagLemmas.{tag_greedy}
+use Rattle.rdf_terms.proofs.TagReadings.{tag_greedy}
 use Rattle.rdf_lines.proofs.literal.tagged.Goals as goal
 
 pub text_up_to-requires : goal.text_up_to-requires

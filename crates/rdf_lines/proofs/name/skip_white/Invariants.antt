@@ -1,9 +1,0 @@
-use Rattle.std.proofs.Common.{◌≡◌, length}
-use Rattle.rdf_lines.specs.Reading.{skip_white}
-use Rattle.rdf_lines.proofs.name.skip_white.Given as goal
-
-abbrev pub invariant-loop-c : goal.invariant-loop-c
-invariant-loop-c l = skip_white l.rest ≡ skip_white l.fn.at
-
-abbrev pub decreases-loop-c : goal.decreases-loop-c
-decreases-loop-c l = length l.rest
