@@ -20,7 +20,7 @@ use Rattle.rdf_turtle.specs.Forms.{HasForm, IsLocal}
 use Rattle.rdf_turtle.specs.Lexemes.{without_case, at_word_terminal, word_terminal, symbol_terminal, terminal_of, IsLexeme, AreLexemes, HaveForms}
 use Rattle.rdf_turtle.specs.Values.{iri_value, local_part, tag_value}
 use Rattle.rdf_turtle.proofs.LexemeLemmas.{lexemes_have_forms, scalars_parts}
-use Rattle.rdf_turtle.proofs.TagForms.{tag_form}
+use Rattle.rdf_turtle.proofs.TokenTags.{tag_form}
 use Rattle.rdf_turtle.proofs.ValueIris.{iri_value_is}
 use Rattle.rdf_turtle.proofs.ValueNames.{local_part_is}
 

@@ -21,7 +21,6 @@ pub mod ScopePrefixes
 pub mod ScopeReferences
 pub mod ScopeSteps
 pub mod ScopeTexts
-pub mod TagForms
 pub mod TokenClaims
 pub mod TokenDispatch
 pub mod TokenEnds
@@ -32,7 +31,6 @@ pub mod TokenLong
 pub mod TokenNameless
 pub mod TokenNames
 pub mod TokenNumbers
-pub mod TokenSkips
 pub mod TokenSymbols
 pub mod TokenTags
 pub mod TokenUnits

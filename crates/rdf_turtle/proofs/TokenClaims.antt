@@ -2,8 +2,8 @@
 use Rattle.std.proofs.Common.{◌≡◌, ◌<◌, ◌⊎◌, ℕ, Bool, List, ◌++◌, length, Option, Some, None, ap, inl, inr}
 use Rattle.rdf_turtle.specs.declared.token.Kind.{Kind}
 use Rattle.rdf_turtle.specs.Forms.{HasForm}
-use Rattle.rdf_turtle.specs.TokenReading.{skip}
-use Rattle.rdf_turtle.proofs.TokenSkips.{skip_less}
+use Rattle.rdf_terms.specs.Skips.{skip}
+use Rattle.rdf_terms.proofs.SkipLemmas.{skip_less}
 
 abbrev pub Beats : Kind → List ℕ → Option (Kind × List ℕ) → Type 0
 Beats kind rest None = ⊥

@@ -10,7 +10,9 @@ use Rattle.std.specs.Int.{is_in_range}
 use Rattle.rdf_terms.specs.Quoted.{IsIriRef}
 use Rattle.rdf_turtle.specs.Forms.{IsAtWord, IsPname, IsPrefix, IsBlankLabel, IsString, IsText, IsWord, IsVariable, IsOneOf, symbols, HasForm, Signed}
 use Rattle.rdf_terms.specs.Reading.{expect}
-use Rattle.rdf_turtle.specs.TokenReading.{iri_end_at, as_kind, or_else, symbol_at, number_at, number_or_symbol_at, variable_at, word_at, pname_at, blank_at, at_word_at, long_at, text_at, token_at, skip_sign, unsigned_at, digits_at, some_of, fraction_at}
+use Rattle.rdf_terms.specs.Skips.{some_of}
+use Rattle.rdf_terms.specs.Tags.{tag_end_at}
+use Rattle.rdf_turtle.specs.TokenReading.{iri_end_at, as_kind, or_else, symbol_at, number_at, number_or_symbol_at, variable_at, word_at, pname_at, blank_at, long_at, text_at, token_at, skip_sign, unsigned_at, digits_at, fraction_at}
 use Rattle.rdf_terms.proofs.OptionLemmas.{some_is, none_is}
 use Rattle.rdf_turtle.proofs.TokenClaims.{Beats, Sound}
 use Rattle.rdf_turtle.proofs.TokenNumbers.{cases_Option, differs, Unsigned, StartsNumber, number_sound, number_claims, number_starts}
@@ -81,7 +83,7 @@ token_sound (c ∷ cs) t e =
                   | inl mark ↦ as_kind_sound kind.Var (c ∷ cs) (variable_at cs) t (λ rest. variable_sound c cs rest (is_mark c mark)) (rw (not_angle, not_quote, mark) at e)
                   | inr not_mark ↦
                       elim (cases_Bool (eqb c 64)) [
-                        | inl sign ↦ as_kind_sound kind.AtWord (c ∷ cs) (at_word_at cs) t (λ rest. at_word_sound c cs rest (eqb-true c 64 sign)) (rw (not_angle, not_quote, not_mark, sign) at e)
+                        | inl sign ↦ as_kind_sound kind.AtWord (c ∷ cs) (tag_end_at cs) t (λ rest. at_word_sound c cs rest (eqb-true c 64 sign)) (rw (not_angle, not_quote, not_mark, sign) at e)
                         | inr not_sign ↦
                             elim (cases_Bool (eqb c 95)) [
                               | inl bar ↦ as_kind_sound kind.BlankLabel (c ∷ cs) (blank_at cs) t (λ rest. blank_sound c cs rest (eqb-true c 95 bar)) (rw (not_angle, not_quote, not_mark, not_sign, bar) at e)
@@ -221,14 +223,14 @@ pname_claims_here slice rest h =
     ∙ ap (λ (t : List ℕ). or_else (as_kind kind.Pname (pname_at t)) (as_kind kind.Word (word_at t))) (sym whole) in
     rw e (beats_first kind.Pname rest (as_kind kind.Pname (pname_at (slice ++ rest))) (as_kind kind.Word (word_at (slice ++ rest))) (pname_claims slice rest h))
 
-at_sign : (cs : List ℕ) → token_at (64 ∷ cs) ≡ as_kind kind.AtWord (at_word_at cs)
+at_sign : (cs : List ℕ) → token_at (64 ∷ cs) ≡ as_kind kind.AtWord (tag_end_at cs)
 unfolding token_at
 at_sign cs = refl
 
 at_word_claims_here : (slice rest : List ℕ) → IsAtWord slice → Beats kind.AtWord rest (token_at (slice ++ rest))
 at_word_claims_here slice rest h =
-    let whole : slice ++ rest ≡ 64 ∷ h.0 ∷ (h.1 ++ (h.2 ++ rest)) = ap (λ (t : List ℕ). t ++ rest) h.4 ∙ ap (λ (t : List ℕ). 64 ∷ h.0 ∷ t) (append_assoc h.1 h.2 rest) in
-    rw (whole, at_sign (h.0 ∷ (h.1 ++ (h.2 ++ rest)))) (at_word_claims h.0 h.1 h.2 rest h.3 h.5 h.6 h.7)
+    let whole : slice ++ rest ≡ 64 ∷ (h.0 ++ rest) = ap (λ (t : List ℕ). t ++ rest) h.1 in
+    rw (whole, at_sign (h.0 ++ rest)) (at_word_claims h.0 rest h.2)
 
 at_bar : (cs : List ℕ) → token_at (95 ∷ cs) ≡ as_kind kind.BlankLabel (blank_at cs)
 unfolding token_at

@@ -227,7 +227,7 @@ symbol_positive (s ∷ ss) all slice (inr h) = symbol_positive ss all.1 slice h
 form_positive : (k : Kind) (slice : List ℕ) → HasForm k slice → 0 < length slice
 form_positive kind.Pname slice h = omega (arith, ap length h.2, length-append h.0 (58 ∷ h.1))
 form_positive kind.BlankLabel slice h = omega (arith, ap length h.3)
-form_positive kind.AtWord slice h = omega (arith, ap length h.4)
+form_positive kind.AtWord slice h = omega (arith, ap length h.1)
 form_positive kind.Iri slice h = omega (arith, ap length h.1.2)
 form_positive kind.Text slice (cs, inl (inl h)) = omega (arith, ap length h.1)
 form_positive kind.Text slice (cs, inl (inr h)) = omega (arith, ap length h.1)

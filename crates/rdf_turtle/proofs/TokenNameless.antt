@@ -5,6 +5,7 @@ use Rattle.std.proofs.lemmas.Bool.{cases_Bool, eqb-true, ne_eqb}
 use Rattle.std.proofs.lemmas.Str.{encodes-append}
 use Rattle.rdf_terms.specs.Characters.{is_pn_chars_base, is_pn_chars}
 use Rattle.rdf_terms.specs.Reading.{byte_count, expect}
+use Rattle.rdf_terms.specs.Skips.{skip}
 use Rattle.rdf_terms.proofs.OptionLemmas.{some_is, guard_some}
 use Rattle.rdf_turtle.specs.declared.token.Kind.{Kind}
 use Rattle.rdf_turtle.specs.Tokens.{HasGap}
@@ -29,11 +30,11 @@ abbrev run : List ℕ → List ℕ
 run cs = dotted_at name_part_at cs
 
 dot_over : (cs : List ℕ) → skip_dots (46 ∷ cs) ≡ skip_dots cs
-unfolding skip_dots
+unfolding skip
 dot_over cs = refl
 
 no_dot : (d : ℕ) (cs : List ℕ) → eqb d 46 ≡ false → skip_dots (d ∷ cs) ≡ d ∷ cs
-unfolding skip_dots
+unfolding skip
 no_dot d cs h = rw h refl
 
 part_rest : (d : ℕ) (cs rest : List ℕ) → name_part_at (d ∷ cs) ≡ Some rest → cs ≡ rest

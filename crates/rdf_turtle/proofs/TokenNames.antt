@@ -1,20 +1,20 @@
 -- Words and variables.
-use Rattle.std.proofs.Common.{◌≡◌, ◌⊎◌, ◌<◌, ◌≤◌, ℕ, true, false, eqb, ◌||◌, List, [], ◌∷◌, ◌++◌, length, Option, Some, None, refl, sym, ap, subst, ◌∙◌, inl, inr, append_assoc, length-append, arith}
+use Rattle.std.proofs.Common.{◌≡◌, ◌⊎◌, ◌<◌, ◌≤◌, ℕ, true, false, eqb, ◌||◌, List, [], ◌∷◌, ◌++◌, length, Some, None, refl, sym, ap, subst, ◌∙◌, inl, inr, append_assoc, length-append, arith}
 use Rattle.std.specs.Char.{is_ascii_alphabetic, is_ascii_alphanumeric}
 use Rattle.std.specs.Int.{is_in_range}
 use Rattle.rdf_turtle.specs.declared.token.Kind.TheVariants as kind
 use Rattle.rdf_terms.specs.Characters.{is_pn_chars_base, is_pn_chars, is_pn_chars_u}
 use Rattle.rdf_turtle.specs.Characters.{is_word_part, is_name_start, is_variable_part}
-use Rattle.std.specs.Prelude.{option_map}
 use Rattle.std.proofs.lemmas.Bool.{cases_Bool, or_cases, or_left, or_right, true≢false}
 use Rattle.rdf_turtle.specs.Forms.{IsWord, IsDotted, IsNamePart, IsPrefix, IsLocal, IsPname}
 use Rattle.rdf_terms.specs.Reading.{expect}
 use Rattle.rdf_turtle.specs.TokenReading.{as_kind, word_at, variable_at, skip_dots, dotted_at, name_part_at, local_part_at, local_first_at, local_at, prefix_at, pname_at, label_at, blank_at}
-use Rattle.rdf_terms.proofs.OptionLemmas.{bind_some, some_is, none_is, guard_some}
+use Rattle.rdf_terms.specs.Skips.{skip}
+use Rattle.rdf_terms.proofs.OptionLemmas.{bind_some, some_is, none_is, guard_some, map_some}
 use Rattle.rdf_turtle.proofs.TokenNumbers.{cases_Option}
 use Rattle.rdf_turtle.proofs.TokenUnits.{name_unit, local_unit, first_sound, first_complete, dotted_front, dotted_over, dotted_stop, beats_dotted}
 use Rattle.rdf_terms.proofs.QuotedLemmas.{expect_sound, expect_complete}
-use Rattle.rdf_turtle.proofs.TokenSkips.{AllPass, some_sound, some_complete}
+use Rattle.rdf_terms.proofs.SkipLemmas.{AllPass, some_sound, some_complete}
 use Rattle.rdf_turtle.proofs.TokenClaims.{Beats, Sound, beats_skip}
 
 pub word_sound : (cs rest : List ℕ) → word_at cs ≡ Some rest → Sound kind.Word cs rest
@@ -64,10 +64,6 @@ blank_claims c name rest pieces h d =
 
 -- ---- prefixed names
 
-pub map_some : {A B : Type 0} (f : A → B) (o : Option A) (y : B) → option_map f o ≡ Some y → (x : A) × (o ≡ Some x) × (f x ≡ y)
-map_some f None y e = none_is y e
-map_some f (Some x) y e = (x, refl, some_is (f x) y e)
-
 prefix_front : (cs : List ℕ) → (p : List ℕ) × (cs ≡ p ++ prefix_at cs) × IsPrefix p
 unfolding prefix_at
 prefix_front [] = ([], refl, tt)
@@ -101,7 +97,7 @@ pname_sound cs rest e =
     )
 
 colon_no_part : (cs : List ℕ) → name_part_at (skip_dots (58 ∷ cs)) ≡ None
-unfolding name_part_at skip_dots is_pn_chars is_name_start is_pn_chars_u is_pn_chars_base
+unfolding name_part_at skip is_pn_chars is_name_start is_pn_chars_u is_pn_chars_base
 colon_no_part cs = refl
 
 pub colon_stops : (cs : List ℕ) → dotted_at name_part_at (58 ∷ cs) ≡ 58 ∷ cs

@@ -7,10 +7,11 @@ use Rattle.rdf_turtle.specs.declared.token.Kind.TheVariants as kind
 use Rattle.rdf_turtle.specs.Characters.{is_sign, is_exponent_letter}
 use Rattle.rdf_turtle.specs.Forms.{AreDigits, HasDigits, IsSign, IsExponent, IsFraction, IsMantissa, IsExponential, Signed, HasForm}
 use Rattle.rdf_terms.specs.Reading.{expect}
-use Rattle.rdf_turtle.specs.TokenReading.{skip, some_of, digits_at, skip_sign, exponent_at, with_exponent, fraction_at, dot_exponent_at, whole_at, unsigned_at, number_at}
+use Rattle.rdf_turtle.specs.TokenReading.{digits_at, skip_sign, exponent_at, with_exponent, fraction_at, dot_exponent_at, whole_at, unsigned_at, number_at}
 use Rattle.rdf_terms.proofs.OptionLemmas.{bind_some, some_is, none_is, guard_some}
 use Rattle.rdf_terms.proofs.QuotedLemmas.{expect_sound, expect_complete}
-use Rattle.rdf_turtle.proofs.TokenSkips.{skip_less, some_sound, some_complete}
+use Rattle.rdf_terms.specs.Skips.{skip, some_of}
+use Rattle.rdf_terms.proofs.SkipLemmas.{skip_less, skip_stop, some_sound, some_complete}
 use Rattle.rdf_turtle.proofs.TokenClaims.{Beats, Sound}
 
 pub cases_Option : {A : Type 0} (o : Option A) → (o ≡ None) ⊎ ((x : A) × (o ≡ Some x))
@@ -37,10 +38,6 @@ digits_sound cs rest e =
 digits_none : (c : ℕ) (cs : List ℕ) → is_ascii_digit c ≡ false → digits_at (c ∷ cs) ≡ None
 unfolding digits_at some_of
 digits_none c cs h = rw h refl
-
-skip_stops : (c : ℕ) (cs : List ℕ) → is_ascii_digit c ≡ false → skip is_ascii_digit (c ∷ cs) ≡ c ∷ cs
-unfolding skip
-skip_stops c cs h = rw h refl
 
 digit_no_sign : (c : ℕ) → is_ascii_digit c ≡ true → is_sign c ≡ false
 digit_no_sign c h = rw (differs is_ascii_digit c 43 h refl, differs is_ascii_digit c 45 h refl) refl
@@ -290,7 +287,7 @@ fraction_read : (whole part rest : List ℕ) → AreDigits whole → HasDigits p
 unfolding unsigned_at whole_at
 fraction_read [] part rest w p = rw (digits_none 46 (part ++ rest) refl) (fraction_over part rest p)
 fraction_read (d ∷ ds) part rest w p =
-    rw (digits_over (d ∷ ds) (46 ∷ (part ++ rest)) (omega arith, w), skip_stops 46 (part ++ rest) refl, fraction_over part rest p) refl
+    rw (digits_over (d ∷ ds) (46 ∷ (part ++ rest)) (omega arith, w), skip_stop is_ascii_digit 46 (part ++ rest) refl, fraction_over part rest p) refl
 
 decimal_claims : (slice rest : List ℕ) → IsFraction slice → Beats kind.Decimal rest (unsigned_at (slice ++ rest))
 decimal_claims slice rest h =
@@ -301,7 +298,7 @@ decimal_claims slice rest h =
 -- digits stop before an exponent
 stops_before : (slice rest : List ℕ) → IsExponent slice → skip is_ascii_digit (slice ++ rest) ≡ slice ++ rest
 stops_before slice rest h =
-    rw h.3 (skip_stops h.0 ((h.1 ++ h.2) ++ rest) (exponent_no_digit h.0 h.4))
+    rw h.3 (skip_stop is_ascii_digit h.0 ((h.1 ++ h.2) ++ rest) (exponent_no_digit h.0 h.4))
 
 no_digits_before : (slice rest : List ℕ) → IsExponent slice → digits_at (slice ++ rest) ≡ None
 no_digits_before slice rest h = rw h.3 (digits_none h.0 ((h.1 ++ h.2) ++ rest) (exponent_no_digit h.0 h.4))
@@ -329,7 +326,7 @@ no_part cs e = rw (expect_complete 46 cs, e) refl
 double_dot : (ds x rest : List ℕ) → HasDigits ds → IsExponent x → unsigned_at (ds ++ 46 ∷ (x ++ rest)) ≡ Some (kind.Double, skip is_ascii_digit rest)
 unfolding unsigned_at whole_at
 double_dot ds x rest d h =
-    rw (digits_over ds (46 ∷ (x ++ rest)) d, skip_stops 46 (x ++ rest) refl, no_part (x ++ rest) (no_digits_before x rest h), dot_exponent_over x rest h) refl
+    rw (digits_over ds (46 ∷ (x ++ rest)) d, skip_stop is_ascii_digit 46 (x ++ rest) refl, no_part (x ++ rest) (no_digits_before x rest h), dot_exponent_over x rest h) refl
 
 double_read : (m x rest : List ℕ) → IsMantissa m → IsExponent x → unsigned_at (m ++ (x ++ rest)) ≡ Some (kind.Double, skip is_ascii_digit rest)
 double_read m x rest (inl h) e =

@@ -7,6 +7,7 @@ use Rattle.rdf_terms.specs.Characters.{is_pn_chars_base, is_pn_chars, is_pn_char
 use Rattle.rdf_turtle.specs.Characters.{is_name_start, is_local_escape}
 use Rattle.rdf_turtle.specs.Forms.{IsDotted, IsNamePart, IsPlx, IsLocalFirst, IsLocalPart}
 use Rattle.rdf_terms.specs.Reading.{hex_at}
+use Rattle.rdf_terms.specs.Skips.{skip}
 use Rattle.rdf_turtle.specs.TokenReading.{skip_dots, dotted, dotted_at, name_part_at, local_escape_at, plx_at, local_part_at, local_first_at}
 use Rattle.rdf_terms.proofs.OptionLemmas.{bind_some, some_is, none_is, guard_some}
 use Rattle.rdf_turtle.proofs.TokenClaims.{Beats}
@@ -22,7 +23,7 @@ pub record IsUnit (Form : List ℕ → Type 0) (one : List ℕ → Option (List 
 -- ---- dots
 
 dots_front : (cs : List ℕ) → (dots : List ℕ) × (cs ≡ dots ++ skip_dots cs) × AllByRecursion (λ c. c ≡ 46) dots
-unfolding skip_dots
+unfolding skip
 dots_front [] = ([], refl, tt)
 dots_front (c ∷ cs) =
     elim (cases_Bool (eqb c 46)) [
@@ -31,12 +32,12 @@ dots_front (c ∷ cs) =
     ]
 
 over_dots : (dots cs : List ℕ) → AllByRecursion (λ c. c ≡ 46) dots → skip_dots (dots ++ cs) ≡ skip_dots cs
-unfolding skip_dots
+unfolding skip
 over_dots [] cs h = refl
 over_dots (d ∷ dots) cs h = rw (eq-eqb d 46 h.0) (over_dots dots cs h.1)
 
 no_dots : (b : ℕ) (bs : List ℕ) → b ≢ 46 → skip_dots (b ∷ bs) ≡ b ∷ bs
-unfolding skip_dots
+unfolding skip
 no_dots b bs ne = rw (ne_eqb b 46 ne) refl
 
 -- ---- the run

@@ -1,10 +1,11 @@
 -- The forms of tokens, as slices of a text (Turtle 1.1, section 6.5; SPARQL 1.1 Query, section 19.8). Characters are code points.
 use Rattle.std.specs.Prelude.{◌≡◌, ◌≢◌, ◌<◌, ◌⊎◌, ℕ, suc, true, List, [], ◌∷◌, ◌++◌, length, codes, ◌==◌, ◌||◌}
 use Rattle.std.specs.List.{AllByRecursion}
-use Rattle.std.specs.Char.{digit_value, is_ascii_digit, is_ascii_alphabetic, is_ascii_alphanumeric}
+use Rattle.std.specs.Char.{digit_value, is_ascii_digit, is_ascii_alphabetic}
 use Rattle.rdf_terms.specs.Characters.{is_pn_chars_base, is_pn_chars}
 use Rattle.rdf_terms.specs.Escapes.{IsNumericEscape, IsShortEscape, Writes}
 use Rattle.rdf_terms.specs.Quoted.{IsStringCharacter, IsIriRef}
+use Rattle.rdf_terms.specs.Tags.{IsTagName}
 use Rattle.rdf_turtle.specs.declared.token.Kind.{Kind}
 use Rattle.rdf_turtle.specs.declared.token.Kind.TheVariants.{Iri, Pname, BlankLabel, AtWord, Text, Integer, Decimal, Double, Var, Word, Symbol}
 use Rattle.rdf_turtle.specs.Characters.{is_sign, is_exponent_letter, is_word_part, is_name_start, is_variable_part, is_local_escape}
@@ -130,17 +131,9 @@ IsLocal slice =
 abbrev pub IsPname : List ℕ → Type 0
 IsPname slice = (prefix name : List ℕ) × (slice ≡ prefix ++ 58 ∷ name) × IsPrefix prefix × IsLocal name
 
--- groups of `-` and one or more ASCII letters or digits
-abbrev pub IsGroups : List ℕ → List (List ℕ) → Type 0
-IsGroups slice [] = slice ≡ []
-IsGroups slice (group ∷ groups) =
-    (others : List ℕ) × (slice ≡ 45 ∷ (group ++ others)) × (0 < length group) × AllByRecursion (λ c. is_ascii_alphanumeric c ≡ true) group × IsGroups others groups
-
--- LANGTAG, of which `@prefix` and `@base` have the form: `@`, one or more ASCII letters, then groups
+-- LANGTAG, of which `@prefix` and `@base` have the form: `@` and a tag
 abbrev pub IsAtWord : List ℕ → Type 0
-IsAtWord slice =
-    (c : ℕ) × (letters others : List ℕ) × (groups : List (List ℕ)) × (slice ≡ 64 ∷ c ∷ (letters ++ others)) × (is_ascii_alphabetic c ≡ true)
-    × AllByRecursion (λ d. is_ascii_alphabetic d ≡ true) letters × IsGroups others groups
+IsAtWord slice = (name : List ℕ) × (slice ≡ 64 ∷ name) × IsTagName name
 
 -- ---- symbols
 

@@ -1,10 +1,12 @@
 -- Reading tokens from left to right: what stands at the front of a list of characters, and what follows it.
-use Rattle.std.specs.Prelude.{◌≡◌, ◌<◌, ◌++◌, ℕ, zero, suc, length, Bool, true, false, List, [], ◌∷◌, Option, Some, None, option_map, ◌==◌, ◌||◌, ◌&&◌, not, if◌then◌else◌}
-use Rattle.std.specs.Char.{is_ascii_digit, is_ascii_alphabetic, is_ascii_alphanumeric}
+use Rattle.std.specs.Prelude.{◌≡◌, ◌<◌, ◌++◌, ℕ, zero, suc, length, Bool, true, false, List, [], ◌∷◌, Option, Some, None, option_map, ◌==◌, ◌||◌, not, if◌then◌else◌}
+use Rattle.std.specs.Char.{is_ascii_digit, is_ascii_alphabetic}
 use Rattle.rdf_turtle.specs.declared.token.Kind.{Kind}
 use Rattle.rdf_turtle.specs.declared.token.Kind.TheVariants.{Iri, Pname, BlankLabel, AtWord, Text, Integer, Decimal, Double, Var, Word, Symbol}
 use Rattle.rdf_terms.specs.Characters.{is_pn_chars_base, is_pn_chars}
 use Rattle.rdf_terms.specs.Reading.{◌>>=◌, byte_count, expect, hex_at, character_at, iri_at, quoted_at}
+use Rattle.rdf_terms.specs.Skips.{skip, some_of}
+use Rattle.rdf_terms.specs.Tags.{tag_end_at}
 use Rattle.rdf_turtle.specs.Characters.{is_white, is_line_end, is_sign, is_exponent_letter, is_word_part, is_name_start, is_variable_part, is_local_escape}
 
 abbrev pub or_else : {A : Type 0} → Option A → Option A → Option A
@@ -18,18 +20,6 @@ or_just (Some x) other = x
 abbrev pub as_kind : Kind → Option (List ℕ) → Option (Kind × List ℕ)
 as_kind kind None = None
 as_kind kind (Some rest) = Some (kind, rest)
-
--- ---- characters
-
--- what follows the characters that pass
-unfoldable pub skip : (ℕ → Bool) → List ℕ → List ℕ
-skip passes [] = []
-skip passes (c ∷ cs) = if passes c then skip passes cs else c ∷ cs
-
--- what follows one that may be first and all that may follow
-unfoldable pub some_of : (ℕ → Bool) → (ℕ → Bool) → List ℕ → Option (List ℕ)
-some_of first passes [] = None
-some_of first passes (c ∷ cs) = if first c then Some (skip passes cs) else None
 
 -- ---- gaps
 
@@ -143,9 +133,8 @@ variable_at cs = some_of is_name_start is_variable_part cs
 
 -- ---- dotted names
 
-unfoldable pub skip_dots : List ℕ → List ℕ
-skip_dots [] = []
-skip_dots (c ∷ cs) = if c == 46 then skip_dots cs else c ∷ cs
+abbrev pub skip_dots : List ℕ → List ℕ
+skip_dots cs = skip (λ c. c == 46) cs
 
 -- what follows units with dots between them: dots belong to it only where a unit follows
 unfoldable pub dotted : (List ℕ → Option (List ℕ)) → ℕ → List ℕ → List ℕ
@@ -205,24 +194,6 @@ blank_at cs = do
 unfoldable pub NoPnameBefore : List ℕ → ℕ → Type 0
 NoPnameBefore cs left = (before later : List ℕ) → cs ≡ before ++ later → left < byte_count later → pname_at later ≡ None
 
--- ---- tags
-
-unfoldable pub begins_group : List ℕ → Bool
-begins_group [] = false
-begins_group (c ∷ _) = is_ascii_alphanumeric c
-
--- what follows groups, within one or not
-unfoldable pub skip_groups : Bool → List ℕ → List ℕ
-skip_groups within [] = []
-skip_groups within (c ∷ cs) =
-    if within && is_ascii_alphanumeric c then skip_groups true cs
-    else if (c == 45) && begins_group cs then skip_groups true cs
-    else c ∷ cs
-
--- behind `@`
-unfoldable pub at_word_at : List ℕ → Option (List ℕ)
-at_word_at cs = option_map (skip_groups false) (some_of is_ascii_alphabetic is_ascii_alphabetic cs)
-
 -- ---- all
 
 unfoldable pub number_or_symbol_at : List ℕ → Option (Kind × List ℕ)
@@ -234,7 +205,7 @@ token_at (c ∷ cs) =
     if c == 60 then or_else (as_kind Iri (iri_end_at (c ∷ cs))) (number_or_symbol_at (c ∷ cs))
     else if (c == 34) || (c == 39) then as_kind Text (text_at c (c ∷ cs))
     else if (c == 63) || (c == 36) then as_kind Var (variable_at cs)
-    else if c == 64 then as_kind AtWord (at_word_at cs)
+    else if c == 64 then as_kind AtWord (tag_end_at cs)
     else if c == 95 then as_kind BlankLabel (blank_at cs)
     else if is_pn_chars_base c || (c == 58) then or_else (as_kind Pname (pname_at (c ∷ cs))) (as_kind Word (word_at (c ∷ cs)))
     else number_or_symbol_at (c ∷ cs)

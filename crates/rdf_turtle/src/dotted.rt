@@ -6,18 +6,10 @@ use crate::character::{is_local_escape, is_name_start};
 use rdf_terms::{Cursor, is_pn_chars, is_pn_chars_base};
 
 /// The place behind all dots.
-#[tactic(auto, unfolding(crate::specs::TokenReading::skip_dots))]
 fn skip_dots<'a>(cursor: &Cursor<'a>) -> Cursor<'a>
     ensures { result ≡ skip_dots cursor.now }
 {
-    let mut rest = cursor.fork();
-    while let Some(c) = rest.peek() {
-        if c != '.' {
-            return rest;
-        }
-        rest.bump();
-    }
-    rest
+    cursor.skip(|c| c == '.')
 }
 
 /// The place behind one of PN_CHARS.

@@ -26,7 +26,6 @@ mod scope;
 mod slice;
 mod statement;
 mod symbol;
-mod tag;
 mod token;
 mod tree;
 mod value;

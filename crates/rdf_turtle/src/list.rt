@@ -15,7 +15,6 @@ use crate::name::{variable, word};
 use crate::number::number;
 use crate::quoted::text;
 use crate::symbol::symbol;
-use crate::tag::at_word;
 use crate::token::{Kind, Token};
 use rdf_terms::{Cursor, is_pn_chars_base};
 use std::alloc::Global;
@@ -53,7 +52,7 @@ fn token<'a>(cursor: &Cursor<'a>, nameless: &mut usize) -> Option<(Kind, Cursor<
         return Some((Kind::Var, variable(&behind)?));
     }
     if c == '@' {
-        return Some((Kind::AtWord, at_word(&behind)?));
+        return Some((Kind::AtWord, behind.tag_end()?));
     }
     if c == '_' {
         return Some((Kind::BlankLabel, blank(&behind)?));

@@ -1,38 +1,17 @@
 //! Numbers.
 ghost use Rattle.std.specs.Prelude.{◌≡◌};
-ghost use Rattle.std.specs.Char.{is_ascii_digit};
-ghost use Rattle.rdf_turtle.specs.TokenReading.{skip, skip_sign, digits_at, exponent_at, with_exponent, fraction_at, dot_exponent_at, whole_at, unsigned_at, number_at};
+ghost use Rattle.rdf_turtle.specs.TokenReading.{skip_sign, digits_at, exponent_at, with_exponent, fraction_at, dot_exponent_at, whole_at, unsigned_at, number_at};
 
 use crate::character::{is_exponent_letter, is_sign};
 use crate::token::Kind;
 use rdf_terms::Cursor;
 
-/// The place behind all digits.
-#[tactic(auto, unfolding(crate::specs::TokenReading::skip))]
-fn skip_digits<'a>(cursor: &Cursor<'a>) -> Cursor<'a>
-    ensures { result ≡ skip is_ascii_digit cursor.now }
-{
-    let mut rest = cursor.fork();
-    while let Some(c) = rest.peek() {
-        if !c.is_ascii_digit() {
-            return rest;
-        }
-        rest.bump();
-    }
-    rest
-}
-
 /// The place behind one or more digits.
-#[tactic(auto, unfolding(crate::specs::TokenReading::digits_at, crate::specs::TokenReading::some_of))]
+#[tactic(auto, unfolding(crate::specs::TokenReading::digits_at))]
 fn digits<'a>(cursor: &Cursor<'a>) -> Option<Cursor<'a>>
     ensures { result ≡ digits_at cursor.now }
 {
-    let mut rest = cursor.fork();
-    if rest.bump()?.is_ascii_digit() {
-        Some(skip_digits(&rest))
-    } else {
-        None
-    }
+    cursor.skip_some(|c| c.is_ascii_digit(), |c| c.is_ascii_digit())
 }
 
 /// The place behind a sign, where there is one.
