@@ -18,10 +18,10 @@ use Rattle.rdf_terms.proofs.QuotedLemmas.{iri_complete, quoted_complete}
 use Rattle.rdf_lines.specs.Grammar.{is_white, is_label_part, is_label_start, IsString, IsLabelRest, IsLabelName, IsBlankLabel, IsTag, Takes, Next, HasNode, HasObject, HasLiteral, typed}
 use Rattle.rdf_lines.specs.RoundTrip.{label_of, node_of, object_of}
 use Rattle.rdf_lines.proofs.LinePieceLemmas.{iri_reader, string_reader, differs}
-use Rattle.rdf_lines.proofs.WrittenTextLemmas.{AllLow, iri_body, string_body, escaped_text, label_name, decimal_digits, digits_low, ascii_from}
+use Rattle.rdf_lines.proofs.WrittenTextLemmas.{iri_body, string_body, escaped_text, label_name, decimal_digits, digits_low}
 use Rattle.rdf_terms.specs.Tags.{IsTagName}
-use Rattle.rdf_terms.proofs.TagForms.{tag_name}
-use Rattle.rdf_lines.proofs.WrittenTagLemmas.{tag_low, tag_black, lower_stays}
+use Rattle.rdf_terms.proofs.TagForms.{AllLow, tag_name, tag_low, ascii_from}
+use Rattle.rdf_lines.proofs.WrittenTagLemmas.{tag_black, lower_stays}
 use Rattle.rdf_terms.specs.Characters.{is_pn_chars_base, is_pn_chars_u, is_pn_chars}
 
 -- ---- names end at a space

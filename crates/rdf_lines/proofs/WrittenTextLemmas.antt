@@ -1,9 +1,9 @@
 -- The characters of an IRI, of a quoted text and of a number, as they are written.
-use Rattle.std.proofs.Common.{◌≡◌, ◌≢◌, ◌∙◌, ap, refl, sym, subst, inl, inr, ℕ, ◌+◌, ◌<◌, ◌≤◌, ◌%◌, ◌^◌, arith, Bool, true, false, ◌||◌, ◌==◌, List, [], ◌∷◌, ◌++◌, length, get_or, codes, decimal, chars, IsUtf8, nat_lt, true≢false, append-nil, Some, zero, suc, if◌then◌else◌}
+use Rattle.std.proofs.Common.{◌≡◌, ◌≢◌, ◌∙◌, ap, refl, sym, subst, inl, inr, ℕ, ◌+◌, ◌<◌, ◌≤◌, ◌%◌, ◌^◌, arith, Bool, true, false, ◌||◌, ◌==◌, List, [], ◌∷◌, ◌++◌, length, get_or, codes, decimal, chars, IsUtf8, nat_lt, true≢false, append-nil, Some, suc, if◌then◌else◌}
 use Rattle.std.specs.List.{list_any, flat_map, AllByRecursion}
 use Rattle.std.specs.Char.{encode_utf8}
 use Rattle.std.specs.Int.{is_in_range}
-use Rattle.std.specs.Str.{encode_utf8_all, IsAscii}
+use Rattle.std.specs.Str.{encode_utf8_all}
 use Rattle.std.proofs.lemmas.Bool.{cases_Bool, or_parts, or_cases, or_left, and_parts, eqb-true, ltb-true, eq-eqb, cases_lt}
 use Rattle.std.proofs.lemmas.Bool.Decides.{nat_tests}
 use Rattle.std.proofs.lemmas.Fmt.{decimal_by_steps}
@@ -16,6 +16,7 @@ use Rattle.rdf_terms.specs.Characters.{short_escape, is_pn_chars_base, is_pn_cha
 use Rattle.rdf_terms.specs.Escapes.{Writes}
 use Rattle.rdf_terms.specs.Quoted.{IsIriCharacter, IsStringCharacter}
 use Rattle.rdf_terms.specs.TermText.{escaped}
+use Rattle.rdf_terms.proofs.TagForms.{AllLow}
 use Rattle.rdf_lines.specs.Grammar.{is_label_part, is_label_start, IsLabelRest, IsLabelName}
 
 abbrev pub AllPass : (ℕ → Bool) → List ℕ → Type 0
@@ -184,14 +185,6 @@ pub label_name : (n : ℕ) → n < 2 ^ 64 → IsLabelName (98 ∷ decimal n)
 label_name n h = (label_first, label_rest (decimal n) (decimal_digits n h))
 
 -- ---- ASCII
-
-abbrev pub AllLow : List ℕ → Type 0
-AllLow cs = AllByRecursion (λ c. c < 128) cs
-
-pub ascii_from : (bs : List ℕ) → AllLow bs → IsAscii bs
-ascii_from [] h i = omega arith
-ascii_from (b ∷ bs) h zero = h.0
-ascii_from (b ∷ bs) h (suc i) = ascii_from bs h.1 i
 
 digit_low : (c : ℕ) → is_digit c ≡ true → c < 128
 digit_low c h = grind (arith, nat_tests)

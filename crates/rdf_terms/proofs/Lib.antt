@@ -20,6 +20,7 @@ pub mod StepLemmas
 pub mod TagForms
 pub mod TagLemmas
 pub mod TagReadings
+pub mod TagTests
 pub mod TermEq
 pub mod TextLemmas
 pub mod UnescapeLemmas

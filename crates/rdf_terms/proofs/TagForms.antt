@@ -1,8 +1,8 @@
 -- A tag has the form that literals ask for, and no other text has.
-use Rattle.std.proofs.Common.{◌≡◌, ◌<◌, ℕ, Bool, true, false, cond, ltb, not, nat_lt, ◌==◌, List, [], ◌∷◌, ◌++◌, length, refl, sym, ap, ◌∙◌, inl, inr, arith}
+use Rattle.std.proofs.Common.{◌≡◌, ◌<◌, ℕ, zero, suc, Bool, true, false, cond, ltb, not, nat_lt, ◌==◌, List, [], ◌∷◌, ◌++◌, length, refl, sym, ap, subst, ◌∙◌, inl, inr, arith, ◌||◌}
 use Rattle.std.specs.List.{AllByRecursion, list_all, slice_split, onto_first, take_while}
 use Rattle.std.specs.Char.{is_ascii_alphabetic, is_ascii_alphanumeric}
-use Rattle.std.specs.Str.{encode_utf8_all}
+use Rattle.std.specs.Str.{encode_utf8_all, IsAscii}
 use Rattle.std.proofs.lemmas.Bool.{cases_Bool, eqb-true, lt-ltb, ltb-true, and_from, and_parts, true≢false}
 use Rattle.std.proofs.lemmas.Bool.Decides.{nat_tests}
 use Rattle.std.proofs.lemmas.List.{append-nil}
@@ -14,9 +14,6 @@ use Rattle.rdf_terms.proofs.SkipLemmas.{AllPass}
 
 abbrev is_dash : ℕ → Bool
 is_dash c = c == 45
-
-alphanumeric_low : (c : ℕ) → is_ascii_alphanumeric c ≡ true → c < 128
-alphanumeric_low c h = grind (arith, nat_tests)
 
 alphabetic_alphanumeric : (c : ℕ) → is_ascii_alphabetic c ≡ true → is_ascii_alphanumeric c ≡ true
 alphabetic_alphanumeric c h = grind (arith, nat_tests)
@@ -36,26 +33,61 @@ list_all-from : (p : ℕ → Bool) (cs : List ℕ) → AllPass p cs → list_all
 list_all-from p [] h = refl
 list_all-from p (c ∷ cs) h = and_from (p c) (list_all p cs) h.0 (list_all-from p cs h.1)
 
+-- ---- its characters
+
+abbrev pub is_tag_part : ℕ → Bool
+is_tag_part c = is_ascii_alphanumeric c || (c == 45)
+
+alphabetic_part : (c : ℕ) → is_ascii_alphabetic c ≡ true → is_tag_part c ≡ true
+alphabetic_part c h = grind (arith, nat_tests)
+
+alphanumeric_part : (c : ℕ) → is_ascii_alphanumeric c ≡ true → is_tag_part c ≡ true
+alphanumeric_part c h = grind (arith, nat_tests)
+
+all_parts : (p : ℕ → Bool) → ((c : ℕ) → p c ≡ true → is_tag_part c ≡ true) → (cs : List ℕ) → AllPass p cs → AllPass is_tag_part cs
+all_parts p f [] h = tt
+all_parts p f (c ∷ cs) h = (f c h.0, all_parts p f cs h.1)
+
+joined : (xs ys : List ℕ) → AllPass is_tag_part xs → AllPass is_tag_part ys → AllPass is_tag_part (xs ++ ys)
+joined [] ys a b = b
+joined (x ∷ xs) ys a b = (a.0, joined xs ys a.1 b)
+
+group_parts : (groups : List (List ℕ)) (slice : List ℕ) → IsGroups slice groups → AllPass is_tag_part slice
+group_parts [] slice h = subst (AllPass is_tag_part) (sym h) tt
+group_parts (group ∷ groups) slice h =
+    subst (AllPass is_tag_part) (sym h.1) (refl, joined group h.0 (all_parts is_ascii_alphanumeric alphanumeric_part group h.3) (group_parts groups h.0 h.4))
+
+name_parts : (name : List ℕ) → IsTagName name → AllPass is_tag_part name
+name_parts name h =
+    subst (AllPass is_tag_part) (sym h.4)
+    (alphabetic_part h.0 h.5, joined h.1 h.2 (all_parts is_ascii_alphabetic alphabetic_part h.1 h.6) (group_parts h.3 h.2 h.7))
+
+part_low : (c : ℕ) → is_tag_part c ≡ true → c < 128
+part_low c h = grind (arith, nat_tests)
+
+each : (P : ℕ → Type 0) → ((c : ℕ) → is_tag_part c ≡ true → P c) → (cs : List ℕ) → AllPass is_tag_part cs → AllByRecursion P cs
+each P f [] h = tt
+each P f (c ∷ cs) h = (f c h.0, each P f cs h.1)
+
+pub each_part : (P : ℕ → Type 0) → ((c : ℕ) → is_tag_part c ≡ true → P c) → (name : List ℕ) → IsTagName name → AllByRecursion P name
+each_part P f name h = each P f name (name_parts name h)
+
 -- ---- the bytes of a tag are its characters
 
 abbrev pub AllLow : List ℕ → Type 0
 AllLow cs = AllByRecursion (λ c. c < 128) cs
 
-low_alphanumeric : (cs : List ℕ) → AllPass is_ascii_alphanumeric cs → AllLow cs
-low_alphanumeric [] h = tt
-low_alphanumeric (c ∷ cs) h = (alphanumeric_low c h.0, low_alphanumeric cs h.1)
-
-low-append : (xs ys : List ℕ) → AllLow xs → AllLow ys → AllLow (xs ++ ys)
-low-append [] ys p q = q
-low-append (x ∷ xs) ys p q = (p.0, low-append xs ys p.1 q)
-
-low_groups : (groups : List (List ℕ)) (slice : List ℕ) → IsGroups slice groups → AllLow slice
-low_groups [] slice h = rw h tt
-low_groups (group ∷ groups) slice h = rw h.1 (omega arith, low-append group h.0 (low_alphanumeric group h.3) (low_groups groups h.0 h.4))
+pub tag_low : (name : List ℕ) → IsTagName name → AllLow name
+tag_low name h = each_part (λ c. c < 128) part_low name h
 
 pub encodes_low : (cs : List ℕ) → AllLow cs → encode_utf8_all cs ≡ cs
 encodes_low [] h = refl
 encodes_low (c ∷ cs) h = rw (encode_ascii c h.0) (ap (λ (t : List ℕ). c ∷ t) (encodes_low cs h.1))
+
+pub ascii_from : (bs : List ℕ) → AllLow bs → IsAscii bs
+ascii_from [] h i = omega arith
+ascii_from (b ∷ bs) h zero = h.0
+ascii_from (b ∷ bs) h (suc i) = ascii_from bs h.1 i
 
 -- ---- its groups
 
@@ -100,11 +132,10 @@ tag_form name h =
     let first : List ℕ = h.0 ∷ h.1 in
     let all : AllPass is_ascii_alphabetic first = (h.5, h.6) in
     let every : AllPass is_ascii_alphanumeric first = all_alphanumeric first all in
-    let low : AllLow (first ++ h.2) = low-append first h.2 (low_alphanumeric first every) (low_groups h.3 h.2 h.7) in
     let parts : list_all is_subtag (slice_split is_dash (first ++ h.2)) ≡ true =
     ap (list_all is_subtag) (split_groups h.3 first h.2 every h.7)
     ∙ and_from (is_subtag first) (list_all is_subtag h.3) (subtag first (omega arith) every) (subtags h.3 h.2 h.7) in
-    ap (λ (t : List ℕ). is_tag (encode_utf8_all t)) h.4 ∙ ap is_tag (encodes_low (first ++ h.2) low)
+    ap is_tag (encodes_low name (tag_low name h) ∙ h.4)
     ∙ and_from (list_all is_subtag (slice_split is_dash (first ++ h.2))) (list_all is_ascii_alphabetic (take_while (λ c. not (is_dash c)) (first ++ h.2)))
     parts (letters_only first h.2 h.3 all h.7)
 

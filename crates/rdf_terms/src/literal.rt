@@ -1,10 +1,9 @@
 //! Literals (RDF 1.1 Concepts, section 3.3).
-ghost use Rattle.std.specs.Prelude.{◌≡◌, ◌==◌, not, IfOk, IsTrue, if◌then◌else◌, option_map};
-ghost use Rattle.std.specs.Char.{is_ascii_alphabetic, is_ascii_alphanumeric};
-ghost use Rattle.std.specs.List.{list_all, slice_split, take_while};
+ghost use Rattle.std.specs.Prelude.{◌≡◌, IfOk, IsTrue, if◌then◌else◌, option_map};
 ghost use Rattle.std.specs.Str.{str_to_ascii_lowercase};
-ghost use Rattle.rdf_terms.specs.Literal.{LiteralParts, is_tag, is_subtag, is_literal, tagged};
+ghost use Rattle.rdf_terms.specs.Literal.{LiteralParts, is_tag, is_literal, tagged};
 
+use crate::cursor::Cursor;
 use crate::fault::NoMemory;
 use crate::iri::Iri;
 use crate::text::Text;
@@ -67,7 +66,7 @@ impl Literal {
     pub fn tagged(alloc: Global, lexical: &str, tag: &str) -> Result<Option<Literal>, NoMemory>
         ensures { IfOk result (λ l. l ≡ (if is_tag tag.now then Some (tagged lexical.now tag.now) else None)) }
     {
-        if !is_tag(tag.as_bytes()) {
+        if !is_tag(tag) {
             return Ok(None);
         }
         Literal::tagged_from_text(alloc, Text::new(alloc, lexical)?, tag)
@@ -84,7 +83,7 @@ impl Literal {
     ) -> Result<Option<Literal>, NoMemory>
         ensures { IfOk result (λ l. l ≡ (if is_tag tag.now then Some (tagged lexical tag.now) else None)) }
     {
-        if !is_tag(tag.as_bytes()) {
+        if !is_tag(tag) {
             return Ok(None);
         }
         let _ = lexical.as_str();
@@ -150,34 +149,12 @@ fn lowered(alloc: Global, tag: &str) -> Result<Text, NoMemory>
     Text::from_string(tag.to_ascii_lowercase(alloc)?)
 }
 
-fn are_alphanumeric(text: &[u8]) -> bool
-    ensures { result ≡ list_all is_ascii_alphanumeric text.now }
-{
-    text.iter().all(|b| b.is_ascii_alphanumeric())
-}
-
-fn is_subtag(text: &[u8]) -> bool
-    ensures { result ≡ is_subtag text.now }
-{
-    !text.is_empty() && are_alphanumeric(text)
-}
-
-fn are_subtags(tag: &[u8]) -> bool
-    ensures { result ≡ list_all is_subtag (slice_split (λ c. c == 45) tag.now) }
-{
-    tag.split(|b| *b == b'-').all(|text| is_subtag(text))
-}
-
-fn starts_with_letters(tag: &[u8]) -> bool
-    ensures { result ≡ list_all is_ascii_alphabetic (take_while (λ c. not (c == 45)) tag.now) }
-{
-    tag.iter()
-        .take_while(|b| **b != b'-')
-        .all(|b| b.is_ascii_alphabetic())
-}
-
-fn is_tag(tag: &[u8]) -> bool
+// Whether the reader of tags gets to the end of the text.
+fn is_tag(tag: &str) -> bool
     ensures { result ≡ is_tag tag.now }
 {
-    are_subtags(tag) && starts_with_letters(tag)
+    match Cursor::new(tag).tag_end() {
+        Some(rest) => rest.peek().is_none(),
+        None => false,
+    }
 }
