@@ -14,6 +14,7 @@ use Rattle.rdf_terms.specs.TermText.{escaped}
 use Rattle.rdf_terms.specs.declared.term.Term.{Term}
 use Rattle.rdf_terms.specs.declared.term.Term.TheVariants as t
 use Rattle.rdf_terms.specs.declared.quad.Quad.{Quad}
+use Rattle.rdf_terms.proofs.TagForms.{tag_name, tag_low, ascii_from}
 use Rattle.rdf_turtle.specs.declared.tree.Name.{Name}
 use Rattle.rdf_turtle.specs.declared.tree.Name.TheVariants.{Full}
 use Rattle.rdf_turtle.specs.declared.tree.Verb.{Verb}
@@ -37,8 +38,8 @@ use Rattle.rdf_turtle.specs.Values.{iri_value, text_value, tag_value}
 use Rattle.rdf_turtle.specs.WrittenLaws.{IsDefaultQuad}
 use Rattle.rdf_turtle.proofs.ValueIris.{iri_value_is}
 use Rattle.rdf_turtle.proofs.ValueTexts.{text_value_is}
-use Rattle.rdf_turtle.proofs.WrittenTags.{tag_name, tag_low, lower_stays}
-use Rattle.rdf_turtle.proofs.WrittenTexts.{string_body, ascii_from}
+use Rattle.rdf_turtle.proofs.WrittenTags.{lower_stays}
+use Rattle.rdf_turtle.proofs.WrittenTexts.{string_body}
 use Rattle.rdf_turtle.proofs.WrittenTerms.{iri_slice, text_slice, label_slice, tag_slice, iri_scheme, iri_allowed, iri_form, tag_parts, literal_parts}
 use Rattle.rdf_turtle.proofs.WrittenLines.{Tests, tests}
 use Rattle.rdf_turtle.proofs.WrittenTrees as tree

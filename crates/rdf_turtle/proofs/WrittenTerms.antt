@@ -13,10 +13,10 @@ use Rattle.rdf_terms.specs.Term.{is_term}
 use Rattle.rdf_terms.specs.TermText.{escaped, suffix_text, literal_text, term_text}
 use Rattle.rdf_terms.specs.declared.term.Term.{Term}
 use Rattle.rdf_terms.specs.declared.term.Term.TheVariants.{Blank, Iri, Literal}
+use Rattle.rdf_terms.proofs.TagForms.{tag_name, tag_low, ascii_from}
 use Rattle.rdf_turtle.specs.declared.token.Kind.TheVariants as kind
 use Rattle.rdf_turtle.proofs.ValueIris.{all_allowed, writes_allowed}
-use Rattle.rdf_turtle.proofs.WrittenTexts.{string_body, escaped_text, decimal_digits, digits_low, ascii_from, utf8_cons, chars_cons, around_utf8, around_chars}
-use Rattle.rdf_turtle.proofs.WrittenTags.{tag_name, tag_low}
+use Rattle.rdf_turtle.proofs.WrittenTexts.{string_body, escaped_text, decimal_digits, digits_low, utf8_cons, chars_cons, around_utf8, around_chars}
 use Rattle.rdf_turtle.proofs.WrittenTokens.{iri_token, caret_token, text_token, label_token, tag_token}
 use Rattle.rdf_turtle.proofs.WrittenCuts.{Slice, Cut, cut_token}
 

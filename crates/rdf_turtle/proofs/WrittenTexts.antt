@@ -1,9 +1,9 @@
 -- The characters of a quoted text and of a number, as they are written.
-use Rattle.std.proofs.Common.{◌≡◌, ◌≢◌, ◌∙◌, ap, refl, sym, subst, inl, inr, ℕ, ◌+◌, ◌<◌, ◌≤◌, ◌%◌, ◌^◌, arith, Bool, true, false, ◌==◌, List, [], ◌∷◌, ◌++◌, length, get_or, decimal, chars, IsUtf8, true≢false, append-nil, Some, zero, suc, if◌then◌else◌}
-use Rattle.std.specs.List.{flat_map, AllByRecursion}
+use Rattle.std.proofs.Common.{◌≡◌, ◌≢◌, ◌∙◌, ap, refl, sym, subst, inl, inr, ℕ, ◌+◌, ◌<◌, ◌≤◌, ◌%◌, ◌^◌, arith, Bool, true, false, ◌==◌, List, [], ◌∷◌, ◌++◌, length, get_or, decimal, chars, IsUtf8, true≢false, append-nil, Some, suc, if◌then◌else◌}
+use Rattle.std.specs.List.{flat_map}
 use Rattle.std.specs.Char.{encode_utf8}
 use Rattle.std.specs.Int.{is_in_range}
-use Rattle.std.specs.Str.{encode_utf8_all, IsAscii}
+use Rattle.std.specs.Str.{encode_utf8_all}
 use Rattle.std.proofs.lemmas.Bool.{and_parts, eqb-true, eq-eqb, cases_lt}
 use Rattle.std.proofs.lemmas.Bool.Decides.{nat_tests}
 use Rattle.std.proofs.lemmas.Fmt.{decimal_by_steps}
@@ -14,9 +14,8 @@ use Rattle.rdf_terms.specs.Characters.{short_escape}
 use Rattle.rdf_terms.specs.Escapes.{Writes}
 use Rattle.rdf_terms.specs.Quoted.{IsStringCharacter}
 use Rattle.rdf_terms.specs.TermText.{escaped}
-
-abbrev pub AllPass : (ℕ → Bool) → List ℕ → Type 0
-AllPass p cs = AllByRecursion (λ c. p c ≡ true) cs
+use Rattle.rdf_terms.proofs.SkipLemmas.{AllPass}
+use Rattle.rdf_terms.proofs.TagForms.{AllLow, ascii_from}
 
 -- ---- quoted texts
 
@@ -130,14 +129,6 @@ decimal_digits = decimal_by_steps (λ n ds. AllPass is_digit ds) (λ n h. (digit
     (λ n ds h front. pass-append is_digit ds ((48 + n % 10) ∷ []) front (digit_below (n % 10) (omega arith), tt))
 
 -- ---- ASCII
-
-abbrev AllLow : List ℕ → Type 0
-AllLow cs = AllByRecursion (λ c. c < 128) cs
-
-pub ascii_from : (bs : List ℕ) → AllLow bs → IsAscii bs
-ascii_from [] h i = omega arith
-ascii_from (b ∷ bs) h zero = h.0
-ascii_from (b ∷ bs) h (suc i) = ascii_from bs h.1 i
 
 digit_low : (c : ℕ) → is_digit c ≡ true → c < 128
 digit_low c h = grind (arith, nat_tests)

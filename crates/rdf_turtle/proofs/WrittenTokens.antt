@@ -7,16 +7,17 @@ use Rattle.std.specs.List.{flat_map}
 use Rattle.rdf_terms.specs.Characters.{is_pn_chars_base, is_pn_chars_u, is_pn_chars}
 use Rattle.rdf_terms.specs.Quoted.{IsIriRef, IsQuoted}
 use Rattle.rdf_terms.specs.Reading.{expect}
+use Rattle.rdf_terms.specs.Skips.{skip, some_of}
+use Rattle.rdf_terms.specs.Tags.{IsGroups, IsTagName, begins_group, skip_groups, tag_end_at}
 use Rattle.rdf_terms.specs.TermText.{escaped}
 use Rattle.rdf_terms.proofs.QuotedLemmas.{expect_complete, iri_complete, quoted_complete}
+use Rattle.rdf_terms.proofs.SkipLemmas.{AllPass, some_complete, skip_stop}
 use Rattle.rdf_turtle.specs.declared.token.Kind.TheVariants as kind
 use Rattle.rdf_turtle.specs.Characters.{is_name_start}
-use Rattle.rdf_turtle.specs.Forms.{IsDotted, IsNamePart, IsGroups}
-use Rattle.rdf_turtle.specs.TokenReading.{as_kind, or_else, skip, skip_dots, some_of, iri_end_at, quoted_end_at, two_at, three_at, long_at, text_at, digits_at, skip_sign, fraction_at, unsigned_at, number_at, symbol_at, name_part_at, dotted_at, label_at, blank_at, begins_group, skip_groups, at_word_at, number_or_symbol_at, token_at}
-use Rattle.rdf_turtle.proofs.TokenSkips.{AllPass, some_complete}
+use Rattle.rdf_turtle.specs.Forms.{IsDotted, IsNamePart}
+use Rattle.rdf_turtle.specs.TokenReading.{as_kind, or_else, skip_dots, iri_end_at, quoted_end_at, two_at, three_at, long_at, text_at, digits_at, skip_sign, fraction_at, unsigned_at, number_at, symbol_at, name_part_at, dotted_at, label_at, blank_at, number_or_symbol_at, token_at}
 use Rattle.rdf_turtle.proofs.TokenUnits.{name_unit, dotted_over, dotted_stop}
 use Rattle.rdf_turtle.proofs.WrittenTexts.{is_digit, by_escape}
-use Rattle.rdf_turtle.proofs.WrittenTags.{IsTagName}
 
 -- ---- IRIs
 
@@ -93,7 +94,7 @@ digits_dotted [] h = refl
 digits_dotted (d ∷ ds) h = ([], ds, refl, tt, (d, refl, digit_part d h.0), digits_dotted ds h.1)
 
 space_stops : (rest : List ℕ) → name_part_at (skip_dots (32 ∷ rest)) ≡ None
-unfolding name_part_at skip_dots is_pn_chars is_pn_chars_u is_pn_chars_base
+unfolding name_part_at skip is_pn_chars is_pn_chars_u is_pn_chars_base
 space_stops rest = refl
 
 b_starts : is_name_start 98 ≡ true
@@ -145,18 +146,14 @@ over_groups b (group ∷ groups) slice rest h =
     ∙ begin_group b group (h.0 ++ 32 ∷ rest) h.2 h.3
     ∙ over_groups true groups h.0 rest h.4
 
-letters_end : (c : ℕ) (rest : List ℕ) → is_ascii_alphabetic c ≡ false → skip is_ascii_alphabetic (c ∷ rest) ≡ c ∷ rest
-unfolding skip
-letters_end c rest h = rw h refl
-
 letters_stop : (groups : List (List ℕ)) (slice rest : List ℕ) → IsGroups slice groups → skip is_ascii_alphabetic (slice ++ 32 ∷ rest) ≡ slice ++ 32 ∷ rest
-letters_stop [] slice rest h = subst (λ (t : List ℕ). skip is_ascii_alphabetic (t ++ 32 ∷ rest) ≡ t ++ 32 ∷ rest) (sym h) (letters_end 32 rest refl)
+letters_stop [] slice rest h = subst (λ (t : List ℕ). skip is_ascii_alphabetic (t ++ 32 ∷ rest) ≡ t ++ 32 ∷ rest) (sym h) (skip_stop is_ascii_alphabetic 32 rest refl)
 letters_stop (group ∷ groups) slice rest h =
-    subst (λ (t : List ℕ). skip is_ascii_alphabetic (t ++ 32 ∷ rest) ≡ t ++ 32 ∷ rest) (sym h.1) (letters_end 45 ((group ++ h.0) ++ 32 ∷ rest) refl)
+    subst (λ (t : List ℕ). skip is_ascii_alphabetic (t ++ 32 ∷ rest) ≡ t ++ 32 ∷ rest) (sym h.1) (skip_stop is_ascii_alphabetic 45 ((group ++ h.0) ++ 32 ∷ rest) refl)
 
-at_word_here : (tag rest : List ℕ) → IsTagName tag → at_word_at (tag ++ 32 ∷ rest) ≡ Some (32 ∷ rest)
-unfolding at_word_at
-at_word_here tag rest h =
+tag_here : (tag rest : List ℕ) → IsTagName tag → tag_end_at (tag ++ 32 ∷ rest) ≡ Some (32 ∷ rest)
+unfolding tag_end_at
+tag_here tag rest h =
     let whole : tag ++ 32 ∷ rest ≡ h.0 ∷ (h.1 ++ (h.2 ++ 32 ∷ rest)) =
     ap (λ (t : List ℕ). t ++ 32 ∷ rest) h.4 ∙ ap (λ (t : List ℕ). h.0 ∷ t) (append_assoc h.1 h.2 (32 ∷ rest)) in
     let letters : some_of is_ascii_alphabetic is_ascii_alphabetic (tag ++ 32 ∷ rest) ≡ Some (h.2 ++ 32 ∷ rest) =
@@ -164,9 +161,9 @@ at_word_here tag rest h =
     ∙ ap (λ (t : List ℕ). Some t) (letters_stop h.3 h.2 rest h.7) in
     ap (option_map (skip_groups false)) letters ∙ ap (λ (t : List ℕ). Some t) (over_groups false h.3 h.2 rest h.7)
 
-at_sign : (cs : List ℕ) → token_at (64 ∷ cs) ≡ as_kind kind.AtWord (at_word_at cs)
+at_sign : (cs : List ℕ) → token_at (64 ∷ cs) ≡ as_kind kind.AtWord (tag_end_at cs)
 unfolding token_at
 at_sign cs = refl
 
 pub tag_token : (tag rest : List ℕ) → IsTagName tag → token_at ((64 ∷ tag) ++ 32 ∷ rest) ≡ Some (kind.AtWord, 32 ∷ rest)
-tag_token tag rest h = at_sign (tag ++ 32 ∷ rest) ∙ ap (as_kind kind.AtWord) (at_word_here tag rest h)
+tag_token tag rest h = at_sign (tag ++ 32 ∷ rest) ∙ ap (as_kind kind.AtWord) (tag_here tag rest h)
