@@ -11,11 +11,12 @@ impl<'a> Cursor<'a> {
         ensures { (class : ℕ → Bool) → IsTest (F.post passes) class → result ≡ skip class self.now }
     {
         let mut rest = self.fork();
-        while let Some(c) = rest.peek() {
+        let mut behind = self.fork();
+        while let Some(c) = behind.bump() {
             if !passes(c) {
                 return rest;
             }
-            rest.bump();
+            rest = behind.fork();
         }
         rest
     }
