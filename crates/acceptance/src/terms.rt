@@ -286,3 +286,12 @@ fn laws(rt: HostRuntime) -> Result<(), Fail> {
     orders_are_total();
     Ok(())
 }
+
+#[test]
+fn tags_in_texts(rt: HostRuntime) {
+    for (text, left) in [("en", 0), ("en-GB .", 2), ("en-", 1), ("x-1-ab9--", 2)] {
+        let end = Cursor::new(text).tag_end().map(|rest| rest.left());
+        assert_eq!(rt; end, Some(left), "{text}");
+    }
+    assert!(rt; Cursor::new("1en").tag_end().is_none());
+}
