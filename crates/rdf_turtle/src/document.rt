@@ -1,5 +1,5 @@
 //! Turtle documents, from bytes to quads.
-ghost use Rattle.std.specs.Prelude.{◌≡◌, ◌≢◌, ℕ, List, Option, Some, MatchResult, slice_get};
+ghost use Rattle.std.specs.Prelude.{◌≡◌, ◌≢◌, ℕ, List, length, Option, Some, None, MatchResult, slice_get};
 ghost use Rattle.std.specs.Option.{option_copied};
 ghost use Rattle.std.specs.Str.{IsUtf8};
 ghost use Rattle.rdf_turtle.specs.declared.fault.TurtleFaultKind.TheVariants.{NoMemory as NoMemoryKind};
@@ -36,7 +36,8 @@ fn fault_at(text: &[u8], kind: TurtleFaultKind, place: usize) -> TurtleFault
 
 // The byte where the token of that number starts, or the end of the text.
 fn start_of(text: &[u8], tokens: &[Token], number: usize) -> usize
-    ensures { (token : Held) → slice_get tokens.now number ≡ Some token → result ≡ token.start }
+    ensures found { (token : Held) → slice_get tokens.now number ≡ Some token → result ≡ token.start }
+    ensures end { slice_get tokens.now number ≡ None → result ≡ length text.now }
 {
     match tokens.get(number) {
         Some(token) => token.start,
