@@ -1,8 +1,9 @@
 //! The productions of Turtle inside a statement (Turtle 1.1, section 6.5). A bracket is a
 //! recursion, and a list a loop.
 
-ghost use Rattle.std.specs.Prelude.{◌≡◌, ◌≤◌, ◌<◌, length, OnOk};
+ghost use Rattle.std.specs.Prelude.{◌≡◌, ◌≤◌, ◌<◌, length, OnOk, OnErr, IfErr};
 ghost use Rattle.rdf_turtle.specs.Rules.{Reads};
+ghost use Rattle.rdf_turtle.specs.declared.fault.TurtleFaultKind.TheVariants.{Syntax};
 ghost use Rattle.rdf_turtle.specs.Reading as spec;
 
 use crate::fault::TurtleFaultKind;
@@ -61,6 +62,8 @@ impl<'a> Parser<'_, 'a> {
     #[tactic(auto, unfolding(crate::specs::Reading::iri))]
     fn iri(&mut self) -> Result<Name<'a>, TurtleFaultKind>
         ensures reads { Reads (spec.iri self.old) result self.new }
+        ensures fault { IfErr result (λ e. e ≡ Syntax) }
+        ensures kept { OnErr result (self.new ≡ self.old) }
         ensures shorter { OnOk result (length self.new < length self.old) }
     {
         match self.peek() {
@@ -76,6 +79,8 @@ impl<'a> Parser<'_, 'a> {
     #[tactic(auto, unfolding(crate::specs::Reading::verb, crate::specs::Rules::any))]
     fn verb(&mut self) -> Result<Verb<'a>, TurtleFaultKind>
         ensures reads { Reads (spec.verb self.old) result self.new }
+        ensures fault { IfErr result (λ e. e ≡ Syntax) }
+        ensures kept { OnErr result (self.new ≡ self.old) }
         ensures shorter { OnOk result (length self.new < length self.old) }
     {
         match self.peek() {
@@ -90,6 +95,7 @@ impl<'a> Parser<'_, 'a> {
     #[tactic(auto, unfolding(crate::specs::Reading::text, crate::specs::Rules::any))]
     fn text(&mut self) -> Result<Literal<'a>, TurtleFaultKind>
         ensures reads { Reads (spec.text self.old) result self.new }
+        ensures fault { IfErr result (λ e. e ≡ Syntax) }
         ensures shorter { OnOk result (length self.new < length self.old) }
     {
         let form = self.value(Terminal::Text)?;
@@ -108,6 +114,7 @@ impl<'a> Parser<'_, 'a> {
     #[tactic(auto, unfolding(crate::specs::Reading::literal, crate::specs::Rules::any))]
     fn literal(&mut self) -> Result<Literal<'a>, TurtleFaultKind>
         ensures reads { Reads (spec.literal self.old) result self.new }
+        ensures fault { IfErr result (λ e. e ≡ Syntax) }
         ensures shorter { OnOk result (length self.new < length self.old) }
     {
         match self.peek() {

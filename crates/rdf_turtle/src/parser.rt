@@ -1,9 +1,10 @@
 //! A cursor over lexemes.
 
-ghost use Rattle.std.specs.Prelude.{◌≡◌, ◌≤◌, ◌<◌, length, OnOk, if◌then◌else◌};
+ghost use Rattle.std.specs.Prelude.{◌≡◌, ◌≤◌, ◌<◌, length, OnOk, OnErr, IfErr, if◌then◌else◌};
 ghost use Rattle.std.specs.Bool.{OnTrue};
 ghost use Rattle.rdf_turtle.specs.Rules as spec;
 ghost use Rattle.rdf_turtle.specs.Rules.{Reads};
+ghost use Rattle.rdf_turtle.specs.declared.fault.TurtleFaultKind.TheVariants.{Syntax};
 ghost use Rattle.rdf_turtle.specs.Reading as reading;
 ghost use Rattle.rdf_turtle.specs.Values as values;
 
@@ -110,6 +111,8 @@ impl<'l, 'a> Parser<'l, 'a> {
     #[tactic(auto, unfolding(crate::specs::Rules::the))]
     pub fn expect(&mut self, terminal: Terminal) -> Result<(), TurtleFaultKind>
         ensures reads { Reads (spec.the terminal self.old) result self.new }
+        ensures fault { IfErr result (λ e. e ≡ Syntax) }
+        ensures kept { OnErr result (self.new ≡ self.old) }
         ensures shorter { OnOk result (length self.new < length self.old) }
     {
         if self.eat(terminal) {
@@ -123,6 +126,8 @@ impl<'l, 'a> Parser<'l, 'a> {
     #[tactic(auto, unfolding(crate::specs::Rules::value))]
     pub fn value(&mut self, terminal: Terminal) -> Result<Slice<'a>, TurtleFaultKind>
         ensures reads { Reads (spec.value terminal self.old) result self.new }
+        ensures fault { IfErr result (λ e. e ≡ Syntax) }
+        ensures kept { OnErr result (self.new ≡ self.old) }
         ensures shorter { OnOk result (length self.new < length self.old) }
     {
         match self.lexemes {
@@ -141,6 +146,8 @@ impl<'l, 'a> Parser<'l, 'a> {
     #[tactic(auto, unfolding(crate::specs::Reading::namespace))]
     pub fn namespace(&mut self) -> Result<Slice<'a>, TurtleFaultKind>
         ensures reads { Reads (reading.namespace self.old) result self.new }
+        ensures fault { IfErr result (λ e. e ≡ Syntax) }
+        ensures kept { OnErr result (self.new ≡ self.old) }
         ensures shorter { OnOk result (length self.new < length self.old) }
     {
         match self.lexemes {

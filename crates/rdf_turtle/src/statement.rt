@@ -1,7 +1,8 @@
 //! Statements and documents (Turtle 1.1, section 6.5).
 
-ghost use Rattle.std.specs.Prelude.{◌≡◌, ◌≤◌, ◌<◌, [], length, OnOk};
+ghost use Rattle.std.specs.Prelude.{◌≡◌, ◌≤◌, ◌<◌, [], length, OnOk, OnErr, IfErr};
 ghost use Rattle.rdf_turtle.specs.Rules.{Reads};
+ghost use Rattle.rdf_turtle.specs.declared.fault.TurtleFaultKind.TheVariants.{Syntax};
 ghost use Rattle.rdf_turtle.specs.Reading as spec;
 
 use crate::depth::MAX_OPEN;
@@ -15,6 +16,7 @@ impl<'a> Parser<'_, 'a> {
     #[tactic(auto, unfolding(crate::specs::Reading::binding))]
     fn binding(&mut self) -> Result<Statement<'a>, TurtleFaultKind>
         ensures reads { Reads (spec.binding self.old) result self.new }
+        ensures fault { IfErr result (λ e. e ≡ Syntax) }
         ensures shorter { OnOk result (length self.new < length self.old) }
     {
         let prefix = self.namespace()?;
@@ -25,6 +27,8 @@ impl<'a> Parser<'_, 'a> {
     #[tactic(auto, unfolding(crate::specs::Reading::base))]
     fn base(&mut self) -> Result<Statement<'a>, TurtleFaultKind>
         ensures reads { Reads (spec.base self.old) result self.new }
+        ensures fault { IfErr result (λ e. e ≡ Syntax) }
+        ensures kept { OnErr result (self.new ≡ self.old) }
         ensures shorter { OnOk result (length self.new < length self.old) }
     {
         Ok(Statement::Base(self.value(Terminal::Iri)?))
