@@ -1,12 +1,11 @@
 -- What undo, redo and rollback give back.
 use Rattle.std.proofs.Common.{◌≡◌, ℕ, zero, suc, ◌+◌, ◌-◌, ◌≤◌, Bool, true, false, not, cond, List, [], ◌∷◌, ◌++◌, length, take, get_or, Option, Some, refl, sym, ap, ◌∙◌, subst, arith, length-append, length-take, add-one}
 use Rattle.std.specs.Prelude.{filter, find, nat_le, option_map}
-use Rattle.std.specs.List.{AllByRecursion}
 use Rattle.std.specs.Cmp.Lexicographic.{bytes_decides}
 use Rattle.std.proofs.lemmas.Bool.Decides.{leb_tells}
-use mathlib.Core.Bool.{true≢false}
 use mathlib.Core.Logic.{inl, inr}
 use Rattle.rdf_dataset.specs.State.{State}
+use Rattle.rdf_keeper.proofs.MarkLemmas.{lie_kept, lie_marked}
 use Rattle.rdf_keeper.specs.GivesBack.{IsPlaced, IsWholeSession, Accepts, RunsAreWhole, UndoGivesBack, RedoGivesAgain, RollbackGivesBack}
 use Rattle.rdf_keeper.specs.Request.{Request}
 use Rattle.rdf_keeper.specs.History.{is_named, place_of}
@@ -19,31 +18,8 @@ Marks = List (List ℕ × ℕ)
 
 -- ---- a session stays whole
 
-abbrev LieIn : ℕ → Marks → Type 0
-LieIn n marks = AllByRecursion (λ m. m.1 ≤ n) marks
-
 length_pushed : (ss : List State) (k : ℕ) (t : State) → k ≤ length ss → length (take k ss ++ t ∷ []) ≡ k + 1
 length_pushed ss k t h = simp (length-append, length-take) (omega (arith, h))
-
-le_of : (a b : ℕ) → nat_le a b ≡ true → a ≤ b
-le_of a b e = elim (leb_tells a b) [ inl h ↦ h.1 | inr h ↦ absurd (true≢false (sym e ∙ h.0)) ]
-
--- those that are kept lie where the cursor was
-lie_kept : (n k : ℕ) (marks : Marks) → k ≤ n → LieIn n (filter (λ m. nat_le m.1 k) marks)
-lie_kept n k [] h = tt
-lie_kept n k (m ∷ ms) h =
-    elim (nat_le m.1 k) as (λ v. nat_le m.1 k ≡ v → LieIn n (cond v (m ∷ filter (λ x. nat_le x.1 k) ms) (filter (λ x. nat_le x.1 k) ms))) [
-      | true ↦ λ e. (let l = le_of m.1 k e in omega (arith, l, h), lie_kept n k ms h)
-      | false ↦ λ e. lie_kept n k ms h
-    ] refl
-
-lie_marked : (n k : ℕ) (name : List ℕ) (marks : Marks) → k ≤ n → LieIn n marks → LieIn n (filter (λ m. not (is_named name m)) marks ++ (name, k) ∷ [])
-lie_marked n k name [] h a = (h, tt)
-lie_marked n k name (m ∷ ms) h a =
-    elim (not (is_named name m)) as (λ v. LieIn n (cond v (m ∷ filter (λ x. not (is_named name x)) ms) (filter (λ x. not (is_named name x)) ms) ++ (name, k) ∷ [])) [
-      | true ↦ (a.0, lie_marked n k name ms h a.1)
-      | false ↦ lie_marked n k name ms h a.1
-    ]
 
 step_whole : (old new : Session) (c : Command) (r : Reply) → IsWholeSession old → Step old c r new → IsWholeSession new
 step_whole old new c (Refused fault) w st = subst IsWholeSession (sym st.1) w

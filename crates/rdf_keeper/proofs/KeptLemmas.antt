@@ -1,17 +1,24 @@
 -- Chains of nets: the states that they go through, and the steps of a session over them.
-use Rattle.std.proofs.Common.{◌≡◌, ℕ, zero, suc, ◌+◌, ◌-◌, ◌<◌, ◌≤◌, List, [], ◌∷◌, ◌++◌, length, take, get_or, Option, Some, refl, sym, ap, ◌∙◌, subst, arith, add-one, length-append, length-take}
+use Rattle.std.proofs.Common.{◌≡◌, ℕ, zero, suc, ◌+◌, ◌-◌, ◌<◌, ◌≤◌, not, List, [], ◌∷◌, ◌++◌, length, take, get_or, Option, Some, refl, sym, ap, ◌∙◌, subst, arith, add-one, length-append, length-take}
 use Rattle.std.specs.Prelude.{filter, nat_le}
 use mathlib.Core.Bool.{true≢false, true, false}
 use Rattle.std.specs.FinSet as set
 use Rattle.std.specs.List.{AllByRecursion}
 use Rattle.rdf_dataset.specs.State.{State, Change, IsSound, Begins, Ends, net_between, applied, turned}
+use Rattle.rdf_keeper.proofs.MarkLemmas.{lie_kept, lie_marked}
 use Rattle.rdf_keeper.proofs.NetLemmas.{applied_is, turned_is, one_end}
-use Rattle.rdf_keeper.specs.GivesBack.{IsPlaced}
-use Rattle.rdf_keeper.specs.History.{place_of}
+use Rattle.rdf_keeper.specs.GivesBack.{IsWholeSession}
+use Rattle.rdf_keeper.specs.History.{is_named, place_of}
 use Rattle.rdf_keeper.specs.Session.{Session, Step, Undo, Redo, Rollback, Changed, Refused, all_states, counts_between, now, accepted}
 use Rattle.rdf_keeper.specs.Kept.{before_all, states_after, AreNets, session_from, base_of, IsKept, nets_between}
 use Rattle.rdf_keeper.specs.declared.fault.Counts.{Counts}
 use Rattle.rdf_keeper.specs.declared.fault.KeeperFault.TheVariants.{NoMemory}
+
+abbrev pub Marks : Type 0
+Marks = List (List ℕ × ℕ)
+
+abbrev pub Base : Type 0
+Base = Option (List ℕ)
 
 -- the state at a place of a chain
 abbrev pub at : State → List Change → ℕ → State → State
@@ -30,19 +37,19 @@ before_all-at base (n ∷ ns) (suc k) d c h =
     ap (applied (turned n)) (before_all-at (applied n base) ns k d c.1.1 (omega (arith, h))) ∙ turned_is base (applied n base) n c.0
 
 -- what is kept at a place says which base there is
-pub base_of-kept : (base s : State) (ns : List Change) (k : ℕ) → IsKept base s ns k → base_of s ns k ≡ base
-base_of-kept base s ns k c = ap (before_all (take k ns)) c.current ∙ before_all-at base ns k base c.nets c.within
+pub base_of-kept : (base s : State) (ns : List Change) (k : ℕ) (marks : Marks) → IsKept base s ns k marks → base_of s ns k ≡ base
+base_of-kept base s ns k marks c = ap (before_all (take k ns)) c.current ∙ before_all-at base ns k base c.nets c.within
 
-pub kept : (base s : State) (ns : List Change) (k : ℕ) → IsKept base s ns k → IsKept (base_of s ns k) s ns k
-kept base s ns k c = subst (λ b. IsKept b s ns k) (sym (base_of-kept base s ns k c)) c
+pub kept : (base s : State) (ns : List Change) (k : ℕ) (marks : Marks) → IsKept base s ns k marks → IsKept (base_of s ns k) s ns k marks
+kept base s ns k marks c = subst (λ b. IsKept b s ns k marks) (sym (base_of-kept base s ns k marks c)) c
 
 pub length-states_after : (base : State) (ns : List Change) → length (states_after base ns) ≡ length ns
 length-states_after base [] = refl
 length-states_after base (n ∷ ns) = ap suc (length-states_after (applied n base) ns)
 
 -- another place of the same chain
-pub kept_at : (base s t : State) (ns : List Change) (k j : ℕ) → IsKept base s ns k → j ≤ length ns → t ≡ at base ns j base → IsKept base t ns j
-kept_at base s t ns k j c h e = record { sound = c.sound; nets = c.nets; current = e; within = h }
+pub kept_at : (base s t : State) (ns : List Change) (k j : ℕ) (marks : Marks) → IsKept base s ns k marks → j ≤ length ns → t ≡ at base ns j base → IsKept base t ns j marks
+kept_at base s t ns k j marks c h e = record { sound = c.sound; nets = c.nets; current = e; within = h; marks_within = c.marks_within }
 
 -- the states after the changes are sound
 after_sound : (base : State) (ns : List Change) → AreNets base ns → AllByRecursion IsSound (states_after base ns)
@@ -73,22 +80,16 @@ length-extended ns k e h = simp (length-append, length-take) (omega (arith, h))
 no_truth : false ≡ true → ⊥
 no_truth e = true≢false (sym e)
 
-abbrev pub Marks : Type 0
-Marks = List (List ℕ × ℕ)
-
-abbrev pub Base : Type 0
-Base = Option (List ℕ)
-
 -- the view at another place of the chain
-pub session_at : (iri : Base) (base t : State) (ns : List Change) (j : ℕ) (marks : Marks) → IsKept base t ns j → session_from iri (base_of t ns j) ns j marks ≡ session_from iri base ns j marks
-session_at iri base t ns j marks c = ap (λ b. session_from iri b ns j marks) (base_of-kept base t ns j c)
+pub session_at : (iri : Base) (base t : State) (ns : List Change) (j : ℕ) (marks : Marks) → IsKept base t ns j marks → session_from iri (base_of t ns j) ns j marks ≡ session_from iri base ns j marks
+session_at iri base t ns j marks c = ap (λ b. session_from iri b ns j marks) (base_of-kept base t ns j marks c)
 
-module _ (iri : Base) (base s : State) (ns : List Change) (k : ℕ) (marks : Marks) (c : IsKept base s ns k) (o : Session) (view : session_from iri base ns k marks ≡ o) where
+module _ (iri : Base) (base s : State) (ns : List Change) (k : ℕ) (marks : Marks) (c : IsKept base s ns k marks) (o : Session) (view : session_from iri base ns k marks ≡ o) where
   abbrev pub old_session : Session
   old_session = session_from iri base ns k marks
 
   -- going to another place of the chain
-  pub step_to : (t : State) (j : ℕ) (counts : Counts) → IsKept base t ns j → counts.added ≡ set.len (net_between s t).added → counts.removed ≡ set.len (net_between s t).removed → (session_from iri (base_of t ns j) ns j marks ≡ session_from iri base ns j marks) × (counts ≡ counts_between (now old_session) (now (session_from iri (base_of t ns j) ns j marks)))
+  pub step_to : (t : State) (j : ℕ) (counts : Counts) → IsKept base t ns j marks → counts.added ≡ set.len (net_between s t).added → counts.removed ≡ set.len (net_between s t).removed → (session_from iri (base_of t ns j) ns j marks ≡ session_from iri base ns j marks) × (counts ≡ counts_between (now old_session) (now (session_from iri (base_of t ns j) ns j marks)))
   step_to t j counts d a r =
       let there = session_at iri base t ns j marks d in
       (there, same_counts counts s t a r ∙ ap (λ x. counts_between x t) c.current ∙ ap (counts_between (now old_session)) d.current ∙ ap (λ x. counts_between (now old_session) (now x)) (sym there))
@@ -110,9 +111,13 @@ module _ (iri : Base) (base s : State) (ns : List Change) (k : ℕ) (marks : Mar
   pub all_sound : AllByRecursion IsSound (all_states o)
   all_sound = subst (λ x. AllByRecursion IsSound (all_states x)) view (c.sound, after_sound base ns c.nets)
 
-  -- its cursor lies in the list of these
-  pub placed_there : IsPlaced o
-  placed_there = subst IsPlaced view (rw (length-states_after base ns) c.within)
+  -- its cursor and marks lie in the list of these
+  pub whole : IsWholeSession o
+  whole = subst IsWholeSession view (record { cursor = rw (length-states_after base ns) c.within; marks = rw (length-states_after base ns) c.marks_within })
+
+  -- a name that is put at the cursor lies there too
+  pub marked_kept : (name : List ℕ) → IsKept base s ns k (filter (λ m. not (is_named name m)) marks ++ (name, k) ∷ [])
+  marked_kept name = record { sound = c.sound; nets = c.nets; current = c.current; within = c.within; marks_within = lie_marked _ k name marks c.within c.marks_within }
 
   pub now_is : s ≡ now o
   now_is = c.current ∙ ap now view
@@ -132,29 +137,29 @@ module _ (iri : Base) (base s : State) (ns : List Change) (k : ℕ) (marks : Mar
   begins_here e b = (b.0, b.1, b.2 ∙ ap (λ x. net_between x b.0) (sym now_is))
 
   -- an undo over the entry e
-  pub undo_step : (t : State) (counts : Counts) (e : Change) → 0 < k → e ≡ get_or ns (k - 1) e → ((start : State) → e ≡ net_between start s → t ≡ start) → counts.added ≡ set.len e.removed → counts.removed ≡ set.len e.added → IsKept base t ns (k - 1) × Step o Undo (Changed counts) (session_from iri (base_of t ns (k - 1)) ns (k - 1) marks)
+  pub undo_step : (t : State) (counts : Counts) (e : Change) → 0 < k → e ≡ get_or ns (k - 1) e → ((start : State) → e ≡ net_between start s → t ≡ start) → counts.added ≡ set.len e.removed → counts.removed ≡ set.len e.added → IsKept base t ns (k - 1) marks × Step o Undo (Changed counts) (session_from iri (base_of t ns (k - 1)) ns (k - 1) marks)
   undo_step t counts e h is ends a r =
       let n = undo_entry e h is in
       let back = ends (at base ns (k - 1) base) n in
-      let there = kept_at base s t ns k (k - 1) c (omega (arith, c.within)) back in
+      let there = kept_at base s t ns k (k - 1) marks c (omega (arith, c.within)) back in
       let n' : e ≡ net_between t s = n ∙ ap (λ x. net_between x s) (sym back) in
       let st = step_to t (k - 1) counts there (a ∙ ap (λ (x : Change). set.len x.removed) n') (r ∙ ap (λ (x : Change). set.len x.added) n') in
       (there, subst (λ x. Step x Undo (Changed counts) (session_from iri (base_of t ns (k - 1)) ns (k - 1) marks)) view (h, st.0, st.1))
 
-  pub redo_step : (t : State) (counts : Counts) (e : Change) → k < length ns → e ≡ get_or ns k e → ((end : State) → e ≡ net_between s end → t ≡ end) → counts.added ≡ set.len e.added → counts.removed ≡ set.len e.removed → IsKept base t ns (k + 1) × Step o Redo (Changed counts) (session_from iri (base_of t ns (k + 1)) ns (k + 1) marks)
+  pub redo_step : (t : State) (counts : Counts) (e : Change) → k < length ns → e ≡ get_or ns k e → ((end : State) → e ≡ net_between s end → t ≡ end) → counts.added ≡ set.len e.added → counts.removed ≡ set.len e.removed → IsKept base t ns (k + 1) marks × Step o Redo (Changed counts) (session_from iri (base_of t ns (k + 1)) ns (k + 1) marks)
   redo_step t counts e h is ends a r =
       let n = redo_entry e h is in
       let on = ends (at base ns (k + 1) base) n in
-      let there = kept_at base s t ns k (k + 1) c (omega (arith, h)) on in
+      let there = kept_at base s t ns k (k + 1) marks c (omega (arith, h)) on in
       let n' : e ≡ net_between s t = n ∙ ap (net_between s) (sym on) in
       let st = step_to t (k + 1) counts there (a ∙ ap (λ (x : Change). set.len x.added) n') (r ∙ ap (λ (x : Change). set.len x.removed) n') in
       (there, subst (λ x. Step x Redo (Changed counts) (session_from iri (base_of t ns (k + 1)) ns (k + 1) marks)) view (rw (length-states_after base ns) h, st.0, st.1))
 
   -- a rollback to the place j over one net
-  pub rollback_step : (name : List ℕ) (t : State) (counts : Counts) (e : Change) (j : ℕ) → j ≤ k → place_of name old_session.states ≡ Some j → e ≡ net_between (at base ns j base) s → ((start : State) → e ≡ net_between start s → t ≡ start) → counts.added ≡ set.len e.removed → counts.removed ≡ set.len e.added → IsKept base t ns j × Step o (Rollback name) (Changed counts) (session_from iri (base_of t ns j) ns j marks)
+  pub rollback_step : (name : List ℕ) (t : State) (counts : Counts) (e : Change) (j : ℕ) → j ≤ k → place_of name old_session.states ≡ Some j → e ≡ net_between (at base ns j base) s → ((start : State) → e ≡ net_between start s → t ≡ start) → counts.added ≡ set.len e.removed → counts.removed ≡ set.len e.added → IsKept base t ns j marks × Step o (Rollback name) (Changed counts) (session_from iri (base_of t ns j) ns j marks)
   rollback_step name t counts e j h found n ends a r =
       let back = ends (at base ns j base) n in
-      let there = kept_at base s t ns k j c (omega (arith, h, c.within)) back in
+      let there = kept_at base s t ns k j marks c (omega (arith, h, c.within)) back in
       let n' : e ≡ net_between t s = n ∙ ap (λ x. net_between x s) (sym back) in
       let st = step_to t j counts there (a ∙ ap (λ (x : Change). set.len x.removed) n') (r ∙ ap (λ (x : Change). set.len x.added) n') in
       (there, subst (λ x. Step x (Rollback name) (Changed counts) (session_from iri (base_of t ns j) ns j marks)) view (j, found, h, st.0, st.1))
@@ -180,12 +185,18 @@ module _ (iri : Base) (base s : State) (ns : List Change) (k : ℕ) (marks : Mar
   rollback_refused name t same = subst (λ x. Step x (Rollback name) (Refused NoMemory) (session_from iri (base_of t ns k) ns k marks)) view (tt, ap (λ x. session_from iri (base_of x ns k) ns k marks) same ∙ session_at iri base s ns k marks c)
 
   -- an accepted request
-  pub accept_step : (t after : State) (counts : Counts) (e : Change) (ns' : List Change) (j : ℕ) (marks' : Marks) → IsSound after → e ≡ net_between s after → ((end : State) → e ≡ net_between s end → t ≡ end) → ns' ≡ take k ns ++ e ∷ [] → j ≡ k + 1 → marks' ≡ filter (λ m. nat_le m.1 k) marks → counts.added ≡ set.len e.added → counts.removed ≡ set.len e.removed → IsKept base t ns' j × ((session_from iri (base_of t ns' j) ns' j marks' ≡ accepted after o) × (counts ≡ counts_between (now o) after))
+  pub accept_step : (t after : State) (counts : Counts) (e : Change) (ns' : List Change) (j : ℕ) (marks' : Marks) → IsSound after → e ≡ net_between s after → ((end : State) → e ≡ net_between s end → t ≡ end) → ns' ≡ take k ns ++ e ∷ [] → j ≡ k + 1 → marks' ≡ filter (λ m. nat_le m.1 k) marks → counts.added ≡ set.len e.added → counts.removed ≡ set.len e.removed → IsKept base t ns' j marks' × ((session_from iri (base_of t ns' j) ns' j marks' ≡ accepted after o) × (counts ≡ counts_between (now o) after))
   accept_step t after counts e ns' j marks' sound n ends pn pj pm a r =
       let x = extended base ns k base e after c.nets c.within sound (n ∙ ap (λ y. net_between y after) c.current) in
       let on = ends after n in
-      let there : IsKept base t (take k ns ++ e ∷ []) (k + 1) = record { sound = c.sound; nets = x.0; current = on ∙ sym x.2 ∙ ap (λ i. at base (take k ns ++ e ∷ []) i base) (sym (add-one k)); within = rw (length-extended ns k e c.within) (omega arith) } in
       let marks'' : Marks = filter (λ m. nat_le m.1 k) marks in
+      let there : IsKept base t (take k ns ++ e ∷ []) (k + 1) marks'' = record {
+        sound = c.sound;
+        nets = x.0;
+        current = on ∙ sym x.2 ∙ ap (λ i. at base (take k ns ++ e ∷ []) i base) (sym (add-one k));
+        within = rw (length-extended ns k e c.within) (omega arith);
+        marks_within = lie_kept _ k marks (rw (length-extended ns k e c.within) (omega arith));
+      } in
       rw (pn, pj, pm) (
         there,
         subst (λ y. (session_from iri (base_of t (take k ns ++ e ∷ []) (k + 1)) (take k ns ++ e ∷ []) (k + 1) marks'' ≡ accepted after y) × (counts ≡ counts_between (now y) after)) view (
@@ -195,7 +206,7 @@ module _ (iri : Base) (base s : State) (ns : List Change) (k : ℕ) (marks : Mar
       )
 
   -- the same for each state that the net may lead to
-  pub accepted_any : (t : State) (counts : Counts) (e : Change) (ns' : List Change) (j : ℕ) (marks' : Marks) → Begins e (now o) → ((end : State) → e ≡ net_between s end → t ≡ end) → ns' ≡ take k ns ++ e ∷ [] → j ≡ k + 1 → marks' ≡ filter (λ m. nat_le m.1 k) marks → counts.added ≡ set.len e.added → counts.removed ≡ set.len e.removed → IsKept base t ns' j × ((after : State) → e ≡ net_between (now o) after → (session_from iri (base_of t ns' j) ns' j marks' ≡ accepted after o) × (counts ≡ counts_between (now o) after))
+  pub accepted_any : (t : State) (counts : Counts) (e : Change) (ns' : List Change) (j : ℕ) (marks' : Marks) → Begins e (now o) → ((end : State) → e ≡ net_between s end → t ≡ end) → ns' ≡ take k ns ++ e ∷ [] → j ≡ k + 1 → marks' ≡ filter (λ m. nat_le m.1 k) marks → counts.added ≡ set.len e.added → counts.removed ≡ set.len e.removed → IsKept base t ns' j marks' × ((after : State) → e ≡ net_between (now o) after → (session_from iri (base_of t ns' j) ns' j marks' ≡ accepted after o) × (counts ≡ counts_between (now o) after))
   unfolding begins_here
   accepted_any t counts e ns' j marks' b ends pn pj pm a r =
       let h = begins_here e b in

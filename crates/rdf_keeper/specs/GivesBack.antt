@@ -1,7 +1,7 @@
 -- What undo, redo and rollback give back, and what refusals leave.
 use Rattle.std.specs.Prelude.{◌≡◌, ℕ, ◌≤◌, List, [], ◌∷◌, length, Option}
-use Rattle.std.specs.List.{AllByRecursion}
 use Rattle.rdf_dataset.specs.State.{State}
+use Rattle.rdf_keeper.specs.History.{LieIn}
 use Rattle.rdf_keeper.specs.Law.{Run}
 use Rattle.rdf_keeper.specs.Request.{Request}
 use Rattle.rdf_keeper.specs.Session.{Session, Command, Reply, Do, Undo, Redo, Mark, Rollback, Changed, Done, Refused, Step, counts_between, fresh, now}
@@ -15,7 +15,7 @@ IsPlaced s = s.states.cursor ≤ length s.states.items
 -- and so does each mark
 pub record IsWholeSession (s : Session) : Type 0 where
   pub cursor : IsPlaced s
-  pub marks : AllByRecursion (λ m. m.1 ≤ length s.states.items) s.states.marks
+  pub marks : LieIn (length s.states.items) s.states.marks
 
 -- After any commands with any replies a session that began without history is whole.
 abbrev pub RunsAreWhole : Type 0

@@ -1,6 +1,7 @@
 -- What a keeper holds, seen as a session: the dataset is the state now, the entries are the nets between neighbours.
 use Rattle.std.specs.Prelude.{◌≡◌, ℕ, ◌≤◌, List, [], ◌∷◌, length, take, slice_index_or, Option}
 use Rattle.rdf_dataset.specs.State.{State, Change, IsSound, net_between, applied, turned}
+use Rattle.rdf_keeper.specs.History.{LieIn}
 use Rattle.rdf_keeper.specs.Session.{Session}
 
 -- the state before the changes, from the one after them
@@ -26,12 +27,13 @@ session_from base_iri base entries cursor marks =
 abbrev pub base_of : State → List Change → ℕ → State
 base_of now entries cursor = before_all (take cursor entries) now
 
--- the entries are the nets of the session, and the dataset is at the cursor
-pub record IsKept (base now : State) (entries : List Change) (cursor : ℕ) : Type 0 where
+-- the entries are the nets of the session, the dataset is at the cursor, and cursor and marks lie in the list
+pub record IsKept (base now : State) (entries : List Change) (cursor : ℕ) (marks : List (List ℕ × ℕ)) : Type 0 where
   pub sound : IsSound base
   pub nets : AreNets base entries
   pub current : now ≡ slice_index_or (base ∷ states_after base entries) cursor base
   pub within : cursor ≤ length entries
+  pub marks_within : LieIn (length entries) marks
 
 -- the nets between neighbours
 abbrev pub nets_between : State → List State → List Change

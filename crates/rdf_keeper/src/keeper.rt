@@ -3,7 +3,7 @@ ghost use Rattle.std.specs.Prelude.{◌≡◌, ℕ, List, ◌+◌, ◌≤◌, �
 ghost use Rattle.std.specs.FinSet as set;
 ghost use Rattle.std.specs.List.{AllByRecursion, concat};
 ghost use Rattle.rdf_dataset.specs.State.{Begins, empty_state, IsSound, State, net_between};
-ghost use Rattle.rdf_keeper.specs.GivesBack.{IsPlaced};
+ghost use Rattle.rdf_keeper.specs.GivesBack.{IsWholeSession};
 ghost use Rattle.rdf_keeper.specs.Kept.{AreNets, nets_between, states_after};
 ghost use Rattle.rdf_dataset.specs.Sorted.{ListsSorted};
 ghost use Rattle.rdf_keeper.specs.Listing.{ListsQuads};
@@ -22,7 +22,7 @@ use std::alloc::Global;
 use std::marker::Model;
 
 /// A dataset with its history: the state now, the net of each accepted request, and marks.
-/// A contract sees the session.
+/// A contract sees the session, whose cursor and marks always lie in its list of states.
 #[derive(Drop)]
 pub struct Keeper {
     base_iri: Option<Iri>,
@@ -43,7 +43,7 @@ impl Model for Keeper {
 
     ghost view = { λ k. session_from k.base_iri (base_of k.dataset k.entries.items k.cursor) k.entries.items k.cursor k.marks };
 
-    ghost invariant = { λ k. IsKept (base_of k.dataset k.entries.items k.cursor) k.dataset k.entries.items k.cursor };
+    ghost invariant = { λ k. IsKept (base_of k.dataset k.entries.items k.cursor) k.dataset k.entries.items k.cursor k.marks };
 }
 
 impl Keeper {
@@ -227,11 +227,12 @@ impl Keeper {
         copies(self.alloc, self.dataset.names_sorted())
     }
 
-    /// The number of the next blank node now. It takes no memory.
+    /// The number of the next blank node now. It takes no memory. Each state of any keeper is sound, and its cursor and
+    /// each of its marks lie in the list of states.
     pub fn next_blank(&self) -> u64
         ensures value { result ≡ (now self.now).next }
         ensures sound { AllByRecursion IsSound (all_states self.now) }
-        ensures placed { IsPlaced self.now }
+        ensures whole { IsWholeSession self.now }
     {
         Source::next_blank(&self.dataset)
     }

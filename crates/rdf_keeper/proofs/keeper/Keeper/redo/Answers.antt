@@ -23,7 +23,7 @@ returns-in_err-commit c =
 
 pub invariant_of-self-2 : goal.invariant_of-self-2
 invariant_of-self-2 c =
-    kept _ _ _ _ (redo_step _ _ _ _ _ c.self.inside.marks c.self.invariant _ c.self.view_is c.commit.new.self c.counts_of-counts.result _ (below _ _ _ _ c.self.invariant.within c.len.ensures c.self.inside.entries.ok.0 c.if-self-len.false) c.index-entry.ensures c.in_ok-commit.ensures.ok c.counts_of-counts.ensures.added c.counts_of-counts.ensures.removed).0
+    kept _ _ _ _ _ (redo_step _ _ _ _ _ c.self.inside.marks c.self.invariant _ c.self.view_is c.commit.new.self c.counts_of-counts.result _ (below _ _ _ _ c.self.invariant.within c.len.ensures c.self.inside.entries.ok.0 c.if-self-len.false) c.index-entry.ensures c.in_ok-commit.ensures.ok c.counts_of-counts.ensures.added c.counts_of-counts.ensures.removed).0
 
 pub returns : goal.returns
 returns c =

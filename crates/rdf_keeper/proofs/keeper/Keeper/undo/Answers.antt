@@ -17,7 +17,7 @@ returns-in_err-revert c =
 
 pub invariant_of-self-2 : goal.invariant_of-self-2
 invariant_of-self-2 c =
-    kept _ _ _ _ (undo_step _ _ _ _ _ c.self.inside.marks c.self.invariant _ c.self.view_is c.revert.new.self c.back_counts_of-counts.result _ (above_zero _ c.if-self-eq0.false) c.index-entry.ensures c.in_ok-revert.ensures.ok c.back_counts_of-counts.ensures.added c.back_counts_of-counts.ensures.removed).0
+    kept _ _ _ _ _ (undo_step _ _ _ _ _ c.self.inside.marks c.self.invariant _ c.self.view_is c.revert.new.self c.back_counts_of-counts.result _ (above_zero _ c.if-self-eq0.false) c.index-entry.ensures c.in_ok-revert.ensures.ok c.back_counts_of-counts.ensures.added c.back_counts_of-counts.ensures.removed).0
 
 pub returns : goal.returns
 returns c =
