@@ -17,6 +17,7 @@ mod line;
 mod list;
 mod meaning;
 mod name;
+mod names;
 mod number;
 mod parser;
 mod placed;

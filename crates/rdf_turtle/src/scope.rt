@@ -10,12 +10,13 @@ ghost use Rattle.rdf_turtle.specs.Values as values;
 
 use crate::fault::TurtleFaultKind;
 use crate::key::Key;
+use crate::names::Names;
 use crate::slice::Slice;
 use crate::tree::Name;
-use crate::value::{iri_value, local_value};
+use crate::value::iri_value;
 use crate::vocabulary::Vocabulary;
 use indexmap::IndexMap;
-use rdf_terms::{GraphName, Iri, IriFault, NoMemory, Quad, Term, Text, resolve};
+use rdf_terms::{GraphName, Iri, IriFault, NoMemory, Quad, Term, resolve};
 use std::alloc::Global;
 use std::marker::Model;
 
@@ -35,38 +36,6 @@ fn resolve_reference(
     }
 }
 
-fn joined(alloc: Global, front: &str, back: &str) -> Result<Text, NoMemory>
-    ensures { IfOk result (λ text. text ≡ front.now ++ back.now) }
-{
-    let mut text = String::with_capacity(alloc, front.len().saturating_add(back.len()))?;
-    text.push_str(front)?;
-    text.push_str(back)?;
-    Text::from_string(text)
-}
-
-// The text, and what the local part behind it stands for.
-fn joined_local(alloc: Global, front: &str, local: &Slice<'_>) -> Result<Text, NoMemory>
-    ensures { IfOk result (λ text. text ≡ front.now ++ values.local_value local.now) }
-{
-    let part = local.as_str();
-    if !part.contains('\\') {
-        return joined(alloc, front, part);
-    }
-    let value = local_value(alloc, local)?;
-    joined(alloc, front, value.as_str())
-}
-
-/// The text, which must be an IRI.
-#[tactic(auto, unfolding(crate::specs::References::iri_text))]
-fn iri_text(text: Text) -> Result<Iri, TurtleFaultKind>
-    ensures { Finds (references.iri_text text) result }
-{
-    match Iri::from_text(text) {
-        Ok(iri) => Ok(iri),
-        Err(_) => Err(TurtleFaultKind::Relative),
-    }
-}
-
 /// Base, prefixes, labels and the next number, with the triples said so far; and where the name
 /// stands that was looked at last.
 #[derive(Drop)]
@@ -76,6 +45,7 @@ pub(crate) struct Scope<'a> {
     at: usize,
     base: Option<Iri>,
     prefixes: IndexMap<Key<'a>, Iri>,
+    names: Names<'a>,
     labels: IndexMap<Key<'a>, u64>,
     next: u64,
     quads: Vec<Quad>,
@@ -100,6 +70,7 @@ impl<'a> Scope<'a> {
             at: 0,
             base,
             prefixes: IndexMap::new(alloc),
+            names: Names::new(alloc)?,
             labels: IndexMap::new(alloc),
             next: 0,
             quads: Vec::new(alloc),
@@ -209,11 +180,10 @@ impl<'a> Scope<'a> {
         ensures { Gives (meaning.known (meaning.iri_of (Name.Prefixed prefix.now local.now)) self.old) result self.new }
     {
         self.look_at(prefix);
-        let Some(iri) = self.prefixes.get(&Key::of(prefix)) else {
+        let Some(front) = self.prefixes.get(&Key::of(prefix)) else {
             return Err(TurtleFaultKind::Relative);
         };
-        let text = joined_local(self.alloc, iri.as_str(), local)?;
-        Ok(iri_text(text)?)
+        self.names.iri(self.alloc, front, local)
     }
 
     /// The IRI of a name.

@@ -1,0 +1,135 @@
+//! The IRIs of prefixed names, kept for the next time that a name stands in the text.
+ghost use Rattle.std.specs.Prelude.{◌≡◌, ◌++◌, IfOk, IfSome};
+ghost use Rattle.rdf_turtle.specs.References as references;
+ghost use Rattle.rdf_turtle.specs.Kept.{Finds};
+ghost use Rattle.rdf_turtle.specs.Values as values;
+
+use crate::fault::TurtleFaultKind;
+use crate::slice::Slice;
+use crate::value::local_value;
+use rdf_terms::{Iri, NoMemory, Text};
+use std::alloc::Global;
+
+fn joined(alloc: Global, front: &str, back: &str) -> Result<Text, NoMemory>
+    ensures { IfOk result (λ text. text ≡ front.now ++ back.now) }
+{
+    let mut text = String::with_capacity(alloc, front.len().saturating_add(back.len()))?;
+    text.push_str(front)?;
+    text.push_str(back)?;
+    Text::from_string(text)
+}
+
+// The text, and what the local part behind it stands for.
+fn joined_local(alloc: Global, front: &str, local: &Slice<'_>) -> Result<Text, NoMemory>
+    ensures { IfOk result (λ text. text ≡ front.now ++ values.local_value local.now) }
+{
+    let part = local.as_str();
+    if !part.contains('\\') {
+        return joined(alloc, front, part);
+    }
+    let value = local_value(alloc, local)?;
+    joined(alloc, front, value.as_str())
+}
+
+/// The text, which must be an IRI.
+#[tactic(auto, unfolding(crate::specs::References::iri_text))]
+fn iri_text(text: Text) -> Result<Iri, TurtleFaultKind>
+    ensures found { Finds (references.iri_text text) result }
+    ensures value { IfOk result (λ iri. iri ≡ text) }
+{
+    match Iri::from_text(text) {
+        Ok(iri) => Ok(iri),
+        Err(_) => Err(TurtleFaultKind::Relative),
+    }
+}
+
+/// How many names are kept at once.
+const PLACES: usize = 256;
+
+// The place at which a name with this local part is kept.
+fn place_of(local: &str) -> usize {
+    let mut mixed = 0usize;
+    for byte in local.as_bytes() {
+        mixed = mixed.wrapping_mul(31).wrapping_add(*byte as usize);
+    }
+    mixed % PLACES
+}
+
+// A name: what its prefix stands for, its local part, and the IRI that it stands for.
+#[derive(Drop)]
+struct KeptName<'a> {
+    front: Iri,
+    local: Slice<'a>,
+    iri: Iri,
+    ghost joined: { iri ≡ front ++ values.local_value local },
+}
+
+/// Names that were looked at, with their IRIs. A copy of an IRI shares its text, so a name that is
+/// kept is told again without a text of its own. Of the names with one place the last is kept.
+#[derive(Drop)]
+pub(crate) struct Names<'a> {
+    places: Vec<Option<KeptName<'a>>>,
+}
+
+impl<'a> Names<'a> {
+    /// No names.
+    pub(crate) fn new(alloc: Global) -> Result<Names<'a>, NoMemory> {
+        let mut places = Vec::with_capacity(alloc, PLACES)?;
+        for _ in 0..PLACES {
+            places.push(None)?;
+        }
+        Ok(Names { places })
+    }
+
+    // The IRI of a name that is kept.
+    fn kept(&self, front: &Iri, local: &Slice<'a>) -> Result<Option<Iri>, NoMemory>
+        ensures { IfOk result (λ kept. IfSome kept (λ iri. iri ≡ front.now ++ values.local_value local.now)) }
+    {
+        match self.places.get(place_of(local.as_str())) {
+            Some(Some(name)) => {
+                if name.local.as_str() == local.as_str() && name.front == *front {
+                    Ok(Some(name.iri.copy()?))
+                } else {
+                    Ok(None)
+                }
+            }
+            _ => Ok(None),
+        }
+    }
+
+    // Keeps a name with its IRI.
+    fn keep(&mut self, front: &Iri, local: &Slice<'a>, iri: &Iri) -> Result<(), NoMemory>
+        requires { iri.now ≡ front.now ++ values.local_value local.now }
+    {
+        let name = KeptName {
+            front: front.copy()?,
+            local: local.fork(),
+            iri: iri.copy()?,
+        };
+        if let Some(place) = self.places.get_mut(place_of(local.as_str())) {
+            *place = Some(name);
+        }
+        Ok(())
+    }
+
+    /// The IRI of a name (Turtle 1.1, section 2.4): what its prefix stands for, and what its local
+    /// part does.
+    #[tactic(auto, unfolding(crate::specs::References::iri_text))]
+    pub(crate) fn iri(
+        &mut self,
+        alloc: Global,
+        front: &Iri,
+        local: &Slice<'a>,
+    ) -> Result<Iri, TurtleFaultKind>
+        ensures { Finds (references.iri_text (front.now ++ values.local_value local.now)) result }
+    {
+        if let Some(iri) = self.kept(front, local)? {
+            let _ = iri.as_str();
+            return Ok(iri);
+        }
+        let text = joined_local(alloc, front.as_str(), local)?;
+        let iri = iri_text(text)?;
+        self.keep(front, local, &iri)?;
+        Ok(iri)
+    }
+}
