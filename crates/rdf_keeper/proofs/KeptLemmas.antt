@@ -115,9 +115,9 @@ module _ (iri : Base) (base s : State) (ns : List Change) (k : ℕ) (marks : Mar
   pub whole : IsWholeSession o
   whole = subst IsWholeSession view (record { cursor = rw (length-states_after base ns) c.within; marks = rw (length-states_after base ns) c.marks_within })
 
-  -- a name that is put at the cursor lies there too
-  pub marked_kept : (name : List ℕ) → IsKept base s ns k (filter (λ m. not (is_named name m)) marks ++ (name, k) ∷ [])
-  marked_kept name = record { sound = c.sound; nets = c.nets; current = c.current; within = c.within; marks_within = lie_marked _ k name marks c.within c.marks_within }
+  -- a name that is put at a place of the list lies there too
+  pub marked_kept : (name : List ℕ) (j : ℕ) → j ≤ length ns → IsKept base s ns k (filter (λ m. not (is_named name m)) marks ++ (name, j) ∷ [])
+  marked_kept name j h = record { sound = c.sound; nets = c.nets; current = c.current; within = c.within; marks_within = lie_marked _ j name marks h c.marks_within }
 
   pub now_is : s ≡ now o
   now_is = c.current ∙ ap now view
