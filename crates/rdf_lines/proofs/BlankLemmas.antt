@@ -11,7 +11,8 @@ use Rattle.rdf_lines.specs.declared.statement.Object.{Object}
 use Rattle.rdf_lines.specs.declared.statement.Object.TheVariants.{Node as OfNode, Literal as OfLiteral}
 use Rattle.rdf_lines.specs.declared.statement.Statement.{Statement}
 use Rattle.rdf_lines.specs.Labels.{labels_in, labels_in_object, labels_in_graph, labels_of, noted, all_noted, number_of, term_in, object_in, graph_in, quad_in}
-use Rattle.rdf_lines.specs.Blanks.{blanks_in, blanks_in_graph, blanks_of, BlankNumbersAreBelow}
+use Rattle.rdf_terms.specs.Blanks.{blanks_in, blanks_in_graph, blanks_of}
+use Rattle.rdf_lines.specs.Blanks.{BlankNumbersAreBelow}
 use Rattle.rdf_terms.specs.Quad.{has_right_kinds}
 use Rattle.rdf_lines.proofs.LabelLemmas.{has, noted-own, all_noted-has, all_noted-number, right_kinds}
 

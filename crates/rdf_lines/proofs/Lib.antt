@@ -19,7 +19,7 @@ pub mod SortLemmas
 pub mod SoundLemmas
 pub mod StepLemmas
 pub mod TermLemmas
+pub mod WrittenLabelLemmas
 pub mod WrittenLineLemmas
 pub mod WrittenPieceLemmas
 pub mod WrittenTagLemmas
-pub mod WrittenTextLemmas

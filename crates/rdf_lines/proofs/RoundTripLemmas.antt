@@ -16,6 +16,9 @@ use Rattle.rdf_terms.specs.declared.term.Term.TheVariants.{Blank, Iri, Literal}
 use Rattle.rdf_terms.specs.declared.quad.GraphName.{GraphName}
 use Rattle.rdf_terms.specs.declared.quad.GraphName.TheVariants.{Default, Named}
 use Rattle.rdf_terms.specs.declared.quad.Quad.{Quad}
+use Rattle.rdf_terms.proofs.AsciiLemmas.{utf8_one, utf8_cons, chars_one, chars_cons}
+use Rattle.rdf_terms.proofs.WrittenIriLemmas.{iri_scheme}
+use Rattle.rdf_terms.proofs.WrittenTermLemmas.{term_utf8}
 use Rattle.rdf_lines.specs.declared.fault.FaultKind.{FaultKind}
 use Rattle.rdf_lines.specs.declared.format.LineFormat.TheVariants.{NQuads}
 use Rattle.rdf_lines.specs.declared.statement.Node.{Node}
@@ -27,7 +30,7 @@ use Rattle.rdf_lines.specs.Line.{Says, IsAbsoluteNode, IsAbsoluteObject, IsAbsol
 use Rattle.rdf_lines.specs.QuadText.{graph_text, quad_text}
 use Rattle.rdf_lines.specs.RoundTrip.{label_of, node_of, predicate_of, object_of, graph_of, statement_of, EachLineIsReadBack, LinesDiffer}
 use Rattle.rdf_lines.proofs.LineLaws.{one_answer}
-use Rattle.rdf_lines.proofs.WrittenPieceLemmas.{utf8_one, utf8_cons, chars_one, chars_cons, term_utf8, iri_scheme, predicate_back, node_back, object_back}
+use Rattle.rdf_lines.proofs.WrittenPieceLemmas.{predicate_back, node_back, object_back}
 
 -- ---- a quad's test
 

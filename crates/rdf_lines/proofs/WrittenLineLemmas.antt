@@ -15,15 +15,18 @@ use Rattle.rdf_terms.specs.declared.term.Term.TheVariants.{Blank, Iri, Literal}
 use Rattle.rdf_terms.specs.declared.quad.GraphName.{GraphName}
 use Rattle.rdf_terms.specs.declared.quad.GraphName.TheVariants.{Default, Named}
 use Rattle.rdf_terms.specs.declared.quad.Quad.{Quad}
+use Rattle.rdf_terms.proofs.SkipLemmas.{AllPass}
+use Rattle.rdf_terms.proofs.TagForms.{tag_name}
+use Rattle.rdf_terms.proofs.WrittenIriLemmas.{iri_allowed}
+use Rattle.rdf_terms.proofs.WrittenNumberLemmas.{is_digit, decimal_digits}
+use Rattle.rdf_terms.proofs.WrittenTermLemmas.{tag_parts, literal_parts}
+use Rattle.rdf_terms.proofs.WrittenTextLemmas.{by_escape}
 use Rattle.rdf_lines.specs.declared.format.LineFormat.TheVariants.{NQuads}
 use Rattle.rdf_lines.specs.Lines.{lines_behind, lines, onto_first, is_line_feed, is_return}
 use Rattle.rdf_lines.specs.Document.{Reads}
 use Rattle.rdf_lines.specs.QuadText.{quad_text}
 use Rattle.rdf_lines.specs.RoundTrip.{statement_of}
-use Rattle.rdf_lines.proofs.WrittenTextLemmas.{AllPass, is_digit, by_escape, decimal_digits}
-use Rattle.rdf_terms.proofs.TagForms.{tag_name}
 use Rattle.rdf_lines.proofs.WrittenTagLemmas.{is_end, tag_no_end}
-use Rattle.rdf_lines.proofs.WrittenPieceLemmas.{iri_allowed, tag_parts, literal_parts}
 use Rattle.rdf_lines.proofs.RoundTripLemmas.{QuadTests, quad_tests, end_text, line_of, quad_line, says_statement}
 
 abbrev NoEnd : List ℕ → Type 0

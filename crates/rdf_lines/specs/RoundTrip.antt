@@ -1,5 +1,5 @@
 -- What is written is read back (RDF 1.1 N-Quads, section 2; RDF 1.1 N-Triples, section 4).
-use Rattle.std.specs.Prelude.{◌≡◌, ℕ, ◌<◌, IsTrue, List, ◌∷◌, ◌++◌, codes, decimal, map, Option, Some, None, Ok, Contains, IsPermutation, IsSorted}
+use Rattle.std.specs.Prelude.{◌≡◌, ℕ, IsTrue, List, ◌++◌, codes, decimal, map, Option, Some, None, Ok, Contains, IsPermutation, IsSorted}
 use Rattle.std.specs.List.{flat_map, AllByRecursion}
 use Rattle.rdf_terms.specs.Order.{quad_cmp}
 use Rattle.rdf_terms.specs.Quad.{is_quad}
@@ -15,7 +15,7 @@ use Rattle.rdf_lines.specs.declared.statement.Object.{Object}
 use Rattle.rdf_lines.specs.declared.statement.Object.TheVariants as object
 use Rattle.rdf_lines.specs.declared.statement.Statement.{Statement}
 use Rattle.rdf_lines.specs.Line.{Says}
-use Rattle.rdf_lines.specs.Blanks.{blanks_of}
+use Rattle.rdf_terms.specs.Blanks.{AreNumberedInOrder, blanks_of}
 use Rattle.rdf_lines.specs.Document.{IsDocument}
 use Rattle.rdf_lines.specs.QuadText.{quad_text, IsSortedText}
 
@@ -96,11 +96,6 @@ abbrev pub SortedTextsAreReadBack : Type 0
 SortedTextsAreReadBack =
     (quads : List Quad) (text : List ℕ) → AllByRecursion (λ q. IsTrue (is_quad q)) quads → IsSortedText quads text
     → (sorted : List Quad) × IsPermutation quads sorted × IsSorted quad_cmp sorted × SaysRenamed text sorted
-
--- Blank numbers come in order of first appearance, quad after quad and in each its subject, object and graph name: before each
--- number stand all the smaller ones.
-abbrev pub AreNumberedInOrder : List Quad → Type 0
-AreNumberedInOrder quads = (front back : List ℕ) (number smaller : ℕ) → flat_map blanks_of quads ≡ front ++ number ∷ back → smaller < number → Contains front smaller
 
 -- The lines of such quads are a document with no fault, and its quads are the very same.
 abbrev pub NumberedDocumentsAreReadBack : Type 0

@@ -1,4 +1,5 @@
 pub mod AllowedLemmas
+pub mod AsciiLemmas
 pub mod CleanLemmas
 pub mod CutLemmas
 pub mod DotLawLemmas
@@ -26,3 +27,7 @@ pub mod TextLemmas
 pub mod UnescapeLemmas
 pub mod Utf8Lemmas
 pub mod WriteLemmas
+pub mod WrittenIriLemmas
+pub mod WrittenNumberLemmas
+pub mod WrittenTermLemmas
+pub mod WrittenTextLemmas

@@ -44,9 +44,7 @@ pub mod WrittenCuts
 pub mod WrittenLines
 pub mod WrittenMeanings
 pub mod WrittenNumbers
-pub mod WrittenTags
 pub mod WrittenTerms
-pub mod WrittenTexts
 pub mod WrittenTokens
 pub mod WrittenTrees
 mod AnswerLemmas

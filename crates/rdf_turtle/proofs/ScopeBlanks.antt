@@ -21,7 +21,8 @@ use Rattle.rdf_turtle.specs.declared.tree.Node.TheViews.{roll-Node, roll-Propert
 use Rattle.rdf_turtle.specs.declared.tree.Property.{Property}
 use Rattle.rdf_turtle.specs.declared.tree.Statement.{Statement}
 use Rattle.rdf_turtle.specs.declared.tree.Statement.TheVariants as s
-use Rattle.rdf_turtle.specs.Blanks.{BlankNumbersAreBelow, IsTriple, blanks_of}
+use Rattle.rdf_terms.specs.Blanks.{blanks_of}
+use Rattle.rdf_turtle.specs.Blanks.{BlankNumbersAreBelow, IsTriple}
 use Rattle.rdf_turtle.specs.Known.{declares_first}
 use Rattle.rdf_turtle.specs.Values.{iri_value, text_value, tag_value}
 use Rattle.rdf_turtle.specs.References.{resolve}

@@ -10,7 +10,8 @@ use Rattle.indexmap.specs.IndexMap.{insert_entry}
 use Rattle.rdf_terms.specs.Quad.{QuadParts, has_right_kinds}
 use Rattle.rdf_terms.specs.declared.term.Term.{Term}
 use Rattle.rdf_terms.specs.declared.term.Term.TheVariants.{Blank, Iri, Literal}
-use Rattle.rdf_turtle.specs.Blanks.{blanks_in, blanks_of, IsTriple}
+use Rattle.rdf_terms.specs.Blanks.{blanks_in, blanks_of}
+use Rattle.rdf_turtle.specs.Blanks.{IsTriple}
 use Rattle.rdf_turtle.specs.Steps.{Outcome, Step, and_then}
 use Rattle.rdf_turtle.specs.State.{State, Does, same_key, fresh, labelled, labelled_as, triple, says}
 

@@ -13,10 +13,10 @@ use Rattle.rdf_terms.specs.Characters.{is_pn_chars_base, is_pn_chars_u, is_pn_ch
 use Rattle.rdf_terms.specs.Cuts.{before, after}
 use Rattle.rdf_terms.specs.Iri.{is_forbidden, has_forbidden, has_scheme, is_scheme, is_iri}
 use Rattle.rdf_terms.proofs.AllowedLemmas.{all_allowed}
+use Rattle.rdf_terms.proofs.WrittenIriLemmas.{writes_allowed}
 use Rattle.rdf_turtle.specs.Characters.{is_local_escape}
 use Rattle.rdf_turtle.specs.Forms.{IsLocal}
 use Rattle.rdf_turtle.specs.Values.{local_value, IsLocalPiece, piece_value}
-use Rattle.rdf_turtle.proofs.ValueIris.{writes_allowed}
 use Rattle.rdf_turtle.proofs.ValueNames.{local_pieces, local_value_is, apart, part_or_colon, pc_not_backslash}
 
 -- ---- characters that may stand in an IRI

@@ -6,15 +6,17 @@ use Rattle.std.proofs.lemmas.Str.{chars-append, chars-nil, IsUtf8-append, IsUtf8
 use Rattle.rdf_terms.specs.Quad.{may_name_graph, has_right_kinds, is_graph}
 use Rattle.rdf_terms.specs.Term.{is_term, is_literal_term, is_iri_term}
 use Rattle.rdf_terms.specs.TermText.{term_text}
+use Rattle.rdf_terms.specs.declared.term.Term.{Term}
 use Rattle.rdf_terms.specs.declared.quad.GraphName.TheVariants.{Default}
 use Rattle.rdf_terms.specs.declared.quad.Quad.{Quad}
+use Rattle.rdf_terms.proofs.AsciiLemmas.{utf8_cons, chars_cons}
+use Rattle.rdf_terms.proofs.WrittenTermLemmas.{term_utf8}
 use Rattle.rdf_turtle.specs.declared.token.Kind.TheVariants as kind
 use Rattle.rdf_turtle.specs.Document.{HasTokens}
 use Rattle.rdf_turtle.specs.WrittenLaws.{triple_text, IsDefaultQuad}
-use Rattle.rdf_turtle.proofs.WrittenTexts.{utf8_cons, chars_cons}
 use Rattle.rdf_turtle.proofs.WrittenTokens.{dot_token}
 use Rattle.rdf_turtle.proofs.WrittenCuts.{Slice, Cut, HasList, lexemes_of, list_of, cut_white, cut_token, cut_end}
-use Rattle.rdf_turtle.proofs.WrittenTerms.{Written, term_slices, written_term}
+use Rattle.rdf_turtle.proofs.WrittenTerms.{term_slices, written_term}
 
 -- ---- a quad's test
 
@@ -73,18 +75,18 @@ line_is q rest = by (term_text q.subject) (term_text q.predicate) (term_text q.o
 line_utf8 : (q : Quad) (rest : List ℕ) → Tests q → IsUtf8 rest → IsUtf8 (line q rest)
 line_utf8 q rest t u =
     let end = utf8_cons 32 (46 ∷ 10 ∷ rest) (omega arith) (utf8_cons 46 (10 ∷ rest) (omega arith) (utf8_cons 10 rest (omega arith) u)) in
-    let object = IsUtf8-append (term_text q.object) (32 ∷ 46 ∷ 10 ∷ rest) (written_term q.object t.object).utf8 end in
+    let object = IsUtf8-append (term_text q.object) (32 ∷ 46 ∷ 10 ∷ rest) (term_utf8 q.object t.object) end in
     let third = utf8_cons 32 (term_text q.object ++ 32 ∷ 46 ∷ 10 ∷ rest) (omega arith) object in
-    let predicate = IsUtf8-append (term_text q.predicate) (32 ∷ (term_text q.object ++ 32 ∷ 46 ∷ 10 ∷ rest)) (written_term q.predicate t.predicate).utf8 third in
+    let predicate = IsUtf8-append (term_text q.predicate) (32 ∷ (term_text q.object ++ 32 ∷ 46 ∷ 10 ∷ rest)) (term_utf8 q.predicate t.predicate) third in
     let second = utf8_cons 32 (term_text q.predicate ++ 32 ∷ (term_text q.object ++ 32 ∷ 46 ∷ 10 ∷ rest)) (omega arith) predicate in
-    IsUtf8-append (term_text q.subject) (32 ∷ (term_text q.predicate ++ 32 ∷ (term_text q.object ++ 32 ∷ 46 ∷ 10 ∷ rest))) (written_term q.subject t.subject).utf8 second
+    IsUtf8-append (term_text q.subject) (32 ∷ (term_text q.predicate ++ 32 ∷ (term_text q.object ++ 32 ∷ 46 ∷ 10 ∷ rest))) (term_utf8 q.subject t.subject) second
 
 -- a term, a space, and what follows
-term_cut : {text : List ℕ} {slices : List Slice} (rest : List ℕ) (ps : List Slice) → Written text slices → Cut (chars rest) ps → Cut (chars (text ++ 32 ∷ rest)) (slices ++ ps)
-term_cut {text = text} {slices = slices} rest ps w cut =
-    let same : chars (text ++ 32 ∷ rest) ≡ chars text ++ 32 ∷ chars rest =
-    chars-append text (32 ∷ rest) w.utf8 ∙ ap (λ (t : List ℕ). chars text ++ t) (chars_cons 32 rest (omega arith)) in
-    subst (λ (t : List ℕ). Cut t (slices ++ ps)) (sym same) (w.cut (chars rest) ps (cut_white 32 (chars rest) ps refl cut))
+term_cut : (t : Term) (rest : List ℕ) (ps : List Slice) → is_term t ≡ true → Cut (chars rest) ps → Cut (chars (term_text t ++ 32 ∷ rest)) (term_slices t ++ ps)
+term_cut t rest ps h cut =
+    let same : chars (term_text t ++ 32 ∷ rest) ≡ chars (term_text t) ++ 32 ∷ chars rest =
+    chars-append (term_text t) (32 ∷ rest) (term_utf8 t h) ∙ ap (λ (x : List ℕ). chars (term_text t) ++ x) (chars_cons 32 rest (omega arith)) in
+    subst (λ (x : List ℕ). Cut x (term_slices t ++ ps)) (sym same) (written_term t h (chars rest) ps (cut_white 32 (chars rest) ps refl cut))
 
 end_cut : (rest : List ℕ) (ps : List Slice) → Cut (chars rest) ps → Cut (chars (46 ∷ 10 ∷ rest)) ((kind.Symbol, 46 ∷ []) ∷ ps)
 end_cut rest ps cut =
@@ -94,9 +96,9 @@ end_cut rest ps cut =
 
 line_cut : (q : Quad) (rest : List ℕ) (ps : List Slice) → Tests q → Cut (chars rest) ps → Cut (chars (line q rest)) (triple_slices q ps)
 line_cut q rest ps t cut =
-    term_cut _ _ (written_term q.subject t.subject)
-    (term_cut _ _ (written_term q.predicate t.predicate)
-    (term_cut (46 ∷ 10 ∷ rest) ((kind.Symbol, 46 ∷ []) ∷ ps) (written_term q.object t.object) (end_cut rest ps cut)))
+    term_cut q.subject _ _ t.subject
+    (term_cut q.predicate _ _ t.predicate
+    (term_cut q.object (46 ∷ 10 ∷ rest) ((kind.Symbol, 46 ∷ []) ∷ ps) t.object (end_cut rest ps cut)))
 
 -- ---- all lines
 

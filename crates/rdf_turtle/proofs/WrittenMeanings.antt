@@ -15,6 +15,9 @@ use Rattle.rdf_terms.specs.declared.term.Term.{Term}
 use Rattle.rdf_terms.specs.declared.term.Term.TheVariants as t
 use Rattle.rdf_terms.specs.declared.quad.Quad.{Quad}
 use Rattle.rdf_terms.proofs.TagForms.{tag_name, tag_low, ascii_from}
+use Rattle.rdf_terms.proofs.WrittenIriLemmas.{iri_scheme, iri_allowed, iri_form}
+use Rattle.rdf_terms.proofs.WrittenTermLemmas.{lower_stays, tag_parts, literal_parts}
+use Rattle.rdf_terms.proofs.WrittenTextLemmas.{string_body}
 use Rattle.rdf_turtle.specs.declared.tree.Name.{Name}
 use Rattle.rdf_turtle.specs.declared.tree.Name.TheVariants.{Full}
 use Rattle.rdf_turtle.specs.declared.tree.Verb.{Verb}
@@ -27,7 +30,7 @@ use Rattle.rdf_turtle.specs.declared.tree.Node.TheOpen.{Node-F, Property-F}
 use Rattle.rdf_turtle.specs.declared.tree.Node.TheFolds.{fold-Node, fold-Property, fold-roll-Node, fold-roll-Property}
 use Rattle.rdf_turtle.specs.declared.tree.Property.{Property}
 use Rattle.rdf_turtle.specs.declared.tree.Statement.TheVariants as s
-use Rattle.rdf_turtle.specs.Blanks.{blanks_in, blanks_in_graph, blanks_of}
+use Rattle.rdf_terms.specs.Blanks.{blanks_in, blanks_in_graph, blanks_of}
 use Rattle.rdf_turtle.specs.Known.{known_verb, known_literal, known_property_of, known_node_of, known_node, known_property, known_statement, declares_first}
 use Rattle.rdf_turtle.specs.Meaning.{Meaning, Says, only, iri, verb, literal, object, node_of, property_of, meaning, property, statement, document, triples_of, answer}
 use Rattle.rdf_turtle.specs.Reading.{property_with}
@@ -38,9 +41,7 @@ use Rattle.rdf_turtle.specs.Values.{iri_value, text_value, tag_value}
 use Rattle.rdf_turtle.specs.WrittenLaws.{IsDefaultQuad}
 use Rattle.rdf_turtle.proofs.ValueIris.{iri_value_is}
 use Rattle.rdf_turtle.proofs.ValueTexts.{text_value_is}
-use Rattle.rdf_turtle.proofs.WrittenTags.{lower_stays}
-use Rattle.rdf_turtle.proofs.WrittenTexts.{string_body}
-use Rattle.rdf_turtle.proofs.WrittenTerms.{iri_slice, text_slice, label_slice, tag_slice, iri_scheme, iri_allowed, iri_form, tag_parts, literal_parts}
+use Rattle.rdf_turtle.proofs.WrittenTerms.{iri_slice, text_slice, label_slice, tag_slice}
 use Rattle.rdf_turtle.proofs.WrittenLines.{Tests, tests}
 use Rattle.rdf_turtle.proofs.WrittenTrees as tree
 use Rattle.rdf_turtle.proofs.WrittenTrees.{datatype_tree, literal_tree, verb_of, statement_of}

@@ -10,10 +10,10 @@ use Rattle.std.proofs.lemmas.Str.{encodes-IsAscii}
 use Rattle.indexmap.specs.IndexMap.{insert_entry}
 use Rattle.rdf_terms.specs.declared.quad.Quad.{Quad}
 use Rattle.rdf_terms.specs.declared.term.Term.TheVariants.{Blank}
-use Rattle.rdf_turtle.specs.Blanks.{blanks_of}
+use Rattle.rdf_terms.specs.Blanks.{AreNumberedInOrder, blanks_of}
+use Rattle.rdf_terms.proofs.WrittenNumberLemmas.{blank_ascii}
 use Rattle.rdf_turtle.specs.State.{State, key_of, same_key, start, labelled}
-use Rattle.rdf_turtle.specs.WrittenLaws.{AreNumberedInOrder}
-use Rattle.rdf_turtle.proofs.WrittenTerms.{label_slice, blank_ascii}
+use Rattle.rdf_turtle.proofs.WrittenTerms.{label_slice}
 
 -- ---- numbers in order
 

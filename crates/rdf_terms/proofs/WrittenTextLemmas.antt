@@ -1,58 +1,17 @@
--- The characters of an IRI, of a quoted text and of a number, as they are written.
-use Rattle.std.proofs.Common.{◌≡◌, ◌≢◌, ◌∙◌, ap, refl, sym, subst, inl, inr, ℕ, ◌+◌, ◌<◌, ◌≤◌, ◌%◌, ◌^◌, arith, Bool, true, false, ◌||◌, ◌==◌, List, [], ◌∷◌, ◌++◌, length, get_or, codes, decimal, chars, IsUtf8, nat_lt, true≢false, append-nil, Some, suc, if◌then◌else◌}
-use Rattle.std.specs.List.{list_any, flat_map, AllByRecursion}
+-- The characters of a text between quotes, as they are written.
+use Rattle.std.proofs.Common.{◌≡◌, ◌≢◌, ◌∙◌, ap, refl, sym, subst, inl, inr, ℕ, ◌<◌, ◌≤◌, arith, Bool, true, false, ◌==◌, List, [], ◌∷◌, ◌++◌, length, get_or, chars, IsUtf8, true≢false, append-nil, Some, suc, if◌then◌else◌}
+use Rattle.std.specs.List.{flat_map}
 use Rattle.std.specs.Char.{encode_utf8}
-use Rattle.std.specs.Int.{is_in_range}
 use Rattle.std.specs.Str.{encode_utf8_all}
-use Rattle.std.proofs.lemmas.Bool.{cases_Bool, or_parts, or_cases, or_left, and_parts, eqb-true, ltb-true, eq-eqb, cases_lt}
-use Rattle.std.proofs.lemmas.Bool.Decides.{nat_tests}
-use Rattle.std.proofs.lemmas.Fmt.{decimal_by_steps}
+use Rattle.std.proofs.lemmas.Bool.{and_parts, eqb-true, eq-eqb, cases_lt}
 use Rattle.std.proofs.lemmas.List.Concat.{flat_map-append}
-use Rattle.std.proofs.lemmas.List.Folds.{list_any-append}
 use Rattle.std.proofs.lemmas.Str.{encode_ascii, inside_one, encodes-append, IsUtf8-append, IsUtf8-encode, IsUtf8-nil, chars_from_encodes, encodes-chars, scalars-chars}
 use lib.Utf8.{scalars, scalar}
-use Rattle.rdf_terms.specs.Iri.{is_forbidden, has_forbidden}
-use Rattle.rdf_terms.specs.Characters.{short_escape, is_pn_chars_base, is_pn_chars_u, is_pn_chars}
+use Rattle.rdf_terms.specs.Characters.{short_escape}
 use Rattle.rdf_terms.specs.Escapes.{Writes}
-use Rattle.rdf_terms.specs.Quoted.{IsIriCharacter, IsStringCharacter}
+use Rattle.rdf_terms.specs.Quoted.{IsStringCharacter, IsQuoted}
 use Rattle.rdf_terms.specs.TermText.{escaped}
-use Rattle.rdf_terms.proofs.TagForms.{AllLow}
-use Rattle.rdf_lines.specs.Grammar.{is_label_part, is_label_start, IsLabelRest, IsLabelName}
-
-abbrev pub AllPass : (ℕ → Bool) → List ℕ → Type 0
-AllPass p cs = AllByRecursion (λ c. p c ≡ true) cs
-
--- ---- IRIs
-
-any_low : (ds : List ℕ) (b : ℕ) → AllByRecursion (λ d. d < 128) ds → list_any (λ d. b == d) ds ≡ true → b < 128
-any_low [] b low e = absurd (true≢false (sym e))
-any_low (d ∷ ds) b low e = elim (or_cases (b == d) (list_any (λ x. b == x) ds) e) [
-  | inl here ↦ omega (arith, eqb-true b d here, low.0)
-  | inr there ↦ any_low ds b low.1 there
-]
-
--- what is forbidden is ASCII
-forbidden_low : (b : ℕ) → is_forbidden b ≡ true → b < 128
-forbidden_low b e = elim (or_cases (nat_lt b 33) (list_any (λ d. b == d) (codes "<>\"{}|^`\\")) e) [
-  | inl control ↦ omega (arith, ltb-true b 33 control)
-  | inr mark ↦ any_low (codes "<>\"{}|^`\\") b (omega arith, (omega arith, (omega arith, (omega arith, (omega arith, (omega arith, (omega arith, (omega arith, (omega arith, tt))))))))) mark
-]
-
-forbidden_here : (c : ℕ) → is_forbidden c ≡ true → has_forbidden (encode_utf8 c) ≡ true
-forbidden_here c h = ap has_forbidden (encode_ascii c (forbidden_low c h)) ∙ or_left (is_forbidden c) false h
-
-pub iri_body : (cs : List ℕ) → has_forbidden (encode_utf8_all cs) ≡ false → Writes IsIriCharacter cs cs
-iri_body [] h = refl
-iri_body (c ∷ cs) h =
-    let both = or_parts (has_forbidden (encode_utf8 c)) (has_forbidden (encode_utf8_all cs)) (sym (list_any-append is_forbidden (encode_utf8 c) (encode_utf8_all cs)) ∙ h) in
-    let allowed : is_forbidden c ≡ false =
-    elim (cases_Bool (is_forbidden c)) [
-      | inl bad ↦ absurd (true≢false (sym (forbidden_here c bad) ∙ both.0))
-      | inr good ↦ good
-    ] in
-    (c ∷ [], cs, refl, (allowed, inl refl), iri_body cs both.1)
-
--- ---- quoted texts
+use Rattle.rdf_terms.proofs.AsciiLemmas.{around_utf8, around_chars}
 
 if_cases : (P : List ℕ → Type 0) (b : Bool) (x y : List ℕ) → (b ≡ true → P x) → (b ≡ false → P y) → P (if b then x else y)
 if_cases P true x y f g = f refl
@@ -124,7 +83,7 @@ one_escaped c = elim (cases_lt c 128) [
       high_escaped (encode_utf8 c) bytes ∙ sym (append-nil (encode_utf8 c)) ∙ sym (ap encode_utf8_all (plain_escaped c high))
 ]
 
-pub all_escaped : (cs : List ℕ) → flat_map escaped (encode_utf8_all cs) ≡ encode_utf8_all (flat_map escaped cs)
+all_escaped : (cs : List ℕ) → flat_map escaped (encode_utf8_all cs) ≡ encode_utf8_all (flat_map escaped cs)
 all_escaped [] = refl
 all_escaped (c ∷ cs) =
     flat_map-append escaped (encode_utf8 c) (encode_utf8_all cs) ∙ (λ i. one_escaped c i ++ all_escaped cs i) ∙ sym (encodes-append (escaped c) (flat_map escaped cs))
@@ -147,48 +106,18 @@ escaped_text text u =
     let own : IsUtf8 (flat_map escaped text) = subst IsUtf8 (sym bytes) (escapes_utf8 (chars text) (scalars-chars text u)) in
     (own, sym (chars_from_encodes (flat_map escaped (chars text)) (flat_map escaped text) own (sym bytes)))
 
--- ---- numbers
+-- ---- between its quotes
 
-abbrev pub is_digit : ℕ → Bool
-is_digit c = is_in_range 48 57 c
+abbrev pub quoted : List ℕ → List ℕ
+quoted text = 34 ∷ (flat_map escaped text ++ 34 ∷ [])
 
-pub pass-append : (p : ℕ → Bool) (xs ys : List ℕ) → AllPass p xs → AllPass p ys → AllPass p (xs ++ ys)
-pass-append p [] ys a b = b
-pass-append p (x ∷ xs) ys a b = (a.0, pass-append p xs ys a.1 b)
+pub quoted_form : (text : List ℕ) → IsUtf8 text → IsQuoted 34 (quoted (chars text)) text
+quoted_form text u = (flat_map escaped (chars text), chars text, refl, string_body (chars text), sym (encodes-chars text u))
 
-digit_below : (n : ℕ) → n < 10 → is_digit (48 + n) ≡ true
-digit_below n h = grind (arith, nat_tests)
+pub quoted_chars : (text : List ℕ) → IsUtf8 text → chars (quoted text) ≡ quoted (chars text)
+quoted_chars text u =
+    let e = escaped_text text u in
+    around_chars 34 34 (flat_map escaped text) (omega arith) (omega arith) e.0 ∙ ap (λ (t : List ℕ). 34 ∷ (t ++ 34 ∷ [])) e.1
 
-pub decimal_digits : (n : ℕ) → n < 2 ^ 64 → AllPass is_digit (decimal n)
-decimal_digits = decimal_by_steps (λ n ds. AllPass is_digit ds) (λ n h. (digit_below n h, tt))
-    (λ n ds h front. pass-append is_digit ds ((48 + n % 10) ∷ []) front (digit_below (n % 10) (omega arith), tt))
-
-third : (a b c d e f g : Bool) → c ≡ true → ((a || b || c || d || e || f) || g) ≡ true
-third true b c d e f g h = refl
-third false true c d e f g h = refl
-third false false c d e f g h = ap (λ x. (false || false || x || d || e || f) || g) h
-
-digit_part : (c : ℕ) → is_digit c ≡ true → is_label_part c ≡ true
-unfolding is_label_part is_pn_chars
-digit_part c h = third (is_pn_chars_u c) (c == 45) (is_in_range 48 57 c) (c == 0xB7) (is_in_range 0x300 0x36F c) (is_in_range 0x203F 0x2040 c) (c == 58) h
-
-label_rest : (cs : List ℕ) → AllPass is_digit cs → IsLabelRest cs
-label_rest [] h = tt
-label_rest (c ∷ []) h = digit_part c h.0
-label_rest (c ∷ d ∷ cs) h = (inl (digit_part c h.0), label_rest (d ∷ cs) h.1)
-
-label_first : is_label_start 98 ≡ true
-unfolding is_label_start is_pn_chars_u is_pn_chars_base
-label_first = refl
-
-pub label_name : (n : ℕ) → n < 2 ^ 64 → IsLabelName (98 ∷ decimal n)
-label_name n h = (label_first, label_rest (decimal n) (decimal_digits n h))
-
--- ---- ASCII
-
-digit_low : (c : ℕ) → is_digit c ≡ true → c < 128
-digit_low c h = grind (arith, nat_tests)
-
-pub digits_low : (cs : List ℕ) → AllPass is_digit cs → AllLow cs
-digits_low [] h = tt
-digits_low (c ∷ cs) h = (digit_low c h.0, digits_low cs h.1)
+pub quoted_utf8 : (text : List ℕ) → IsUtf8 text → IsUtf8 (quoted text)
+quoted_utf8 text u = around_utf8 34 34 (flat_map escaped text) (omega arith) (omega arith) (escaped_text text u).0
