@@ -16,6 +16,7 @@ pub mod MarkLemmas
 pub mod NetLemmas
 pub mod OutcomeLemmas
 pub mod OutputLemmas
+pub mod PrintedLemmas
 pub mod RunLemmas
 pub mod SortedLemmas
 pub mod TurtleLemmas

@@ -17,6 +17,7 @@ pub mod Listing
 pub mod Marks
 pub mod OneOutput
 pub mod Output
+pub mod Printed
 pub mod Program
 pub mod Request
 pub mod Runs

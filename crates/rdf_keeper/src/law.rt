@@ -1,4 +1,4 @@
-//! Laws over the definitions alone: what holds after any list of commands, that undo gives back and redo gives again, that a script's lines are its text, and that it has one output.
+//! Laws over the definitions alone: what holds after any list of commands, that undo gives back and redo gives again, that a script's lines are its text, that it has one output, and that what is printed is read back in each format.
 ghost use Rattle.std.specs.Prelude.{◌≡◌, List, ℕ, Option, take};
 ghost use Rattle.rdf_dataset.specs.State.{State};
 ghost use Rattle.rdf_keeper.specs.History.{nothing};
@@ -7,6 +7,7 @@ ghost use Rattle.rdf_keeper.specs.Law.{Run, Follows, requests_of, MakesAll};
 ghost use Rattle.rdf_keeper.specs.GivesBack.{RunsAreWhole, UndoGivesBack, RedoGivesAgain, RollbackGivesBack, RefusalsLeave};
 ghost use Rattle.rdf_keeper.specs.UndoRedo.{UndoThenRedo, RedoThenUndo, RefusedAnswersLeave};
 ghost use Rattle.rdf_keeper.specs.LineLaws.{LinesAreTheText, LinesAreEnded, OneCut};
+ghost use Rattle.rdf_keeper.specs.Printed.{LinesAreDocuments, SortedTextsAreDocuments, PrintedLinesAreDocuments};
 ghost use Rattle.rdf_keeper.specs.OneOutput.{OneOutput, OneOutputOfBytes, OneText, OneTextOfBytes};
 
 /// After any commands with any replies, refusals and want of memory among them, each state is what
@@ -56,4 +57,14 @@ pub fn script_lines_are_the_text()
     ensures text { LinesAreTheText }
     ensures ended { LinesAreEnded }
     ensures one { OneCut }
+{}
+
+/// The lines of quads of the default graph whose blank numbers come in order of first appearance, from 0, are a document of
+/// these very quads, in this order, as N-Quads, as N-Triples and, against any base, as Turtle (RDF 1.1 N-Quads, section 2.1;
+/// RDF 1.1 N-Triples, section 1). Where such quads are sorted, so is what [`rdf_lines::write_sorted`] writes of them; and of a
+/// sound dataset of such quads so is what `%print` shows: it can be loaded in each format.
+pub fn printed_lines_are_documents()
+    ensures lines { LinesAreDocuments }
+    ensures sorted { SortedTextsAreDocuments }
+    ensures printed { PrintedLinesAreDocuments }
 {}

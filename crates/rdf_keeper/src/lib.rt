@@ -23,7 +23,8 @@ pub use fault::{Counts, KeeperFault};
 pub use format::Format;
 pub use keeper::Keeper;
 pub use law::{
-    a_script_has_one_output, script_lines_are_the_text, standing_requests, undo_gives_back,
+    a_script_has_one_output, printed_lines_are_documents, script_lines_are_the_text,
+    standing_requests, undo_gives_back,
 };
 pub use program::start;
 pub use script::{Settings, Status, run};

@@ -7,6 +7,7 @@ use Rattle.std.proofs.lemmas.List.Folds.{list_any-append}
 use Rattle.std.proofs.lemmas.List.Elements.{All-from_recursion, recursion_from_All}
 use Rattle.std.proofs.lemmas.List.Sorted.{All-permutation, IsPermutation-refl}
 use Rattle.std.proofs.lemmas.List.Sums.{passes_at_first}
+use Rattle.rdf_terms.specs.Blanks.{AreNumberedInOrder, blanks_in, blanks_in_graph, blanks_of}
 use Rattle.rdf_terms.specs.Term.{is_term, is_literal_term, is_iri_term}
 use Rattle.rdf_terms.specs.Quad.{is_graph, is_quad, may_name_graph}
 use Rattle.rdf_terms.specs.declared.term.Term.{Term}
@@ -15,7 +16,6 @@ use Rattle.rdf_terms.specs.declared.quad.GraphName.{GraphName}
 use Rattle.rdf_terms.specs.declared.quad.GraphName.TheVariants.{Default, Named}
 use Rattle.rdf_terms.specs.declared.quad.Quad.{Quad}
 use Rattle.rdf_lines.specs.Labels.{labels_in, labels_in_object, labels_in_graph, labels_of, noted, all_noted, number_of, term_in, object_in, graph_in, quad_in, numbered}
-use Rattle.rdf_terms.specs.Blanks.{blanks_in, blanks_in_graph, blanks_of}
 use Rattle.rdf_lines.specs.RoundTrip.{label_of, node_of, predicate_of, object_of, graph_of, statement_of, renamed_term, renamed_graph, renamed, SaysRenamed, DocumentsAreReadBack, SortedTextsAreReadBack, NumberedDocumentsAreReadBack, NumberedSortedTextsAreReadBack}
 use Rattle.rdf_lines.specs.declared.format.LineFormat.TheVariants.{NQuads}
 use Rattle.rdf_lines.specs.Document.{IsDocument}
@@ -319,12 +319,15 @@ all_stay : (labels : List (List ℕ)) (count : ℕ) → labels ≡ upto count �
 all_stay labels count e b [] h = tt
 all_stay labels count e b (n ∷ ns) h = (ap (λ (k : List (List ℕ)). number_of k (label_of n)) e ∙ stays count n h.0 b, all_stay labels count e b ns h.1)
 
-pub numbered_documents_are_read_back : NumberedDocumentsAreReadBack
-numbered_documents_are_read_back quads h order =
+pub numbered_again : (quads : List Quad) → AllByRecursion (λ q. is_quad q ≡ true) quads → AreNumberedInOrder quads → quads ≡ numbered (map statement_of quads)
+numbered_again quads h order =
     let ns = flat_map blanks_of quads in
     let c = counted 0 ns (omega arith) (all_small quads h) (in_order ns [] ns 0 order refl tt) in
     let fixed = quads_fixed (rename (labels_for quads)) quads h (all_stay (labels_for quads) c.count c.labels c.bound ns c.below) in
-    (map statement_of quads, reads_all 1 quads h, sym fixed ∙ again quads h)
+    sym fixed ∙ again quads h
+
+pub numbered_documents_are_read_back : NumberedDocumentsAreReadBack
+numbered_documents_are_read_back quads h order = (map statement_of quads, reads_all 1 quads h, numbered_again quads h order)
 
 pub numbered_sorted_texts_are_read_back : NumberedSortedTextsAreReadBack
 numbered_sorted_texts_are_read_back quads text h order ordered is =

@@ -1,6 +1,7 @@
 -- What is written is read back (RDF 1.1 N-Quads, section 2; RDF 1.1 N-Triples, section 4).
 use Rattle.std.specs.Prelude.{◌≡◌, ℕ, IsTrue, List, ◌++◌, codes, decimal, map, Option, Some, None, Ok, Contains, IsPermutation, IsSorted}
 use Rattle.std.specs.List.{flat_map, AllByRecursion}
+use Rattle.rdf_terms.specs.Blanks.{AreNumberedInOrder, blanks_of}
 use Rattle.rdf_terms.specs.Order.{quad_cmp}
 use Rattle.rdf_terms.specs.Quad.{is_quad}
 use Rattle.rdf_terms.specs.declared.term.Term.{Term}
@@ -15,7 +16,6 @@ use Rattle.rdf_lines.specs.declared.statement.Object.{Object}
 use Rattle.rdf_lines.specs.declared.statement.Object.TheVariants as object
 use Rattle.rdf_lines.specs.declared.statement.Statement.{Statement}
 use Rattle.rdf_lines.specs.Line.{Says}
-use Rattle.rdf_terms.specs.Blanks.{AreNumberedInOrder, blanks_of}
 use Rattle.rdf_lines.specs.Document.{IsDocument}
 use Rattle.rdf_lines.specs.QuadText.{quad_text, IsSortedText}
 

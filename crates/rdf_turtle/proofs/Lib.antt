@@ -41,6 +41,7 @@ pub mod ValuePlaces
 pub mod ValuePnames
 pub mod ValueTexts
 pub mod WrittenCuts
+pub mod WrittenDocuments
 pub mod WrittenLines
 pub mod WrittenMeanings
 pub mod WrittenNumbers
