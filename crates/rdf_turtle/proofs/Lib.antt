@@ -21,6 +21,7 @@ pub mod ScopePrefixes
 pub mod ScopeReferences
 pub mod ScopeSteps
 pub mod ScopeTexts
+pub mod StraightReading
 pub mod TokenClaims
 pub mod TokenDispatch
 pub mod TokenEnds

@@ -25,6 +25,7 @@ pub mod Steps
 pub mod Stops
 pub mod TokenReading
 pub mod Tokens
+pub mod Turns
 pub mod ValueLaws
 pub mod Values
 pub mod Vocabulary

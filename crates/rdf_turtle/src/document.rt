@@ -1,21 +1,23 @@
 //! Turtle documents, from bytes to quads.
-ghost use Rattle.std.specs.Prelude.{◌≡◌, ◌≢◌, ℕ, List, length, Option, Some, None, MatchResult, slice_get};
+ghost use Rattle.std.specs.Prelude.{◌≡◌, ◌≢◌, ℕ, List, length, Option, Some, None, IfSome, MatchResult, slice_get};
 ghost use Rattle.std.specs.Option.{option_copied};
 ghost use Rattle.std.specs.Str.{IsUtf8};
 ghost use Rattle.rdf_turtle.specs.declared.fault.TurtleFaultKind.TheVariants.{NoMemory as NoMemoryKind};
 ghost use Rattle.rdf_turtle.specs.declared.token.Token.{Token as Held};
 ghost use Rattle.rdf_turtle.specs.Bases.{RelativeLacksABase};
-ghost use Rattle.rdf_turtle.specs.Document.{HasTree, IsDocument, TellsFault};
+ghost use Rattle.rdf_turtle.specs.Document.{HasTokens, HasTree, IsDocument, TellsFault};
 ghost use Rattle.rdf_turtle.specs.DocumentLaws.{SomeMeaning, OneDocument, NeverBoth, OneFault};
 ghost use Rattle.rdf_turtle.specs.Lines.{line_of};
 
 use crate::fault::{TurtleFault, TurtleFaultKind};
+use crate::lexeme::Lexeme;
 use crate::lexemes::lexemes;
 use crate::line::line_at;
 use crate::list::tokens;
 use crate::meaning::triples_of;
 use crate::placed::PlacedFault;
 use crate::read::{Stop, parse_document};
+use crate::straight::straight_triples;
 use crate::token::Token;
 use crate::tree::Statement;
 use rdf_terms::{Iri, Items, Quad};
@@ -66,13 +68,45 @@ fn read_tree<'a>(alloc: Global, text: &'a str) -> Result<Items<Statement<'a>>, T
     Ok(tree)
 }
 
-// The quads of a text that is UTF-8.
+// The lexemes of a text that is UTF-8, where it has a token list and memory isn't wanting. Its
+// tokens are let go.
+fn straight_lexemes<'a>(alloc: Global, text: &'a str) -> Option<Items<Lexeme<'a>>>
+    requires { IsUtf8 text.now }
+    ensures { IfSome result (λ lexemes. (tokens : List Held) × HasTokens text.now tokens lexemes) }
+{
+    let Ok(tokens) = tokens(alloc, text) else {
+        return None;
+    };
+    let Ok(lexemes) = lexemes(alloc, text, tokens.as_slice()) else {
+        return None;
+    };
+    Some(lexemes)
+}
+
+// The quads of a text that is UTF-8, where it has no fault and memory isn't wanting.
+fn straight_quads(alloc: Global, text: &str, base: Option<&Iri>) -> Option<Vec<Quad>>
+    requires { IsUtf8 text.now }
+    ensures { IfSome result (λ quads. IsDocument (option_copied base.entry) text.now quads.items) }
+{
+    let Some(lexemes) = straight_lexemes(alloc, text) else {
+        return None;
+    };
+    let Some(quads) = straight_triples(alloc, base, lexemes.as_slice()) else {
+        return None;
+    };
+    Some(quads)
+}
+
+// The quads of a text that is UTF-8. A faulty one is read once more, for the first fault.
 fn read_text(alloc: Global, text: &str, base: Option<&Iri>) -> Result<Vec<Quad>, TurtleFault>
     requires { IsUtf8 text.now }
     ensures { MatchResult result
         (λ quads. IsDocument (option_copied base.entry) text.now quads.items)
         (λ fault. TellsFault (option_copied base.entry) text.now fault fault.kind) }
 {
+    if let Some(quads) = straight_quads(alloc, text, base) {
+        return Ok(quads);
+    }
     let tree = match read_tree(alloc, text) {
         Ok(tree) => tree,
         Err(fault) => return Err(fault),

@@ -87,8 +87,12 @@ fn unknown_properties<'a>(
     None
 }
 
+/// Where the first name of a statement stands whose prefix isn't one of these.
 #[tactic(auto, unfolding(crate::specs::Known::known_statement))]
-fn unknown_in<'a>(declared: &IndexSet<Key<'a>>, statement: &Statement<'a>) -> Option<usize>
+pub(crate) fn unknown_in<'a>(
+    declared: &IndexSet<Key<'a>>,
+    statement: &Statement<'a>,
+) -> Option<usize>
     ensures { is_none result ≡ spec.known_statement declared.now.keys statement.now }
 {
     match statement {
@@ -102,7 +106,11 @@ fn unknown_in<'a>(declared: &IndexSet<Key<'a>>, statement: &Statement<'a>) -> Op
     }
 }
 
-fn declare<'a>(declared: &mut IndexSet<Key<'a>>, statement: &Statement<'a>) -> Result<(), NoMemory>
+/// Adds the prefix that a statement declares, if it does.
+pub(crate) fn declare<'a>(
+    declared: &mut IndexSet<Key<'a>>,
+    statement: &Statement<'a>,
+) -> Result<(), NoMemory>
     ensures { OnOk result (declared.new.keys ≡ spec.declared_behind declared.old.keys statement.now) }
 {
     if let Statement::Prefix(prefix, _) = statement {

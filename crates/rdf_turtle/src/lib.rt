@@ -26,6 +26,7 @@ mod read;
 mod scope;
 mod slice;
 mod statement;
+mod straight;
 mod symbol;
 mod token;
 mod tree;

@@ -36,7 +36,8 @@ fn as_written(alloc: Global, slice: &Slice<'_>) -> Result<Text, NoMemory>
     Text::new(alloc, slice.as_str())
 }
 
-fn copied(base: Option<&Iri>) -> Result<Option<Iri>, NoMemory>
+/// An equal base.
+pub(crate) fn copied(base: Option<&Iri>) -> Result<Option<Iri>, NoMemory>
     ensures { IfOk result (λ copy. copy ≡ option_copied base.entry) }
 {
     match base {
@@ -229,8 +230,9 @@ impl<'a> Scope<'a> {
         Ok(())
     }
 
+    /// Says the triples of a statement, or declares its prefix or base.
     #[tactic(auto, unfolding(crate::specs::Meaning::statement))]
-    fn statement(&mut self, statement: &Statement<'a>) -> Result<(), TurtleFaultKind>
+    pub(crate) fn statement(&mut self, statement: &Statement<'a>) -> Result<(), TurtleFaultKind>
         ensures { Gives (spec.statement statement.now self.old) result self.new }
     {
         match statement {

@@ -78,8 +78,9 @@ impl<'a> Parser<'_, 'a> {
         }
     }
 
+    /// The next statement.
     #[tactic(auto, unfolding(crate::specs::Reading::statement, crate::specs::Rules::any))]
-    fn statement(&mut self) -> Result<Statement<'a>, TurtleFaultKind>
+    pub fn statement(&mut self) -> Result<Statement<'a>, TurtleFaultKind>
         ensures reads { Reads (spec.statement (spec.node 100) (spec.node 101) self.old) result self.new }
         ensures shorter { OnOk result (length self.new < length self.old) }
     {

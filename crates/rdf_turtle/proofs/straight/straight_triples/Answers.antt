@@ -1,0 +1,20 @@
+use Rattle.std.proofs.Common.{◌≡◌, sym, []}
+use Rattle.rdf_turtle.proofs.GrammarWhole.{shallow}
+use Rattle.rdf_turtle.proofs.StraightReading.{read_starts_at, read_on, read_done}
+use Rattle.rdf_turtle.proofs.straight.straight_triples.Goals as goal
+
+pub loop-parser-init : goal.loop-parser-init
+loop-parser-init c =
+    let none : c.new-declared.result.keys ≡ [] = c.new-declared.ensures.empty in
+    read_starts_at _ _ _ _ _ _ c.in-Ok.ensures c.in-Ok-new.ensures none c.new-parser.ensures
+
+pub loop-parser-smaller : goal.loop-parser-smaller
+loop-parser-smaller c = c.if-not-turn.ensures.shorter
+
+pub loop-parser-preserved : goal.loop-parser-preserved
+loop-parser-preserved c = read_on c.loop-parser.invariant (sym c.loop-parser-test.ensures) c.if-not-turn.ensures
+
+pub returns : goal.returns
+returns c =
+    let read = read_done c.into_quads.result.items c.loop-parser.invariant (sym c.loop-parser-test.ensures) c.into_quads.ensures in
+    (read.0, shallow c.args.lexemes.now c.too_deep.result c.too_deep.ensures c.in_default.not-Some, read.1, read.2)
