@@ -1,37 +1,13 @@
 //! Streams in pieces, and the lines of quads.
 
+use crate::one_byte::{Ending, OneByteReader};
 use rdf_lines::{
     FaultKind, LineFault, LineFormat, LineReader, read_lines, write_quad, write_sorted,
 };
 use rdf_terms::{Quad, Term};
 use std::alloc::Global;
-use std::io;
-use std::io::{ErrorKind, Read};
+use std::io::Read;
 use std::test::Fail;
-
-// Gives its bytes one at a time, and then fails or ends.
-#[derive(Drop)]
-struct Slow {
-    bytes: &'static [u8],
-    fails: bool,
-}
-
-impl Read for Slow {
-    fn read(&mut self, buf: &mut [u8]) -> io::Result<usize> {
-        if buf.is_empty() {
-            return Ok(0);
-        }
-        match self.bytes {
-            [first, rest @ ..] => {
-                buf[0] = *first;
-                self.bytes = rest;
-                Ok(1)
-            }
-            [] if self.fails => Err(io::Error::from(ErrorKind::Other)),
-            [] => Ok(0),
-        }
-    }
-}
 
 // The numbers of the subject and the object, where they are blank nodes.
 fn numbers(quad: &Quad) -> Option<(u64, u64)> {
@@ -66,9 +42,9 @@ const TEXT: &[u8] =
 
 #[test]
 fn one_byte_pieces(rt: HostRuntime) -> Result<(), Fail> {
-    let reader = Slow {
+    let reader = OneByteReader {
         bytes: TEXT,
-        fails: false,
+        ending: Ending::Nothing,
     };
     let mut lines = LineReader::new(rt.alloc(), LineFormat::NQuads, reader)?;
     assert!(rt; next_numbers(&mut lines) == Some((0, 1)));
@@ -81,9 +57,9 @@ fn one_byte_pieces(rt: HostRuntime) -> Result<(), Fail> {
 
 #[test]
 fn read_fault(rt: HostRuntime) -> Result<(), Fail> {
-    let reader = Slow {
+    let reader = OneByteReader {
         bytes: b"_:a <a:p> _:b .\n_:b <a:p> _:a .",
-        fails: true,
+        ending: Ending::Failed,
     };
     let mut lines = LineReader::new(rt.alloc(), LineFormat::NQuads, reader)?;
     assert!(rt; next_numbers(&mut lines) == Some((0, 1)));

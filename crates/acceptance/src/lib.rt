@@ -9,6 +9,8 @@ mod documents;
 #[cfg(test)]
 mod lines;
 #[cfg(test)]
+mod one_byte;
+#[cfg(test)]
 mod program;
 #[cfg(test)]
 mod resolution;

@@ -1,60 +1,10 @@
 //! Rows of bytes and words, and readers and writers that fail.
 
+use crate::one_byte::{Ending, OneByteReader, OneByteWriter};
 use rdf_keeper::{ConvertFault, Format, convert, start};
 use std::alloc::{AllocError, Global};
-use std::io;
-use std::io::{ErrorKind, Read, Write};
 use std::rt::Files;
 use std::test::Fail;
-
-// Gives its bytes one at a time, and then fails or ends.
-#[derive(Drop)]
-struct Slow {
-    bytes: &'static [u8],
-    fails: bool,
-}
-
-impl Read for Slow {
-    fn read(&mut self, buf: &mut [u8]) -> io::Result<usize> {
-        if buf.is_empty() {
-            return Ok(0);
-        }
-        match self.bytes {
-            [first, rest @ ..] => {
-                buf[0] = *first;
-                self.bytes = rest;
-                Ok(1)
-            }
-            [] if self.fails => Err(io::Error::from(ErrorKind::Interrupted)),
-            [] => Ok(0),
-        }
-    }
-}
-
-// Takes so many bytes, one at a time, and then fails or takes nothing.
-#[derive(Drop)]
-struct Narrow {
-    room: usize,
-    taken: usize,
-    fails: bool,
-}
-
-impl Write for Narrow {
-    fn write(&mut self, buf: &[u8]) -> io::Result<usize> {
-        if self.taken < self.room && !buf.is_empty() {
-            self.taken += 1;
-            return Ok(1);
-        }
-        if self.fails {
-            return Err(io::Error::from(ErrorKind::Other));
-        }
-        Ok(0)
-    }
-
-    fn flush(&mut self) -> io::Result<()> {
-        Ok(())
-    }
-}
 
 const FOUR: &[u8] =
     b"<http://e/s> <http://e/p> \"a\\u0041\\\"b\"@EN-us <http://e/g> . # c\n_:x:y <http://e/p> _:z1 .\r\n<http://e/s><http://e/p>_:x:y.\n<http://e/s> <http://e/p> \"1\"^^<http://www.w3.org/2001/XMLSchema#string> .";
@@ -69,9 +19,9 @@ const TWICE_OUT: &[u8] = b"<http://e/s> <http://e/p> \"x\" .\n<http://e/s> <http
 
 #[test]
 fn pieces_of_one_byte(rt: HostRuntime) -> Result<(), Fail> {
-    let mut reader = Slow {
+    let mut reader = OneByteReader {
         bytes: FOUR,
-        fails: false,
+        ending: Ending::Nothing,
     };
     let mut out = Vec::new(rt.alloc());
     let answer = convert(rt.alloc(), Format::NQuads, None, &mut reader, &mut out);
@@ -82,9 +32,9 @@ fn pieces_of_one_byte(rt: HostRuntime) -> Result<(), Fail> {
 
 #[test]
 fn a_failed_read(rt: HostRuntime) -> Result<(), Fail> {
-    let mut reader = Slow {
+    let mut reader = OneByteReader {
         bytes: TWICE,
-        fails: true,
+        ending: Ending::Interrupted,
     };
     let mut out = Vec::new(rt.alloc());
     let answer = convert(rt.alloc(), Format::NTriples, None, &mut reader, &mut out);
@@ -93,25 +43,17 @@ fn a_failed_read(rt: HostRuntime) -> Result<(), Fail> {
     Ok(())
 }
 
-fn written(alloc: Global, writer: &mut Narrow) -> Result<(), ConvertFault> {
+fn written_to(alloc: Global, room: usize, ending: Ending) -> Result<(), ConvertFault> {
     let mut reader = TWICE;
-    convert(alloc, Format::NQuads, None, &mut reader, writer)
-}
-
-fn written_to(alloc: Global, room: usize, fails: bool) -> Result<(), ConvertFault> {
-    let mut writer = Narrow {
-        room,
-        taken: 0,
-        fails,
-    };
-    written(alloc, &mut writer)
+    let mut writer = OneByteWriter::new(alloc, room, ending);
+    convert(alloc, Format::NQuads, None, &mut reader, &mut writer)
 }
 
 #[test]
 fn failed_writes(rt: HostRuntime) {
-    assert!(rt; written_to(rt.alloc(), 40, false) == Err(ConvertFault::Write));
-    assert!(rt; written_to(rt.alloc(), 0, true) == Err(ConvertFault::Write));
-    assert!(rt; written_to(rt.alloc(), 200, true) == Ok(()));
+    assert!(rt; written_to(rt.alloc(), 40, Ending::Nothing) == Err(ConvertFault::Write));
+    assert!(rt; written_to(rt.alloc(), 0, Ending::Failed) == Err(ConvertFault::Write));
+    assert!(rt; written_to(rt.alloc(), 200, Ending::Failed) == Ok(()));
 }
 
 fn words_of(alloc: Global, line: &str) -> Result<Vec<String>, AllocError> {

@@ -1,8 +1,7 @@
 //! Sessions from bytes to bytes: the worked rows, and faults of readers and writers.
+use crate::one_byte::{Ending, OneByteReader, OneByteWriter};
 use rdf_keeper::{Keeper, Settings, Status, run};
 use std::alloc::Global;
-use std::io;
-use std::io::{ErrorKind, Read, Write};
 use std::test::Fail;
 
 const ROW: &[u8] =
@@ -100,33 +99,12 @@ fn faulty_line(rt: HostRuntime) -> Result<(), Fail> {
     Ok(())
 }
 
-// Gives its bytes one at a time, and then fails.
-#[derive(Drop)]
-struct Failing {
-    bytes: &'static [u8],
-}
-
-impl Read for Failing {
-    fn read(&mut self, buf: &mut [u8]) -> io::Result<usize> {
-        if buf.is_empty() {
-            return Ok(0);
-        }
-        match self.bytes {
-            [first, rest @ ..] => {
-                buf[0] = *first;
-                self.bytes = rest;
-                Ok(1)
-            }
-            [] => Err(io::Error::from(ErrorKind::Other)),
-        }
-    }
-}
-
 #[test]
 fn read_fault(rt: HostRuntime) -> Result<(), Fail> {
     let mut keeper = Keeper::new(rt.alloc(), None);
-    let mut reader = Failing {
+    let mut reader = OneByteReader {
         bytes: b"%load nquads\n<a:s> <a:p> \"x\" .\n%end\n%print",
+        ending: Ending::Failed,
     };
     let mut output = Vec::new(rt.alloc());
     let settings = Settings { stop: false };
@@ -136,48 +114,10 @@ fn read_fault(rt: HostRuntime) -> Result<(), Fail> {
     Ok(())
 }
 
-// Takes one byte at a call, so many times; then it takes nothing, or fails.
-#[derive(Drop)]
-struct Narrow {
-    taken: Vec<u8>,
-    left: usize,
-    fails: bool,
-}
-
-impl Write for Narrow {
-    fn write(&mut self, buf: &[u8]) -> io::Result<usize> {
-        if self.left == 0 {
-            return if self.fails {
-                Err(io::Error::from(ErrorKind::Other))
-            } else {
-                Ok(0)
-            };
-        }
-        match buf {
-            [] => Ok(0),
-            [first, ..] => {
-                if self.taken.push(*first).is_err() {
-                    return Err(io::Error::from(ErrorKind::Other));
-                }
-                self.left -= 1;
-                Ok(1)
-            }
-        }
-    }
-
-    fn flush(&mut self) -> io::Result<()> {
-        Ok(())
-    }
-}
-
-fn narrow_status(alloc: Global, left: usize, fails: bool) -> Result<(usize, Status), Fail> {
+fn narrow_status(alloc: Global, room: usize, ending: Ending) -> Result<(usize, Status), Fail> {
     let mut keeper = Keeper::new(alloc, None);
     let mut reader = b"%print\n%undo\n".as_slice();
-    let mut writer = Narrow {
-        taken: Vec::new(alloc),
-        left,
-        fails,
-    };
+    let mut writer = OneByteWriter::new(alloc, room, ending);
     let status = run(
         alloc,
         &mut keeper,
@@ -190,8 +130,8 @@ fn narrow_status(alloc: Global, left: usize, fails: bool) -> Result<(usize, Stat
 
 #[test]
 fn narrow_writers(rt: HostRuntime) -> Result<(), Fail> {
-    assert!(rt; narrow_status(rt.alloc(), 99, false)? == (28, Status::Refused));
-    assert!(rt; narrow_status(rt.alloc(), 3, false)? == (3, Status::WriteFailed));
-    assert!(rt; narrow_status(rt.alloc(), 3, true)? == (3, Status::WriteFailed));
+    assert!(rt; narrow_status(rt.alloc(), 99, Ending::Nothing)? == (28, Status::Refused));
+    assert!(rt; narrow_status(rt.alloc(), 3, Ending::Nothing)? == (3, Status::WriteFailed));
+    assert!(rt; narrow_status(rt.alloc(), 3, Ending::Failed)? == (3, Status::WriteFailed));
     Ok(())
 }

@@ -1,0 +1,94 @@
+//! A reader that gives one byte at a call, and a writer that takes one, until each ends or fails.
+ghost use Rattle.std.specs.Prelude.{◌≡◌, IfOk};
+
+use std::alloc::Global;
+use std::io;
+use std::io::{ErrorKind, Read, Write};
+
+/// What a reader answers behind its last byte, and a writer that has no room left.
+#[derive(Clone, Copy)]
+pub(crate) enum Ending {
+    /// That no byte was moved: the input's end, or a writer that takes nothing.
+    Nothing,
+    /// The error [`ErrorKind::Interrupted`].
+    Interrupted,
+    /// The error [`ErrorKind::Other`].
+    Failed,
+}
+
+impl Ending {
+    fn answer(self) -> io::Result<usize>
+        ensures { IfOk result (λ moved. moved ≡ 0) }
+    {
+        match self {
+            Ending::Nothing => Ok(0),
+            Ending::Interrupted => Err(io::Error::from(ErrorKind::Interrupted)),
+            Ending::Failed => Err(io::Error::from(ErrorKind::Other)),
+        }
+    }
+}
+
+/// Gives its bytes, one at a call.
+#[derive(Drop)]
+pub(crate) struct OneByteReader {
+    /// The bytes that are still to come.
+    pub(crate) bytes: &'static [u8],
+    /// What it answers behind them.
+    pub(crate) ending: Ending,
+}
+
+impl Read for OneByteReader {
+    fn read(&mut self, buf: &mut [u8]) -> io::Result<usize> {
+        if buf.is_empty() {
+            return Ok(0);
+        }
+        match self.bytes {
+            [first, rest @ ..] => {
+                buf[0] = *first;
+                self.bytes = rest;
+                Ok(1)
+            }
+            [] => self.ending.answer(),
+        }
+    }
+}
+
+/// Takes so many bytes, one at a call.
+#[derive(Drop)]
+pub(crate) struct OneByteWriter {
+    /// The bytes that it took.
+    pub(crate) taken: Vec<u8>,
+    /// How many more bytes it takes.
+    pub(crate) room: usize,
+    /// What it answers where it has no room.
+    pub(crate) ending: Ending,
+}
+
+impl OneByteWriter {
+    /// A writer that takes so many bytes. It takes no memory before the first.
+    pub(crate) fn new(alloc: Global, room: usize, ending: Ending) -> OneByteWriter {
+        OneByteWriter {
+            taken: Vec::new(alloc),
+            room,
+            ending,
+        }
+    }
+}
+
+impl Write for OneByteWriter {
+    fn write(&mut self, buf: &[u8]) -> io::Result<usize> {
+        match buf {
+            [] => Ok(0),
+            [first, ..] if self.room > 0 => {
+                self.taken.push(*first)?;
+                self.room -= 1;
+                Ok(1)
+            }
+            _ => self.ending.answer(),
+        }
+    }
+
+    fn flush(&mut self) -> io::Result<()> {
+        Ok(())
+    }
+}
