@@ -1,10 +1,12 @@
 //! Each call of a dataset, a view and a net once, with answers from outside.
 ghost use Rattle.std.specs.Prelude.{◌≡◌, ℕ, ◌≤◌, IfSome};
+ghost use Rattle.std.specs.FinSet as set;
 ghost use Rattle.rdf_dataset.specs.State.{IsTermBelow, IsGraphBelow, IsQuadBelow, Begins};
 
 use rdf_dataset::{Dataset, Net, Source, Staged};
 use rdf_terms::{GraphName, Iri, NoMemory, Quad, Term, same_quad};
 use std::alloc::Global;
+use std::process::Abort;
 use std::test::Fail;
 
 // A blank node with a number below 4.
@@ -144,24 +146,13 @@ fn counters(rt: HostRuntime) {
     assert_eq!(rt; dataset.next_blank(), 999_999_999_999_999_999);
 }
 
-// How many quads of the default graph are listed, and whether those with the two objects are.
-fn listed<D: Source>(
-    alloc: Global,
-    source: &D,
-    one: u64,
-    other: u64,
-) -> Option<(usize, bool, bool)> {
+// The quads of the default graph, as they are listed.
+fn default_graph<D: Source>(alloc: Global, source: &D) -> Option<Vec<Quad>> {
     let mut found = Vec::new(alloc);
-    source
-        .matches(&GraphName::Default, None, None, None, &mut found)
-        .ok()?;
-    let (first, second) = (quad(alloc, 0, one)?, quad(alloc, 0, other)?);
-    let quads = found.as_slice();
-    Some((
-        quads.len(),
-        is_among(quads, &first),
-        is_among(quads, &second),
-    ))
+    match source.matches(&GraphName::Default, None, None, None, &mut found) {
+        Ok(_) => Some(found),
+        Err(_) => None,
+    }
 }
 
 fn is_among(quads: &[Quad], quad: &Quad) -> bool {
@@ -173,18 +164,40 @@ fn is_among(quads: &[Quad], quad: &Quad) -> bool {
     false
 }
 
+// Whether the default graph's quad with the object is among the quads.
+fn has_object(alloc: Global, quads: &[Quad], object: u64) -> Option<bool> {
+    let quad = quad(alloc, 0, object)?;
+    Some(is_among(quads, &quad))
+}
+
+// How many quads of the default graph are listed, and whether those with the two objects are.
+fn listed<D: Source>(
+    alloc: Global,
+    source: &D,
+    one: u64,
+    other: u64,
+) -> Option<(usize, Option<bool>, Option<bool>)> {
+    let found = default_graph(alloc, source)?;
+    let quads = found.as_slice();
+    Some((
+        quads.len(),
+        has_object(alloc, quads, one),
+        has_object(alloc, quads, other),
+    ))
+}
+
 // A quad beneath is removed, another is inserted anew, and a third is new.
 #[test]
 fn matches_over_two_layers(rt: HostRuntime) -> Result<(), Fail> {
     let alloc = rt.alloc();
     let dataset = three(alloc).ok_or("no memory")?;
-    assert!(rt; listed(alloc, &dataset, 1, 2) == Some((2, true, true)));
+    assert!(rt; listed(alloc, &dataset, 1, 2) == Some((2, Some(true), Some(true))));
     let mut view = Staged::over(alloc, &dataset);
     assert!(rt; remove(alloc, &mut view, 0, 1) == Some(true));
     assert!(rt; insert(alloc, &mut view, 0, 2) == Some(false));
     assert!(rt; insert(alloc, &mut view, 0, 3) == Some(true));
-    assert!(rt; listed(alloc, &view, 2, 3) == Some((2, true, true)));
-    assert!(rt; listed(alloc, &view, 1, 2) == Some((2, false, true)));
+    assert!(rt; listed(alloc, &view, 2, 3) == Some((2, Some(true), Some(true))));
+    assert!(rt; listed(alloc, &view, 1, 2) == Some((2, Some(false), Some(true))));
     Ok(())
 }
 
@@ -213,33 +226,77 @@ fn bound_places(rt: HostRuntime) -> Result<(), Fail> {
     Ok(())
 }
 
-#[test]
-fn commit_and_revert(rt: HostRuntime) -> Result<(), Fail> {
-    let alloc = rt.alloc();
-    let mut dataset = Dataset::starting_at(alloc, 4);
-    let net = insertion(alloc, &dataset, 3, 1).ok_or("no memory")?;
-    dataset.commit(&net)?;
+// Commits a net of one quad, in a graph that is new too, to an empty dataset, and reverts it.
+fn committed_and_reverted(
+    rt: &impl Abort,
+    alloc: Global,
+    dataset: &mut Dataset,
+    net: &Net,
+) -> Result<(), NoMemory>
+    requires { Begins net.now dataset.old }
+{
+    dataset.commit(net)?;
     assert!(rt; dataset.quads().len() == 1 && dataset.names_sorted().len() == 1);
-    assert!(rt; has(alloc, &dataset, 3, 1) == Some(true) && dataset.has_name(&Term::Blank(3)));
-    dataset.revert(&net)?;
+    assert!(rt; has(alloc, dataset, 3, 1) == Some(true) && dataset.has_name(&Term::Blank(3)));
+    dataset.revert(net)?;
     assert!(rt; dataset.quads().is_empty() && dataset.names_sorted().is_empty());
     Ok(())
 }
 
 #[test]
-fn there_and_back(rt: HostRuntime) -> Result<(), Fail> {
-    let alloc = rt.alloc();
+fn commit_and_revert(rt: HostRuntime) -> Result<(), Fail> {
+    let mut dataset = Dataset::starting_at(rt.alloc(), 4);
+    let net = insertion(rt.alloc(), &dataset, 3, 1).ok_or("no memory")?;
+    committed_and_reverted(&rt, rt.alloc(), &mut dataset, &net)?;
+    Ok(())
+}
+
+// The net of a quad more in an empty dataset, in a graph that is new too.
+fn there(alloc: Global) -> Option<Net> {
     let dataset = Dataset::starting_at(alloc, 4);
-    let there = insertion(alloc, &dataset, 3, 1).ok_or("no memory")?;
-    let back = insertion(alloc, &dataset, 3, 1)
-        .ok_or("no memory")?
-        .reversed();
-    assert!(rt; there.added().len() == 1 && there.names_added().len() == 1);
-    assert!(rt; back.removed().len() == 1 && back.names_removed().len() == 1);
-    let still = there.then(&back)?;
-    assert!(rt; still.added().is_empty() && still.removed().is_empty());
-    assert!(rt; still.names_added().is_empty() && still.names_removed().is_empty());
-    assert!(rt; still.before() == 4 && still.after() == 4);
+    insertion(alloc, &dataset, 3, 1)
+}
+
+// How many quads a net adds, how many names it adds, and how many of each it removes.
+fn sizes(net: &Net) -> [usize; 4] {
+    [
+        net.added().len(),
+        net.names_added().len(),
+        net.removed().len(),
+        net.names_removed().len(),
+    ]
+}
+
+// A net's sizes, and the sizes of it turned.
+fn sizes_both_ways(net: Net) -> ([usize; 4], [usize; 4]) {
+    let there = sizes(&net);
+    (there, sizes(&net.reversed()))
+}
+
+#[test]
+fn nets_both_ways(rt: HostRuntime) {
+    let both = there(rt.alloc()).map(sizes_both_ways);
+    assert!(rt; both == Some(([1, 1, 0, 0], [0, 0, 1, 1])));
+}
+
+// The sizes of two nets as one, and the counters before and after.
+fn sizes_of_both(first: &Net, second: &Net) -> Option<([usize; 4], u64, u64)> {
+    match first.then(second) {
+        Ok(both) => Some((sizes(&both), both.before(), both.after())),
+        Err(_) => None,
+    }
+}
+
+// The same of a net and the way back.
+fn sizes_with_way_back(alloc: Global, net: &Net) -> Option<([usize; 4], u64, u64)> {
+    let back = there(alloc)?.reversed();
+    sizes_of_both(net, &back)
+}
+
+#[test]
+fn there_and_back(rt: HostRuntime) -> Result<(), Fail> {
+    let net = there(rt.alloc()).ok_or("no memory")?;
+    assert!(rt; sizes_with_way_back(rt.alloc(), &net) == Some(([0, 0, 0, 0], 4, 4)));
     Ok(())
 }
 
@@ -257,6 +314,17 @@ fn named<D: Source>(alloc: Global, source: &D, name: &Term) -> Option<(usize, bo
     Some((names.len(), names.as_slice().contains(name)))
 }
 
+// Moves a quad from one graph to another in a view of its own over a view.
+fn moved_above<D: Source>(rt: &impl Abort, alloc: Global, lower: &D) {
+    let mut upper = Staged::over(alloc, lower);
+    assert!(rt; insert(alloc, &mut upper, 3, 1) == Some(true));
+    assert!(rt; remove(alloc, &mut upper, 2, 1) == Some(true));
+    assert!(rt; upper.take_blanks(2) == Some(4) && upper.next_blank() == 6);
+    assert!(rt; named(alloc, &upper, &Term::Blank(2)) == Some((2, true)));
+    assert!(rt; has(alloc, lower, 2, 1) == Some(true) && lower.next_blank() == 4);
+    assert!(rt; has(alloc, &upper, 2, 1) == Some(false));
+}
+
 #[test]
 fn view_over_a_view(rt: HostRuntime) -> Result<(), Fail> {
     let alloc = rt.alloc();
@@ -264,28 +332,30 @@ fn view_over_a_view(rt: HostRuntime) -> Result<(), Fail> {
     let mut lower = Staged::over(alloc, &dataset);
     assert!(rt; remove(alloc, &mut lower, 3, 1) == Some(true));
     assert!(rt; insert(alloc, &mut lower, 2, 1) == Some(true));
-    let mut upper = Staged::over(alloc, &lower);
-    assert!(rt; insert(alloc, &mut upper, 3, 1) == Some(true));
-    assert!(rt; remove(alloc, &mut upper, 2, 1) == Some(true));
-    assert!(rt; upper.take_blanks(2) == Some(4) && upper.next_blank() == 6);
-    assert!(rt; named(alloc, &upper, &Term::Blank(2)) == Some((2, true)));
-    assert!(rt; has(alloc, &lower, 2, 1) == Some(true) && lower.next_blank() == 4);
-    assert!(rt; has(alloc, &upper, 2, 1) == Some(false));
+    moved_above(&rt, alloc, &lower);
     Ok(())
 }
 
-// What a name's adding, adding again, dropping and dropping again answer.
-fn of_a_name(alloc: Global) -> Result<(bool, bool, bool, bool), NoMemory> {
-    let dataset = Dataset::starting_at(alloc, 4);
-    let mut view = Staged::over(alloc, &dataset);
+// What a name's adding, adding again, dropping and dropping again answer, in a view with no quad.
+fn in_a_view(view: &mut Staged<'_, Dataset>) -> Result<[bool; 4], NoMemory>
+    requires empty { view.old.now.quads ≡ set.empty }
+    requires next { view.old.now.next ≡ 4 }
+{
     let added = view.add_name(Term::Blank(2))?;
     let again = view.add_name(Term::Blank(2))?;
     let dropped = view.drop_name(&Term::Blank(2))?;
     let gone = view.drop_name(&Term::Blank(2))?;
-    Ok((added, again, dropped, gone))
+    Ok([added, again, dropped, gone])
+}
+
+// The same in a view over an empty dataset.
+fn of_a_name(alloc: Global) -> Result<[bool; 4], NoMemory> {
+    let dataset = Dataset::starting_at(alloc, 4);
+    let mut view = Staged::over(alloc, &dataset);
+    in_a_view(&mut view)
 }
 
 #[test]
 fn names(rt: HostRuntime) {
-    assert!(rt; of_a_name(rt.alloc()) == Ok((true, false, true, false)));
+    assert!(rt; of_a_name(rt.alloc()) == Ok([true, false, true, false]));
 }

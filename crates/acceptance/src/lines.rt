@@ -31,16 +31,20 @@ fn triples(rt: HostRuntime) -> Result<(), Fail> {
     Ok(())
 }
 
+// The lexical form of a statement's object and its tag, where it is a literal.
+fn literal(told: &Statement) -> Option<(&str, Option<&str>)> {
+    match &told.object {
+        Object::Literal(literal) => Some((literal.lexical(), literal.tag())),
+        Object::Node(_) => None,
+    }
+}
+
 #[test]
 fn strings(rt: HostRuntime) -> Result<(), Fail> {
     let line =
         "<http://e/s> <http://e/p> \"That \\u0053eventies\\tShow\"^^<http://www.w3.org/2001/XMLSchema#string> .";
     let told = statement(rt.alloc(), LineFormat::NTriples, line)?;
-    let Object::Literal(literal) = &told.object else {
-        return Err("no literal")?;
-    };
-    assert_eq!(rt; literal.lexical(), "That Seventies\tShow");
-    assert!(rt; literal.tag().is_none());
+    assert!(rt; literal(&told) == Some(("That Seventies\tShow", None)));
     Ok(())
 }
 
@@ -48,11 +52,7 @@ fn strings(rt: HostRuntime) -> Result<(), Fail> {
 fn tags(rt: HostRuntime) -> Result<(), Fail> {
     let line = "<http://e/s> <http://e/p> \"Cette S\u{e9}rie\" @FR-be .";
     let told = statement(rt.alloc(), LineFormat::NTriples, line)?;
-    let Object::Literal(literal) = &told.object else {
-        return Err("no literal")?;
-    };
-    assert_eq!(rt; literal.lexical(), "Cette S\u{e9}rie");
-    assert_eq!(rt; literal.tag(), Some("fr-be"));
+    assert!(rt; literal(&told) == Some(("Cette S\u{e9}rie", Some("fr-be"))));
     Ok(())
 }
 
@@ -77,9 +77,16 @@ fn labels(rt: HostRuntime) -> Result<(), Fail> {
     Ok(())
 }
 
+// What is told of a line: whether it holds a statement, or its fault.
+fn told(alloc: Global, format: LineFormat, line: &[u8]) -> Result<bool, FaultKind> {
+    match read_line(alloc, format, line) {
+        Ok(statement) => Ok(statement.is_some()),
+        Err(kind) => Err(kind),
+    }
+}
+
 #[test]
 fn refusals(rt: HostRuntime) {
-    let alloc = rt.alloc();
     for line in [
         "<http://e/a\\u0020b> <http://e/p> \"x\" .",
         "<http://e/s> <http://e/p> \"\\uD800\" .",
@@ -88,43 +95,31 @@ fn refusals(rt: HostRuntime) {
         "<http://e/s> <http://e/p> 'x' .",
         "<s> <http://e/p> \"x\"",
     ] {
-        assert!(rt;
-            matches!(
-                read_line(alloc, LineFormat::NTriples, line.as_bytes()),
-                Err(FaultKind::Syntax)
-            ),
-            "{line}"
-        );
+        let told = told(rt.alloc(), LineFormat::NTriples, line.as_bytes());
+        assert!(rt; told == Err(FaultKind::Syntax), "{line}");
     }
 }
 
 #[test]
 fn relative(rt: HostRuntime) {
-    let alloc = rt.alloc();
     for line in [
         "<s> <http://e/p> \"x\" .",
         "<http://e/s> <http://e/p> \"x\" ^^ <t> .",
         "<http://e/s> <http://e/p> \"x\" <g> .",
     ] {
-        assert!(rt;
-            matches!(
-                read_line(alloc, LineFormat::NQuads, line.as_bytes()),
-                Err(FaultKind::Relative)
-            ),
-            "{line}"
-        );
+        let told = told(rt.alloc(), LineFormat::NQuads, line.as_bytes());
+        assert!(rt; told == Err(FaultKind::Relative), "{line}");
     }
-    assert!(rt;
-        matches!(
-            read_line(alloc, LineFormat::NQuads, b"<s> \xFF"),
-            Err(FaultKind::NotUtf8)
-        )
-    );
-    assert!(rt;
-        matches!(
-            read_line(alloc, LineFormat::NQuads, b" \t# a comment"),
-            Ok(None)
-        )
-    );
     assert_eq!(rt; FaultKind::Relative.name(), "Relative");
+}
+
+#[test]
+fn bytes_that_are_no_text(rt: HostRuntime) {
+    let told = told(rt.alloc(), LineFormat::NQuads, b"<s> \xFF");
+    assert!(rt; told == Err(FaultKind::NotUtf8));
+}
+
+#[test]
+fn comments(rt: HostRuntime) {
+    assert!(rt; told(rt.alloc(), LineFormat::NQuads, b" \t# a comment") == Ok(false));
 }

@@ -100,28 +100,63 @@ fn tags(rt: HostRuntime) -> Result<(), Fail> {
     Ok(())
 }
 
+fn tagged_from_text(alloc: Global, lexical: &str, tag: &str) -> Option<Literal> {
+    let lexical = Text::new(alloc, lexical).ok()?;
+    Literal::tagged_from_text(alloc, lexical, tag).ok()?
+}
+
+fn is_copied(literal: &Literal) -> bool {
+    match literal.copy() {
+        Ok(copy) => copy == *literal,
+        Err(_) => false,
+    }
+}
+
 #[test]
 fn tagged_literals(rt: HostRuntime) -> Result<(), Fail> {
-    let alloc = rt.alloc();
-    let lexical = Text::new(alloc, "Cette S\u{e9}rie")?;
-    let literal = Literal::tagged_from_text(alloc, lexical, "fr-BE")?.ok_or("no tag")?;
+    let literal = tagged_from_text(rt.alloc(), "Cette S\u{e9}rie", "fr-BE").ok_or("no literal")?;
     assert_eq!(rt; literal.lexical(), "Cette S\u{e9}rie");
-    assert_eq!(rt; literal.tag().ok_or("no tag")?, "fr-be");
+    assert_eq!(rt; literal.tag(), Some("fr-be"));
     let datatype = "http://www.w3.org/1999/02/22-rdf-syntax-ns#langString";
     assert_eq!(rt; literal.datatype().as_str(), datatype);
-    assert!(rt; literal.copy()? == literal);
+    assert!(rt; is_copied(&literal));
     Ok(())
+}
+
+// The literal of a text and a copy of the datatype.
+fn from_text(alloc: Global, lexical: &str, datatype: &Iri) -> Option<Literal> {
+    let datatype = datatype.copy().ok()?;
+    match Text::new(alloc, lexical) {
+        Ok(text) => Some(Literal::from_text(text, datatype)),
+        Err(_) => None,
+    }
+}
+
+// Whether the literal is that of the lexical form and its own datatype.
+fn is_of(alloc: Global, literal: &Literal, lexical: &str) -> Option<bool> {
+    let datatype = literal.datatype().copy().ok()?;
+    match Literal::new(alloc, lexical, datatype) {
+        Ok(made) => Some(made == *literal),
+        Err(_) => None,
+    }
+}
+
+const INTEGER: &str = "http://www.w3.org/2001/XMLSchema#integer";
+
+// The literal of a text and the datatype of integers.
+fn integer(alloc: Global, lexical: &str) -> Option<Literal> {
+    let datatype = Iri::new(alloc, INTEGER).ok()?;
+    from_text(alloc, lexical, &datatype)
 }
 
 #[test]
 fn typed_literals(rt: HostRuntime) -> Result<(), Fail> {
-    let alloc = rt.alloc();
-    let datatype = Iri::new(alloc, "http://www.w3.org/2001/XMLSchema#integer")?;
-    let literal = Literal::from_text(Text::new(alloc, "01")?, datatype.copy()?);
+    let literal = integer(rt.alloc(), "01").ok_or("no memory")?;
     assert_eq!(rt; literal.lexical(), "01");
-    assert!(rt; *literal.datatype() == datatype && literal.tag().is_none());
-    assert!(rt; Literal::new(alloc, "01", datatype.copy()?)? == literal);
-    assert!(rt; Literal::new(alloc, "1", datatype)? != literal);
+    assert_eq!(rt; literal.datatype().as_str(), INTEGER);
+    assert!(rt; literal.tag().is_none());
+    assert!(rt; is_of(rt.alloc(), &literal, "01") == Some(true));
+    assert!(rt; is_of(rt.alloc(), &literal, "1") == Some(false));
     Ok(())
 }
 
@@ -171,17 +206,32 @@ fn text_is_appended(rt: HostRuntime) -> Result<(), Fail> {
 }
 
 #[test]
-fn terms_in_order(rt: HostRuntime) -> Result<(), Fail> {
-    let alloc = rt.alloc();
-    let iri = iri_of(alloc, "z:")?;
+fn blank_nodes_in_order(rt: HostRuntime) {
     assert_eq!(rt;
         compare_terms(&Term::Blank(9), &Term::Blank(10)),
         Ordering::Less
     );
-    assert_eq!(rt; compare_terms(&Term::Blank(10), &iri), Ordering::Less);
+}
+
+// How an IRI is ordered with a literal.
+fn order_with_literal(alloc: Global, iri: &Term) -> Result<Ordering, Fail> {
     let literal = typed_of(alloc, "", "a:")?;
-    assert_eq!(rt; compare_terms(&iri, &literal), Ordering::Less);
-    assert!(rt; same_term(&literal, &literal.copy()?));
+    Ok(compare_terms(iri, &literal))
+}
+
+#[test]
+fn kinds_in_order(rt: HostRuntime) -> Result<(), Fail> {
+    let iri = iri_of(rt.alloc(), "z:")?;
+    assert_eq!(rt; compare_terms(&Term::Blank(10), &iri), Ordering::Less);
+    assert!(rt; order_with_literal(rt.alloc(), &iri)? == Ordering::Less);
+    Ok(())
+}
+
+#[test]
+fn term_copies(rt: HostRuntime) -> Result<(), Fail> {
+    let literal = typed_of(rt.alloc(), "", "a:")?;
+    let copy = literal.copy();
+    assert!(rt; matches!(&copy, Ok(copy) if same_term(&literal, copy)));
     Ok(())
 }
 
@@ -196,13 +246,27 @@ fn tags_in_order(rt: HostRuntime) -> Result<(), Fail> {
     Ok(())
 }
 
+fn is_typed(alloc: Global, term: &Term, lexical: &str, datatype: &str) -> Result<bool, Fail> {
+    let typed = typed_of(alloc, lexical, datatype)?;
+    Ok(same_term(term, &typed))
+}
+
+fn is_tagged(alloc: Global, term: &Term, lexical: &str, tag: &str) -> Result<bool, Fail> {
+    let tagged = tagged_of(alloc, lexical, tag)?;
+    Ok(same_term(term, &tagged))
+}
+
 #[test]
-fn same_literals(rt: HostRuntime) -> Result<(), Fail> {
-    let alloc = rt.alloc();
-    let (one, other) = (typed_of(alloc, "a", "a:b")?, typed_of(alloc, "a", "a:c")?);
-    assert!(rt; !same_term(&one, &other));
-    let (one, other) = (tagged_of(alloc, "a", "EN")?, tagged_of(alloc, "a", "en")?);
-    assert!(rt; same_term(&one, &other));
+fn datatypes_that_differ(rt: HostRuntime) -> Result<(), Fail> {
+    let literal = typed_of(rt.alloc(), "a", "a:b")?;
+    assert!(rt; !is_typed(rt.alloc(), &literal, "a", "a:c")?);
+    Ok(())
+}
+
+#[test]
+fn tags_in_other_case(rt: HostRuntime) -> Result<(), Fail> {
+    let literal = tagged_of(rt.alloc(), "a", "EN")?;
+    assert!(rt; is_tagged(rt.alloc(), &literal, "a", "en")?);
     Ok(())
 }
 
@@ -232,11 +296,22 @@ fn parts(rt: HostRuntime) -> Result<(), Fail> {
 }
 
 #[test]
+fn name_copies(rt: HostRuntime) {
+    let copy = GraphName::Named(Term::Blank(1)).copy();
+    assert!(rt; matches!(copy, Ok(GraphName::Named(Term::Blank(1)))));
+}
+
+fn is_quad_copied(quad: &Quad) -> bool {
+    match quad.copy() {
+        Ok(copy) => same_quad(&copy, quad),
+        Err(_) => false,
+    }
+}
+
+#[test]
 fn quad_copies(rt: HostRuntime) -> Result<(), Fail> {
-    let named = GraphName::Named(Term::Blank(1));
-    let quad = quad_of(rt.alloc(), named.copy()?, 0, 2)?;
-    assert!(rt; *quad.graph() == named);
-    assert!(rt; same_quad(&quad.copy()?, &quad));
+    let quad = quad_of(rt.alloc(), GraphName::Named(Term::Blank(1)), 0, 2)?;
+    assert!(rt; is_quad_copied(&quad));
     Ok(())
 }
 
@@ -249,14 +324,14 @@ fn wrong_subjects(rt: HostRuntime) -> Result<(), Fail> {
     Ok(())
 }
 
+fn may_be_predicate(term: Term) -> bool {
+    Quad::new(GraphName::Default, Term::Blank(1), term, Term::Blank(1)).is_some()
+}
+
 #[test]
 fn wrong_predicates(rt: HostRuntime) -> Result<(), Fail> {
-    let literal = typed_of(rt.alloc(), "", "a:")?;
-    let blank = Term::Blank(0);
-    let quad = Quad::new(GraphName::Default, Term::Blank(1), blank, Term::Blank(1));
-    assert!(rt; quad.is_none());
-    let quad = Quad::new(GraphName::Default, Term::Blank(1), literal, Term::Blank(1));
-    assert!(rt; quad.is_none());
+    assert!(rt; !may_be_predicate(Term::Blank(0)));
+    assert!(rt; !may_be_predicate(typed_of(rt.alloc(), "", "a:")?));
     Ok(())
 }
 
@@ -269,11 +344,16 @@ fn wrong_graphs(rt: HostRuntime) -> Result<(), Fail> {
     Ok(())
 }
 
+// How a quad is ordered with one of a named graph.
+fn order_with_named(alloc: Global, quad: &Quad) -> Result<Ordering, Fail> {
+    let named = quad_of(alloc, GraphName::Named(Term::Blank(0)), 0, 0)?;
+    Ok(compare_quads(quad, &named))
+}
+
 #[test]
 fn quads_in_order(rt: HostRuntime) -> Result<(), Fail> {
     let plain = quad_of(rt.alloc(), GraphName::Default, 9, 0)?;
-    let named = quad_of(rt.alloc(), GraphName::Named(Term::Blank(0)), 0, 0)?;
-    assert_eq!(rt; compare_quads(&plain, &named), Ordering::Less);
+    assert!(rt; order_with_named(rt.alloc(), &plain)? == Ordering::Less);
     Ok(())
 }
 
