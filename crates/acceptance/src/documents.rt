@@ -17,23 +17,28 @@ fn numbers(quad: &Quad) -> Option<(u64, u64)> {
     }
 }
 
+// What the next call answers, with a statement's numbers in the statement's place.
+fn answer<R: Read + Drop>(
+    lines: &mut LineReader<R>,
+) -> Result<Option<Option<(u64, u64)>>, LineFault> {
+    match lines.next() {
+        Ok(Some(quad)) => Ok(Some(numbers(&quad))),
+        Ok(None) => Ok(None),
+        Err(fault) => Err(fault),
+    }
+}
+
 // The numbers in the next statement.
 fn next_numbers<R: Read + Drop>(lines: &mut LineReader<R>) -> Option<(u64, u64)> {
-    match lines.next() {
-        Ok(Some(quad)) => numbers(&quad),
-        _ => None,
-    }
+    answer(lines).ok()??
 }
 
 fn fails<R: Read + Drop>(lines: &mut LineReader<R>, line: u64, kind: FaultKind) -> bool {
-    match lines.next() {
-        Err(fault) => fault.line == line && fault.kind == kind,
-        Ok(_) => false,
-    }
+    answer(lines) == Err(LineFault { line, kind })
 }
 
 fn ends<R: Read + Drop>(lines: &mut LineReader<R>) -> bool {
-    matches!(lines.next(), Ok(None))
+    answer(lines) == Ok(None)
 }
 
 // A CR LF over a piece's end, an empty line, a comment, LF CR as two line ends, and a faulty seventh line.

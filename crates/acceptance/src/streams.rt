@@ -27,18 +27,23 @@ fn due(input: &[u8], read: usize, ends: &[usize], output: &'static [u8]) -> Opti
     output.get(..*ends.get(lines)?)
 }
 
-// Whether a session whose reader fails behind so many bytes answers what is due.
-fn session_read(alloc: Global, read: usize) -> Option<bool> {
+// Whether a session whose reader fails behind these bytes answers what is wanted.
+fn is_answered(alloc: Global, bytes: &'static [u8], wanted: &[u8]) -> bool {
     let mut keeper = Keeper::new(alloc, None);
     let mut reader = OneByteReader {
-        bytes: SCRIPT.get(..read)?,
+        bytes,
         ending: Ending::Interrupted,
     };
     let mut output = Vec::new(alloc);
     let settings = Settings { stop: false };
     let status = run(alloc, &mut keeper, &mut reader, &mut output, settings);
+    status == Status::ReadFailed && output.as_slice() == wanted
+}
+
+// Whether a session whose reader fails behind so many bytes answers what is due.
+fn session_read(alloc: Global, read: usize) -> Option<bool> {
     let wanted = due(SCRIPT, read, &ANSWERED, ANSWERS)?;
-    Some(status == Status::ReadFailed && output.as_slice() == wanted)
+    Some(is_answered(alloc, SCRIPT.get(..read)?, wanted))
 }
 
 #[test]

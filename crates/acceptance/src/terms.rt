@@ -100,6 +100,15 @@ fn tags(rt: HostRuntime) -> Result<(), Fail> {
     Ok(())
 }
 
+// A literal's lexical form, datatype and tag.
+fn parts_of(literal: &Literal) -> (&str, &str, Option<&str>) {
+    (
+        literal.lexical(),
+        literal.datatype().as_str(),
+        literal.tag(),
+    )
+}
+
 fn tagged_from_text(alloc: Global, lexical: &str, tag: &str) -> Option<Literal> {
     let lexical = Text::new(alloc, lexical).ok()?;
     Literal::tagged_from_text(alloc, lexical, tag).ok()?
@@ -115,10 +124,8 @@ fn is_copied(literal: &Literal) -> bool {
 #[test]
 fn tagged_literals(rt: HostRuntime) -> Result<(), Fail> {
     let literal = tagged_from_text(rt.alloc(), "Cette S\u{e9}rie", "fr-BE").ok_or("no literal")?;
-    assert_eq!(rt; literal.lexical(), "Cette S\u{e9}rie");
-    assert_eq!(rt; literal.tag(), Some("fr-be"));
     let datatype = "http://www.w3.org/1999/02/22-rdf-syntax-ns#langString";
-    assert_eq!(rt; literal.datatype().as_str(), datatype);
+    assert!(rt; parts_of(&literal) == ("Cette S\u{e9}rie", datatype, Some("fr-be")));
     assert!(rt; is_copied(&literal));
     Ok(())
 }
@@ -152,9 +159,7 @@ fn integer(alloc: Global, lexical: &str) -> Option<Literal> {
 #[test]
 fn typed_literals(rt: HostRuntime) -> Result<(), Fail> {
     let literal = integer(rt.alloc(), "01").ok_or("no memory")?;
-    assert_eq!(rt; literal.lexical(), "01");
-    assert_eq!(rt; literal.datatype().as_str(), INTEGER);
-    assert!(rt; literal.tag().is_none());
+    assert!(rt; parts_of(&literal) == ("01", INTEGER, None));
     assert!(rt; is_of(rt.alloc(), &literal, "01") == Some(true));
     assert!(rt; is_of(rt.alloc(), &literal, "1") == Some(false));
     Ok(())
@@ -177,21 +182,29 @@ fn text_of_iris(rt: HostRuntime) -> Result<(), Fail> {
     Ok(())
 }
 
+fn text_of_typed(alloc: Global, lexical: &str, datatype: &str) -> Result<Vec<u8>, Fail> {
+    let literal = typed_of(alloc, lexical, datatype)?;
+    text_of(alloc, &literal)
+}
+
+fn text_of_tagged(alloc: Global, lexical: &str, tag: &str) -> Result<Vec<u8>, Fail> {
+    let literal = tagged_of(alloc, lexical, tag)?;
+    text_of(alloc, &literal)
+}
+
 #[test]
 fn text_of_strings(rt: HostRuntime) -> Result<(), Fail> {
-    let alloc = rt.alloc();
     let string = "http://www.w3.org/2001/XMLSchema#string";
-    let text = text_of(alloc, &typed_of(alloc, "a\"\\\n\r\tb\u{7f}", string)?)?;
+    let text = text_of_typed(rt.alloc(), "a\"\\\n\r\tb\u{7f}", string)?;
     assert_eq!(rt; text.as_slice(), b"\"a\\\"\\\\\\n\\r\tb\x7f\"".as_slice());
     Ok(())
 }
 
 #[test]
 fn text_of_typed_literals(rt: HostRuntime) -> Result<(), Fail> {
-    let alloc = rt.alloc();
-    let text = text_of(alloc, &typed_of(alloc, "1", "http://e/d")?)?;
+    let text = text_of_typed(rt.alloc(), "1", "http://e/d")?;
     assert_eq!(rt; text.as_slice(), b"\"1\"^^<http://e/d>".as_slice());
-    let text = text_of(alloc, &tagged_of(alloc, "hi", "EN-us")?)?;
+    let text = text_of_tagged(rt.alloc(), "hi", "EN-us")?;
     assert_eq!(rt; text.as_slice(), b"\"hi\"@en-us".as_slice());
     Ok(())
 }
@@ -270,10 +283,13 @@ fn tags_in_other_case(rt: HostRuntime) -> Result<(), Fail> {
     Ok(())
 }
 
+fn quad(alloc: Global, graph: GraphName, subject: u64, object: u64) -> Option<Quad> {
+    let predicate = Term::Iri(Iri::new(alloc, "a:").ok()?);
+    Quad::new(graph, Term::Blank(subject), predicate, Term::Blank(object))
+}
+
 fn quad_of(alloc: Global, graph: GraphName, subject: u64, object: u64) -> Result<Quad, Fail> {
-    let predicate = iri_of(alloc, "a:")?;
-    let quad = Quad::new(graph, Term::Blank(subject), predicate, Term::Blank(object));
-    Ok(quad.ok_or("no quad")?)
+    Ok(quad(alloc, graph, subject, object).ok_or("no quad")?)
 }
 
 #[test]
@@ -309,18 +325,21 @@ fn is_quad_copied(quad: &Quad) -> bool {
 }
 
 #[test]
-fn quad_copies(rt: HostRuntime) -> Result<(), Fail> {
-    let quad = quad_of(rt.alloc(), GraphName::Named(Term::Blank(1)), 0, 2)?;
-    assert!(rt; is_quad_copied(&quad));
-    Ok(())
+fn quad_copies(rt: HostRuntime) {
+    let made = quad(rt.alloc(), GraphName::Named(Term::Blank(1)), 0, 2);
+    assert!(rt; made.as_ref().map(is_quad_copied) == Some(true));
+}
+
+// Whether the name and the subject stand in a quad, which has a right predicate.
+fn may_stand(alloc: Global, graph: GraphName, subject: Term) -> Option<bool> {
+    let predicate = Term::Iri(Iri::new(alloc, "a:").ok()?);
+    Some(Quad::new(graph, subject, predicate, Term::Blank(1)).is_some())
 }
 
 #[test]
 fn wrong_subjects(rt: HostRuntime) -> Result<(), Fail> {
-    let alloc = rt.alloc();
-    let (literal, iri) = (typed_of(alloc, "", "a:")?, iri_of(alloc, "a:")?);
-    let quad = Quad::new(GraphName::Default, literal, iri, Term::Blank(1));
-    assert!(rt; quad.is_none());
+    let literal = typed_of(rt.alloc(), "", "a:")?;
+    assert!(rt; may_stand(rt.alloc(), GraphName::Default, literal) == Some(false));
     Ok(())
 }
 
@@ -337,24 +356,26 @@ fn wrong_predicates(rt: HostRuntime) -> Result<(), Fail> {
 
 #[test]
 fn wrong_graphs(rt: HostRuntime) -> Result<(), Fail> {
-    let alloc = rt.alloc();
-    let (literal, iri) = (typed_of(alloc, "", "a:")?, iri_of(alloc, "a:")?);
-    let named = GraphName::Named(literal);
-    assert!(rt; Quad::new(named, Term::Blank(0), iri, Term::Blank(1)).is_none());
+    let named = GraphName::Named(typed_of(rt.alloc(), "", "a:")?);
+    assert!(rt; may_stand(rt.alloc(), named, Term::Blank(0)) == Some(false));
     Ok(())
 }
 
 // How a quad is ordered with one of a named graph.
-fn order_with_named(alloc: Global, quad: &Quad) -> Result<Ordering, Fail> {
-    let named = quad_of(alloc, GraphName::Named(Term::Blank(0)), 0, 0)?;
-    Ok(compare_quads(quad, &named))
+fn order_with_named(alloc: Global, plain: &Quad) -> Option<Ordering> {
+    let named = quad(alloc, GraphName::Named(Term::Blank(0)), 0, 0)?;
+    Some(compare_quads(plain, &named))
+}
+
+// How a quad of the default graph is ordered with one of a named graph.
+fn order_of_graphs(alloc: Global) -> Option<Ordering> {
+    let plain = quad(alloc, GraphName::Default, 9, 0)?;
+    order_with_named(alloc, &plain)
 }
 
 #[test]
-fn quads_in_order(rt: HostRuntime) -> Result<(), Fail> {
-    let plain = quad_of(rt.alloc(), GraphName::Default, 9, 0)?;
-    assert!(rt; order_with_named(rt.alloc(), &plain)? == Ordering::Less);
-    Ok(())
+fn quads_in_order(rt: HostRuntime) {
+    assert!(rt; order_of_graphs(rt.alloc()) == Some(Ordering::Less));
 }
 
 #[test]
