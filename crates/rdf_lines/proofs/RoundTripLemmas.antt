@@ -1,5 +1,5 @@
 -- The line of a quad says the quad's statement, and tells the quad from all others.
-use Rattle.std.proofs.Common.{◌≡◌, ◌∙◌, ap, refl, sym, subst, ℕ, ◌<◌, ◌^◌, arith, true, false, not, List, [], ◌∷◌, ◌++◌, codes, decimal, chars, IsUtf8, true≢false, append_assoc, Option, Some, Result, Ok, IsTrue}
+use Rattle.std.proofs.Common.{◌≡◌, ◌∙◌, ap, refl, sym, subst, ℕ, ◌<◌, ◌^◌, arith, true, false, List, [], ◌∷◌, ◌++◌, codes, decimal, chars, IsUtf8, true≢false, append_assoc, Option, Some, Result, Ok, IsTrue}
 use Rattle.std.specs.List.{AllByRecursion}
 use Rattle.std.proofs.lemmas.Bool.{and_parts, ltb-true, not-true}
 use Rattle.std.proofs.lemmas.Fmt.{decimal_injective}
@@ -10,13 +10,14 @@ use Rattle.rdf_terms.specs.Literal.{LiteralParts}
 use Rattle.rdf_terms.specs.Term.{is_term, is_literal_term, is_iri_term}
 use Rattle.rdf_terms.specs.TermText.{term_text}
 use Rattle.rdf_terms.specs.Quoted.{IsIriRef}
-use Rattle.rdf_terms.specs.Quad.{may_name_graph, has_right_kinds, is_graph, is_quad}
+use Rattle.rdf_terms.specs.Quad.{may_name_graph, is_graph, is_quad}
 use Rattle.rdf_terms.specs.declared.term.Term.{Term}
 use Rattle.rdf_terms.specs.declared.term.Term.TheVariants.{Blank, Iri, Literal}
 use Rattle.rdf_terms.specs.declared.quad.GraphName.{GraphName}
 use Rattle.rdf_terms.specs.declared.quad.GraphName.TheVariants.{Default, Named}
 use Rattle.rdf_terms.specs.declared.quad.Quad.{Quad}
 use Rattle.rdf_terms.proofs.AsciiLemmas.{utf8_one, utf8_cons, chars_one, chars_cons}
+use Rattle.rdf_terms.proofs.QuadTests.{QuadTests, quad_tests}
 use Rattle.rdf_terms.proofs.WrittenIriLemmas.{iri_scheme}
 use Rattle.rdf_terms.proofs.WrittenTermLemmas.{term_utf8}
 use Rattle.rdf_lines.specs.declared.fault.FaultKind.{FaultKind}
@@ -31,35 +32,6 @@ use Rattle.rdf_lines.specs.QuadText.{graph_text, quad_text}
 use Rattle.rdf_lines.specs.RoundTrip.{label_of, node_of, predicate_of, object_of, graph_of, statement_of, EachLineIsReadBack, LinesDiffer}
 use Rattle.rdf_lines.proofs.LineLaws.{one_answer}
 use Rattle.rdf_lines.proofs.WrittenPieceLemmas.{predicate_back, node_back, object_back}
-
--- ---- a quad's test
-
-pub record QuadTests (q : Quad) : Type 0 where
-  pub graph_kind : may_name_graph q.graph ≡ true
-  pub subject_kind : is_literal_term q.subject ≡ false
-  pub predicate_kind : is_iri_term q.predicate ≡ true
-  pub graph : is_graph q.graph ≡ true
-  pub subject : is_term q.subject ≡ true
-  pub predicate : is_term q.predicate ≡ true
-  pub object : is_term q.object ≡ true
-
-pub quad_tests : (q : Quad) → is_quad q ≡ true → QuadTests q
-quad_tests q h =
-    let all = and_parts (has_right_kinds q) _ h in
-    let kinds = and_parts (may_name_graph q.graph) _ all.0 in
-    let places = and_parts (not (is_literal_term q.subject)) (is_iri_term q.predicate) kinds.1 in
-    let graph = and_parts (is_graph q.graph) _ all.1 in
-    let subject = and_parts (is_term q.subject) _ graph.1 in
-    let rest = and_parts (is_term q.predicate) (is_term q.object) subject.1 in
-    record {
-      graph_kind = kinds.0;
-      subject_kind = not-true (is_literal_term q.subject) places.0;
-      predicate_kind = places.1;
-      graph = graph.0;
-      subject = subject.0;
-      predicate = rest.0;
-      object = rest.1;
-    }
 
 -- ---- the line of a quad
 

@@ -15,6 +15,7 @@ use Rattle.rdf_terms.specs.declared.term.Term.TheVariants.{Blank, Iri, Literal}
 use Rattle.rdf_terms.specs.declared.quad.GraphName.{GraphName}
 use Rattle.rdf_terms.specs.declared.quad.GraphName.TheVariants.{Default, Named}
 use Rattle.rdf_terms.specs.declared.quad.Quad.{Quad}
+use Rattle.rdf_terms.proofs.QuadTests.{QuadTests, quad_tests}
 use Rattle.rdf_terms.proofs.SkipLemmas.{AllPass}
 use Rattle.rdf_terms.proofs.TagForms.{tag_name}
 use Rattle.rdf_terms.proofs.WrittenIriLemmas.{iri_allowed}
@@ -27,7 +28,7 @@ use Rattle.rdf_lines.specs.Document.{Reads}
 use Rattle.rdf_lines.specs.QuadText.{quad_text}
 use Rattle.rdf_lines.specs.RoundTrip.{statement_of}
 use Rattle.rdf_lines.proofs.WrittenTagLemmas.{is_end, tag_no_end}
-use Rattle.rdf_lines.proofs.RoundTripLemmas.{QuadTests, quad_tests, end_text, line_of, quad_line, says_statement}
+use Rattle.rdf_lines.proofs.RoundTripLemmas.{end_text, line_of, quad_line, says_statement}
 
 abbrev NoEnd : List ℕ → Type 0
 NoEnd bs = list_any is_end bs ≡ false

@@ -12,6 +12,7 @@ pub mod OptionLemmas
 pub mod PastLemmas
 pub mod PlaceLemmas
 pub mod QuadLemmas
+pub mod QuadTests
 pub mod QuotedLemmas
 pub mod ReferenceLemmas
 pub mod ResolutionLemmas

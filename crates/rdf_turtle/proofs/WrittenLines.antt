@@ -1,15 +1,13 @@
 -- The lines of triples, one after the other, are cut into their tokens.
-use Rattle.std.proofs.Common.{◌≡◌, ◌∙◌, ap, refl, sym, subst, ℕ, arith, true, false, not, List, [], ◌∷◌, ◌++◌, codes, chars, IsUtf8, append_assoc}
+use Rattle.std.proofs.Common.{◌≡◌, ◌∙◌, ap, refl, sym, subst, ℕ, arith, true, List, [], ◌∷◌, ◌++◌, codes, chars, IsUtf8, append_assoc}
 use Rattle.std.specs.List.{flat_map, AllByRecursion}
-use Rattle.std.proofs.lemmas.Bool.{and_parts, not-true}
 use Rattle.std.proofs.lemmas.Str.{chars-append, chars-nil, IsUtf8-append, IsUtf8-nil}
-use Rattle.rdf_terms.specs.Quad.{may_name_graph, has_right_kinds, is_graph}
-use Rattle.rdf_terms.specs.Term.{is_term, is_literal_term, is_iri_term}
+use Rattle.rdf_terms.specs.Term.{is_term}
 use Rattle.rdf_terms.specs.TermText.{term_text}
 use Rattle.rdf_terms.specs.declared.term.Term.{Term}
-use Rattle.rdf_terms.specs.declared.quad.GraphName.TheVariants.{Default}
 use Rattle.rdf_terms.specs.declared.quad.Quad.{Quad}
 use Rattle.rdf_terms.proofs.AsciiLemmas.{utf8_cons, chars_cons}
+use Rattle.rdf_terms.proofs.QuadTests.{QuadTests, quad_tests}
 use Rattle.rdf_terms.proofs.WrittenTermLemmas.{term_utf8}
 use Rattle.rdf_turtle.specs.declared.token.Kind.TheVariants as kind
 use Rattle.rdf_turtle.specs.Document.{HasTokens}
@@ -17,35 +15,6 @@ use Rattle.rdf_turtle.specs.WrittenLaws.{triple_text, IsDefaultQuad}
 use Rattle.rdf_turtle.proofs.WrittenTokens.{dot_token}
 use Rattle.rdf_turtle.proofs.WrittenCuts.{Slice, Cut, HasList, lexemes_of, list_of, cut_white, cut_token, cut_end}
 use Rattle.rdf_turtle.proofs.WrittenTerms.{term_slices, written_term}
-
--- ---- a quad's test
-
-pub record Tests (q : Quad) : Type 0 where
-  pub right_kinds : has_right_kinds q ≡ true
-  pub subject_kind : is_literal_term q.subject ≡ false
-  pub predicate_kind : is_iri_term q.predicate ≡ true
-  pub subject : is_term q.subject ≡ true
-  pub predicate : is_term q.predicate ≡ true
-  pub object : is_term q.object ≡ true
-  pub in_default : q.graph ≡ Default
-
-pub tests : (q : Quad) → IsDefaultQuad q → Tests q
-tests q h =
-    let all = and_parts (has_right_kinds q) _ h.0 in
-    let kinds = and_parts (may_name_graph q.graph) _ all.0 in
-    let places = and_parts (not (is_literal_term q.subject)) (is_iri_term q.predicate) kinds.1 in
-    let graph = and_parts (is_graph q.graph) _ all.1 in
-    let subject = and_parts (is_term q.subject) _ graph.1 in
-    let rest = and_parts (is_term q.predicate) (is_term q.object) subject.1 in
-    record {
-      right_kinds = all.0;
-      subject_kind = not-true (is_literal_term q.subject) places.0;
-      predicate_kind = places.1;
-      subject = subject.0;
-      predicate = rest.0;
-      object = rest.1;
-      in_default = h.1;
-    }
 
 -- ---- the line of a triple
 
@@ -72,7 +41,7 @@ line_is q rest = by (term_text q.subject) (term_text q.predicate) (term_text q.o
         ∙ spaced ((s ++ 32 ∷ []) ++ p) o (32 ∷ 46 ∷ 10 ∷ rest)
         ∙ spaced s p (32 ∷ (o ++ 32 ∷ 46 ∷ 10 ∷ rest))
 
-line_utf8 : (q : Quad) (rest : List ℕ) → Tests q → IsUtf8 rest → IsUtf8 (line q rest)
+line_utf8 : (q : Quad) (rest : List ℕ) → QuadTests q → IsUtf8 rest → IsUtf8 (line q rest)
 line_utf8 q rest t u =
     let end = utf8_cons 32 (46 ∷ 10 ∷ rest) (omega arith) (utf8_cons 46 (10 ∷ rest) (omega arith) (utf8_cons 10 rest (omega arith) u)) in
     let object = IsUtf8-append (term_text q.object) (32 ∷ 46 ∷ 10 ∷ rest) (term_utf8 q.object t.object) end in
@@ -94,7 +63,7 @@ end_cut rest ps cut =
     subst (λ (t : List ℕ). Cut t ((kind.Symbol, 46 ∷ []) ∷ ps)) (sym same)
     (cut_token kind.Symbol (46 ∷ []) (10 ∷ chars rest) ps (dot_token (chars rest)) (cut_white 10 (chars rest) ps refl cut))
 
-line_cut : (q : Quad) (rest : List ℕ) (ps : List Slice) → Tests q → Cut (chars rest) ps → Cut (chars (line q rest)) (triple_slices q ps)
+line_cut : (q : Quad) (rest : List ℕ) (ps : List Slice) → QuadTests q → Cut (chars rest) ps → Cut (chars (line q rest)) (triple_slices q ps)
 line_cut q rest ps t cut =
     term_cut q.subject _ _ t.subject
     (term_cut q.predicate _ _ t.predicate
@@ -104,13 +73,13 @@ line_cut q rest ps t cut =
 
 all_utf8 : (quads : List Quad) → AllByRecursion IsDefaultQuad quads → IsUtf8 (flat_map triple_text quads)
 all_utf8 [] h = IsUtf8-nil
-all_utf8 (q ∷ quads) h = subst IsUtf8 (sym (line_is q (flat_map triple_text quads))) (line_utf8 q (flat_map triple_text quads) (tests q h.0) (all_utf8 quads h.1))
+all_utf8 (q ∷ quads) h = subst IsUtf8 (sym (line_is q (flat_map triple_text quads))) (line_utf8 q (flat_map triple_text quads) (quad_tests q h.0.0) (all_utf8 quads h.1))
 
 all_cut : (quads : List Quad) → AllByRecursion IsDefaultQuad quads → Cut (chars (flat_map triple_text quads)) (document_slices quads)
 all_cut [] h = subst (λ (t : List ℕ). Cut t []) (sym chars-nil) cut_end
 all_cut (q ∷ quads) h =
     subst (λ (t : List ℕ). Cut (chars t) (triple_slices q (document_slices quads))) (sym (line_is q (flat_map triple_text quads)))
-    (line_cut q (flat_map triple_text quads) (document_slices quads) (tests q h.0) (all_cut quads h.1))
+    (line_cut q (flat_map triple_text quads) (document_slices quads) (quad_tests q h.0.0) (all_cut quads h.1))
 
 pub lines_list : (quads : List Quad) → AllByRecursion IsDefaultQuad quads
     → HasList (chars (flat_map triple_text quads)) (chars (flat_map triple_text quads)) (lexemes_of (document_slices quads))

@@ -13,7 +13,9 @@ use Rattle.rdf_terms.specs.Term.{is_term, is_iri_term}
 use Rattle.rdf_terms.specs.TermText.{escaped}
 use Rattle.rdf_terms.specs.declared.term.Term.{Term}
 use Rattle.rdf_terms.specs.declared.term.Term.TheVariants as t
+use Rattle.rdf_terms.specs.declared.quad.GraphName.TheVariants.{Default}
 use Rattle.rdf_terms.specs.declared.quad.Quad.{Quad}
+use Rattle.rdf_terms.proofs.QuadTests.{QuadTests, quad_tests}
 use Rattle.rdf_terms.proofs.TagForms.{tag_name, tag_low, ascii_from}
 use Rattle.rdf_terms.proofs.WrittenIriLemmas.{iri_scheme, iri_allowed, iri_form}
 use Rattle.rdf_terms.proofs.WrittenTermLemmas.{lower_stays, tag_parts, literal_parts}
@@ -42,7 +44,6 @@ use Rattle.rdf_turtle.specs.WrittenLaws.{IsDefaultQuad}
 use Rattle.rdf_turtle.proofs.ValueIris.{iri_value_is}
 use Rattle.rdf_turtle.proofs.ValueTexts.{text_value_is}
 use Rattle.rdf_turtle.proofs.WrittenTerms.{iri_slice, text_slice, label_slice, tag_slice}
-use Rattle.rdf_turtle.proofs.WrittenLines.{Tests, tests}
 use Rattle.rdf_turtle.proofs.WrittenTrees as tree
 use Rattle.rdf_turtle.proofs.WrittenTrees.{datatype_tree, literal_tree, verb_of, statement_of}
 use Rattle.rdf_turtle.proofs.WrittenNumbers.{Follows, follows_split, Names, key, starts, label_goes}
@@ -187,20 +188,20 @@ record Said (q : Quad) (before : State) (m : ℕ) : Type 0 where
   names : Names after m
   more : after.quads ≡ before.quads ++ q ∷ []
 
-statement_goes : (q : Quad) (st : State) (n m : ℕ) → Tests q → Names st n → Follows n (blanks_of q) m → Said q st m
-statement_goes q st n m h names f = by q.predicate refl
+statement_goes : (q : Quad) (st : State) (n m : ℕ) → QuadTests q → q.graph ≡ Default → Names st n → Follows n (blanks_of q) m → Said q st m
+statement_goes q st n m h d names f = by q.predicate refl
   where
     by : (p : Term) → q.predicate ≡ p → Said q st m
     by (t.Blank number) e = absurd (true≢false (sym h.predicate_kind ∙ ap is_iri_term e))
     by (t.Literal w) e = absurd (true≢false (sym h.predicate_kind ∙ ap is_iri_term e))
     by (t.Iri i) e =
-        let numbers : Follows n ((blanks_in q.subject ++ blanks_in q.object) ++ []) m = subst (λ g. Follows n ((blanks_in q.subject ++ blanks_in q.object) ++ blanks_in_graph g) m) h.in_default f in
+        let numbers : Follows n ((blanks_in q.subject ++ blanks_in q.object) ++ []) m = subst (λ g. Follows n ((blanks_in q.subject ++ blanks_in q.object) ++ blanks_in_graph g) m) d f in
         let outer = follows_split (blanks_in q.subject ++ blanks_in q.object) [] n m numbers in
         let inner = follows_split (blanks_in q.subject) (blanks_in q.object) n outer.0 outer.1 in
         let first = term_goes q.subject st n inner.0 h.subject names inner.1 in
         let second = term_goes q.object first.after inner.0 outer.0 h.object first.names inner.2 in
         let is_predicate : is_iri i ≡ true = sym (ap is_term e) ∙ h.predicate in
-        let same : triple q.subject i q.object ≡ q = λ j. record { graph = sym h.in_default j; subject = q.subject; predicate = sym e j; object = q.object } in
+        let same : triple q.subject i q.object ≡ q = λ j. record { graph = sym d j; subject = q.subject; predicate = sym e j; object = q.object } in
         let kinds : has_right_kinds (triple q.subject i q.object) ≡ true = ap has_right_kinds same ∙ h.right_kinds in
         record {
           after = grown second.after q;
@@ -218,7 +219,7 @@ document_goes : (quads : List Quad) (st : State) (n m : ℕ) → AllByRecursion 
 document_goes [] st n m h names f = (st, refl, sym (append-nil st.quads))
 document_goes (q ∷ quads) st n m h names f =
     let parts = follows_split (blanks_of q) (flat_map blanks_of quads) n m f in
-    let first = statement_goes q st n parts.0 (tests q h.0) names parts.1 in
+    let first = statement_goes q st n parts.0 (quad_tests q h.0.0) h.0.1 names parts.1 in
     let rest = document_goes quads first.after parts.0 m h.1 first.names parts.2 in (
       rest.0,
       rw first.goes rest.1,

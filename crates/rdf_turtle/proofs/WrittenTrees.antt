@@ -9,6 +9,7 @@ use Rattle.rdf_terms.specs.Term.{is_literal_term, is_iri_term}
 use Rattle.rdf_terms.specs.declared.term.Term.{Term}
 use Rattle.rdf_terms.specs.declared.term.Term.TheVariants as t
 use Rattle.rdf_terms.specs.declared.quad.Quad.{Quad}
+use Rattle.rdf_terms.proofs.QuadTests.{QuadTests, quad_tests}
 use Rattle.rdf_turtle.specs.declared.lexeme.Terminal.{Terminal}
 use Rattle.rdf_turtle.specs.declared.lexeme.Terminal.TheVariants as terminal
 use Rattle.rdf_turtle.specs.declared.token.Kind.TheVariants as kind
@@ -31,7 +32,7 @@ use Rattle.rdf_turtle.specs.Rules.{Lexemes}
 use Rattle.rdf_turtle.specs.WrittenLaws.{IsDefaultQuad}
 use Rattle.rdf_turtle.proofs.WrittenCuts.{Slice, lexeme_of, lexemes_of}
 use Rattle.rdf_turtle.proofs.WrittenTerms.{iri_slice, text_slice, label_slice, tag_slice, datatype_slices, suffix_slices, term_slices}
-use Rattle.rdf_turtle.proofs.WrittenLines.{Tests, tests, triple_slices, document_slices}
+use Rattle.rdf_turtle.proofs.WrittenLines.{triple_slices, document_slices}
 
 -- ---- the tree
 
@@ -152,7 +153,7 @@ module _ (inner object : Derives Node) (reads : (x : Term) (ps : List Slice) →
   properties_derive p x ps h =
       then_from (property_with (verb_of p) (node_of x ∷ [])) (lexemes_of ps) (property_derives p x ps h) (then_from [] (lexemes_of ps) stop (refl, refl))
 
-  statement_derives : (q : Quad) (ps : List Slice) → Tests q → g.AStatement inner object (lexemes_of (triple_slices q ps)) (statement_of q) (lexemes_of ps)
+  statement_derives : (q : Quad) (ps : List Slice) → QuadTests q → g.AStatement inner object (lexemes_of (triple_slices q ps)) (statement_of q) (lexemes_of ps)
   statement_derives q ps h =
       let dot = (kind.Symbol, 46 ∷ []) ∷ ps in
       let about = term_slices q.predicate ++ (term_slices q.object ++ dot) in
@@ -168,7 +169,7 @@ document_derives quads h = (0, all quads h)
     all : (quads : List Quad) → AllByRecursion IsDefaultQuad quads → g.Document 0 (lexemes_of (document_slices quads)) (map statement_of quads) []
     all [] h = stop
     all (q ∷ quads) h =
-        more (made_from (λ x. x ∷ []) (statement_of q) (statement_derives (g.Objects_at 0) (g.Objects_at 1) (λ x ps. object_derives (g.Objects_at 0) x ps) q (document_slices quads) (tests q h.0))) (all quads h.1)
+        more (made_from (λ x. x ∷ []) (statement_of q) (statement_derives (g.Objects_at 0) (g.Objects_at 1) (λ x ps. object_derives (g.Objects_at 0) x ps) q (document_slices quads) (quad_tests q h.0.0))) (all quads h.1)
 
 -- ---- no bracket opens
 
