@@ -86,6 +86,10 @@ fn lines_of_faults(rt: HostRuntime) -> Result<(), Fail> {
             "<a:s> <a:p>\n\nx:a .",
             "rdfkeep: refused: UnknownPrefix line 3\n",
         ),
+        (
+            "<a:s> <a:p>\n\n<x> .",
+            "rdfkeep: refused: Relative line 3\n",
+        ),
         ("<a:s>\n<a:p> ~ .", "rdfkeep: refused: Token line 2\n"),
     ] {
         assert!(rt; is_refused(&rt, text.as_bytes(), error)?);
