@@ -105,7 +105,12 @@ fn new_datasets(rt: HostRuntime) {
     let empty = Dataset::new(rt.alloc());
     assert!(rt; empty.quads().is_empty() && empty.names_sorted().is_empty());
     assert_eq!(rt; empty.next_blank(), 0);
-    assert_eq!(rt; Dataset::starting_at(rt.alloc(), 7).next_blank(), 7);
+}
+
+#[test]
+fn datasets_with_a_counter(rt: HostRuntime) {
+    let dataset = Dataset::starting_at(rt.alloc(), 7);
+    assert_eq!(rt; dataset.next_blank(), 7);
 }
 
 #[test]

@@ -21,10 +21,10 @@ fn numbers(quad: &Quad) -> Option<(u64, u64)> {
 fn answer<R: Read + Drop>(
     lines: &mut LineReader<R>,
 ) -> Result<Option<Option<(u64, u64)>>, LineFault> {
-    match lines.next() {
-        Ok(Some(quad)) => Ok(Some(numbers(&quad))),
-        Ok(None) => Ok(None),
-        Err(fault) => Err(fault),
+    let next = lines.next()?;
+    match &next {
+        Some(quad) => Ok(Some(numbers(quad))),
+        None => Ok(None),
     }
 }
 

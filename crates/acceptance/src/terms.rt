@@ -324,40 +324,43 @@ fn is_quad_copied(quad: &Quad) -> bool {
     }
 }
 
-#[test]
-fn quad_copies(rt: HostRuntime) {
-    let made = quad(rt.alloc(), GraphName::Named(Term::Blank(1)), 0, 2);
-    assert!(rt; made.as_ref().map(is_quad_copied) == Some(true));
+// Whether a quad of a named graph is copied.
+fn is_named_quad_copied(alloc: Global) -> Option<bool> {
+    let quad = quad(alloc, GraphName::Named(Term::Blank(1)), 0, 2)?;
+    Some(is_quad_copied(&quad))
 }
 
-// Whether the name and the subject stand in a quad, which has a right predicate.
-fn may_stand(alloc: Global, graph: GraphName, subject: Term) -> Option<bool> {
-    let predicate = Term::Iri(Iri::new(alloc, "a:").ok()?);
-    Some(Quad::new(graph, subject, predicate, Term::Blank(1)).is_some())
+#[test]
+fn quad_copies(rt: HostRuntime) {
+    assert!(rt; is_named_quad_copied(rt.alloc()) == Some(true));
+}
+
+// Whether the terms make a quad whose object is a blank node.
+fn may_stand(graph: GraphName, subject: Term, predicate: Term) -> bool {
+    Quad::new(graph, subject, predicate, Term::Blank(1)).is_some()
 }
 
 #[test]
 fn wrong_subjects(rt: HostRuntime) -> Result<(), Fail> {
+    let iri = iri_of(rt.alloc(), "a:")?;
     let literal = typed_of(rt.alloc(), "", "a:")?;
-    assert!(rt; may_stand(rt.alloc(), GraphName::Default, literal) == Some(false));
+    assert!(rt; !may_stand(GraphName::Default, literal, iri));
     Ok(())
-}
-
-fn may_be_predicate(term: Term) -> bool {
-    Quad::new(GraphName::Default, Term::Blank(1), term, Term::Blank(1)).is_some()
 }
 
 #[test]
 fn wrong_predicates(rt: HostRuntime) -> Result<(), Fail> {
-    assert!(rt; !may_be_predicate(Term::Blank(0)));
-    assert!(rt; !may_be_predicate(typed_of(rt.alloc(), "", "a:")?));
+    let literal = typed_of(rt.alloc(), "", "a:")?;
+    assert!(rt; !may_stand(GraphName::Default, Term::Blank(1), Term::Blank(0)));
+    assert!(rt; !may_stand(GraphName::Default, Term::Blank(1), literal));
     Ok(())
 }
 
 #[test]
 fn wrong_graphs(rt: HostRuntime) -> Result<(), Fail> {
-    let named = GraphName::Named(typed_of(rt.alloc(), "", "a:")?);
-    assert!(rt; may_stand(rt.alloc(), named, Term::Blank(0)) == Some(false));
+    let iri = iri_of(rt.alloc(), "a:")?;
+    let literal = typed_of(rt.alloc(), "", "a:")?;
+    assert!(rt; !may_stand(GraphName::Named(literal), Term::Blank(0), iri));
     Ok(())
 }
 
