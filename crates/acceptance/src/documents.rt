@@ -17,28 +17,26 @@ fn numbers(quad: &Quad) -> Option<(u64, u64)> {
     }
 }
 
-// What the next call answers, with a statement's numbers in the statement's place.
-fn answer<R: Read + Drop>(
-    lines: &mut LineReader<R>,
-) -> Result<Option<Option<(u64, u64)>>, LineFault> {
-    let next = lines.next()?;
-    match &next {
-        Some(quad) => Ok(Some(numbers(quad))),
-        None => Ok(None),
+// An answer with a statement's numbers in the statement's place.
+fn told(next: Result<Option<Quad>, LineFault>) -> Result<Option<Option<(u64, u64)>>, LineFault> {
+    match next {
+        Ok(Some(quad)) => Ok(Some(numbers(&quad))),
+        Ok(None) => Ok(None),
+        Err(fault) => Err(fault),
     }
 }
 
 // The numbers in the next statement.
 fn next_numbers<R: Read + Drop>(lines: &mut LineReader<R>) -> Option<(u64, u64)> {
-    answer(lines).ok()??
+    told(lines.next()).ok()??
 }
 
 fn fails<R: Read + Drop>(lines: &mut LineReader<R>, line: u64, kind: FaultKind) -> bool {
-    answer(lines) == Err(LineFault { line, kind })
+    told(lines.next()) == Err(LineFault { line, kind })
 }
 
 fn ends<R: Read + Drop>(lines: &mut LineReader<R>) -> bool {
-    answer(lines) == Ok(None)
+    told(lines.next()) == Ok(None)
 }
 
 // A CR LF over a piece's end, an empty line, a comment, LF CR as two line ends, and a faulty seventh line.
