@@ -1,4 +1,4 @@
-use Rattle.std.proofs.Common.{rules, ◌<◌, length}
+use Rattle.std.proofs.Common.{rules}
 use Rattle.std.specs.Str.{chars}
 use Rattle.acceptance.proofs.TokenLemmas.{first_has}
 use Rattle.acceptance.proofs.tokens.first_text.Goals as goal
