@@ -1,5 +1,6 @@
 //! The IRIs of prefixed names, kept for the next time that a name stands in the text.
-ghost use Rattle.std.specs.Prelude.{◌≡◌, ◌++◌, IfOk, IfSome};
+ghost use Rattle.std.specs.Prelude.{◌≡◌, ◌++◌, IfOk, IfErr, IfSome};
+ghost use Rattle.rdf_turtle.specs.declared.fault.TurtleFaultKind.TheVariants as faults;
 ghost use Rattle.rdf_turtle.specs.References as references;
 ghost use Rattle.rdf_turtle.specs.Kept.{Finds};
 ghost use Rattle.rdf_turtle.specs.Values as values;
@@ -36,6 +37,7 @@ fn joined_local(alloc: Global, front: &str, local: &Slice<'_>) -> Result<Text, N
 fn iri_text(text: Text) -> Result<Iri, TurtleFaultKind>
     ensures found { Finds (references.iri_text text) result }
     ensures value { IfOk result (λ iri. iri ≡ text) }
+    ensures fault { IfErr result (λ e. e ≡ faults.Relative) }
 {
     match Iri::from_text(text) {
         Ok(iri) => Ok(iri),

@@ -1,5 +1,5 @@
 //! The state in which a document is read.
-ghost use Rattle.std.specs.Prelude.{◌≡◌, [], IfOk, ◌++◌};
+ghost use Rattle.std.specs.Prelude.{◌≡◌, [], IfOk, IfErr, ◌++◌};
 ghost use Rattle.std.specs.Option.{option_copied};
 ghost use Rattle.std.specs.Str.{encode_utf8_all};
 ghost use Rattle.rdf_turtle.specs.References as references;
@@ -99,7 +99,8 @@ impl<'a> Scope<'a> {
 
     // Takes the next number. There are fewer blank nodes than bytes of memory.
     fn number(&mut self) -> Result<u64, TurtleFaultKind>
-        ensures { Gives (state.number self.old) result self.new }
+        ensures gives { Gives (state.number self.old) result self.new }
+        ensures last { IfErr result (λ _. self.old.next ≡ 18446744073709551615) }
     {
         let number = self.next;
         self.next = number.checked_add(1).ok_or(TurtleFaultKind::NoMemory)?;
