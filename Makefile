@@ -14,7 +14,7 @@ CHECKED := out/checked
 all: rdfkeep
 
 rdfkeep: $(SOURCES)
-	@echo "make: proving the crates and building the program, which takes some minutes the first time" >&2
+	@echo "make: proving the crates and building the program, which takes some twenty minutes the first time" >&2
 	cd crates/rdfkeep && rt run -- --version > /dev/null
 	cp crates/rdfkeep/out/rdfkeep rdfkeep
 
