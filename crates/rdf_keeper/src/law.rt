@@ -21,7 +21,7 @@ pub fn standing_requests()
         MakesAll base_iri (take session.states.cursor (requests_of nothing events).items) session.base (now session) }
 {}
 
-/// After any commands with any replies the cursor and each mark lie in the list of states. Where the cursor does: an undo
+/// After any commands with any replies the cursor and each mark lie in the list of states. Where the cursor lies there: an undo
 /// behind an accepted request gives back the state before it, in quads, graph names and counter, with the counts turned; a
 /// redo behind that gives the session again that the request had left, with the same counts; and a rollback to a mark that
 /// was put where the session stood gives back that state, whatever requests were accepted since. Anywhere in a history an

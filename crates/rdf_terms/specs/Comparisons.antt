@@ -1,4 +1,4 @@
--- That `==`, `<` and `cmp` of the code are the equality of values and the orders of Order.antt.
+-- That `==` and `cmp` of the code are the equality of values and the orders of Order.antt.
 use Rattle.std.specs.Prelude.{◌≡◌, ◌↔◌, Bool, IsTrue}
 use Rattle.std.specs.declared.cmp.Ordering.{Ordering}
 use Rattle.rdf_terms.specs.Order.{text_cmp, literal_cmp, term_cmp, graph_cmp, quad_cmp}
