@@ -1,7 +1,7 @@
 //! Tokens of Turtle and SPARQL, and what they stand for.
 ghost use Rattle.std.specs.List.{AllByRecursion};
 ghost use Rattle.std.specs.Str.{chars};
-ghost use Rattle.rdf_turtle.specs.Tokens.{HasItsForm};
+ghost use Rattle.rdf_tokens.specs.Tokens.{HasItsForm};
 
 use rdf_turtle::{Kind, Token, TurtleFaultKind, token_text, tokens, tokens_have_forms};
 use std::alloc::Global;

@@ -12,17 +12,15 @@ use Rattle.rdf_terms.specs.Quoted.{IsIriCharacter, IsIriRef}
 use Rattle.rdf_turtle.specs.declared.lexeme.Lexeme.{Lexeme}
 use Rattle.rdf_turtle.specs.declared.lexeme.Terminal.{Terminal}
 use Rattle.rdf_turtle.specs.declared.lexeme.Terminal.TheVariants as terminal
-use Rattle.rdf_turtle.specs.declared.token.Kind.{Kind}
-use Rattle.rdf_turtle.specs.declared.token.Kind.TheVariants as kind
-use Rattle.rdf_turtle.specs.declared.token.Token.{Token}
+use Rattle.rdf_tokens.specs.declared.token.Kind.{Kind}
+use Rattle.rdf_tokens.specs.declared.token.Kind.TheVariants as kind
+use Rattle.rdf_tokens.specs.declared.token.Token.{Token}
 use Rattle.rdf_turtle.specs.Document.{HasTokens}
-use Rattle.rdf_turtle.specs.Forms.{HasForm, IsLocal}
+use Rattle.rdf_tokens.specs.Forms.{HasForm, IsLocal}
 use Rattle.rdf_turtle.specs.Lexemes.{without_case, at_word_terminal, word_terminal, symbol_terminal, terminal_of, IsLexeme, AreLexemes, HaveForms}
-use Rattle.rdf_turtle.specs.Values.{iri_value, local_part, tag_value}
-use Rattle.rdf_turtle.proofs.LexemeLemmas.{lexemes_have_forms, scalars_parts}
-use Rattle.rdf_turtle.proofs.TokenTags.{tag_form}
-use Rattle.rdf_turtle.proofs.ValueIris.{iri_value_is}
-use Rattle.rdf_turtle.proofs.ValueNames.{local_part_is}
+use Rattle.rdf_tokens.specs.Values.{iri_value, local_part, tag_value}
+use Rattle.rdf_turtle.proofs.LexemeLemmas.{lexemes_have_forms}
+use Rattle.rdf_tokens.proofs.CallerLemmas.{scalars_parts, tag_form, iri_value_is, local_part_is}
 
 -- ---- lexemes of a text
 

@@ -9,23 +9,23 @@ use Rattle.rdf_turtle.specs.declared.fault.TurtleFault.{TurtleFault}
 use Rattle.rdf_turtle.specs.declared.fault.TurtleFaultKind.{TurtleFaultKind}
 use Rattle.rdf_turtle.specs.declared.fault.TurtleFaultKind.TheVariants as fault
 use Rattle.rdf_turtle.specs.declared.lexeme.Lexeme.{Lexeme}
-use Rattle.rdf_turtle.specs.declared.token.Token.{Token}
+use Rattle.rdf_tokens.specs.declared.token.Token.{Token}
 use Rattle.rdf_turtle.specs.declared.tree.Statement.{Statement}
 use Rattle.rdf_turtle.specs.Document.{HasTokens, HasTree, IsDocument, IsFaulty}
 use Rattle.rdf_turtle.specs.DocumentLaws.{SomeMeaning}
 use Rattle.rdf_turtle.specs.Known.{declares_first}
 use Rattle.rdf_turtle.specs.Lexemes.{AreLexemes, terminal_of}
-use Rattle.rdf_turtle.specs.Lines.{line_of}
+use Rattle.rdf_tokens.specs.Lines.{line_of}
 use Rattle.rdf_turtle.specs.Meaning.{answer, triples_of}
 use Rattle.rdf_turtle.specs.Nesting.{IsTooDeep, IsTooDeepAt, open_after, open_behind}
 use Rattle.rdf_turtle.specs.Reading.{document}
 use Rattle.rdf_turtle.specs.Rules.{Lexemes, Outcome}
-use Rattle.rdf_turtle.specs.Tokens.{Says, HasItsForm}
+use Rattle.rdf_tokens.specs.Tokens.{Says, HasItsForm}
 use Rattle.rdf_turtle.proofs.DocumentLemmas.{answer_kind, name_is, got, same_lengths}
 use Rattle.rdf_turtle.proofs.GrammarDecides.{some_pair}
 use Rattle.rdf_turtle.proofs.GrammarDepths.{one_behind}
 use Rattle.rdf_turtle.proofs.GrammarWhole.{document_found, document_read, stop_explained}
-use Rattle.rdf_turtle.proofs.TokenLaws.{some_token_list, tokens_have_forms}
+use Rattle.rdf_tokens.proofs.CallerLemmas.{some_token_list, tokens_have_forms}
 
 -- ---- bytes
 

@@ -12,21 +12,21 @@ use Rattle.rdf_turtle.specs.declared.fault.TurtleFaultKind.{TurtleFaultKind}
 use Rattle.rdf_turtle.specs.declared.fault.TurtleFaultKind.TheVariants as fault
 use Rattle.rdf_turtle.specs.declared.lexeme.Lexeme.{Lexeme}
 use Rattle.rdf_turtle.specs.declared.lexeme.Terminal.{Terminal}
-use Rattle.rdf_turtle.specs.declared.token.Token.{Token}
+use Rattle.rdf_tokens.specs.declared.token.Token.{Token}
 use Rattle.rdf_turtle.specs.declared.tree.Statement.{Statement}
 use Rattle.rdf_turtle.specs.Document.{HasTokens, HasTree, IsDocument, FaultIs, IsFaulty, TellsFault}
 use Rattle.rdf_turtle.specs.DocumentLaws.{has_free_line, OneDocument, NeverBoth, OneFault}
 use Rattle.rdf_turtle.specs.Grammar as grammar
 use Rattle.rdf_turtle.specs.Lexemes.{Stands, IsLexeme, AreLexemes, terminal_of}
-use Rattle.rdf_turtle.specs.Lines.{line_of}
+use Rattle.rdf_tokens.specs.Lines.{line_of}
 use Rattle.rdf_turtle.specs.Kept.{IsFaultOf}
 use Rattle.rdf_turtle.specs.Known.{declares_first}
 use Rattle.rdf_turtle.specs.Meaning.{answer, triples_of}
 use Rattle.rdf_turtle.specs.Nesting.{IsTooDeep, IsTooDeepAt}
 use Rattle.rdf_turtle.specs.Stops.{Explains}
-use Rattle.rdf_turtle.specs.Tokens.{Says}
+use Rattle.rdf_tokens.specs.Tokens.{Says}
 use Rattle.rdf_turtle.proofs.GrammarWhole.{document_unique}
-use Rattle.rdf_turtle.proofs.TokenLists.{one_token_list}
+use Rattle.rdf_tokens.proofs.CallerLemmas.{one_token_list}
 
 -- ---- a byte's place cuts a text one way
 

@@ -18,7 +18,7 @@ use Rattle.rdf_turtle.specs.declared.tree.Node.TheFolds.{fold-roll-Node, fold-ro
 use Rattle.rdf_turtle.specs.declared.tree.Property.{Property}
 use Rattle.rdf_turtle.specs.declared.tree.Statement.{Statement}
 use Rattle.rdf_turtle.specs.declared.tree.Statement.TheVariants as s
-use Rattle.rdf_turtle.specs.Values.{local_part}
+use Rattle.rdf_tokens.specs.Values.{local_part}
 use Rattle.rdf_turtle.specs.Rules.{Piece, Lexemes}
 use Rattle.rdf_turtle.specs.Reading as read
 use Rattle.rdf_turtle.specs.Derivations as grammar

@@ -9,7 +9,7 @@ use Rattle.rdf_turtle.specs.declared.tree.Node.TheVariants as n
 use Rattle.rdf_turtle.specs.declared.tree.Property.{Property}
 use Rattle.rdf_turtle.specs.declared.tree.Statement.{Statement}
 use Rattle.rdf_turtle.specs.declared.tree.Statement.TheVariants as s
-use Rattle.rdf_turtle.specs.Values.{prefix_part, local_part}
+use Rattle.rdf_tokens.specs.Values.{prefix_part, local_part}
 use Rattle.rdf_turtle.specs.Steps as steps
 use Rattle.rdf_turtle.specs.Rules as rule
 use Rattle.rdf_turtle.specs.Rules.{Piece, Lexemes, Rule, Outcome, sees, same_terminal, next_terminal, any, is_nil}

@@ -24,7 +24,7 @@ use Rattle.rdf_turtle.specs.declared.tree.Statement.TheVariants as s
 use Rattle.rdf_terms.specs.Blanks.{blanks_of}
 use Rattle.rdf_turtle.specs.Blanks.{BlankNumbersAreBelow, IsTriple}
 use Rattle.rdf_turtle.specs.Known.{declares_first}
-use Rattle.rdf_turtle.specs.Values.{iri_value, text_value, tag_value}
+use Rattle.rdf_tokens.specs.Values.{iri_value, text_value, tag_value}
 use Rattle.rdf_turtle.specs.References.{resolve}
 use Rattle.rdf_turtle.specs.Vocabulary.{rdf_first, rdf_rest, rdf_nil}
 use Rattle.rdf_turtle.specs.Steps.{Outcome, each, and_then}

@@ -9,7 +9,7 @@ use Rattle.rdf_terms.specs.declared.quad.Quad.{Quad}
 use Rattle.rdf_terms.proofs.AsciiLemmas.{utf8_cons, chars_cons}
 use Rattle.rdf_terms.proofs.QuadTests.{QuadTests, quad_tests}
 use Rattle.rdf_terms.proofs.WrittenTermLemmas.{term_utf8}
-use Rattle.rdf_turtle.specs.declared.token.Kind.TheVariants as kind
+use Rattle.rdf_tokens.specs.declared.token.Kind.TheVariants as kind
 use Rattle.rdf_turtle.specs.Document.{HasTokens}
 use Rattle.rdf_turtle.specs.WrittenLaws.{triple_text, IsDefaultQuad}
 use Rattle.rdf_turtle.proofs.WrittenTokens.{dot_token}

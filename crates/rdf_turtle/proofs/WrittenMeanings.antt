@@ -39,10 +39,9 @@ use Rattle.rdf_turtle.specs.Reading.{property_with}
 use Rattle.rdf_turtle.specs.References.{resolve}
 use Rattle.rdf_turtle.specs.State.{State, Does, start, labelled, triple, says}
 use Rattle.rdf_turtle.specs.Steps.{◌>>=◌, ◌>>◌, ◌<$>◌, each}
-use Rattle.rdf_turtle.specs.Values.{iri_value, text_value, tag_value}
+use Rattle.rdf_tokens.specs.Values.{iri_value, text_value, tag_value}
 use Rattle.rdf_turtle.specs.WrittenLaws.{IsDefaultQuad}
-use Rattle.rdf_turtle.proofs.ValueIris.{iri_value_is}
-use Rattle.rdf_turtle.proofs.ValueTexts.{text_value_is}
+use Rattle.rdf_tokens.proofs.CallerLemmas.{iri_value_is, text_value_is}
 use Rattle.rdf_turtle.proofs.WrittenTerms.{iri_slice, text_slice, label_slice, tag_slice}
 use Rattle.rdf_turtle.proofs.WrittenTrees as tree
 use Rattle.rdf_turtle.proofs.WrittenTrees.{datatype_tree, literal_tree, verb_of, statement_of}

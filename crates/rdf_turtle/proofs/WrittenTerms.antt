@@ -15,7 +15,7 @@ use Rattle.rdf_terms.proofs.WrittenIriLemmas.{angled, iri_form, angled_chars}
 use Rattle.rdf_terms.proofs.WrittenNumberLemmas.{decimal_digits, blank_ascii}
 use Rattle.rdf_terms.proofs.WrittenTermLemmas.{tag_parts, tag_ascii, literal_parts}
 use Rattle.rdf_terms.proofs.WrittenTextLemmas.{quoted, quoted_form, quoted_chars, quoted_utf8}
-use Rattle.rdf_turtle.specs.declared.token.Kind.TheVariants as kind
+use Rattle.rdf_tokens.specs.declared.token.Kind.TheVariants as kind
 use Rattle.rdf_turtle.proofs.WrittenTokens.{iri_token, caret_token, text_token, label_token, tag_token}
 use Rattle.rdf_turtle.proofs.WrittenCuts.{Slice, Cut, cut_token}
 

@@ -18,7 +18,7 @@ use Rattle.rdf_turtle.specs.declared.fault.TurtleFaultKind.TheVariants.{Relative
 use Rattle.rdf_turtle.specs.Document.{HasTree}
 use Rattle.rdf_turtle.specs.Known.{holds, declares_first}
 use Rattle.rdf_turtle.specs.Meaning.{answer}
-use Rattle.rdf_turtle.specs.Values.{iri_value}
+use Rattle.rdf_tokens.specs.Values.{iri_value}
 
 -- somewhere in the tree a reference stands that has no scheme, and no base is in force
 module _ (based : Bool) where

@@ -13,7 +13,7 @@ use Rattle.rdf_turtle.specs.declared.tree.Node.TheVariants as n
 use Rattle.rdf_turtle.specs.declared.tree.Property.{Property}
 use Rattle.rdf_turtle.specs.declared.tree.Statement.{Statement}
 use Rattle.rdf_turtle.specs.declared.tree.Statement.TheVariants as s
-use Rattle.rdf_turtle.specs.Values.{prefix_part, local_part}
+use Rattle.rdf_tokens.specs.Values.{prefix_part, local_part}
 use Rattle.rdf_turtle.specs.Rules.{Piece, Lexemes}
 use Rattle.rdf_turtle.specs.Reading.{prefixed, property_with, all_of}
 use Rattle.rdf_turtle.specs.Derivations.{Derives, ◌>>=◌, ◌>>◌, ◌<$>◌, ◌∣◌, pure, the, value, one, maybe, Star}

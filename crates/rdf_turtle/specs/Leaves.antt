@@ -17,7 +17,7 @@ use Rattle.rdf_turtle.specs.declared.tree.Node.TheFolds.{fold-Node, fold-Propert
 use Rattle.rdf_turtle.specs.declared.tree.Property.{Property}
 use Rattle.rdf_turtle.specs.declared.tree.Statement.{Statement}
 use Rattle.rdf_turtle.specs.declared.tree.Statement.TheVariants as s
-use Rattle.rdf_turtle.specs.Values.{prefix_part, local_part}
+use Rattle.rdf_tokens.specs.Values.{prefix_part, local_part}
 use Rattle.rdf_turtle.specs.Rules.{Piece, Lexemes}
 use Rattle.rdf_turtle.specs.Grammar.{IsDocument}
 

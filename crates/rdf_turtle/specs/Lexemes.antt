@@ -1,17 +1,15 @@
 -- Tokens as the grammar sees them (Turtle 1.1, section 6.5).
-use Rattle.std.specs.Prelude.{◌≡◌, ℕ, if◌then◌else◌, List, [], ◌∷◌, ◌++◌, codes, map}
+use Rattle.std.specs.Prelude.{◌≡◌, ℕ, if◌then◌else◌, List, [], ◌∷◌, codes, map}
 use Rattle.std.specs.Char.{to_ascii_lowercase}
 use Rattle.std.specs.Str.{bytes_eq, encode_utf8_all}
-use Rattle.rdf_terms.specs.Quoted.{IsIriRef}
-use Rattle.rdf_terms.specs.Reading.{byte_count}
 use Rattle.rdf_turtle.specs.declared.lexeme.Lexeme.{Lexeme}
 use Rattle.rdf_turtle.specs.declared.lexeme.Terminal.{Terminal}
 use Rattle.rdf_turtle.specs.declared.lexeme.Terminal.TheVariants as terminal
-use Rattle.rdf_turtle.specs.declared.token.Kind.{Kind}
-use Rattle.rdf_turtle.specs.declared.token.Kind.TheVariants as kind
-use Rattle.rdf_turtle.specs.declared.token.Token.{Token}
-use Rattle.rdf_turtle.specs.Forms.{HasForm, IsText, IsPrefix}
-use Rattle.rdf_turtle.specs.Values.{iri_value, text_value, local_part, local_value, LocalMeans}
+use Rattle.rdf_tokens.specs.declared.token.Kind.{Kind}
+use Rattle.rdf_tokens.specs.declared.token.Kind.TheVariants as kind
+use Rattle.rdf_tokens.specs.declared.token.Token.{Token}
+use Rattle.rdf_tokens.specs.Forms.{HasForm}
+use Rattle.rdf_tokens.specs.Tokens.{Stands}
 
 -- ---- terminals, by the UTF-8 of slices
 
@@ -72,11 +70,6 @@ terminal_of kind slice = terminal_by kind (encode_utf8_all slice)
 
 -- ---- lexemes
 
--- The slice stands in the text from that byte up to that byte.
-abbrev pub Stands : List ℕ → ℕ → ℕ → List ℕ → Type 0
-Stands text start stop slice =
-    (before after : List ℕ) × (text ≡ before ++ (slice ++ after)) × (start ≡ byte_count before) × (stop ≡ byte_count (before ++ slice))
-
 -- the token's slice, and its terminal
 abbrev pub IsLexeme : List ℕ → Token → Lexeme → Type 0
 IsLexeme text token lexeme = Stands text token.start token.stop lexeme.text × (lexeme.terminal ≡ terminal_of token.kind lexeme.text)
@@ -94,30 +87,3 @@ HaveForms [] [] = Unit {0}
 HaveForms [] (lexeme ∷ lexemes) = ⊥
 HaveForms (token ∷ tokens) [] = ⊥
 HaveForms (token ∷ tokens) (lexeme ∷ lexemes) = HasForm token.kind lexeme.text × HaveForms tokens lexemes
-
--- ---- what a token says
-
--- The slice of a token of that kind says these bytes: an IRIREF its reference, a string what it stands for, and a prefixed
--- name what its local part stands for. Other kinds say nothing.
-abbrev pub SaysBy : Kind → List ℕ → List ℕ → Type 0
-SaysBy kind.Iri slice bytes = IsIriRef slice bytes
-SaysBy kind.Text slice bytes = (cs : List ℕ) × IsText slice cs × (bytes ≡ encode_utf8_all cs)
-SaysBy kind.Pname slice bytes =
-    (prefix name cs : List ℕ) × (slice ≡ prefix ++ 58 ∷ name) × IsPrefix prefix × LocalMeans name cs × (bytes ≡ encode_utf8_all cs)
-SaysBy other slice bytes = ⊥
-
-abbrev pub TokenSays : List ℕ → Token → List ℕ → Type 0
-TokenSays text token bytes = (slice : List ℕ) × Stands text token.start token.stop slice × SaysBy token.kind slice bytes
-
--- those bytes, for slices of the three forms
-abbrev pub value_by : Kind → List ℕ → List ℕ
-value_by kind.Iri slice = iri_value slice
-value_by kind.Text slice = text_value slice
-value_by other slice = local_value (local_part slice)
-
--- the kinds that say something
-abbrev pub SaysText : Kind → Type 0
-SaysText kind.Iri = Unit {0}
-SaysText kind.Text = Unit {0}
-SaysText kind.Pname = Unit {0}
-SaysText other = ⊥

@@ -23,7 +23,7 @@ use Rattle.rdf_turtle.specs.declared.fault.TurtleFaultKind.{TurtleFaultKind}
 use Rattle.rdf_turtle.specs.declared.fault.TurtleFaultKind.TheVariants.{UnknownPrefix, Relative}
 use Rattle.rdf_turtle.specs.Known.{declares_first}
 use Rattle.rdf_turtle.specs.References.{resolve, iri_text}
-use Rattle.rdf_turtle.specs.Values.{iri_value, text_value, local_value, tag_value}
+use Rattle.rdf_tokens.specs.Values.{iri_value, text_value, local_value, tag_value}
 use Rattle.rdf_turtle.specs.Vocabulary.{rdf_type, rdf_first, rdf_rest, rdf_nil, xsd_integer, xsd_decimal, xsd_double, xsd_boolean, boolean_text}
 use Rattle.rdf_turtle.specs.Steps.{◌>>=◌, ◌>>◌, ◌<$>◌, pure, none, each}
 use Rattle.rdf_turtle.specs.State.{State, Does, key_of, same_key, start, fresh, labelled, says, declares, moves_base}

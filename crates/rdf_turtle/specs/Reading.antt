@@ -14,7 +14,7 @@ use Rattle.rdf_turtle.specs.declared.tree.Node.TheVariants as n
 use Rattle.rdf_turtle.specs.declared.tree.Property.{Property}
 use Rattle.rdf_turtle.specs.declared.tree.Statement.{Statement}
 use Rattle.rdf_turtle.specs.declared.tree.Statement.TheVariants as s
-use Rattle.rdf_turtle.specs.Values.{prefix_part, local_part}
+use Rattle.rdf_tokens.specs.Values.{prefix_part, local_part}
 use Rattle.rdf_turtle.specs.Steps.{◌>>=◌, ◌>>◌, ◌<$>◌, pure, none}
 use Rattle.rdf_turtle.specs.Rules.{Piece, Lexemes, Rule, peek, next, next_terminal, next_text, is_nil, sees, the, value, any, one, optional, repeat}
 

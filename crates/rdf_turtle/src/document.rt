@@ -3,24 +3,23 @@ ghost use Rattle.std.specs.Prelude.{◌≡◌, ◌≢◌, ℕ, List, length, Opt
 ghost use Rattle.std.specs.Option.{option_copied};
 ghost use Rattle.std.specs.Str.{IsUtf8};
 ghost use Rattle.rdf_turtle.specs.declared.fault.TurtleFaultKind.TheVariants.{NoMemory as NoMemoryKind};
-ghost use Rattle.rdf_turtle.specs.declared.token.Token.{Token as Held};
+ghost use Rattle.rdf_tokens.specs.declared.token.Token.{Token as Held};
 ghost use Rattle.rdf_turtle.specs.Bases.{RelativeLacksABase};
 ghost use Rattle.rdf_turtle.specs.Document.{HasTokens, HasTree, IsDocument, TellsFault};
 ghost use Rattle.rdf_turtle.specs.DocumentLaws.{SomeMeaning, OneDocument, NeverBoth, OneFault};
-ghost use Rattle.rdf_turtle.specs.Lines.{line_of};
+ghost use Rattle.rdf_tokens.specs.Lines.{line_of};
 
 use crate::fault::{TurtleFault, TurtleFaultKind};
 use crate::lexeme::Lexeme;
 use crate::lexemes::lexemes;
-use crate::line::line_at;
-use crate::list::tokens;
 use crate::meaning::triples_of;
 use crate::placed::PlacedFault;
 use crate::read::{Stop, parse_document};
 use crate::straight::straight_triples;
-use crate::token::Token;
+use crate::token_list::tokens;
 use crate::tree::Statement;
 use rdf_terms::{Iri, Items, Quad};
+use rdf_tokens::{Token, line_at};
 use std::alloc::Global;
 
 // The fault of this kind, at the line of that byte; want of memory has no line.

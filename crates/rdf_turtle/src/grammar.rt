@@ -10,8 +10,8 @@ use crate::fault::TurtleFaultKind;
 use crate::lexeme::Terminal;
 use crate::parser::Parser;
 use crate::tree::{Literal, Name, Node, Property, Verb};
-use crate::value::{local_part, prefix_part};
 use rdf_terms::Items;
+use rdf_tokens::{local_part, prefix_part};
 
 fn begins_verb(terminal: Option<Terminal>) -> bool
     ensures { result ≡ spec.begins_verb terminal }

@@ -7,7 +7,7 @@ ghost use Rattle.std.specs.Cmp.Rules.{hashing};
 ghost use Rattle.std.proofs.Common.{rules};
 ghost use Rattle.rdf_turtle.specs.State.{key_of};
 
-use crate::slice::Slice;
+use rdf_tokens::Slice;
 use std::hash::{Hash, Hasher};
 use std::marker::Model;
 

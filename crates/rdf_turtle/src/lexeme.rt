@@ -1,6 +1,6 @@
 //! Tokens with their characters, as the grammar tells them apart.
 
-use crate::slice::Slice;
+use rdf_tokens::Slice;
 
 /// A terminal of Turtle's grammar (Turtle 1.1, section 6.5).
 #[derive(Clone, Copy, Debug, PartialEq, Eq)]

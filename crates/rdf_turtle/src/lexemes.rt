@@ -2,14 +2,13 @@
 ghost use Rattle.std.specs.Prelude.{◌≡◌, ℕ, List, IfOk, map};
 ghost use Rattle.std.specs.Char.{to_ascii_lowercase};
 ghost use Rattle.std.specs.Str.{chars, bytes_eq};
-ghost use Rattle.rdf_turtle.specs.Tokens.{Runs, HasItsForm};
+ghost use Rattle.rdf_tokens.specs.Tokens.{Runs, HasItsForm};
 ghost use Rattle.rdf_turtle.specs.Lexemes as spec;
 ghost use Rattle.rdf_turtle.specs.LexemeLaws.{LexemesHaveForms};
 
 use crate::lexeme::{Lexeme, Terminal};
-use crate::slice::Slice;
-use crate::token::{Kind, Token};
 use rdf_terms::{Items, NoMemory};
+use rdf_tokens::{Kind, Token, slice_of};
 use std::alloc::Global;
 
 fn at_word_terminal(text: &str) -> Terminal
@@ -102,14 +101,6 @@ fn terminal_of(kind: Kind, text: &str) -> Terminal
         Kind::Word => word_terminal(text),
         Kind::Symbol => symbol_terminal(text),
     }
-}
-
-/// The slice of a token of this text.
-pub(crate) fn slice_of<'a>(text: &'a str, token: &Token) -> Slice<'a>
-    requires { HasItsForm (chars text.now) token.now }
-    ensures { spec.Stands (chars text.now) token.now.start token.now.stop result }
-{
-    Slice::new(&text[token.start..token.stop], token.start)
 }
 
 fn lexeme<'a>(text: &'a str, token: &Token) -> Lexeme<'a>

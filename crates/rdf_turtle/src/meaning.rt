@@ -13,10 +13,9 @@ use crate::fault::TurtleFaultKind;
 use crate::known::first_unknown;
 use crate::placed::PlacedFault;
 use crate::scope::Scope;
-use crate::slice::Slice;
 use crate::tree::{Literal as Written, Node, Property, Statement, Verb};
-use crate::value::{tag_value, text_value};
 use rdf_terms::{Iri, Literal, NoMemory, Quad, Term, Text};
+use rdf_tokens::{Slice, tag_value, text_value};
 use std::alloc::Global;
 
 fn boolean_text(alloc: Global, value: bool) -> Result<Text, NoMemory>

@@ -3,12 +3,11 @@ ghost use Rattle.std.specs.Prelude.{◌≡◌, ◌++◌, IfOk, IfErr, IfSome};
 ghost use Rattle.rdf_turtle.specs.declared.fault.TurtleFaultKind.TheVariants as faults;
 ghost use Rattle.rdf_turtle.specs.References as references;
 ghost use Rattle.rdf_turtle.specs.Kept.{Finds};
-ghost use Rattle.rdf_turtle.specs.Values as values;
+ghost use Rattle.rdf_tokens.specs.Values as values;
 
 use crate::fault::TurtleFaultKind;
-use crate::slice::Slice;
-use crate::value::local_value;
 use rdf_terms::{Iri, NoMemory, Text};
+use rdf_tokens::{Slice, local_value};
 use std::alloc::Global;
 
 fn joined(alloc: Global, front: &str, back: &str) -> Result<Text, NoMemory>

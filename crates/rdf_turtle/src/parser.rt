@@ -6,13 +6,12 @@ ghost use Rattle.rdf_turtle.specs.Rules as spec;
 ghost use Rattle.rdf_turtle.specs.Rules.{Reads};
 ghost use Rattle.rdf_turtle.specs.declared.fault.TurtleFaultKind.TheVariants.{Syntax};
 ghost use Rattle.rdf_turtle.specs.Reading as reading;
-ghost use Rattle.rdf_turtle.specs.Values as values;
+ghost use Rattle.rdf_tokens.specs.Values as values;
 
 use crate::fault::TurtleFaultKind;
 use crate::lexeme::{Lexeme, Terminal};
-use crate::slice::Slice;
-use crate::value::{local_part, prefix_part};
 use rdf_terms::Cursor;
+use rdf_tokens::{Slice, local_part, prefix_part};
 use std::alloc::Global;
 use std::marker::Model;
 

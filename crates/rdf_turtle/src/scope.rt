@@ -6,17 +6,16 @@ ghost use Rattle.rdf_turtle.specs.References as references;
 ghost use Rattle.rdf_turtle.specs.State as state;
 ghost use Rattle.rdf_turtle.specs.Meaning as meaning;
 ghost use Rattle.rdf_turtle.specs.Kept.{Finds, Gives};
-ghost use Rattle.rdf_turtle.specs.Values as values;
+ghost use Rattle.rdf_tokens.specs.Values as values;
 
 use crate::fault::TurtleFaultKind;
 use crate::key::Key;
 use crate::names::Names;
-use crate::slice::Slice;
 use crate::tree::Name;
-use crate::value::iri_value;
 use crate::vocabulary::Vocabulary;
 use indexmap::IndexMap;
 use rdf_terms::{GraphName, Iri, IriFault, NoMemory, Quad, Term, resolve};
+use rdf_tokens::{Slice, iri_value};
 use std::alloc::Global;
 use std::marker::Model;
 

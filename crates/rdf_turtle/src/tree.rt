@@ -1,7 +1,7 @@
 //! The tree of a document.
 
-use crate::slice::Slice;
 use rdf_terms::Items;
+use rdf_tokens::Slice;
 
 /// An IRI as written (Turtle 1.1, section 2.4): a reference between `<` and `>`, or a prefix and a local part.
 #[derive(Debug, Drop)]

@@ -4,7 +4,7 @@ use Rattle.rdf_turtle.specs.declared.fault.TurtleFaultKind.TheVariants as fault
 use Rattle.rdf_turtle.specs.Document.{HasTree}
 use Rattle.rdf_turtle.specs.declared.tree.Statement.{Statement}
 use Rattle.rdf_turtle.specs.Kept.{IsFaultOf}
-use Rattle.rdf_turtle.specs.Lines.{line_of}
+use Rattle.rdf_tokens.specs.Lines.{line_of}
 use Rattle.rdf_turtle.specs.Meaning.{answer}
 use Rattle.rdf_turtle.proofs.DocumentLemmas.{name_tells}
 use Rattle.rdf_turtle.proofs.document.read_text.Goals as goal

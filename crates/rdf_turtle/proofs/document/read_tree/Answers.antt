@@ -1,14 +1,14 @@
 use Rattle.std.proofs.Common.{rules, ◌≡◌, ◌≢◌, Some, Ok, slice_get}
 use Rattle.std.specs.Str.{chars}
 use Rattle.rdf_turtle.specs.declared.fault.TurtleFaultKind.TheVariants as fault
-use Rattle.rdf_turtle.specs.declared.token.Token.{Token as Held}
+use Rattle.rdf_tokens.specs.declared.token.Token.{Token as Held}
 use Rattle.rdf_turtle.specs.Document.{HasTokens}
 use Rattle.rdf_turtle.specs.Grammar as grammar
 use Rattle.rdf_turtle.specs.Lexemes.{AreLexemes}
-use Rattle.rdf_turtle.specs.Lines.{line_of}
+use Rattle.rdf_tokens.specs.Lines.{line_of}
 use Rattle.rdf_turtle.specs.Nesting.{IsTooDeep}
 use Rattle.rdf_turtle.specs.Stops.{Explains}
-use Rattle.rdf_turtle.specs.Tokens.{Says}
+use Rattle.rdf_tokens.specs.Tokens.{Says}
 use Rattle.rdf_turtle.proofs.DocumentLemmas.{stop_tells}
 use Rattle.rdf_turtle.proofs.document.read_tree.Goals as goal
 

@@ -2,16 +2,17 @@ use Rattle.std.proofs.Common.{◌+◌, List, [], ◌∷◌, ◌++◌, take, sym,
 use Rattle.std.proofs.lemmas.List.{take_more}
 use Rattle.std.specs.Str.{chars}
 use Rattle.rdf_turtle.specs.declared.lexeme.Lexeme.{Lexeme}
-use Rattle.rdf_turtle.specs.declared.token.Kind.TheVariants.{Iri}
-use Rattle.rdf_turtle.specs.declared.token.Token.{Token}
+use Rattle.rdf_tokens.specs.declared.token.Kind.TheVariants.{Iri}
+use Rattle.rdf_tokens.specs.declared.token.Token.{Token}
 use Rattle.rdf_turtle.specs.Lexemes.{AreLexemes}
-use Rattle.rdf_turtle.proofs.LexemeLemmas.{runs_have_forms, form_at, lexemes_push}
+use Rattle.rdf_tokens.proofs.CallerLemmas.{runs_have_forms, form_at}
+use Rattle.rdf_turtle.proofs.LexemeLemmas.{lexemes_push}
 use Rattle.rdf_turtle.proofs.lexemes.lexemes.Goals as goal
 
 pub lexeme-requires : goal.lexeme-requires
 lexeme-requires c =
     form_at (chars c.args.text.now) c.args.tokens.now c.loop-token.token-index (record { kind = Iri; start = 0; stop = 0 })
-    (runs_have_forms (chars c.args.text.now) (chars c.args.text.now) c.requires.0 c.args.tokens.now c.requires.1) c.loop-token-test.true
+    (runs_have_forms (chars c.args.text.now) (chars c.args.text.now) c.args.tokens.now c.requires.0 c.requires.1) c.loop-token-test.true
 
 pub loop-token-preserved : goal.loop-token-preserved
 loop-token-preserved c =

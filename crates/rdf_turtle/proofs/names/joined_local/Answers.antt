@@ -1,4 +1,4 @@
-use Rattle.rdf_turtle.proofs.ValueNames.{local_plain}
+use Rattle.rdf_tokens.proofs.CallerLemmas.{local_plain}
 use Rattle.rdf_turtle.proofs.names.joined_local.Goals as goal
 
 pub returns-then-not-contains : goal.returns-then-not-contains

@@ -1,0 +1,23 @@
+pub mod CallerLemmas
+mod LineLemmas
+mod SliceLemmas
+mod TokenClaims
+mod TokenDispatch
+mod TokenEnds
+mod TokenGaps
+mod TokenLaws
+mod TokenLists
+mod TokenLong
+mod TokenNameless
+mod TokenNames
+mod TokenNumbers
+mod TokenSymbols
+mod TokenTags
+mod TokenTextLemmas
+mod TokenUnits
+mod ValueEscapes
+mod ValueIris
+mod ValueNames
+mod ValuePlaces
+mod ValuePnames
+mod ValueTexts

@@ -1,0 +1,170 @@
+-- What is skipped between tokens is a gap, and every gap is skipped.
+use Rattle.std.proofs.Common.{◌≡◌, ◌≢◌, ◌⊎◌, ℕ, Bool, true, false, eqb, List, [], ◌∷◌, ◌++◌, refl, sym, ap, subst, ◌∙◌, inl, inr, append_assoc}
+use Rattle.std.specs.List.{AllByRecursion}
+use Rattle.std.proofs.lemmas.List.{append-nil}
+use Rattle.std.proofs.lemmas.Bool.{cases_Bool, eqb-true, eqb-false, ne_eqb, true≢false}
+use Rattle.rdf_tokens.specs.Characters.{is_white, is_line_end}
+use Rattle.rdf_tokens.specs.Tokens.{IsComment, IsBlank, Gap, HasGap, Ends}
+use Rattle.rdf_tokens.specs.TokenReading.{gap_step, skip_gap}
+
+-- no gap goes on here
+abbrev pub Stops : List ℕ → Type 0
+Stops [] = Unit {0}
+Stops (c ∷ _) = (is_white c ≡ false) × (c ≢ 35)
+
+abbrev InLine : List ℕ → Type 0
+InLine cs = AllByRecursion (λ d. is_line_end d ≡ false) cs
+
+-- ---- steps
+
+step_white : (c : ℕ) (cs : List ℕ) → is_white c ≡ true → skip_gap false (c ∷ cs) ≡ skip_gap false cs
+unfolding skip_gap gap_step
+step_white c cs h = rw (skip_gap, white_no_mark c h, h) refl
+  where
+    white_no_mark : (c : ℕ) → is_white c ≡ true → eqb c 35 ≡ false
+    white_no_mark c h = ne_eqb c 35 (λ e. true≢false (sym h ∙ ap is_white e))
+
+step_mark : (cs : List ℕ) → skip_gap false (35 ∷ cs) ≡ skip_gap true cs
+unfolding skip_gap gap_step
+step_mark cs = refl
+
+step_stop : (c : ℕ) (cs : List ℕ) → is_white c ≡ false → c ≢ 35 → skip_gap false (c ∷ cs) ≡ c ∷ cs
+unfolding skip_gap gap_step
+step_stop c cs h ne = rw (skip_gap, ne_eqb c 35 ne, h) refl
+
+step_comment : (c : ℕ) (cs : List ℕ) → is_line_end c ≡ false → skip_gap true (c ∷ cs) ≡ skip_gap true cs
+unfolding skip_gap gap_step
+step_comment c cs h = rw (skip_gap, h) refl
+
+step_line_end : (c : ℕ) (cs : List ℕ) → is_line_end c ≡ true → skip_gap true (c ∷ cs) ≡ skip_gap false cs
+unfolding skip_gap gap_step
+step_line_end c cs h = rw (skip_gap, h) refl
+
+skip_nil : (b : Bool) → skip_gap b [] ≡ []
+unfolding skip_gap
+skip_nil b = refl
+
+-- ---- what is skipped
+
+-- outside a comment: a gap, and then what is left, or a last comment
+abbrev Skipped : List ℕ → Type 0
+Skipped cs =
+    (last : List ℕ) × HasGap cs last × (((skip_gap false cs ≡ last) × Stops last) ⊎ (IsComment last × (skip_gap false cs ≡ [])))
+
+-- within a comment: the rest of the line, and then the end or what follows the line
+abbrev Comments : List ℕ → Type 0
+Comments cs =
+    (line : List ℕ) × InLine line
+    × (((cs ≡ line) × (skip_gap true cs ≡ []))
+    ⊎ ((end : ℕ) × (after : List ℕ) × (cs ≡ line ++ end ∷ after) × (is_line_end end ≡ true) × (skip_gap true cs ≡ skip_gap false after) × Skipped after))
+
+abbrev Skips : Bool → List ℕ → Type 0
+Skips false cs = Skipped cs
+Skips true cs = Comments cs
+
+more_gap : (blank cs last : List ℕ) → IsBlank blank → HasGap cs last → HasGap (blank ++ cs) last
+more_gap blank cs last b g = (blank ∷ g.0, (cs, refl, b, g.1))
+
+at_white : (c : ℕ) (cs : List ℕ) → is_white c ≡ true → Skipped cs → Skipped (c ∷ cs)
+at_white c cs h s =
+    let e = step_white c cs h in
+    (s.0, more_gap (c ∷ []) cs s.0 (inl (c, refl, h)) s.1, rw e s.2)
+
+at_mark : (cs : List ℕ) → Comments cs → Skipped (35 ∷ cs)
+at_mark cs (line, all, inl h) =
+    let e = step_mark cs in
+    (35 ∷ cs, ([], refl), inr ((refl, subst InLine (sym h.0) all), e ∙ h.1))
+at_mark cs (line, all, inr h) =
+    let end = h.0 in
+    let after = h.1 in
+    let s = h.5 in
+    let e : skip_gap false (35 ∷ cs) ≡ skip_gap false after = step_mark cs ∙ h.4 in
+    let whole : 35 ∷ cs ≡ ((35 ∷ line) ++ end ∷ []) ++ after = ap (λ (t : List ℕ). 35 ∷ t) (h.2 ∙ sym (append_assoc line (end ∷ []) after)) in
+    let blank : IsBlank ((35 ∷ line) ++ end ∷ []) = inr (35 ∷ line, end, refl, (refl, all), h.3) in
+    (s.0, subst (λ (t : List ℕ). HasGap t s.0) (sym whole) (more_gap ((35 ∷ line) ++ end ∷ []) after s.0 blank s.1), rw e s.2)
+
+comment_more : (c : ℕ) (cs : List ℕ) → is_line_end c ≡ false → Comments cs → Comments (c ∷ cs)
+comment_more c cs h (line, all, inl k) =
+    (c ∷ line, (h, all), inl (ap (λ (t : List ℕ). c ∷ t) k.0, step_comment c cs h ∙ k.1))
+comment_more c cs h (line, all, inr k) =
+    (c ∷ line, (h, all), inr (k.0, k.1, ap (λ (t : List ℕ). c ∷ t) k.2, k.3, step_comment c cs h ∙ k.4, k.5))
+
+skips : (b : Bool) (cs : List ℕ) → Skips b cs
+skips false [] = ([], ([], refl), inl (skip_nil false, tt))
+skips true [] = ([], tt, inl (refl, skip_nil true))
+skips false (c ∷ cs) =
+    elim (cases_Bool (is_white c)) [
+      | inl white ↦ at_white c cs white (skips false cs)
+      | inr solid ↦
+          elim (cases_Bool (eqb c 35)) [
+            | inl mark ↦ subst (λ (x : ℕ). Skipped (x ∷ cs)) (sym (eqb-true c 35 mark)) (at_mark cs (skips true cs))
+            | inr other ↦ (c ∷ cs, ([], refl), inl (step_stop c cs solid (eqb-false c 35 other), (solid, eqb-false c 35 other)))
+          ]
+    ]
+skips true (c ∷ cs) =
+    elim (cases_Bool (is_line_end c)) [
+      | inl end ↦ ([], tt, inr (c, cs, refl, end, step_line_end c cs end, skips false cs))
+      | inr not_end ↦ comment_more c cs not_end (skips true cs)
+    ]
+
+-- nothing is left: the text ends
+pub skip_ends : (cs : List ℕ) → skip_gap false cs ≡ [] → Ends cs
+skip_ends cs e =
+    let s = skips false cs in
+    elim s.2 [
+      | inl h ↦ (s.0, s.1, inl (sym h.0 ∙ e))
+      | inr h ↦ (s.0, s.1, inr h.0)
+    ]
+
+-- something is left: a gap comes before it, and it is no gap
+pub skip_starts : (cs : List ℕ) (c : ℕ) (rest : List ℕ) → skip_gap false cs ≡ c ∷ rest → HasGap cs (c ∷ rest) × Stops (c ∷ rest)
+skip_starts cs c rest e =
+    let s = skips false cs in
+    elim s.2 [
+      | inl h ↦
+          let same : s.0 ≡ c ∷ rest = sym h.0 ∙ e in
+          (subst (λ (t : List ℕ). HasGap cs t) same s.1, subst Stops same h.1)
+      | inr h ↦ absurd (nil_not_cons c rest (sym h.1 ∙ e))
+    ]
+  where
+    nil_not_cons : (c : ℕ) (rest : List ℕ) → [] ≡ c ∷ rest → ⊥
+    nil_not_cons c rest e = cc
+
+-- ---- every gap is skipped
+
+over_line : (line cs : List ℕ) → InLine line → skip_gap true (line ++ cs) ≡ skip_gap true cs
+over_line [] cs h = refl
+over_line (c ∷ line) cs h = step_comment c (line ++ cs) h.0 ∙ over_line line cs h.1
+
+over_comment : (comment : List ℕ) (end : ℕ) (cs : List ℕ) → IsComment comment → is_line_end end ≡ true → skip_gap false ((comment ++ end ∷ []) ++ cs) ≡ skip_gap false cs
+over_comment [] end cs h e = absurd h
+over_comment (c ∷ line) end cs h e =
+    ap (λ (x : ℕ). skip_gap false (x ∷ ((line ++ end ∷ []) ++ cs))) h.0
+    ∙ step_mark ((line ++ end ∷ []) ++ cs)
+    ∙ ap (skip_gap true) (append_assoc line (end ∷ []) cs)
+    ∙ over_line line (end ∷ cs) h.1
+    ∙ step_line_end end cs e
+
+over_blank : (blank cs : List ℕ) → IsBlank blank → skip_gap false (blank ++ cs) ≡ skip_gap false cs
+over_blank blank cs (inl h) = ap (λ (t : List ℕ). skip_gap false (t ++ cs)) h.1 ∙ step_white h.0 cs h.2
+over_blank blank cs (inr h) = ap (λ (t : List ℕ). skip_gap false (t ++ cs)) h.2 ∙ over_comment h.0 h.1 cs h.3 h.4
+
+over_gap : (blanks : List (List ℕ)) (text start : List ℕ) → Gap blanks text start → skip_gap false text ≡ skip_gap false start
+over_gap [] text start h = ap (skip_gap false) h
+over_gap (blank ∷ blanks) text start h = ap (skip_gap false) h.1 ∙ over_blank blank h.0 h.2 ∙ over_gap blanks h.0 start h.3
+
+stops_there : (start : List ℕ) → Stops start → skip_gap false start ≡ start
+stops_there [] h = skip_nil false
+stops_there (c ∷ cs) h = step_stop c cs h.0 h.1
+
+pub gap_skipped : (text start : List ℕ) → HasGap text start → Stops start → skip_gap false text ≡ start
+gap_skipped text start g h = over_gap g.0 text start g.1 ∙ stops_there start h
+
+comment_skipped : (last : List ℕ) → IsComment last → skip_gap false last ≡ []
+comment_skipped [] h = absurd h
+comment_skipped (c ∷ line) h =
+    ap (λ (x : ℕ). skip_gap false (x ∷ line)) h.0 ∙ step_mark line ∙ ap (skip_gap true) (sym (append-nil line)) ∙ over_line line [] h.1 ∙ skip_nil true
+
+pub end_skipped : (text : List ℕ) → Ends text → skip_gap false text ≡ []
+end_skipped text (last, g, inl e) = over_gap g.0 text last g.1 ∙ ap (skip_gap false) e ∙ skip_nil false
+end_skipped text (last, g, inr c) = over_gap g.0 text last g.1 ∙ comment_skipped last c

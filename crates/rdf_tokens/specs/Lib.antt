@@ -1,0 +1,10 @@
+pub mod Characters
+pub mod Faults
+pub mod Forms
+pub mod LineLaws
+pub mod Lines
+pub mod TokenReading
+pub mod TokenTexts
+pub mod Tokens
+pub mod ValueLaws
+pub mod Values

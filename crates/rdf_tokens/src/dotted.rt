@@ -1,0 +1,172 @@
+//! Blank labels and prefixed names: units with dots between them, the last no dot.
+ghost use Rattle.std.specs.Prelude.{◌≡◌};
+ghost use Rattle.rdf_tokens.specs.TokenReading.{skip_dots, dotted_at, name_part_at, local_escape_at, plx_at, local_part_at, local_first_at, local_at, prefix_at, pname_at, NoPnameBefore, label_at, blank_at};
+
+use crate::character::{is_local_escape, is_name_start};
+use rdf_terms::{Cursor, is_pn_chars, is_pn_chars_base};
+
+/// The place behind all dots.
+fn skip_dots<'a>(cursor: &Cursor<'a>) -> Cursor<'a>
+    ensures { result ≡ skip_dots cursor.now }
+{
+    cursor.skip(|c| c == '.')
+}
+
+/// The place behind one of PN_CHARS.
+#[tactic(auto, unfolding(crate::specs::TokenReading::name_part_at))]
+fn name_part<'a>(cursor: &Cursor<'a>) -> Option<Cursor<'a>>
+    ensures { result ≡ name_part_at cursor.now }
+{
+    let mut rest = cursor.fork();
+    if is_pn_chars(rest.bump()?) {
+        Some(rest)
+    } else {
+        None
+    }
+}
+
+/// PN_LOCAL_ESC, behind its backslash.
+#[tactic(auto, unfolding(crate::specs::TokenReading::local_escape_at))]
+fn local_escape<'a>(cursor: &Cursor<'a>) -> Option<Cursor<'a>>
+    ensures { result ≡ local_escape_at cursor.now }
+{
+    let mut rest = cursor.fork();
+    if is_local_escape(rest.bump()?) {
+        Some(rest)
+    } else {
+        None
+    }
+}
+
+/// PLX: `%` and two hexadecimal digits, or a backslash and what may follow it.
+#[tactic(auto, unfolding(crate::specs::TokenReading::plx_at))]
+fn plx<'a>(cursor: &Cursor<'a>) -> Option<Cursor<'a>>
+    ensures { result ≡ plx_at cursor.now }
+{
+    let mut rest = cursor.fork();
+    match rest.bump()? {
+        '%' => {
+            let (_, rest) = rest.hex()?;
+            let (_, rest) = rest.hex()?;
+            Some(rest)
+        }
+        '\\' => local_escape(&rest),
+        _ => None,
+    }
+}
+
+/// One unit that a local part may go on with: PN_CHARS, `:` or PLX.
+#[tactic(auto, unfolding(crate::specs::TokenReading::local_part_at))]
+fn local_part<'a>(cursor: &Cursor<'a>) -> Option<Cursor<'a>>
+    ensures { result ≡ local_part_at cursor.now }
+{
+    let mut rest = cursor.fork();
+    let c = rest.bump()?;
+    if is_pn_chars(c) || c == ':' {
+        Some(rest)
+    } else {
+        plx(cursor)
+    }
+}
+
+/// The unit that a local part begins with: PN_CHARS_U, `:`, a digit or PLX.
+#[tactic(auto, unfolding(crate::specs::TokenReading::local_first_at))]
+fn local_first<'a>(cursor: &Cursor<'a>) -> Option<Cursor<'a>>
+    ensures { result ≡ local_first_at cursor.now }
+{
+    let mut rest = cursor.fork();
+    let c = rest.bump()?;
+    if is_name_start(c) || c == ':' {
+        Some(rest)
+    } else {
+        plx(cursor)
+    }
+}
+
+/// The place behind PN_CHARS and dots, the last no dot.
+fn name_rest<'a>(cursor: &Cursor<'a>) -> Cursor<'a>
+    ensures { result ≡ dotted_at name_part_at cursor.now }
+{
+    let mut rest = cursor.fork();
+    while let Some(behind) = name_part(&skip_dots(&rest)) {
+        rest = behind;
+    }
+    rest
+}
+
+/// The place behind the units of a local part and dots, the last no dot.
+fn local_rest<'a>(cursor: &Cursor<'a>) -> Cursor<'a>
+    ensures { result ≡ dotted_at local_part_at cursor.now }
+{
+    let mut rest = cursor.fork();
+    while let Some(behind) = local_part(&skip_dots(&rest)) {
+        rest = behind;
+    }
+    rest
+}
+
+/// The place behind a local part, which may be empty.
+#[tactic(auto, unfolding(crate::specs::TokenReading::local_at))]
+fn local<'a>(cursor: &Cursor<'a>) -> Cursor<'a>
+    ensures { result ≡ local_at cursor.now }
+{
+    match local_first(cursor) {
+        Some(rest) => local_rest(&rest),
+        None => cursor.fork(),
+    }
+}
+
+/// The place behind a prefix, which may be empty.
+#[tactic(auto, unfolding(crate::specs::TokenReading::prefix_at))]
+fn prefix<'a>(cursor: &Cursor<'a>) -> Cursor<'a>
+    ensures { result ≡ prefix_at cursor.now }
+{
+    let mut rest = cursor.fork();
+    match rest.bump() {
+        Some(c) if is_pn_chars_base(c) => name_rest(&rest),
+        _ => cursor.fork(),
+    }
+}
+
+/// The place behind PNAME_NS or PNAME_LN (Turtle 1.1, section 6.5): a prefix, `:` and perhaps a local part.
+/// No prefixed name begins where more than `nameless` bytes follow, which is known from one call to
+/// the next: so what runs on without a colon is gone through once, however many words begin in it.
+#[tactic(auto, unfolding(crate::specs::TokenReading::pname_at))]
+pub fn pname<'a>(cursor: &Cursor<'a>, nameless: &mut usize) -> Option<Cursor<'a>>
+    requires { NoPnameBefore cursor.now nameless.old }
+    ensures place { result ≡ pname_at cursor.now }
+    ensures nameless { NoPnameBefore cursor.now nameless.new }
+{
+    if cursor.left() > *nameless {
+        return None;
+    }
+    let end = prefix(cursor);
+    match end.expect(':') {
+        Some(rest) => Some(local(&rest)),
+        None => {
+            *nameless = end.left();
+            None
+        }
+    }
+}
+
+/// The place behind a label.
+#[tactic(auto, unfolding(crate::specs::TokenReading::label_at))]
+fn label<'a>(cursor: &Cursor<'a>) -> Option<Cursor<'a>>
+    ensures { result ≡ label_at cursor.now }
+{
+    let mut rest = cursor.fork();
+    if is_name_start(rest.bump()?) {
+        Some(name_rest(&rest))
+    } else {
+        None
+    }
+}
+
+/// The place behind BLANK_NODE_LABEL (Turtle 1.1, section 6.5), from behind its `_`.
+#[tactic(auto, unfolding(crate::specs::TokenReading::blank_at))]
+pub fn blank<'a>(cursor: &Cursor<'a>) -> Option<Cursor<'a>>
+    ensures { result ≡ blank_at cursor.now }
+{
+    label(&cursor.expect(':')?)
+}

@@ -1,0 +1,28 @@
+//! The tokens that Turtle and SPARQL share: their forms, the token list of a text, what tokens stand
+//! for, and the lines that they are on.
+#![tactic(auto)]
+
+mod character;
+mod dotted;
+mod fault;
+mod gap;
+mod line;
+mod name;
+mod number;
+mod quoted;
+mod slice;
+mod symbol;
+mod token;
+mod tokenizer;
+mod value;
+
+pub use fault::TokenFault;
+pub use line::{line_at, line_ends_are_counted};
+pub use slice::{Slice, slice_of};
+pub use token::{Kind, Token};
+pub use tokenizer::{one_token_list, some_token_list, tokens, tokens_have_forms};
+pub use value::{
+    iri_value, iris_have_values, local_part, local_value, locals_have_values, one_token_text,
+    pnames_are_iris, pnames_have_parts, prefix_part, tag_value, text_value, texts_have_values,
+    token_text,
+};

@@ -1,0 +1,240 @@
+//! What slices of a text stand for (Turtle 1.1, sections 6.3 to 6.5).
+ghost use Rattle.std.specs.Prelude.{◌≡◌, ◌<◌, None, Some, false, string_bytes, IfOk, IfSome, MatchOption};
+ghost use Rattle.std.specs.Str.{chars, encode_utf8_all};
+ghost use Rattle.std.specs.List.{list_any};
+ghost use Rattle.rdf_terms.specs.Iri.{is_forbidden, has_forbidden};
+ghost use Rattle.rdf_tokens.specs.TokenTexts.{TokenSays, SaysText, value_by, OneTokenText};
+ghost use Rattle.rdf_tokens.specs.Tokens.{HasItsForm};
+ghost use Rattle.rdf_tokens.specs.Values as spec;
+ghost use Rattle.rdf_tokens.specs.ValueLaws.{IrisHaveValues, IriValuesAreAllowed, TextsHaveValues, PrefixesAreParts, LocalsAreParts, LocalsHaveMeanings, LocalsHaveValues, PnamesAreIris};
+
+use crate::slice::{Slice, slice_of};
+use crate::token::{Kind, Token};
+use rdf_terms::{Cursor, NoMemory, Text, unescape};
+use std::alloc::Global;
+
+/// The reference that an IRIREF writes, or nothing where none stands at the front.
+///
+/// # Errors
+/// [`NoMemory`] where memory is wanting.
+pub fn iri_value(alloc: Global, slice: &Slice<'_>) -> Result<Text, NoMemory>
+    ensures { IfOk result (λ v. v ≡ spec.iri_value slice.now) }
+{
+    if let Some(reference) = plain_reference(slice.as_str()) {
+        return Text::new(alloc, reference);
+    }
+    match Cursor::new(slice.as_str()).iri(alloc)? {
+        Some((reference, _)) => Text::new(alloc, reference.as_str()),
+        None => Text::new(alloc, ""),
+    }
+}
+
+// What stands between `<` and `>`, where each character may stand in an IRI.
+fn plain_reference(text: &str) -> Option<&str>
+    ensures { IfSome result (λ r. r.now ≡ spec.iri_value (chars text.now)) }
+{
+    let reference = enclosed(text, '<', '>')?;
+    if has_forbidden(reference.as_bytes()) {
+        None
+    } else {
+        Some(reference)
+    }
+}
+
+// Whether a byte may not stand in an IRI.
+fn is_forbidden(b: u8) -> bool
+    ensures { result ≡ is_forbidden b }
+{
+    b <= b' '
+        || matches!(
+            b,
+            b'<' | b'>' | b'"' | b'{' | b'}' | b'|' | b'^' | b'`' | b'\\'
+        )
+}
+
+fn has_forbidden(text: &[u8]) -> bool
+    ensures { result ≡ has_forbidden text.now }
+{
+    text.iter().any(|b| is_forbidden(*b))
+}
+
+// What stands between a mark at the front and one at the end.
+fn enclosed(text: &str, first: char, last: char) -> Option<&str>
+    requires first { first < 128 }
+    requires last { last < 128 }
+    ensures { MatchOption result (spec.enclosed first last (chars text.now) ≡ None) (λ b. spec.enclosed first last (chars text.now) ≡ Some (chars b.now)) }
+{
+    text.strip_prefix(first)?.strip_suffix(last)
+}
+
+// What stands between three such quotes and three more.
+#[tactic(auto, unfolding(crate::specs::Values::enclosed_thrice))]
+fn enclosed_thrice(text: &str, quote: char) -> Option<&str>
+    requires { quote < 128 }
+    ensures { MatchOption result (spec.enclosed_thrice quote (chars text.now) ≡ None) (λ b. spec.enclosed_thrice quote (chars text.now) ≡ Some (chars b.now)) }
+{
+    let once = enclosed(text, quote, quote)?;
+    let twice = enclosed(once, quote, quote)?;
+    enclosed(twice, quote, quote)
+}
+
+// What stands between the quotes of a string, a long one or else a short one.
+#[tactic(auto, unfolding(crate::specs::Values::quoted_body))]
+fn quoted_body(text: &str, quote: char) -> Option<&str>
+    requires { quote < 128 }
+    ensures { MatchOption result (spec.quoted_body quote (chars text.now) ≡ None) (λ b. spec.quoted_body quote (chars text.now) ≡ Some (chars b.now)) }
+{
+    match enclosed_thrice(text, quote) {
+        Some(body) => Some(body),
+        None => enclosed(text, quote, quote),
+    }
+}
+
+#[tactic(auto, unfolding(crate::specs::Values::text_body))]
+fn text_body(text: &str) -> Option<&str>
+    ensures { MatchOption result (spec.text_body (chars text.now) ≡ None) (λ b. spec.text_body (chars text.now) ≡ Some (chars b.now)) }
+{
+    match quoted_body(text, '"') {
+        Some(body) => Some(body),
+        None => quoted_body(text, '\''),
+    }
+}
+
+// The text that a string's body writes.
+fn unescaped(alloc: Global, body: &str) -> Result<Text, NoMemory>
+    ensures { IfOk result (λ v. v ≡ encode_utf8_all (spec.unescaped (chars body.now))) }
+{
+    if !body.contains('\\') {
+        return Text::new(alloc, body);
+    }
+    match unescape(alloc, body)? {
+        Some(text) => Text::from_string(text),
+        None => Text::new(alloc, ""),
+    }
+}
+
+/// What a string stands for, or nothing for another slice.
+///
+/// # Errors
+/// [`NoMemory`] where memory is wanting.
+pub fn text_value(alloc: Global, slice: &Slice<'_>) -> Result<Text, NoMemory>
+    ensures { IfOk result (λ v. v ≡ spec.text_value slice.now) }
+{
+    match text_body(slice.as_str()) {
+        Some(body) => unescaped(alloc, body),
+        None => unescaped(alloc, ""),
+    }
+}
+
+/// The prefix of a prefixed name: what stands before its first colon.
+pub fn prefix_part<'a>(slice: &Slice<'a>) -> Slice<'a>
+    ensures { result ≡ spec.prefix_part slice.now }
+{
+    let text = slice.as_str();
+    match text.split_once(':') {
+        Some((prefix, _)) => Slice::new(prefix, slice.start()),
+        None => slice.fork(),
+    }
+}
+
+/// The local part of a prefixed name: what stands behind its first colon.
+pub fn local_part<'a>(slice: &Slice<'a>) -> Slice<'a>
+    ensures { result ≡ spec.local_part slice.now }
+{
+    match slice.as_str().split_once(':') {
+        Some((prefix, local)) => {
+            let start = slice.start().saturating_add(prefix.len());
+            Slice::new(local, start.saturating_add(1))
+        }
+        None => Slice::new("", slice.start()),
+    }
+}
+
+/// What a local part stands for: itself without the backslashes of its escapes.
+///
+/// # Errors
+/// [`NoMemory`] where memory is wanting.
+pub fn local_value(alloc: Global, slice: &Slice<'_>) -> Result<Text, NoMemory>
+    ensures { IfOk result (λ v. v ≡ spec.local_value slice.now) }
+{
+    let part = slice.as_str();
+    if !part.contains('\\') {
+        return Text::new(alloc, part);
+    }
+    let mut value = String::new(alloc);
+    let mut rest = Cursor::new(part);
+    while let Some(c) = rest.bump() {
+        if c != '\\' {
+            value.push(c)?;
+        }
+    }
+    Text::from_string(value)
+}
+
+/// The tag behind an `@`.
+pub fn tag_value<'a>(slice: &Slice<'a>) -> &'a str
+    ensures { result.now ≡ spec.tag_value slice.now }
+{
+    match slice.as_str().strip_prefix('@') {
+        Some(tag) => tag,
+        None => "",
+    }
+}
+
+/// What a token of this text says: an IRI its reference, a string the text that it stands for, and a
+/// prefixed name what its local part stands for.
+///
+/// # Errors
+/// [`NoMemory`] where memory is wanting.
+pub fn token_text(alloc: Global, token: &Token, text: &str) -> Result<String, NoMemory>
+    requires form { HasItsForm (chars text.now) token.now }
+    requires kind { SaysText token.now.kind }
+    ensures { IfOk result (λ s. TokenSays (chars text.now) token.now (string_bytes s)) }
+{
+    let slice = slice_of(text, token);
+    let value = value_by(alloc, token.kind, &slice)?;
+    Ok(String::from_str(alloc, value.as_str())?)
+}
+
+fn value_by(alloc: Global, kind: Kind, slice: &Slice<'_>) -> Result<Text, NoMemory>
+    ensures { IfOk result (λ v. v ≡ value_by kind slice.now) }
+{
+    match kind {
+        Kind::Iri => iri_value(alloc, slice),
+        Kind::Text => text_value(alloc, slice),
+        _ => local_value(alloc, &local_part(slice)),
+    }
+}
+
+/// A token of a text says one thing at most.
+pub fn one_token_text()
+    ensures { OneTokenText }
+{}
+
+/// An IRIREF says its value alone, in which each character may stand in an IRI.
+pub fn iris_have_values()
+    ensures value { IrisHaveValues }
+    ensures allowed { IriValuesAreAllowed }
+{}
+
+/// A string stands for its value alone.
+pub fn texts_have_values()
+    ensures { TextsHaveValues }
+{}
+
+/// A prefixed name's parts are its prefix and its local part.
+pub fn pnames_have_parts()
+    ensures prefix { PrefixesAreParts }
+    ensures local { LocalsAreParts }
+{}
+
+/// A local part stands for its value alone.
+pub fn locals_have_values()
+    ensures there { LocalsHaveMeanings }
+    ensures value { LocalsHaveValues }
+{}
+
+/// The value of a local part behind an IRI gives an IRI.
+pub fn pnames_are_iris()
+    ensures { PnamesAreIris }
+{}

@@ -1,5 +1,0 @@
-use Rattle.rdf_turtle.proofs.ValuePnames.{pname_iri}
-use Rattle.rdf_turtle.proofs.value.pnames_are_iris.Goals as goal
-
-pub returns : goal.returns
-returns c = pname_iri
