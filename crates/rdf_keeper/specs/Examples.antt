@@ -5,20 +5,20 @@ use Rattle.rdf_terms.specs.Quad.{QuadParts}
 use Rattle.rdf_terms.specs.declared.quad.GraphName.TheVariants.{Default, Named}
 use Rattle.rdf_terms.specs.declared.term.Term.TheVariants.{Blank, Iri}
 use Rattle.rdf_dataset.specs.State.{State, empty_state}
-use Rattle.rdf_keeper.specs.Answers.{reply_line}
-use Rattle.rdf_keeper.specs.Commands.{Asked, act, bad, commands, show, unended}
-use Rattle.rdf_keeper.specs.History.{History, marked, moved, nothing, place_of, pushed}
-use Rattle.rdf_keeper.specs.LineWords.{is_name}
-use Rattle.rdf_keeper.specs.Lines.{raw_lines, upto_last_end}
-use Rattle.rdf_keeper.specs.OneOutput.{AreFull, FirmAnswers, IsWhole}
-use Rattle.rdf_keeper.specs.Request.{Load, blank_limit, quad_from}
-use Rattle.rdf_keeper.specs.Runs.{Runs, RunsOver}
-use Rattle.rdf_keeper.specs.Session.{Session, Do, Done, Mark, Refused as RefusedReply, Undo, fresh, now}
-use Rattle.rdf_keeper.specs.declared.fault.KeeperFault.TheVariants.{NoEnd}
-use Rattle.rdf_keeper.specs.declared.format.Format.TheVariants.{NQuads}
+use Rattle.rdf_keeper.specs.Script.Answers.{reply_line}
+use Rattle.rdf_keeper.specs.Script.Commands.{Asked, act, bad, commands, show, unended}
+use Rattle.rdf_session.specs.History.{History, marked, moved, nothing, place_of, pushed}
+use Rattle.rdf_keeper.specs.Script.LineWords.{is_name}
+use Rattle.rdf_keeper.specs.Script.Lines.{raw_lines, upto_last_end}
+use Rattle.rdf_keeper.specs.Script.OneOutput.{AreFull, FirmAnswers, IsWhole}
+use Rattle.rdf_session.specs.Request.{Load, blank_limit, quad_from}
+use Rattle.rdf_keeper.specs.Script.Runs.{Runs, RunsOver}
+use Rattle.rdf_session.specs.Session.{Session, Do, Done, Mark, Refused as RefusedReply, Undo, fresh, now}
+use Rattle.rdf_session.specs.declared.fault.KeeperFault.TheVariants.{NoEnd}
+use Rattle.rdf_session.specs.declared.format.Format.TheVariants.{NQuads}
 use Rattle.rdf_keeper.specs.declared.script.command.Listing.TheVariants.{Quads}
-use Rattle.rdf_keeper.specs.declared.script.output.Status.{Status}
-use Rattle.rdf_keeper.specs.declared.script.output.Status.TheVariants.{Accepted, Refused}
+use Rattle.rdf_keeper.specs.declared.script.status.Status.{Status}
+use Rattle.rdf_keeper.specs.declared.script.status.Status.TheVariants.{Accepted, Refused}
 
 -- ---- commands
 

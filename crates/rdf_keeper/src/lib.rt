@@ -1,30 +1,23 @@
-//! The keeper of an RDF dataset: loads with undo, redo, marks, rollback and commit, scripts of these,
+//! The keeper of an RDF dataset: the session with its loads, undo, redo, marks, rollback and commit, scripts of these,
 //! conversion of documents, and the whole program `rdfkeep` over its words.
 #![tactic(auto)]
 
 mod conversion;
 mod examples;
-mod fault;
-mod format;
-mod help;
-mod keeper;
 mod law;
-mod listing;
-mod load;
-mod marks;
-mod outcome;
 mod program;
 mod script;
-mod words;
+mod short_line;
+mod streams;
 
 pub use conversion::{ConvertFault, DocumentFault, convert};
 pub use examples::the_worked_examples_hold;
-pub use fault::{Counts, KeeperFault};
-pub use format::Format;
-pub use keeper::Keeper;
 pub use law::{
-    a_script_has_one_output, printed_lines_are_documents, script_lines_are_the_text,
-    standing_requests, undo_gives_back,
+    a_script_has_one_output, printed_lines_are_documents, refused_answers_leave,
+    script_lines_are_the_text,
 };
 pub use program::start;
+pub use rdf_session::{
+    Counts, Format, Keeper, KeeperFault, one_reply, standing_requests, undo_gives_back,
+};
 pub use script::{Settings, Status, run};

@@ -1,19 +1,21 @@
 //! The whole program, over its words, its standard input, output and error.
 ghost use Rattle.std.specs.Prelude.{◌≡◌, ◌≢◌, ◌≤◌, ℕ, List, [], Some, Result};
 ghost use Rattle.std.specs.Io.KnownBytes.{Appends};
-ghost use Rattle.rdf_keeper.specs.Convert.{Converts};
-ghost use Rattle.rdf_keeper.specs.Program.{status_of, outcome_of};
-ghost use Rattle.rdf_keeper.specs.declared.conversion.ConvertFault.{ConvertFault};
+ghost use Rattle.rdf_keeper.specs.Conversion.Converts.{Converts};
+ghost use Rattle.rdf_keeper.specs.Inside.Outcomes.{status_of, outcome_of};
+ghost use Rattle.rdf_keeper.specs.declared.conversion.fault.ConvertFault.{ConvertFault};
+
+mod help;
+mod outcome;
+mod words;
 
 use crate::conversion::convert;
-use crate::fault::KeeperFault;
-use crate::format::Format;
-use crate::keeper::Keeper;
-use crate::outcome::{Outcome, outcome_of, report};
-use crate::script::input::{Ending, read_all};
-use crate::script::output::write_whole;
+use crate::program::outcome::{Outcome, outcome_of, report};
+use crate::program::words::{Asked, ConvertWords, RunWords, WordsFault, read_words};
 use crate::script::{Settings, Status, run};
-use crate::words::{Asked, ConvertWords, RunWords, WordsFault, read_words};
+use crate::streams::reading::{Ending, read_all};
+use crate::streams::writing::write_whole;
+use rdf_session::{Format, Keeper, KeeperFault};
 use rdf_terms::{Iri, IriFault};
 use std::alloc::Global;
 use std::fs;
@@ -85,7 +87,8 @@ fn run_words<T: Files, R: Read + Drop, W: Write>(
     reader: R,
     writer: &mut W,
 ) -> Outcome
-    ensures { status_of result ≡ 2 → Appends (W.contents writer.old) (W.contents writer.new) [] }
+    ensures { status_of result ≡ 2 →
+        Appends (W.contents writer.old) (W.contents writer.new) [] }
 {
     let mut keeper = match base_of(alloc, words.base) {
         Ok(base) => Keeper::new(alloc, base),
@@ -116,7 +119,8 @@ fn convert_all<R: Read + Drop, W: Write>(
 ) -> Outcome
     ensures told { status_of result ≢ 2 }
     ensures written { (text : List ℕ) → R.remaining reader ≡ Some text →
-        (out : List ℕ) × (answer : Result (Unit {0}) ConvertFault) × Appends (W.contents writer.old) (W.contents writer.new) out
+        (out : List ℕ) × (answer : Result (Unit {0}) ConvertFault)
+        × Appends (W.contents writer.old) (W.contents writer.new) out
         × Converts format base text out answer × (result ≡ outcome_of answer) }
 {
     outcome_of(convert(alloc, format, base, &mut reader, writer))
@@ -129,7 +133,8 @@ fn convert_words<T: Files, R: Read + Drop, W: Write>(
     reader: R,
     writer: &mut W,
 ) -> Outcome
-    ensures { status_of result ≡ 2 → Appends (W.contents writer.old) (W.contents writer.new) [] }
+    ensures { status_of result ≡ 2 →
+        Appends (W.contents writer.old) (W.contents writer.new) [] }
 {
     let base = match base_of(alloc, words.base) {
         Ok(base) => base,
@@ -161,8 +166,10 @@ fn answer_words<T: Files + AllocGlobal, R: Read + Drop, W: Write, E: Write>(
     writer: &mut W,
     errors: &mut E,
 ) -> Outcome
-    ensures silent { status_of result ≡ 2 → Appends (W.contents writer.old) (W.contents writer.new) [] }
-    ensures quiet { status_of result ≡ 0 → Appends (E.contents errors.old) (E.contents errors.new) [] }
+    ensures silent { status_of result ≡ 2 →
+        Appends (W.contents writer.old) (W.contents writer.new) [] }
+    ensures quiet { status_of result ≡ 0 →
+        Appends (E.contents errors.old) (E.contents errors.new) [] }
 {
     let alloc = rt.alloc();
     match read_words(alloc, words) {

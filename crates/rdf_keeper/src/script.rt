@@ -2,11 +2,11 @@
 
 mod answer;
 pub(crate) mod command;
-pub(crate) mod input;
 mod item;
 mod line;
-pub(crate) mod output;
+mod listing;
 mod runner;
+mod status;
 
-pub use output::Status;
 pub use runner::{Settings, run};
+pub use status::Status;

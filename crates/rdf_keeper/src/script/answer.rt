@@ -1,18 +1,17 @@
 //! The answers to commands.
 ghost use Rattle.std.specs.Prelude.{◌≡◌, ◌++◌, ◌+◌, ◌≤◌, ◌∷◌, [], ℕ, List, length, IfOk, Ok, Err};
 ghost use Rattle.std.specs.List.{concat};
-ghost use Rattle.arrayvec.specs.ArrayVec.{array_vec_len};
-ghost use Rattle.rdf_keeper.specs.Answers.{Answers, count_line, is_refused, line_text, place_text, reply_line};
-ghost use Rattle.rdf_keeper.specs.Asks.{asked_of};
-ghost use Rattle.rdf_keeper.specs.Listing.{Shows};
-ghost use Rattle.rdf_keeper.specs.Session.{Reply, reply_of, reply_of_mark, Done as DoneReply};
+ghost use Rattle.rdf_keeper.specs.Script.Answers.{Answers, count_line, is_refused, reply_line};
+ghost use Rattle.rdf_keeper.specs.Inside.Asks.{asked_of};
+ghost use Rattle.rdf_keeper.specs.Script.Listing.{Shows};
+ghost use Rattle.rdf_session.specs.Session.{Reply, reply_of, reply_of_mark, Done as DoneReply};
 
-use crate::fault::{Counts, KeeperFault};
-use crate::keeper::Keeper;
-use crate::listing::{append_change, append_names};
 use crate::script::command::{Command, Listing};
+use crate::script::listing::{append_change, append_names};
+use crate::short_line::{append, append_place};
 use arrayvec::ArrayVec;
 use itoa::Buffer;
+use rdf_session::{Counts, Keeper, KeeperFault};
 use rdf_terms::NoMemory;
 use std::alloc::Global;
 
@@ -22,36 +21,6 @@ pub(crate) struct Answer {
     pub(crate) payload: Vec<u8>,
     pub(crate) line: ArrayVec<u8, 64>,
     pub(crate) refused: bool,
-}
-
-fn append(line: &mut ArrayVec<u8, 64>, text: &[u8])
-    requires { array_vec_len line.old + length text.now ≤ 64 }
-    ensures items { line.new.items ≡ line.old.items ++ text.now }
-    ensures len { array_vec_len line.new ≡ array_vec_len line.old + length text.now }
-{
-    line.try_extend_from_slice(text).unwrap();
-}
-
-fn append_line_number(line: &mut ArrayVec<u8, 64>, number: u64)
-    requires { array_vec_len line.old ≤ 32 }
-    ensures items { line.new.items ≡ line.old.items ++ line_text number }
-    ensures len { array_vec_len line.new ≤ 60 }
-{
-    let mut buffer = Buffer::new();
-    append(line, b" line ");
-    append(line, buffer.format(number).as_bytes());
-}
-
-fn append_place(line: &mut ArrayVec<u8, 64>, fault: KeeperFault)
-    requires { array_vec_len line.old ≤ 32 }
-    ensures items { line.new.items ≡ line.old.items ++ place_text fault }
-    ensures len { array_vec_len line.new ≤ 60 }
-{
-    match fault {
-        KeeperFault::Line(fault) => append_line_number(line, fault.line),
-        KeeperFault::Turtle(fault) => append_line_number(line, fault.line),
-        _ => {}
-    }
 }
 
 fn line_of(reply: Result<Counts, KeeperFault>) -> ArrayVec<u8, 64>
@@ -69,7 +38,7 @@ fn line_of(reply: Result<Counts, KeeperFault>) -> ArrayVec<u8, 64>
         Err(fault) => {
             append(&mut line, b"refused: ");
             append(&mut line, fault.name().as_bytes());
-            append_place(&mut line, fault);
+            append_place(&mut line, fault.line());
         }
     }
     append(&mut line, b"\n");
@@ -146,7 +115,8 @@ fn append_listing(
 }
 
 fn show(alloc: Global, keeper: &Keeper, listing: Listing) -> Answer
-    ensures { Answers (asked_of (Command.Show listing)) keeper.now (result.payload.items ++ result.line.items) result.refused keeper.now }
+    ensures { Answers (asked_of (Command.Show listing)) keeper.now
+        (result.payload.items ++ result.line.items) result.refused keeper.now }
 {
     let mut payload = Vec::new(alloc);
     match append_listing(alloc, keeper, listing, &mut payload) {
@@ -161,7 +131,8 @@ fn show(alloc: Global, keeper: &Keeper, listing: Listing) -> Answer
 
 /// Acts on the keeper, and makes the answer.
 pub(crate) fn serve(alloc: Global, keeper: &mut Keeper, command: Command<'_>) -> Answer
-    ensures { Answers (asked_of command.entry) keeper.old (result.payload.items ++ result.line.items) result.refused keeper.new }
+    ensures { Answers (asked_of command.entry) keeper.old
+        (result.payload.items ++ result.line.items) result.refused keeper.new }
 {
     match command {
         Command::Load(format, text) => without_payload(alloc, keeper.load(format, text)),

@@ -1,12 +1,12 @@
 //! What the lines of a script ask for.
-ghost use Rattle.std.specs.Prelude.{◌≡◌, ◌∷◌, ◌||◌, nat_eq, ◌&&◌, length, nat_le};
+ghost use Rattle.std.specs.Prelude.{◌≡◌, ◌∷◌, nat_eq, ◌&&◌, length, nat_le};
 ghost use Rattle.std.specs.List.{list_all};
-ghost use Rattle.rdf_keeper.specs.Commands.{asked, is_comment, format_named, format_of, line_of_words, named, opens_other, plain};
-ghost use Rattle.rdf_keeper.specs.Asks.{asked_of, line_of};
-ghost use Rattle.rdf_keeper.specs.LineWords.{is_name, is_name_byte, words};
+ghost use Rattle.rdf_keeper.specs.Script.Commands.{asked, is_comment, format_named, format_of, line_of_words, load_of, named, plain};
+ghost use Rattle.rdf_keeper.specs.Inside.Asks.{asked_of, line_of};
+ghost use Rattle.rdf_keeper.specs.Script.LineWords.{is_name, is_name_byte, words};
 
-use crate::format::Format;
 use crate::script::line::next_word;
+use rdf_session::Format;
 
 /// What a session can show.
 #[derive(Clone, Copy, Debug, PartialEq, Eq)]
@@ -35,13 +35,26 @@ pub(crate) enum Command<'a> {
     Unended,
 }
 
+/// What a body is, by the line that begins it.
+#[derive(Clone, Copy, Debug, PartialEq, Eq)]
+pub enum Body {
+    /// A document of the format, which is loaded.
+    Load(Format),
+    /// An update.
+    Update,
+    /// A query.
+    Query,
+    /// A document of no format that is known.
+    Unknown,
+}
+
 /// What a line outside bodies is.
 #[derive(Clone, Copy)]
 pub(crate) enum Line<'a> {
     /// No words, or a comment.
     Skipped,
-    /// A body begins; its text is loaded where the format is known.
-    Opens(Option<Format>),
+    /// A body begins.
+    Opens(Body),
     Asks(Command<'a>),
 }
 
@@ -79,6 +92,15 @@ fn format_of(text: &[u8]) -> Option<Format>
             None => format_named(word),
             Some(_) => None,
         },
+    }
+}
+
+fn load_of(format: Option<Format>) -> Body
+    ensures { result ≡ load_of format }
+{
+    match format {
+        Some(format) => Body::Load(format),
+        None => Body::Unknown,
     }
 }
 
@@ -149,12 +171,6 @@ fn asked<'a>(word: &'a [u8], text: &'a [u8]) -> Command<'a>
     }
 }
 
-fn opens_other(word: &[u8]) -> bool
-    ensures { result ≡ opens_other word.now }
-{
-    word == b"%update".as_slice() || word == b"%query".as_slice()
-}
-
 /// What a line outside bodies, without its end, is.
 pub(crate) fn read_line(line: &[u8]) -> Line<'_>
     ensures { line_of result ≡ line_of_words (words line.now) }
@@ -165,9 +181,11 @@ pub(crate) fn read_line(line: &[u8]) -> Line<'_>
     if is_comment(word) {
         Line::Skipped
     } else if word == b"%load".as_slice() {
-        Line::Opens(format_of(rest))
-    } else if opens_other(word) {
-        Line::Opens(None)
+        Line::Opens(load_of(format_of(rest)))
+    } else if word == b"%update".as_slice() {
+        Line::Opens(Body::Update)
+    } else if word == b"%query".as_slice() {
+        Line::Opens(Body::Query)
     } else {
         Line::Asks(asked(word, rest))
     }

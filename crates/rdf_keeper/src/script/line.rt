@@ -1,8 +1,8 @@
 //! Lines and their words.
 ghost use Rattle.std.specs.Prelude.{◌≡◌, [], ◌∷◌, ◌++◌, ◌<◌, ◌≤◌, length, nat_eq, MatchOption, IfSome, not};
 ghost use Rattle.std.specs.List.{position_from};
-ghost use Rattle.rdf_keeper.specs.LineWords.{is_gap, words};
-ghost use Rattle.rdf_keeper.specs.Lines.{bare, raw_lines};
+ghost use Rattle.rdf_keeper.specs.Script.LineWords.{is_gap, words};
+ghost use Rattle.rdf_keeper.specs.Script.Lines.{bare, raw_lines};
 
 /// The first line with its end, and the rest.
 pub(crate) fn first_line(text: &[u8]) -> (&[u8], &[u8])
@@ -62,7 +62,8 @@ fn word_len(text: &[u8]) -> Option<usize>
 
 /// The first word of a text, and what comes after it.
 pub(crate) fn next_word(text: &[u8]) -> Option<(&[u8], &[u8])>
-    ensures { MatchOption result (words text.now ≡ []) (λ r. words text.now ≡ r.0.now ∷ words r.1.now) }
+    ensures { MatchOption result (words text.now ≡ [])
+        (λ r. words text.now ≡ r.0.now ∷ words r.1.now) }
 {
     let Some(gap) = gap_len(text) else {
         return None;

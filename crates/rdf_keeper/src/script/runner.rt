@@ -2,18 +2,19 @@
 ghost use Rattle.std.specs.Prelude.{◌≡◌, ◌++◌, ℕ, List, [], Bool, false, None, ◌&&◌, ◌||◌};
 ghost use Rattle.std.specs.List.{concat};
 ghost use Rattle.std.specs.Io.KnownBytes.{Appends, Consumes, IsAtEnd};
-ghost use Rattle.rdf_keeper.specs.Session.{Session};
-ghost use Rattle.rdf_keeper.specs.Lines.{raw_lines, upto_last_end};
-ghost use Rattle.rdf_keeper.specs.Commands.{commands};
-ghost use Rattle.rdf_keeper.specs.Output.{WritesTo};
-ghost use Rattle.rdf_keeper.specs.Answers.{Answers};
-ghost use Rattle.rdf_keeper.specs.Runs.{Runs, RunsOver, final};
+ghost use Rattle.rdf_session.specs.Session.{Session};
+ghost use Rattle.rdf_keeper.specs.Script.Lines.{raw_lines, upto_last_end};
+ghost use Rattle.rdf_keeper.specs.Script.Commands.{commands};
+ghost use Rattle.rdf_keeper.specs.Inside.Streams.{WritesTo};
+ghost use Rattle.rdf_keeper.specs.Script.Answers.{Answers};
+ghost use Rattle.rdf_keeper.specs.Script.Runs.{Runs, RunsOver, final};
 
-use crate::keeper::Keeper;
 use crate::script::answer::{Answer, serve};
-use crate::script::input::{Ending, read_all};
 use crate::script::item::next_command;
-use crate::script::output::{Status, WriteFault, write_whole};
+use crate::script::status::Status;
+use crate::streams::reading::{Ending, read_all};
+use crate::streams::writing::{WriteFault, write_whole};
+use rdf_session::Keeper;
 use std::alloc::Global;
 use std::io::{Read, Write};
 
@@ -25,7 +26,8 @@ pub struct Settings {
 }
 
 fn write_answer<W: Write>(writer: &mut W, answer: &Answer) -> Result<(), WriteFault>
-    ensures { WritesTo (W.contents writer.old) (answer.now.payload.items ++ answer.now.line.items) result (W.contents writer.new) }
+    ensures { WritesTo (W.contents writer.old) (answer.now.payload.items ++ answer.now.line.items)
+        result (W.contents writer.new) }
 {
     write_whole(writer, answer.payload.as_slice())?;
     write_whole(writer, answer.line.as_slice())
@@ -41,18 +43,6 @@ fn ending(last: Status, refused: bool) -> Status
     }
 }
 
-fn ends_with(stop: bool, refused: bool) -> bool
-    ensures { result ≡ (stop && refused) }
-{
-    stop && refused
-}
-
-fn any_refused(before: bool, now: bool) -> bool
-    ensures { result ≡ (before || now) }
-{
-    before || now
-}
-
 // Runs the commands of a text.
 fn run_text<W: Write>(
     alloc: Global,
@@ -63,8 +53,10 @@ fn run_text<W: Write>(
     writer: &mut W,
     stop: bool,
 ) -> Status
-    ensures { (answers : List (List ℕ)) × Appends (W.contents writer.old) (W.contents writer.new) (concat answers) ×
-        Runs Answers stop last false (commands ended None (raw_lines text.now)) keeper.old answers keeper.new result }
+    ensures { (answers : List (List ℕ))
+        × Appends (W.contents writer.old) (W.contents writer.new) (concat answers)
+        × Runs Answers stop last false (commands ended None (raw_lines text.now))
+        keeper.old answers keeper.new result }
 {
     let mut rest = text;
     let mut refused = false;
@@ -73,10 +65,10 @@ fn run_text<W: Write>(
         if write_answer(writer, &reply).is_err() {
             return Status::WriteFailed;
         }
-        if ends_with(stop, reply.refused) {
+        if stop && reply.refused {
             return Status::Refused;
         }
-        refused = any_refused(refused, reply.refused);
+        refused = refused || reply.refused;
         rest = after;
     }
     ending(last, refused)
@@ -104,8 +96,10 @@ pub fn run<R: Read, W: Write>(
     writer: &mut W,
     settings: Settings,
 ) -> Status
-    ensures { (answers : List (List ℕ)) × Appends (W.contents writer.old) (W.contents writer.new) (concat answers) ×
-        RunsOver settings.stop (R.remaining reader.old) (R.remaining reader.new) keeper.old answers keeper.new result }
+    ensures { (answers : List (List ℕ))
+        × Appends (W.contents writer.old) (W.contents writer.new) (concat answers)
+        × RunsOver settings.stop (R.remaining reader.old) (R.remaining reader.new)
+        keeper.old answers keeper.new result }
 {
     let mut held = Vec::new(alloc);
     match read_all(reader, &mut held) {

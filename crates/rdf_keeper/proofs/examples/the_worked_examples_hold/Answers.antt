@@ -1,5 +1,5 @@
 use Rattle.std.proofs.Common.{refl}
-use Rattle.rdf_keeper.proofs.ExampleLemmas.{nothing_answered, load_undone, load_twice, load_redone, mark_reached, committed, open_load}
+use Rattle.rdf_keeper.proofs.ScriptLemmas.Examples.{nothing_answered, load_undone, load_twice, load_redone, mark_reached, committed, open_load}
 use Rattle.rdf_keeper.proofs.examples.the_worked_examples_hold.Goals as goal
 
 pub returns-clause-nothing_asked : goal.returns-clause-nothing_asked

@@ -1,4 +1,4 @@
-use Rattle.rdf_keeper.proofs.PrintedLemmas.{lines_are_documents, sorted_texts_are_documents, printed_lines_are_documents}
+use Rattle.rdf_keeper.proofs.ScriptLemmas.Printed.{lines_are_documents, sorted_texts_are_documents, printed_lines_are_documents}
 use Rattle.rdf_keeper.proofs.law.printed_lines_are_documents.Goals as goal
 
 pub returns-clause-lines : goal.returns-clause-lines

@@ -1,4 +1,4 @@
-use Rattle.rdf_keeper.proofs.CutLemmas.{lines_are_the_text, lines_are_ended, one_cut}
+use Rattle.rdf_keeper.proofs.ScriptLemmas.Cuts.{lines_are_the_text, lines_are_ended, one_cut}
 use Rattle.rdf_keeper.proofs.law.script_lines_are_the_text.Goals as goal
 
 pub returns-clause-text : goal.returns-clause-text

@@ -1,5 +1,5 @@
 use Rattle.std.proofs.Common.{◌∙◌, sym}
-use Rattle.rdf_keeper.proofs.OutcomeLemmas.{stays_quiet}
+use Rattle.rdf_keeper.proofs.ProgramLemmas.{stays_quiet}
 use Rattle.rdf_keeper.proofs.program.start.Goals as goal
 
 pub returns-clause-quiet : goal.returns-clause-quiet

@@ -1,6 +1,6 @@
 use Rattle.std.proofs.Common.{◌≡◌, length, None, ◌≤◌}
-use Rattle.rdf_keeper.specs.Lines.{raw_lines}
-use Rattle.rdf_keeper.specs.Commands.{commands}
+use Rattle.rdf_keeper.specs.Script.Lines.{raw_lines}
+use Rattle.rdf_keeper.specs.Script.Commands.{commands}
 use Rattle.rdf_keeper.proofs.script.item.next_command.Given as goal
 
 abbrev pub invariant-loop-rest : goal.invariant-loop-rest

@@ -1,6 +1,6 @@
 use Rattle.std.proofs.Common.{◌≡◌, ◌∷◌, ◌∙◌, ap, sym, List, ℕ, take, drop, zero-add}
-use Rattle.rdf_keeper.specs.Lines.{raw_lines}
-use Rattle.rdf_keeper.proofs.LineLemmas.{raw_lines-first, cut-some, cut-none, cut}
+use Rattle.rdf_keeper.specs.Script.Lines.{raw_lines}
+use Rattle.rdf_keeper.proofs.ScriptLemmas.Lines.{raw_lines-first, cut-some, cut-none, cut}
 use Rattle.rdf_keeper.proofs.script.line.first_line.Goals as goal
 
 at_cut : (xs : List ℕ) (n : ℕ) → cut xs ≡ n → raw_lines xs ≡ take (cut xs) xs ∷ raw_lines (drop (cut xs) xs) → raw_lines xs ≡ take n xs ∷ raw_lines (drop n xs)

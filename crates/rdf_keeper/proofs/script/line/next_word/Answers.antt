@@ -1,5 +1,5 @@
 use Rattle.std.proofs.Common.{sym, rules}
-use Rattle.rdf_keeper.proofs.WordLemmas.{ended_word, last_word, no_word}
+use Rattle.rdf_keeper.proofs.ScriptLemmas.Words.{ended_word, last_word, no_word}
 use Rattle.rdf_keeper.proofs.script.line.next_word.Goals as goal
 
 pub returns-in_default : goal.returns-in_default

@@ -1,6 +1,6 @@
 use Rattle.std.proofs.Common.{[], inr, false}
-use Rattle.rdf_keeper.specs.declared.script.output.Status.TheVariants.{ReadFailed}
-use Rattle.rdf_keeper.proofs.RunLemmas.{no_memory, nothing_written}
+use Rattle.rdf_keeper.specs.declared.script.status.Status.TheVariants.{ReadFailed}
+use Rattle.rdf_keeper.proofs.ScriptLemmas.Runs.{no_memory, nothing_written}
 use Rattle.rdf_keeper.proofs.script.runner.run.Goals as goal
 
 pub returns : goal.returns

@@ -1,5 +1,5 @@
 use Rattle.std.proofs.Common.{ℕ, List, [], ◌∷◌, ◌++◌, ◌∙◌, sym, append_assoc, append-nil}
-use Rattle.rdf_keeper.proofs.RunLemmas.{wrote_ok, wrote_err, write_failed, stopped, goes_on, at_end, closed, one_more}
+use Rattle.rdf_keeper.proofs.ScriptLemmas.Runs.{wrote_ok, wrote_err, write_failed, stopped, goes_on, at_end, closed, one_more}
 use Rattle.rdf_keeper.proofs.script.runner.run_text.Goals as goal
 
 pub returns-then-is_err : goal.returns-then-is_err

@@ -1,12 +1,12 @@
 use Rattle.std.proofs.Common.{◌++◌, ℕ, List, None, false, length}
 use Rattle.std.specs.List.{concat}
 use Rattle.std.specs.Io.KnownBytes.{Appends}
-use Rattle.rdf_keeper.specs.Session.{Session}
-use Rattle.rdf_keeper.specs.Lines.{raw_lines}
-use Rattle.rdf_keeper.specs.Commands.{commands}
-use Rattle.rdf_keeper.specs.Answers.{Answers}
-use Rattle.rdf_keeper.specs.Runs.{Runs}
-use Rattle.rdf_keeper.specs.declared.script.output.Status.{Status}
+use Rattle.rdf_session.specs.Session.{Session}
+use Rattle.rdf_keeper.specs.Script.Lines.{raw_lines}
+use Rattle.rdf_keeper.specs.Script.Commands.{commands}
+use Rattle.rdf_keeper.specs.Script.Answers.{Answers}
+use Rattle.rdf_keeper.specs.Script.Runs.{Runs}
+use Rattle.rdf_keeper.specs.declared.script.status.Status.{Status}
 use Rattle.rdf_keeper.proofs.script.runner.run_text.Given as goal
 
 abbrev pub invariant-loop-command : goal.invariant-loop-command

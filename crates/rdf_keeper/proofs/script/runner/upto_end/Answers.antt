@@ -1,6 +1,6 @@
 use Rattle.std.proofs.Common.{◌≡◌, ◌≤◌, ℕ, zero, suc, arith, take, sym, ◌∙◌, refl, List}
-use Rattle.rdf_keeper.specs.Lines.{upto_last_end}
-use Rattle.rdf_keeper.proofs.LineLemmas.{upto-step, upto-stop, not_same}
+use Rattle.rdf_keeper.specs.Script.Lines.{upto_last_end}
+use Rattle.rdf_keeper.proofs.ScriptLemmas.Lines.{upto-step, upto-stop, not_same}
 use Rattle.rdf_keeper.proofs.script.runner.upto_end.Goals as goal
 use Rattle.rdf_keeper.proofs.script.runner.upto_end.Goals.{then-loop-n-test+else-text-n-ne10, else-loop-n-test}
 

@@ -1,5 +1,5 @@
 use Rattle.std.proofs.Common.{◌≡◌, ◌≤◌, length, take}
-use Rattle.rdf_keeper.specs.Lines.{upto_last_end}
+use Rattle.rdf_keeper.specs.Script.Lines.{upto_last_end}
 use Rattle.rdf_keeper.proofs.script.runner.upto_end.Given as goal
 
 abbrev pub invariant-loop-n : goal.invariant-loop-n

@@ -1,0 +1,6 @@
+-- What is written of a document.
+pub mod Converts
+pub mod Documents
+pub mod Fronts
+pub mod Turtle
+pub mod WholeLines

@@ -1,0 +1,34 @@
+-- What is written of an ending.
+use Rattle.std.proofs.Common.{◌≡◌, ◌∙◌, refl, sym, subst, ℕ, List, [], ◌∷◌, ◌++◌, append-nil, Option}
+use Rattle.std.specs.Prelude.{Result, Ok, Err}
+use Rattle.std.specs.Io.KnownBytes.{Appends}
+use Rattle.rdf_keeper.specs.Inside.Streams.{WritesTo}
+use Rattle.rdf_keeper.specs.Inside.Outcomes.{status_of, error_line}
+use Rattle.rdf_keeper.specs.declared.streams.writing.WriteFault.{WriteFault}
+use Rattle.rdf_keeper.specs.declared.program.outcome.Outcome.{Outcome}
+use Rattle.rdf_keeper.specs.declared.program.outcome.Outcome.TheVariants.{Done, SomeRefused, BadDocument, BadWords, BadBase, BadData, ReadFailed, WriteFailed, NoMemory}
+use Rattle.rdf_keeper.proofs.StreamLemmas.{Appends-chain}
+
+pub as_far : (before after : Option (List ℕ)) (text want : List ℕ) (r : Result (Unit {0}) WriteFault) → text ≡ want → WritesTo before text r after → (front more : List ℕ) × (want ≡ front ++ more) × Appends before after front
+as_far before after text want (Ok u) e w = (text, [], sym e ∙ sym (append-nil text), w)
+as_far before after text want (Err x) e w = (w.0, w.1, sym e ∙ w.2, w.4)
+
+no_line : (o : Outcome) → status_of o ≡ 0 → error_line o ≡ []
+no_line Done e = refl
+no_line SomeRefused e = refl
+no_line (BadDocument at) e = cc
+no_line BadWords e = refl
+no_line BadBase e = cc
+no_line (BadData fault) e = cc
+no_line ReadFailed e = cc
+no_line WriteFailed e = cc
+no_line NoMemory e = cc
+
+first_nil : (front more : List ℕ) → [] ≡ front ++ more → front ≡ []
+first_nil [] more e = refl
+first_nil (b ∷ bs) more e = cc
+
+pub stays_quiet : (before mid after : Option (List ℕ)) (o : Outcome) → status_of o ≡ 0 → Appends before mid [] → (front more : List ℕ) × (error_line o ≡ front ++ more) × Appends mid after front → Appends before after []
+stays_quiet before mid after o zero so_far (front, more, parts, wrote) =
+    let none = first_nil front more (sym (no_line o zero) ∙ parts) in
+    Appends-chain before mid after [] [] so_far (subst (Appends mid after) none wrote)

@@ -1,0 +1,12 @@
+-- The lines of a script, its commands and its answers.
+pub mod Cuts
+pub mod Examples
+pub mod Lines
+pub mod Listing
+pub mod OneListing
+pub mod OneOutput
+pub mod OneOutputOfBytes
+pub mod Printed
+pub mod Refusals
+pub mod Runs
+pub mod Words

@@ -1,5 +1,0 @@
-use Rattle.rdf_keeper.proofs.TurtleLemmas.{Written}
-use Rattle.rdf_keeper.proofs.conversion.write_quads.Given as goal
-
-abbrev pub invariant-loop-quad : goal.invariant-loop-quad
-invariant-loop-quad g l = Written (g.W.Write.contents l.fn.writer) (g.W.Write.contents l.writer) l.quads l.quad-index l.lines.items

@@ -1,0 +1,5 @@
+-- What only private functions speak of: the parts of an answer and of a conversion, streams, and how the program ends.
+pub mod Asks
+pub mod Held
+pub mod Outcomes
+pub mod Streams

@@ -1,0 +1,54 @@
+-- What a conversion holds and writes at a time, and what its readers' faults are to it.
+use Rattle.std.specs.Prelude.{◌≡◌, ◌≢◌, ◌⊎◌, ℕ, List, [], ◌++◌, Option, Result, Ok, Err}
+use Rattle.std.specs.Io.KnownBytes.{Appends}
+use Rattle.rdf_lines.specs.declared.fault.LineFault.{LineFault}
+use Rattle.rdf_lines.specs.declared.fault.FaultKind.{FaultKind}
+use Rattle.rdf_lines.specs.declared.fault.FaultKind.TheVariants as kind
+use Rattle.rdf_terms.specs.declared.quad.Quad.{Quad}
+use Rattle.rdf_turtle.specs.declared.fault.TurtleFault.{TurtleFault}
+use Rattle.rdf_turtle.specs.declared.fault.TurtleFaultKind.{TurtleFaultKind}
+use Rattle.rdf_turtle.specs.declared.fault.TurtleFaultKind.TheVariants as turtle_kind
+use Rattle.rdf_keeper.specs.Conversion.Converts.{lines_of}
+use Rattle.rdf_keeper.specs.declared.conversion.fault.DocumentFault.TheVariants.{Line as InLine, Turtle as InTurtle}
+use Rattle.rdf_keeper.specs.declared.conversion.fault.ConvertFault.{ConvertFault}
+use Rattle.rdf_keeper.specs.declared.conversion.fault.ConvertFault.TheVariants.{Document, Read, Write, NoMemory}
+
+-- what is written of quads, as far as it is
+abbrev pub WritesQuads : Option (List ℕ) → List Quad → Result (Unit {0}) ConvertFault → Option (List ℕ) → Type 0
+WritesQuads before quads (Ok u) after = Appends before after (lines_of quads)
+WritesQuads before quads (Err Write) after = (out more : List ℕ) × Appends before after out × (lines_of quads ≡ out ++ more) × (more ≢ [])
+WritesQuads before quads (Err NoMemory) after = (written others : List Quad) × (quads ≡ written ++ others) × Appends before after (lines_of written)
+WritesQuads before quads (Err Read) after = ⊥
+WritesQuads before quads (Err (Document fault)) after = ⊥
+
+-- one more line behind those that are held: all but what is still held is written
+abbrev pub Gathers : Option (List ℕ) → List ℕ → List ℕ → Result (Unit {0}) ConvertFault → Option (List ℕ) → List ℕ → Type 0
+Gathers before held line (Ok u) after now = (out : List ℕ) × Appends before after out × (held ++ line ≡ out ++ now)
+Gathers before held line (Err Write) after now = (out more : List ℕ) × Appends before after out × (held ++ line ≡ out ++ more) × (more ≢ [])
+Gathers before held line (Err NoMemory) after now = Appends before after held
+Gathers before held line (Err Read) after now = ⊥
+Gathers before held line (Err (Document fault)) after now = ⊥
+
+-- what is held is written, and the answer given
+abbrev pub Finishes : Option (List ℕ) → List ℕ → Result (Unit {0}) ConvertFault → Result (Unit {0}) ConvertFault → Option (List ℕ) → Type 0
+Finishes before held given answer after =
+    ((answer ≡ given) × Appends before after held) ⊎ ((answer ≡ Err Write) × ((out more : List ℕ) × Appends before after out × (held ≡ out ++ more) × (more ≢ [])))
+
+-- the fault of a conversion that a reader's fault is
+abbrev pub fault_of_kind : LineFault → FaultKind → ConvertFault
+fault_of_kind at kind.Read = Read
+fault_of_kind at kind.NoMemory = NoMemory
+fault_of_kind at kind.NotUtf8 = Document (InLine at)
+fault_of_kind at kind.Syntax = Document (InLine at)
+fault_of_kind at kind.Relative = Document (InLine at)
+fault_of_kind at kind.Failed = Document (InLine at)
+
+-- and that a fault of Turtle is, by its kind
+abbrev pub turtle_fault : TurtleFault → TurtleFaultKind → ConvertFault
+turtle_fault at turtle_kind.NoMemory = NoMemory
+turtle_fault at turtle_kind.NotUtf8 = Document (InTurtle at)
+turtle_fault at turtle_kind.Token = Document (InTurtle at)
+turtle_fault at turtle_kind.TooDeep = Document (InTurtle at)
+turtle_fault at turtle_kind.Syntax = Document (InTurtle at)
+turtle_fault at turtle_kind.UnknownPrefix = Document (InTurtle at)
+turtle_fault at turtle_kind.Relative = Document (InTurtle at)

@@ -1,0 +1,12 @@
+-- Scripts: their lines, their commands, and what is answered.
+pub mod Answers
+pub mod Commands
+pub mod LineLaws
+pub mod LineWords
+pub mod Lines
+pub mod Listing
+pub mod OneOutput
+pub mod Printed
+pub mod Refusals
+pub mod Runs
+pub mod Statuses

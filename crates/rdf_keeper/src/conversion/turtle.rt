@@ -1,0 +1,64 @@
+//! Documents of Turtle, written once they are read.
+ghost use Rattle.std.specs.Prelude.{◌≡◌, ℕ, List, Some};
+ghost use Rattle.std.specs.Option.{option_copied};
+ghost use Rattle.std.specs.Io.KnownBytes.{Appends};
+ghost use Rattle.rdf_keeper.specs.Conversion.Converts.{ConvertsTurtle};
+ghost use Rattle.rdf_keeper.specs.Inside.Held.{WritesQuads, turtle_fault};
+
+use crate::conversion::fault::{ConvertFault, DocumentFault};
+use crate::conversion::held::{finish, gather};
+use crate::streams::reading::{Ending, read_all};
+use rdf_terms::{Iri, Quad};
+use rdf_turtle::{TurtleFault, TurtleFaultKind, read_turtle};
+use std::alloc::Global;
+use std::io::{Read, Write};
+
+fn turtle_fault(fault: TurtleFault) -> ConvertFault
+    ensures { result ≡ turtle_fault fault fault.kind }
+{
+    match fault.kind {
+        TurtleFaultKind::NoMemory => ConvertFault::NoMemory,
+        TurtleFaultKind::NotUtf8
+        | TurtleFaultKind::Token
+        | TurtleFaultKind::TooDeep
+        | TurtleFaultKind::Syntax
+        | TurtleFaultKind::UnknownPrefix
+        | TurtleFaultKind::Relative => ConvertFault::Document(DocumentFault::Turtle(fault)),
+    }
+}
+
+/// Converts a document of Turtle.
+pub(crate) fn convert_turtle<R: Read, W: Write>(
+    alloc: Global,
+    base: Option<&Iri>,
+    reader: &mut R,
+    writer: &mut W,
+) -> Result<(), ConvertFault>
+    ensures { (text : List ℕ) → R.remaining reader.old ≡ Some text →
+        (out : List ℕ) × Appends (W.contents writer.old) (W.contents writer.new) out
+        × ConvertsTurtle (option_copied base.entry) text out result }
+{
+    let mut held = Vec::new(alloc);
+    match read_all(reader, &mut held) {
+        Ending::AtEnd => match read_turtle(alloc, held.as_slice(), base) {
+            Ok(quads) => write_quads(alloc, quads.as_slice(), writer),
+            Err(fault) => Err(turtle_fault(fault)),
+        },
+        Ending::Failed => Err(ConvertFault::Read),
+        Ending::NoMemory => Err(ConvertFault::NoMemory),
+    }
+}
+
+// Writes the lines of the quads.
+fn write_quads<W: Write>(alloc: Global, quads: &[Quad], writer: &mut W) -> Result<(), ConvertFault>
+    ensures { WritesQuads (W.contents writer.old) quads.now result (W.contents writer.new) }
+{
+    let mut lines = Vec::new(alloc);
+    for quad in quads {
+        match gather(alloc, quad, &mut lines, writer) {
+            Ok(()) => {}
+            Err(fault) => return Err(fault),
+        }
+    }
+    finish(lines.as_slice(), writer, Ok(()))
+}

@@ -1,0 +1,169 @@
+//! What the words of a command line ask for.
+ghost use Rattle.std.specs.Prelude.{◌≡◌};
+ghost use Rattle.std.specs.Option.{option_copied};
+ghost use Rattle.rdf_keeper.specs.Script.Commands.{format_of_word};
+
+use crate::program::help::{
+    ABOUT, CONVERT_ABOUT, CONVERT_EXAMPLE, NAME, RUN_ABOUT, RUN_EXAMPLE, VERSION,
+};
+use crate::script::command::format_named;
+use clap::error::ErrorKind;
+use clap::{Arg, ArgAction, ArgMatches, Command, Error};
+use rdf_session::Format;
+use std::alloc::{AllocError, Global};
+
+/// A session: its base, the data that it begins with, and its script.
+#[derive(Clone, Copy, Debug, PartialEq, Eq)]
+pub(crate) struct RunWords<'a> {
+    pub(crate) base: Option<&'a str>,
+    pub(crate) data: Option<&'a str>,
+    pub(crate) format: Format,
+    pub(crate) stop: bool,
+    pub(crate) script: Option<&'a str>,
+}
+
+/// A conversion: the format that is read, its base, and the file.
+#[derive(Clone, Copy, Debug, PartialEq, Eq)]
+pub(crate) struct ConvertWords<'a> {
+    pub(crate) from: Format,
+    pub(crate) base: Option<&'a str>,
+    pub(crate) file: Option<&'a str>,
+}
+
+/// What a command line asks for.
+#[derive(Debug, Drop)]
+pub(crate) enum Asked<'a> {
+    Run(RunWords<'a>),
+    Convert(ConvertWords<'a>),
+    /// A help text or the version, for standard output.
+    Shown(String),
+}
+
+/// Why words ask for nothing.
+#[derive(Debug, Drop)]
+pub(crate) enum WordsFault {
+    /// They are no command line of the program. The text, for standard error, says why.
+    Usage(String),
+    NoMemory,
+}
+
+impl From<AllocError> for WordsFault {
+    fn from(_e: AllocError) -> WordsFault {
+        WordsFault::NoMemory
+    }
+}
+
+static FORMATS: [&str; 3] = ["nquads", "ntriples", "turtle"];
+
+fn base_word<'a>(alloc: Global) -> Arg<'a> {
+    Arg::new(alloc, "base").long("base").value_name("IRI").help(
+        "What relative IRIs of Turtle are resolved against; the line formats have none",
+    )
+}
+
+fn run_command<'a>(alloc: Global) -> Result<Command<'a>, AllocError> {
+    let data = Arg::new(alloc, "data").long("data").value_name("FILE").help(
+        "A file that is loaded before the script and becomes its start",
+    );
+    let format = Arg::new(alloc, "format")
+        .long("format")
+        .value_name("F")
+        .value_parser(FORMATS.as_slice())
+        .default_value("nquads")
+        .help("The format of FILE");
+    let stop = Arg::new(alloc, "stop")
+        .long("stop")
+        .action(ArgAction::SetTrue)
+        .help("End after the first refusal");
+    let script = Arg::new(alloc, "script")
+        .value_name("SCRIPT")
+        .help("The script; standard input if not given");
+    Command::new(alloc, "run")
+        .about(RUN_ABOUT)
+        .after_help(RUN_EXAMPLE)
+        .arg(base_word(alloc))?
+        .arg(data)?
+        .arg(format)?
+        .arg(stop)?
+        .arg(script)
+}
+
+fn convert_command<'a>(alloc: Global) -> Result<Command<'a>, AllocError> {
+    let from = Arg::new(alloc, "from")
+        .long("from")
+        .value_name("F")
+        .value_parser(FORMATS.as_slice())
+        .required(true)
+        .help("The format of the document");
+    let file = Arg::new(alloc, "file")
+        .value_name("FILE")
+        .help("The document; standard input if not given");
+    Command::new(alloc, "convert")
+        .about(CONVERT_ABOUT)
+        .after_help(CONVERT_EXAMPLE)
+        .arg(from)?
+        .arg(base_word(alloc))?
+        .arg(file)
+}
+
+fn program<'a>(alloc: Global) -> Result<Command<'a>, AllocError> {
+    Command::new(alloc, NAME)
+        .bin_name(NAME)?
+        .version(VERSION)
+        .propagate_version(true)
+        .about(ABOUT)
+        .no_binary_name(true)
+        .subcommand_required(true)
+        .arg_required_else_help(true)
+        .subcommand(run_command(alloc)?)?
+        .subcommand(convert_command(alloc)?)
+}
+
+// The format that a word names; N-Quads without one.
+fn format_of(word: Option<&str>) -> Format
+    ensures { result ≡ format_of_word (option_copied word.entry) }
+{
+    match word {
+        Some(name) => format_named(name.as_bytes()).unwrap_or(Format::NQuads),
+        None => Format::NQuads,
+    }
+}
+
+fn run_words<'a>(matches: &ArgMatches<'a>) -> RunWords<'a> {
+    RunWords {
+        base: matches.get_str("base"),
+        data: matches.get_str("data"),
+        format: format_of(matches.get_str("format")),
+        stop: matches.get_flag("stop"),
+        script: matches.get_str("script"),
+    }
+}
+
+fn convert_words<'a>(matches: &ArgMatches<'a>) -> ConvertWords<'a> {
+    ConvertWords {
+        from: format_of(matches.get_str("from")),
+        base: matches.get_str("base"),
+        file: matches.get_str("file"),
+    }
+}
+
+fn asked_or_shown<'a>(alloc: Global, error: &Error) -> Result<Asked<'a>, WordsFault> {
+    let text = error.to_string(alloc)?;
+    match error.kind() {
+        ErrorKind::DisplayHelp | ErrorKind::DisplayVersion => Ok(Asked::Shown(text)),
+        ErrorKind::OutOfMemory => Err(WordsFault::NoMemory),
+        _ => Err(WordsFault::Usage(text)),
+    }
+}
+
+/// What the words, without the program's own name, ask for.
+pub(crate) fn read_words<'a>(alloc: Global, words: &'a [String]) -> Result<Asked<'a>, WordsFault> {
+    match program(alloc)?.try_get_matches_from(words) {
+        Ok(matches) => match matches.subcommand() {
+            Some(("run", found)) => Ok(Asked::Run(run_words(found))),
+            Some((_, found)) => Ok(Asked::Convert(convert_words(found))),
+            None => Err(WordsFault::Usage(String::new(alloc))),
+        },
+        Err(error) => asked_or_shown(alloc, &error),
+    }
+}

@@ -1,0 +1,38 @@
+//! Reading to the end of a stream.
+ghost use Rattle.std.specs.Prelude.{◌≡◌, ℕ, List, length};
+ghost use Rattle.std.specs.Io.KnownBytes.{Consumes, IsAtEnd};
+ghost use Rattle.rdf_keeper.specs.Inside.Streams.{ReadsTo};
+
+use std::alloc::Global;
+use std::io::Read;
+
+/// How reading ended.
+#[derive(Clone, Copy, Debug, PartialEq, Eq)]
+pub enum Ending {
+    AtEnd,
+    Failed,
+    NoMemory,
+}
+
+/// The read calls of one session.
+pub const READ_CALLS: u64 = 1 << 40;
+
+/// Reads to the end or to the first fault, and keeps what was read.
+pub fn read_all<R: Read>(reader: &mut R, held: &mut Vec<u8>) -> Ending
+    ensures { ReadsTo (R.remaining reader.old) (R.remaining reader.new)
+        held.old.items result held.new.items }
+{
+    let mut buffer = [0u8; 4096];
+    for _ in 0..READ_CALLS {
+        match reader.read(&mut buffer) {
+            Ok(0) => return Ending::AtEnd,
+            Ok(n) => {
+                if held.extend_from_slice(&buffer[..n]).is_err() {
+                    return Ending::NoMemory;
+                }
+            }
+            Err(_) => return Ending::Failed,
+        }
+    }
+    Ending::Failed
+}

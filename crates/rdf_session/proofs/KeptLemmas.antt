@@ -1,0 +1,219 @@
+-- Chains of nets: the states that they go through, and the steps of a session over them.
+use Rattle.std.proofs.Common.{◌≡◌, ℕ, zero, suc, ◌+◌, ◌-◌, ◌<◌, ◌≤◌, not, List, [], ◌∷◌, ◌++◌, length, take, get_or, Option, Some, refl, sym, ap, ◌∙◌, subst, arith, add-one, length-append, length-take}
+use Rattle.std.specs.Prelude.{filter, nat_le}
+use mathlib.Core.Bool.{true≢false, true, false}
+use Rattle.std.specs.FinSet as set
+use Rattle.std.specs.List.{AllByRecursion}
+use Rattle.rdf_dataset.specs.State.{State, Change, IsSound, Begins, Ends, net_between, applied, turned}
+use Rattle.rdf_session.proofs.MarkLemmas.{lie_kept, lie_marked}
+use Rattle.rdf_session.proofs.NetLemmas.{applied_is, turned_is, one_end}
+use Rattle.rdf_session.specs.GivesBack.{IsWholeSession}
+use Rattle.rdf_session.specs.History.{is_named, place_of}
+use Rattle.rdf_session.specs.Session.{Session, Step, Undo, Redo, Rollback, Changed, Refused, all_states, counts_between, now, accepted}
+use Rattle.rdf_session.specs.Inside.Kept.{before_all, states_after, AreNets, session_from, base_of, IsKept}
+use Rattle.rdf_session.specs.Session.{nets_between}
+use Rattle.rdf_session.specs.declared.fault.Counts.{Counts}
+use Rattle.rdf_session.specs.declared.fault.KeeperFault.TheVariants.{NoMemory}
+
+abbrev pub Marks : Type 0
+Marks = List (List ℕ × ℕ)
+
+abbrev pub Base : Type 0
+Base = Option (List ℕ)
+
+-- the state at a place of a chain
+abbrev pub at : State → List Change → ℕ → State → State
+at base ns k d = get_or (base ∷ states_after base ns) k d
+
+-- each entry is the net between its neighbours
+pub entry_is : (base : State) (ns : List Change) (k : ℕ) (d : State) (e : Change) → AreNets base ns → k < length ns → get_or ns k e ≡ net_between (at base ns k d) (at base ns (suc k) d)
+entry_is base [] k d e c h = absurd (omega (arith, h))
+entry_is base (n ∷ ns) zero d e c h = c.0
+entry_is base (n ∷ ns) (suc k) d e c h = entry_is (applied n base) ns k d e c.1.1 (omega (arith, h))
+
+pub before_all-at : (base : State) (ns : List Change) (k : ℕ) (d : State) → AreNets base ns → k ≤ length ns → before_all (take k ns) (at base ns k d) ≡ base
+before_all-at base ns zero d c h = refl
+before_all-at base [] (suc k) d c h = absurd (omega (arith, h))
+before_all-at base (n ∷ ns) (suc k) d c h =
+    ap (applied (turned n)) (before_all-at (applied n base) ns k d c.1.1 (omega (arith, h))) ∙ turned_is base (applied n base) n c.0
+
+-- what is kept at a place says which base there is
+pub base_of-kept : (base s : State) (ns : List Change) (k : ℕ) (marks : Marks) → IsKept base s ns k marks → base_of s ns k ≡ base
+base_of-kept base s ns k marks c = ap (before_all (take k ns)) c.current ∙ before_all-at base ns k base c.nets c.within
+
+pub kept : (base s : State) (ns : List Change) (k : ℕ) (marks : Marks) → IsKept base s ns k marks → IsKept (base_of s ns k) s ns k marks
+kept base s ns k marks c = subst (λ b. IsKept b s ns k marks) (sym (base_of-kept base s ns k marks c)) c
+
+pub length-states_after : (base : State) (ns : List Change) → length (states_after base ns) ≡ length ns
+length-states_after base [] = refl
+length-states_after base (n ∷ ns) = ap suc (length-states_after (applied n base) ns)
+
+-- another place of the same chain
+pub kept_at : (base s t : State) (ns : List Change) (k j : ℕ) (marks : Marks) → IsKept base s ns k marks → j ≤ length ns → t ≡ at base ns j base → IsKept base t ns j marks
+kept_at base s t ns k j marks c h e = record { sound = c.sound; nets = c.nets; current = e; within = h; marks_within = c.marks_within }
+
+-- the states after the changes are sound
+after_sound : (base : State) (ns : List Change) → AreNets base ns → AllByRecursion IsSound (states_after base ns)
+after_sound base [] c = tt
+after_sound base (n ∷ ns) c = (c.1.0, after_sound (applied n base) ns c.1.1)
+
+-- every state of the chain is sound
+pub sound_at : (base : State) (ns : List Change) (k : ℕ) (d : State) → IsSound base → AreNets base ns → k ≤ length ns → IsSound (at base ns k d)
+sound_at base ns zero d o c h = o
+sound_at base [] (suc k) d o c h = absurd (omega (arith, h))
+sound_at base (n ∷ ns) (suc k) d o c h = sound_at (applied n base) ns k d c.1.0 c.1.1 (omega (arith, h))
+
+pub same_counts : (c : Counts) (s t : State) → c.added ≡ set.len (net_between s t).added → c.removed ≡ set.len (net_between s t).removed → c ≡ counts_between s t
+same_counts c s t a r = λ i. record { added = a i; removed = r i }
+
+-- an accepted request puts its net after the first k
+pub extended : (base : State) (ns : List Change) (k : ℕ) (d : State) (e : Change) (after : State) → AreNets base ns → k ≤ length ns → IsSound after → e ≡ net_between (at base ns k d) after → AreNets base (take k ns ++ e ∷ []) × (states_after base (take k ns ++ e ∷ []) ≡ take k (states_after base ns) ++ after ∷ []) × (at base (take k ns ++ e ∷ []) (suc k) d ≡ after)
+extended base ns zero d e after c h o n =
+    let on = applied_is base after e n in ((n ∙ ap (net_between base) (sym on), (subst IsSound (sym on) o, tt)), ap (λ x. x ∷ []) on, on)
+extended base [] (suc k) d e after c h o n = absurd (omega (arith, h))
+extended base (n ∷ ns) (suc k) d e after c h o m =
+    let r = extended (applied n base) ns k d e after c.1.1 (omega (arith, h)) o m in
+    ((c.0, (c.1.0, r.0)), ap (λ xs. applied n base ∷ xs) r.1, r.2)
+
+pub length-extended : (ns : List Change) (k : ℕ) (e : Change) → k ≤ length ns → length (take k ns ++ e ∷ []) ≡ k + 1
+length-extended ns k e h = simp (length-append, length-take) (omega (arith, h))
+
+no_truth : false ≡ true → ⊥
+no_truth e = true≢false (sym e)
+
+-- the view at another place of the chain
+pub session_at : (iri : Base) (base t : State) (ns : List Change) (j : ℕ) (marks : Marks) → IsKept base t ns j marks → session_from iri (base_of t ns j) ns j marks ≡ session_from iri base ns j marks
+session_at iri base t ns j marks c = ap (λ b. session_from iri b ns j marks) (base_of-kept base t ns j marks c)
+
+module _ (iri : Base) (base s : State) (ns : List Change) (k : ℕ) (marks : Marks) (c : IsKept base s ns k marks) (o : Session) (view : session_from iri base ns k marks ≡ o) where
+  abbrev pub old_session : Session
+  old_session = session_from iri base ns k marks
+
+  -- going to another place of the chain
+  pub step_to : (t : State) (j : ℕ) (counts : Counts) → IsKept base t ns j marks → counts.added ≡ set.len (net_between s t).added → counts.removed ≡ set.len (net_between s t).removed → (session_from iri (base_of t ns j) ns j marks ≡ session_from iri base ns j marks) × (counts ≡ counts_between (now old_session) (now (session_from iri (base_of t ns j) ns j marks)))
+  step_to t j counts d a r =
+      let there = session_at iri base t ns j marks d in
+      (there, same_counts counts s t a r ∙ ap (λ x. counts_between x t) c.current ∙ ap (counts_between (now old_session)) d.current ∙ ap (λ x. counts_between (now old_session) (now x)) (sym there))
+
+  pub undo_entry : (e : Change) → 0 < k → e ≡ get_or ns (k - 1) e → e ≡ net_between (at base ns (k - 1) base) s
+  undo_entry e h is =
+      let next : suc (k - 1) ≡ k = omega (arith, h) in
+      is ∙ entry_is base ns (k - 1) base e c.nets (omega (arith, h, c.within)) ∙ ap (λ j. net_between (at base ns (k - 1) base) (at base ns j base)) next ∙ ap (net_between (at base ns (k - 1) base)) (sym c.current)
+
+  pub redo_entry : (e : Change) → k < length ns → e ≡ get_or ns k e → e ≡ net_between s (at base ns (k + 1) base)
+  redo_entry e h is =
+      is ∙ entry_is base ns k base e c.nets h ∙ rw add-one (ap (λ x. net_between x (at base ns (suc k) base)) (sym c.current))
+
+  -- the state now is sound
+  pub sound_now : IsSound s
+  sound_now = subst IsSound (sym c.current) (sound_at base ns k base c.sound c.nets c.within)
+
+  -- and so is each state of the session
+  pub all_sound : AllByRecursion IsSound (all_states o)
+  all_sound = subst (λ x. AllByRecursion IsSound (all_states x)) view (c.sound, after_sound base ns c.nets)
+
+  -- its cursor and marks lie in the list of these
+  pub whole : IsWholeSession o
+  whole = subst IsWholeSession view (record { cursor = rw (length-states_after base ns) c.within; marks = rw (length-states_after base ns) c.marks_within })
+
+  -- a name that is put at a place of the list lies there too
+  pub marked_kept : (name : List ℕ) (j : ℕ) → j ≤ length ns → IsKept base s ns k (filter (λ m. not (is_named name m)) marks ++ (name, j) ∷ [])
+  marked_kept name j h = record { sound = c.sound; nets = c.nets; current = c.current; within = c.within; marks_within = lie_marked _ j name marks h c.marks_within }
+
+  pub now_is : s ≡ now o
+  now_is = c.current ∙ ap now view
+
+  pub undo_ends : (e : Change) → 0 < k → e ≡ get_or ns (k - 1) e → Ends e s
+  undo_ends e h is = (at base ns (k - 1) base, sound_at base ns (k - 1) base c.sound c.nets (omega (arith, h, c.within)), undo_entry e h is)
+
+  pub redo_begins : (e : Change) → k < length ns → e ≡ get_or ns k e → Begins e s
+  redo_begins e h is = (at base ns (k + 1) base, sound_at base ns (k + 1) base c.sound c.nets (omega (arith, h)), redo_entry e h is)
+
+  -- a net to an earlier place ends here
+  pub rollback_ends : (e : Change) (j : ℕ) → j ≤ k → e ≡ net_between (at base ns j base) s → Ends e s
+  rollback_ends e j h n = (at base ns j base, sound_at base ns j base c.sound c.nets (omega (arith, h, c.within)), n)
+
+  -- the net of a request that was accepted at the session begins here
+  pub begins_here : (e : Change) → Begins e (now o) → Begins e s
+  begins_here e b = (b.0, b.1, b.2 ∙ ap (λ x. net_between x b.0) (sym now_is))
+
+  -- an undo over the entry e
+  pub undo_step : (t : State) (counts : Counts) (e : Change) → 0 < k → e ≡ get_or ns (k - 1) e → ((start : State) → e ≡ net_between start s → t ≡ start) → counts.added ≡ set.len e.removed → counts.removed ≡ set.len e.added → IsKept base t ns (k - 1) marks × Step o Undo (Changed counts) (session_from iri (base_of t ns (k - 1)) ns (k - 1) marks)
+  undo_step t counts e h is ends a r =
+      let n = undo_entry e h is in
+      let back = ends (at base ns (k - 1) base) n in
+      let there = kept_at base s t ns k (k - 1) marks c (omega (arith, c.within)) back in
+      let n' : e ≡ net_between t s = n ∙ ap (λ x. net_between x s) (sym back) in
+      let st = step_to t (k - 1) counts there (a ∙ ap (λ (x : Change). set.len x.removed) n') (r ∙ ap (λ (x : Change). set.len x.added) n') in
+      (there, subst (λ x. Step x Undo (Changed counts) (session_from iri (base_of t ns (k - 1)) ns (k - 1) marks)) view (h, st.0, st.1))
+
+  pub redo_step : (t : State) (counts : Counts) (e : Change) → k < length ns → e ≡ get_or ns k e → ((end : State) → e ≡ net_between s end → t ≡ end) → counts.added ≡ set.len e.added → counts.removed ≡ set.len e.removed → IsKept base t ns (k + 1) marks × Step o Redo (Changed counts) (session_from iri (base_of t ns (k + 1)) ns (k + 1) marks)
+  redo_step t counts e h is ends a r =
+      let n = redo_entry e h is in
+      let on = ends (at base ns (k + 1) base) n in
+      let there = kept_at base s t ns k (k + 1) marks c (omega (arith, h)) on in
+      let n' : e ≡ net_between s t = n ∙ ap (net_between s) (sym on) in
+      let st = step_to t (k + 1) counts there (a ∙ ap (λ (x : Change). set.len x.added) n') (r ∙ ap (λ (x : Change). set.len x.removed) n') in
+      (there, subst (λ x. Step x Redo (Changed counts) (session_from iri (base_of t ns (k + 1)) ns (k + 1) marks)) view (rw (length-states_after base ns) h, st.0, st.1))
+
+  -- a rollback to the place j over one net
+  pub rollback_step : (name : List ℕ) (t : State) (counts : Counts) (e : Change) (j : ℕ) → j ≤ k → place_of name old_session.states ≡ Some j → e ≡ net_between (at base ns j base) s → ((start : State) → e ≡ net_between start s → t ≡ start) → counts.added ≡ set.len e.removed → counts.removed ≡ set.len e.added → IsKept base t ns j marks × Step o (Rollback name) (Changed counts) (session_from iri (base_of t ns j) ns j marks)
+  rollback_step name t counts e j h found n ends a r =
+      let back = ends (at base ns j base) n in
+      let there = kept_at base s t ns k j marks c (omega (arith, h, c.within)) back in
+      let n' : e ≡ net_between t s = n ∙ ap (λ x. net_between x s) (sym back) in
+      let st = step_to t j counts there (a ∙ ap (λ (x : Change). set.len x.removed) n') (r ∙ ap (λ (x : Change). set.len x.added) n') in
+      (there, subst (λ x. Step x (Rollback name) (Changed counts) (session_from iri (base_of t ns j) ns j marks)) view (j, found, h, st.0, st.1))
+
+  -- want of memory, which leaves the session
+  pub undo_refused : (t : State) (e : Change) → 0 < k → e ≡ get_or ns (k - 1) e → (e.removed ≡ set.empty → e.names_removed ≡ set.empty → false ≡ true) → t ≡ s → Step o Undo (Refused NoMemory) (session_from iri (base_of t ns k) ns k marks)
+  undo_refused t e h is some same =
+      let n = undo_entry e h is in
+      subst (λ x. Step x Undo (Refused NoMemory) (session_from iri (base_of t ns k) ns k marks)) view (
+        (h, λ z. let f = n ∙ ap (net_between (at base ns (k - 1) base)) c.current in no_truth (some (ap (λ (x : Change). x.removed) f ∙ z.0) (ap (λ (x : Change). x.names_removed) f ∙ z.1))),
+        ap (λ x. session_from iri (base_of x ns k) ns k marks) same ∙ session_at iri base s ns k marks c,
+      )
+
+  pub redo_refused : (t : State) (e : Change) → k < length ns → e ≡ get_or ns k e → (e.added ≡ set.empty → e.names_added ≡ set.empty → false ≡ true) → t ≡ s → Step o Redo (Refused NoMemory) (session_from iri (base_of t ns k) ns k marks)
+  redo_refused t e h is some same =
+      let n = redo_entry e h is in
+      subst (λ x. Step x Redo (Refused NoMemory) (session_from iri (base_of t ns k) ns k marks)) view (
+        (rw (length-states_after base ns) h, λ z. let f = n ∙ ap (λ x. net_between x (at base ns (k + 1) base)) c.current in no_truth (some (ap (λ (x : Change). x.added) f ∙ z.0) (ap (λ (x : Change). x.names_added) f ∙ z.1))),
+        ap (λ x. session_from iri (base_of x ns k) ns k marks) same ∙ session_at iri base s ns k marks c,
+      )
+
+  pub rollback_refused : (name : List ℕ) (t : State) → t ≡ s → Step o (Rollback name) (Refused NoMemory) (session_from iri (base_of t ns k) ns k marks)
+  rollback_refused name t same = subst (λ x. Step x (Rollback name) (Refused NoMemory) (session_from iri (base_of t ns k) ns k marks)) view (tt, ap (λ x. session_from iri (base_of x ns k) ns k marks) same ∙ session_at iri base s ns k marks c)
+
+  -- an accepted request
+  pub accept_step : (t after : State) (counts : Counts) (e : Change) (ns' : List Change) (j : ℕ) (marks' : Marks) → IsSound after → e ≡ net_between s after → ((end : State) → e ≡ net_between s end → t ≡ end) → ns' ≡ take k ns ++ e ∷ [] → j ≡ k + 1 → marks' ≡ filter (λ m. nat_le m.1 k) marks → counts.added ≡ set.len e.added → counts.removed ≡ set.len e.removed → IsKept base t ns' j marks' × ((session_from iri (base_of t ns' j) ns' j marks' ≡ accepted after o) × (counts ≡ counts_between (now o) after))
+  accept_step t after counts e ns' j marks' sound n ends pn pj pm a r =
+      let x = extended base ns k base e after c.nets c.within sound (n ∙ ap (λ y. net_between y after) c.current) in
+      let on = ends after n in
+      let marks'' : Marks = filter (λ m. nat_le m.1 k) marks in
+      let there : IsKept base t (take k ns ++ e ∷ []) (k + 1) marks'' = record {
+        sound = c.sound;
+        nets = x.0;
+        current = on ∙ sym x.2 ∙ ap (λ i. at base (take k ns ++ e ∷ []) i base) (sym (add-one k));
+        within = rw (length-extended ns k e c.within) (omega arith);
+        marks_within = lie_kept _ k marks (rw (length-extended ns k e c.within) (omega arith));
+      } in
+      rw (pn, pj, pm) (
+        there,
+        subst (λ y. (session_from iri (base_of t (take k ns ++ e ∷ []) (k + 1)) (take k ns ++ e ∷ []) (k + 1) marks'' ≡ accepted after y) × (counts ≡ counts_between (now y) after)) view (
+          session_at iri base t (take k ns ++ e ∷ []) (k + 1) marks'' there ∙ (λ i. record { base_iri = iri; base = base; states = record { items = x.1 i; cursor = k + 1; marks = marks'' } }),
+          same_counts counts s after (a ∙ ap (λ (y : Change). set.len y.added) n) (r ∙ ap (λ (y : Change). set.len y.removed) n) ∙ ap (λ y. counts_between y after) c.current,
+        ),
+      )
+
+  -- the same for each state that the net may lead to
+  pub accepted_any : (t : State) (counts : Counts) (e : Change) (ns' : List Change) (j : ℕ) (marks' : Marks) → Begins e (now o) → ((end : State) → e ≡ net_between s end → t ≡ end) → ns' ≡ take k ns ++ e ∷ [] → j ≡ k + 1 → marks' ≡ filter (λ m. nat_le m.1 k) marks → counts.added ≡ set.len e.added → counts.removed ≡ set.len e.removed → IsKept base t ns' j marks' × ((after : State) → e ≡ net_between (now o) after → (session_from iri (base_of t ns' j) ns' j marks' ≡ accepted after o) × (counts ≡ counts_between (now o) after))
+  unfolding begins_here
+  accepted_any t counts e ns' j marks' b ends pn pj pm a r =
+      let h = begins_here e b in
+      let st = accept_step t h.0 counts e ns' j marks' h.1 h.2 ends pn pj pm a r in
+      (st.0, λ after n. subst (λ x. (session_from iri (base_of t ns' j) ns' j marks' ≡ accepted x o) × (counts ≡ counts_between (now o) x)) (one_end (now o) h.0 after e b.2 n) st.1)
+
+pub entries_are : (base : State) (ns : List Change) → AreNets base ns → ns ≡ nets_between base (states_after base ns)
+entries_are base [] c = refl
+entries_are base (n ∷ ns) c = λ i. c.0 i ∷ entries_are (applied n base) ns c.1.1 i

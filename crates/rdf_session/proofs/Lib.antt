@@ -1,0 +1,11 @@
+mod AnswerLemmas
+mod GivesBackLemmas
+mod KeptLemmas
+mod ListingLemmas
+mod LoadLemmas
+mod MarkLemmas
+mod NetLemmas
+mod OneReplyLemmas
+mod RefusalLemmas
+mod StandingLemmas
+mod UndoRedoLemmas

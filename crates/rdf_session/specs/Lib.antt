@@ -1,0 +1,11 @@
+pub mod Documents
+pub mod Faults
+pub mod GivesBack
+pub mod History
+pub mod Inside
+pub mod Listing
+pub mod OneReply
+pub mod Request
+pub mod Session
+pub mod Standing
+pub mod UndoRedo

@@ -1,0 +1,38 @@
+-- A command has one reply, and leads to one session.
+use Rattle.std.specs.Prelude.{◌≡◌, ◌≢◌, ◌⊎◌, true}
+use Rattle.rdf_turtle.specs.DocumentLaws.{has_free_line}
+use Rattle.rdf_session.specs.Request.{Load}
+use Rattle.rdf_session.specs.Session.{Session, Command, Reply, Do, Refused, Step}
+use Rattle.rdf_session.specs.declared.fault.KeeperFault.{KeeperFault}
+use Rattle.rdf_session.specs.declared.fault.KeeperFault.TheVariants.{NoMemory, Turtle as InTurtle}
+use Rattle.rdf_session.specs.declared.format.Format.TheVariants.{Turtle}
+
+-- The command may be refused by the fault, and its line is then the reader's own choice: that of some faults of Turtle.
+abbrev pub HasFreeLine : Command → KeeperFault → Type 0
+HasFreeLine (Do (Load Turtle text)) (InTurtle fault) = has_free_line fault.kind ≡ true
+HasFreeLine command fault = ⊥
+
+-- the same fault, but for its line
+abbrev pub SameButLine : KeeperFault → KeeperFault → Type 0
+SameButLine (InTurtle fault) (InTurtle other) = fault.kind ≡ other.kind
+SameButLine fault other = fault ≡ other
+
+-- one fault, but for its line, which is the reader's own choice
+abbrev pub DifferInLine : Command → KeeperFault → KeeperFault → Type 0
+DifferInLine command fault other = HasFreeLine command fault × HasFreeLine command other × SameButLine fault other
+
+-- Two replies are the same; or both refuse the command by one fault, but for such a line.
+abbrev pub SameReply : Command → Reply → Reply → Type 0
+SameReply command reply other =
+    (reply ≡ other) ⊎
+    ((fault another : KeeperFault) × (reply ≡ Refused fault) × (other ≡ Refused another) × DifferInLine command fault another)
+
+-- the reply isn't that memory is wanting
+abbrev pub IsFull : Reply → Type 0
+IsFull reply = reply ≢ Refused NoMemory
+
+-- Where memory isn't wanting, a command has one reply, but for such a line, and leads to one session.
+abbrev pub OneReply : Type 0
+OneReply = (old new another : Session) (command : Command) (reply other : Reply)
+    → Step old command reply new → IsFull reply → Step old command other another → IsFull other
+    → SameReply command reply other × (new ≡ another)

@@ -1,0 +1,40 @@
+-- What the states of a session have to do with the requests that stand.
+use Rattle.std.specs.Prelude.{◌≡◌, ℕ, ◌+◌, ◌-◌, List, [], ◌∷◌, Option, unwrap_or}
+use Rattle.rdf_dataset.specs.State.{State}
+use Rattle.rdf_session.specs.History.{History, nothing, pushed, moved, marked, place_of}
+use Rattle.rdf_session.specs.Request.{Request, Makes}
+use Rattle.rdf_session.specs.Session.{Session, Command, Reply, Do, Undo, Redo, Mark, Rollback, Commit, Refused, Step}
+
+-- the session after commands with these replies
+abbrev pub Run : Session → List (Command × Reply) → Session → Type 0
+Run old [] new = new ≡ old
+Run old (event ∷ events) new = (mid : Session) × Step old event.0 event.1 mid × Run mid events new
+
+abbrev pub Requests : Type 0
+Requests = History Request
+
+-- the standing requests are kept by the rules of the states
+abbrev pub kept_after : Requests → Command × Reply → Requests
+kept_after h (c, Refused fault) = h
+kept_after h (Do request, r) = pushed request h
+kept_after h (Undo, r) = moved (h.cursor - 1) h
+kept_after h (Redo, r) = moved (h.cursor + 1) h
+kept_after h (Mark name, r) = marked name h
+kept_after h (Rollback name, r) = moved (unwrap_or (place_of name h) 0) h
+kept_after h (Commit, r) = nothing
+
+abbrev pub requests_of : Requests → List (Command × Reply) → Requests
+requests_of h [] = h
+requests_of h (event ∷ events) = requests_of (kept_after h event) events
+
+-- against the base IRI, each state is what its request makes of the state before
+abbrev pub Follows : Option (List ℕ) → State → List Request → List State → Type 0
+Follows base_iri s [] [] = Unit {0}
+Follows base_iri s (r ∷ requests) (t ∷ states) = Makes base_iri r s t × Follows base_iri t requests states
+Follows base_iri s [] (t ∷ states) = ⊥
+Follows base_iri s (r ∷ requests) [] = ⊥
+
+-- what requests make of a state, one after another
+abbrev pub MakesAll : Option (List ℕ) → List Request → State → State → Type 0
+MakesAll base_iri [] s t = t ≡ s
+MakesAll base_iri (r ∷ requests) s t = (mid : State) × Makes base_iri r s mid × MakesAll base_iri requests mid t

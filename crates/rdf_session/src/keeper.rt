@@ -1,0 +1,302 @@
+//! The keeper: a dataset with its history.
+ghost use Rattle.std.specs.Prelude.{◌≡◌, ℕ, List, ◌+◌, ◌≤◌, ◌-◌, ◌∷◌, ◌++◌, Result, Ok, Err, IfOk, IfErr, OnErr, length, slice_index_or};
+ghost use Rattle.std.specs.FinSet as set;
+ghost use Rattle.std.specs.List.{AllByRecursion, concat};
+ghost use Rattle.rdf_dataset.specs.State.{Begins, empty_state, IsSound, State, net_between};
+ghost use Rattle.rdf_session.specs.GivesBack.{IsWholeSession};
+ghost use Rattle.rdf_session.specs.Inside.Kept.{AreNets, states_after};
+ghost use Rattle.rdf_session.specs.Session.{nets_between};
+ghost use Rattle.rdf_dataset.specs.Sorted.{ListsSorted};
+ghost use Rattle.rdf_session.specs.Listing.{ListsQuads};
+ghost use Rattle.rdf_session.specs.Request.{Load};
+ghost use Rattle.rdf_session.specs.Session.{Commit, Do, Done, Mark, Redo, Rollback, Session, Step, Undo, accepted, all_states, counts_between, fresh, now, reply_of, reply_of_mark};
+ghost use Rattle.rdf_session.specs.declared.fault.KeeperFault.TheVariants.{NoMemory};
+
+use crate::fault::{Counts, KeeperFault};
+use crate::format::Format;
+use crate::listing::write_lines;
+use crate::load::{read, stage};
+use crate::marks::Marks;
+use rdf_dataset::{Dataset, Net, Source};
+use rdf_terms::{Iri, NoMemory as NoMemoryFault, Term};
+use std::alloc::Global;
+use std::marker::Model;
+
+/// A dataset with its history: the state now, the net of each accepted request, and marks.
+/// A contract sees the session, whose cursor and marks always lie in its list of states.
+#[derive(Drop)]
+pub struct Keeper {
+    base_iri: Option<Iri>,
+    dataset: Dataset,
+    entries: Vec<Net>,
+    cursor: usize,
+    marks: Marks,
+    alloc: Global,
+}
+
+impl Model for Keeper {
+    ghost use Rattle.rdf_session.specs.Session.{Session, session_code};
+    ghost use Rattle.rdf_session.specs.Inside.Kept.{IsKept, base_of, session_from};
+
+    ghost Value = { Session };
+
+    ghost coded = { session_code };
+
+    ghost view = { λ k. session_from k.base_iri (base_of k.dataset k.entries.items k.cursor) k.entries.items k.cursor k.marks };
+
+    ghost invariant = { λ k. IsKept (base_of k.dataset k.entries.items k.cursor) k.dataset k.entries.items k.cursor k.marks };
+}
+
+impl Keeper {
+    /// A session that begins with no quads and no names, with a base IRI for the requests that resolve
+    /// against one.
+    pub fn new(alloc: Global, base: Option<Iri>) -> Keeper
+        ensures { result ≡ fresh base (empty_state 0) }
+    {
+        Keeper::over(alloc, Dataset::new(alloc), base)
+    }
+
+    /// A session that begins at the dataset, with a base IRI for the requests that resolve against one.
+    pub fn over(alloc: Global, dataset: Dataset, base: Option<Iri>) -> Keeper
+        ensures { result ≡ fresh base dataset }
+    {
+        let _sound = dataset.next_blank();
+        Keeper {
+            base_iri: base,
+            dataset,
+            entries: Vec::new(alloc),
+            cursor: 0,
+            marks: Marks::new(alloc),
+            alloc,
+        }
+    }
+
+    /// Loads a document, against the session's base where it is Turtle: its quads come in, each with the name of its graph, and its blank node j becomes
+    /// the node with the number of the counter and j more. Counts are of the quads that are new.
+    ///
+    /// # Errors
+    /// `Line` at the first faulty line, `Turtle` where the text is no document of Turtle, `BlankNumbers` where the counter would pass 10^18, `NoMemory`; the
+    /// session is then as it was.
+    pub fn load(&mut self, format: Format, text: &[u8]) -> Result<Counts, KeeperFault>
+        ensures { Step self.old (Do (Load format text.now)) (reply_of result) self.new }
+    {
+        let quads = read(self.alloc, format, text, self.base_iri.as_ref())?;
+        let net = stage(self.alloc, &self.dataset, quads)?;
+        self.accept(net)
+    }
+
+    // Takes the net of an accepted request. All growths come before the first change.
+    fn accept(&mut self, net: Net) -> Result<Counts, KeeperFault>
+        requires { Begins net (now self.old) }
+        ensures ok { IfOk result (λ counts. (after : State) →
+            net ≡ net_between (now self.old) after →
+            (self.new ≡ accepted after self.old)
+            × (counts ≡ counts_between (now self.old) after)) }
+        ensures refused { IfErr result (λ fault. fault ≡ NoMemory) }
+        ensures err { OnErr result (self.new ≡ self.old) }
+    {
+        self.entries.reserve(1)?;
+        self.dataset.commit(&net)?;
+        let counts = counts_of(&net);
+        self.entries.truncate(self.cursor);
+        self.entries.push(net).unwrap();
+        self.marks.keep_through(self.cursor);
+        self.cursor = self.entries.len();
+        Ok(counts)
+    }
+
+    /// Goes back before the last standing request: quads, names and counter are as they were. It takes no
+    /// memory where the request removed no quad and no name.
+    ///
+    /// # Errors
+    /// `NothingToUndo` at the base, `NoMemory`; the session is then as it was.
+    pub fn undo(&mut self) -> Result<Counts, KeeperFault>
+        ensures { Step self.old Undo (reply_of result) self.new }
+    {
+        if self.cursor == 0 {
+            return Err(KeeperFault::NothingToUndo);
+        }
+        let entry = &self.entries[self.cursor - 1];
+        self.dataset.revert(entry)?;
+        let counts = back_counts_of(entry);
+        self.cursor -= 1;
+        Ok(counts)
+    }
+
+    /// Goes on to the state after the request that was undone last, which isn't run again. It takes no
+    /// memory where the request added no quad and no name.
+    ///
+    /// # Errors
+    /// `NothingToRedo` at the last request, `NoMemory`; the session is then as it was.
+    pub fn redo(&mut self) -> Result<Counts, KeeperFault>
+        ensures { Step self.old Redo (reply_of result) self.new }
+    {
+        if self.cursor == self.entries.len() {
+            return Err(KeeperFault::NothingToRedo);
+        }
+        let entry = &self.entries[self.cursor];
+        self.dataset.commit(entry)?;
+        let counts = counts_of(entry);
+        self.cursor += 1;
+        Ok(counts)
+    }
+
+    /// Puts the name, any text, at the cursor, and nowhere else.
+    ///
+    /// # Errors
+    /// [`NoMemory`](rdf_terms::NoMemory): the marks are then as they were.
+    pub fn mark(&mut self, name: &[u8]) -> Result<(), NoMemoryFault>
+        ensures { Step self.old (Mark name.now) (reply_of_mark result) self.new }
+    {
+        self.marks.put(name, self.cursor)?;
+        Ok(())
+    }
+
+    /// Goes back to a mark in one change; what was passed can be redone.
+    ///
+    /// # Errors
+    /// `NoSuchMark`, `MarkAhead` where the mark lies past the cursor, `NoMemory`; the session is then as it was.
+    pub fn rollback(&mut self, name: &[u8]) -> Result<Counts, KeeperFault>
+        ensures { Step self.old (Rollback name.now) (reply_of result) self.new }
+    {
+        let Some(place) = self.marks.place_of(name) else {
+            return Err(KeeperFault::NoSuchMark);
+        };
+        if place > self.cursor {
+            return Err(KeeperFault::MarkAhead);
+        }
+        let net = composed(
+            self.alloc,
+            self.entries.as_slice(),
+            place,
+            self.cursor,
+            self.dataset.next_blank(),
+        )?;
+        self.dataset.revert(&net)?;
+        self.cursor = place;
+        Ok(back_counts_of(&net))
+    }
+
+    /// Makes the state now the base, and forgets requests and marks. It takes no memory.
+    pub fn commit(&mut self)
+        ensures { Step self.old Commit Done self.new }
+    {
+        self.entries.clear();
+        self.marks.clear();
+        self.cursor = 0;
+    }
+
+    /// The nets between neighbouring states, standing or to be redone.
+    pub fn entries(&self) -> &[Net]
+        ensures { result.now ≡ nets_between self.now.base self.now.states.items }
+    {
+        let entries = &self.entries;
+        entries.as_slice()
+    }
+
+    /// The net between the base and the state now.
+    ///
+    /// # Errors
+    /// [`NoMemory`](rdf_terms::NoMemory).
+    pub fn changes(&self) -> Result<Net, NoMemoryFault>
+        ensures { IfOk result (λ net. net ≡ net_between self.now.base (now self.now)) }
+    {
+        let counter = self.dataset.next_blank();
+        composed(self.alloc, self.entries.as_slice(), 0, self.cursor, counter)
+    }
+
+    /// Appends the lines of the quads now, sorted, as canonical N-Quads (RDF 1.1 N-Quads, section 2), and
+    /// answers how many there are.
+    ///
+    /// # Errors
+    /// [`NoMemory`](rdf_terms::NoMemory): the vector is then as it was.
+    pub fn write_quads(&self, out: &mut Vec<u8>) -> Result<u64, NoMemoryFault>
+        ensures ok { IfOk result (λ count. (lines : List (List ℕ))
+            × ListsQuads (now self.now) lines
+            × (out.new.items ≡ out.old.items ++ concat lines) × (count ≡ length lines)) }
+        ensures err { OnErr result (out.new.items ≡ out.old.items) }
+    {
+        let quads = self.dataset.quads();
+        write_lines(self.alloc, quads, out)?;
+        Ok(quads.len() as u64)
+    }
+
+    /// The names of the graphs now, sorted, those of empty graphs too.
+    ///
+    /// # Errors
+    /// [`NoMemory`](rdf_terms::NoMemory).
+    pub fn names(&self) -> Result<Vec<Term>, NoMemoryFault>
+        ensures { IfOk result (λ names. ListsSorted (now self.now).names names.items) }
+    {
+        copies(self.alloc, self.dataset.names_sorted())
+    }
+
+    /// The number of the next blank node now. It takes no memory. Each state of any keeper is sound, and its cursor and
+    /// each of its marks lie in the list of states.
+    pub fn next_blank(&self) -> u64
+        ensures value { result ≡ (now self.now).next }
+        ensures sound { AllByRecursion IsSound (all_states self.now) }
+        ensures whole { IsWholeSession self.now }
+    {
+        Source::next_blank(&self.dataset)
+    }
+}
+
+fn copies(alloc: Global, terms: &[Term]) -> Result<Vec<Term>, NoMemoryFault>
+    ensures { IfOk result (λ all. all.items ≡ terms.now) }
+{
+    let mut all = Vec::new(alloc);
+    for term in terms {
+        all.push(term.copy()?)?;
+    }
+    Ok(all)
+}
+
+fn counts_of(net: &Net) -> Counts
+    ensures added { result.added ≡ set.len net.now.added }
+    ensures removed { result.removed ≡ set.len net.now.removed }
+{
+    Counts {
+        added: net.added().len() as u64,
+        removed: net.removed().len() as u64,
+    }
+}
+
+// The counts of the net the other way.
+fn back_counts_of(net: &Net) -> Counts
+    ensures added { result.added ≡ set.len net.now.removed }
+    ensures removed { result.removed ≡ set.len net.now.added }
+{
+    Counts {
+        added: net.removed().len() as u64,
+        removed: net.added().len() as u64,
+    }
+}
+
+// The net from one place of a chain of nets to another; the counter is that of the last place.
+fn composed(
+    alloc: Global,
+    entries: &[Net],
+    from: usize,
+    to: usize,
+    counter: u64,
+) -> Result<Net, NoMemoryFault>
+    requires order { from ≤ to }
+    requires within { to ≤ length entries.now }
+    ensures { IfOk result (λ net. (base : State) → AreNets base entries.now →
+        counter ≡ (slice_index_or (base ∷ states_after base entries.now) to base).next →
+        net ≡ net_between
+        (slice_index_or (base ∷ states_after base entries.now) from base)
+        (slice_index_or (base ∷ states_after base entries.now) to base)) }
+{
+    let first = if from < to {
+        entries[from].before()
+    } else {
+        counter
+    };
+    let mut net = Net::empty(alloc, first);
+    for i in from..to {
+        net = net.then(&entries[i])?;
+    }
+    Ok(net)
+}

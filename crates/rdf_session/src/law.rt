@@ -1,0 +1,48 @@
+//! Laws over the definitions alone: what holds after any list of commands, that undo gives back and redo gives again, and
+//! that a command has one reply.
+ghost use Rattle.std.specs.Prelude.{◌≡◌, List, ℕ, Option, take};
+ghost use Rattle.rdf_dataset.specs.State.{State};
+ghost use Rattle.rdf_session.specs.History.{nothing};
+ghost use Rattle.rdf_session.specs.Session.{Session, Command, Reply, fresh, now};
+ghost use Rattle.rdf_session.specs.Standing.{Run, Follows, requests_of, MakesAll};
+ghost use Rattle.rdf_session.specs.GivesBack.{RunsAreWhole, UndoGivesBack, RedoGivesAgain, RollbackGivesBack, RefusalsLeave};
+ghost use Rattle.rdf_session.specs.OneReply.{OneReply};
+ghost use Rattle.rdf_session.specs.UndoRedo.{UndoThenRedo, RedoThenUndo};
+
+/// After any commands with any replies, refusals and want of memory among them, each state is what
+/// its standing request makes, against the session's base IRI, of the state before, and the state now is what the requests up to the
+/// cursor make of the base, one after another.
+pub fn standing_requests()
+    ensures each { (base_iri : Option (List ℕ)) (state : State)
+        (events : List (Command × Reply)) (session : Session) →
+        Run (fresh base_iri state) events session →
+        Follows base_iri session.base (requests_of nothing events).items session.states.items }
+    ensures now { (base_iri : Option (List ℕ)) (state : State)
+        (events : List (Command × Reply)) (session : Session) →
+        Run (fresh base_iri state) events session →
+        MakesAll base_iri (take session.states.cursor (requests_of nothing events).items) session.base (now session) }
+{}
+
+/// After any commands with any replies the cursor and each mark lie in the list of states. Where the cursor lies there: an undo
+/// behind an accepted request gives back the state before it, in quads, graph names and counter, with the counts turned; a
+/// redo behind that gives the session again that the request had left, with the same counts; and a rollback to a mark that
+/// was put where the session stood gives back that state, whatever requests were accepted since. Anywhere in a history an
+/// undo and a redo behind it, or the other way, leave the session as it was. So does a refusal.
+pub fn undo_gives_back()
+    ensures whole { RunsAreWhole }
+    ensures undo { UndoGivesBack }
+    ensures redo { RedoGivesAgain }
+    ensures undo_redo { UndoThenRedo }
+    ensures redo_undo { RedoThenUndo }
+    ensures rollback { RollbackGivesBack }
+    ensures refused { RefusalsLeave }
+{}
+
+/// Where no reply is that memory is wanting, a command has one reply, but for a line of a fault that is the reader's own
+/// choice; and it leads to one session.
+pub fn one_reply()
+    ensures { OneReply }
+{
+    rdf_lines::each_text_is_one_document();
+    rdf_turtle::one_meaning();
+}

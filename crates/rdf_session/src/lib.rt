@@ -1,0 +1,15 @@
+//! The session of an RDF dataset: what loads do to it, undo, redo, marks, rollback and commit, and the laws of these.
+#![tactic(auto)]
+
+mod fault;
+mod format;
+mod keeper;
+mod law;
+mod listing;
+mod load;
+mod marks;
+
+pub use fault::{Counts, KeeperFault};
+pub use format::Format;
+pub use keeper::Keeper;
+pub use law::{one_reply, standing_requests, undo_gives_back};
