@@ -1,4 +1,5 @@
 mod DeltaLemmas
+pub mod InsertionLemmas
 mod KeepLemmas
 mod ListingLemmas
 mod SortedLemmas

@@ -1,4 +1,5 @@
 pub mod Delta
+pub mod Insertion
 pub mod Laws
 pub mod Merging
 pub mod Places

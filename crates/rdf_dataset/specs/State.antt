@@ -1,16 +1,16 @@
 -- The states of a dataset, and the net between two of them (RDF 1.1 Concepts, section 4).
-use Rattle.std.specs.Prelude.{◌≡◌, ℕ, ◌<◌, ◌≤◌, ◌+◌, Option, None, Some, IsTrue, refl, ⊤, Bool, true, not, ◌&&◌}
+use Rattle.std.specs.Prelude.{◌≡◌, ℕ, ◌≤◌, ◌+◌, Option, None, Some, IsTrue, refl, ⊤, Bool, true, not, ◌&&◌}
 use Rattle.std.specs.Coded.{Coded, code_by, coded×, coded_ℕ}
 use Rattle.std.specs.Ordering.{eq_by_cmp}
 use Rattle.std.specs.FinSet as set
 use Rattle.rdf_terms.specs.declared.term.Term.{Term}
-use Rattle.rdf_terms.specs.declared.term.Term.TheVariants.{Blank, Iri, Literal}
 use Rattle.rdf_terms.specs.declared.quad.GraphName.{GraphName}
 use Rattle.rdf_terms.specs.declared.quad.GraphName.TheVariants.{Default, Named}
 use Rattle.rdf_terms.specs.Term.{is_term, is_literal_term}
 use Rattle.rdf_terms.specs.Quad.{QuadParts, is_quad}
 use Rattle.rdf_terms.specs.Order.{term_cmp, graph_cmp, quad_cmp}
 use Rattle.rdf_terms.specs.Codes.{coded_term, coded_quad}
+pub use Rattle.rdf_terms.specs.Below.{IsTermBelow, IsGraphBelow, IsQuadBelow}
 
 abbrev pub Quads : Type 0
 Quads = set.FinSet quad_cmp
@@ -38,22 +38,6 @@ abbrev pub empty_state : ℕ → State
 empty_state next = record { quads = set.empty; names = set.empty; next = next }
 
 -- ---- soundness
-
-abbrev pub IsTermBelow : ℕ → Term → Type 0
-IsTermBelow next (Blank number) = number < next
-IsTermBelow next (Iri text) = ⊤
-IsTermBelow next (Literal parts) = ⊤
-
-abbrev pub IsGraphBelow : ℕ → GraphName → Type 0
-IsGraphBelow next Default = ⊤
-IsGraphBelow next (Named name) = IsTermBelow next name
-
--- the blank nodes of a quad have numbers below next
-pub record IsQuadBelow (next : ℕ) (q : QuadParts) : Type 0 where
-  pub graph : IsGraphBelow next q.graph
-  pub subject : IsTermBelow next q.subject
-  pub predicate : IsTermBelow next q.predicate
-  pub object : IsTermBelow next q.object
 
 -- the graph has a name among these, where it isn't the default one
 abbrev pub IsNamed : Names → GraphName → Type 0

@@ -5,6 +5,7 @@
 mod dataset;
 mod delta;
 mod edits;
+mod insertion;
 mod item;
 mod listing;
 mod net;

@@ -1,3 +1,4 @@
+pub mod Below
 pub mod Blanks
 pub mod Characters
 pub mod Codes

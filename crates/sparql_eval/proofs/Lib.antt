@@ -1,0 +1,3 @@
+mod GraphLemmas
+mod QuadLemmas
+mod SetLemmas

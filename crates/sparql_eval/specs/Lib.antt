@@ -1,0 +1,4 @@
+pub mod Faults
+pub mod Graphs
+pub mod Operations
+pub mod Staging

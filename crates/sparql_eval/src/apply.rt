@@ -1,0 +1,48 @@
+//! Requests, one operation after another.
+ghost use Rattle.std.specs.Prelude.{◌≡◌, IfErr, OnOk};
+ghost use Rattle.rdf_dataset.specs.State.{IsSound};
+ghost use Rattle.sparql_eval.specs.Operations.{Tells, step, steps};
+
+use crate::fault::ApplyFault;
+use crate::operations::{is_silent, obstacle, perform};
+use rdf_dataset::{Source, Staged};
+use sparql_syntax::{Operation, Request};
+use std::alloc::Global;
+
+fn act<D: Source>(
+    alloc: Global,
+    operation: &Operation,
+    view: &mut Staged<'_, D>,
+) -> Result<(), ApplyFault>
+    ensures leads { OnOk result (step view.old.now operation.now ≡ Ok view.new.now) }
+    ensures refused { IfErr result (λ fault. Tells (step view.old.now operation.now) fault) }
+    ensures beneath { view.new.under ≡ view.old.under }
+{
+    if let Some(fault) = obstacle(operation, view)? {
+        return if is_silent(operation) { Ok(()) } else { Err(fault) };
+    }
+    Ok(perform(alloc, operation, view)?)
+}
+
+/// Lets the operations of a request act on a staged view in their order.
+///
+/// # Errors
+/// The first refusal of an operation that isn't SILENT: [`ApplyFault::MissingGraph`] where a graph
+/// that it names isn't there, [`ApplyFault::GraphExists`] where one that it makes is, and, SILENT
+/// or not, [`ApplyFault::BlankNumbers`] where the blank nodes of its data would bring the counter
+/// past 10^18. [`ApplyFault::NoMemory`] where memory is wanting. The view is to be given up then;
+/// what lies beneath is as it was.
+pub fn apply<D: Source>(
+    alloc: Global,
+    request: &Request,
+    view: &mut Staged<'_, D>,
+) -> Result<(), ApplyFault>
+    ensures leads { OnOk result (steps view.old.now request.now.operations ≡ Ok view.new.now) }
+    ensures refused { IfErr result (λ fault. Tells (steps view.old.now request.now.operations) fault) }
+    ensures beneath { view.new.under ≡ view.old.under }
+{
+    for operation in request.operations.as_slice() {
+        act(alloc, operation, view)?;
+    }
+    Ok(())
+}

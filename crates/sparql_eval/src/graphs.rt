@@ -1,0 +1,195 @@
+//! Graphs that are emptied, dropped, copied, moved and added.
+ghost use Rattle.std.specs.Prelude.{◌≡◌, ℕ, false, IfOk, IsTrue, OnOk};
+ghost use Rattle.rdf_terms.specs.Below.{IsGraphBelow};
+ghost use Rattle.rdf_terms.specs.Quad.{may_name_graph};
+ghost use Rattle.sparql_eval.specs.Graphs.{graph_of, same_graph};
+ghost use Rattle.sparql_eval.specs.Operations.{added, cleared, copied, dropped, moved, onto};
+ghost use Rattle.sparql_eval.specs.Staging.{gone};
+ghost use Rattle.sparql_syntax.specs.declared.operation.GraphRefAll.TheVariants.{Named as each_named};
+
+use crate::quads::{add_graph, empty_graph, is_sound};
+use rdf_dataset::{Source, Staged};
+use rdf_terms::{GraphName, NoMemory, Term};
+use sparql_syntax::{GraphOrDefault, GraphRefAll};
+use std::alloc::Global;
+
+// The name of the graph.
+fn name_of(graph: &GraphOrDefault) -> Result<GraphName, NoMemory>
+    ensures value { IfOk result (λ name. name ≡ graph_of graph.now) }
+    ensures right { IfOk result (λ name. IsTrue (may_name_graph name)) }
+    ensures below { IfOk result (λ name. (next : ℕ) → IsGraphBelow next name) }
+{
+    Ok(match graph {
+        GraphOrDefault::Default => GraphName::Default,
+        GraphOrDefault::Graph(iri) => GraphName::Named(Term::Iri(iri.copy()?)),
+    })
+}
+
+fn is_same_graph(graph: &GraphName, other: &GraphName) -> bool
+    ensures { result ≡ same_graph graph.now other.now }
+{
+    graph.cmp(other).is_eq()
+}
+
+fn clear_named<D: Source>(alloc: Global, view: &mut Staged<'_, D>) -> Result<(), NoMemory>
+    ensures ok { OnOk result (view.new.now ≡ cleared view.old.now each_named) }
+    ensures beneath { view.new.under ≡ view.old.under }
+{
+    is_sound(view);
+    let mut names = Vec::new(alloc);
+    view.names(&mut names)?;
+    for name in names {
+        empty_graph(alloc, &GraphName::Named(name), view)?;
+    }
+    Ok(())
+}
+
+/// Empties the graphs. Their names stay.
+pub(crate) fn clear<D: Source>(
+    alloc: Global,
+    graphs: &GraphRefAll,
+    view: &mut Staged<'_, D>,
+) -> Result<(), NoMemory>
+    ensures ok { OnOk result (view.new.now ≡ cleared view.old.now graphs.now) }
+    ensures beneath { view.new.under ≡ view.old.under }
+{
+    match graphs {
+        GraphRefAll::Graph(iri) => {
+            let graph = GraphName::Named(Term::Iri(iri.copy()?));
+            empty_graph(alloc, &graph, view)
+        }
+        GraphRefAll::Default => empty_graph(alloc, &GraphName::Default, view),
+        GraphRefAll::Named => clear_named(alloc, view),
+        GraphRefAll::All => {
+            empty_graph(alloc, &GraphName::Default, view)?;
+            clear_named(alloc, view)
+        }
+    }
+}
+
+// Empties a graph and takes its name away, where it has one.
+fn drop_graph<D: Source>(
+    alloc: Global,
+    graph: &GraphName,
+    view: &mut Staged<'_, D>,
+) -> Result<(), NoMemory>
+    ensures ok { OnOk result (view.new.now ≡ gone view.old.now graph.now) }
+    ensures beneath { view.new.under ≡ view.old.under }
+{
+    empty_graph(alloc, graph, view)?;
+    if let GraphName::Named(name) = graph {
+        view.drop_name(name)?;
+    }
+    Ok(())
+}
+
+fn drop_named<D: Source>(alloc: Global, view: &mut Staged<'_, D>) -> Result<(), NoMemory>
+    ensures ok { OnOk result (view.new.now ≡ dropped view.old.now each_named) }
+    ensures beneath { view.new.under ≡ view.old.under }
+{
+    is_sound(view);
+    let mut names = Vec::new(alloc);
+    view.names(&mut names)?;
+    for name in names {
+        drop_graph(alloc, &GraphName::Named(name), view)?;
+    }
+    Ok(())
+}
+
+/// Empties the graphs and takes their names away.
+pub(crate) fn drop_graphs<D: Source>(
+    alloc: Global,
+    graphs: &GraphRefAll,
+    view: &mut Staged<'_, D>,
+) -> Result<(), NoMemory>
+    ensures ok { OnOk result (view.new.now ≡ dropped view.old.now graphs.now) }
+    ensures beneath { view.new.under ≡ view.old.under }
+{
+    match graphs {
+        GraphRefAll::Graph(iri) => {
+            let graph = GraphName::Named(Term::Iri(iri.copy()?));
+            drop_graph(alloc, &graph, view)
+        }
+        GraphRefAll::Default => drop_graph(alloc, &GraphName::Default, view),
+        GraphRefAll::Named => drop_named(alloc, view),
+        GraphRefAll::All => {
+            drop_graph(alloc, &GraphName::Default, view)?;
+            drop_named(alloc, view)
+        }
+    }
+}
+
+// Makes the second graph hold the triples of the first and no others.
+fn replace_graph<D: Source>(
+    alloc: Global,
+    from: &GraphName,
+    to: &GraphName,
+    view: &mut Staged<'_, D>,
+) -> Result<(), NoMemory>
+    requires apart { same_graph from.now to.now ≡ false }
+    requires right { IsTrue (may_name_graph to.now) }
+    requires below { (next : ℕ) → IsGraphBelow next to.now }
+    ensures ok { OnOk result (view.new.now ≡ copied view.old.now from.now to.now) }
+    ensures beneath { view.new.under ≡ view.old.under }
+{
+    empty_graph(alloc, to, view)?;
+    add_graph(alloc, from, to, view)
+}
+
+/// COPY: the second graph has the triples of the first and no others.
+pub(crate) fn copy<D: Source>(
+    alloc: Global,
+    from: &GraphOrDefault,
+    to: &GraphOrDefault,
+    view: &mut Staged<'_, D>,
+) -> Result<(), NoMemory>
+    ensures ok { let g = graph_of from.now in let h = graph_of to.now in let s = view.old.now in
+        OnOk result (view.new.now ≡ onto g h s (copied s g h)) }
+    ensures beneath { view.new.under ≡ view.old.under }
+{
+    let from = name_of(from)?;
+    let to = name_of(to)?;
+    if is_same_graph(&from, &to) {
+        return Ok(());
+    }
+    replace_graph(alloc, &from, &to, view)
+}
+
+/// MOVE: as COPY, and the first graph goes.
+pub(crate) fn move_graph<D: Source>(
+    alloc: Global,
+    from: &GraphOrDefault,
+    to: &GraphOrDefault,
+    view: &mut Staged<'_, D>,
+) -> Result<(), NoMemory>
+    ensures ok { let g = graph_of from.now in let h = graph_of to.now in let s = view.old.now in
+        OnOk result (view.new.now ≡ onto g h s (moved s g h)) }
+    ensures beneath { view.new.under ≡ view.old.under }
+{
+    let from = name_of(from)?;
+    let to = name_of(to)?;
+    if is_same_graph(&from, &to) {
+        return Ok(());
+    }
+    replace_graph(alloc, &from, &to, view)?;
+    drop_graph(alloc, &from, view)
+}
+
+/// ADD: the second graph has the triples of the first beside its own.
+pub(crate) fn add<D: Source>(
+    alloc: Global,
+    from: &GraphOrDefault,
+    to: &GraphOrDefault,
+    view: &mut Staged<'_, D>,
+) -> Result<(), NoMemory>
+    ensures ok { let g = graph_of from.now in let h = graph_of to.now in let s = view.old.now in
+        OnOk result (view.new.now ≡ onto g h s (added s g h)) }
+    ensures beneath { view.new.under ≡ view.old.under }
+{
+    let from = name_of(from)?;
+    let to = name_of(to)?;
+    if is_same_graph(&from, &to) {
+        return Ok(());
+    }
+    add_graph(alloc, &from, &to, view)
+}
