@@ -1,21 +1,21 @@
-# Builds, runs and checks rdfkeep. It needs make and the Rattle toolchain's command `rt`, and no network.
+# Builds, runs and checks rdfkeep. It needs make, Python 3.8 and the Rattle toolchain's command `rt`, and no network.
 #
 #   make           the program, proved and built, at ./rdfkeep
 #   make example   the program on the example scripts, and what it prints compared
-#   make test      every proof, wrong body, test and refused allocation
+#   make test      every proof and test, every wrong body in batches, every refused allocation, every file test
+#   make gate      every proof and test, and every wrong body in a check of its own: the same, by rt ci alone, in hours
 #
 # A second call does nothing again that is done.
 
 SOURCES := $(shell find crates -name out -prune -o -type f -print) crates.txt HANDLES
-CHECKED := out/checked
 
-.PHONY: all example test clean
+.PHONY: all example test gate clean
 
 all: rdfkeep
 
 rdfkeep: $(SOURCES)
-	@echo "make: proving the crates and building the program, which takes some twenty minutes the first time" >&2
-	cd crates/rdfkeep && rt run -- --version > /dev/null
+	@tools/prove rdfkeep
+	@cd crates/rdfkeep && rt run -- --version > /dev/null
 	cp crates/rdfkeep/out/rdfkeep rdfkeep
 
 example: rdfkeep
@@ -26,12 +26,11 @@ example: rdfkeep
 	@./rdfkeep run --base http://example.org/tea/ examples/concepts.rdfkeep > out/concepts.out || test $$? -eq 1
 	@cmp out/concepts.out examples/concepts.out
 
-test: $(CHECKED)
+test:
+	@tools/test-all
 
-$(CHECKED): $(SOURCES) tools/fail-alloc Makefile
-	@echo "make: proving everything from nothing, which takes one to two hours; beside it each allocation of the tests is refused in turn" >&2
-	tools/fail-alloc refusals & allocations=$$!; rt ci; proofs=$$?; wait $$allocations && test $$proofs -eq 0
-	@mkdir -p out && touch $(CHECKED)
+gate:
+	rt ci
 
 clean:
 	rm -rf out rdfkeep crates/*/out
