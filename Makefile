@@ -1,7 +1,6 @@
 # Builds, runs and checks rdfkeep. It needs make, Python 3.8 and the Rattle toolchain's command `rt`, and no network.
 #
 #   make           the program, proved and built, at ./rdfkeep
-#   make example   the program on the example scripts, and what it prints compared
 #   make test      every proof and test, every wrong body in batches, every refused allocation, every file test
 #   make gate      every proof and test, and every wrong body in a check of its own: the same, by rt ci alone, in hours
 #
@@ -9,7 +8,7 @@
 
 SOURCES := $(shell find crates -name out -prune -o -type f -print) crates.txt HANDLES
 
-.PHONY: all example test gate clean
+.PHONY: all test gate clean
 
 all: rdfkeep
 
@@ -17,14 +16,6 @@ rdfkeep: $(SOURCES)
 	@tools/prove rdfkeep
 	@cd crates/rdfkeep && rt run -- --version > /dev/null
 	cp crates/rdfkeep/out/rdfkeep rdfkeep
-
-example: rdfkeep
-	@mkdir -p out
-	./rdfkeep run examples/first.rdfkeep > out/first.out
-	@cat out/first.out
-	@cmp out/first.out examples/first.out
-	@./rdfkeep run --base http://example.org/tea/ examples/concepts.rdfkeep > out/concepts.out || test $$? -eq 1
-	@cmp out/concepts.out examples/concepts.out
 
 test:
 	@tools/test-all
@@ -34,3 +25,31 @@ gate:
 
 clean:
 	rm -rf out rdfkeep crates/*/out
+
+# ---- what a newcomer runs, and where it is put
+#
+#   make example     each command that README.md shows, compared with what it shows; the manual page and the completions checked
+#   make install     the program, its manual page and its completions for bash, under PREFIX and, for a package, DESTDIR
+#   make uninstall   takes them away
+
+PREFIX ?= /usr/local
+INSTALL ?= install
+bindir = $(PREFIX)/bin
+datadir = $(PREFIX)/share
+man1dir = $(datadir)/man/man1
+bashcompdir = $(datadir)/bash-completion/completions
+
+.PHONY: example install uninstall
+
+example: rdfkeep
+	tools/readme-examples ./rdfkeep
+	tools/check-manual ./rdfkeep
+
+install: rdfkeep
+	$(INSTALL) -d "$(DESTDIR)$(bindir)" "$(DESTDIR)$(man1dir)" "$(DESTDIR)$(bashcompdir)"
+	$(INSTALL) -m 755 rdfkeep "$(DESTDIR)$(bindir)/rdfkeep"
+	$(INSTALL) -m 644 man/rdfkeep.1 "$(DESTDIR)$(man1dir)/rdfkeep.1"
+	$(INSTALL) -m 644 completions/rdfkeep.bash "$(DESTDIR)$(bashcompdir)/rdfkeep"
+
+uninstall:
+	rm -f "$(DESTDIR)$(bindir)/rdfkeep" "$(DESTDIR)$(man1dir)/rdfkeep.1" "$(DESTDIR)$(bashcompdir)/rdfkeep"
