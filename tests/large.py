@@ -18,7 +18,7 @@ RDF = "http://www.w3.org/1999/02/22-rdf-syntax-ns#"
 XSD = "http://www.w3.org/2001/XMLSchema#"
 WORDS = ["tea", "Wasser", "été", "水", "a\tb", 'say "so"', "back\\slash", "line\nend", "end\r", "\U0001F375", "#", "<a:b>"]
 TAGS = ["en", "EN-gb", "de", "zh-Hant-TW", "x-A1"]
-ESCAPES = {"\n": "\\n", "\r": "\\r", '"': '\\"', "\\": "\\\\"}
+ESCAPES = str.maketrans({"\n": "\\n", "\r": "\\r", '"': '\\"', "\\": "\\\\"})
 
 # A term is a tuple that sorts as the program sorts terms: a kind, then what is compared.
 BLANK, IRI, LITERAL = 0, 1, 2
@@ -32,10 +32,6 @@ def literal(lexical, datatype=XSD + "string", tag=""):
     return (LITERAL, lexical, RDF + "langString" if tag else datatype, tag)
 
 
-def escaped(text):
-    return "".join(ESCAPES.get(character, character) for character in text)
-
-
 def written(term):
     """A term's canonical text."""
     if term[0] == BLANK:
@@ -44,7 +40,7 @@ def written(term):
         return f"<{term[1]}>"
     _, lexical, datatype, tag = term
     suffix = "@" + tag if tag else "" if datatype == XSD + "string" else f"^^<{datatype}>"
-    return f'"{escaped(lexical)}"{suffix}'
+    return f'"{lexical.translate(ESCAPES)}"{suffix}'
 
 
 class Document:
@@ -72,7 +68,7 @@ class Document:
 
     def spelt(self, lexical):
         """The text with some characters as escapes that needn't be."""
-        text = escaped(lexical)
+        text = lexical.translate(ESCAPES)
         if self.random.random() < 0.2:
             text = text.replace("\t", "\\t").replace("é", "\\u00E9").replace("\U0001F375", "\\U0001F375")
         return text
