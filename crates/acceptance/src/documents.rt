@@ -81,21 +81,6 @@ fn last_line_without_end(rt: HostRuntime) -> Result<(), Fail> {
     Ok(())
 }
 
-// The number of statements, or the line of the fault.
-fn count_or_line(alloc: Global, bytes: &[u8]) -> Result<usize, u64> {
-    match read_lines(alloc, LineFormat::NQuads, bytes) {
-        Ok(quads) => Ok(quads.len()),
-        Err(fault) => Err(fault.line),
-    }
-}
-
-#[test]
-fn held_bytes(rt: HostRuntime) {
-    let sound = b"_:a <a:p> _:b .\r\n\r\n#\n\r_:b <a:p> _:a .\r_:c <a:p> _:a _:c .";
-    assert!(rt; count_or_line(rt.alloc(), sound) == Ok(3));
-    assert!(rt; count_or_line(rt.alloc(), TEXT) == Err(7));
-}
-
 fn sorted(alloc: Global, bytes: &[u8]) -> Result<Vec<u8>, Fail> {
     let quads = read_lines(alloc, LineFormat::NQuads, bytes)?;
     let mut text = Vec::new(alloc);

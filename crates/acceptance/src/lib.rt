@@ -1,11 +1,15 @@
-//! Tests that call the crates as a host does: values from the standards, worked scripts, and readers
-//! and writers that fail. It has no code of its own.
+//! Tests that call the crates as a host does: values from the standards, each call once, and readers
+//! and writers that fail. What a document or a script shows stands in `tests/`. It has no code of its own.
 #![tactic(auto)]
 
 #[cfg(test)]
 mod dataset;
 #[cfg(test)]
 mod documents;
+#[cfg(test)]
+mod fronts;
+#[cfg(test)]
+mod keeper;
 #[cfg(test)]
 mod lines;
 #[cfg(test)]
@@ -15,8 +19,6 @@ mod program;
 #[cfg(test)]
 mod resolution;
 #[cfg(test)]
-mod rows;
-#[cfg(test)]
 mod sessions;
 #[cfg(test)]
 mod streams;
@@ -24,7 +26,3 @@ mod streams;
 mod terms;
 #[cfg(test)]
 mod tokens;
-#[cfg(test)]
-mod turtle;
-#[cfg(test)]
-mod turtle_standard;

@@ -1,4 +1,4 @@
-//! The examples of N-Triples, section 2, and N-Quads, section 2, and lines at the edges of the grammar.
+//! What a line is read as: its parts, and its faults.
 use rdf_lines::{FaultKind, LineFormat, Node, Object, Statement, read_line};
 use std::alloc::Global;
 use std::test::Fail;
@@ -14,38 +14,12 @@ fn shown(node: &Node) -> &str {
     }
 }
 
-#[test]
-fn triples(rt: HostRuntime) -> Result<(), Fail> {
-    let line =
-        "<http://example.org/#spiderman> <http://www.perceive.net/schemas/relationship/enemyOf> <http://example.org/#green-goblin> .";
-    let told = statement(rt.alloc(), LineFormat::NTriples, line)?;
-    assert_eq!(rt; shown(&told.subject), "http://example.org/#spiderman");
-    assert_eq!(rt;
-        told.predicate.as_str(),
-        "http://www.perceive.net/schemas/relationship/enemyOf"
-    );
-    assert!(rt;
-        matches!(&told.object, Object::Node(Node::Iri(iri)) if iri.as_str() == "http://example.org/#green-goblin")
-    );
-    assert!(rt; told.graph.is_none());
-    Ok(())
-}
-
 // The lexical form of a statement's object and its tag, where it is a literal.
 fn literal(told: &Statement) -> Option<(&str, Option<&str>)> {
     match &told.object {
         Object::Literal(literal) => Some((literal.lexical(), literal.tag())),
         Object::Node(_) => None,
     }
-}
-
-#[test]
-fn strings(rt: HostRuntime) -> Result<(), Fail> {
-    let line =
-        "<http://e/s> <http://e/p> \"That \\u0053eventies\\tShow\"^^<http://www.w3.org/2001/XMLSchema#string> .";
-    let told = statement(rt.alloc(), LineFormat::NTriples, line)?;
-    assert!(rt; literal(&told) == Some(("That Seventies\tShow", None)));
-    Ok(())
 }
 
 #[test]
@@ -70,56 +44,26 @@ fn quads(rt: HostRuntime) -> Result<(), Fail> {
     Ok(())
 }
 
-#[test]
-fn labels(rt: HostRuntime) -> Result<(), Fail> {
-    let told = statement(rt.alloc(), LineFormat::NQuads, "_:a.b <http://e/p> _:1.")?;
-    assert_eq!(rt; shown(&told.subject), "a.b");
-    Ok(())
-}
-
 // What is told of a line: whether it holds a statement, or its fault.
-fn told(alloc: Global, format: LineFormat, line: &[u8]) -> Result<bool, FaultKind> {
-    match read_line(alloc, format, line) {
+fn told(alloc: Global, line: &[u8]) -> Result<bool, FaultKind> {
+    match read_line(alloc, LineFormat::NTriples, line) {
         Ok(statement) => Ok(statement.is_some()),
         Err(kind) => Err(kind),
     }
 }
 
 #[test]
-fn refusals(rt: HostRuntime) {
-    for line in [
-        "<http://e/a\\u0020b> <http://e/p> \"x\" .",
-        "<http://e/s> <http://e/p> \"\\uD800\" .",
-        "<http://e/s> <http://e/p> \"x\"",
-        "<http://e/s> <http://e/p> \"x\" <http://e/g> .",
-        "<http://e/s> <http://e/p> 'x' .",
-        "<s> <http://e/p> \"x\"",
+fn faults_and_comments(rt: HostRuntime) {
+    for (line, wanted) in [
+        (b"<a:s> \xFF".as_slice(), Err(FaultKind::NotUtf8)),
+        (
+            b"<a:s> <a:p> <a:o> <a:g> .".as_slice(),
+            Err(FaultKind::Syntax),
+        ),
+        (b"<s> <a:p> <a:o> .".as_slice(), Err(FaultKind::Relative)),
+        (b" \t# a comment".as_slice(), Ok(false)),
     ] {
-        let told = told(rt.alloc(), LineFormat::NTriples, line.as_bytes());
-        assert!(rt; told == Err(FaultKind::Syntax), "{line}");
-    }
-}
-
-#[test]
-fn relative(rt: HostRuntime) {
-    for line in [
-        "<s> <http://e/p> \"x\" .",
-        "<http://e/s> <http://e/p> \"x\" ^^ <t> .",
-        "<http://e/s> <http://e/p> \"x\" <g> .",
-    ] {
-        let told = told(rt.alloc(), LineFormat::NQuads, line.as_bytes());
-        assert!(rt; told == Err(FaultKind::Relative), "{line}");
+        assert!(rt; told(rt.alloc(), line) == wanted);
     }
     assert_eq!(rt; FaultKind::Relative.name(), "Relative");
-}
-
-#[test]
-fn bytes_that_are_no_text(rt: HostRuntime) {
-    let told = told(rt.alloc(), LineFormat::NQuads, b"<s> \xFF");
-    assert!(rt; told == Err(FaultKind::NotUtf8));
-}
-
-#[test]
-fn comments(rt: HostRuntime) {
-    assert!(rt; told(rt.alloc(), LineFormat::NQuads, b" \t# a comment") == Ok(false));
 }

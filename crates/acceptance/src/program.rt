@@ -1,9 +1,8 @@
-//! Rows of bytes and words, and readers and writers that fail.
+//! A conversion in pieces, on readers and writers that fail, and by the words of a command line.
 
 use crate::one_byte::{Ending, OneByteReader, OneByteWriter};
 use rdf_keeper::{ConvertFault, Format, convert, start};
-use std::alloc::{AllocError, Global};
-use std::rt::Files;
+use std::alloc::Global;
 use std::test::Fail;
 
 const FOUR: &[u8] =
@@ -56,154 +55,17 @@ fn failed_writes(rt: HostRuntime) {
     assert!(rt; written_to(rt.alloc(), 200, Ending::Failed) == Ok(()));
 }
 
-fn words_of(alloc: Global, line: &str) -> Result<Vec<String>, AllocError> {
-    line.split(' ')
-        .map(|word| String::from_str(alloc, word))
-        .try_collect(alloc)
-}
-
-// What the program answers, and what it writes on its output and its error.
-#[derive(Drop)]
-pub(crate) struct Ran {
-    pub(crate) status: u8,
-    pub(crate) out: Vec<u8>,
-    pub(crate) errors: Vec<u8>,
-}
-
-pub(crate) fn run_line<T: Files + AllocGlobal>(
-    rt: &T,
-    line: &str,
-    input: &[u8],
-) -> Result<Ran, AllocError> {
-    let words = words_of(rt.alloc(), line)?;
-    let mut out = Vec::new(rt.alloc());
-    let mut errors = Vec::new(rt.alloc());
-    let status = start(rt, words.as_slice(), input, &mut out, &mut errors);
-    Ok(Ran {
-        status,
-        out,
-        errors,
-    })
-}
-
-// Whether a document of Turtle, against the base `http://e/`, gives just these lines.
-pub(crate) fn is_converted<T: Files + AllocGlobal>(
-    rt: &T,
-    text: &str,
-    lines: &str,
-) -> Result<bool, AllocError> {
-    let line = "convert --from turtle --base http://e/";
-    let ran = run_line(rt, line, text.as_bytes())?;
-    Ok(ran.status == 0 && ran.out.as_slice() == lines.as_bytes() && ran.errors.is_empty())
-}
-
 #[test]
 fn converts(rt: HostRuntime) -> Result<(), Fail> {
-    let ran = run_line(&rt, "convert --from nquads", FOUR)?;
-    assert_eq!(rt; ran.status, 0);
-    assert_eq!(rt; ran.out.as_slice(), FOUR_OUT);
-    assert!(rt; ran.errors.is_empty());
-    Ok(())
-}
-
-#[test]
-fn a_graph_in_triples(rt: HostRuntime) -> Result<(), Fail> {
-    let input =
-        b"<http://e/s> <http://e/p> \"x\" .\n<http://e/s> <http://e/p> \"x\" <http://e/g> .\n";
-    let ran = run_line(&rt, "convert --from ntriples", input.as_slice())?;
-    assert_eq!(rt; ran.status, 1);
-    assert_eq!(rt;
-        ran.out.as_slice(),
-        b"<http://e/s> <http://e/p> \"x\" .\n".as_slice()
-    );
-    assert_eq!(rt;
-        ran.errors.as_slice(),
-        b"rdfkeep: refused: Syntax line 2\n".as_slice()
-    );
-    Ok(())
-}
-
-fn is_usage_fault<T: Files + AllocGlobal>(rt: &T, line: &str) -> Result<bool, AllocError> {
-    let ran = run_line(rt, line, FOUR)?;
-    Ok(ran.status == 2 && ran.out.is_empty() && !ran.errors.is_empty())
-}
-
-#[test]
-fn wrong_words(rt: HostRuntime) -> Result<(), Fail> {
-    for line in [
-        "convert",
-        "convert --from trig",
-        "convert --from nquads a b",
-        "run --stop --stop",
-        "run --data",
-        "run --format state",
-        "load",
-    ] {
-        assert!(rt; is_usage_fault(&rt, line)?);
-    }
-    Ok(())
-}
-
-#[test]
-fn no_words(rt: HostRuntime) {
+    let words = ["convert", "--from", "nquads"]
+        .iter()
+        .map(|word| String::from_str(rt.alloc(), word))
+        .try_collect::<Vec<String>>(rt.alloc())?;
     let mut out = Vec::new(rt.alloc());
     let mut errors = Vec::new(rt.alloc());
-    let status = start(&rt, &[], FOUR, &mut out, &mut errors);
-    assert!(rt; status == 2 && out.is_empty());
-}
-
-fn is_shown<T: Files + AllocGlobal>(rt: &T, line: &str) -> Result<bool, AllocError> {
-    let ran = run_line(rt, line, FOUR)?;
-    Ok(ran.status == 0 && !ran.out.is_empty() && ran.errors.is_empty())
-}
-
-#[test]
-fn help_and_version(rt: HostRuntime) -> Result<(), Fail> {
-    for line in [
-        "--help",
-        "--version",
-        "run --help",
-        "run --version",
-        "convert --help",
-        "convert --version",
-    ] {
-        assert!(rt; is_shown(&rt, line)?);
-    }
-    Ok(())
-}
-
-fn ends<T: Files + AllocGlobal>(
-    rt: &T,
-    line: &str,
-    status: u8,
-    error: &[u8],
-) -> Result<bool, AllocError> {
-    let ran = run_line(rt, line, b"")?;
-    Ok(ran.status == status && ran.out.is_empty() && ran.errors.as_slice() == error)
-}
-
-#[test]
-fn bad_bases(rt: HostRuntime) -> Result<(), Fail> {
-    for line in [
-        "run --base e --data no/file",
-        "convert --from nquads --base a:> no/file",
-    ] {
-        assert!(rt; ends(&rt, line, 2, b"rdfkeep: bad base\n")?);
-    }
-    Ok(())
-}
-
-#[test]
-fn files_that_are_not_read(rt: HostRuntime) -> Result<(), Fail> {
-    for line in [
-        "convert --from nquads --base a:b no/file",
-        "convert --from nquads .",
-        "run --data no/file no/script",
-        "run --data .",
-        "run --format ntriples no/script",
-        "run .",
-    ] {
-        assert!(rt; ends(&rt, line, 3, b"rdfkeep: read failed\n")?);
-    }
+    let status = start(&rt, words.as_slice(), FOUR, &mut out, &mut errors);
+    assert_eq!(rt; status, 0);
+    assert_eq!(rt; out.as_slice(), FOUR_OUT);
+    assert!(rt; errors.is_empty());
     Ok(())
 }
