@@ -1,5 +1,5 @@
 """What the tools of this folder share: the crates, copies of the repository, commands and their processor time, tasks side by side."""
-import collections, contextlib, os, pathlib, re, shlex, shutil, signal, subprocess, sys, tempfile, threading
+import collections, contextlib, os, pathlib, re, shutil, subprocess, tempfile, threading, time
 
 ROOT = pathlib.Path(__file__).resolve().parents[1]
 KEPT = ("out/rlib", "out/incremental")
@@ -69,10 +69,23 @@ def processors():
     return len(os.sched_getaffinity(0))
 
 
-def side_by_side(tasks, lanes):
-    """Runs tasks, as many side by side as there are lanes and free memory, and those that they return."""
+def side_by_side(tasks, lanes, coming=lambda: None):
+    """Runs tasks, as many side by side as there are lanes and free memory, those that they return, and those that are coming:
+    a call that gives some, or None once there will be no more."""
     available = re.search(r"MemAvailable:\s+(\d+)", pathlib.Path("/proc/meminfo").read_text())
-    free, running, turn, failed = 0.85 * 1024 * int(available[1]), [], threading.Condition(), []
+    free, running, turn, failed, is_over = 0.85 * 1024 * int(available[1]), [], threading.Condition(), [], threading.Event()
+
+    def look():
+        while not failed:
+            more = coming()
+            with turn:
+                tasks.extend(more or [])
+                if more is None:
+                    is_over.set()
+                turn.notify_all()
+            if more is None:
+                return
+            time.sleep(0 if more else 2)
 
     def fitting():
         idle = lanes - sum(taken for taken, _ in running)
@@ -82,7 +95,7 @@ def side_by_side(tasks, lanes):
     def work():
         while True:
             with turn:
-                turn.wait_for(lambda: failed or fitting() or not tasks and not running)
+                turn.wait_for(lambda: failed or fitting() or not tasks and not running and is_over.is_set())
                 if failed or not tasks:
                     return
                 fit = fitting()
@@ -100,7 +113,7 @@ def side_by_side(tasks, lanes):
                 tasks.extend(more)
                 turn.notify_all()
 
-    threads = [threading.Thread(target=work, daemon=True) for _ in range(lanes)]
+    threads = [threading.Thread(target=it, daemon=True) for it in [work] * lanes + [look]]
     for it in threads:
         it.start()
     for it in threads:
