@@ -79,14 +79,19 @@ def complaint(said):
     return found[0][:200]
 
 
+def is_of(symbol, function):
+    """Whether what a check calls so is the function, or a closure in it."""
+    return f"{symbol}::".replace("::fn::", "::").startswith(f"{function}::")
+
+
 def verdicts(batch, said):
-    """What the check of these edits says of each, or None where it says nothing of proofs."""
+    """What the check of these edits says of each, or nothing where it says nothing of proofs, and which other functions fail by themselves."""
     if not re.search(r"(?m)^(only=|logic=(not-)?proved)", said):
-        return None
+        return {}, set()
     lines = dict(re.findall(r"(?m)^fn (\S+): (.*)", said))
     failures, told, seen = {name: of for name, of in ((it, failure(it, lines[it])) for it in lines) if of}, {}, set()
     for it in batch:
-        own = [name for name in failures if any(name == s or name.startswith(f"{s}::") for s in it.symbols)]
+        own = [name for name in failures if any(is_of(name, s) for s in it.symbols)]
         seen |= {*own}
         if not all(s in lines for s in it.symbols):
             told[it.name] = "not tried", "the check has no line of this function"
@@ -99,10 +104,11 @@ def verdicts(batch, said):
             told[it.name] = "not tried", WAITS
         else:
             told[it.name] = "not refused", f"{it.symbols[0]} is still proved"
-    if {*failures} - seen:
-        other = min({*failures} - seen)
-        return {it.name: ("not tried", f"{other}, which no edit of this check changes, fails too: {failures[other]}") for it in batch}
-    return told
+    others = {*failures} - seen
+    if others:
+        why = f"{min(others)}, which no edit of this check changes, fails too: {failures[min(others)]}"
+        told = {it.name: ("not tried", why) for it in batch}
+    return told, others
 
 
 def failure(symbol, line):
