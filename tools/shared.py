@@ -1,11 +1,10 @@
 """What the tools of this folder share: the crates, copies of the repository, commands and their processor time, tasks side by side."""
-import collections, contextlib, os, pathlib, re, shlex, shutil, signal, subprocess, sys, tempfile, threading
+import collections, contextlib, os, pathlib, re, shutil, subprocess, tempfile, threading, time
 
 ROOT = pathlib.Path(__file__).resolve().parents[1]
 KEPT = ("out/rlib", "out/incremental")
-# how large a task is (the largest starts first), its memory in bytes, the most processors that it can use, and a call that is given
-# how many it may use and returns further tasks
-Task = collections.namedtuple("Task", "size memory most call")
+# how large a task is (the largest starts first), its memory in bytes, and a call that returns further tasks
+Task = collections.namedtuple("Task", "size memory call")
 
 
 def rows_of(root):
@@ -69,38 +68,55 @@ def processors():
     return len(os.sched_getaffinity(0))
 
 
-def side_by_side(tasks, lanes):
-    """Runs tasks, as many side by side as there are lanes and free memory, and those that they return."""
-    available = re.search(r"MemAvailable:\s+(\d+)", pathlib.Path("/proc/meminfo").read_text())
-    free, running, turn, failed = 0.85 * 1024 * int(available[1]), [], threading.Condition(), []
+def free_memory():
+    return 1024 * int(re.search(r"MemAvailable:\s+(\d+)", pathlib.Path("/proc/meminfo").read_text())[1])
+
+
+def need(crate, root=ROOT):
+    """The most memory that a check of a crate is likely to take, in bytes."""
+    return max(2.5e9, 1.2e9 + 0.8e6 * lines_of(crate, root))
+
+
+def side_by_side(tasks, lanes, coming=lambda: None):
+    """Runs tasks, as many side by side as there are lanes and free memory, those that they return, and those that are coming:
+    a call that gives some, or None once there will be no more."""
+    running, turn, failed, is_over = [], threading.Condition(), [], threading.Event()
+
+    def look():
+        while not failed and not is_over.is_set():
+            more = coming()
+            with turn:
+                tasks.extend(more or [])
+                if more is None:
+                    is_over.set()
+                turn.notify_all()
+            time.sleep(0 if more or is_over.is_set() else 2)
 
     def fitting():
-        idle = lanes - sum(taken for taken, _ in running)
-        held = sum(memory for _, memory in running)
-        return [it for it in tasks if idle > 0 and (not running or held + it.memory <= free)]
+        # (what runs may not have all of its memory yet)
+        free = 0.85 * free_memory() - sum(running) / 2
+        return [it for it in tasks if not running or it.memory <= free]
 
     def work():
         while True:
             with turn:
-                turn.wait_for(lambda: failed or fitting() or not tasks and not running)
+                turn.wait_for(lambda: failed or fitting() or not tasks and not running and is_over.is_set())
                 if failed or not tasks:
                     return
-                fit = fitting()
-                task = max(fit, key=lambda it: it.size)
-                taken = max(1, min(task.most, lanes - sum(it for it, _ in running) - len(fit) + 1))
+                task = max(fitting(), key=lambda it: it.size)
                 tasks.remove(task)
-                running.append((taken, task.memory))
+                running.append(task.memory)
             more = []
             try:
-                more = task.call(taken)
+                more = task.call()
             except BaseException as error:
                 failed.append(error)
             with turn:
-                running.remove((taken, task.memory))
+                running.remove(task.memory)
                 tasks.extend(more)
                 turn.notify_all()
 
-    threads = [threading.Thread(target=work, daemon=True) for _ in range(lanes)]
+    threads = [threading.Thread(target=it, daemon=True) for it in [work] * lanes + [look]]
     for it in threads:
         it.start()
     for it in threads:

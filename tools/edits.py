@@ -1,0 +1,139 @@
+"""Edits of functions' bodies, and what a check says of them. It relies on the layout of `rt fmt` and on the words of `rt check`."""
+import collections, os, re
+
+HEAD = re.compile(r"^( *)(?:pub(?:\([^)]*\))? )?((?:(?:const|unsafe|final) )*)fn (\w+)")
+IMPL = re.compile(r"(?:unsafe )?impl(?:<[^{]*?>)? (?:(?:\w+::)*(\w+)(?:<(\w+).*?>)? for )?(?:\w+::)*(\w+)")
+# what a check says of a function besides its own failure
+CALLS = re.compile(r"[;:]( in `\S+`, of this cycle of calls:)? it (calls|passes) .*")
+# what it says where an answer file names what isn't there any more
+NAMES = re.compile(r"has no field|is not in scope|has no `|was not admitted")
+WAITS = "its goals wait for a callee's proof"
+# `names` has for the function, or for each of its cycle of calls, patterns of what a check calls it, the most exact first
+Function = collections.namedtuple("Function", "file first opens last names alone key")
+
+
+def functions_of(crate, file, text):
+    """The functions of a file in rt fmt's layout, their lines from 0. `names` are patterns of what a check calls them, most exact first."""
+    lines, module, found = text.split("\n"), "::".join([crate, *(it for it in file[4:-3].split("/") if it not in ("lib", "mod"))]), []
+    for at, line in enumerate(lines):
+        head = HEAD.match(line)
+        if not head:
+            continue
+        indent, first, opens = head[1], at, at
+        while first and re.match(rf"{indent}(#|//)", lines[first - 1]):
+            first -= 1
+        if not line.endswith("}"):
+            ends = re.compile(rf"{indent}(\S.*)?(\{{|\}})$")
+            opens = next(n for n in range(at, len(lines)) if ends.match(lines[n]) or lines[n].endswith(";"))
+        if lines[opens].endswith(";"):
+            continue
+        last = opens if lines[opens].endswith("}") else lines.index(f"{indent}}}", opens)
+        outer = IMPL.match(next((lines[n] for n in range(at, -1, -1) if re.match(r"\S.*\{$", lines[n])), "")) if indent else None
+        owner = f"::{outer[3]}{outer[1] or ''}{outer[2] or ''}" if outer else ""
+        names = [f"{module}{owner}::{head[3]}"] if outer or not indent else []
+        names += [rf"\S*{owner}::{head[3]}"] if indent else []
+        cycle = re.search(r"#\[cycle\((\w+)\)\]", "\n".join(lines[first:at]))
+        found.append(Function(file, first, opens, last, [names], "const" in head[2], (file, cycle[1] if cycle else first)))
+    # a cycle of calls has one proof, so what one of its functions does is judged at all of them
+    return [it._replace(names=[names for other in found if other.key == it.key for names in other.names]) for it in found]
+
+
+class Edit:
+    """An edit: its new lines by file and number, and the functions that it changes, or why it can't be taken."""
+
+    def __init__(self, path, folder):
+        self.name, self.text, self.lines, self.functions, self.symbols, self.why = path.name, path.read_text(), {}, [], [], None
+        texts, file, old = {}, "", ""
+        for line in self.text.split("\n"):
+            if line.startswith("file: "):
+                file = line[6:].strip()
+                self.why = self.why or (None if (folder / file).is_file() else f"there is no file {file}")
+            elif line.startswith("old: "):
+                old = line[5:]
+            elif line.startswith("new:") and not self.why:
+                text = texts.setdefault(file, (folder / file).read_text())
+                if text.count(old) != 1:
+                    self.why = f"an 'old:' text is in {file} {text.count(old)} times, and not once"
+                texts[file] = text.replace(old, re.sub(r"\A ", "", line[4:]))
+        for file, text in texts.items():
+            self.take(file, (folder / file).read_text(), text, folder.name)
+        self.why = self.why or (None if self.functions else "it changes nothing")
+        self.keys, self.alone = {it.key for it in self.functions}, any(it.alone for it in self.functions)
+
+    def take(self, file, was, text, crate):
+        functions = functions_of(crate, file, was) if re.match(r"src/.*\.rt$", file) else []
+        for at, (a, b) in enumerate(zip(was.split("\n"), text.split("\n"))):
+            if a == b:
+                continue
+            inside = [it for it in functions if it.opens <= at <= it.last][:1]
+            # on the line that opens the body only what stands behind its bracket is the body's
+            is_head = inside and at == inside[0].opens and ("{" not in os.path.commonprefix((a, b)) or re.search(r"\b(ensures|requires)", a))
+            self.lines[file, at] = b
+            self.functions += [it for it in inside if it not in self.functions]
+            if not inside or is_head:
+                self.why = self.why or f"{file}:{at + 1} is in no function's body: say the same wrong thing in a body"
+
+
+def complaint(said):
+    found = re.findall(r".*error.*", said) or [line for line in said.split("\n") if line.strip()] or ["nothing was said"]
+    return found[0][:200]
+
+
+def is_of(symbol, function):
+    """Whether what a check calls so is the function, or a closure in it."""
+    return f"{symbol}::".replace("::fn::", "::").startswith(f"{function}::")
+
+
+def verdicts(batch, said):
+    """What the check of these edits says of each, or nothing where it says nothing of proofs, and which other functions fail by themselves."""
+    if not re.search(r"(?m)^(only=|logic=(not-)?proved)", said):
+        return {}, set()
+    lines = dict(re.findall(r"(?m)^fn (\S+): (.*)", said))
+    failures, told, seen = {name: of for name, of in ((it, failure(it, lines[it])) for it in lines) if of}, {}, set()
+    for it in batch:
+        own = [name for name in failures if any(is_of(name, s) for s in it.symbols)]
+        seen |= {*own}
+        if not all(s in lines for s in it.symbols):
+            told[it.name] = "not tried", "the check has no line of this function"
+        elif any("could not tell" in failures[name] for name in own):
+            told[it.name] = "not tried", f"{own[0]}: {failures[own[0]]}"
+        elif own:
+            told[it.name] = "refused", f"{own[0]} at {reason(own[0], failures[own[0]], said)}"
+        # behind some callees that aren't proved the tactics don't try a function's goals
+        elif any(f"has not tried the goals of `{s}`" in said for s in it.symbols):
+            told[it.name] = "not tried", WAITS
+        else:
+            told[it.name] = "not refused", f"{it.symbols[0]} is still proved"
+    others = {*failures} - seen
+    if others:
+        why = f"{min(others)}, which no edit of this check changes, fails too: {failures[min(others)]}"
+        told = {it.name: ("not tried", why) for it in batch}
+    return told, others
+
+
+def failure(symbol, line):
+    """What a check says of a function's own failure, if it fails by itself: not if it only stands on others that aren't proved."""
+    if not re.match("not proved|no proof|could not tell", line):
+        return ""
+    text, (crate, _, path) = CALLS.sub("", line), symbol.partition("::")
+    refused = re.search(r"; it stands on (.*), which antt refuses", text)
+    if refused and f"`Rattle.{crate}.proofs.{path.replace('::', '.')}." not in refused[1]:
+        text = text.replace(refused[0], "")
+        return "" if text == "not proved" else text
+    return "" if text == "no proof" else text
+
+
+def reason(symbol, line, said):
+    """The goals, and the clauses in each, at which the check refuses a function; or that only an answer file's names don't fit any more."""
+    path = re.escape(symbol.split("::", 1)[1].replace("::", "/"))
+    stated = dict(re.findall(rf"(?m)^note: `(\S+)` of proofs/{path}/Answers\.antt must prove: (.*)", said))
+    errors = re.findall(rf"(?m)^(?:\./)?(proofs/{path}/\w+\.antt):(\d+):\d+: error: (.*)", said)
+    goals = re.findall(r"`(\S+?)`", line.partition("did not prove")[2]) or [*stated]
+    goals += [name for _, _, text in errors for name in re.findall(r"\A`(\S+?)`: ", text) if name not in goals]
+    if errors and not stated and all(NAMES.search(text) for _, _, text in errors):
+        return f"names of {errors[0][0]} alone, which says little of the contract: {errors[0][2][:120]}"
+    found = []
+    for goal in goals[:3]:
+        clauses = re.findall(r"(?:\{|, )([^\s{}(),:]+) : ", stated.get(goal, ""))[:4] if stated.get(goal, "").startswith("record {") else []
+        found.append(f"`{goal}`" + (f" ({', '.join(clauses)})" if clauses else ""))
+    return ", ".join(found) + (f" and {len(goals) - 3} more" if len(goals) > 3 else "") or (errors[0][2][:120] if errors else line[:120])
