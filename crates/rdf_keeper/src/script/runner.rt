@@ -65,10 +65,12 @@ fn run_text<W: Write>(
         if write_answer(writer, &reply).is_err() {
             return Status::WriteFailed;
         }
-        if stop && reply.refused {
-            return Status::Refused;
+        if reply.refused {
+            if stop {
+                return Status::Refused;
+            }
+            refused = true;
         }
-        refused = refused || reply.refused;
         rest = after;
     }
     ending(last, refused)
