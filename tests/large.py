@@ -16,10 +16,8 @@ from pathlib import Path
 STATEMENTS = 100_000
 RDF = "http://www.w3.org/1999/02/22-rdf-syntax-ns#"
 XSD = "http://www.w3.org/2001/XMLSchema#"
-WORDS = [
-    *("tea", "Wasser", "été", "水", "\U0001F375", "#", "<a:b>"),
-    *("a\tb", 'say "so"', "back\\slash", "line\nend", "end\r"),
-]
+WORDS = ["tea", "Wasser", "été", "水", "\U0001F375", "#", "<a:b>"]
+WORDS += ["a\tb", 'say "so"', "back\\slash", "line\nend", "end\r"]
 TAGS = ["en", "EN-gb", "de", "zh-Hant-TW", "x-A1"]
 ESCAPES = str.maketrans({"\n": "\\n", "\r": "\\r", '"': '\\"', "\\": "\\\\"})
 
