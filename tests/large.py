@@ -1,12 +1,12 @@
 #!/usr/bin/env python3
 """Writes large documents into the current folder, with what the program has to make of them, known by construction.
 
-    large.py nquads|turtle convert|print|load|faulty
-    large.py lines|long-line|cr-lf|objects|statements|brackets
+    large.py nquads|turtle convert|print|load
+    large.py lines|faulty|long-line|cr-lf|objects|statements|brackets
 
 The first form makes 10^5 statements by a seeded generator, always the same: long texts, escapes, many labels and
 prefixes. `convert` writes the document as data and its canonical lines as stdout; `print` its sorted lines, as the
-command %print shows them; `load` a script that loads, undoes and redoes it; `faulty` puts a faulty line at its end.
+command %print shows them; `load` a script that loads, undoes and redoes it.
 The second form makes documents whose size is their only difficulty.
 """
 import random
@@ -16,7 +16,8 @@ from pathlib import Path
 STATEMENTS = 100_000
 RDF = "http://www.w3.org/1999/02/22-rdf-syntax-ns#"
 XSD = "http://www.w3.org/2001/XMLSchema#"
-WORDS = ["tea", "Wasser", "été", "水", "a\tb", 'say "so"', "back\\slash", "line\nend", "end\r", "\U0001F375", "#", "<a:b>"]
+WORDS = ["tea", "Wasser", "été", "水", "\U0001F375", "#", "<a:b>"]
+WORDS += ["a\tb", 'say "so"', "back\\slash", "line\nend", "end\r"]
 TAGS = ["en", "EN-gb", "de", "zh-Hant-TW", "x-A1"]
 ESCAPES = str.maketrans({"\n": "\\n", "\r": "\\r", '"': '\\"', "\\": "\\\\"})
 
@@ -215,17 +216,12 @@ def large(form, what):
         names = "".join(written(graph[0]) + "\n" for graph in graphs) + f"ok {len(graphs)}\n"
         write("script", f"%load {form}\n{text}\n%end\n%graphs\n%undo\n%graphs\n%redo\n%mark all\n%rollback all\n")
         write("stdout", f"ok +{count} -0\n{names}ok +0 -{count}\nok 0\nok +{count} -0\nok\nok +0 -0\n")
-    elif what == "faulty":
-        write("data", text + "<a:s> <a:p> \n.\n<a:s> <a:p> <a:o> .\n")
-        end = text.count("\n") + (1 if form == "nquads" else 2)
-        write("stdout", "".join(document.lines()) if form == "nquads" else "")
-        write("stderr", f"rdfkeep: refused: Syntax line {end}\n")
 
 
 def size(what):
-    if what == "lines":
+    if what in ("lines", "faulty"):
         text = "".join(f'<a:s> <a:p> "{number:06}" .\n' for number in range(STATEMENTS))
-        write("data", text)
+        write("data", text + ("<a:s> <a:p>\n.\n" if what == "faulty" else ""))
         write("stdout", text)
     elif what == "long-line":
         text = "x" * 1_500_000
