@@ -43,6 +43,18 @@ fn ending(last: Status, refused: bool) -> Status
     }
 }
 
+fn ends_with(stop: bool, refused: bool) -> bool
+    ensures { result ≡ (stop && refused) }
+{
+    stop && refused
+}
+
+fn any_refused(before: bool, now: bool) -> bool
+    ensures { result ≡ (before || now) }
+{
+    before || now
+}
+
 // Runs the commands of a text.
 fn run_text<W: Write>(
     alloc: Global,
@@ -65,12 +77,10 @@ fn run_text<W: Write>(
         if write_answer(writer, &reply).is_err() {
             return Status::WriteFailed;
         }
-        if reply.refused {
-            if stop {
-                return Status::Refused;
-            }
-            refused = true;
+        if ends_with(stop, reply.refused) {
+            return Status::Refused;
         }
+        refused = any_refused(refused, reply.refused);
         rest = after;
     }
     ending(last, refused)
