@@ -11,7 +11,8 @@ use Rattle.rdf_keeper.specs.History.{History, marked, moved, nothing, place_of, 
 use Rattle.rdf_keeper.specs.LineWords.{is_name}
 use Rattle.rdf_keeper.specs.Lines.{raw_lines, upto_last_end}
 use Rattle.rdf_keeper.specs.OneOutput.{AreFull, FirmAnswers, IsWhole}
-use Rattle.rdf_keeper.specs.Request.{Load, blank_limit, quad_from}
+use Rattle.rdf_dataset.specs.Insertion.{quad_from}
+use Rattle.rdf_keeper.specs.Request.{Load, blank_limit}
 use Rattle.rdf_keeper.specs.Runs.{Runs, RunsOver}
 use Rattle.rdf_keeper.specs.Session.{Session, Do, Done, Mark, Refused as RefusedReply, Undo, fresh, now}
 use Rattle.rdf_keeper.specs.declared.fault.KeeperFault.TheVariants.{NoEnd}

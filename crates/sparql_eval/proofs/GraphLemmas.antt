@@ -13,11 +13,10 @@ use Rattle.rdf_terms.specs.declared.quad.GraphName.TheVariants.{Default, Named}
 use Rattle.rdf_terms.specs.declared.term.Term.{Term}
 use Rattle.rdf_dataset.specs.Sorted.{AppendsOnce}
 use Rattle.rdf_dataset.specs.State.{Names, Quads, State, IsEmptyGraph, IsNamed, IsSound, with_graph, without_name}
-use Rattle.rdf_dataset.proofs.SortedLemmas.{tie_same, tie_itself}
 use Rattle.sparql_eval.specs.Graphs.{is_default, is_meant, quads_in, quads_of, same_graph, without_graph, without_name_of}
 use Rattle.sparql_eval.specs.Operations.{added, cleared, copied, dropped}
 use Rattle.sparql_eval.specs.Staging.{emptied, gone}
-use Rattle.sparql_eval.proofs.SetLemmas.{and_second, and_true, but_both, contains-kept, difference-more, difference-nothing, front_nothing, kept_alike, kept_all, kept_none, kept_twice, tie_sym, where_true}
+use Rattle.sparql_eval.proofs.SetLemmas.{and_second, and_true, but_both, contains-kept, difference-more, difference-nothing, front_nothing, kept_alike, kept_all, kept_none, kept_twice, tie_itself, tie_same, tie_sym, where_true}
 use Rattle.sparql_syntax.specs.declared.operation.GraphRefAll.TheVariants as some
 
 -- ---- which graphs
@@ -118,7 +117,7 @@ all_cleared s mid e =
 pub emptied_is_empty : (s : State) (g : GraphName) → IsEmptyGraph (emptied s g) g
 emptied_is_empty s g q h same =
     let out = and_second (contains s.quads q) _ (sym (contains-kept quad_cmp_total quad_cmp-IsAntisymmetric s.quads (λ q. not (same_graph g q.graph)) q) ∙ h) in
-    true≢false (sym (ap not (ap (same_graph g) same ∙ tie_itself graph_cmp_total graph_cmp-IsAntisymmetric g) ) ∙ out)
+    true≢false (sym out ∙ ap not (ap (same_graph g) same ∙ tie_itself graph_cmp_total graph_cmp-IsAntisymmetric g))
 
 abbrev pub gone_each : State → List Term → State
 gone_each s [] = s

@@ -1,3 +1,5 @@
 mod GraphLemmas
+mod LawLemmas
 mod QuadLemmas
+mod ResultLemmas
 mod SetLemmas
