@@ -1,11 +1,11 @@
 -- Laws of the operations.
-use Rattle.std.proofs.Common.{◌≡◌, ℕ, Bool, true, false, ◌||◌, ◌&&◌, not, List, [], ◌∷◌, ◌++◌, map, refl, sym, ap, ◌∙◌, subst, Option, None, Some, Result, Ok, Err, is_ok, if◌then◌else◌}
+use Rattle.std.proofs.Common.{◌≡◌, Bool, true, false, ◌||◌, ◌&&◌, not, List, [], ◌∷◌, ◌++◌, map, refl, sym, ap, ◌∙◌, Result, Ok, Err, is_ok, if◌then◌else◌}
 use mathlib.Core.Bool.{true≢false}
 use Rattle.std.specs.FinSet as set
-use Rattle.std.specs.FinSet.{contains, contains-from_list, contains-insert, contains-items, contains-union, from_list, retain, same_set, union}
+use Rattle.std.specs.FinSet.{contains, contains-from_list, contains-insert, contains-items, contains-union, from_list, same_set}
 use Rattle.std.specs.List.{AllByRecursion, flat_map, list_any}
 use Rattle.std.specs.Ordering.{eq_by_cmp}
-use Rattle.rdf_terms.specs.Order.{graph_cmp, quad_cmp, term_cmp}
+use Rattle.rdf_terms.specs.Order.{quad_cmp, term_cmp}
 use Rattle.rdf_terms.specs.OrderLaws.{graph_cmp_total, graph_cmp-IsAntisymmetric, term_cmp_total, term_cmp-IsAntisymmetric, quad_cmp_total, quad_cmp-IsAntisymmetric}
 use Rattle.rdf_terms.specs.Quad.{QuadParts}
 use Rattle.rdf_terms.specs.declared.quad.GraphName.{GraphName}
@@ -13,21 +13,19 @@ use Rattle.rdf_terms.specs.declared.quad.GraphName.TheVariants.{Default, Named}
 use Rattle.rdf_terms.specs.declared.term.Term.{Term}
 use Rattle.rdf_terms.specs.declared.term.Term.TheVariants.{Iri}
 use Rattle.rdf_dataset.specs.Insertion.{graph_names, names_in, quad_from, with_data}
-use Rattle.rdf_dataset.specs.State.{Names, Quads, State, IsNamed, IsSound, empty_state, with_graph}
+use Rattle.rdf_dataset.specs.State.{Names, Quads, State, IsNamed, IsSound}
 use Rattle.sparql_eval.specs.Graphs.{graph_of, is_there, quad_in, quads_in, quads_of, same_graph, without_graph}
 use Rattle.sparql_eval.specs.Laws.{CopyReads, DropAllEmpties, InsertAgain, MoveIsCopyThenDrop, OneAnswer, SilentChangesNothing, reference}
-use Rattle.sparql_eval.specs.Operations.{after, answer, copied, dropped, go_on, is_silent, moved, obstacle, onto, step, steps, unless}
+use Rattle.sparql_eval.specs.Operations.{after, answer, copied, dropped, go_on, moved, onto, step, unless}
 use Rattle.sparql_eval.specs.declared.fault.ApplyFault.{ApplyFault}
 use Rattle.sparql_eval.specs.declared.fault.ApplyFault.TheVariants.{BlankNumbers, MissingGraph}
 use Rattle.sparql_eval.proofs.GraphLemmas.{default_gone, one_gone}
 use Rattle.sparql_eval.proofs.QuadLemmas.{any_map}
-use Rattle.sparql_eval.proofs.SetLemmas.{and_first, and_second, both_ways, contains-kept, kept_none, tie_itself, tie_same}
-use Rattle.sparql_syntax.specs.Data.{DataParts}
+use Rattle.sparql_eval.proofs.SetLemmas.{and_second, both_ways, contains-kept, kept_none, tie_itself, tie_same}
 use Rattle.sparql_syntax.specs.declared.operation.GraphOrDefault.{GraphOrDefault}
 use Rattle.sparql_syntax.specs.declared.operation.GraphOrDefault.TheVariants as one
 use Rattle.sparql_syntax.specs.declared.operation.GraphRefAll.TheVariants as some
-use Rattle.sparql_syntax.specs.declared.operation.Operation.{Operation}
-use Rattle.sparql_syntax.specs.declared.operation.Operation.TheVariants.{InsertData, Drop, Copy, Move}
+use Rattle.sparql_syntax.specs.declared.operation.Operation.TheVariants.{Drop}
 
 pub one_answer : OneAnswer
 one_answer s t operations fault a b = true≢false (ap is_ok (sym a ∙ b))
@@ -45,7 +43,7 @@ drop_all_empties s silent = λ i. Ok (record {
 -- ---- COPY
 
 -- the state of an answer, or another
-abbrev state_or : State → Result State ApplyFault → State
+abbrev pub state_or : State → Result State ApplyFault → State
 state_or d (Ok t) = t
 state_or d (Err fault) = d
 
@@ -166,7 +164,7 @@ named_there names (Named m) n h a = ap (contains names) (tie_same term_cmp_total
     alone true = refl
     alone false = refl
 
-any_join : (p : Term → Bool) (xs ys : List Term) → list_any p (xs ++ ys) ≡ (list_any p xs || list_any p ys)
+pub any_join : (p : Term → Bool) (xs ys : List Term) → list_any p (xs ++ ys) ≡ (list_any p xs || list_any p ys)
 any_join p [] ys = refl
 any_join p (x ∷ xs) ys = ap (λ b. p x || b) (any_join p xs ys) ∙ assoc (p x) (list_any p xs) (list_any p ys)
   where

@@ -1,13 +1,13 @@
 -- Quads that go and come, one after another.
-use Rattle.std.proofs.Common.{◌≡◌, ℕ, ◌+◌, ◌<◌, Bool, true, false, ◌||◌, ◌&&◌, not, List, [], ◌∷◌, ◌++◌, length, drop, get_or, map, refl, sym, ap, ◌∙◌, subst, Option, Some, None, IsTrue, if◌then◌else◌}
+use Rattle.std.proofs.Common.{◌≡◌, ℕ, ◌+◌, ◌<◌, Bool, true, false, ◌||◌, ◌&&◌, not, List, [], ◌∷◌, length, drop, get_or, map, refl, sym, ap, ◌∙◌, subst, Option, Some, None, if◌then◌else◌}
 use mathlib.Core.Bool.{true≢false}
 use Rattle.std.specs.FinSet as set
-use Rattle.std.specs.FinSet.{contains, contains-from_list, contains-insert, contains-union, difference, from_list, insert, remove, retain, same_set, union}
-use Rattle.std.specs.List.{AllByRecursion, flat_map, list_any}
+use Rattle.std.specs.FinSet.{contains, contains-from_list, contains-insert, contains-union, from_list, retain, same_set, union}
+use Rattle.std.specs.List.{flat_map, list_any}
 use Rattle.std.specs.Ordering.{eq_by_cmp}
 use Rattle.rdf_terms.specs.Below.{AreBelow, IsGraphBelow, IsQuadBelow}
-use Rattle.rdf_terms.specs.Order.{graph_cmp, quad_cmp, term_cmp}
-use Rattle.rdf_terms.specs.OrderLaws.{graph_cmp_total, graph_cmp-IsAntisymmetric, term_cmp_total, term_cmp-IsAntisymmetric, quad_cmp_total, quad_cmp-IsAntisymmetric}
+use Rattle.rdf_terms.specs.Order.{quad_cmp, term_cmp}
+use Rattle.rdf_terms.specs.OrderLaws.{term_cmp_total, term_cmp-IsAntisymmetric, quad_cmp_total, quad_cmp-IsAntisymmetric}
 use Rattle.rdf_terms.specs.Quad.{QuadParts, has_right_kinds, is_quad, may_name_graph}
 use Rattle.rdf_terms.specs.Term.{is_iri_term, is_literal_term}
 use Rattle.rdf_terms.specs.declared.quad.GraphName.{GraphName}
@@ -17,10 +17,10 @@ use Rattle.rdf_dataset.specs.Insertion.{names_in, with_all}
 use Rattle.rdf_dataset.specs.Sorted.{AppendsOnce}
 use Rattle.rdf_dataset.specs.State.{Names, Quads, State, IsSound, matches, with_graph, with_name, with_quad, without_quad}
 use Rattle.rdf_dataset.proofs.InsertionLemmas.{with_all-more, with_all-nothing}
-use Rattle.sparql_eval.specs.Graphs.{quad_in, quads_in, quads_of, same_graph, without_graph}
+use Rattle.sparql_eval.specs.Graphs.{quad_in, quads_in, quads_of, same_graph}
 use Rattle.sparql_eval.specs.Operations.{added, without_all}
 use Rattle.sparql_eval.specs.Staging.{emptied}
-use Rattle.sparql_eval.proofs.SetLemmas.{and_first, and_second, and_true, any_item, both_ways, contains-kept, difference-kept, difference-more, difference-nothing, each_item, front_nothing, next_of, or_false}
+use Rattle.sparql_eval.proofs.SetLemmas.{and_first, and_second, and_true, any_item, contains-kept, difference-kept, difference-more, difference-nothing, each_item, front_nothing, next_of, or_false}
 
 -- ---- quads go
 

@@ -1,5 +1,5 @@
 //! Laws over the definitions alone.
-ghost use Rattle.sparql_eval.specs.Laws.{CopyReads, DropAllEmpties, InsertAgain, MoveIsCopyThenDrop, OneAnswer, SilentChangesNothing};
+ghost use Rattle.sparql_eval.specs.Laws.{CopyReads, DropAllEmpties, InsertAgain, MoveIsCopyThenDrop, OneAnswer, OthersStay, SilentChangesNothing};
 
 /// A request leads to one state or is refused, never both.
 pub fn one_answer()
@@ -29,4 +29,9 @@ pub fn move_is_copy_then_drop()
 /// INSERT DATA of what is there changes at most the counter.
 pub fn insert_again()
     ensures { InsertAgain }
+{}
+
+/// Each operation leaves all other graphs as they were.
+pub fn others_stay()
+    ensures { OthersStay }
 {}

@@ -1,4 +1,4 @@
-use Rattle.std.proofs.Common.{◌≡◌, ◌∙◌, ap, refl, sym}
+use Rattle.std.proofs.Common.{◌∙◌, ap}
 use Rattle.std.proofs.lemmas.List.{drop_all}
 use Rattle.rdf_dataset.specs.Staging.{Staging}
 use Rattle.sparql_eval.proofs.QuadLemmas.{removing_ends, removing_goes_on}
