@@ -11,7 +11,8 @@ use Rattle.rdf_session.specs.History.{History, marked, moved, nothing, place_of,
 use Rattle.rdf_keeper.specs.Script.LineWords.{is_name}
 use Rattle.rdf_keeper.specs.Script.Lines.{raw_lines, upto_last_end}
 use Rattle.rdf_keeper.specs.Script.OneOutput.{AreFull, FirmAnswers, IsWhole}
-use Rattle.rdf_session.specs.Request.{Load, blank_limit, quad_from}
+use Rattle.rdf_dataset.specs.Insertion.{quad_from}
+use Rattle.rdf_session.specs.Request.{Load, blank_limit}
 use Rattle.rdf_keeper.specs.Script.Runs.{Runs, RunsOver}
 use Rattle.rdf_session.specs.Session.{Session, Do, Done, Mark, Refused as RefusedReply, Undo, fresh, now}
 use Rattle.rdf_session.specs.declared.fault.KeeperFault.TheVariants.{NoEnd}

@@ -1,11 +1,11 @@
 //! Loads: a document's quads come in, its blank nodes numbered on from the counter.
-ghost use Rattle.std.specs.Prelude.{◌≡◌, ◌+◌, ◌<◌, ◌≤◌, ◌^◌, min, MatchResult, None};
+ghost use Rattle.std.specs.Prelude.{◌≡◌, ◌+◌, min, MatchResult, None};
 ghost use Rattle.std.specs.Option.{option_copied};
 ghost use Rattle.rdf_dataset.specs.State.{last_number};
 ghost use Rattle.rdf_lines.specs.Document as lines;
 ghost use Rattle.rdf_turtle.specs.Document as turtle;
 ghost use Rattle.rdf_session.specs.Documents.{IsDocument};
-ghost use Rattle.rdf_session.specs.Request.{blank_limit, graph_from, graph_limit, quad_from, quad_limit, term_from, term_limit};
+ghost use Rattle.rdf_session.specs.Request.{blank_limit, graph_limit, quad_limit, term_limit};
 ghost use Rattle.rdf_session.specs.Inside.Staging.{Stages, TellsFault, TellsLineFault, TellsTurtleFault, turtle_refusal};
 
 use crate::fault::KeeperFault;
@@ -57,41 +57,6 @@ fn blank_limit(quads: &[Quad]) -> u64
         limit = quad_limit(quad).max(limit);
     }
     limit
-}
-
-fn term_from(first: u64, term: Term) -> Term
-    requires { first + term_limit term ≤ last_number }
-    ensures { result ≡ term_from first term }
-{
-    match term {
-        Term::Blank(number) => Term::Blank(first + number),
-        Term::Iri(iri) => Term::Iri(iri),
-        Term::Literal(literal) => Term::Literal(literal),
-    }
-}
-
-fn graph_from(first: u64, graph: GraphName) -> GraphName
-    requires { first + graph_limit graph ≤ last_number }
-    ensures { result ≡ graph_from first graph }
-{
-    match graph {
-        GraphName::Default => GraphName::Default,
-        GraphName::Named(name) => GraphName::Named(term_from(first, name)),
-    }
-}
-
-fn quad_from(first: u64, quad: Quad) -> Quad
-    requires { first + quad_limit quad ≤ last_number }
-    ensures { result ≡ quad_from first quad }
-{
-    let (graph, subject, predicate, object) = quad.into_parts();
-    let moved = Quad::new(
-        graph_from(first, graph),
-        term_from(first, subject),
-        term_from(first, predicate),
-        term_from(first, object),
-    );
-    moved.unwrap()
 }
 
 // The quads of a text of lines.
@@ -160,12 +125,13 @@ pub(crate) fn read(
 pub(crate) fn stage(alloc: Global, dataset: &Dataset, quads: Vec<Quad>) -> Result<Net, KeeperFault>
     ensures { Stages dataset.now quads.items result }
 {
-    let mut staged = Staged::over(alloc, dataset);
-    let Some(first) = staged.take_blanks(blank_limit(quads.as_slice())) else {
+    let blanks = blank_limit(quads.as_slice());
+    if blanks > LAST_NUMBER {
         return Err(KeeperFault::BlankNumbers);
-    };
-    for quad in quads {
-        staged.insert(quad_from(first, quad))?;
     }
-    Ok(staged.into_net()?)
+    let mut staged = Staged::over(alloc, dataset);
+    match staged.insert_data(quads, blanks)? {
+        None => Err(KeeperFault::BlankNumbers),
+        Some(_) => Ok(staged.into_net()?),
+    }
 }

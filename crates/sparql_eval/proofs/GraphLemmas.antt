@@ -1,23 +1,22 @@
 -- Graphs that are emptied, dropped, copied and moved.
-use Rattle.std.proofs.Common.{◌≡◌, ℕ, Bool, true, false, ◌||◌, ◌&&◌, not, List, [], ◌∷◌, ◌++◌, refl, sym, ap, ◌∙◌, subst, IsTrue}
+use Rattle.std.proofs.Common.{◌≡◌, Bool, true, false, ◌||◌, ◌&&◌, not, List, [], ◌∷◌, refl, sym, ap, ◌∙◌}
 use mathlib.Core.Bool.{true≢false}
 use Rattle.std.specs.FinSet as set
 use Rattle.std.specs.FinSet.{contains, contains-difference, contains-from_list, difference, from_list, remove, retain, same_set, union}
 use Rattle.std.specs.List.{list_any}
 use Rattle.std.specs.Ordering.{eq_by_cmp}
-use Rattle.rdf_terms.specs.Order.{graph_cmp, quad_cmp, term_cmp}
+use Rattle.rdf_terms.specs.Order.{term_cmp}
 use Rattle.rdf_terms.specs.OrderLaws.{graph_cmp_total, graph_cmp-IsAntisymmetric, term_cmp_total, term_cmp-IsAntisymmetric, quad_cmp_total, quad_cmp-IsAntisymmetric}
 use Rattle.rdf_terms.specs.Quad.{QuadParts}
 use Rattle.rdf_terms.specs.declared.quad.GraphName.{GraphName}
 use Rattle.rdf_terms.specs.declared.quad.GraphName.TheVariants.{Default, Named}
 use Rattle.rdf_terms.specs.declared.term.Term.{Term}
 use Rattle.rdf_dataset.specs.Sorted.{AppendsOnce}
-use Rattle.rdf_dataset.specs.State.{Names, Quads, State, IsEmptyGraph, IsNamed, IsSound, with_graph, without_name}
-use Rattle.rdf_dataset.proofs.SortedLemmas.{tie_same, tie_itself}
-use Rattle.sparql_eval.specs.Graphs.{is_default, is_meant, quads_in, quads_of, same_graph, without_graph, without_name_of}
+use Rattle.rdf_dataset.specs.State.{Names, State, IsEmptyGraph, IsNamed, IsSound, with_graph}
+use Rattle.sparql_eval.specs.Graphs.{is_default, is_meant, quads_in, same_graph, without_graph}
 use Rattle.sparql_eval.specs.Operations.{added, cleared, copied, dropped}
 use Rattle.sparql_eval.specs.Staging.{emptied, gone}
-use Rattle.sparql_eval.proofs.SetLemmas.{and_second, and_true, but_both, contains-kept, difference-more, difference-nothing, front_nothing, kept_alike, kept_all, kept_none, kept_twice, tie_sym, where_true}
+use Rattle.sparql_eval.proofs.SetLemmas.{and_second, contains-kept, difference-more, difference-nothing, front_nothing, kept_alike, kept_all, kept_twice, tie_itself, tie_same, tie_sym}
 use Rattle.sparql_syntax.specs.declared.operation.GraphRefAll.TheVariants as some
 
 -- ---- which graphs
@@ -118,7 +117,7 @@ all_cleared s mid e =
 pub emptied_is_empty : (s : State) (g : GraphName) → IsEmptyGraph (emptied s g) g
 emptied_is_empty s g q h same =
     let out = and_second (contains s.quads q) _ (sym (contains-kept quad_cmp_total quad_cmp-IsAntisymmetric s.quads (λ q. not (same_graph g q.graph)) q) ∙ h) in
-    true≢false (sym (ap not (ap (same_graph g) same ∙ tie_itself graph_cmp_total graph_cmp-IsAntisymmetric g) ) ∙ out)
+    true≢false (sym out ∙ ap not (ap (same_graph g) same ∙ tie_itself graph_cmp_total graph_cmp-IsAntisymmetric g))
 
 abbrev pub gone_each : State → List Term → State
 gone_each s [] = s

@@ -1,3 +1,6 @@
 mod GraphLemmas
+mod LawLemmas
+mod OtherLemmas
 mod QuadLemmas
+mod ResultLemmas
 mod SetLemmas

@@ -1,13 +1,13 @@
 -- Quads that go and come, one after another.
-use Rattle.std.proofs.Common.{◌≡◌, ℕ, ◌+◌, ◌<◌, Bool, true, false, ◌||◌, ◌&&◌, not, List, [], ◌∷◌, ◌++◌, length, drop, get_or, map, refl, sym, ap, ◌∙◌, subst, Option, Some, None, IsTrue, if◌then◌else◌}
+use Rattle.std.proofs.Common.{◌≡◌, ℕ, ◌+◌, ◌<◌, Bool, true, false, ◌||◌, ◌&&◌, not, List, [], ◌∷◌, length, drop, get_or, map, refl, sym, ap, ◌∙◌, subst, Option, Some, None, if◌then◌else◌}
 use mathlib.Core.Bool.{true≢false}
 use Rattle.std.specs.FinSet as set
-use Rattle.std.specs.FinSet.{contains, contains-from_list, contains-insert, contains-union, difference, from_list, insert, remove, retain, same_set, union}
-use Rattle.std.specs.List.{AllByRecursion, flat_map, list_any}
+use Rattle.std.specs.FinSet.{contains, contains-from_list, contains-insert, contains-union, from_list, retain, same_set, union}
+use Rattle.std.specs.List.{flat_map, list_any}
 use Rattle.std.specs.Ordering.{eq_by_cmp}
 use Rattle.rdf_terms.specs.Below.{AreBelow, IsGraphBelow, IsQuadBelow}
-use Rattle.rdf_terms.specs.Order.{graph_cmp, quad_cmp, term_cmp}
-use Rattle.rdf_terms.specs.OrderLaws.{graph_cmp_total, graph_cmp-IsAntisymmetric, term_cmp_total, term_cmp-IsAntisymmetric, quad_cmp_total, quad_cmp-IsAntisymmetric}
+use Rattle.rdf_terms.specs.Order.{quad_cmp, term_cmp}
+use Rattle.rdf_terms.specs.OrderLaws.{term_cmp_total, term_cmp-IsAntisymmetric, quad_cmp_total, quad_cmp-IsAntisymmetric}
 use Rattle.rdf_terms.specs.Quad.{QuadParts, has_right_kinds, is_quad, may_name_graph}
 use Rattle.rdf_terms.specs.Term.{is_iri_term, is_literal_term}
 use Rattle.rdf_terms.specs.declared.quad.GraphName.{GraphName}
@@ -17,11 +17,10 @@ use Rattle.rdf_dataset.specs.Insertion.{names_in, with_all}
 use Rattle.rdf_dataset.specs.Sorted.{AppendsOnce}
 use Rattle.rdf_dataset.specs.State.{Names, Quads, State, IsSound, matches, with_graph, with_name, with_quad, without_quad}
 use Rattle.rdf_dataset.proofs.InsertionLemmas.{with_all-more, with_all-nothing}
-use Rattle.rdf_dataset.proofs.SortedLemmas.{tie_same, tie_itself}
-use Rattle.sparql_eval.specs.Graphs.{quad_in, quads_in, quads_of, same_graph, without_graph}
+use Rattle.sparql_eval.specs.Graphs.{quad_in, quads_in, quads_of, same_graph}
 use Rattle.sparql_eval.specs.Operations.{added, without_all}
 use Rattle.sparql_eval.specs.Staging.{emptied}
-use Rattle.sparql_eval.proofs.SetLemmas.{and_first, and_second, and_true, any_item, both_ways, contains-kept, difference-kept, difference-more, difference-nothing, each_item, front_nothing, next_of, or_false}
+use Rattle.sparql_eval.proofs.SetLemmas.{and_first, and_second, and_true, any_item, contains-kept, difference-kept, difference-more, difference-nothing, each_item, front_nothing, next_of, or_false}
 
 -- ---- quads go
 
@@ -103,7 +102,7 @@ names_come names (Named h) qs = same_set term_cmp_total term_cmp-IsAntisymmetric
     ∙ or_within (eq_by_cmp term_cmp n h) (contains names n) _ (names_there h qs n)
     ∙ sym (contains-insert term_cmp_total names h n))
 
-any_map : (p : QuadParts → Bool) (f : QuadParts → QuadParts) (qs : List QuadParts) → list_any p (map f qs) ≡ list_any (λ q. p (f q)) qs
+pub any_map : (p : QuadParts → Bool) (f : QuadParts → QuadParts) (qs : List QuadParts) → list_any p (map f qs) ≡ list_any (λ q. p (f q)) qs
 any_map p f [] = refl
 any_map p f (q ∷ qs) = ap (λ b. p (f q) || b) (any_map p f qs)
 
@@ -160,3 +159,10 @@ pub adding_below : (s now : State) (g h : GraphName) (rest more : List QuadParts
 adding_below s now g h rest more q moved a e b m =
     let below = (subst (AreBelow s.next) e a.below).0 in
     subst (λ n. IsQuadBelow n moved) (sym a.counter) (subst (IsQuadBelow s.next) (sym m) (record { graph = b; subject = below.subject; predicate = below.predicate; object = below.object }))
+
+-- and the name of the graph comes
+pub name_comes : (now new t : State) (h : GraphName) (n n' : Term) → named now h ≡ t → h ≡ Named n → n' ≡ n → new ≡ with_name now n' → new ≡ t
+name_comes now new t h n n' e is same w = w ∙ ap (with_name now) same ∙ ap (named now) (sym is) ∙ e
+
+pub no_name_comes : (now t : State) (h : GraphName) → named now h ≡ t → h ≡ Default → now ≡ t
+no_name_comes now t h e is = ap (named now) (sym is) ∙ e

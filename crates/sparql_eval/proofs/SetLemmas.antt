@@ -1,15 +1,13 @@
 -- Sets that lose and gain the items of a list.
-use Rattle.std.proofs.Common.{◌≡◌, ℕ, ◌+◌, ◌<◌, ◌≤◌, Bool, true, false, ◌||◌, ◌&&◌, not, List, [], ◌∷◌, ◌++◌, length, drop, get_or, refl, sym, ap, ◌∙◌}
+use Rattle.std.proofs.Common.{◌≡◌, ℕ, ◌+◌, ◌<◌, Bool, true, false, ◌||◌, ◌&&◌, not, List, [], ◌∷◌, ◌++◌, length, drop, get_or, refl, sym, ap, ◌∙◌}
 use mathlib.Core.Bool.{true≢false}
-use Rattle.std.proofs.lemmas.List.{drop_more, drop_all}
+use Rattle.std.proofs.lemmas.List.{drop_more}
 use Rattle.std.specs.declared.cmp.Ordering.{Ordering}
-use Rattle.std.specs.Cmp.{IsTotalOrder, tied_itself}
+use Rattle.std.specs.Cmp.{Equal-is, IsTotalOrder, tied_itself}
 use Rattle.std.specs.FinSet as set
 use Rattle.std.specs.FinSet.{IsAntisymmetric, contains, contains-difference, contains-empty, contains-from_list, contains-items, contains-remove, contains-retain, difference, from_list, remove, retain, same_set}
 use Rattle.std.specs.List.{AllByRecursion, list_any}
 use Rattle.std.specs.Ordering.{eq_by_cmp, is_eq}
-use Rattle.rdf_dataset.specs.Sorted.{AppendsOnce}
-use Rattle.rdf_dataset.proofs.SortedLemmas.{tie_same, tie_itself}
 
 -- ---- truth
 
@@ -65,11 +63,17 @@ pub front_nothing : {X : Type 0} (old new found : List X) → old ≡ [] → new
 front_nothing old new found e f = f ∙ ap (λ l. l ++ found) e
 
 module _ {K : Type 0} {R : K → K → Ordering} (o : IsTotalOrder R) (apart : IsAntisymmetric R) where
+  pub tie_itself : (x : K) → eq_by_cmp R x x ≡ true
+  tie_itself x = ap is_eq (tied_itself o x)
+
+  pub tie_same : (x y : K) → eq_by_cmp R x y ≡ true → x ≡ y
+  tie_same x y t = apart x y ((Equal-is (R x y)).0 t)
+
   pub tie_sym : (x y : K) → eq_by_cmp R x y ≡ eq_by_cmp R y x
   tie_sym x y = both_ways _ _ (turned x y) (turned y x)
     where
       turned : (x y : K) → eq_by_cmp R x y ≡ true → eq_by_cmp R y x ≡ true
-      turned x y t = ap (λ z. eq_by_cmp R y z) (tie_same o apart x y t) ∙ tie_itself o apart y
+      turned x y t = ap (λ z. eq_by_cmp R y z) (tie_same x y t) ∙ tie_itself y
 
   pub contains-kept : (s : set.FinSet R) (p : K → Bool) (x : K) → contains (retain s p) x ≡ (contains s x && p x)
   contains-kept s p x = contains-retain s p x (λ y t. ap p (sym (apart x y t)))
@@ -118,7 +122,7 @@ module _ {K : Type 0} {R : K → K → Ordering} (o : IsTotalOrder R) (apart : I
   any_at p x [] h a = a
   any_at p x (y ∷ ys) h a =
       elim (eq_by_cmp R x y) as (λ t. eq_by_cmp R x y ≡ t → (t || list_any (eq_by_cmp R x) ys) ≡ true → (p y || list_any p ys) ≡ true) [
-        | true ↦ λ t _. ap (λ b. b || list_any p ys) (ap p (sym (tie_same o apart x y t)) ∙ h)
+        | true ↦ λ t _. ap (λ b. b || list_any p ys) (ap p (sym (tie_same x y t)) ∙ h)
         | false ↦ λ _ a. later (p y) (any_at p x ys h a)
       ] refl a
     where
@@ -130,7 +134,7 @@ module _ {K : Type 0} {R : K → K → Ordering} (o : IsTotalOrder R) (apart : I
   any_of p [] ys within h = absurd (true≢false (sym h))
   any_of p (x ∷ xs) ys within h =
       elim (p x) as (λ t. p x ≡ t → (t || list_any p xs) ≡ true → list_any p ys ≡ true) [
-        | true ↦ λ t _. any_at p x ys t (within x (ap (λ b. b || list_any (eq_by_cmp R x) xs) (tie_itself o apart x)))
+        | true ↦ λ t _. any_at p x ys t (within x (ap (λ b. b || list_any (eq_by_cmp R x) xs) (tie_itself x)))
         | false ↦ λ _ h. any_of p xs ys (λ z a. within z (also (eq_by_cmp R z x) a)) h
       ] refl h
     where
@@ -147,7 +151,7 @@ module _ {K : Type 0} {R : K → K → Ordering} (o : IsTotalOrder R) (apart : I
   -- what holds of each member holds of each item
   pub each_item : (P : K → Type 0) (xs : List K) → ((x : K) → list_any (eq_by_cmp R x) xs ≡ true → P x) → AllByRecursion P xs
   each_item P [] h = tt
-  each_item P (x ∷ xs) h = (h x (ap (λ b. b || list_any (eq_by_cmp R x) xs) (tie_itself o apart x)), each_item P xs (λ y a. h y (also (eq_by_cmp R y x) a)))
+  each_item P (x ∷ xs) h = (h x (ap (λ b. b || list_any (eq_by_cmp R x) xs) (tie_itself x)), each_item P xs (λ y a. h y (also (eq_by_cmp R y x) a)))
     where
       also : (b : Bool) {c : Bool} → c ≡ true → (b || c) ≡ true
       also true e = refl

@@ -1,8 +1,8 @@
 -- The graphs that an operation names, and their triples (SPARQL 1.1 Update, sections 3 and 4).
-use Rattle.std.specs.Prelude.{Bool, true, false, not, ◌&&◌, List, [], ◌∷◌, map}
+use Rattle.std.specs.Prelude.{Bool, true, false, not, map}
 use Rattle.std.specs.FinSet as set
 use Rattle.std.specs.Ordering.{eq_by_cmp}
-use Rattle.rdf_terms.specs.Order.{graph_cmp, quad_cmp}
+use Rattle.rdf_terms.specs.Order.{graph_cmp}
 use Rattle.rdf_terms.specs.Quad.{QuadParts}
 use Rattle.rdf_terms.specs.declared.quad.GraphName.{GraphName}
 use Rattle.rdf_terms.specs.declared.quad.GraphName.TheVariants as name

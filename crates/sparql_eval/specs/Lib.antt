@@ -1,4 +1,5 @@
 pub mod Faults
 pub mod Graphs
+pub mod Laws
 pub mod Operations
 pub mod Staging

@@ -1,5 +1,5 @@
 -- What an operation makes of a state, or why it is refused (SPARQL 1.1 Update, sections 3.1, 3.2 and 4).
-use Rattle.std.specs.Prelude.{◌≡◌, ℕ, ◌+◌, Bool, true, false, not, nat_lt, List, [], ◌∷◌, Option, None, Some, Result, Ok, Err, if◌then◌else◌}
+use Rattle.std.specs.Prelude.{◌≡◌, ◌+◌, Bool, false, not, nat_lt, List, [], ◌∷◌, Option, None, Some, Result, Ok, Err, if◌then◌else◌}
 use Rattle.std.specs.FinSet as set
 use Rattle.rdf_terms.specs.Quad.{QuadParts}
 use Rattle.rdf_terms.specs.declared.quad.GraphName.{GraphName}
@@ -63,7 +63,7 @@ onto g h s t = if same_graph g h then s else t
 
 -- what an operation leaves where nothing stands against it
 abbrev pub after : State → Operation → State
-after s (InsertData data) = with_data s data.quads data.blanks
+after s (InsertData brought) = with_data s brought.quads brought.blanks
 after s (DeleteData quads) = without_all s quads
 after s (Create silent graph) = with_name s (Iri graph)
 after s (Clear silent graphs) = cleared s graphs
@@ -87,7 +87,7 @@ missing_of s some.All = None
 -- what stands against an operation
 abbrev pub obstacle : State → Operation → Option ApplyFault
 -- the counter goes no further than the last number
-obstacle s (InsertData data) = unless (not (nat_lt last_number (s.next + data.blanks))) BlankNumbers
+obstacle s (InsertData brought) = unless (not (nat_lt last_number (s.next + brought.blanks))) BlankNumbers
 obstacle s (DeleteData quads) = None
 obstacle s (Create silent graph) = unless (not (set.contains s.names (Iri graph))) GraphExists
 obstacle s (Clear silent graphs) = missing_of s graphs
@@ -98,7 +98,7 @@ obstacle s (Add silent from to) = unless (is_there s (graph_of from)) MissingGra
 
 -- with SILENT an operation that something stands against changes nothing
 abbrev pub is_silent : Operation → Bool
-is_silent (InsertData data) = false
+is_silent (InsertData brought) = false
 is_silent (DeleteData quads) = false
 is_silent (Create silent graph) = silent
 is_silent (Clear silent graphs) = silent

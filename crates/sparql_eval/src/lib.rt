@@ -1,11 +1,16 @@
 //! What requests of SPARQL 1.1 Update do to a dataset (SPARQL 1.1 Update, sections 3 and 4).
 #![tactic(auto)]
 
-mod apply;
 mod fault;
 mod graphs;
+mod laws;
 mod operations;
 mod quads;
+mod request;
 
-pub use apply::apply;
 pub use fault::ApplyFault;
+pub use laws::{
+    copy_reads, drop_all_empties, insert_again, move_is_copy_then_drop, one_answer,
+    others_stay, silent_changes_nothing,
+};
+pub use request::apply;

@@ -109,15 +109,15 @@ fn copies(alloc: Global, quads: &[Quad]) -> Result<Vec<Quad>, NoMemory>
 
 fn insert_data<D: Source>(
     alloc: Global,
-    data: &Data,
+    inserted: &Data,
     view: &mut Staged<'_, D>,
 ) -> Result<(), NoMemory>
-    requires room { view.old.now.next + data.now.blanks ≤ last_number }
-    ensures ok { OnOk result (view.new.now ≡ with_data view.old.now data.now.quads data.now.blanks) }
+    requires room { view.old.now.next + inserted.now.blanks ≤ last_number }
+    ensures ok { OnOk result (view.new.now ≡ with_data view.old.now inserted.now.quads inserted.now.blanks) }
     ensures beneath { view.new.under ≡ view.old.under }
 {
-    let quads = copies(alloc, data.quads())?;
-    let first = view.insert_data(quads, data.blanks())?;
+    let quads = copies(alloc, inserted.quads())?;
+    let first = view.insert_data(quads, inserted.blanks())?;
     prove!(first.is_some());
     Ok(())
 }

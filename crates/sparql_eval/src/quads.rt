@@ -74,8 +74,11 @@ pub(crate) fn add_graph<D: Source>(
     for quad in found {
         view.insert(quad_in(to.copy()?, quad))?;
     }
-    if let GraphName::Named(name) = to {
-        view.add_name(name.copy()?)?;
+    match to {
+        GraphName::Default => Ok(()),
+        GraphName::Named(name) => {
+            view.add_name(name.copy()?)?;
+            Ok(())
+        }
     }
-    Ok(())
 }

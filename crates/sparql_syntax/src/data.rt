@@ -56,7 +56,7 @@ impl Data {
 /// What DELETE DATA takes away: quads without blank nodes, in the order of the text.
 #[derive(Debug, Drop)]
 pub struct GroundData {
-    quads: Items<Quad>,
+    deleted: Items<Quad>,
 }
 
 impl Model for GroundData {
@@ -70,18 +70,18 @@ impl Model for GroundData {
 
     ghost coded = { coded_list coded_quad };
 
-    ghost view = { λ d. d.quads };
+    ghost view = { λ d. d.deleted };
 
-    ghost invariant = { λ d. AreBelow 0 d.quads };
+    ghost invariant = { λ d. AreBelow 0 d.deleted };
 }
 
 impl GroundData {
     /// These quads, of which none has a blank node. It takes no memory.
-    pub fn new(quads: Items<Quad>) -> GroundData
-        requires { AreBelow 0 quads }
-        ensures { result ≡ quads }
+    pub fn new(deleted: Items<Quad>) -> GroundData
+        requires { AreBelow 0 deleted }
+        ensures { result ≡ deleted }
     {
-        GroundData { quads }
+        GroundData { deleted }
     }
 
     /// The quads in order.
@@ -89,6 +89,6 @@ impl GroundData {
         ensures value { result.now ≡ self.now }
         ensures ground { AreBelow 0 self.now }
     {
-        self.quads.as_slice()
+        self.deleted.as_slice()
     }
 }

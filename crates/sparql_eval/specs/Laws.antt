@@ -1,0 +1,68 @@
+-- Laws of the operations (SPARQL 1.1 Update, sections 3.1 and 3.2).
+use Rattle.std.specs.Prelude.{◌≡◌, Bool, true, false, List, map, Some, Ok, Err}
+use Rattle.std.specs.FinSet as set
+use Rattle.std.specs.List.{AllByRecursion, list_any}
+use Rattle.rdf_terms.specs.Quad.{QuadParts}
+use Rattle.rdf_terms.specs.declared.quad.GraphName.{GraphName}
+use Rattle.rdf_terms.specs.declared.quad.GraphName.TheVariants.{Named}
+use Rattle.rdf_terms.specs.declared.term.Term.TheVariants.{Iri}
+use Rattle.rdf_dataset.specs.Insertion.{quad_from}
+use Rattle.rdf_dataset.specs.State.{State, IsSound, empty_state}
+use Rattle.sparql_eval.specs.Graphs.{graph_of, is_meant, is_there, quad_in, quads_of, same_graph}
+use Rattle.sparql_eval.specs.Operations.{Leads, go_on, is_silent, obstacle, step, steps}
+use Rattle.sparql_eval.specs.declared.fault.ApplyFault.{ApplyFault}
+use Rattle.sparql_syntax.specs.Data.{DataParts}
+use Rattle.sparql_syntax.specs.declared.operation.GraphOrDefault.{GraphOrDefault}
+use Rattle.sparql_syntax.specs.declared.operation.GraphOrDefault.TheVariants as one
+use Rattle.sparql_syntax.specs.declared.operation.GraphRefAll.{GraphRefAll}
+use Rattle.sparql_syntax.specs.declared.operation.GraphRefAll.TheVariants as some
+use Rattle.sparql_syntax.specs.declared.operation.Operation.{Operation}
+use Rattle.sparql_syntax.specs.declared.operation.Operation.TheVariants.{InsertData, DeleteData, Create, Clear, Drop, Copy, Move, Add}
+
+-- a request leads to a state or is refused, never both
+abbrev pub OneAnswer : Type 0
+OneAnswer = (s t : State) (operations : List Operation) (fault : ApplyFault) → steps s operations ≡ Ok t → ¬ (steps s operations ≡ Err fault)
+
+-- a SILENT operation that something stands against changes nothing
+abbrev pub SilentChangesNothing : Type 0
+SilentChangesNothing = (s : State) (operation : Operation) (fault : ApplyFault) → is_silent operation ≡ true → obstacle s operation ≡ Some fault → Leads s operation s
+
+-- DROP ALL leaves no quad and no name, and the counter as it was
+abbrev pub DropAllEmpties : Type 0
+DropAllEmpties = (s : State) (silent : Bool) → Leads s (Drop silent some.All) (empty_state s.next)
+
+-- after COPY the second graph has just the triples of the first
+abbrev pub CopyReads : Type 0
+CopyReads = (s t : State) (silent : Bool) (from to : GraphOrDefault) (q : QuadParts) → is_there s (graph_of from) ≡ true → Leads s (Copy silent from to) t
+    → set.contains t.quads (quad_in (graph_of to) q) ≡ set.contains s.quads (quad_in (graph_of from) q)
+
+-- the graph, as DROP names it
+abbrev pub reference : GraphOrDefault → GraphRefAll
+reference one.Default = some.Default
+reference (one.Graph iri) = some.Graph iri
+
+-- MOVE is COPY and then DROP of the first graph, where it is there and not the second
+abbrev pub MoveIsCopyThenDrop : Type 0
+MoveIsCopyThenDrop = (s : State) (silent : Bool) (from to : GraphOrDefault) → is_there s (graph_of from) ≡ true → same_graph (graph_of from) (graph_of to) ≡ false
+    → step s (Move silent from to) ≡ go_on (step s (Copy silent from to)) (λ t. step t (Drop silent (reference from)))
+
+-- INSERT DATA of quads that are there changes at most the counter
+abbrev pub InsertAgain : Type 0
+InsertAgain = (s t : State) (brought : DataParts) → IsSound s → AllByRecursion (λ q. set.contains s.quads q ≡ true) (map (quad_from s.next) brought.quads)
+    → Leads s (InsertData brought) t → (t.quads ≡ s.quads) × (t.names ≡ s.names)
+
+-- the graphs that an operation may change
+abbrev pub writes : State → Operation → GraphName → Bool
+writes s (InsertData brought) g = list_any (λ q. same_graph g q.graph) (map (quad_from s.next) brought.quads)
+writes s (DeleteData quads) g = list_any (λ q. same_graph g q.graph) quads
+writes s (Create silent graph) g = same_graph (Named (Iri graph)) g
+writes s (Clear silent graphs) g = is_meant graphs g
+writes s (Drop silent graphs) g = is_meant graphs g
+writes s (Copy silent from to) g = same_graph (graph_of to) g
+writes s (Move silent from to) g = same_graph (graph_of from) g || same_graph (graph_of to) g
+writes s (Add silent from to) g = same_graph (graph_of to) g
+
+-- each operation leaves all other graphs as they were: their triples, and whether they are there
+abbrev pub OthersStay : Type 0
+OthersStay = (s t : State) (operation : Operation) (g : GraphName) → Leads s operation t → writes s operation g ≡ false
+    → (quads_of t.quads g ≡ quads_of s.quads g) × (is_there t g ≡ is_there s g)
