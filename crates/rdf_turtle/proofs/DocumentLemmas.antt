@@ -1,11 +1,8 @@
 -- A text says one thing: the quads of a document, or a fault.
-use Rattle.std.proofs.Common.{◌≡◌, ◌≢◌, zero, cond, ok_or, ◌<◌, ◌+◌, ◌⊎◌, inl, inr, ℕ, suc, Bool, true, false, List, [], ◌∷◌, ◌++◌, length, Option, Some, None, Result, Ok, Err, refl, sym, ap, subst, ◌∙◌, append_assoc, length-append, arith}
+use Rattle.std.proofs.Common.{◌≡◌, ◌≢◌, zero, cond, ok_or, ◌<◌, ◌+◌, ◌⊎◌, inl, inr, ℕ, suc, Bool, true, false, List, [], ◌∷◌, ◌++◌, length, Option, Some, None, Result, Ok, Err, refl, sym, ap, subst, ◌∙◌, arith}
 use Rattle.std.proofs.lemmas.Bool.{cases_lt}
-use Rattle.std.proofs.lemmas.List.{append_cancel_left}
-use Rattle.std.proofs.lemmas.Str.{encodes-append, length-le-encodes}
 use Rattle.std.specs.List.{slice_get}
-use Rattle.std.specs.Str.{chars, encode_utf8_all, IsValidUpTo}
-use Rattle.rdf_terms.specs.Reading.{byte_count}
+use Rattle.std.specs.Str.{chars, IsValidUpTo}
 use Rattle.rdf_terms.specs.declared.quad.Quad.{Quad}
 use Rattle.rdf_turtle.specs.declared.fault.TurtleFault.{TurtleFault}
 use Rattle.rdf_turtle.specs.declared.fault.TurtleFaultKind.{TurtleFaultKind}
@@ -17,7 +14,7 @@ use Rattle.rdf_turtle.specs.declared.tree.Statement.{Statement}
 use Rattle.rdf_turtle.specs.Document.{HasTokens, HasTree, IsDocument, FaultIs, IsFaulty, TellsFault}
 use Rattle.rdf_turtle.specs.DocumentLaws.{has_free_line, OneDocument, NeverBoth, OneFault}
 use Rattle.rdf_turtle.specs.Grammar as grammar
-use Rattle.rdf_turtle.specs.Lexemes.{Stands, IsLexeme, AreLexemes, terminal_of}
+use Rattle.rdf_turtle.specs.Lexemes.{IsLexeme, AreLexemes, terminal_of}
 use Rattle.rdf_tokens.specs.Lines.{line_of}
 use Rattle.rdf_turtle.specs.Kept.{IsFaultOf}
 use Rattle.rdf_turtle.specs.Known.{declares_first}
@@ -26,50 +23,16 @@ use Rattle.rdf_turtle.specs.Nesting.{IsTooDeep, IsTooDeepAt}
 use Rattle.rdf_turtle.specs.Stops.{Explains}
 use Rattle.rdf_tokens.specs.Tokens.{Says}
 use Rattle.rdf_turtle.proofs.GrammarWhole.{document_unique}
-use Rattle.rdf_tokens.proofs.CallerLemmas.{one_token_list}
-
--- ---- a byte's place cuts a text one way
-
-count_cons : (c : ℕ) (cs : List ℕ) → byte_count (c ∷ cs) ≡ byte_count (c ∷ []) + byte_count cs
-count_cons c cs = omega (arith, ap length (encodes-append (c ∷ []) cs), length-append (encode_utf8_all (c ∷ [])) (encode_utf8_all cs))
-
-count_positive : (c : ℕ) (cs : List ℕ) → 0 < byte_count (c ∷ cs)
-count_positive c cs = omega (arith, length-le-encodes (c ∷ cs))
-
-first_same : (c d : ℕ) (cs ds : List ℕ) → c ∷ cs ≡ d ∷ ds → c ≡ d
-first_same c d cs ds e = cc
-
-others_same : (c d : ℕ) (cs ds : List ℕ) → c ∷ cs ≡ d ∷ ds → cs ≡ ds
-others_same c d cs ds e = cc
-
-both_same : (c d : ℕ) (cs ds : List ℕ) → c ≡ d → cs ≡ ds → c ∷ cs ≡ d ∷ ds
-both_same c d cs ds e f = cc
-
-same_cut : (a b r s : List ℕ) → a ++ r ≡ b ++ s → byte_count a ≡ byte_count b → (a ≡ b) × (r ≡ s)
-same_cut [] [] r s e n = (refl, e)
-same_cut [] (d ∷ b) r s e n = absurd (omega (arith, n, count_positive d b))
-same_cut (c ∷ a) [] r s e n = absurd (omega (arith, n, count_positive c a))
-same_cut (c ∷ a) (d ∷ b) r s e n =
-    let first : c ≡ d = first_same c d (a ++ r) (b ++ s) e in
-    let one : byte_count (c ∷ []) ≡ byte_count (d ∷ []) = ap (λ (x : ℕ). byte_count (x ∷ [])) first in
-    let count : byte_count a ≡ byte_count b = omega (arith, n, count_cons c a, count_cons d b, one) in
-    let rest = same_cut a b r s (others_same c d (a ++ r) (b ++ s) e) count in
-    (both_same c d a b first rest.0, rest.1)
+use Rattle.rdf_tokens.proofs.CallerLemmas.{one_token_list, stands_once}
 
 -- ---- a text has one list of tokens, and one of lexemes
-
-one_slice : (text : List ℕ) (start stop : ℕ) (s t : List ℕ) → Stands text start stop s → Stands text start stop t → s ≡ t
-one_slice text start stop s t h k =
-    let front = same_cut h.0 k.0 (s ++ h.1) (t ++ k.1) (sym h.2 ∙ k.2) (sym h.3 ∙ k.3) in
-    let both = same_cut (h.0 ++ s) (k.0 ++ t) h.1 k.1 (append_assoc h.0 s h.1 ∙ sym h.2 ∙ k.2 ∙ sym (append_assoc k.0 t k.1)) (sym h.4 ∙ k.4) in
-    append_cancel_left h.0 s t (both.0 ∙ ap (λ (b : List ℕ). b ++ t) (sym front.0))
 
 parts_same : (x y : Terminal) (s t : List ℕ) (a b : Lexeme) → x ≡ y → s ≡ t → a ≡ record { terminal = x; text = s } → b ≡ record { terminal = y; text = t } → a ≡ b
 parts_same x y s t a b e f g h = cc
 
 one_lexeme : (text : List ℕ) (token : Token) (a b : Lexeme) → IsLexeme text token a → IsLexeme text token b → a ≡ b
 one_lexeme text token a b h k =
-    let slice : a.text ≡ b.text = one_slice text token.start token.stop a.text b.text h.0 k.0 in
+    let slice : a.text ≡ b.text = stands_once text token.start token.stop a.text b.text h.0 k.0 in
     parts_same a.terminal b.terminal a.text b.text a b (h.1 ∙ ap (λ (s : List ℕ). terminal_of token.kind s) slice ∙ sym k.1) slice refl refl
 
 lists_same : (a b : Lexeme) (ls ms : List Lexeme) → a ≡ b → ls ≡ ms → a ∷ ls ≡ b ∷ ms
