@@ -45,9 +45,9 @@ fn quad_from(first: u64, quad: Quad) -> Quad
 
 impl<'a, D: Source> Staged<'a, D> {
     /// Inserts the quads of a document or of INSERT DATA, whose blank nodes have the numbers below
-    /// `blanks`: number j becomes the counter and j more, and the counter grows by `blanks`. Answers
-    /// the first of the new numbers, or `None` where the counter would pass the last number: nothing
-    /// has changed then.
+    /// `blanks`: number j becomes the counter and j more, and the counter grows by `blanks`.
+    /// Answers the first of the new numbers, or `None` where the counter would pass the last
+    /// number: nothing has changed then.
     ///
     /// # Errors
     /// [`NoMemory`] where memory is wanting: some of the quads have come in then.

@@ -1,5 +1,5 @@
--- A load: the least number above those of its blank nodes, and what staging it leaves.
-use Rattle.std.proofs.Common.{◌≡◌, ℕ, suc, ◌+◌, ◌<◌, ◌≤◌, List, [], ◌∷◌, length, drop, get_or, refl, sym, ap, ◌∙◌, add-one, drop-cons, arith, subst, Option, Some, None}
+-- A load: the least number above those of its blank nodes.
+use Rattle.std.proofs.Common.{◌≡◌, ℕ, suc, ◌+◌, ◌<◌, ◌≤◌, List, [], ◌∷◌, length, drop, get_or, refl, sym, ap, add-one, drop-cons, arith}
 use Rattle.std.proofs.lemmas.List.{drop_all}
 use Rattle.std.specs.Prelude.{min, max}
 use Rattle.rdf_terms.specs.Below.{AreBelow, IsGraphBelow, IsQuadBelow, IsTermBelow}
@@ -8,10 +8,8 @@ use Rattle.rdf_terms.specs.declared.quad.GraphName.{GraphName}
 use Rattle.rdf_terms.specs.declared.quad.GraphName.TheVariants.{Default, Named}
 use Rattle.rdf_terms.specs.declared.term.Term.{Term}
 use Rattle.rdf_terms.specs.declared.term.Term.TheVariants.{Blank, Iri, Literal}
-use Rattle.rdf_dataset.specs.Insertion.{Inserts, with_data}
-use Rattle.rdf_dataset.specs.Staging.{Staging, staged}
-use Rattle.rdf_dataset.specs.State.{State, Change, IsSound, last_number, net_between}
-use Rattle.rdf_session.specs.Request.{blank_limit, graph_limit, loaded, quad_limit, term_limit}
+use Rattle.rdf_dataset.specs.State.{last_number}
+use Rattle.rdf_session.specs.Request.{blank_limit, graph_limit, quad_limit, term_limit}
 
 pub blank_limit-drop : (qs : List QuadParts) (i : ℕ) (q : QuadParts) → i < length qs → q ≡ get_or qs i q → blank_limit (drop i qs) ≡ max (quad_limit q) (blank_limit (drop (i + 1) qs))
 blank_limit-drop qs i q h e = rw (drop-cons qs i q h, add-one) (ap (λ x. max (quad_limit x) (blank_limit (drop (suc i) qs))) (sym e))
@@ -46,23 +44,6 @@ all_below next (q ∷ qs) h = (record {
   object = term_below next q.object (omega (arith, h));
 }, all_below next qs (omega (arith, h)))
 
--- what was counted is the limit, where it is no greater than the bound
-pub counted : (count limit bound : ℕ) → count ≡ min limit (bound + 1) → count ≤ bound → count ≡ limit
-counted count limit bound c h = omega (arith, c, h)
-
-pub too_many : (count limit next bound : ℕ) → count ≡ min limit (bound + 1) → bound < count → bound < next + limit
-too_many count limit next bound c h = omega (arith, c, h)
-
+-- what was counted is the limit, where it is no greater than the last number
 pub counted_below : (qs : List QuadParts) (count : ℕ) → count ≡ min (blank_limit qs) (last_number + 1) → count ≤ last_number → AreBelow count qs
 counted_below qs count c h = all_below count qs (omega (arith, c, h))
-
--- ---- staging
-
-pub none_inserted : (d : State) (qs : List QuadParts) (old new : Staging) (count : ℕ) → old ≡ record { under = d; now = d } → count ≡ blank_limit qs → Inserts old qs count None new → last_number < d.next + blank_limit qs
-none_inserted d qs old new count o c h = subst (λ n. last_number < n) (λ i. (o i).now.next + c i) h.0
-
-pub all_inserted : (d : State) (qs : List QuadParts) (old new : Staging) (count first : ℕ) (net : Change) → old ≡ record { under = d; now = d } → count ≡ blank_limit qs → Inserts old qs count (Some first) new
-    → IsSound new.now → net ≡ net_between new.under new.now → (d.next + blank_limit qs ≤ last_number) × (IsSound (loaded d qs) × (net ≡ net_between d (loaded d qs)))
-all_inserted d qs old new count first net o c h sound e =
-    let is : new ≡ record { under = d; now = loaded d qs } = h.1.1 ∙ (λ i. staged (o i) (with_data (o i).now qs (c i))) in
-    (subst (λ n. n ≤ last_number) (λ i. (o i).now.next + c i) h.0, (subst (λ (s : Staging). IsSound s.now) is sound, e ∙ ap (λ (s : Staging). net_between s.under s.now) is))

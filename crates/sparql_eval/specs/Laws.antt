@@ -1,5 +1,5 @@
 -- Laws of the operations (SPARQL 1.1 Update, sections 3.1 and 3.2).
-use Rattle.std.specs.Prelude.{◌≡◌, Bool, true, false, List, map, Some, Ok, Err}
+use Rattle.std.specs.Prelude.{◌≡◌, Bool, true, false, ◌||◌, List, map, Some, Ok, Err}
 use Rattle.std.specs.FinSet as set
 use Rattle.std.specs.List.{AllByRecursion, list_any}
 use Rattle.rdf_terms.specs.Quad.{QuadParts}

@@ -113,7 +113,8 @@ fn insert_data<D: Source>(
     view: &mut Staged<'_, D>,
 ) -> Result<(), NoMemory>
     requires room { view.old.now.next + inserted.now.blanks ≤ last_number }
-    ensures ok { OnOk result (view.new.now ≡ with_data view.old.now inserted.now.quads inserted.now.blanks) }
+    ensures ok { OnOk result
+        (view.new.now ≡ with_data view.old.now inserted.now.quads inserted.now.blanks) }
     ensures beneath { view.new.under ≡ view.old.under }
 {
     let quads = copies(alloc, inserted.quads())?;

@@ -38,7 +38,8 @@ pub fn apply<D: Source>(
     view: &mut Staged<'_, D>,
 ) -> Result<(), ApplyFault>
     ensures leads { OnOk result (steps view.old.now request.now.operations ≡ Ok view.new.now) }
-    ensures refused { IfErr result (λ fault. Tells (steps view.old.now request.now.operations) fault) }
+    ensures refused { IfErr result
+        (λ fault. Tells (steps view.old.now request.now.operations) fault) }
     ensures beneath { view.new.under ≡ view.old.under }
 {
     for operation in request.operations.as_slice() {
