@@ -129,7 +129,8 @@ def reason(symbol, line, said):
     stated = dict(re.findall(rf"(?m)^note: `(\S+)` of proofs/{path}/Answers\.antt must prove: (.*)", said))
     errors = re.findall(rf"(?m)^(?:\./)?(proofs/{path}/\w+\.antt):(\d+):\d+: error: (.*)", said)
     goals = re.findall(r"`(\S+?)`", line.partition("did not prove")[2]) or [*stated]
-    goals += [name for _, _, text in errors for name in re.findall(r"\A`(\S+?)`: ", text) if name not in goals]
+    goals += [name for _, _, text in errors for name in re.findall(r"\A`(\S+?)`: ", text)]
+    goals = [*dict.fromkeys(goals)]
     if errors and not stated and all(NAMES.search(text) for _, _, text in errors):
         return f"names of {errors[0][0]} alone, which says little of the contract: {errors[0][2][:120]}"
     found = []
