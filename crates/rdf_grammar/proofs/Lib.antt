@@ -1,0 +1,7 @@
+-- what a grammar cites
+pub mod Combinators
+pub mod Decides
+pub mod Depths
+pub mod Nests
+pub mod Repeats
+pub mod Terminals

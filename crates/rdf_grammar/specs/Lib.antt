@@ -1,0 +1,6 @@
+pub mod Derivations
+pub mod Nesting
+pub mod Readings
+pub mod Steps
+pub mod Terminals
+pub mod formers
