@@ -1,5 +1,5 @@
 -- What a combinator reads is what it derives.
-use Rattle.std.proofs.Common.{◌≡◌, ◌<◌, ◌≤◌, Bool, true, false, List, [], ◌∷◌, length, Option, Some, None, refl, ◌∙◌, ap, arith, cond}
+use Rattle.std.proofs.Common.{◌≡◌, ◌<◌, ◌≤◌, Bool, true, false, List, [], ◌∷◌, length, Option, Some, None, refl, ◌∙◌, ap, arith, cond, inl, inr}
 use Rattle.rdf_grammar.specs.Steps as steps
 use Rattle.rdf_grammar.specs.Readings as reading
 use Rattle.rdf_grammar.specs.Readings.{Outcome, Reading, Test}
@@ -25,6 +25,26 @@ also p P Q ends d there back = record {
   complete = λ ts a us h e. d.complete ts a us (back ts a us h) e;
   shorter = λ ts a us h. d.shorter ts a us (back ts a us h);
 }
+
+-- ---- P | Q, where a look tells which of them is there
+
+module _ {X A : Type 0} (test : Test X) (p q : Reading X A) (P Q : Derives X A) (ends : Test X) (dp : Decides p P ends) (dq : Decides q Q ends)
+    (first : (ts : List X) (x : A) (us : List X) → P ts x us → ends us ≡ true → test ts ≡ true)
+    (second : (ts : List X) (x : A) (us : List X) → Q ts x us → ends us ≡ true → test ts ≡ false) where
+  chosen : (b : Bool) (ts : List X) (x : A) (us : List X) → cond b (p ts) (q ts) ≡ Some (x, us) → grammar.◌∣◌ P Q ts x us
+  chosen true ts x us h = inl (dp.sound ts x us h)
+  chosen false ts x us h = inr (dq.sound ts x us h)
+
+  choose_complete : (ts : List X) (x : A) (us : List X) → grammar.◌∣◌ P Q ts x us → ends us ≡ true → reading.choose test p q ts ≡ Some (x, us)
+  choose_complete ts x us (inl d) e = rw (first ts x us d e) (dp.complete ts x us d e)
+  choose_complete ts x us (inr d) e = rw (second ts x us d e) (dq.complete ts x us d e)
+
+  choose_shorter : (ts : List X) (x : A) (us : List X) → grammar.◌∣◌ P Q ts x us → length us ≤ length ts
+  choose_shorter ts x us (inl d) = dp.shorter ts x us d
+  choose_shorter ts x us (inr d) = dq.shorter ts x us d
+
+  pub choose_decides : Decides (reading.choose test p q) (grammar.◌∣◌ P Q) ends
+  choose_decides = record { sound = λ ts x us h. chosen (test ts) ts x us h; complete = choose_complete; shorter = choose_shorter }
 
 -- ---- ( P )?
 
@@ -58,4 +78,3 @@ module _ {X A : Type 0} (test : Test X) (p : Reading X A) (P : Derives X A) (end
 
   pub maybe_decides : Decides (reading.optional test p) (grammar.maybe P) ends
   maybe_decides = record { sound = λ ts o us h. maybe_at ts (test ts) o us h; complete = maybe_complete; shorter = maybe_shorter }
-

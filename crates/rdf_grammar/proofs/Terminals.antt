@@ -35,22 +35,22 @@ module _ {T : Type 0} (same : T → T → Bool) where
 
   -- ---- a chain: the members after the first, each behind a lexeme of terminal k
 
-  behind : {A : Type 0} (k : T) (p : Reading (Lexeme T) A) (ts : Lexemes T) → sees k ts ≡ true → one (the k >> p) ts ≡ one p (next ts)
+  passed : {A : Type 0} (k : T) (p : Reading (Lexeme T) A) (ts : Lexemes T) → sees k ts ≡ true → one (the k >> p) ts ≡ one p (next ts)
   unfolding terminal.the
-  behind k p ts h = rw h refl
+  passed k p ts h = rw h refl
 
   pub chain_goes : {A : Type 0} (k : T) (p : Reading (Lexeme T) A) {whole : Outcome (Lexeme T) (List A)} {found : List A} {now : Lexemes T} (mid : Lexemes T) (x : A) (then : Lexemes T)
       → Going (sees k) (one (the k >> p)) whole found now → sees k now ≡ true → mid ≡ next now → p mid ≡ Some (x, then) → length then ≤ length mid
       → Going (sees k) (one (the k >> p)) whole (found ++ x ∷ []) then
   chain_goes k p {now = now} mid x then g h m e shorter =
       let less = sees_some k now h in
-      going_on (x ∷ []) then g h (behind k p now h ∙ ap (one p) (sym m) ∙ ap (λ o. and_then o (λ y. λ us. Some (y ∷ [], us))) e) (omega (arith, ap length m))
+      going_on (x ∷ []) then g h (passed k p now h ∙ ap (one p) (sym m) ∙ ap (λ o. and_then o (λ y. λ us. Some (y ∷ [], us))) e) (omega (arith, ap length m))
 
   pub chain_fails : {A : Type 0} (k : T) (p : Reading (Lexeme T) A) {whole : Outcome (Lexeme T) (List A)} {found : List A} {now : Lexemes T} (mid : Lexemes T) (e : GrammarFault)
       → Going (sees k) (one (the k >> p)) whole found now → sees k now ≡ true → mid ≡ next now → Fails (p mid) e → Fails whole e
   chain_fails k p {now = now} mid e g h m f =
       let less = sees_some k now h in
-      fails_on e f (λ none. going_fails g (omega arith) h (behind k p now h ∙ ap (one p) (sym m) ∙ ap (λ o. and_then o (λ y. λ us. Some (y ∷ [], us))) none))
+      fails_on e f (λ none. going_fails g (omega arith) h (passed k p now h ∙ ap (one p) (sym m) ∙ ap (λ o. and_then o (λ y. λ us. Some (y ∷ [], us))) none))
 
   -- a grown list, where each turn begins with a lexeme of terminal k
   pub grown_behind : {A : Type 0} (test : Test (Lexeme T)) (k : T) (p : Reading (Lexeme T) A) {whole : Outcome (Lexeme T) (List A)} {front all : List A} {now : Lexemes T} (mid : Lexemes T) (x : A) (all' : List A) (then : Lexemes T)
@@ -58,13 +58,13 @@ module _ {T : Type 0} (same : T → T → Bool) where
       → all' ≡ all ++ x ∷ [] → Grown test (one (the k >> p)) whole front all' then
   grown_behind test k p {now = now} mid x all' then g h s m e shorter more =
       let less = sees_some k now s in
-      grown_on (x ∷ []) all' then g h (behind k p now s ∙ ap (one p) (sym m) ∙ ap (λ o. and_then o (λ y. λ us. Some (y ∷ [], us))) e) (omega (arith, ap length m)) more
+      grown_on (x ∷ []) all' then g h (passed k p now s ∙ ap (one p) (sym m) ∙ ap (λ o. and_then o (λ y. λ us. Some (y ∷ [], us))) e) (omega (arith, ap length m)) more
 
   pub grown_fails_behind : {A : Type 0} (test : Test (Lexeme T)) (k : T) (p : Reading (Lexeme T) A) {whole : Outcome (Lexeme T) (List A)} {front all : List A} {now : Lexemes T} (mid : Lexemes T) (e : GrammarFault)
       → Grown test (one (the k >> p)) whole front all now → test now ≡ true → sees k now ≡ true → mid ≡ next now → Fails (p mid) e → Fails whole e
   grown_fails_behind test k p {now = now} mid e g h s m f =
       let less = sees_some k now s in
-      fails_on e f (λ none. going_fails g.going (omega arith) h (behind k p now s ∙ ap (one p) (sym m) ∙ ap (λ o. and_then o (λ y. λ us. Some (y ∷ [], us))) none))
+      fails_on e f (λ none. going_fails g.going (omega arith) h (passed k p now s ∙ ap (one p) (sym m) ∙ ap (λ o. and_then o (λ y. λ us. Some (y ∷ [], us))) none))
 
 module _ {T : Type 0} (same : T → T → Bool) (apart : TellsApart same) where
   sees_at : (k : T) (t : Lexeme T) (ts : Lexemes T) → t.terminal ≡ k → terminal.sees same k (t ∷ ts) ≡ true
@@ -114,9 +114,9 @@ module _ {T : Type 0} (same : T → T → Bool) (apart : TellsApart same) where
 
   -- ---- behind a terminal
 
-  pub behind_decides : {A : Type 0} (k : T) (p : Reading (Lexeme T) A) (P : Derives (Lexeme T) A) (ends : Test (Lexeme T)) → Decides p P ends
+  pub after_terminal : {A : Type 0} (k : T) (p : Reading (Lexeme T) A) (P : Derives (Lexeme T) A) (ends : Test (Lexeme T)) → Decides p P ends
       → Decides (steps.◌>>◌ (terminal.the same k) p) (grammar.◌>>◌ (grammar.the k) P) ends
-  behind_decides k p P ends d = then_decides _ _ _ _ always ends (the_decides k) (λ _. d) (λ a mid b us h e. refl)
+  after_terminal k p P ends d = then_decides _ _ _ _ always ends (the_decides k) (λ _. d) (λ a mid b us h e. refl)
 
   pub starts_with : {A : Type 0} (k : T) (P : Derives (Lexeme T) A) (p : Reading (Lexeme T) A) (ends : Test (Lexeme T)) → Decides p P ends → (ts : Lexemes T) (x : A) (us : Lexemes T)
       → grammar.◌>>◌ (grammar.the k) P ts x us → (terminal.sees same k ts ≡ true) × (length us < length ts)

@@ -42,6 +42,10 @@ one p = (λ x. x ∷ []) <$> p
 abbrev pub optional : {X A : Type 0} → Test X → Reading X A → Reading X (Option A)
 optional test p = λ ts. if test ts then (Some <$> p) ts else Some (None, ts)
 
+-- p where the next lexemes pass the test, and q where they don't
+abbrev pub choose : {X A : Type 0} → Test X → Reading X A → Reading X A → Reading X A
+choose test p q = λ ts. if test ts then p ts else q ts
+
 abbrev pub repeat_within : {X A : Type 0} → ℕ → Test X → Reading X (List A) → Reading X (List A)
 repeat_within zero test p = pure []
 repeat_within (suc n) test p = λ ts.

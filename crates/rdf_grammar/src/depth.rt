@@ -24,11 +24,9 @@ fn open_behind(count: usize, bracket: Bracket) -> usize
 /// The place of the first lexeme behind which more than 100 brackets are open, if there is one. A
 /// bracket that closes where none is open changes nothing.
 pub fn too_deep<T: Terminal>(lexemes: &[Lexeme<'_, T>]) -> Option<usize>
-    ensures {
-        MatchOption result
-            (¬ (IsTooDeep T.bracket lexemes.now))
-            (λ place. IsTooDeepAt T.bracket lexemes.now place)
-    }
+    ensures { MatchOption result
+        (¬ (IsTooDeep T.bracket lexemes.now))
+        (λ place. IsTooDeepAt T.bracket lexemes.now place) }
 {
     let mut count = 0;
     for (place, lexeme) in lexemes.iter().enumerate() {
