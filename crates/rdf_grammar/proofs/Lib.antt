@@ -2,6 +2,7 @@
 pub mod Combinators
 pub mod Decides
 pub mod Depths
+pub mod LexemeLemmas
 pub mod Nests
 pub mod Repeats
 pub mod Terminals

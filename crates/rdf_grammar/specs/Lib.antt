@@ -1,4 +1,5 @@
 pub mod Derivations
+pub mod Lexemes
 pub mod Nesting
 pub mod Readings
 pub mod Steps

@@ -1,6 +1,6 @@
 //! Tokens with their characters, as a grammar tells them apart.
 
-use crate::slice::Slice;
+use rdf_tokens::Slice;
 
 /// A token: its terminal, and the piece of the text that it is.
 #[derive(Debug, Drop)]

@@ -1,14 +1,16 @@
 //! A cursor over lexemes.
 ghost use Rattle.std.specs.Prelude.{◌≡◌, ◌≤◌, ◌<◌, length, OnOk, OnErr, IfErr, if◌then◌else◌};
 ghost use Rattle.std.specs.Bool.{OnTrue};
-ghost use Rattle.rdf_grammar.specs.Readings.{Reads, next, is_more};
+ghost use Rattle.rdf_grammar.specs.Readings.{Reads, next, is_more, is_nil};
+ghost use Rattle.rdf_tokens.specs.Values as values;
 ghost use Rattle.rdf_grammar.specs.Terminals as spec;
 ghost use Rattle.rdf_grammar.specs.declared.fault.GrammarFault.TheVariants.{Syntax};
 
 use crate::fault::GrammarFault;
 use crate::lexeme::Lexeme;
-use crate::slice::Slice;
 use crate::terminal::Terminal;
+use rdf_terms::Cursor;
+use rdf_tokens::{Slice, local_part, prefix_part};
 use std::alloc::Global;
 use std::marker::Model;
 
@@ -150,4 +152,34 @@ impl<'l, 'a, T: Terminal> Parser<'l, 'a, T> {
             }
         }
     }
+    /// Takes the next lexeme, a prefixed name of this terminal with no local part, for its prefix.
+    ///
+    /// # Errors
+    /// `Syntax` where it isn't; it is then still the next.
+    #[tactic(auto, unfolding(crate::specs::Terminals::namespace))]
+    pub fn namespace(&mut self, terminal: T) -> Result<Slice<'a>, GrammarFault>
+        ensures reads { Reads (spec.namespace T.same terminal self.old) result self.new }
+        ensures fault { IfErr result (λ e. e ≡ Syntax) }
+        ensures kept { OnErr result (self.new ≡ self.old) }
+        ensures shorter { OnOk result (length self.new < length self.old) }
+    {
+        match self.lexemes {
+            [] => Err(GrammarFault::Syntax),
+            [lexeme, rest @ ..] => {
+                if !lexeme.terminal.same(terminal) || !has_no_local_part(&lexeme.text) {
+                    return Err(GrammarFault::Syntax);
+                }
+                self.lexemes = rest;
+                Ok(prefix_part(&lexeme.text))
+            }
+        }
+    }
+}
+
+fn has_no_local_part(name: &Slice<'_>) -> bool
+    ensures { result ≡ is_nil (values.local_part name.now) }
+{
+    let local = local_part(name);
+    let first = Cursor::new(local.as_str()).peek();
+    first.is_none()
 }

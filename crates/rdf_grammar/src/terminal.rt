@@ -1,11 +1,11 @@
 //! Terminals: what a grammar tells apart among tokens.
 ghost use Rattle.std.specs.Prelude.{◌≡◌, ℕ, Bool, List};
 ghost use Rattle.rdf_grammar.specs.declared.bracket.Bracket.{Bracket as Turn};
-ghost use Rattle.rdf_grammar.specs.declared.token.Kind.{Kind as Form};
+ghost use Rattle.rdf_tokens.specs.declared.token.Kind.{Kind as Form};
 ghost use Rattle.rdf_grammar.specs.Terminals.{TellsApart};
 
 use crate::bracket::Bracket;
-use crate::token::Kind;
+use rdf_tokens::Kind;
 
 /// A terminal of a grammar, an enum without fields: what its productions tell apart among tokens.
 pub trait Terminal: Copy + Drop {

@@ -1,15 +1,54 @@
-//! Tokens as the grammar sees them.
-ghost use Rattle.std.specs.Prelude.{◌≡◌, ℕ, List, IfOk, map};
+//! The terminals of Turtle's grammar.
+ghost use Rattle.std.specs.Prelude.{◌≡◌, map};
 ghost use Rattle.std.specs.Char.{to_ascii_lowercase};
-ghost use Rattle.std.specs.Str.{chars, bytes_eq};
-ghost use Rattle.rdf_tokens.specs.Tokens.{Runs, HasItsForm};
-ghost use Rattle.rdf_turtle.specs.Lexemes as spec;
-ghost use Rattle.rdf_turtle.specs.LexemeLaws.{LexemesHaveForms};
+ghost use Rattle.std.specs.Str.{bytes_eq};
+ghost use Rattle.rdf_turtle.specs.Terminals as spec;
 
-use crate::lexeme::{Lexeme, Terminal};
-use rdf_terms::{Items, NoMemory};
-use rdf_tokens::{Kind, Token, slice_of};
-use std::alloc::Global;
+use rdf_grammar::Bracket;
+use rdf_tokens::Kind;
+
+/// A terminal of Turtle's grammar (Turtle 1.1, section 6.5).
+#[derive(Clone, Copy, Debug, PartialEq, Eq)]
+pub enum Terminal {
+    Iri,
+    Pname,
+    BlankLabel,
+    /// `@` and a tag that is no directive's word.
+    AtWord,
+    /// `@prefix`
+    AtPrefix,
+    /// `@base`
+    AtBase,
+    /// PREFIX in any case
+    Prefix,
+    /// BASE in any case
+    Base,
+    /// `a`
+    A,
+    /// `true`
+    True,
+    /// `false`
+    False,
+    Text,
+    Integer,
+    Decimal,
+    Double,
+    /// `^^`
+    Caret,
+    OpenBracket,
+    CloseBracket,
+    /// `(`
+    Open,
+    /// `)`
+    Close,
+    OpenBrace,
+    CloseBrace,
+    Dot,
+    Semicolon,
+    Comma,
+    /// What Turtle has no use for: a variable, another word, an operator.
+    Other,
+}
 
 fn at_word_terminal(text: &str) -> Terminal
     ensures { result ≡ spec.at_word_terminal text.now }
@@ -103,37 +142,41 @@ fn terminal_of(kind: Kind, text: &str) -> Terminal
     }
 }
 
-fn lexeme<'a>(text: &'a str, token: &Token) -> Lexeme<'a>
-    requires { HasItsForm (chars text.now) token.now }
-    ensures { spec.IsLexeme (chars text.now) token.now result }
+#[tactic(auto, unfolding(crate::specs::Terminals::same_terminal))]
+fn same_terminal(a: Terminal, b: Terminal) -> bool
+    ensures { result ≡ spec.same_terminal a b }
 {
-    let slice = slice_of(text, token);
-    Lexeme {
-        terminal: terminal_of(token.kind, slice.as_str()),
-        text: slice,
+    a == b
+}
+
+fn bracket(terminal: Terminal) -> Bracket
+    ensures { result ≡ spec.bracket terminal }
+{
+    match terminal {
+        Terminal::OpenBracket | Terminal::Open | Terminal::OpenBrace => Bracket::Opens,
+        Terminal::CloseBracket | Terminal::Close | Terminal::CloseBrace => Bracket::Closes,
+        _ => Bracket::Neither,
     }
 }
 
-/// The lexemes of a text: one for each of its tokens, in order.
-///
-/// # Errors
-/// [`NoMemory`] where memory is wanting.
-pub(crate) fn lexemes<'a>(
-    alloc: Global,
-    text: &'a str,
-    tokens: &[Token],
-) -> Result<Items<Lexeme<'a>>, NoMemory>
-    requires { (rest : List ℕ) × Runs (chars text.now) (chars text.now) tokens.now rest }
-    ensures { IfOk result (λ items. spec.AreLexemes (chars text.now) tokens.now items) }
-{
-    let mut items = Vec::with_capacity(alloc, tokens.len())?;
-    for token in tokens {
-        items.push(lexeme(text, token))?;
-    }
-    Ok(Items::from_vec(items))
-}
+impl rdf_grammar::Terminal for Terminal {
+    ghost of = { spec.terminal_by };
 
-/// The lexemes of a text have the forms of its tokens.
-pub fn lexemes_have_forms()
-    ensures { LexemesHaveForms }
-{}
+    ghost same = { spec.same_terminal };
+
+    ghost bracket = { spec.bracket };
+
+    fn of(kind: Kind, text: &str) -> Terminal {
+        terminal_of(kind, text)
+    }
+
+    fn same(self, other: Terminal) -> bool {
+        same_terminal(self, other)
+    }
+
+    fn bracket(self) -> Bracket {
+        bracket(self)
+    }
+
+    ghost tells_apart = { spec.apart };
+}

@@ -1,10 +1,11 @@
 use Rattle.std.proofs.Common.{◌≤◌, ◌+◌, ◌*◌, length}
-use Rattle.rdf_turtle.specs.declared.lexeme.Terminal.TheVariants as terminal
-use Rattle.rdf_turtle.specs.Steps.{◌>>◌}
-use Rattle.rdf_turtle.specs.Rules.{sees, the, one, repeat}
+use Rattle.rdf_turtle.specs.declared.terminal.Terminal.TheVariants as terminal
+use Rattle.rdf_grammar.specs.Steps.{◌>>◌}
+use Rattle.rdf_turtle.specs.Lexemes.{sees, the}
+use Rattle.rdf_grammar.specs.Readings.{one, repeat}
 use Rattle.rdf_turtle.specs.Reading as spec
-use Rattle.rdf_turtle.proofs.GrammarRepeats.{Grown}
-use Rattle.rdf_turtle.proofs.parser.Parser.+node.Given as goal
+use Rattle.rdf_grammar.proofs.Repeats.{Grown}
+use Rattle.rdf_turtle.proofs.grammar.+node.Given as goal
 
 -- the functions in the order in which they call one another, for as many brackets as may be open
 abbrev pub decreases-node : goal.decreases-node
@@ -39,27 +40,27 @@ decreases-object l = 10 * l.depth + 9
 
 abbrev pub invariant-objects-loop-all : goal.invariant-objects-loop-all
 invariant-objects-loop-all l = let p = one (the terminal.Comma >> spec.node l.depth) in record {
-  grown : Grown (sees terminal.Comma) p (repeat (sees terminal.Comma) p l.initial.self) l.initial.all l.all l.self;
-  shorter : length l.self ≤ length l.initial.self;
+  grown : Grown (sees terminal.Comma) p (repeat (sees terminal.Comma) p l.initial.parser) l.initial.all l.all l.parser;
+  shorter : length l.parser ≤ length l.initial.parser;
 }
 
 abbrev pub decreases-objects-loop-all : goal.decreases-objects-loop-all
-decreases-objects-loop-all l = length l.self
+decreases-objects-loop-all l = length l.parser
 
-abbrev pub invariant-predicate_object_list-loop-self : goal.invariant-predicate_object_list-loop-self
-invariant-predicate_object_list-loop-self l = let p = spec.more (spec.node l.depth) in record {
-  grown : Grown (sees terminal.Semicolon) p (repeat (sees terminal.Semicolon) p l.initial.self) l.initial.all l.all l.self;
-  shorter : length l.self ≤ length l.initial.self;
+abbrev pub invariant-predicate_object_list-loop-parser : goal.invariant-predicate_object_list-loop-parser
+invariant-predicate_object_list-loop-parser l = let p = spec.more (spec.node l.depth) in record {
+  grown : Grown (sees terminal.Semicolon) p (repeat (sees terminal.Semicolon) p l.initial.parser) l.initial.all l.all l.parser;
+  shorter : length l.parser ≤ length l.initial.parser;
 }
 
-abbrev pub decreases-predicate_object_list-loop-self : goal.decreases-predicate_object_list-loop-self
-decreases-predicate_object_list-loop-self l = length l.self
+abbrev pub decreases-predicate_object_list-loop-parser : goal.decreases-predicate_object_list-loop-parser
+decreases-predicate_object_list-loop-parser l = length l.parser
 
 abbrev pub invariant-collection-loop-items : goal.invariant-collection-loop-items
 invariant-collection-loop-items l = let p = one (spec.node l.depth) in record {
-  grown : Grown spec.sees_node p (repeat spec.sees_node p l.initial.self) l.initial.items l.items l.self;
-  shorter : length l.self ≤ length l.initial.self;
+  grown : Grown spec.sees_node p (repeat spec.sees_node p l.initial.parser) l.initial.items l.items l.parser;
+  shorter : length l.parser ≤ length l.initial.parser;
 }
 
 abbrev pub decreases-collection-loop-items : goal.decreases-collection-loop-items
-decreases-collection-loop-items l = length l.self
+decreases-collection-loop-items l = length l.parser

@@ -1,8 +1,7 @@
 use Rattle.std.proofs.Common.{arith, sym}
 use Rattle.rdf_turtle.specs.Reading.{statement, node}
-use Rattle.rdf_turtle.proofs.GrammarRepeats.{grown_starts, grown_on}
-use Rattle.rdf_turtle.proofs.GrammarLists.{one_reads}
-use Rattle.rdf_turtle.proofs.parser.Parser.document.Goals as goal
+use Rattle.rdf_grammar.proofs.Repeats.{grown_starts, grown_on, one_reads}
+use Rattle.rdf_turtle.proofs.statement.document.Goals as goal
 
 pub loop-all-init : goal.loop-all-init
 loop-all-init c = rw c.new-all.ensures record { grown = grown_starts _ _ _ _; shorter = omega arith }
