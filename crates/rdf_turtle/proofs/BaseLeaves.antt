@@ -17,7 +17,7 @@ use Rattle.rdf_tokens.specs.declared.token.Kind.TheVariants as kind
 use Rattle.rdf_tokens.specs.declared.token.Token.{Token}
 use Rattle.rdf_turtle.specs.Document.{HasTokens}
 use Rattle.rdf_tokens.specs.Forms.{HasForm, IsLocal}
-use Rattle.rdf_turtle.specs.Terminals.{without_case, at_word_terminal, word_terminal, symbol_terminal, terminal_of}
+use Rattle.rdf_turtle.specs.Terminals.{without_case, at_word_terminal, word_terminal, symbol_terminal, terminal_of, terminal_by}
 use Rattle.rdf_grammar.specs.Lexemes.{HaveForms}
 use Rattle.rdf_tokens.specs.Values.{iri_value, local_part, tag_value}
 use Rattle.rdf_grammar.proofs.LexemeLemmas.{lexemes_have_forms}
@@ -46,7 +46,7 @@ all_formed text (token ∷ tokens) (t ∷ ts) all are have = (lexeme_formed text
 
 pub lexemes_formed : (text : List ℕ) (tokens : List Token) (ts : List Lexeme) → HasTokens text tokens ts → AllByRecursion Formed ts
 lexemes_formed text tokens ts h =
-    all_formed (chars text) tokens ts (scalars-chars text h.utf8) h.pieces (lexemes_have_forms (chars text) (chars text) h.list.0 tokens ts h.list.1 h.pieces)
+    all_formed (chars text) tokens ts (scalars-chars text h.utf8) h.pieces (lexemes_have_forms terminal_by (chars text) (chars text) h.list.0 tokens ts h.list.1 h.pieces)
 
 -- ---- the kind of a terminal
 

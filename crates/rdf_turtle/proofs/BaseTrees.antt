@@ -338,7 +338,7 @@ GoodStatement (s.Prefix prefix reference) = NameFormed (Full reference)
 GoodStatement (s.Base reference) = NameFormed (Full reference)
 GoodStatement (s.Triples subject ps) = GoodTriples subject ps
 
-namespace_gives : Gives g.Namespace Any
+namespace_gives : Gives (grammar.namespace terminal.Pname) Any
 unfolding Gives
 namespace_gives ts x us d w = (tt, (front_formed ts us d.0 d.4 w).1)
 

@@ -253,7 +253,7 @@ module _ (all : Lexemes) where
   abbrev IsNamespace : Piece → Type 0
   IsNamespace prefix = Stands all (terminal.Pname, prefix ∷ [] ∷ [])
 
-  namespace_gives : Gives all g.Namespace IsNamespace
+  namespace_gives : Gives all (grammar.namespace terminal.Pname) IsNamespace
   unfolding Gives
   namespace_gives ts x us d w =
       let e : leaf_by d.0.terminal d.0.text ≡ (terminal.Pname, x ∷ [] ∷ []) = ap (λ k. leaf_by k d.0.text) d.1 ∙ ap (λ p. (terminal.Pname, p ∷ local_part d.0.text ∷ [])) d.3 ∙ ap (λ p. (terminal.Pname, x ∷ p ∷ [])) d.2 in

@@ -22,7 +22,8 @@ use Rattle.rdf_grammar.specs.Derivations.{Then, Star, stop, more}
 use Rattle.rdf_turtle.specs.Reading as read
 use Rattle.rdf_turtle.specs.Grammar as g
 use Rattle.rdf_grammar.proofs.Decides.{always, Decides, then_decides, pure_decides, some_pair, and_then_some}
-use Rattle.rdf_grammar.proofs.Terminals.{the_decides, value_decides}
+use Rattle.rdf_grammar.proofs.Terminals.{the_decides, value_decides, the_terminal, value_terminal, any_the, word_sound, word_complete, word_strict}
+use Rattle.rdf_grammar.proofs.Combinators.{seq, last}
 use Rattle.rdf_turtle.proofs.GrammarTerminals.{same_is, same_refl}
 
 -- ---- iri
@@ -64,7 +65,7 @@ named : Decides (steps.◌<$>◌ v.Name read.iri) (grammar.◌<$>◌ v.Name g.Ir
 named = last v.Name _ _ always iri_decides
 
 verb_sound : (k : Option Terminal) (ts : Lexemes) (x : Verb) (us : Lexemes) → next_terminal ts ≡ k → read.verb_by k ts ≡ Some (x, us) → g.AVerb ts x us
-verb_sound (Some terminal.A) ts x us q h = inr (word_sound terminal.A v.Type x ts us q h)
+verb_sound (Some terminal.A) ts x us q h = inr (word_sound same_terminal apart terminal.A v.Type x ts us q h)
 verb_sound _ ts x us q h = inl (named.sound ts x us h)
 
 verb_named : (ts : Lexemes) (x : Verb) (us : Lexemes) → grammar.◌<$>◌ v.Name g.Iri ts x us → (next_terminal ts ≡ Some terminal.Iri) ⊎ (next_terminal ts ≡ Some terminal.Pname) → read.verb_by (next_terminal ts) ts ≡ Some (x, us)
@@ -73,7 +74,7 @@ verb_named ts x us h (inr q) = rw q (named.complete ts x us h refl)
 
 verb_complete : (ts : Lexemes) (x : Verb) (us : Lexemes) → g.AVerb ts x us → read.verb_by (next_terminal ts) ts ≡ Some (x, us)
 verb_complete ts x us (inl h) = verb_named ts x us h (iri_terminal ts h.first h.mid h.reads)
-verb_complete ts x us (inr h) = let q = the_terminal terminal.A ts h.mid h.first h.reads in rw q (word_complete terminal.A v.Type x ts us q h)
+verb_complete ts x us (inr h) = let q = the_terminal terminal.A ts h.mid h.first h.reads in rw q (word_complete same_terminal apart terminal.A v.Type x ts us q h)
 
 begins_iri : (ts : Lexemes) → (next_terminal ts ≡ Some terminal.Iri) ⊎ (next_terminal ts ≡ Some terminal.Pname) → read.sees_verb ts ≡ true
 begins_iri ts (inl q) = rw q refl
@@ -118,7 +119,7 @@ module _ (form : Piece) where
   suffix_sound (Some terminal.AtWord) ts x us q h = let d = (tagged terminal.AtWord).sound ts x us h in inl (record { first = d.first; mid = d.mid; reads = inl d.reads; goes = d.goes })
   suffix_sound (Some terminal.AtPrefix) ts x us q h = let d = (tagged terminal.AtPrefix).sound ts x us h in inl (record { first = d.first; mid = d.mid; reads = inr (inl d.reads); goes = d.goes })
   suffix_sound (Some terminal.AtBase) ts x us q h = let d = (tagged terminal.AtBase).sound ts x us h in inl (record { first = d.first; mid = d.mid; reads = inr (inr d.reads); goes = d.goes })
-  suffix_sound (Some terminal.Caret) ts x us q h = inr (inl (typed.sound ts x us (rw (any_the terminal.Caret ts q) at h)))
+  suffix_sound (Some terminal.Caret) ts x us q h = inr (inl (typed.sound ts x us (rw (any_the same_terminal apart terminal.Caret ts q) at h)))
   suffix_sound _ ts x us q h = inr (inr (some_pair (l.Plain form) x ts us h))
 
   tag_complete : (ts : Lexemes) (x : Literal) (us : Lexemes) (tag : Piece) (mid : Lexemes) → g.Tag ts tag mid → grammar.pure (l.Tagged form tag) mid x us
@@ -136,7 +137,7 @@ module _ (form : Piece) where
 
   suffix_complete : (ts : Lexemes) (x : Literal) (us : Lexemes) → g.Suffix form ts x us → after_node us ≡ true → read.suffix_by form (next_terminal ts) ts ≡ Some (x, us)
   suffix_complete ts x us (inl h) e = tag_complete ts x us h.first h.mid h.reads h.goes
-  suffix_complete ts x us (inr (inl h)) e = let q = the_terminal terminal.Caret ts h.mid h.first h.reads in rw q (rw (any_the terminal.Caret ts q) (typed.complete ts x us h refl))
+  suffix_complete ts x us (inr (inl h)) e = let q = the_terminal terminal.Caret ts h.mid h.first h.reads in rw q (rw (any_the same_terminal apart terminal.Caret ts q) (typed.complete ts x us h refl))
   suffix_complete ts x us (inr (inr h)) e = rw (h.1, plain_at (next_terminal us) e, h.0) refl
 
   tag_shorter : (ts : Lexemes) (tag : Piece) (mid : Lexemes) → g.Tag ts tag mid → length mid ≤ length ts
@@ -167,8 +168,8 @@ literal_sound : (k : Option Terminal) (ts : Lexemes) (x : Literal) (us : Lexemes
 literal_sound (Some terminal.Integer) ts x us q h = inr (inl ((number l.Integer terminal.Integer).sound ts x us h))
 literal_sound (Some terminal.Decimal) ts x us q h = inr (inr (inl ((number l.Decimal terminal.Decimal).sound ts x us h)))
 literal_sound (Some terminal.Double) ts x us q h = inr (inr (inr (inl ((number l.Double terminal.Double).sound ts x us h))))
-literal_sound (Some terminal.True) ts x us q h = inr (inr (inr (inr (inl (word_sound terminal.True (l.Boolean true) x ts us q h)))))
-literal_sound (Some terminal.False) ts x us q h = inr (inr (inr (inr (inr (word_sound terminal.False (l.Boolean false) x ts us q h)))))
+literal_sound (Some terminal.True) ts x us q h = inr (inr (inr (inr (inl (word_sound same_terminal apart terminal.True (l.Boolean true) x ts us q h)))))
+literal_sound (Some terminal.False) ts x us q h = inr (inr (inr (inr (inr (word_sound same_terminal apart terminal.False (l.Boolean false) x ts us q h)))))
 literal_sound _ ts x us q h = inl (text_decides.sound ts x us h)
 
 literal_complete : (ts : Lexemes) (x : Literal) (us : Lexemes) → g.ALiteral ts x us → after_node us ≡ true → read.literal_by (next_terminal ts) ts ≡ Some (x, us)
@@ -176,8 +177,8 @@ literal_complete ts x us (inl h) e = rw (value_terminal terminal.Text ts h.mid h
 literal_complete ts x us (inr (inl h)) e = rw (value_terminal terminal.Integer ts h.mid h.first h.reads) ((number l.Integer terminal.Integer).complete ts x us h refl)
 literal_complete ts x us (inr (inr (inl h))) e = rw (value_terminal terminal.Decimal ts h.mid h.first h.reads) ((number l.Decimal terminal.Decimal).complete ts x us h refl)
 literal_complete ts x us (inr (inr (inr (inl h)))) e = rw (value_terminal terminal.Double ts h.mid h.first h.reads) ((number l.Double terminal.Double).complete ts x us h refl)
-literal_complete ts x us (inr (inr (inr (inr (inl h))))) e = let q = the_terminal terminal.True ts h.mid h.first h.reads in rw q (word_complete terminal.True (l.Boolean true) x ts us q h)
-literal_complete ts x us (inr (inr (inr (inr (inr h))))) e = let q = the_terminal terminal.False ts h.mid h.first h.reads in rw q (word_complete terminal.False (l.Boolean false) x ts us q h)
+literal_complete ts x us (inr (inr (inr (inr (inl h))))) e = let q = the_terminal terminal.True ts h.mid h.first h.reads in rw q (word_complete same_terminal apart terminal.True (l.Boolean true) x ts us q h)
+literal_complete ts x us (inr (inr (inr (inr (inr h))))) e = let q = the_terminal terminal.False ts h.mid h.first h.reads in rw q (word_complete same_terminal apart terminal.False (l.Boolean false) x ts us q h)
 
 pub literal_strict : (ts : Lexemes) (x : Literal) (us : Lexemes) → g.ALiteral ts x us → length us < length ts
 literal_strict ts x us (inl h) = let e = suffix_shorter h.first h.mid x us h.goes in omega (arith, ap length h.reads.3)

@@ -16,7 +16,7 @@ use Rattle.rdf_grammar.specs.Readings as reading
 use Rattle.rdf_grammar.specs.Terminals as front
 use Rattle.rdf_grammar.specs.Terminals.{Piece, next_terminal}
 use Rattle.rdf_turtle.specs.Terminals.{same_terminal, apart}
-use Rattle.rdf_grammar.specs.Readings.{any, is_nil}
+use Rattle.rdf_grammar.specs.Readings.{any, is_nil, is_more}
 use Rattle.rdf_grammar.specs.Derivations as grammar
 use Rattle.rdf_grammar.specs.Derivations.{Then, Star, stop, more}
 use Rattle.rdf_turtle.specs.Reading as read
@@ -288,19 +288,19 @@ module _ (inner node : Reading Node) (Inner Node' : Derives Node) (ri : IsNodeRu
 
   -- ---- documents
 
-  some_more : (ts us : Lexemes) → length us < length ts → read.is_more ts ≡ true
+  some_more : (ts us : Lexemes) → length us < length ts → is_more ts ≡ true
   some_more [] us h = absurd (omega arith)
   some_more (t ∷ ts) us h = refl
 
-  statements_start : (ts : Lexemes) (x : List Statement) (us : Lexemes) → grammar.one (g.AStatement Inner Node') ts x us → (read.is_more ts ≡ true) × (length us < length ts)
+  statements_start : (ts : Lexemes) (x : List Statement) (us : Lexemes) → grammar.one (g.AStatement Inner Node') ts x us → (is_more ts ≡ true) × (length us < length ts)
   statements_start ts x us h = let l = statement_strict ts h.first h.mid h.reads in (some_more ts h.mid l, omega (arith, ap length h.goes.1))
 
-  ended_stops : (us : Lexemes) → ended us ≡ true → read.is_more us ≡ false
+  ended_stops : (us : Lexemes) → ended us ≡ true → is_more us ≡ false
   ended_stops [] h = refl
   ended_stops (t ∷ ts) h = absurd (cc)
 
-  pub statements_decide : Decides (reading.repeat read.is_more (reading.one (read.statement inner node))) (Star (grammar.one (g.AStatement Inner Node'))) ended
-  statements_decide = repeat_decides read.is_more _ _ always ended (one_decides _ _ always statement_decides)
+  pub statements_decide : Decides (reading.repeat is_more (reading.one (read.statement inner node))) (Star (grammar.one (g.AStatement Inner Node'))) ended
+  statements_decide = repeat_decides is_more _ _ always ended (one_decides _ _ always statement_decides)
       statements_start ended_stops (λ us h. refl) (λ us h. refl)
 
 -- The reading of a document is its grammar, at each depth.
