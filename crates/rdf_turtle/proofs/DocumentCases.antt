@@ -6,6 +6,7 @@ use Rattle.std.specs.List.{AllByRecursion}
 use Rattle.std.specs.Str.{chars, IsUtf8, is_utf8, IsValidUpTo}
 use Rattle.rdf_terms.specs.declared.quad.Quad.{Quad}
 use Rattle.rdf_turtle.specs.declared.fault.TurtleFault.{TurtleFault}
+use Rattle.rdf_grammar.specs.declared.fault.GrammarFault.TheVariants as refused
 use Rattle.rdf_turtle.specs.declared.fault.TurtleFaultKind.{TurtleFaultKind}
 use Rattle.rdf_turtle.specs.declared.fault.TurtleFaultKind.TheVariants as fault
 use Rattle.rdf_turtle.specs.Lexemes.{Lexeme, AreLexemes, Lexemes, Outcome}
@@ -132,7 +133,7 @@ more_left ss us l ls e = let none : l ∷ ls ≡ [] = (some_pair ss us (l ∷ ls
 by_tree : (base : Option (List ℕ)) (text : List ℕ) (tokens : List Token) (lexemes : Lexemes) → HasTokens text tokens lexemes → ¬ (IsTooDeep lexemes) → (o : Outcome (List Statement)) → document 100 lexemes ≡ o
     → Meant base text
 by_tree base text tokens lexemes h shallow None e =
-    inr (record { line = 0; kind = fault.Syntax }, (tokens, lexemes, h, shallow, stop_explained lexemes fault.Syntax 0 shallow e))
+    inr (record { line = 0; kind = fault.Syntax }, (tokens, lexemes, h, shallow, stop_explained lexemes refused.Syntax 0 shallow e))
 by_tree base text tokens lexemes h shallow (Some (tree, [])) e =
     let found : HasTree text tree = record { tokens = tokens; lexemes = lexemes; list = h; shallow = shallow; reads = document_found lexemes tree e } in
     by_answer base text tree found (answer base tree) refl
