@@ -1,10 +1,10 @@
 -- Lexemes, one for each token.
-use Rattle.std.proofs.Common.{◌≡◌, ℕ, List, [], ◌∷◌, ◌++◌, subst}
+use Rattle.std.proofs.Common.{ℕ, List, [], ◌∷◌, ◌++◌, subst}
 use Rattle.std.specs.List.{AllByRecursion}
 use Rattle.rdf_tokens.specs.declared.token.Kind.{Kind}
 use Rattle.rdf_tokens.specs.declared.token.Token.{Token}
 use Rattle.rdf_tokens.specs.Forms.{HasForm}
-use Rattle.rdf_tokens.specs.Tokens.{Runs, HasItsForm}
+use Rattle.rdf_tokens.specs.Tokens.{HasItsForm}
 use Rattle.rdf_tokens.proofs.CallerLemmas.{stands_once, token_stands, runs_have_forms}
 use Rattle.rdf_grammar.specs.declared.lexeme.Lexeme.{Lexeme}
 use Rattle.rdf_grammar.specs.Terminals.{Lexemes}

@@ -1,5 +1,5 @@
 -- Where no more than so many brackets are open at once, no derivation nests deeper.
-use Rattle.std.proofs.Common.{◌≡◌, ℕ, zero, suc, ◌+◌, ◌-◌, ◌≤◌, List, [], ◌∷◌, length, take, Option, Some, None, refl, ◌∙◌, ap, arith, inl, inr}
+use Rattle.std.proofs.Common.{◌≡◌, ℕ, suc, ◌+◌, ◌≤◌, List, [], ◌∷◌, take, Some, None, ◌∙◌, ap, inl, inr}
 use Rattle.rdf_grammar.specs.declared.bracket.Bracket.{Bracket}
 use Rattle.rdf_grammar.specs.declared.lexeme.Lexeme.{Lexeme}
 use Rattle.rdf_grammar.specs.Terminals.{Piece, Lexemes}

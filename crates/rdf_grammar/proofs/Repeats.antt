@@ -5,7 +5,7 @@ use Rattle.std.proofs.lemmas.List.{append-nil}
 use Rattle.rdf_grammar.specs.Steps.{and_then}
 use Rattle.rdf_grammar.specs.declared.fault.GrammarFault.{GrammarFault}
 use Rattle.rdf_grammar.specs.declared.fault.GrammarFault.TheVariants.{Syntax, NoMemory}
-use Rattle.rdf_grammar.specs.Readings.{Outcome, Reading, Test, Fails, is_more, one, repeat, repeat_within}
+use Rattle.rdf_grammar.specs.Readings.{Outcome, Reading, Fails, is_more, one, repeat, repeat_within}
 
 abbrev pub with_front : {X A : Type 0} → List A → Outcome X (List A) → Outcome X (List A)
 with_front found o = and_then o (λ xs ts. Some (found ++ xs, ts))

@@ -1,13 +1,12 @@
 -- Turns of the readers of lists.
-use Rattle.std.proofs.Common.{◌≡◌, ◌<◌, true, false, List, [], ◌∷◌, ◌++◌, length, Option, Some, None, refl, sym, ◌∙◌, ap, arith}
+use Rattle.std.proofs.Common.{◌≡◌, ◌<◌, true, [], ◌∷◌, length, Option, Some, None, refl, sym, ◌∙◌, ap, arith}
 use Rattle.std.specs.Prelude.{option_to_list}
-use Rattle.std.proofs.lemmas.List.{append-nil}
 use Rattle.rdf_turtle.specs.declared.terminal.Terminal.{Terminal}
 use Rattle.rdf_turtle.specs.declared.terminal.Terminal.TheVariants as terminal
 use Rattle.rdf_turtle.specs.declared.tree.Node.{Node}
 use Rattle.rdf_turtle.specs.declared.tree.Property.{Property}
-use Rattle.rdf_turtle.specs.Lexemes.{Lexemes, Reading, the, sees}
-use Rattle.rdf_grammar.specs.Readings.{one, next, is_more}
+use Rattle.rdf_turtle.specs.Lexemes.{Lexemes, Reading, sees}
+use Rattle.rdf_grammar.specs.Readings.{next}
 use Rattle.rdf_grammar.specs.Terminals as front
 use Rattle.rdf_grammar.specs.Terminals.{next_terminal}
 use Rattle.rdf_turtle.specs.Reading.{more, optional_property, begins_node, sees_node}

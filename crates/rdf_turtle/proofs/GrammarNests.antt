@@ -1,9 +1,8 @@
 -- Where no more than so many brackets are open at once, no derivation nests deeper.
-use Rattle.std.proofs.Common.{◌≡◌, ℕ, zero, suc, ◌+◌, ◌-◌, ◌≤◌, List, [], ◌∷◌, length, take, Some, None, refl, ◌∙◌, ap, arith, inl, inr, true, false}
+use Rattle.std.proofs.Common.{◌≡◌, ℕ, zero, suc, ◌+◌, ◌-◌, ◌≤◌, List, [], ◌∷◌, take, refl, arith, true, false}
 use Rattle.std.specs.Prelude.{option_to_list}
-use Rattle.rdf_turtle.specs.declared.terminal.Terminal.{Terminal}
 use Rattle.rdf_turtle.specs.declared.terminal.Terminal.TheVariants as terminal
-use Rattle.rdf_turtle.specs.Lexemes.{Lexeme, Lexemes, Derives}
+use Rattle.rdf_turtle.specs.Lexemes.{Lexemes, Derives}
 use Rattle.rdf_grammar.specs.declared.tree.Name.TheVariants.{Full}
 use Rattle.rdf_turtle.specs.declared.tree.Verb.TheVariants as v
 use Rattle.rdf_grammar.specs.declared.tree.Literal.TheVariants as l
@@ -12,14 +11,13 @@ use Rattle.rdf_turtle.specs.declared.tree.Node.TheVariants as n
 use Rattle.rdf_turtle.specs.declared.tree.Statement.{Statement}
 use Rattle.rdf_turtle.specs.declared.tree.Statement.TheVariants as s
 use Rattle.rdf_grammar.specs.Terminals.{Piece}
-use Rattle.rdf_turtle.specs.Nesting.{open_behind, open_after}
+use Rattle.rdf_turtle.specs.Nesting.{open_after}
 use Rattle.rdf_turtle.specs.Reading as read
 use Rattle.rdf_grammar.specs.Derivations as grammar
 use Rattle.rdf_grammar.specs.Derivations.{Then, Star, stop, more}
 use Rattle.rdf_turtle.specs.Grammar as g
-use Rattle.rdf_grammar.proofs.Depths.{one_behind}
 use Rattle.rdf_turtle.specs.Terminals.{bracket}
-use Rattle.rdf_grammar.proofs.Nests.{Keeps, then_keeps, pure_keeps, or_keeps, the_keeps, value_keeps, map_keeps, behind_keeps, word_keeps, leaf_keeps, maybe_keeps, star_keeps, one_keeps, enclosed, pair_keeps, namespace_keeps}
+use Rattle.rdf_grammar.proofs.Nests.{Keeps, then_keeps, pure_keeps, or_keeps, value_keeps, map_keeps, behind_keeps, word_keeps, leaf_keeps, maybe_keeps, star_keeps, one_keeps, enclosed, pair_keeps, namespace_keeps}
 
 module _ (limit b : ℕ) where
   iri_keeps : Keeps bracket limit b g.Iri g.Iri

@@ -9,7 +9,6 @@ use Rattle.rdf_turtle.specs.declared.tree.Property.{Property}
 use Rattle.rdf_grammar.specs.Steps as steps
 use Rattle.rdf_turtle.specs.Lexemes as lexemes
 use Rattle.rdf_grammar.specs.Readings as reading
-use Rattle.rdf_grammar.specs.Terminals as front
 use Rattle.rdf_turtle.specs.Lexemes.{Lexemes, Reading, sees, Derives, Test}
 use Rattle.rdf_grammar.specs.Terminals.{next_terminal}
 use Rattle.rdf_grammar.specs.Derivations as grammar

@@ -1,5 +1,5 @@
 -- Each production is read just as it is derived.
-use Rattle.std.proofs.Common.{◌≡◌, ◌<◌, ◌≤◌, Bool, true, false, [], ◌∷◌, length, Option, Some, None, refl, ◌∙◌, ap, arith, inl, inr, ◌⊎◌, cond}
+use Rattle.std.proofs.Common.{◌≡◌, ◌<◌, ◌≤◌, Bool, true, false, length, Option, Some, refl, ap, arith, inl, inr, ◌⊎◌}
 use Rattle.rdf_turtle.specs.declared.terminal.Terminal.{Terminal}
 use Rattle.rdf_turtle.specs.declared.terminal.Terminal.TheVariants as terminal
 use Rattle.rdf_grammar.specs.declared.tree.Name.{Name}
@@ -11,20 +11,17 @@ use Rattle.rdf_grammar.specs.declared.tree.Literal.TheVariants as l
 use Rattle.rdf_grammar.specs.Steps as steps
 use Rattle.rdf_grammar.specs.Steps.{and_then}
 use Rattle.rdf_turtle.specs.Lexemes as lexemes
-use Rattle.rdf_grammar.specs.Readings as reading
 use Rattle.rdf_grammar.specs.Terminals as front
 use Rattle.rdf_grammar.specs.Terminals.{Piece, next_terminal}
 use Rattle.rdf_turtle.specs.Lexemes.{Lexemes, Outcome, Reading, sees, Derives, Test}
 use Rattle.rdf_turtle.specs.Terminals.{same_terminal, apart}
-use Rattle.rdf_grammar.specs.Readings.{next, any}
 use Rattle.rdf_grammar.specs.Derivations as grammar
 use Rattle.rdf_grammar.specs.Derivations.{Then, Star, stop, more}
 use Rattle.rdf_turtle.specs.Reading as read
 use Rattle.rdf_turtle.specs.Grammar as g
-use Rattle.rdf_grammar.proofs.Decides.{always, Decides, then_decides, pure_decides, some_pair, and_then_some}
+use Rattle.rdf_grammar.proofs.Decides.{always, Decides, some_pair}
 use Rattle.rdf_grammar.proofs.Terminals.{the_decides, value_decides, the_terminal, value_terminal, any_the, word_sound, word_complete, word_strict}
 use Rattle.rdf_grammar.proofs.Combinators.{seq, last}
-use Rattle.rdf_turtle.proofs.GrammarTerminals.{same_is, same_refl}
 
 -- ---- iri
 

@@ -1,6 +1,5 @@
 -- Statements and documents are read just as they are derived.
-use Rattle.std.proofs.Common.{◌≡◌, ℕ, suc, ◌<◌, ◌≤◌, Bool, true, false, List, [], ◌∷◌, length, Option, Some, None, refl, ◌∙◌, ap, arith, inl, inr, ◌⊎◌, cond}
-use Rattle.std.specs.Prelude.{◌&&◌}
+use Rattle.std.proofs.Common.{◌≡◌, ℕ, suc, ◌<◌, ◌≤◌, true, false, List, [], ◌∷◌, length, Option, Some, refl, ◌∙◌, ap, arith, inl, inr, ◌⊎◌}
 use Rattle.rdf_turtle.specs.declared.terminal.Terminal.{Terminal}
 use Rattle.rdf_turtle.specs.declared.terminal.Terminal.TheVariants as terminal
 use Rattle.rdf_turtle.specs.Lexemes.{Lexeme, Lexemes, Reading, Outcome, sees, Derives, Test}
@@ -9,21 +8,18 @@ use Rattle.rdf_turtle.specs.declared.tree.Node.TheVariants as n
 use Rattle.rdf_turtle.specs.declared.tree.Property.{Property}
 use Rattle.rdf_turtle.specs.declared.tree.Statement.{Statement}
 use Rattle.rdf_turtle.specs.declared.tree.Statement.TheVariants as s
-use Rattle.rdf_tokens.specs.Values.{prefix_part, local_part}
 use Rattle.rdf_grammar.specs.Steps as steps
 use Rattle.rdf_turtle.specs.Lexemes as lexemes
 use Rattle.rdf_grammar.specs.Readings as reading
-use Rattle.rdf_grammar.specs.Terminals as front
-use Rattle.rdf_grammar.specs.Terminals.{Piece, next_terminal}
+use Rattle.rdf_grammar.specs.Terminals.{next_terminal}
 use Rattle.rdf_turtle.specs.Terminals.{same_terminal, apart}
 use Rattle.rdf_grammar.specs.Readings.{any, is_nil, is_more}
 use Rattle.rdf_grammar.specs.Derivations as grammar
 use Rattle.rdf_grammar.specs.Derivations.{Then, Star, stop, more}
 use Rattle.rdf_turtle.specs.Reading as read
 use Rattle.rdf_turtle.specs.Grammar as g
-use Rattle.rdf_grammar.proofs.Decides.{always, Decides, then_decides, pure_decides, repeat_decides, got, some_pair}
+use Rattle.rdf_grammar.proofs.Decides.{always, Decides, then_decides, pure_decides, repeat_decides}
 use Rattle.rdf_grammar.proofs.Terminals.{the_decides, value_decides, after_terminal, the_terminal, value_terminal, any_the, namespace_decides}
-use Rattle.rdf_turtle.proofs.GrammarTerminals.{same_is, same_refl}
 use Rattle.rdf_grammar.proofs.Combinators.{one_decides, seq, last}
 use Rattle.rdf_turtle.proofs.GrammarProductions.{iri_terminal}
 use Rattle.rdf_turtle.proofs.GrammarNodes.{ends_list, IsNodeRule, node_rule, Bracketed, bracketed_decides, OptionalPredicateObjectList, optional_predicate_object_list_decides, predicate_object_list_decides, AnySubject, subject_decides, bracketed_is, anonymous_is, blank_node_property_list_is}

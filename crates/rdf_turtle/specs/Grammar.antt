@@ -1,7 +1,7 @@
 -- The grammar of Turtle as it is written (Turtle 1.1, section 6.5, by the numbers of its rules), with no look at the next lexeme.
-use Rattle.std.specs.Prelude.{◌≡◌, ℕ, zero, suc, true, false, List, [], ◌∷◌, option_to_list}
+use Rattle.std.specs.Prelude.{ℕ, zero, suc, true, false, List, [], ◌∷◌, option_to_list}
 use Rattle.rdf_turtle.specs.declared.terminal.Terminal.TheVariants as terminal
-use Rattle.rdf_turtle.specs.Lexemes.{Lexeme, Lexemes, Derives}
+use Rattle.rdf_turtle.specs.Lexemes.{Lexemes, Derives}
 use Rattle.rdf_grammar.specs.declared.tree.Name.{Name}
 use Rattle.rdf_grammar.specs.declared.tree.Name.TheVariants.{Full}
 use Rattle.rdf_turtle.specs.declared.tree.Verb.{Verb}
@@ -13,7 +13,6 @@ use Rattle.rdf_turtle.specs.declared.tree.Node.TheVariants as n
 use Rattle.rdf_turtle.specs.declared.tree.Property.{Property}
 use Rattle.rdf_turtle.specs.declared.tree.Statement.{Statement}
 use Rattle.rdf_turtle.specs.declared.tree.Statement.TheVariants as s
-use Rattle.rdf_tokens.specs.Values.{prefix_part, local_part}
 use Rattle.rdf_grammar.specs.Terminals.{Piece}
 use Rattle.rdf_turtle.specs.Reading.{prefixed, property_with, all_of}
 use Rattle.rdf_grammar.specs.Derivations.{◌>>=◌, ◌>>◌, ◌<$>◌, ◌∣◌, pure, the, value, namespace, one, maybe, Star}

@@ -1,5 +1,5 @@
 -- Tokens as Turtle's grammar sees them, and what is read and derived of them.
-use Rattle.std.specs.Prelude.{ℕ, Bool, List}
+use Rattle.std.specs.Prelude.{ℕ, List}
 use Rattle.rdf_tokens.specs.declared.token.Token.{Token}
 use Rattle.rdf_grammar.specs.declared.lexeme.Lexeme as declared
 use Rattle.rdf_grammar.specs.Derivations as derivations

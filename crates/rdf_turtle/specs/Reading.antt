@@ -1,6 +1,6 @@
 -- The grammar of Turtle (Turtle 1.1, section 6.5), a definition for each production. Where a production has alternatives the
 -- next lexeme chooses.
-use Rattle.std.specs.Prelude.{ℕ, zero, suc, Bool, true, false, List, [], ◌∷◌, Option, Some, None, option_to_list, ◌&&◌, if◌then◌else◌}
+use Rattle.std.specs.Prelude.{ℕ, zero, suc, Bool, true, false, List, [], ◌∷◌, Option, Some, None, option_to_list}
 use Rattle.rdf_turtle.specs.declared.terminal.Terminal.{Terminal}
 use Rattle.rdf_turtle.specs.declared.terminal.Terminal.TheVariants as terminal
 use Rattle.rdf_grammar.specs.declared.tree.Name.{Name}
@@ -16,9 +16,9 @@ use Rattle.rdf_turtle.specs.declared.tree.Statement.{Statement}
 use Rattle.rdf_turtle.specs.declared.tree.Statement.TheVariants as s
 use Rattle.rdf_tokens.specs.Values.{prefix_part, local_part}
 use Rattle.rdf_grammar.specs.Steps.{◌>>=◌, ◌>>◌, ◌<$>◌, pure, none}
-use Rattle.rdf_grammar.specs.Terminals.{Piece, peek, next_terminal, next_text}
+use Rattle.rdf_grammar.specs.Terminals.{Piece, peek, next_terminal}
 use Rattle.rdf_turtle.specs.Lexemes.{Lexemes, Reading, sees, the, value, namespace}
-use Rattle.rdf_grammar.specs.Readings.{next, is_nil, any, one, optional, repeat, is_more}
+use Rattle.rdf_grammar.specs.Readings.{any, one, optional, repeat, is_more}
 
 -- a prefix and a local part
 abbrev pub prefixed : Piece → Name

@@ -1,5 +1,5 @@
 -- The terminals of Turtle's grammar (Turtle 1.1, section 6.5).
-use Rattle.std.specs.Prelude.{◌≡◌, ℕ, Bool, if◌then◌else◌, List, codes, map, refl}
+use Rattle.std.specs.Prelude.{ℕ, Bool, if◌then◌else◌, List, codes, map, refl}
 use Rattle.std.specs.Char.{to_ascii_lowercase}
 use Rattle.std.specs.Str.{bytes_eq, encode_utf8_all}
 use denote.Enum.Bare.{sameb, same_true, true_same}

@@ -5,7 +5,6 @@ use Rattle.rdf_tokens.specs.declared.token.Kind.TheVariants.{Iri}
 use Rattle.rdf_tokens.specs.declared.token.Token.{Token}
 use Rattle.rdf_tokens.proofs.CallerLemmas.{runs_have_forms, form_at}
 use Rattle.rdf_grammar.specs.Lexemes.{AreLexemes}
-use Rattle.rdf_grammar.specs.Terminals.{Lexemes}
 use Rattle.rdf_grammar.proofs.LexemeLemmas.{lexemes_push}
 use Rattle.rdf_grammar.proofs.lexeme_list.lexemes.Goals as goal
 
