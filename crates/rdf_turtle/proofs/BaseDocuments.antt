@@ -20,7 +20,7 @@ use Rattle.rdf_turtle.specs.Bases.{lacks, lacks_node, lacks_property, lacks_stat
 use Rattle.rdf_turtle.specs.Known.{holds, known_node, known_property, known_statement, declared_behind, declares_first}
 use Rattle.rdf_turtle.specs.Meaning.{resolved, meaning, property, properties, has_properties, statement, document, triples_of}
 use Rattle.rdf_turtle.specs.State.{State, Does, key_of, same_key, start, declares, moves_base}
-use Rattle.rdf_turtle.specs.Steps.{Outcome, and_then}
+use Rattle.rdf_grammar.specs.Steps.{Outcome, and_then}
 use Rattle.rdf_turtle.proofs.BaseLeaves.{lexemes_formed}
 use Rattle.rdf_turtle.proofs.BaseSteps.{Given, Any, IsIri, NoLiteral, Comes, Goes, NodeGoes, then_goes, resolved_goes, each_goes}
 use Rattle.rdf_turtle.proofs.BaseTrees.{GoodStatement, GoodTriples, all_say, good_document}

@@ -9,17 +9,18 @@ use lib.Utf8.{scalar, scalars}
 use Rattle.rdf_terms.specs.Escapes.{Writes, IsNumericEscape}
 use Rattle.rdf_terms.specs.Literal.{is_tag}
 use Rattle.rdf_terms.specs.Quoted.{IsIriCharacter, IsIriRef}
-use Rattle.rdf_turtle.specs.declared.lexeme.Lexeme.{Lexeme}
-use Rattle.rdf_turtle.specs.declared.lexeme.Terminal.{Terminal}
-use Rattle.rdf_turtle.specs.declared.lexeme.Terminal.TheVariants as terminal
+use Rattle.rdf_turtle.specs.Lexemes.{Lexeme, IsLexeme, AreLexemes}
+use Rattle.rdf_turtle.specs.declared.terminal.Terminal.{Terminal}
+use Rattle.rdf_turtle.specs.declared.terminal.Terminal.TheVariants as terminal
 use Rattle.rdf_tokens.specs.declared.token.Kind.{Kind}
 use Rattle.rdf_tokens.specs.declared.token.Kind.TheVariants as kind
 use Rattle.rdf_tokens.specs.declared.token.Token.{Token}
 use Rattle.rdf_turtle.specs.Document.{HasTokens}
 use Rattle.rdf_tokens.specs.Forms.{HasForm, IsLocal}
-use Rattle.rdf_turtle.specs.Lexemes.{without_case, at_word_terminal, word_terminal, symbol_terminal, terminal_of, IsLexeme, AreLexemes, HaveForms}
+use Rattle.rdf_turtle.specs.Terminals.{without_case, at_word_terminal, word_terminal, symbol_terminal, terminal_of, terminal_by}
+use Rattle.rdf_grammar.specs.Lexemes.{HaveForms}
 use Rattle.rdf_tokens.specs.Values.{iri_value, local_part, tag_value}
-use Rattle.rdf_turtle.proofs.LexemeLemmas.{lexemes_have_forms}
+use Rattle.rdf_grammar.proofs.LexemeLemmas.{lexemes_have_forms}
 use Rattle.rdf_tokens.proofs.CallerLemmas.{scalars_parts, tag_form, iri_value_is, local_part_is}
 
 -- ---- lexemes of a text
@@ -45,7 +46,7 @@ all_formed text (token ∷ tokens) (t ∷ ts) all are have = (lexeme_formed text
 
 pub lexemes_formed : (text : List ℕ) (tokens : List Token) (ts : List Lexeme) → HasTokens text tokens ts → AllByRecursion Formed ts
 lexemes_formed text tokens ts h =
-    all_formed (chars text) tokens ts (scalars-chars text h.utf8) h.pieces (lexemes_have_forms (chars text) (chars text) h.list.0 tokens ts h.list.1 h.pieces)
+    all_formed (chars text) tokens ts (scalars-chars text h.utf8) h.pieces (lexemes_have_forms terminal_by (chars text) (chars text) h.list.0 tokens ts h.list.1 h.pieces)
 
 -- ---- the kind of a terminal
 

@@ -14,19 +14,19 @@ use Rattle.rdf_terms.specs.declared.term.Term.{Term}
 use Rattle.rdf_terms.specs.declared.term.Term.TheVariants as t
 use Rattle.rdf_terms.proofs.CleanLemmas.{resolved_iri}
 use Rattle.rdf_terms.proofs.Utf8Lemmas.{iri_from}
-use Rattle.rdf_turtle.specs.declared.tree.Name.{Name}
-use Rattle.rdf_turtle.specs.declared.tree.Name.TheVariants.{Full, Prefixed}
+use Rattle.rdf_grammar.specs.declared.tree.Name.{Name}
+use Rattle.rdf_grammar.specs.declared.tree.Name.TheVariants.{Full, Prefixed}
 use Rattle.rdf_turtle.specs.declared.tree.Verb.{Verb}
 use Rattle.rdf_turtle.specs.declared.tree.Verb.TheVariants as v
-use Rattle.rdf_turtle.specs.declared.tree.Literal.{Literal}
-use Rattle.rdf_turtle.specs.declared.tree.Literal.TheVariants as l
+use Rattle.rdf_grammar.specs.declared.tree.Literal.{Literal}
+use Rattle.rdf_grammar.specs.declared.tree.Literal.TheVariants as l
 use Rattle.rdf_turtle.specs.Bases.{lacks, lacks_name, lacks_verb, lacks_literal}
 use Rattle.rdf_tokens.specs.Forms.{IsLocal}
 use Rattle.rdf_turtle.specs.Known.{holds, known_name, known_verb, known_literal}
 use Rattle.rdf_turtle.specs.Meaning.{Meaning, Says, known, resolved, iri_of, iri, verb, untagged, literal, object, objects, behind, list_term, list_inside}
 use Rattle.rdf_turtle.specs.References.{resolve, iri_text}
 use Rattle.rdf_turtle.specs.State.{State, Does, key_of, same_key, fresh, labelled, labelled_as, triple, says}
-use Rattle.rdf_turtle.specs.Steps.{Outcome, and_then, each}
+use Rattle.rdf_grammar.specs.Steps.{Outcome, and_then, each}
 use Rattle.rdf_tokens.specs.Values.{iri_value, local_value, text_value, tag_value}
 use Rattle.rdf_turtle.specs.Vocabulary.{rdf_first, rdf_rest, rdf_nil}
 use Rattle.rdf_tokens.proofs.CallerLemmas.{iri_value_allowed, pname_iri}

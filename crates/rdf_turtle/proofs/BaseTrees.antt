@@ -4,15 +4,15 @@ use Rattle.std.proofs.lemmas.Bool.{and_parts}
 use Rattle.std.specs.Prelude.{option_to_list}
 use Rattle.std.specs.List.{list_any, list_all, AllByRecursion}
 use Rattle.rdf_terms.specs.declared.term.Term.TheVariants as t
-use Rattle.rdf_turtle.specs.declared.lexeme.Terminal.{Terminal}
-use Rattle.rdf_turtle.specs.declared.lexeme.Terminal.TheVariants as terminal
-use Rattle.rdf_turtle.specs.declared.lexeme.Lexeme.{Lexeme}
-use Rattle.rdf_turtle.specs.declared.tree.Name.{Name}
-use Rattle.rdf_turtle.specs.declared.tree.Name.TheVariants.{Full}
+use Rattle.rdf_turtle.specs.declared.terminal.Terminal.{Terminal}
+use Rattle.rdf_turtle.specs.declared.terminal.Terminal.TheVariants as terminal
+use Rattle.rdf_turtle.specs.Lexemes.{Lexeme, Lexemes, Derives}
+use Rattle.rdf_grammar.specs.declared.tree.Name.{Name}
+use Rattle.rdf_grammar.specs.declared.tree.Name.TheVariants.{Full}
 use Rattle.rdf_turtle.specs.declared.tree.Verb.{Verb}
 use Rattle.rdf_turtle.specs.declared.tree.Verb.TheVariants as v
-use Rattle.rdf_turtle.specs.declared.tree.Literal.{Literal}
-use Rattle.rdf_turtle.specs.declared.tree.Literal.TheVariants as l
+use Rattle.rdf_grammar.specs.declared.tree.Literal.{Literal}
+use Rattle.rdf_grammar.specs.declared.tree.Literal.TheVariants as l
 use Rattle.rdf_turtle.specs.declared.tree.Node.{Node}
 use Rattle.rdf_turtle.specs.declared.tree.Node.TheVariants as n
 use Rattle.rdf_turtle.specs.declared.tree.Node.TheOpen.{Node-F, Property-F}
@@ -24,10 +24,10 @@ use Rattle.rdf_turtle.specs.Bases.{lacks_name, lacks_literal, lacks_property_of,
 use Rattle.rdf_turtle.specs.Known.{holds, known_name, known_literal, known_property_of, known_node_of, known_node, known_property}
 use Rattle.rdf_turtle.specs.Meaning.{Meaning, Says, iri, literal, node_of, property_of, meaning, property, has_properties, is_some_property}
 use Rattle.rdf_turtle.specs.State.{key_of}
-use Rattle.rdf_turtle.specs.Rules.{Piece, Lexemes}
+use Rattle.rdf_grammar.specs.Terminals.{Piece}
 use Rattle.rdf_turtle.specs.Reading as read
-use Rattle.rdf_turtle.specs.Derivations as grammar
-use Rattle.rdf_turtle.specs.Derivations.{Derives, Then, Star, stop, more}
+use Rattle.rdf_grammar.specs.Derivations as grammar
+use Rattle.rdf_grammar.specs.Derivations.{Then, Star, stop, more}
 use Rattle.rdf_turtle.specs.Grammar as g
 use Rattle.rdf_turtle.proofs.BaseLeaves.{Formed, is_tag_terminal, iri_utf8, local_formed, tag_formed}
 use Rattle.rdf_turtle.proofs.BaseSteps.{NameFormed, VerbFormed, LiteralFormed, Any, IsIri, NoLiteral, IsMore, NodeGoes, SomeGoes, SaysGoes, AllGo, AllSay, pure_goes, map_goes, wide_goes, iri_goes, literal_goes, labelled_goes, fresh_goes, each_goes, list_term_goes, list_inside_goes, property_goes}
@@ -338,7 +338,7 @@ GoodStatement (s.Prefix prefix reference) = NameFormed (Full reference)
 GoodStatement (s.Base reference) = NameFormed (Full reference)
 GoodStatement (s.Triples subject ps) = GoodTriples subject ps
 
-namespace_gives : Gives g.Namespace Any
+namespace_gives : Gives (grammar.namespace terminal.Pname) Any
 unfolding Gives
 namespace_gives ts x us d w = (tt, (front_formed ts us d.0 d.4 w).1)
 

@@ -6,24 +6,24 @@ use Rattle.std.specs.List.{AllByRecursion}
 use Rattle.std.specs.Str.{chars, IsUtf8, is_utf8, IsValidUpTo}
 use Rattle.rdf_terms.specs.declared.quad.Quad.{Quad}
 use Rattle.rdf_turtle.specs.declared.fault.TurtleFault.{TurtleFault}
+use Rattle.rdf_grammar.specs.declared.fault.GrammarFault.TheVariants as refused
 use Rattle.rdf_turtle.specs.declared.fault.TurtleFaultKind.{TurtleFaultKind}
 use Rattle.rdf_turtle.specs.declared.fault.TurtleFaultKind.TheVariants as fault
-use Rattle.rdf_turtle.specs.declared.lexeme.Lexeme.{Lexeme}
+use Rattle.rdf_turtle.specs.Lexemes.{Lexeme, AreLexemes, Lexemes, Outcome}
 use Rattle.rdf_tokens.specs.declared.token.Token.{Token}
 use Rattle.rdf_turtle.specs.declared.tree.Statement.{Statement}
 use Rattle.rdf_turtle.specs.Document.{HasTokens, HasTree, IsDocument, IsFaulty}
 use Rattle.rdf_turtle.specs.DocumentLaws.{SomeMeaning}
 use Rattle.rdf_turtle.specs.Known.{declares_first}
-use Rattle.rdf_turtle.specs.Lexemes.{AreLexemes, terminal_of}
+use Rattle.rdf_turtle.specs.Terminals.{terminal_of, bracket}
 use Rattle.rdf_tokens.specs.Lines.{line_of}
 use Rattle.rdf_turtle.specs.Meaning.{answer, triples_of}
 use Rattle.rdf_turtle.specs.Nesting.{IsTooDeep, IsTooDeepAt, open_after, open_behind}
 use Rattle.rdf_turtle.specs.Reading.{document}
-use Rattle.rdf_turtle.specs.Rules.{Lexemes, Outcome}
 use Rattle.rdf_tokens.specs.Tokens.{Says, HasItsForm}
 use Rattle.rdf_turtle.proofs.DocumentLemmas.{answer_kind, name_is, got, same_lengths}
-use Rattle.rdf_turtle.proofs.GrammarDecides.{some_pair}
-use Rattle.rdf_turtle.proofs.GrammarDepths.{one_behind}
+use Rattle.rdf_grammar.proofs.Decides.{some_pair}
+use Rattle.rdf_grammar.proofs.Depths.{one_behind}
 use Rattle.rdf_turtle.proofs.GrammarWhole.{document_found, document_read, stop_explained}
 use Rattle.rdf_tokens.proofs.CallerLemmas.{some_token_list, tokens_have_forms}
 
@@ -104,7 +104,7 @@ some_later b (suc n) place t ts low h l = h n (omega (arith, l))
 deep_or_not : (b : ℕ) (ts : Lexemes) → b ≤ 100 → DeepOrNot b ts
 deep_or_not b [] low = inl (λ n. never b n low)
 deep_or_not b (t ∷ ts) low = elim (cases_lt 100 (open_behind b t.terminal)) [
-  | inl over ↦ inr (0, omega arith, omega (arith, over, low, one_behind b t.terminal), λ n l. at_start b n t ts low l)
+  | inl over ↦ inr (0, omega arith, omega (arith, over, low, one_behind bracket b t.terminal), λ n l. at_start b n t ts low l)
   | inr fits ↦ elim (deep_or_not (open_behind b t.terminal) ts fits) [
     | inl all ↦ inl (λ n. all_later b n t ts low all)
     | inr found ↦ inr (suc found.0, omega (arith, found.1), found.2, λ n l. some_later b n found.0 t ts low found.3 l)
@@ -133,7 +133,7 @@ more_left ss us l ls e = let none : l ∷ ls ≡ [] = (some_pair ss us (l ∷ ls
 by_tree : (base : Option (List ℕ)) (text : List ℕ) (tokens : List Token) (lexemes : Lexemes) → HasTokens text tokens lexemes → ¬ (IsTooDeep lexemes) → (o : Outcome (List Statement)) → document 100 lexemes ≡ o
     → Meant base text
 by_tree base text tokens lexemes h shallow None e =
-    inr (record { line = 0; kind = fault.Syntax }, (tokens, lexemes, h, shallow, stop_explained lexemes fault.Syntax 0 shallow e))
+    inr (record { line = 0; kind = fault.Syntax }, (tokens, lexemes, h, shallow, stop_explained lexemes refused.Syntax 0 shallow e))
 by_tree base text tokens lexemes h shallow (Some (tree, [])) e =
     let found : HasTree text tree = record { tokens = tokens; lexemes = lexemes; list = h; shallow = shallow; reads = document_found lexemes tree e } in
     by_answer base text tree found (answer base tree) refl

@@ -2,15 +2,15 @@
 use Rattle.std.proofs.Common.{◌≡◌, ℕ, zero, suc, List, [], ◌∷◌, ◌++◌, map, Option, Some, None, refl, sym, ◌∙◌, ap, inl, inr, append_assoc, true, false}
 use Rattle.std.specs.Prelude.{option_to_list}
 use Rattle.std.specs.List.{AllByRecursion}
-use Rattle.rdf_turtle.specs.declared.lexeme.Terminal.{Terminal}
-use Rattle.rdf_turtle.specs.declared.lexeme.Terminal.TheVariants as terminal
-use Rattle.rdf_turtle.specs.declared.lexeme.Lexeme.{Lexeme}
-use Rattle.rdf_turtle.specs.declared.tree.Name.{Name}
-use Rattle.rdf_turtle.specs.declared.tree.Name.TheVariants.{Full}
+use Rattle.rdf_turtle.specs.declared.terminal.Terminal.{Terminal}
+use Rattle.rdf_turtle.specs.declared.terminal.Terminal.TheVariants as terminal
+use Rattle.rdf_turtle.specs.Lexemes.{Lexeme, Lexemes, Derives}
+use Rattle.rdf_grammar.specs.declared.tree.Name.{Name}
+use Rattle.rdf_grammar.specs.declared.tree.Name.TheVariants.{Full}
 use Rattle.rdf_turtle.specs.declared.tree.Verb.{Verb}
 use Rattle.rdf_turtle.specs.declared.tree.Verb.TheVariants as v
-use Rattle.rdf_turtle.specs.declared.tree.Literal.{Literal}
-use Rattle.rdf_turtle.specs.declared.tree.Literal.TheVariants as l
+use Rattle.rdf_grammar.specs.declared.tree.Literal.{Literal}
+use Rattle.rdf_grammar.specs.declared.tree.Literal.TheVariants as l
 use Rattle.rdf_turtle.specs.declared.tree.Node.{Node}
 use Rattle.rdf_turtle.specs.declared.tree.Node.TheVariants as n
 use Rattle.rdf_turtle.specs.declared.tree.Node.TheOpen.{Node-F}
@@ -19,10 +19,10 @@ use Rattle.rdf_turtle.specs.declared.tree.Property.{Property}
 use Rattle.rdf_turtle.specs.declared.tree.Statement.{Statement}
 use Rattle.rdf_turtle.specs.declared.tree.Statement.TheVariants as s
 use Rattle.rdf_tokens.specs.Values.{local_part}
-use Rattle.rdf_turtle.specs.Rules.{Piece, Lexemes}
+use Rattle.rdf_grammar.specs.Terminals.{Piece}
 use Rattle.rdf_turtle.specs.Reading as read
-use Rattle.rdf_turtle.specs.Derivations as grammar
-use Rattle.rdf_turtle.specs.Derivations.{Derives, Then, Star, stop, more}
+use Rattle.rdf_grammar.specs.Derivations as grammar
+use Rattle.rdf_grammar.specs.Derivations.{Then, Star, stop, more}
 use Rattle.rdf_turtle.specs.Grammar as g
 use Rattle.rdf_turtle.specs.Leaves.{Leaf, leaf, leaf_by, Stands, AllStand, joined, name_leaves, verb_leaves, literal_leaves, node_leaves_of, property_leaves_of, node_leaves, property_leaves, statement_leaves, document_leaves, IsSubject, HasSubject}
 
@@ -253,7 +253,7 @@ module _ (all : Lexemes) where
   abbrev IsNamespace : Piece → Type 0
   IsNamespace prefix = Stands all (terminal.Pname, prefix ∷ [] ∷ [])
 
-  namespace_gives : Gives all g.Namespace IsNamespace
+  namespace_gives : Gives all (grammar.namespace terminal.Pname) IsNamespace
   unfolding Gives
   namespace_gives ts x us d w =
       let e : leaf_by d.0.terminal d.0.text ≡ (terminal.Pname, x ∷ [] ∷ []) = ap (λ k. leaf_by k d.0.text) d.1 ∙ ap (λ p. (terminal.Pname, p ∷ local_part d.0.text ∷ [])) d.3 ∙ ap (λ p. (terminal.Pname, x ∷ p ∷ [])) d.2 in

@@ -1,20 +1,25 @@
 -- Lists, brackets and nodes are read just as they are derived.
 use Rattle.std.proofs.Common.{◌≡◌, ℕ, zero, suc, ◌<◌, Bool, true, false, List, [], ◌∷◌, length, Option, Some, None, refl, ◌∙◌, ap, arith, inl, inr, ◌⊎◌}
 use Rattle.std.specs.Prelude.{option_to_list}
-use Rattle.rdf_turtle.specs.declared.lexeme.Terminal.{Terminal}
-use Rattle.rdf_turtle.specs.declared.lexeme.Terminal.TheVariants as terminal
+use Rattle.rdf_turtle.specs.declared.terminal.Terminal.{Terminal}
+use Rattle.rdf_turtle.specs.declared.terminal.Terminal.TheVariants as terminal
 use Rattle.rdf_turtle.specs.declared.tree.Node.{Node}
 use Rattle.rdf_turtle.specs.declared.tree.Node.TheVariants as n
 use Rattle.rdf_turtle.specs.declared.tree.Property.{Property}
-use Rattle.rdf_turtle.specs.Steps as steps
-use Rattle.rdf_turtle.specs.Rules as rule
-use Rattle.rdf_turtle.specs.Rules.{Lexemes, Rule, sees, next_terminal}
-use Rattle.rdf_turtle.specs.Derivations as grammar
-use Rattle.rdf_turtle.specs.Derivations.{Derives, Then, Star, stop, more}
+use Rattle.rdf_grammar.specs.Steps as steps
+use Rattle.rdf_turtle.specs.Lexemes as lexemes
+use Rattle.rdf_grammar.specs.Readings as reading
+use Rattle.rdf_turtle.specs.Lexemes.{Lexemes, Reading, sees, Derives, Test}
+use Rattle.rdf_grammar.specs.Terminals.{next_terminal}
+use Rattle.rdf_grammar.specs.Derivations as grammar
+use Rattle.rdf_grammar.specs.Derivations.{Then, Star, stop, more}
 use Rattle.rdf_turtle.specs.Reading as read
 use Rattle.rdf_turtle.specs.Grammar as g
-use Rattle.rdf_turtle.proofs.GrammarDecides.{Test, always, Decides, then_decides, pure_decides, the_decides, value_decides, repeat_decides}
-use Rattle.rdf_turtle.proofs.GrammarProductions.{behind, one_decides, starts_with, seq, last, the_terminal, value_terminal, terminal_seen, seen_terminal, also, unseen, maybe_decides, iri_terminal, iri_strict, iri_decides, verb_begins, verb_decides, ends_node, after_node, literal_decides, literal_strict, begins_literal, literal_begins}
+use Rattle.rdf_grammar.proofs.Decides.{always, Decides, then_decides, pure_decides, repeat_decides}
+use Rattle.rdf_grammar.proofs.Terminals.{the_decides, value_decides, after_terminal, starts_with, the_terminal, value_terminal, terminal_seen, seen_terminal, unseen}
+use Rattle.rdf_grammar.proofs.Combinators.{one_decides, seq, last, also, maybe_decides}
+use Rattle.rdf_turtle.proofs.GrammarProductions.{iri_terminal, iri_strict, iri_decides, verb_begins, verb_decides, ends_node, after_node, literal_decides, literal_strict, begins_literal, literal_begins}
+use Rattle.rdf_turtle.specs.Terminals.{same_terminal, apart}
 
 -- ---- what may follow
 
@@ -87,22 +92,22 @@ literal_node _ h = absurd (cc)
 
 -- what begins with a lexeme of terminal k passes the tests that k passes
 seen_passes : (test : Option Terminal → Bool) (k : Terminal) → test (Some k) ≡ true → (us : Lexemes) → sees k us ≡ true → test (next_terminal us) ≡ true
-seen_passes test k h us s = rw (seen_terminal k us s) h
+seen_passes test k h us s = rw (seen_terminal same_terminal apart k us s) h
 
 -- ---- over a rule for nodes
 
-pub record IsNodeRule (node : Rule Node) (Node' : Derives Node) : Type 0 where
+pub record IsNodeRule (node : Reading Node) (Node' : Derives Node) : Type 0 where
   pub decides : Decides node Node' after_node
   pub begins : (ts : Lexemes) (x : Node) (us : Lexemes) → Node' ts x us → read.sees_node ts ≡ true
   pub strict : (ts : Lexemes) (x : Node) (us : Lexemes) → Node' ts x us → length us < length ts
 
-module _ (node : Rule Node) (Node' : Derives Node) (r : IsNodeRule node Node') where
+module _ (node : Reading Node) (Node' : Derives Node) (r : IsNodeRule node Node') where
   comma_starts : (ts : Lexemes) (x : List Node) (us : Lexemes) → grammar.one (grammar.◌>>◌ (grammar.the terminal.Comma) Node') ts x us → (sees terminal.Comma ts ≡ true) × (length us < length ts)
-  comma_starts ts x us h = let s = starts_with terminal.Comma Node' node after_node r.decides ts h.first h.mid h.reads in (s.0, let l = s.1 in omega (arith, ap length h.goes.1))
+  comma_starts ts x us h = let s = starts_with same_terminal apart terminal.Comma Node' node after_node r.decides ts h.first h.mid h.reads in (s.0, let l = s.1 in omega (arith, ap length h.goes.1))
 
-  commas_decide : Decides (rule.repeat (sees terminal.Comma) (rule.one (steps.◌>>◌ (rule.the terminal.Comma) node))) (Star (grammar.one (grammar.◌>>◌ (grammar.the terminal.Comma) Node'))) ends_objects
-  commas_decide = repeat_decides (sees terminal.Comma) _ _ after_node ends_objects (one_decides _ _ after_node (behind terminal.Comma node Node' after_node r.decides))
-      comma_starts (unseen closes_objects terminal.Comma refl) (λ us h. objects_node (next_terminal us) h) (seen_passes ends_node terminal.Comma refl)
+  commas_decide : Decides (reading.repeat (sees terminal.Comma) (reading.one (steps.◌>>◌ (lexemes.the terminal.Comma) node))) (Star (grammar.one (grammar.◌>>◌ (grammar.the terminal.Comma) Node'))) ends_objects
+  commas_decide = repeat_decides (sees terminal.Comma) _ _ after_node ends_objects (one_decides _ _ after_node (after_terminal same_terminal apart terminal.Comma node Node' after_node r.decides))
+      comma_starts (unseen same_terminal apart closes_objects terminal.Comma refl) (λ us h. objects_node (next_terminal us) h) (seen_passes ends_node terminal.Comma refl)
 
   commas_begin : (ts : Lexemes) (xs : List Node) (us : Lexemes) → Star (grammar.one (grammar.◌>>◌ (grammar.the terminal.Comma) Node')) ts xs us → ends_objects us ≡ true → after_node ts ≡ true
   commas_begin ts xs us stop h = objects_node (next_terminal ts) h
@@ -135,11 +140,11 @@ module _ (node : Rule Node) (Node' : Derives Node) (r : IsNodeRule node Node') w
   some_more_decides = last option_to_list _ _ ends_objects optional_property_decides
 
   more_starts : (ts : Lexemes) (x : List Property) (us : Lexemes) → grammar.◌>>◌ (grammar.the terminal.Semicolon) Some_more ts x us → (sees terminal.Semicolon ts ≡ true) × (length us < length ts)
-  more_starts ts x us h = starts_with terminal.Semicolon Some_more _ ends_objects some_more_decides ts x us h
+  more_starts ts x us h = starts_with same_terminal apart terminal.Semicolon Some_more _ ends_objects some_more_decides ts x us h
 
-  mores_decide : Decides (rule.repeat (sees terminal.Semicolon) (read.more node)) (Star (grammar.◌>>◌ (grammar.the terminal.Semicolon) Some_more)) ends_list
-  mores_decide = repeat_decides (sees terminal.Semicolon) _ _ ends_objects ends_list (behind terminal.Semicolon _ Some_more ends_objects some_more_decides)
-      more_starts (unseen closes_list terminal.Semicolon refl) (λ us h. list_objects (next_terminal us) h) (seen_passes closes_objects terminal.Semicolon refl)
+  mores_decide : Decides (reading.repeat (sees terminal.Semicolon) (read.more node)) (Star (grammar.◌>>◌ (grammar.the terminal.Semicolon) Some_more)) ends_list
+  mores_decide = repeat_decides (sees terminal.Semicolon) _ _ ends_objects ends_list (after_terminal same_terminal apart terminal.Semicolon _ Some_more ends_objects some_more_decides)
+      more_starts (unseen same_terminal apart closes_list terminal.Semicolon refl) (λ us h. list_objects (next_terminal us) h) (seen_passes closes_objects terminal.Semicolon refl)
 
   mores_begin : (ts : Lexemes) (xs : List Property) (us : Lexemes) → Star (grammar.◌>>◌ (grammar.the terminal.Semicolon) Some_more) ts xs us → ends_list us ≡ true → ends_objects ts ≡ true
   mores_begin ts xs us stop h = list_objects (next_terminal ts) h
@@ -170,26 +175,26 @@ module _ (node : Rule Node) (Node' : Derives Node) (r : IsNodeRule node Node') w
   pub bracketed_decides : Decides (read.bracketed node) Bracketed always
   unfolding read.bracketed
   bracketed_decides =
-      seq _ _ _ _ always (the_decides terminal.OpenBracket) (λ _.
-      then_decides _ _ _ _ ends_list always optional_predicate_object_list_decides (λ ps. seq _ _ _ _ always (the_decides terminal.CloseBracket) (λ _. pure_decides ps always))
+      seq _ _ _ _ always (the_decides same_terminal apart terminal.OpenBracket) (λ _.
+      then_decides _ _ _ _ ends_list always optional_predicate_object_list_decides (λ ps. seq _ _ _ _ always (the_decides same_terminal apart terminal.CloseBracket) (λ _. pure_decides ps always))
       (λ a mid b us h e. let at = the_terminal terminal.CloseBracket mid h.mid h.first h.reads in rw at refl))
 
   items_start : (ts : Lexemes) (x : List Node) (us : Lexemes) → grammar.one Node' ts x us → (read.sees_node ts ≡ true) × (length us < length ts)
   items_start ts x us h = (r.begins ts h.first h.mid h.reads, let l = r.strict ts h.first h.mid h.reads in omega (arith, ap length h.goes.1))
 
   close_no_node : (us : Lexemes) → sees terminal.Close us ≡ true → read.sees_node us ≡ false
-  close_no_node us s = rw (seen_terminal terminal.Close us s) refl
+  close_no_node us s = rw (seen_terminal same_terminal apart terminal.Close us s) refl
 
-  items_decide : Decides (rule.repeat read.sees_node (rule.one node)) (Star (grammar.one Node')) (sees terminal.Close)
+  items_decide : Decides (reading.repeat read.sees_node (reading.one node)) (Star (grammar.one Node')) (sees terminal.Close)
   items_decide = repeat_decides read.sees_node _ _ after_node (sees terminal.Close) (one_decides _ _ after_node r.decides)
       items_start close_no_node (seen_passes ends_node terminal.Close refl) (λ us h. node_ends (next_terminal us) h)
 
   collection_decides : Decides (read.collection node) (g.Collection Node') always
   unfolding read.collection
   collection_decides =
-      seq _ _ _ _ always (the_decides terminal.Open) (λ _.
-      then_decides _ _ _ _ (sees terminal.Close) always items_decide (λ items. seq _ _ _ _ always (the_decides terminal.Close) (λ _. pure_decides items always))
-      (λ a mid b us h e. terminal_seen terminal.Close mid (the_terminal terminal.Close mid h.mid h.first h.reads)))
+      seq _ _ _ _ always (the_decides same_terminal apart terminal.Open) (λ _.
+      then_decides _ _ _ _ (sees terminal.Close) always items_decide (λ items. seq _ _ _ _ always (the_decides same_terminal apart terminal.Close) (λ _. pure_decides items always))
+      (λ a mid b us h e. terminal_seen same_terminal apart terminal.Close mid (the_terminal terminal.Close mid h.mid h.first h.reads)))
 
   -- ---- subjects
 
@@ -199,8 +204,8 @@ module _ (node : Rule Node) (Node' : Derives Node) (r : IsNodeRule node Node') w
   named : Decides (steps.◌<$>◌ n.Name read.iri) (grammar.◌<$>◌ n.Name g.Iri) always
   named = last n.Name _ _ always iri_decides
 
-  labelled : Decides (steps.◌<$>◌ n.Label (rule.value terminal.BlankLabel)) (grammar.◌<$>◌ n.Label (grammar.value terminal.BlankLabel)) always
-  labelled = last n.Label _ _ always (value_decides terminal.BlankLabel)
+  labelled : Decides (steps.◌<$>◌ n.Label (lexemes.value terminal.BlankLabel)) (grammar.◌<$>◌ n.Label (grammar.value terminal.BlankLabel)) always
+  labelled = last n.Label _ _ always (value_decides same_terminal apart terminal.BlankLabel)
 
   blank : Decides (steps.◌<$>◌ n.Blank (read.bracketed node)) (grammar.◌<$>◌ n.Blank Bracketed) always
   blank = last n.Blank _ _ always bracketed_decides

@@ -1,122 +1,35 @@
 -- Each production is read just as it is derived.
-use Rattle.std.proofs.Common.{◌≡◌, ◌<◌, ◌≤◌, Bool, true, false, [], ◌∷◌, length, Option, Some, None, refl, ◌∙◌, ap, arith, inl, inr, ◌⊎◌, cond}
-use Rattle.rdf_turtle.specs.declared.lexeme.Terminal.{Terminal}
-use Rattle.rdf_turtle.specs.declared.lexeme.Terminal.TheVariants as terminal
-use Rattle.rdf_turtle.specs.declared.tree.Name.{Name}
-use Rattle.rdf_turtle.specs.declared.tree.Name.TheVariants.{Full}
+use Rattle.std.proofs.Common.{◌≡◌, ◌<◌, ◌≤◌, Bool, true, false, length, Option, Some, refl, ap, arith, inl, inr, ◌⊎◌}
+use Rattle.rdf_turtle.specs.declared.terminal.Terminal.{Terminal}
+use Rattle.rdf_turtle.specs.declared.terminal.Terminal.TheVariants as terminal
+use Rattle.rdf_grammar.specs.declared.tree.Name.{Name}
+use Rattle.rdf_grammar.specs.declared.tree.Name.TheVariants.{Full}
 use Rattle.rdf_turtle.specs.declared.tree.Verb.{Verb}
 use Rattle.rdf_turtle.specs.declared.tree.Verb.TheVariants as v
-use Rattle.rdf_turtle.specs.declared.tree.Literal.{Literal}
-use Rattle.rdf_turtle.specs.declared.tree.Literal.TheVariants as l
-use Rattle.rdf_turtle.specs.Steps as steps
-use Rattle.rdf_turtle.specs.Steps.{and_then}
-use Rattle.rdf_turtle.specs.Rules as rule
-use Rattle.rdf_turtle.specs.Rules.{Piece, Lexemes, Outcome, Rule, same_terminal, sees, next, next_terminal, any}
-use Rattle.rdf_turtle.specs.Derivations as grammar
-use Rattle.rdf_turtle.specs.Derivations.{Derives, Then, Star, stop, more}
+use Rattle.rdf_grammar.specs.declared.tree.Literal.{Literal}
+use Rattle.rdf_grammar.specs.declared.tree.Literal.TheVariants as l
+use Rattle.rdf_grammar.specs.Steps as steps
+use Rattle.rdf_grammar.specs.Steps.{and_then}
+use Rattle.rdf_turtle.specs.Lexemes as lexemes
+use Rattle.rdf_grammar.specs.Terminals as front
+use Rattle.rdf_grammar.specs.Terminals.{Piece, next_terminal}
+use Rattle.rdf_turtle.specs.Lexemes.{Lexemes, Outcome, Reading, sees, Derives, Test}
+use Rattle.rdf_turtle.specs.Terminals.{same_terminal, apart}
+use Rattle.rdf_grammar.specs.Derivations as grammar
+use Rattle.rdf_grammar.specs.Derivations.{Then, Star, stop, more}
 use Rattle.rdf_turtle.specs.Reading as read
 use Rattle.rdf_turtle.specs.Grammar as g
-use Rattle.rdf_turtle.proofs.GrammarDecides.{Test, always, Decides, then_decides, pure_decides, the_decides, value_decides, same_is, same_refl, some_pair, and_then_some}
-
--- ---- combinators
-
-pub behind : {A : Type 0} (k : Terminal) (p : Rule A) (P : Derives A) (ends : Test) → Decides p P ends → Decides (steps.◌>>◌ (rule.the k) p) (grammar.◌>>◌ (grammar.the k) P) ends
-behind k p P ends d = then_decides _ _ _ _ always ends (the_decides k) (λ _. d) (λ a mid b us h e. refl)
-
-pub one_decides : {A : Type 0} (p : Rule A) (P : Derives A) (ends : Test) → Decides p P ends → Decides (rule.one p) (grammar.one P) ends
-one_decides p P ends d = then_decides p P _ _ ends ends d (λ a. pure_decides (a ∷ []) ends) (λ a mid b us h e. rw h.1 e)
-
-pub starts_with : {A : Type 0} (k : Terminal) (P : Derives A) (p : Rule A) (ends : Test) → Decides p P ends → (ts : Lexemes) (x : A) (us : Lexemes)
-    → grammar.◌>>◌ (grammar.the k) P ts x us → (sees k ts ≡ true) × (length us < length ts)
-starts_with k P p ends d ts x us h =
-    let t = h.reads in
-    let less = d.shorter h.mid x us h.goes in
-    (rw (t.2, t.1) (same_refl k), let l = ap length t.2 in omega arith)
-
-pub seq : {A B : Type 0} (p : Rule A) (P : Derives A) (f : A → Rule B) (F : A → Derives B) (ends : Test) → Decides p P always → ((a : A) → Decides (f a) (F a) ends)
-    → Decides (steps.◌>>=◌ p f) (Then P F) ends
-seq p P f F ends d df = then_decides p P f F always ends d df (λ a mid b us h e. refl)
-
-pub last : {A B : Type 0} (f : A → B) (p : Rule A) (P : Derives A) (ends : Test) → Decides p P ends → Decides (steps.◌<$>◌ f p) (grammar.◌<$>◌ f P) ends
-last f p P ends d = then_decides p P _ _ ends ends d (λ a. pure_decides (f a) ends) (λ a mid b us h e. rw h.1 e)
-
-pub the_terminal : (k : Terminal) (ts us : Lexemes) (a : Unit {0}) → grammar.the k ts a us → next_terminal ts ≡ Some k
-the_terminal k ts us a h = ap next_terminal h.2 ∙ ap Some h.1
-
-pub value_terminal : (k : Terminal) (ts us : Lexemes) (v : Piece) → grammar.value k ts v us → next_terminal ts ≡ Some k
-value_terminal k ts us v h = ap next_terminal h.3 ∙ ap Some h.1
-
-pub any_the : (k : Terminal) (ts : Lexemes) → next_terminal ts ≡ Some k → any ts ≡ rule.the k ts
-unfolding any rule.the
-any_the k [] h = absurd (cc)
-any_the k (t ∷ ts) h = let e : t.terminal ≡ k = cc in rw (e, same_refl k) refl
-
-pub terminal_seen : (k : Terminal) (ts : Lexemes) → next_terminal ts ≡ Some k → sees k ts ≡ true
-terminal_seen k [] h = absurd (cc)
-terminal_seen k (t ∷ ts) h = let e : t.terminal ≡ k = cc in rw e (same_refl k)
-
-pub seen_terminal : (k : Terminal) (ts : Lexemes) → sees k ts ≡ true → next_terminal ts ≡ Some k
-seen_terminal k [] h = absurd (cc)
-seen_terminal k (t ∷ ts) h = ap Some (same_is t.terminal k h)
-
--- what derives the same trees is decided too
-pub also : {A : Type 0} (p : Rule A) (P Q : Derives A) (ends : Test) → Decides p P ends
-    → ((ts : Lexemes) (a : A) (us : Lexemes) → P ts a us → Q ts a us) → ((ts : Lexemes) (a : A) (us : Lexemes) → Q ts a us → P ts a us) → Decides p Q ends
-also p P Q ends d there back = record {
-  sound = λ ts a us h. there ts a us (d.sound ts a us h);
-  complete = λ ts a us h e. d.complete ts a us (back ts a us h) e;
-  shorter = λ ts a us h. d.shorter ts a us (back ts a us h);
-}
-
--- a test that no kind but this passes, for kinds where the follow set is false
-pub unseen : (closes : Option Terminal → Bool) (k : Terminal) → closes (Some k) ≡ false → (us : Lexemes) → closes (next_terminal us) ≡ true → sees k us ≡ false
-unseen closes k c [] h = refl
-unseen closes k c (t ∷ us) h = at (same_terminal t.terminal k) refl
-  where
-    at : (b : Bool) → same_terminal t.terminal k ≡ b → b ≡ false
-    at false s = refl
-    at true s = let e = same_is t.terminal k s in absurd (let x : closes (Some k) ≡ true = rw e at h in cc)
-
--- ---- ( P )?
-
-module _ {A : Type 0} (test : Test) (p : Rule A) (P : Derives A) (ends_p ends : Test) (dp : Decides p P ends_p)
-    (starts : (ts : Lexemes) (x : A) (us : Lexemes) → P ts x us → test ts ≡ true)
-    (stops : (us : Lexemes) → ends us ≡ true → test us ≡ false)
-    (goes : (us : Lexemes) → ends us ≡ true → ends_p us ≡ true) where
-  abbrev read_some : Rule (Option A)
-  read_some = steps.◌<$>◌ Some p
-
-  maybe_some : (ts : Lexemes) (o : Option A) (us : Lexemes) (a : A) (mid : Lexemes) → Some a ≡ o → mid ≡ us → P ts a mid → grammar.maybe P ts o us
-  maybe_some ts o us a mid e f r = rw (← e, ← f) r
-
-  maybe_none : (ts : Lexemes) (o : Option A) (us : Lexemes) → None ≡ o → ts ≡ us → grammar.maybe P ts o us
-  maybe_none ts o us e f = rw (← e) f
-
-  maybe_at : (ts : Lexemes) (b : Bool) (o : Option A) (us : Lexemes) → cond b (read_some ts) (Some (None, ts)) ≡ Some (o, us) → grammar.maybe P ts o us
-  maybe_at ts false o us h = let x = some_pair None o ts us h in maybe_none ts o us x.0 x.1
-  maybe_at ts true o us h =
-      let x = and_then_some (p ts) (λ a vs. Some (Some a, vs)) o us h in
-      let e = some_pair (Some x.0) o x.1 us x.3 in
-      maybe_some ts o us x.0 x.1 e.0 e.1 (dp.sound ts x.0 x.1 x.2)
-
-  maybe_complete : (ts : Lexemes) (o : Option A) (us : Lexemes) → grammar.maybe P ts o us → ends us ≡ true → rule.optional test p ts ≡ Some (o, us)
-  maybe_complete ts None us h e = let f = stops us e in rw (h, f) refl
-  maybe_complete ts (Some a) us h e = rw (starts ts a us h, dp.complete ts a us h (goes us e)) refl
-
-  maybe_shorter : (ts : Lexemes) (o : Option A) (us : Lexemes) → grammar.maybe P ts o us → length us ≤ length ts
-  maybe_shorter ts None us h = omega (arith, ap length h)
-  maybe_shorter ts (Some a) us h = dp.shorter ts a us h
-
-  pub maybe_decides : Decides (rule.optional test p) (grammar.maybe P) ends
-  maybe_decides = record { sound = λ ts o us h. maybe_at ts (test ts) o us h; complete = maybe_complete; shorter = maybe_shorter }
+use Rattle.rdf_grammar.proofs.Decides.{always, Decides, some_pair}
+use Rattle.rdf_grammar.proofs.Terminals.{the_decides, value_decides, the_terminal, value_terminal, any_the, word_sound, word_complete, word_strict}
+use Rattle.rdf_grammar.proofs.Combinators.{seq, last}
 
 -- ---- iri
 
-full : Decides (steps.◌<$>◌ Full (rule.value terminal.Iri)) (grammar.◌<$>◌ Full (grammar.value terminal.Iri)) always
-full = last Full _ _ always (value_decides terminal.Iri)
+full : Decides (steps.◌<$>◌ Full (lexemes.value terminal.Iri)) (grammar.◌<$>◌ Full (grammar.value terminal.Iri)) always
+full = last Full _ _ always (value_decides same_terminal apart terminal.Iri)
 
-prefixed : Decides (steps.◌<$>◌ read.prefixed (rule.value terminal.Pname)) (grammar.◌<$>◌ read.prefixed (grammar.value terminal.Pname)) always
-prefixed = last read.prefixed _ _ always (value_decides terminal.Pname)
+prefixed : Decides (steps.◌<$>◌ read.prefixed (lexemes.value terminal.Pname)) (grammar.◌<$>◌ read.prefixed (grammar.value terminal.Pname)) always
+prefixed = last read.prefixed _ _ always (value_decides same_terminal apart terminal.Pname)
 
 iri_sound : (k : Option Terminal) (ts : Lexemes) (x : Name) (us : Lexemes) → read.iri_by k ts ≡ Some (x, us) → g.Iri ts x us
 iri_sound (Some terminal.Iri) ts x us h = inl (full.sound ts x us h)
@@ -143,27 +56,13 @@ iri_decides = record {
   shorter = λ ts x us h. let e = iri_strict ts x us h in omega arith;
 }
 
--- ---- a lexeme that stands for a value
-
-word_decides : {A : Type 0} (k : Terminal) (a : A) → Decides (steps.◌>>◌ (rule.the k) (steps.pure a)) (grammar.◌>>◌ (grammar.the k) (grammar.pure a)) always
-word_decides k a = seq _ _ _ _ always (the_decides k) (λ _. pure_decides a always)
-
-word_sound : {A : Type 0} (k : Terminal) (a x : A) (ts us : Lexemes) → next_terminal ts ≡ Some k → steps.◌>>◌ any (steps.pure a) ts ≡ Some (x, us) → grammar.◌>>◌ (grammar.the k) (grammar.pure a) ts x us
-word_sound k a x ts us q h = (word_decides k a).sound ts x us (rw (any_the k ts q) at h)
-
-word_complete : {A : Type 0} (k : Terminal) (a x : A) (ts us : Lexemes) → next_terminal ts ≡ Some k → grammar.◌>>◌ (grammar.the k) (grammar.pure a) ts x us → steps.◌>>◌ any (steps.pure a) ts ≡ Some (x, us)
-word_complete k a x ts us q h = rw (any_the k ts q) ((word_decides k a).complete ts x us h refl)
-
-word_strict : {A : Type 0} (k : Terminal) (a x : A) (ts us : Lexemes) → grammar.◌>>◌ (grammar.the k) (grammar.pure a) ts x us → length us < length ts
-word_strict k a x ts us h = omega (arith, ap length h.reads.2, ap length h.goes.1)
-
 -- ---- verb
 
 named : Decides (steps.◌<$>◌ v.Name read.iri) (grammar.◌<$>◌ v.Name g.Iri) always
 named = last v.Name _ _ always iri_decides
 
 verb_sound : (k : Option Terminal) (ts : Lexemes) (x : Verb) (us : Lexemes) → next_terminal ts ≡ k → read.verb_by k ts ≡ Some (x, us) → g.AVerb ts x us
-verb_sound (Some terminal.A) ts x us q h = inr (word_sound terminal.A v.Type x ts us q h)
+verb_sound (Some terminal.A) ts x us q h = inr (word_sound same_terminal apart terminal.A v.Type x ts us q h)
 verb_sound _ ts x us q h = inl (named.sound ts x us h)
 
 verb_named : (ts : Lexemes) (x : Verb) (us : Lexemes) → grammar.◌<$>◌ v.Name g.Iri ts x us → (next_terminal ts ≡ Some terminal.Iri) ⊎ (next_terminal ts ≡ Some terminal.Pname) → read.verb_by (next_terminal ts) ts ≡ Some (x, us)
@@ -172,7 +71,7 @@ verb_named ts x us h (inr q) = rw q (named.complete ts x us h refl)
 
 verb_complete : (ts : Lexemes) (x : Verb) (us : Lexemes) → g.AVerb ts x us → read.verb_by (next_terminal ts) ts ≡ Some (x, us)
 verb_complete ts x us (inl h) = verb_named ts x us h (iri_terminal ts h.first h.mid h.reads)
-verb_complete ts x us (inr h) = let q = the_terminal terminal.A ts h.mid h.first h.reads in rw q (word_complete terminal.A v.Type x ts us q h)
+verb_complete ts x us (inr h) = let q = the_terminal terminal.A ts h.mid h.first h.reads in rw q (word_complete same_terminal apart terminal.A v.Type x ts us q h)
 
 begins_iri : (ts : Lexemes) → (next_terminal ts ≡ Some terminal.Iri) ⊎ (next_terminal ts ≡ Some terminal.Pname) → read.sees_verb ts ≡ true
 begins_iri ts (inl q) = rw q refl
@@ -207,17 +106,17 @@ abbrev pub after_node : Test
 after_node us = ends_node (next_terminal us)
 
 module _ (form : Piece) where
-  tagged : (k : Terminal) → Decides (steps.◌<$>◌ (l.Tagged form) (rule.value k)) (grammar.◌<$>◌ (l.Tagged form) (grammar.value k)) always
-  tagged k = last (l.Tagged form) _ _ always (value_decides k)
+  tagged : (k : Terminal) → Decides (steps.◌<$>◌ (l.Tagged form) (lexemes.value k)) (grammar.◌<$>◌ (l.Tagged form) (grammar.value k)) always
+  tagged k = last (l.Tagged form) _ _ always (value_decides same_terminal apart k)
 
-  typed : Decides (steps.◌>>◌ (rule.the terminal.Caret) (steps.◌<$>◌ (l.Typed form) read.iri)) (grammar.◌>>◌ (grammar.the terminal.Caret) (grammar.◌<$>◌ (l.Typed form) g.Iri)) always
-  typed = seq _ _ _ _ always (the_decides terminal.Caret) (λ _. last (l.Typed form) _ _ always iri_decides)
+  typed : Decides (steps.◌>>◌ (lexemes.the terminal.Caret) (steps.◌<$>◌ (l.Typed form) read.iri)) (grammar.◌>>◌ (grammar.the terminal.Caret) (grammar.◌<$>◌ (l.Typed form) g.Iri)) always
+  typed = seq _ _ _ _ always (the_decides same_terminal apart terminal.Caret) (λ _. last (l.Typed form) _ _ always iri_decides)
 
   suffix_sound : (k : Option Terminal) (ts : Lexemes) (x : Literal) (us : Lexemes) → next_terminal ts ≡ k → read.suffix_by form k ts ≡ Some (x, us) → g.Suffix form ts x us
   suffix_sound (Some terminal.AtWord) ts x us q h = let d = (tagged terminal.AtWord).sound ts x us h in inl (record { first = d.first; mid = d.mid; reads = inl d.reads; goes = d.goes })
   suffix_sound (Some terminal.AtPrefix) ts x us q h = let d = (tagged terminal.AtPrefix).sound ts x us h in inl (record { first = d.first; mid = d.mid; reads = inr (inl d.reads); goes = d.goes })
   suffix_sound (Some terminal.AtBase) ts x us q h = let d = (tagged terminal.AtBase).sound ts x us h in inl (record { first = d.first; mid = d.mid; reads = inr (inr d.reads); goes = d.goes })
-  suffix_sound (Some terminal.Caret) ts x us q h = inr (inl (typed.sound ts x us (rw (any_the terminal.Caret ts q) at h)))
+  suffix_sound (Some terminal.Caret) ts x us q h = inr (inl (typed.sound ts x us (rw (any_the same_terminal apart terminal.Caret ts q) at h)))
   suffix_sound _ ts x us q h = inr (inr (some_pair (l.Plain form) x ts us h))
 
   tag_complete : (ts : Lexemes) (x : Literal) (us : Lexemes) (tag : Piece) (mid : Lexemes) → g.Tag ts tag mid → grammar.pure (l.Tagged form tag) mid x us
@@ -235,7 +134,7 @@ module _ (form : Piece) where
 
   suffix_complete : (ts : Lexemes) (x : Literal) (us : Lexemes) → g.Suffix form ts x us → after_node us ≡ true → read.suffix_by form (next_terminal ts) ts ≡ Some (x, us)
   suffix_complete ts x us (inl h) e = tag_complete ts x us h.first h.mid h.reads h.goes
-  suffix_complete ts x us (inr (inl h)) e = let q = the_terminal terminal.Caret ts h.mid h.first h.reads in rw q (rw (any_the terminal.Caret ts q) (typed.complete ts x us h refl))
+  suffix_complete ts x us (inr (inl h)) e = let q = the_terminal terminal.Caret ts h.mid h.first h.reads in rw q (rw (any_the same_terminal apart terminal.Caret ts q) (typed.complete ts x us h refl))
   suffix_complete ts x us (inr (inr h)) e = rw (h.1, plain_at (next_terminal us) e, h.0) refl
 
   tag_shorter : (ts : Lexemes) (tag : Piece) (mid : Lexemes) → g.Tag ts tag mid → length mid ≤ length ts
@@ -248,7 +147,7 @@ module _ (form : Piece) where
   suffix_shorter ts x us (inr (inl h)) = typed.shorter ts x us h
   suffix_shorter ts x us (inr (inr h)) = omega (arith, ap length h.1)
 
-  suffix_decides : Decides (steps.◌>>=◌ rule.peek (read.suffix_by form)) (g.Suffix form) after_node
+  suffix_decides : Decides (steps.◌>>=◌ front.peek (read.suffix_by form)) (g.Suffix form) after_node
   suffix_decides = record {
     sound = λ ts x us h. suffix_sound (next_terminal ts) ts x us refl h;
     complete = suffix_complete;
@@ -257,17 +156,17 @@ module _ (form : Piece) where
 
 text_decides : Decides read.text g.AText after_node
 unfolding read.text
-text_decides = seq _ _ _ _ after_node (value_decides terminal.Text) suffix_decides
+text_decides = seq _ _ _ _ after_node (value_decides same_terminal apart terminal.Text) suffix_decides
 
-number : (f : Piece → Literal) (k : Terminal) → Decides (steps.◌<$>◌ f (rule.value k)) (grammar.◌<$>◌ f (grammar.value k)) always
-number f k = last f _ _ always (value_decides k)
+number : (f : Piece → Literal) (k : Terminal) → Decides (steps.◌<$>◌ f (lexemes.value k)) (grammar.◌<$>◌ f (grammar.value k)) always
+number f k = last f _ _ always (value_decides same_terminal apart k)
 
 literal_sound : (k : Option Terminal) (ts : Lexemes) (x : Literal) (us : Lexemes) → next_terminal ts ≡ k → read.literal_by k ts ≡ Some (x, us) → g.ALiteral ts x us
 literal_sound (Some terminal.Integer) ts x us q h = inr (inl ((number l.Integer terminal.Integer).sound ts x us h))
 literal_sound (Some terminal.Decimal) ts x us q h = inr (inr (inl ((number l.Decimal terminal.Decimal).sound ts x us h)))
 literal_sound (Some terminal.Double) ts x us q h = inr (inr (inr (inl ((number l.Double terminal.Double).sound ts x us h))))
-literal_sound (Some terminal.True) ts x us q h = inr (inr (inr (inr (inl (word_sound terminal.True (l.Boolean true) x ts us q h)))))
-literal_sound (Some terminal.False) ts x us q h = inr (inr (inr (inr (inr (word_sound terminal.False (l.Boolean false) x ts us q h)))))
+literal_sound (Some terminal.True) ts x us q h = inr (inr (inr (inr (inl (word_sound same_terminal apart terminal.True (l.Boolean true) x ts us q h)))))
+literal_sound (Some terminal.False) ts x us q h = inr (inr (inr (inr (inr (word_sound same_terminal apart terminal.False (l.Boolean false) x ts us q h)))))
 literal_sound _ ts x us q h = inl (text_decides.sound ts x us h)
 
 literal_complete : (ts : Lexemes) (x : Literal) (us : Lexemes) → g.ALiteral ts x us → after_node us ≡ true → read.literal_by (next_terminal ts) ts ≡ Some (x, us)
@@ -275,8 +174,8 @@ literal_complete ts x us (inl h) e = rw (value_terminal terminal.Text ts h.mid h
 literal_complete ts x us (inr (inl h)) e = rw (value_terminal terminal.Integer ts h.mid h.first h.reads) ((number l.Integer terminal.Integer).complete ts x us h refl)
 literal_complete ts x us (inr (inr (inl h))) e = rw (value_terminal terminal.Decimal ts h.mid h.first h.reads) ((number l.Decimal terminal.Decimal).complete ts x us h refl)
 literal_complete ts x us (inr (inr (inr (inl h)))) e = rw (value_terminal terminal.Double ts h.mid h.first h.reads) ((number l.Double terminal.Double).complete ts x us h refl)
-literal_complete ts x us (inr (inr (inr (inr (inl h))))) e = let q = the_terminal terminal.True ts h.mid h.first h.reads in rw q (word_complete terminal.True (l.Boolean true) x ts us q h)
-literal_complete ts x us (inr (inr (inr (inr (inr h))))) e = let q = the_terminal terminal.False ts h.mid h.first h.reads in rw q (word_complete terminal.False (l.Boolean false) x ts us q h)
+literal_complete ts x us (inr (inr (inr (inr (inl h))))) e = let q = the_terminal terminal.True ts h.mid h.first h.reads in rw q (word_complete same_terminal apart terminal.True (l.Boolean true) x ts us q h)
+literal_complete ts x us (inr (inr (inr (inr (inr h))))) e = let q = the_terminal terminal.False ts h.mid h.first h.reads in rw q (word_complete same_terminal apart terminal.False (l.Boolean false) x ts us q h)
 
 pub literal_strict : (ts : Lexemes) (x : Literal) (us : Lexemes) → g.ALiteral ts x us → length us < length ts
 literal_strict ts x us (inl h) = let e = suffix_shorter h.first h.mid x us h.goes in omega (arith, ap length h.reads.3)

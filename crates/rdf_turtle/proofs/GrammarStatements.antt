@@ -1,79 +1,54 @@
 -- Statements and documents are read just as they are derived.
-use Rattle.std.proofs.Common.{◌≡◌, ℕ, suc, ◌<◌, ◌≤◌, Bool, true, false, List, [], ◌∷◌, length, Option, Some, None, refl, ◌∙◌, ap, arith, inl, inr, ◌⊎◌, cond}
-use Rattle.std.specs.Prelude.{◌&&◌}
-use Rattle.rdf_turtle.specs.declared.lexeme.Terminal.{Terminal}
-use Rattle.rdf_turtle.specs.declared.lexeme.Terminal.TheVariants as terminal
-use Rattle.rdf_turtle.specs.declared.lexeme.Lexeme.{Lexeme}
+use Rattle.std.proofs.Common.{◌≡◌, ℕ, suc, ◌<◌, ◌≤◌, true, false, List, [], ◌∷◌, length, Option, Some, refl, ◌∙◌, ap, arith, inl, inr, ◌⊎◌}
+use Rattle.rdf_turtle.specs.declared.terminal.Terminal.{Terminal}
+use Rattle.rdf_turtle.specs.declared.terminal.Terminal.TheVariants as terminal
+use Rattle.rdf_turtle.specs.Lexemes.{Lexeme, Lexemes, Reading, Outcome, sees, Derives, Test}
 use Rattle.rdf_turtle.specs.declared.tree.Node.{Node}
 use Rattle.rdf_turtle.specs.declared.tree.Node.TheVariants as n
 use Rattle.rdf_turtle.specs.declared.tree.Property.{Property}
 use Rattle.rdf_turtle.specs.declared.tree.Statement.{Statement}
 use Rattle.rdf_turtle.specs.declared.tree.Statement.TheVariants as s
-use Rattle.rdf_tokens.specs.Values.{prefix_part, local_part}
-use Rattle.rdf_turtle.specs.Steps as steps
-use Rattle.rdf_turtle.specs.Rules as rule
-use Rattle.rdf_turtle.specs.Rules.{Piece, Lexemes, Rule, Outcome, sees, same_terminal, next_terminal, any, is_nil}
-use Rattle.rdf_turtle.specs.Derivations as grammar
-use Rattle.rdf_turtle.specs.Derivations.{Derives, Then, Star, stop, more}
+use Rattle.rdf_grammar.specs.Steps as steps
+use Rattle.rdf_turtle.specs.Lexemes as lexemes
+use Rattle.rdf_grammar.specs.Readings as reading
+use Rattle.rdf_grammar.specs.Terminals.{next_terminal}
+use Rattle.rdf_turtle.specs.Terminals.{same_terminal, apart}
+use Rattle.rdf_grammar.specs.Readings.{any, is_nil, is_more}
+use Rattle.rdf_grammar.specs.Derivations as grammar
+use Rattle.rdf_grammar.specs.Derivations.{Then, Star, stop, more}
 use Rattle.rdf_turtle.specs.Reading as read
 use Rattle.rdf_turtle.specs.Grammar as g
-use Rattle.rdf_turtle.proofs.GrammarDecides.{Test, always, Decides, then_decides, pure_decides, the_decides, value_decides, repeat_decides, same_is, same_refl, got, some_pair}
-use Rattle.rdf_turtle.proofs.GrammarProductions.{behind, one_decides, seq, last, the_terminal, value_terminal, any_the, iri_terminal}
+use Rattle.rdf_grammar.proofs.Decides.{always, Decides, then_decides, pure_decides, repeat_decides}
+use Rattle.rdf_grammar.proofs.Terminals.{the_decides, value_decides, after_terminal, the_terminal, value_terminal, any_the, namespace_decides}
+use Rattle.rdf_grammar.proofs.Combinators.{one_decides, seq, last}
+use Rattle.rdf_turtle.proofs.GrammarProductions.{iri_terminal}
 use Rattle.rdf_turtle.proofs.GrammarNodes.{ends_list, IsNodeRule, node_rule, Bracketed, bracketed_decides, OptionalPredicateObjectList, optional_predicate_object_list_decides, predicate_object_list_decides, AnySubject, subject_decides, bracketed_is, anonymous_is, blank_node_property_list_is}
 
 -- ---- directives
 
-is_nil_is : (xs : Piece) → is_nil xs ≡ true → xs ≡ []
-is_nil_is [] h = refl
-is_nil_is (x ∷ xs) h = absurd (cc)
-
-namespace_at : (t : Lexeme) (ts : Lexemes) (a b : Bool) (v : Piece) (us : Lexemes) → same_terminal t.terminal terminal.Pname ≡ a → is_nil (local_part t.text) ≡ b
-    → cond (a && b) (got (prefix_part t.text) ts) None ≡ got v us → (t.terminal ≡ terminal.Pname) × (local_part t.text ≡ []) × (prefix_part t.text ≡ v) × (ts ≡ us)
-namespace_at t ts true true v us p q h = let x = some_pair (prefix_part t.text) v ts us h in (same_is t.terminal terminal.Pname p, is_nil_is (local_part t.text) q, x.0, x.1)
-namespace_at t ts true false v us p q h = absurd (cc)
-namespace_at t ts false b v us p q h = absurd (cc)
-
-namespace_sound : (ts : Lexemes) (v : Piece) (us : Lexemes) → read.namespace ts ≡ Some (v, us) → g.Namespace ts v us
-unfolding read.namespace
-namespace_sound [] v us h = absurd (cc)
-namespace_sound (t ∷ ts) v us h =
-    let x = namespace_at t ts (same_terminal t.terminal terminal.Pname) (is_nil (local_part t.text)) v us refl refl h in
-    (t, x.0, x.1, x.2, ap (λ l. t ∷ l) x.3)
-
-namespace_front : (t : Lexeme) (us : Lexemes) → t.terminal ≡ terminal.Pname → local_part t.text ≡ [] → read.namespace (t ∷ us) ≡ Some (prefix_part t.text, us)
-unfolding read.namespace
-namespace_front t us e f = rw (e, same_refl terminal.Pname, f) refl
-
-namespace_decides : Decides read.namespace g.Namespace always
-namespace_decides = record {
-  sound = namespace_sound;
-  complete = λ ts v us d h. ap read.namespace d.4 ∙ namespace_front d.0 us d.1 d.2 ∙ ap (λ n. Some (n, us)) d.3;
-  shorter = λ ts v us d. omega (arith, ap length d.4);
-}
-
 binding_decides : Decides read.binding g.Binding always
 unfolding read.binding
-binding_decides = seq _ _ _ _ always namespace_decides (λ p. seq _ _ _ _ always (value_decides terminal.Iri) (λ r. pure_decides (s.Prefix p r) always))
+binding_decides = seq _ _ _ _ always (namespace_decides same_terminal apart terminal.Pname) (λ p. seq _ _ _ _ always (value_decides same_terminal apart terminal.Iri) (λ r. pure_decides (s.Prefix p r) always))
 
 base_decides : Decides read.base g.Base always
 unfolding read.base
-base_decides = last s.Base _ _ always (value_decides terminal.Iri)
+base_decides = last s.Base _ _ always (value_decides same_terminal apart terminal.Iri)
 
-dotted_decides : {A : Type 0} (p : Rule A) (P : Derives A) (ends : Test) → ((us : Lexemes) → next_terminal us ≡ Some terminal.Dot → ends us ≡ true) → Decides p P ends → Decides (read.dotted p) (g.Dotted P) always
-dotted_decides p P ends goes d = then_decides p P _ _ ends always d (λ x. seq _ _ _ _ always (the_decides terminal.Dot) (λ _. pure_decides x always))
+dotted_decides : {A : Type 0} (p : Reading A) (P : Derives A) (ends : Test) → ((us : Lexemes) → next_terminal us ≡ Some terminal.Dot → ends us ≡ true) → Decides p P ends → Decides (read.dotted p) (g.Dotted P) always
+dotted_decides p P ends goes d = then_decides p P _ _ ends always d (λ x. seq _ _ _ _ always (the_decides same_terminal apart terminal.Dot) (λ _. pure_decides x always))
     (λ a mid b us h e. goes mid (the_terminal terminal.Dot mid h.mid h.first h.reads))
 
-at_prefix : Decides (steps.◌>>◌ (rule.the terminal.AtPrefix) (read.dotted read.binding)) (grammar.◌>>◌ (grammar.the terminal.AtPrefix) (g.Dotted g.Binding)) always
-at_prefix = behind terminal.AtPrefix _ _ always (dotted_decides _ _ always (λ us h. refl) binding_decides)
+at_prefix : Decides (steps.◌>>◌ (lexemes.the terminal.AtPrefix) (read.dotted read.binding)) (grammar.◌>>◌ (grammar.the terminal.AtPrefix) (g.Dotted g.Binding)) always
+at_prefix = after_terminal same_terminal apart terminal.AtPrefix _ _ always (dotted_decides _ _ always (λ us h. refl) binding_decides)
 
-at_base : Decides (steps.◌>>◌ (rule.the terminal.AtBase) (read.dotted read.base)) (grammar.◌>>◌ (grammar.the terminal.AtBase) (g.Dotted g.Base)) always
-at_base = behind terminal.AtBase _ _ always (dotted_decides _ _ always (λ us h. refl) base_decides)
+at_base : Decides (steps.◌>>◌ (lexemes.the terminal.AtBase) (read.dotted read.base)) (grammar.◌>>◌ (grammar.the terminal.AtBase) (g.Dotted g.Base)) always
+at_base = after_terminal same_terminal apart terminal.AtBase _ _ always (dotted_decides _ _ always (λ us h. refl) base_decides)
 
-prefix : Decides (steps.◌>>◌ (rule.the terminal.Prefix) read.binding) (grammar.◌>>◌ (grammar.the terminal.Prefix) g.Binding) always
-prefix = behind terminal.Prefix _ _ always binding_decides
+prefix : Decides (steps.◌>>◌ (lexemes.the terminal.Prefix) read.binding) (grammar.◌>>◌ (grammar.the terminal.Prefix) g.Binding) always
+prefix = after_terminal same_terminal apart terminal.Prefix _ _ always binding_decides
 
-base : Decides (steps.◌>>◌ (rule.the terminal.Base) read.base) (grammar.◌>>◌ (grammar.the terminal.Base) g.Base) always
-base = behind terminal.Base _ _ always base_decides
+base : Decides (steps.◌>>◌ (lexemes.the terminal.Base) read.base) (grammar.◌>>◌ (grammar.the terminal.Base) g.Base) always
+base = after_terminal same_terminal apart terminal.Base _ _ always base_decides
 
 -- no lexeme is left
 abbrev pub ended : Test
@@ -82,7 +57,7 @@ ended (t ∷ ts) = false
 
 -- ---- triples, over rules for the nodes inside brackets and outside
 
-module _ (inner node : Rule Node) (Inner Node' : Derives Node) (ri : IsNodeRule inner Inner) (r : IsNodeRule node Node') where
+module _ (inner node : Reading Node) (Inner Node' : Derives Node) (ri : IsNodeRule inner Inner) (r : IsNodeRule node Node') where
   abbrev Behind : List Property → Derives (List Property)
   Behind [] = g.PredicateObjectList Node'
   Behind (p ∷ ps) = OptionalPredicateObjectList node Node' r
@@ -266,10 +241,10 @@ module _ (inner node : Rule Node) (Inner Node' : Derives Node) (ri : IsNodeRule 
   dotted_triples = dotted_decides _ _ ends_list (λ us h. rw h refl) triples_decides
 
   statement_sound : (k : Option Terminal) (ts : Lexemes) (x : Statement) (us : Lexemes) → next_terminal ts ≡ k → read.statement_by inner node k ts ≡ Some (x, us) → g.AStatement Inner Node' ts x us
-  statement_sound (Some terminal.AtPrefix) ts x us q h = inl (inl (at_prefix.sound ts x us (rw (any_the terminal.AtPrefix ts q) at h)))
-  statement_sound (Some terminal.AtBase) ts x us q h = inl (inr (inl (at_base.sound ts x us (rw (any_the terminal.AtBase ts q) at h))))
-  statement_sound (Some terminal.Prefix) ts x us q h = inl (inr (inr (inl (prefix.sound ts x us (rw (any_the terminal.Prefix ts q) at h)))))
-  statement_sound (Some terminal.Base) ts x us q h = inl (inr (inr (inr (base.sound ts x us (rw (any_the terminal.Base ts q) at h)))))
+  statement_sound (Some terminal.AtPrefix) ts x us q h = inl (inl (at_prefix.sound ts x us (rw (any_the same_terminal apart terminal.AtPrefix ts q) at h)))
+  statement_sound (Some terminal.AtBase) ts x us q h = inl (inr (inl (at_base.sound ts x us (rw (any_the same_terminal apart terminal.AtBase ts q) at h))))
+  statement_sound (Some terminal.Prefix) ts x us q h = inl (inr (inr (inl (prefix.sound ts x us (rw (any_the same_terminal apart terminal.Prefix ts q) at h)))))
+  statement_sound (Some terminal.Base) ts x us q h = inl (inr (inr (inr (base.sound ts x us (rw (any_the same_terminal apart terminal.Base ts q) at h)))))
   statement_sound _ ts x us q h = inr (dotted_triples.sound ts x us h)
 
   by_triples : (k : Option Terminal) → read.begins_subject k ≡ true → read.statement_by inner node k ≡ read.dotted (read.triples inner node)
@@ -280,13 +255,13 @@ module _ (inner node : Rule Node) (Inner Node' : Derives Node) (ri : IsNodeRule 
   by_triples _ h = refl
 
   statement_complete : (ts : Lexemes) (x : Statement) (us : Lexemes) → g.AStatement Inner Node' ts x us → read.statement_by inner node (next_terminal ts) ts ≡ Some (x, us)
-  statement_complete ts x us (inl (inl h)) = let q = the_terminal terminal.AtPrefix ts h.mid h.first h.reads in rw q (rw (any_the terminal.AtPrefix ts q) (at_prefix.complete ts x us h refl))
-  statement_complete ts x us (inl (inr (inl h))) = let q = the_terminal terminal.AtBase ts h.mid h.first h.reads in rw q (rw (any_the terminal.AtBase ts q) (at_base.complete ts x us h refl))
-  statement_complete ts x us (inl (inr (inr (inl h)))) = let q = the_terminal terminal.Prefix ts h.mid h.first h.reads in rw q (rw (any_the terminal.Prefix ts q) (prefix.complete ts x us h refl))
-  statement_complete ts x us (inl (inr (inr (inr h)))) = let q = the_terminal terminal.Base ts h.mid h.first h.reads in rw q (rw (any_the terminal.Base ts q) (base.complete ts x us h refl))
+  statement_complete ts x us (inl (inl h)) = let q = the_terminal terminal.AtPrefix ts h.mid h.first h.reads in rw q (rw (any_the same_terminal apart terminal.AtPrefix ts q) (at_prefix.complete ts x us h refl))
+  statement_complete ts x us (inl (inr (inl h))) = let q = the_terminal terminal.AtBase ts h.mid h.first h.reads in rw q (rw (any_the same_terminal apart terminal.AtBase ts q) (at_base.complete ts x us h refl))
+  statement_complete ts x us (inl (inr (inr (inl h)))) = let q = the_terminal terminal.Prefix ts h.mid h.first h.reads in rw q (rw (any_the same_terminal apart terminal.Prefix ts q) (prefix.complete ts x us h refl))
+  statement_complete ts x us (inl (inr (inr (inr h)))) = let q = the_terminal terminal.Base ts h.mid h.first h.reads in rw q (rw (any_the same_terminal apart terminal.Base ts q) (base.complete ts x us h refl))
   statement_complete ts x us (inr h) = rw (by_triples (next_terminal ts) (triples_begin ts h.first h.mid h.reads)) (dotted_triples.complete ts x us h refl)
 
-  strict_behind : {A : Type 0} (k : Terminal) (p : Rule A) (P : Derives A) → Decides p P always → (ts : Lexemes) (x : A) (us : Lexemes) → grammar.◌>>◌ (grammar.the k) P ts x us → length us < length ts
+  strict_behind : {A : Type 0} (k : Terminal) (p : Reading A) (P : Derives A) → Decides p P always → (ts : Lexemes) (x : A) (us : Lexemes) → grammar.◌>>◌ (grammar.the k) P ts x us → length us < length ts
   strict_behind k p P d ts x us h = let a = d.shorter h.mid x us h.goes in omega (arith, ap length h.reads.2)
 
   statement_strict : (ts : Lexemes) (x : Statement) (us : Lexemes) → g.AStatement Inner Node' ts x us → length us < length ts
@@ -309,19 +284,19 @@ module _ (inner node : Rule Node) (Inner Node' : Derives Node) (ri : IsNodeRule 
 
   -- ---- documents
 
-  some_more : (ts us : Lexemes) → length us < length ts → read.is_more ts ≡ true
+  some_more : (ts us : Lexemes) → length us < length ts → is_more ts ≡ true
   some_more [] us h = absurd (omega arith)
   some_more (t ∷ ts) us h = refl
 
-  statements_start : (ts : Lexemes) (x : List Statement) (us : Lexemes) → grammar.one (g.AStatement Inner Node') ts x us → (read.is_more ts ≡ true) × (length us < length ts)
+  statements_start : (ts : Lexemes) (x : List Statement) (us : Lexemes) → grammar.one (g.AStatement Inner Node') ts x us → (is_more ts ≡ true) × (length us < length ts)
   statements_start ts x us h = let l = statement_strict ts h.first h.mid h.reads in (some_more ts h.mid l, omega (arith, ap length h.goes.1))
 
-  ended_stops : (us : Lexemes) → ended us ≡ true → read.is_more us ≡ false
+  ended_stops : (us : Lexemes) → ended us ≡ true → is_more us ≡ false
   ended_stops [] h = refl
   ended_stops (t ∷ ts) h = absurd (cc)
 
-  pub statements_decide : Decides (rule.repeat read.is_more (rule.one (read.statement inner node))) (Star (grammar.one (g.AStatement Inner Node'))) ended
-  statements_decide = repeat_decides read.is_more _ _ always ended (one_decides _ _ always statement_decides)
+  pub statements_decide : Decides (reading.repeat is_more (reading.one (read.statement inner node))) (Star (grammar.one (g.AStatement Inner Node'))) ended
+  statements_decide = repeat_decides is_more _ _ always ended (one_decides _ _ always statement_decides)
       statements_start ended_stops (λ us h. refl) (λ us h. refl)
 
 -- The reading of a document is its grammar, at each depth.

@@ -9,11 +9,11 @@ use Rattle.rdf_terms.specs.Quad.{QuadParts}
 use Rattle.rdf_terms.specs.declared.term.Term.{Term}
 use Rattle.rdf_terms.specs.declared.term.Term.TheVariants as t
 use Rattle.rdf_turtle.specs.declared.fault.TurtleFaultKind.TheVariants.{Relative, UnknownPrefix}
-use Rattle.rdf_turtle.specs.declared.tree.Name.{Name}
+use Rattle.rdf_grammar.specs.declared.tree.Name.{Name}
 use Rattle.rdf_turtle.specs.declared.tree.Verb.{Verb}
 use Rattle.rdf_turtle.specs.declared.tree.Verb.TheVariants as v
-use Rattle.rdf_turtle.specs.declared.tree.Literal.{Literal}
-use Rattle.rdf_turtle.specs.declared.tree.Literal.TheVariants as l
+use Rattle.rdf_grammar.specs.declared.tree.Literal.{Literal}
+use Rattle.rdf_grammar.specs.declared.tree.Literal.TheVariants as l
 use Rattle.rdf_turtle.specs.declared.tree.Node.{Node}
 use Rattle.rdf_turtle.specs.declared.tree.Node.TheOpen.{Node-F, Property-F}
 use Rattle.rdf_turtle.specs.declared.tree.Node.TheFolds.{fold-roll-Node, fold-roll-Property, map-Node, map-Property, ind-Node, ind-Property}
@@ -27,7 +27,7 @@ use Rattle.rdf_turtle.specs.Known.{declares_first}
 use Rattle.rdf_tokens.specs.Values.{iri_value, text_value, tag_value}
 use Rattle.rdf_turtle.specs.References.{resolve}
 use Rattle.rdf_turtle.specs.Vocabulary.{rdf_first, rdf_rest, rdf_nil}
-use Rattle.rdf_turtle.specs.Steps.{Outcome, each, and_then}
+use Rattle.rdf_grammar.specs.Steps.{Outcome, each, and_then}
 use Rattle.rdf_turtle.specs.State.{State, Does, key_of, start, fresh, says, declares, moves_base}
 use Rattle.rdf_turtle.specs.Meaning.{Meaning, Says, known, resolved, iri, iri_of, verb, literal, object, objects, behind, list_term, list_inside, is_some_property, node_of, property_of, meaning, property, properties, has_properties, statement, document, triples_of}
 use Rattle.rdf_turtle.proofs.ScopeSteps.{then_parts, Numbered, IsBelow, Said, wider, also, below_on, says_numbered, TermKeeps, fresh_keeps, labelled_keeps, Stays, stays_keeps}

@@ -12,7 +12,7 @@ use Rattle.rdf_terms.specs.declared.term.Term.{Term}
 use Rattle.rdf_terms.specs.declared.term.Term.TheVariants.{Blank, Iri, Literal}
 use Rattle.rdf_terms.specs.Blanks.{blanks_in, blanks_of}
 use Rattle.rdf_turtle.specs.Blanks.{IsTriple}
-use Rattle.rdf_turtle.specs.Steps.{Outcome, Step, and_then}
+use Rattle.rdf_grammar.specs.Steps.{Outcome, Step, and_then}
 use Rattle.rdf_turtle.specs.State.{State, Does, same_key, fresh, labelled, labelled_as, triple, says}
 
 -- the parts of a step behind another

@@ -10,13 +10,13 @@ use Rattle.rdf_turtle.specs.Grammar.{IsDocument}
 use Rattle.rdf_turtle.specs.Known.{known_statement, declared_behind, declares_first}
 use Rattle.rdf_turtle.specs.Meaning as meaning
 use Rattle.rdf_turtle.specs.Nesting.{IsTooDeep}
-use Rattle.rdf_turtle.specs.Reading.{is_more, node, statement, document}
-use Rattle.rdf_turtle.specs.Rules.{Lexemes, one}
+use Rattle.rdf_grammar.specs.Readings.{is_more, one}
+use Rattle.rdf_turtle.specs.Reading.{node, statement, document}
+use Rattle.rdf_turtle.specs.Lexemes.{Lexemes}
 use Rattle.rdf_turtle.specs.State.{State, start}
-use Rattle.rdf_turtle.specs.Steps.{and_then}
+use Rattle.rdf_grammar.specs.Steps.{and_then}
 use Rattle.rdf_turtle.specs.Turns.{Turn}
-use Rattle.rdf_turtle.proofs.GrammarLists.{one_reads, no_more}
-use Rattle.rdf_turtle.proofs.GrammarRepeats.{Going, going_starts, going_on, going_done}
+use Rattle.rdf_grammar.proofs.Repeats.{one_reads, no_more, Going, going_starts, going_on, going_done}
 use Rattle.rdf_turtle.proofs.GrammarWhole.{found_alone}
 
 -- The lexemes but for those that are left were read as statements, which leave this state and these prefixes.

@@ -1,11 +1,11 @@
 -- A text that is cut into tokens from left to right has just these tokens and lexemes.
 use Rattle.std.proofs.Common.{◌≡◌, ◌∙◌, ap, refl, sym, inl, ℕ, true, List, [], ◌∷◌, ◌++◌, map, append_assoc, Some}
 use Rattle.rdf_terms.specs.Reading.{byte_count}
-use Rattle.rdf_turtle.specs.declared.lexeme.Lexeme.{Lexeme}
+use Rattle.rdf_turtle.specs.Lexemes.{Lexeme, AreLexemes}
 use Rattle.rdf_tokens.specs.declared.token.Kind.{Kind}
 use Rattle.rdf_tokens.specs.declared.token.Token.{Token}
 use Rattle.rdf_tokens.specs.Characters.{is_white}
-use Rattle.rdf_turtle.specs.Lexemes.{terminal_of, AreLexemes}
+use Rattle.rdf_turtle.specs.Terminals.{terminal_of}
 use Rattle.rdf_tokens.specs.TokenReading.{token_at}
 use Rattle.rdf_tokens.specs.Tokens.{HasGap, Ends, Runs}
 use Rattle.rdf_tokens.proofs.CallerLemmas.{Within, within_start, token_is}

@@ -20,12 +20,12 @@ use Rattle.rdf_terms.proofs.TagForms.{tag_name, tag_low, ascii_from}
 use Rattle.rdf_terms.proofs.WrittenIriLemmas.{iri_scheme, iri_allowed, iri_form}
 use Rattle.rdf_terms.proofs.WrittenTermLemmas.{lower_stays, tag_parts, literal_parts}
 use Rattle.rdf_terms.proofs.WrittenTextLemmas.{string_body}
-use Rattle.rdf_turtle.specs.declared.tree.Name.{Name}
-use Rattle.rdf_turtle.specs.declared.tree.Name.TheVariants.{Full}
+use Rattle.rdf_grammar.specs.declared.tree.Name.{Name}
+use Rattle.rdf_grammar.specs.declared.tree.Name.TheVariants.{Full}
 use Rattle.rdf_turtle.specs.declared.tree.Verb.{Verb}
 use Rattle.rdf_turtle.specs.declared.tree.Verb.TheVariants as v
-use Rattle.rdf_turtle.specs.declared.tree.Literal.{Literal}
-use Rattle.rdf_turtle.specs.declared.tree.Literal.TheVariants as l
+use Rattle.rdf_grammar.specs.declared.tree.Literal.{Literal}
+use Rattle.rdf_grammar.specs.declared.tree.Literal.TheVariants as l
 use Rattle.rdf_turtle.specs.declared.tree.Node.{Node}
 use Rattle.rdf_turtle.specs.declared.tree.Node.TheVariants as n
 use Rattle.rdf_turtle.specs.declared.tree.Node.TheOpen.{Node-F, Property-F}
@@ -38,7 +38,7 @@ use Rattle.rdf_turtle.specs.Meaning.{Meaning, Says, only, iri, verb, literal, ob
 use Rattle.rdf_turtle.specs.Reading.{property_with}
 use Rattle.rdf_turtle.specs.References.{resolve}
 use Rattle.rdf_turtle.specs.State.{State, Does, start, labelled, triple, says}
-use Rattle.rdf_turtle.specs.Steps.{◌>>=◌, ◌>>◌, ◌<$>◌, each}
+use Rattle.rdf_grammar.specs.Steps.{◌>>=◌, ◌>>◌, ◌<$>◌, each}
 use Rattle.rdf_tokens.specs.Values.{iri_value, text_value, tag_value}
 use Rattle.rdf_turtle.specs.WrittenLaws.{IsDefaultQuad}
 use Rattle.rdf_tokens.proofs.CallerLemmas.{iri_value_is, text_value_is}

@@ -10,25 +10,25 @@ use Rattle.rdf_terms.specs.declared.term.Term.{Term}
 use Rattle.rdf_terms.specs.declared.term.Term.TheVariants as t
 use Rattle.rdf_terms.specs.declared.quad.Quad.{Quad}
 use Rattle.rdf_terms.proofs.QuadTests.{QuadTests, quad_tests}
-use Rattle.rdf_turtle.specs.declared.lexeme.Terminal.{Terminal}
-use Rattle.rdf_turtle.specs.declared.lexeme.Terminal.TheVariants as terminal
+use Rattle.rdf_turtle.specs.declared.terminal.Terminal.{Terminal}
+use Rattle.rdf_turtle.specs.declared.terminal.Terminal.TheVariants as terminal
 use Rattle.rdf_tokens.specs.declared.token.Kind.TheVariants as kind
-use Rattle.rdf_turtle.specs.declared.tree.Name.TheVariants.{Full}
+use Rattle.rdf_grammar.specs.declared.tree.Name.TheVariants.{Full}
 use Rattle.rdf_turtle.specs.declared.tree.Verb.{Verb}
 use Rattle.rdf_turtle.specs.declared.tree.Verb.TheVariants as v
-use Rattle.rdf_turtle.specs.declared.tree.Literal.{Literal}
-use Rattle.rdf_turtle.specs.declared.tree.Literal.TheVariants as l
+use Rattle.rdf_grammar.specs.declared.tree.Literal.{Literal}
+use Rattle.rdf_grammar.specs.declared.tree.Literal.TheVariants as l
 use Rattle.rdf_turtle.specs.declared.tree.Node.{Node}
 use Rattle.rdf_turtle.specs.declared.tree.Node.TheVariants as n
 use Rattle.rdf_turtle.specs.declared.tree.Property.{Property}
 use Rattle.rdf_turtle.specs.declared.tree.Statement.{Statement}
 use Rattle.rdf_turtle.specs.declared.tree.Statement.TheVariants as s
-use Rattle.rdf_turtle.specs.Derivations.{Derives, Then, stop, more}
+use Rattle.rdf_turtle.specs.Lexemes.{Derives, Lexemes}
+use Rattle.rdf_grammar.specs.Derivations.{Then, stop, more}
 use Rattle.rdf_turtle.specs.Grammar as g
-use Rattle.rdf_turtle.specs.Lexemes.{at_word_terminal, terminal_of}
+use Rattle.rdf_turtle.specs.Terminals.{at_word_terminal, terminal_of}
 use Rattle.rdf_turtle.specs.Nesting.{open_behind, open_after, IsTooDeep}
 use Rattle.rdf_turtle.specs.Reading.{property_with}
-use Rattle.rdf_turtle.specs.Rules.{Lexemes}
 use Rattle.rdf_turtle.specs.WrittenLaws.{IsDefaultQuad}
 use Rattle.rdf_turtle.proofs.WrittenCuts.{Slice, lexeme_of, lexemes_of}
 use Rattle.rdf_turtle.proofs.WrittenTerms.{iri_slice, text_slice, label_slice, tag_slice, datatype_slices, suffix_slices, term_slices}

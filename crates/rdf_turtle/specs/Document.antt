@@ -6,11 +6,10 @@ use Rattle.rdf_terms.specs.declared.quad.Quad.{Quad}
 use Rattle.rdf_turtle.specs.declared.fault.TurtleFault.{TurtleFault}
 use Rattle.rdf_turtle.specs.declared.fault.TurtleFaultKind.{TurtleFaultKind}
 use Rattle.rdf_turtle.specs.declared.fault.TurtleFaultKind.TheVariants as fault
-use Rattle.rdf_turtle.specs.declared.lexeme.Lexeme.{Lexeme}
+use Rattle.rdf_turtle.specs.Lexemes.{Lexeme, AreLexemes}
 use Rattle.rdf_tokens.specs.declared.token.Token.{Token}
 use Rattle.rdf_turtle.specs.declared.tree.Statement.{Statement}
 use Rattle.rdf_turtle.specs.Grammar as grammar
-use Rattle.rdf_turtle.specs.Lexemes.{AreLexemes}
 use Rattle.rdf_tokens.specs.Lines.{line_of}
 use Rattle.rdf_turtle.specs.Meaning.{answer}
 use Rattle.rdf_turtle.specs.Nesting.{IsTooDeep, IsTooDeepAt}

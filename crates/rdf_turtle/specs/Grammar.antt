@@ -1,22 +1,21 @@
 -- The grammar of Turtle as it is written (Turtle 1.1, section 6.5, by the numbers of its rules), with no look at the next lexeme.
-use Rattle.std.specs.Prelude.{◌≡◌, ℕ, zero, suc, true, false, List, [], ◌∷◌, option_to_list}
-use Rattle.rdf_turtle.specs.declared.lexeme.Terminal.TheVariants as terminal
-use Rattle.rdf_turtle.specs.declared.lexeme.Lexeme.{Lexeme}
-use Rattle.rdf_turtle.specs.declared.tree.Name.{Name}
-use Rattle.rdf_turtle.specs.declared.tree.Name.TheVariants.{Full}
+use Rattle.std.specs.Prelude.{ℕ, zero, suc, true, false, List, [], ◌∷◌, option_to_list}
+use Rattle.rdf_turtle.specs.declared.terminal.Terminal.TheVariants as terminal
+use Rattle.rdf_turtle.specs.Lexemes.{Lexemes, Derives}
+use Rattle.rdf_grammar.specs.declared.tree.Name.{Name}
+use Rattle.rdf_grammar.specs.declared.tree.Name.TheVariants.{Full}
 use Rattle.rdf_turtle.specs.declared.tree.Verb.{Verb}
 use Rattle.rdf_turtle.specs.declared.tree.Verb.TheVariants as v
-use Rattle.rdf_turtle.specs.declared.tree.Literal.{Literal}
-use Rattle.rdf_turtle.specs.declared.tree.Literal.TheVariants as l
+use Rattle.rdf_grammar.specs.declared.tree.Literal.{Literal}
+use Rattle.rdf_grammar.specs.declared.tree.Literal.TheVariants as l
 use Rattle.rdf_turtle.specs.declared.tree.Node.{Node}
 use Rattle.rdf_turtle.specs.declared.tree.Node.TheVariants as n
 use Rattle.rdf_turtle.specs.declared.tree.Property.{Property}
 use Rattle.rdf_turtle.specs.declared.tree.Statement.{Statement}
 use Rattle.rdf_turtle.specs.declared.tree.Statement.TheVariants as s
-use Rattle.rdf_tokens.specs.Values.{prefix_part, local_part}
-use Rattle.rdf_turtle.specs.Rules.{Piece, Lexemes}
+use Rattle.rdf_grammar.specs.Terminals.{Piece}
 use Rattle.rdf_turtle.specs.Reading.{prefixed, property_with, all_of}
-use Rattle.rdf_turtle.specs.Derivations.{Derives, ◌>>=◌, ◌>>◌, ◌<$>◌, ◌∣◌, pure, the, value, one, maybe, Star}
+use Rattle.rdf_grammar.specs.Derivations.{◌>>=◌, ◌>>◌, ◌<$>◌, ◌∣◌, pure, the, value, namespace, one, maybe, Star}
 
 -- 135s: iri = IRIREF | PrefixedName
 abbrev pub Iri : Derives Name
@@ -104,14 +103,10 @@ abbrev pub Objects_at : ℕ → Derives Node
 Objects_at zero ts x us = ⊥
 Objects_at (suc depth) ts x us = Object (Objects_at depth) ts x us
 
--- 139s: PNAME_NS, a prefixed name of which the local part is empty
-abbrev pub Namespace : Derives Piece
-Namespace ts v us = (t : Lexeme) × (t.terminal ≡ terminal.Pname) × (local_part t.text ≡ []) × (prefix_part t.text ≡ v) × (ts ≡ t ∷ us)
-
--- PNAME_NS IRIREF
+-- PNAME_NS (139s) IRIREF
 abbrev pub Binding : Derives Statement
 Binding = do
-  prefix ← Namespace
+  prefix ← namespace terminal.Pname
   reference ← value terminal.Iri
   pure (s.Prefix prefix reference)
 

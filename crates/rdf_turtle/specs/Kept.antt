@@ -2,7 +2,7 @@
 use Rattle.std.specs.Prelude.{◌≡◌, Option, Some, None, Result, Ok, Err}
 use Rattle.rdf_turtle.specs.declared.fault.TurtleFaultKind.{TurtleFaultKind}
 use Rattle.rdf_turtle.specs.declared.fault.TurtleFaultKind.TheVariants.{NotUtf8, Token, TooDeep, Syntax, UnknownPrefix, Relative, NoMemory}
-use Rattle.rdf_turtle.specs.Steps.{Outcome}
+use Rattle.rdf_grammar.specs.Steps.{Outcome}
 
 -- Relative where the outcome is missing
 abbrev pub Fails : {A : Type 0} → Option A → TurtleFaultKind → Type 0

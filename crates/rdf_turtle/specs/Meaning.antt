@@ -7,12 +7,12 @@ use Rattle.rdf_terms.specs.Literal.{xsd_string, is_tag, tagged}
 use Rattle.rdf_terms.specs.Quad.{QuadParts}
 use Rattle.rdf_terms.specs.declared.term.Term.{Term}
 use Rattle.rdf_terms.specs.declared.term.Term.TheVariants as t
-use Rattle.rdf_turtle.specs.declared.tree.Name.{Name}
-use Rattle.rdf_turtle.specs.declared.tree.Name.TheVariants.{Full, Prefixed}
+use Rattle.rdf_grammar.specs.declared.tree.Name.{Name}
+use Rattle.rdf_grammar.specs.declared.tree.Name.TheVariants.{Full, Prefixed}
 use Rattle.rdf_turtle.specs.declared.tree.Verb.{Verb}
 use Rattle.rdf_turtle.specs.declared.tree.Verb.TheVariants as v
-use Rattle.rdf_turtle.specs.declared.tree.Literal.{Literal}
-use Rattle.rdf_turtle.specs.declared.tree.Literal.TheVariants as l
+use Rattle.rdf_grammar.specs.declared.tree.Literal.{Literal}
+use Rattle.rdf_grammar.specs.declared.tree.Literal.TheVariants as l
 use Rattle.rdf_turtle.specs.declared.tree.Node.{Node}
 use Rattle.rdf_turtle.specs.declared.tree.Node.TheOpen.{Node-F, Property-F}
 use Rattle.rdf_turtle.specs.declared.tree.Node.TheFolds.{fold-Node, fold-Property}
@@ -25,7 +25,7 @@ use Rattle.rdf_turtle.specs.Known.{declares_first}
 use Rattle.rdf_turtle.specs.References.{resolve, iri_text}
 use Rattle.rdf_tokens.specs.Values.{iri_value, text_value, local_value, tag_value}
 use Rattle.rdf_turtle.specs.Vocabulary.{rdf_type, rdf_first, rdf_rest, rdf_nil, xsd_integer, xsd_decimal, xsd_double, xsd_boolean, boolean_text}
-use Rattle.rdf_turtle.specs.Steps.{◌>>=◌, ◌>>◌, ◌<$>◌, pure, none, each}
+use Rattle.rdf_grammar.specs.Steps.{◌>>=◌, ◌>>◌, ◌<$>◌, pure, none, each}
 use Rattle.rdf_turtle.specs.State.{State, Does, key_of, same_key, start, fresh, labelled, says, declares, moves_base}
 
 -- a value that may be missing

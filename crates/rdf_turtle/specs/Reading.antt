@@ -1,42 +1,44 @@
 -- The grammar of Turtle (Turtle 1.1, section 6.5), a definition for each production. Where a production has alternatives the
 -- next lexeme chooses.
-use Rattle.std.specs.Prelude.{ℕ, zero, suc, Bool, true, false, List, [], ◌∷◌, Option, Some, None, option_to_list, ◌&&◌, if◌then◌else◌}
-use Rattle.rdf_turtle.specs.declared.lexeme.Terminal.{Terminal}
-use Rattle.rdf_turtle.specs.declared.lexeme.Terminal.TheVariants as terminal
-use Rattle.rdf_turtle.specs.declared.tree.Name.{Name}
-use Rattle.rdf_turtle.specs.declared.tree.Name.TheVariants.{Full, Prefixed}
+use Rattle.std.specs.Prelude.{ℕ, zero, suc, Bool, true, false, List, [], ◌∷◌, Option, Some, None, option_to_list}
+use Rattle.rdf_turtle.specs.declared.terminal.Terminal.{Terminal}
+use Rattle.rdf_turtle.specs.declared.terminal.Terminal.TheVariants as terminal
+use Rattle.rdf_grammar.specs.declared.tree.Name.{Name}
+use Rattle.rdf_grammar.specs.declared.tree.Name.TheVariants.{Full, Prefixed}
 use Rattle.rdf_turtle.specs.declared.tree.Verb.{Verb}
 use Rattle.rdf_turtle.specs.declared.tree.Verb.TheVariants as v
-use Rattle.rdf_turtle.specs.declared.tree.Literal.{Literal}
-use Rattle.rdf_turtle.specs.declared.tree.Literal.TheVariants as l
+use Rattle.rdf_grammar.specs.declared.tree.Literal.{Literal}
+use Rattle.rdf_grammar.specs.declared.tree.Literal.TheVariants as l
 use Rattle.rdf_turtle.specs.declared.tree.Node.{Node}
 use Rattle.rdf_turtle.specs.declared.tree.Node.TheVariants as n
 use Rattle.rdf_turtle.specs.declared.tree.Property.{Property}
 use Rattle.rdf_turtle.specs.declared.tree.Statement.{Statement}
 use Rattle.rdf_turtle.specs.declared.tree.Statement.TheVariants as s
 use Rattle.rdf_tokens.specs.Values.{prefix_part, local_part}
-use Rattle.rdf_turtle.specs.Steps.{◌>>=◌, ◌>>◌, ◌<$>◌, pure, none}
-use Rattle.rdf_turtle.specs.Rules.{Piece, Lexemes, Rule, peek, next, next_terminal, next_text, is_nil, sees, the, value, any, one, optional, repeat}
+use Rattle.rdf_grammar.specs.Steps.{◌>>=◌, ◌>>◌, ◌<$>◌, pure, none}
+use Rattle.rdf_grammar.specs.Terminals.{Piece, peek, next_terminal}
+use Rattle.rdf_turtle.specs.Lexemes.{Lexemes, Reading, sees, the, value, namespace}
+use Rattle.rdf_grammar.specs.Readings.{any, one, optional, repeat, is_more}
 
 -- a prefix and a local part
 abbrev pub prefixed : Piece → Name
 prefixed text = Prefixed (prefix_part text) (local_part text)
 
 -- iri = IRIREF | PrefixedName
-abbrev pub iri_by : Option Terminal → Rule Name
+abbrev pub iri_by : Option Terminal → Reading Name
 iri_by (Some terminal.Iri) = Full <$> value terminal.Iri
 iri_by (Some terminal.Pname) = prefixed <$> value terminal.Pname
 iri_by _ = none
 
-unfoldable pub iri : Rule Name
+unfoldable pub iri : Reading Name
 iri = peek >>= iri_by
 
 -- verb = iri | "a"
-abbrev pub verb_by : Option Terminal → Rule Verb
+abbrev pub verb_by : Option Terminal → Reading Verb
 verb_by (Some terminal.A) = any >> pure v.Type
 verb_by _ = v.Name <$> iri
 
-unfoldable pub verb : Rule Verb
+unfoldable pub verb : Reading Verb
 verb = peek >>= verb_by
 
 abbrev pub begins_verb : Option Terminal → Bool
@@ -49,7 +51,7 @@ abbrev pub sees_verb : Lexemes → Bool
 sees_verb ts = begins_verb (next_terminal ts)
 
 -- ( LANGTAG | "^^" iri )?, behind a String
-abbrev pub suffix_by : Piece → Option Terminal → Rule Literal
+abbrev pub suffix_by : Piece → Option Terminal → Reading Literal
 suffix_by form (Some terminal.AtWord) = l.Tagged form <$> value terminal.AtWord
 suffix_by form (Some terminal.AtPrefix) = l.Tagged form <$> value terminal.AtPrefix
 suffix_by form (Some terminal.AtBase) = l.Tagged form <$> value terminal.AtBase
@@ -57,14 +59,14 @@ suffix_by form (Some terminal.Caret) = any >> l.Typed form <$> iri
 suffix_by form _ = pure (l.Plain form)
 
 -- RDFLiteral = String ( LANGTAG | "^^" iri )?
-unfoldable pub text : Rule Literal
+unfoldable pub text : Reading Literal
 text = do
   form ← value terminal.Text
   k ← peek
   suffix_by form k
 
 -- literal = RDFLiteral | NumericLiteral | BooleanLiteral
-abbrev pub literal_by : Option Terminal → Rule Literal
+abbrev pub literal_by : Option Terminal → Reading Literal
 literal_by (Some terminal.Integer) = l.Integer <$> value terminal.Integer
 literal_by (Some terminal.Decimal) = l.Decimal <$> value terminal.Decimal
 literal_by (Some terminal.Double) = l.Double <$> value terminal.Double
@@ -72,7 +74,7 @@ literal_by (Some terminal.True) = any >> pure (l.Boolean true)
 literal_by (Some terminal.False) = any >> pure (l.Boolean false)
 literal_by _ = text
 
-unfoldable pub literal : Rule Literal
+unfoldable pub literal : Reading Literal
 literal = peek >>= literal_by
 
 abbrev pub begins_node : Option Terminal → Bool
@@ -109,47 +111,47 @@ all_of None = []
 all_of (Some xs) = xs
 
 -- node is the rule for what stands inside brackets
-module _ (node : Rule Node) where
+module _ (node : Reading Node) where
   -- objectList = object ( "," object )*
-  unfoldable pub objects : Rule (List Node)
+  unfoldable pub objects : Reading (List Node)
   objects = do
     first ← node
     others ← repeat (sees terminal.Comma) (one (the terminal.Comma >> node))
     pure (first ∷ others)
 
   -- verb objectList
-  unfoldable pub property : Rule Property
+  unfoldable pub property : Reading Property
   property = do
     v ← verb
     os ← objects
     pure (property_with v os)
 
   -- ( verb objectList )?
-  unfoldable pub optional_property : Rule (Option Property)
+  unfoldable pub optional_property : Reading (Option Property)
   optional_property = optional sees_verb property
 
   -- ";" ( verb objectList )?
-  abbrev pub more : Rule (List Property)
+  abbrev pub more : Reading (List Property)
   more = the terminal.Semicolon >> (option_to_list <$> optional_property)
 
   -- predicateObjectList = verb objectList ( ";" ( verb objectList )? )*
-  unfoldable pub predicate_object_list : Rule (List Property)
+  unfoldable pub predicate_object_list : Reading (List Property)
   predicate_object_list = do
     first ← property
     others ← repeat (sees terminal.Semicolon) more
     pure (first ∷ others)
 
   -- predicateObjectList?
-  unfoldable pub optional_predicate_object_list : Rule (List Property)
+  unfoldable pub optional_predicate_object_list : Reading (List Property)
   optional_predicate_object_list = all_of <$> optional sees_verb predicate_object_list
 
   -- behind ANON predicateObjectList, behind blankNodePropertyList predicateObjectList?
-  abbrev pub predicate_object_list_behind : List Property → Rule (List Property)
+  abbrev pub predicate_object_list_behind : List Property → Reading (List Property)
   predicate_object_list_behind [] = predicate_object_list
   predicate_object_list_behind (p ∷ ps) = optional_predicate_object_list
 
   -- "[" predicateObjectList? "]", which is ANON and blankNodePropertyList
-  unfoldable pub bracketed : Rule (List Property)
+  unfoldable pub bracketed : Reading (List Property)
   bracketed = do
     the terminal.OpenBracket
     ps ← optional_predicate_object_list
@@ -157,7 +159,7 @@ module _ (node : Rule Node) where
     pure ps
 
   -- collection = "(" object* ")"
-  unfoldable pub collection : Rule (List Node)
+  unfoldable pub collection : Reading (List Node)
   collection = do
     the terminal.Open
     items ← repeat sees_node (one node)
@@ -165,87 +167,79 @@ module _ (node : Rule Node) where
     pure items
 
   -- subject = iri | BlankNode | collection, and blankNodePropertyList
-  abbrev pub subject_by : Option Terminal → Rule Node
+  abbrev pub subject_by : Option Terminal → Reading Node
   subject_by (Some terminal.BlankLabel) = n.Label <$> value terminal.BlankLabel
   subject_by (Some terminal.OpenBracket) = n.Blank <$> bracketed
   subject_by (Some terminal.Open) = n.Collection <$> collection
   subject_by _ = n.Name <$> iri
 
-  unfoldable pub subject : Rule Node
+  unfoldable pub subject : Reading Node
   subject = peek >>= subject_by
 
   -- object = iri | BlankNode | collection | blankNodePropertyList | literal
-  abbrev pub object_by : Bool → Rule Node
+  abbrev pub object_by : Bool → Reading Node
   object_by true = subject
   object_by false = n.Literal <$> literal
 
-  unfoldable pub object : Rule Node
+  unfoldable pub object : Reading Node
   object = peek >>= (λ k. object_by (begins_subject k))
 
 -- An object. The number is how many brackets may be open from the one around it on.
-unfoldable pub node : ℕ → Rule Node
+unfoldable pub node : ℕ → Reading Node
 node zero = none
 node (suc depth) = object (node depth)
 
--- PNAME_NS, a prefixed name of which the local part is empty
-unfoldable pub namespace : Rule Piece
-namespace = λ ts. if sees terminal.Pname ts && is_nil (local_part (next_text ts)) then Some (prefix_part (next_text ts), next ts) else None
-
 -- PNAME_NS IRIREF
-unfoldable pub binding : Rule Statement
+unfoldable pub binding : Reading Statement
 binding = do
-  prefix ← namespace
+  prefix ← namespace terminal.Pname
   reference ← value terminal.Iri
   pure (s.Prefix prefix reference)
 
 -- IRIREF
-unfoldable pub base : Rule Statement
+unfoldable pub base : Reading Statement
 base = s.Base <$> value terminal.Iri
 
 -- something, and a dot behind it
-abbrev pub dotted : {A : Type 0} → Rule A → Rule A
+abbrev pub dotted : {A : Type 0} → Reading A → Reading A
 dotted p = do
   x ← p
   the terminal.Dot
   pure x
 
 -- inner and node are the rules for what stands inside a statement's brackets and outside of them
-module _ (inner node : Rule Node) where
-  unfoldable pub about_blank : Rule Statement
+module _ (inner node : Reading Node) where
+  unfoldable pub about_blank : Reading Statement
   about_blank = do
     inside ← bracketed inner
     ps ← predicate_object_list_behind node inside
     pure (s.Triples (n.Blank inside) ps)
 
-  unfoldable pub about_subject : Rule Statement
+  unfoldable pub about_subject : Reading Statement
   about_subject = do
     subject ← subject inner
     ps ← predicate_object_list node
     pure (s.Triples subject ps)
 
   -- triples = subject predicateObjectList | blankNodePropertyList predicateObjectList?
-  abbrev pub triples_by : Option Terminal → Rule Statement
+  abbrev pub triples_by : Option Terminal → Reading Statement
   triples_by (Some terminal.OpenBracket) = about_blank
   triples_by _ = about_subject
 
-  unfoldable pub triples : Rule Statement
+  unfoldable pub triples : Reading Statement
   triples = peek >>= triples_by
 
   -- statement = directive | triples "."
-  abbrev pub statement_by : Option Terminal → Rule Statement
+  abbrev pub statement_by : Option Terminal → Reading Statement
   statement_by (Some terminal.AtPrefix) = any >> dotted binding
   statement_by (Some terminal.AtBase) = any >> dotted base
   statement_by (Some terminal.Prefix) = any >> binding
   statement_by (Some terminal.Base) = any >> base
   statement_by _ = dotted triples
 
-  unfoldable pub statement : Rule Statement
+  unfoldable pub statement : Reading Statement
   statement = peek >>= statement_by
 
-abbrev pub is_more : Lexemes → Bool
-is_more [] = false
-is_more (t ∷ ts) = true
-
 -- turtleDoc = statement*. The number is how many brackets may be open at once.
-unfoldable pub document : ℕ → Rule (List Statement)
+unfoldable pub document : ℕ → Reading (List Statement)
 document depth = repeat is_more (one (statement (node depth) (node (suc depth))))

@@ -8,7 +8,7 @@ use Rattle.rdf_terms.specs.Quad.{QuadParts, has_right_kinds}
 use Rattle.rdf_terms.specs.declared.term.Term.{Term}
 use Rattle.rdf_terms.specs.declared.term.Term.TheVariants.{Blank, Iri}
 use Rattle.rdf_terms.specs.declared.quad.GraphName.TheVariants.{Default}
-use Rattle.rdf_turtle.specs.Steps.{Step, ◌<$>◌}
+use Rattle.rdf_grammar.specs.Steps.{Step, ◌<$>◌}
 
 -- names and labels are told apart by the UTF-8 bytes of their characters
 abbrev pub key_of : List ℕ → List ℕ

@@ -3,7 +3,7 @@ use Rattle.std.specs.Prelude.{ℕ, List}
 use Rattle.rdf_turtle.specs.declared.fault.TurtleFaultKind.{TurtleFaultKind}
 use Rattle.rdf_turtle.specs.declared.fault.TurtleFaultKind.TheVariants.{TooDeep, Syntax, NoMemory}
 use Rattle.rdf_turtle.specs.declared.tree.Statement.{Statement}
-use Rattle.rdf_turtle.specs.Rules.{Lexemes}
+use Rattle.rdf_turtle.specs.Lexemes.{Lexemes}
 use Rattle.rdf_turtle.specs.Nesting.{IsTooDeepAt}
 use Rattle.rdf_turtle.specs.Grammar.{IsDocument}
 

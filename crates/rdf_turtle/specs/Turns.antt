@@ -4,7 +4,7 @@ use Rattle.rdf_turtle.specs.declared.tree.Statement.{Statement}
 use Rattle.rdf_turtle.specs.Known.{known_statement, declared_behind}
 use Rattle.rdf_turtle.specs.Meaning as meaning
 use Rattle.rdf_turtle.specs.Reading.{node, statement}
-use Rattle.rdf_turtle.specs.Rules.{Lexemes}
+use Rattle.rdf_turtle.specs.Lexemes.{Lexemes}
 use Rattle.rdf_turtle.specs.State.{State}
 
 -- The next statement is read and said: the lexemes, the state and the declared prefixes before it, and those behind it.

@@ -11,13 +11,13 @@ ghost use Rattle.rdf_tokens.specs.Lines.{line_of};
 
 use crate::fault::{TurtleFault, TurtleFaultKind};
 use crate::lexeme::Lexeme;
-use crate::lexemes::lexemes;
 use crate::meaning::triples_of;
 use crate::placed::PlacedFault;
 use crate::read::{Stop, parse_document};
 use crate::straight::straight_triples;
 use crate::token_list::tokens;
 use crate::tree::Statement;
+use rdf_grammar::lexemes;
 use rdf_terms::{Iri, Items, Quad};
 use rdf_tokens::{Token, line_at};
 use std::alloc::Global;

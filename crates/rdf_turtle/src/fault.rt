@@ -1,8 +1,10 @@
 //! Why a text is not read.
 ghost use Rattle.std.specs.Prelude.{◌≡◌};
 ghost use Rattle.rdf_turtle.specs.FaultName.{fault_name};
+ghost use Rattle.rdf_turtle.specs.GrammarFaults.{kind_of};
 ghost use Rattle.rdf_turtle.specs.declared.fault.TurtleFaultKind.TheVariants.{NoMemory as NoMemoryKind};
 
+use rdf_grammar::GrammarFault;
 use rdf_terms::NoMemory;
 use std::alloc::{AllocError, AllocFailed};
 use thiserror::Error;
@@ -67,6 +69,17 @@ impl TurtleFault {
         ensures { result.now ≡ fault_name self.kind }
     {
         self.kind.name()
+    }
+}
+
+impl From<GrammarFault> for TurtleFaultKind {
+    ghost from_gives = { λ fault e. e ≡ kind_of fault };
+
+    fn from(fault: GrammarFault) -> TurtleFaultKind {
+        match fault {
+            GrammarFault::Syntax => TurtleFaultKind::Syntax,
+            GrammarFault::NoMemory(_) => TurtleFaultKind::NoMemory,
+        }
     }
 }
 

@@ -1,4 +1,5 @@
 //! What holds of each document and its tree.
+ghost use Rattle.rdf_turtle.specs.Lexemes.{LexemesHaveForms};
 ghost use Rattle.rdf_turtle.specs.Leaves.{OneDocument, DocumentsHaveSubjects, LeavesAreLexemes};
 ghost use Rattle.rdf_turtle.specs.WrittenLaws.{WrittenTriplesAreTurtle};
 
@@ -25,4 +26,9 @@ pub fn leaves_are_lexemes()
 /// numbers come in order of first appearance, from 0.
 pub fn written_triples_are_turtle()
     ensures { WrittenTriplesAreTurtle }
+{}
+
+/// The lexemes of a text have the forms of its tokens.
+pub fn lexemes_have_forms()
+    ensures { LexemesHaveForms }
 {}

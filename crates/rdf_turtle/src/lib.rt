@@ -1,7 +1,6 @@
 //! Turtle: documents read as quads, and the tokens of a text.
 #![tactic(auto)]
 
-mod depth;
 mod document;
 mod fault;
 mod grammar;
@@ -9,15 +8,14 @@ mod key;
 mod known;
 mod laws;
 mod lexeme;
-mod lexemes;
 mod meaning;
 mod names;
-mod parser;
 mod placed;
 mod read;
 mod scope;
 mod statement;
 mod straight;
+mod terminal;
 mod token_list;
 mod tree;
 mod vocabulary;
@@ -25,15 +23,16 @@ mod vocabulary;
 pub use document::{one_meaning, read_turtle};
 pub use fault::{TurtleFault, TurtleFaultKind};
 pub use laws::{
-    documents_have_subjects, leaves_are_lexemes, one_document, written_triples_are_turtle,
+    documents_have_subjects, leaves_are_lexemes, lexemes_have_forms, one_document,
+    written_triples_are_turtle,
 };
-pub use lexeme::{Lexeme, Terminal};
-pub use lexemes::lexemes_have_forms;
+pub use lexeme::Lexeme;
 pub use meaning::{blank_numbers_are_below, prefixes_are_replaced, references_are_resolved};
 pub use rdf_tokens::{
     Kind, Slice, Token, iris_have_values, line_ends_are_counted, locals_have_values,
     one_token_list, one_token_text, pnames_are_iris, pnames_have_parts, some_token_list,
     texts_have_values, token_text, tokens_have_forms,
 };
+pub use terminal::Terminal;
 pub use token_list::tokens;
 pub use tree::{Literal, Name, Node, Property, Statement, Verb};

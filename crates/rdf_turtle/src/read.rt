@@ -7,11 +7,11 @@ ghost use Rattle.rdf_turtle.specs.Nesting.{IsTooDeep};
 ghost use Rattle.rdf_turtle.specs.Grammar.{IsDocument};
 ghost use Rattle.rdf_turtle.specs.Stops.{Explains};
 
-use crate::depth::too_deep;
 use crate::fault::TurtleFaultKind;
-use crate::lexeme::Lexeme;
-use crate::parser::Parser;
+use crate::lexeme::{Lexeme, Parser};
+use crate::statement::document;
 use crate::tree::Statement;
+use rdf_grammar::too_deep;
 use rdf_terms::Items;
 use std::alloc::Global;
 
@@ -47,10 +47,10 @@ pub(crate) fn parse_document<'a>(
         });
     }
     let mut parser = Parser::new(alloc, lexemes);
-    match parser.document() {
+    match document(&mut parser) {
         Ok(document) => Ok(document),
-        Err(kind) => Err(Stop {
-            kind,
+        Err(fault) => Err(Stop {
+            kind: TurtleFaultKind::from(fault),
             place: lexemes.len().saturating_sub(parser.left()),
         }),
     }

@@ -8,14 +8,14 @@ ghost use Rattle.rdf_turtle.specs.Meaning.{answer};
 ghost use Rattle.rdf_turtle.specs.Nesting.{IsTooDeep};
 ghost use Rattle.rdf_turtle.specs.Turns.{Turn};
 
-use crate::depth::too_deep;
 use crate::key::Key;
 use crate::known::{declare, unknown_in};
-use crate::lexeme::Lexeme;
+use crate::lexeme::{Lexeme, Parser};
 use crate::meaning::copied;
-use crate::parser::Parser;
 use crate::scope::Scope;
+use crate::statement::statement;
 use indexmap::IndexSet;
+use rdf_grammar::too_deep;
 use rdf_terms::{Iri, Quad};
 use std::alloc::Global;
 
@@ -27,7 +27,7 @@ fn turn<'a>(
 ) -> bool
     ensures { OnTrue result (Turn parser.old parser.new scope.old scope.new declared.old.keys declared.new.keys) }
 {
-    let Ok(statement) = parser.statement() else {
+    let Ok(statement) = statement(parser) else {
         return false;
     };
     if unknown_in(declared, &statement).is_some() {

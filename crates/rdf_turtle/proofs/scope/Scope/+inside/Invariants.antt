@@ -1,6 +1,6 @@
 use Rattle.std.proofs.Common.{◌≡◌, map, drop}
 use Rattle.rdf_turtle.specs.Meaning as spec
-use Rattle.rdf_turtle.specs.Steps.{each}
+use Rattle.rdf_grammar.specs.Steps.{each}
 use Rattle.rdf_turtle.proofs.scope.Scope.+inside.Given as goal
 
 abbrev pub invariant-behind-loop-item : goal.invariant-behind-loop-item

@@ -1,0 +1,49 @@
+-- Terminals: what the next lexeme is.
+use Rattle.std.specs.Prelude.{◌≡◌, ℕ, Bool, true, false, ◌&&◌, if◌then◌else◌, List, [], ◌∷◌, Option, Some, None}
+use Rattle.rdf_tokens.specs.Values.{prefix_part, local_part}
+use Rattle.rdf_grammar.specs.declared.lexeme.Lexeme.{Lexeme}
+use Rattle.rdf_grammar.specs.Readings.{Reading, next, is_nil}
+
+-- the characters of a piece of the text
+abbrev pub Piece : Type 0
+Piece = List ℕ
+
+abbrev pub Lexemes : Type 0 → Type 0
+Lexemes T = List (Lexeme T)
+
+-- The test tells whether two terminals are the same.
+pub record TellsApart {T : Type 0} (same : T → T → Bool) : Type 0 where
+  pub alike : (k : T) → same k k ≡ true
+  pub is : (a b : T) → same a b ≡ true → a ≡ b
+
+-- the next lexeme's terminal
+abbrev pub next_terminal : {T : Type 0} → Lexemes T → Option T
+next_terminal [] = None
+next_terminal (t ∷ ts) = Some t.terminal
+
+-- the next lexeme's characters
+abbrev pub next_text : {T : Type 0} → Lexemes T → Piece
+next_text [] = []
+next_text (t ∷ ts) = t.text
+
+-- a look at the next lexeme's terminal
+abbrev pub peek : {T : Type 0} → Reading (Lexeme T) (Option T)
+peek = λ ts. Some (next_terminal ts, ts)
+
+module _ {T : Type 0} (same : T → T → Bool) where
+  -- whether a lexeme of this terminal comes next
+  abbrev pub sees : T → Lexemes T → Bool
+  sees k [] = false
+  sees k (t ∷ ts) = same t.terminal k
+
+  -- a lexeme of this terminal
+  unfoldable pub the : T → Reading (Lexeme T) (Unit {0})
+  the k = λ ts. if sees k ts then Some (tt, next ts) else None
+
+  -- a lexeme of this terminal, and its characters
+  unfoldable pub value : T → Reading (Lexeme T) Piece
+  value k = λ ts. if sees k ts then Some (next_text ts, next ts) else None
+
+  -- a prefixed name of this terminal of which the local part is empty (139s: PNAME_NS), and its prefix
+  unfoldable pub namespace : T → Reading (Lexeme T) Piece
+  namespace k = λ ts. if sees k ts && is_nil (local_part (next_text ts)) then Some (prefix_part (next_text ts), next ts) else None

@@ -1,0 +1,34 @@
+//! Terminals: what a grammar tells apart among tokens.
+ghost use Rattle.std.specs.Prelude.{◌≡◌, ℕ, Bool, List};
+ghost use Rattle.rdf_grammar.specs.declared.bracket.Bracket.{Bracket as Turn};
+ghost use Rattle.rdf_tokens.specs.declared.token.Kind.{Kind as Form};
+ghost use Rattle.rdf_grammar.specs.Terminals.{TellsApart};
+
+use crate::bracket::Bracket;
+use rdf_tokens::Kind;
+
+/// A terminal of a grammar, an enum without fields: what its productions tell apart among tokens.
+pub trait Terminal: Copy + Drop {
+    // the terminal of a token of that kind, by the UTF-8 of its slice
+    ghost of: { Form → List ℕ → Self };
+
+    // whether two are the same
+    ghost same: { Self → Self → Bool };
+
+    // what it does to the brackets that are open
+    ghost bracket: { Self → Turn };
+
+    /// The terminal of a token of that kind and text.
+    fn of(kind: Kind, text: &str) -> Self
+        ensures { result ≡ of kind text.now };
+
+    /// Whether the two are the same.
+    fn same(self, other: Self) -> bool
+        ensures { result ≡ same self other };
+
+    /// What it does to the brackets that are open.
+    fn bracket(self) -> Bracket
+        ensures { result ≡ bracket self };
+
+    ghost tells_apart: { TellsApart same };
+}

@@ -1,0 +1,90 @@
+-- The terminals of Turtle's grammar (Turtle 1.1, section 6.5).
+use Rattle.std.specs.Prelude.{ℕ, Bool, if◌then◌else◌, List, codes, map, refl}
+use Rattle.std.specs.Char.{to_ascii_lowercase}
+use Rattle.std.specs.Str.{bytes_eq, encode_utf8_all}
+use denote.Enum.Bare.{sameb, same_true, true_same}
+use Rattle.rdf_tokens.specs.declared.token.Kind.{Kind}
+use Rattle.rdf_tokens.specs.declared.token.Kind.TheVariants as kind
+use Rattle.rdf_grammar.specs.declared.bracket.Bracket.{Bracket}
+use Rattle.rdf_grammar.specs.declared.bracket.Bracket.TheVariants as turn
+use Rattle.rdf_grammar.specs.Terminals.{TellsApart}
+use Rattle.rdf_turtle.specs.contracts.terminal.Terminal.{the_type}
+use Rattle.rdf_turtle.specs.declared.terminal.Terminal.{Terminal}
+use Rattle.rdf_turtle.specs.declared.terminal.Terminal.TheVariants as terminal
+
+-- ---- by the UTF-8 of slices
+
+-- `@prefix` and `@base` with just these letters, or a tag
+abbrev pub at_word_terminal : List ℕ → Terminal
+at_word_terminal text =
+    if bytes_eq text (codes "@prefix") then terminal.AtPrefix
+    else if bytes_eq text (codes "@base") then terminal.AtBase
+    else terminal.AtWord
+
+abbrev pub without_case : List ℕ → List ℕ
+without_case text = map to_ascii_lowercase text
+
+-- PREFIX and BASE in any case; `a`, `true`, `false` with just these letters
+abbrev pub word_terminal : List ℕ → Terminal
+word_terminal text =
+    if bytes_eq text (codes "a") then terminal.A
+    else if bytes_eq text (codes "true") then terminal.True
+    else if bytes_eq text (codes "false") then terminal.False
+    else if bytes_eq (without_case text) (codes "prefix") then terminal.Prefix
+    else if bytes_eq (without_case text) (codes "base") then terminal.Base
+    else terminal.Other
+
+abbrev pub bracket_terminal : List ℕ → Terminal
+bracket_terminal text =
+    if bytes_eq text (codes "[") then terminal.OpenBracket
+    else if bytes_eq text (codes "]") then terminal.CloseBracket
+    else if bytes_eq text (codes "(") then terminal.Open
+    else if bytes_eq text (codes ")") then terminal.Close
+    else if bytes_eq text (codes "{") then terminal.OpenBrace
+    else if bytes_eq text (codes "}") then terminal.CloseBrace
+    else terminal.Other
+
+abbrev pub symbol_terminal : List ℕ → Terminal
+symbol_terminal text =
+    if bytes_eq text (codes ".") then terminal.Dot
+    else if bytes_eq text (codes ";") then terminal.Semicolon
+    else if bytes_eq text (codes ",") then terminal.Comma
+    else if bytes_eq text (codes "^^") then terminal.Caret
+    else bracket_terminal text
+
+abbrev pub terminal_by : Kind → List ℕ → Terminal
+terminal_by kind.Iri text = terminal.Iri
+terminal_by kind.Pname text = terminal.Pname
+terminal_by kind.BlankLabel text = terminal.BlankLabel
+terminal_by kind.AtWord text = at_word_terminal text
+terminal_by kind.Text text = terminal.Text
+terminal_by kind.Integer text = terminal.Integer
+terminal_by kind.Decimal text = terminal.Decimal
+terminal_by kind.Double text = terminal.Double
+terminal_by kind.Var text = terminal.Other
+terminal_by kind.Word text = word_terminal text
+terminal_by kind.Symbol text = symbol_terminal text
+
+-- the terminal of a slice with the form of that kind
+abbrev pub terminal_of : Kind → List ℕ → Terminal
+terminal_of kind slice = terminal_by kind (encode_utf8_all slice)
+
+-- ---- what sets them apart
+
+unfoldable pub same_terminal : Terminal → Terminal → Bool
+same_terminal = sameb the_type
+
+pub apart : TellsApart same_terminal
+unfolding same_terminal
+apart = record { alike = λ k. true_same the_type k k refl; is = λ a b h. same_true the_type tt a b h }
+
+-- ---- brackets: `[`, `(` and `{`
+
+abbrev pub bracket : Terminal → Bracket
+bracket terminal.OpenBracket = turn.Opens
+bracket terminal.Open = turn.Opens
+bracket terminal.OpenBrace = turn.Opens
+bracket terminal.CloseBracket = turn.Closes
+bracket terminal.Close = turn.Closes
+bracket terminal.CloseBrace = turn.Closes
+bracket _ = turn.Neither

@@ -1,0 +1,182 @@
+//! The terminals of Turtle's grammar.
+ghost use Rattle.std.specs.Prelude.{◌≡◌, map};
+ghost use Rattle.std.specs.Char.{to_ascii_lowercase};
+ghost use Rattle.std.specs.Str.{bytes_eq};
+ghost use Rattle.rdf_turtle.specs.Terminals as spec;
+
+use rdf_grammar::Bracket;
+use rdf_tokens::Kind;
+
+/// A terminal of Turtle's grammar (Turtle 1.1, section 6.5).
+#[derive(Clone, Copy, Debug, PartialEq, Eq)]
+pub enum Terminal {
+    Iri,
+    Pname,
+    BlankLabel,
+    /// `@` and a tag that is no directive's word.
+    AtWord,
+    /// `@prefix`
+    AtPrefix,
+    /// `@base`
+    AtBase,
+    /// PREFIX in any case
+    Prefix,
+    /// BASE in any case
+    Base,
+    /// `a`
+    A,
+    /// `true`
+    True,
+    /// `false`
+    False,
+    Text,
+    Integer,
+    Decimal,
+    Double,
+    /// `^^`
+    Caret,
+    OpenBracket,
+    CloseBracket,
+    /// `(`
+    Open,
+    /// `)`
+    Close,
+    OpenBrace,
+    CloseBrace,
+    Dot,
+    Semicolon,
+    Comma,
+    /// What Turtle has no use for: a variable, another word, an operator.
+    Other,
+}
+
+fn at_word_terminal(text: &str) -> Terminal
+    ensures { result ≡ spec.at_word_terminal text.now }
+{
+    if text == "@prefix" {
+        Terminal::AtPrefix
+    } else if text == "@base" {
+        Terminal::AtBase
+    } else {
+        Terminal::AtWord
+    }
+}
+
+// Whether the text is this word, in any case.
+fn is_word(text: &str, word: &str) -> bool
+    ensures { result ≡ bytes_eq (map to_ascii_lowercase text.now) (map to_ascii_lowercase word.now) }
+{
+    text.eq_ignore_ascii_case(word)
+}
+
+fn word_terminal(text: &str) -> Terminal
+    ensures { result ≡ spec.word_terminal text.now }
+{
+    if text == "a" {
+        Terminal::A
+    } else if text == "true" {
+        Terminal::True
+    } else if text == "false" {
+        Terminal::False
+    } else if is_word(text, "prefix") {
+        Terminal::Prefix
+    } else if is_word(text, "base") {
+        Terminal::Base
+    } else {
+        Terminal::Other
+    }
+}
+
+fn bracket_terminal(text: &str) -> Terminal
+    ensures { result ≡ spec.bracket_terminal text.now }
+{
+    if text == "[" {
+        Terminal::OpenBracket
+    } else if text == "]" {
+        Terminal::CloseBracket
+    } else if text == "(" {
+        Terminal::Open
+    } else if text == ")" {
+        Terminal::Close
+    } else if text == "{" {
+        Terminal::OpenBrace
+    } else if text == "}" {
+        Terminal::CloseBrace
+    } else {
+        Terminal::Other
+    }
+}
+
+fn symbol_terminal(text: &str) -> Terminal
+    ensures { result ≡ spec.symbol_terminal text.now }
+{
+    if text == "." {
+        Terminal::Dot
+    } else if text == ";" {
+        Terminal::Semicolon
+    } else if text == "," {
+        Terminal::Comma
+    } else if text == "^^" {
+        Terminal::Caret
+    } else {
+        bracket_terminal(text)
+    }
+}
+
+// The terminal of a slice with the form of that kind.
+fn terminal_of(kind: Kind, text: &str) -> Terminal
+    ensures { result ≡ spec.terminal_by kind text.now }
+{
+    match kind {
+        Kind::Iri => Terminal::Iri,
+        Kind::Pname => Terminal::Pname,
+        Kind::BlankLabel => Terminal::BlankLabel,
+        Kind::AtWord => at_word_terminal(text),
+        Kind::Text => Terminal::Text,
+        Kind::Integer => Terminal::Integer,
+        Kind::Decimal => Terminal::Decimal,
+        Kind::Double => Terminal::Double,
+        Kind::Var => Terminal::Other,
+        Kind::Word => word_terminal(text),
+        Kind::Symbol => symbol_terminal(text),
+    }
+}
+
+#[tactic(auto, unfolding(crate::specs::Terminals::same_terminal))]
+fn same_terminal(a: Terminal, b: Terminal) -> bool
+    ensures { result ≡ spec.same_terminal a b }
+{
+    a == b
+}
+
+fn bracket(terminal: Terminal) -> Bracket
+    ensures { result ≡ spec.bracket terminal }
+{
+    match terminal {
+        Terminal::OpenBracket | Terminal::Open | Terminal::OpenBrace => Bracket::Opens,
+        Terminal::CloseBracket | Terminal::Close | Terminal::CloseBrace => Bracket::Closes,
+        _ => Bracket::Neither,
+    }
+}
+
+impl rdf_grammar::Terminal for Terminal {
+    ghost of = { spec.terminal_by };
+
+    ghost same = { spec.same_terminal };
+
+    ghost bracket = { spec.bracket };
+
+    fn of(kind: Kind, text: &str) -> Terminal {
+        terminal_of(kind, text)
+    }
+
+    fn same(self, other: Terminal) -> bool {
+        same_terminal(self, other)
+    }
+
+    fn bracket(self) -> Bracket {
+        bracket(self)
+    }
+
+    ghost tells_apart = { spec.apart };
+}
