@@ -25,4 +25,5 @@ pub mod Skips
 pub mod Tags
 pub mod Term
 pub mod TermText
+pub mod Vocabulary
 pub mod formers

@@ -1,5 +1,5 @@
 //! IRIs (RDF 1.1 Concepts, section 3.2).
-ghost use Rattle.std.specs.Prelude.{◌≡◌, ◌↔◌, ◌&&◌, false, length, IsTrue, IsErrOf, IfOk, if◌then◌else◌};
+ghost use Rattle.std.specs.Prelude.{◌≡◌, ◌↔◌, ◌&&◌, true, false, length, IsTrue, IsErrOf, IfOk, if◌then◌else◌};
 ghost use Rattle.std.specs.List.{list_all};
 ghost use Rattle.rdf_terms.specs.Iri.{has_scheme, has_forbidden, is_forbidden, is_scheme, is_scheme_byte, is_iri};
 ghost use Rattle.rdf_terms.specs.Literal.{lang_string, xsd_string};
@@ -73,6 +73,17 @@ impl Iri {
         } else {
             None
         }
+    }
+
+    /// The IRI of a word that is known to be one.
+    pub(crate) fn known(alloc: Global, word: &str) -> Result<Iri, NoMemory>
+        requires scheme { has_scheme word.now ≡ true }
+        requires allowed { has_forbidden word.now ≡ false }
+        ensures { IfOk result (λ iri. iri ≡ word.now) }
+    {
+        Ok(Iri {
+            text: Text::new(alloc, word)?,
+        })
     }
 
     /// The datatype of literals with a language tag.

@@ -25,6 +25,7 @@ mod skip;
 mod tag;
 mod term;
 mod text;
+mod vocabulary;
 mod write;
 
 pub use character::{is_forbidden_in_iri, is_pn_chars, is_pn_chars_base, is_pn_chars_u};
@@ -48,4 +49,5 @@ pub use resolution_laws::{
 pub use tag::tags_are_read;
 pub use term::{Term, compare_terms, same_term};
 pub use text::Text;
+pub use vocabulary::Vocabulary;
 pub use write::write_term;

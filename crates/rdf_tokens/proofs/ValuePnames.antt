@@ -171,6 +171,14 @@ good_allowed : (cs : List ℕ) → AllByRecursion Good cs → NonePass is_forbid
 good_allowed [] h = tt
 good_allowed (c ∷ cs) h = (h.0.1, good_allowed cs h.1)
 
+-- no character of it is forbidden in IRIs
+pub local_allowed : (name : List ℕ) → IsLocal name → has_forbidden (local_value name) ≡ false
+local_allowed name l =
+    let m = local_pieces name l in
+    let cs : List ℕ = flat_map piece_value m.0 in
+    let value : encode_utf8_all cs ≡ local_value name = local_value_is name cs (m.0, m.1, m.2, refl) in
+    ap has_forbidden (sym value) ∙ all_allowed cs cs (writes_allowed cs (good_allowed cs (pieces_good m.0 m.2)))
+
 -- ---- behind an IRI
 
 scheme_after : (xs ys : List ℕ) → is_some (after 58 xs) ≡ true → (is_some (after 58 (xs ++ ys)) ≡ true) × (before 58 (xs ++ ys) ≡ before 58 xs)
@@ -183,7 +191,7 @@ scheme_after (x ∷ xs) ys h =
           (rw not r.0, rw not (ap (λ (t : List ℕ). x ∷ t) r.1))
     ]
 
-has_scheme_after : (iri more : List ℕ) → has_scheme iri ≡ true → has_scheme (iri ++ more) ≡ true
+pub has_scheme_after : (iri more : List ℕ) → has_scheme iri ≡ true → has_scheme (iri ++ more) ≡ true
 has_scheme_after iri more h =
     let p = and_parts (is_some (after 58 iri)) (is_scheme (before 58 iri)) h in
     let s = scheme_after iri more p.0 in

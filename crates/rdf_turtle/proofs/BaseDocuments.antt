@@ -6,7 +6,6 @@ use Rattle.std.proofs.lemmas.Slice.Eq.{bytes_eq-Decides}
 use Rattle.std.specs.List.{list_any, list_all, AllByRecursion}
 use Rattle.std.specs.Map.{lookup}
 use Rattle.std.specs.Option.{option_map}
-use Rattle.indexmap.specs.IndexMap.{insert_entry}
 use Rattle.indexmap.specs.IndexSet.{insert_key}
 use Rattle.rdf_terms.specs.Iri.{is_iri}
 use Rattle.rdf_terms.specs.Quad.{QuadParts}
@@ -18,12 +17,17 @@ use Rattle.rdf_turtle.specs.declared.tree.Statement.{Statement}
 use Rattle.rdf_turtle.specs.declared.tree.Statement.TheVariants as s
 use Rattle.rdf_turtle.specs.Bases.{lacks, lacks_node, lacks_property, lacks_statement, based_behind, lacks_base, RelativeLacksABase}
 use Rattle.rdf_turtle.specs.Known.{holds, known_node, known_property, known_statement, declared_behind, declares_first}
-use Rattle.rdf_turtle.specs.Meaning.{resolved, meaning, property, properties, has_properties, statement, document, triples_of}
-use Rattle.rdf_turtle.specs.State.{State, Does, key_of, same_key, start, declares, moves_base}
+use Rattle.rdf_turtle.specs.Document.{HasTree}
+use Rattle.rdf_turtle.specs.Proper.{proper_statement}
+use Rattle.rdf_turtle.specs.Meaning.{meaning, property, properties, has_properties, statement, document, triples_of}
+use Rattle.rdf_turtle.specs.Keys.{key_of, same_key}
+use Rattle.rdf_turtle.specs.Prologue.{Prologue, resolved, declares, moves_base}
+use Rattle.rdf_turtle.specs.State as state
+use Rattle.rdf_turtle.specs.State.{State, Does, start, told}
 use Rattle.rdf_grammar.specs.Steps.{Outcome, and_then}
 use Rattle.rdf_turtle.proofs.BaseLeaves.{lexemes_formed}
-use Rattle.rdf_turtle.proofs.BaseSteps.{Given, Any, IsIri, NoLiteral, Comes, Goes, NodeGoes, then_goes, resolved_goes, each_goes}
-use Rattle.rdf_turtle.proofs.BaseTrees.{GoodStatement, GoodTriples, all_say, good_document}
+use Rattle.rdf_turtle.proofs.BaseSteps.{Holds, Given, Any, IsIri, NoLiteral, Comes, Goes, NodeGoes, then_goes, resolved_goes, each_goes}
+use Rattle.rdf_turtle.proofs.BaseTrees.{GoodStatement, GoodTriples, all_say, good_document, statements_proper}
 use Rattle.rdf_turtle.proofs.ScopePrefixes.{prefixes_are_replaced}
 
 -- ---- declarations
@@ -39,33 +43,24 @@ kept_key p key declared apart = by (list_any (same_key key) declared)
     by true e = e
     by false e = last (list_any (same_key p) declared) (same_key p key) apart (sym (list_any-append (same_key p) declared (key ∷ [])) ∙ e)
 
-abbrev declared_in : State → List ℕ → List ℕ → State
-declared_in u key i = record u { prefixes = insert_entry same_key u.prefixes key i }
-
-declares_is : (key i : List ℕ) (u : State) → declares key i u ≡ Some (tt, declared_in u key i)
+declared_given : (based : Bool) (declared : List (List ℕ)) (key i : List ℕ) (u : Prologue) → IsIri i → Holds based declared u → Holds based (insert_key same_key declared key) (declares key i u)
 unfolding declares
-declares_is key i u = refl
-
-declared_given : (based : Bool) (declared : List (List ℕ)) (key i : List ℕ) (u : State) → IsIri i → Given based declared u → Given based (insert_key same_key declared key) (declared_in u key i)
 declared_given based declared key i u iri g = record {
   base = g.base;
   base_iri = g.base_iri;
   known = λ p e. elim (cases_Bool (same_key p key)) [
     | inl same ↦ (
         let is : p ≡ key = (bytes_eq-Decides p key).0 same in
-        (i, ap (λ (q : List ℕ). lookup (same_key q) (declared_in u key i).prefixes) is ∙ (prefixes_are_replaced u (declared_in u key i) key i (declares_is key i u)).0, iri))
+        (i, ap (λ (q : List ℕ). lookup (same_key q) (declares key i u).prefixes) is ∙ (prefixes_are_replaced u (declares key i u) key i refl).0, iri))
     | inr apart ↦ (
         let r = g.known p (kept_key p key declared apart e) in
         let differs : p ≡ key → ⊥ = λ is. true≢false (sym ((bytes_eq-Decides p key).1 is) ∙ apart) in
-        (r.0, (prefixes_are_replaced u (declared_in u key i) key i (declares_is key i u)).1 p differs ∙ r.1, r.2))
+        (r.0, (prefixes_are_replaced u (declares key i u) key i refl).1 p differs ∙ r.1, r.2))
   ];
 }
 
-moves_is : (i : List ℕ) (u : State) → moves_base i u ≡ Some (tt, record u { base = Some i })
+moved_given : (based : Bool) (declared : List (List ℕ)) (i : List ℕ) (u : Prologue) → IsIri i → Holds based declared u → Holds true declared (moves_base i u)
 unfolding moves_base
-moves_is i u = refl
-
-moved_given : (based : Bool) (declared : List (List ℕ)) (i : List ℕ) (u : State) → IsIri i → Given based declared u → Given true declared (record u { base = Some i })
 moved_given based declared i u iri g = record { base = refl; base_iri = iri; known = g.known }
 
 -- ---- a statement
@@ -94,7 +89,7 @@ triples_go : (based : Bool) (declared : List (List ℕ)) (node : Node) (ps : Lis
     → Goes based declared (lacks_statement based (s.Triples node ps)) Any (statement (s.Triples node ps))
 unfolding statement
 triples_go based declared node ps good known_subject known_ps =
-    let g : NodeGoes based declared true (meaning node) (lacks_node based node) = good.subject based declared known_subject in
+    let g : NodeGoes based declared true (meaning node) (lacks_node based node) = good.subject.says based declared known_subject in
     let rest : Bool = list_any holds (map (lacks_property based) ps) in
     let some : has_properties (meaning node).alone ps ≡ true = good.some in
     let whole : Goes based declared (g.term_flag || (g.inside_flag || rest)) Any (λ z. and_then ((meaning node).term z) (λ y. λ a. and_then ((meaning node).inside y a) (λ _ c. properties y ps c))) =
@@ -108,11 +103,11 @@ statement_behind : (based : Bool) (declared : List (List ℕ)) (w : Statement) �
     → Behind (based_behind based w) (declared_behind declared w) (lacks_statement based w) (statement w z)
 unfolding statement known_statement
 statement_behind based declared (s.Prefix prefix reference) good k z h =
-    then_behind based based declared (insert_key same_key declared (key_of prefix)) (lacks based reference) (resolved reference z) (declares (key_of prefix)) (resolved_goes based declared reference good z h)
-    (λ i iri u g. (declared_in u (key_of prefix) i, declares_is (key_of prefix) i u, declared_given based declared (key_of prefix) i u iri g))
+    then_behind based based declared (insert_key same_key declared (key_of prefix)) (lacks based reference) (told (resolved reference) z) (λ i. state.declared (declares (key_of prefix) i)) (resolved_goes based declared reference good z h)
+    (λ i iri u g. (record u { prologue = declares (key_of prefix) i u.prologue }, refl, declared_given based declared (key_of prefix) i u.prologue iri g))
 statement_behind based declared (s.Base reference) good k z h =
-    then_behind based true declared declared (lacks based reference) (resolved reference z) moves_base (resolved_goes based declared reference good z h)
-    (λ i iri u g. (record u { base = Some i }, moves_is i u, moved_given based declared i u iri g))
+    then_behind based true declared declared (lacks based reference) (told (resolved reference) z) (λ i. state.declared (moves_base i)) (resolved_goes based declared reference good z h)
+    (λ i iri u g. (record u { prologue = moves_base i u.prologue }, refl, moved_given based declared i u.prologue iri g))
 statement_behind based declared (s.Triples node ps) good k z h =
     let both = and_parts (known_node declared node) (list_all holds (map (known_property declared) ps)) k in
     comes_behind based declared (lacks_statement based (s.Triples node ps)) (statement (s.Triples node ps) z) (triples_go based declared node ps good both.0 both.1 z h)
@@ -166,3 +161,7 @@ unfolding triples_of
 relative_lacks_a_base base text tree iri has =
     let good = good_document has.lexemes tree (lexemes_formed text has.tokens has.lexemes has.list) has.reads in
     relative_by (declares_first [] tree) (lacks_base (is_some base) tree) (document tree (start base)) (λ k. document_ended tree good (is_some base) [] (start base) (start_given base iri) k)
+
+-- each tree of a text is proper
+pub tree_proper : (text : List ℕ) (tree : List Statement) → HasTree text tree → list_all holds (map proper_statement tree) ≡ true
+tree_proper text tree has = statements_proper tree (good_document has.lexemes tree (lexemes_formed text has.tokens has.lexemes has.list) has.reads)

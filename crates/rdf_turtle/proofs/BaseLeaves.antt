@@ -16,6 +16,7 @@ use Rattle.rdf_tokens.specs.declared.token.Kind.{Kind}
 use Rattle.rdf_tokens.specs.declared.token.Kind.TheVariants as kind
 use Rattle.rdf_tokens.specs.declared.token.Token.{Token}
 use Rattle.rdf_turtle.specs.Document.{HasTokens}
+use Rattle.rdf_turtle.specs.Formed.{Formed}
 use Rattle.rdf_tokens.specs.Forms.{HasForm, IsLocal}
 use Rattle.rdf_turtle.specs.Terminals.{without_case, at_word_terminal, word_terminal, symbol_terminal, terminal_of, terminal_by}
 use Rattle.rdf_grammar.specs.Lexemes.{HaveForms}
@@ -24,12 +25,6 @@ use Rattle.rdf_grammar.proofs.LexemeLemmas.{lexemes_have_forms}
 use Rattle.rdf_tokens.proofs.CallerLemmas.{scalars_parts, tag_form, iri_value_is, local_part_is}
 
 -- ---- lexemes of a text
-
-pub record Formed (t : Lexeme) : Type 0 where
-  pub scalar : scalars t.text ≡ true
-  pub kind : Kind
-  pub form : HasForm kind t.text
-  pub is : t.terminal ≡ terminal_of kind t.text
 
 lexeme_formed : (text : List ℕ) (token : Token) (t : Lexeme) → scalars text ≡ true → IsLexeme text token t → HasForm token.kind t.text → Formed t
 lexeme_formed text token t all is form =

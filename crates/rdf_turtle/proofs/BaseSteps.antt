@@ -3,13 +3,14 @@ use Rattle.std.proofs.Common.{◌≡◌, ◌∙◌, ap, refl, sym, subst, ℕ, B
 use Rattle.std.proofs.lemmas.Bool.{and_parts}
 use Rattle.std.specs.List.{list_any}
 use Rattle.std.specs.Map.{lookup}
-use Rattle.std.specs.Option.{option_map, option_and_then}
+use Rattle.std.specs.Option.{option_map}
 use Rattle.std.specs.Str.{IsUtf8, is_utf8}
 use Rattle.rdf_terms.specs.Iri.{has_scheme, has_forbidden, is_iri}
 use Rattle.rdf_terms.specs.Literal.{is_tag}
 use Rattle.rdf_terms.specs.Quad.{has_right_kinds}
 use Rattle.rdf_terms.specs.Rewriting as rewriting
 use Rattle.rdf_terms.specs.Term.{is_literal_term}
+use Rattle.rdf_terms.specs.Vocabulary.{rdf_first, rdf_rest, rdf_nil}
 use Rattle.rdf_terms.specs.declared.term.Term.{Term}
 use Rattle.rdf_terms.specs.declared.term.Term.TheVariants as t
 use Rattle.rdf_terms.proofs.CleanLemmas.{resolved_iri}
@@ -22,20 +23,27 @@ use Rattle.rdf_grammar.specs.declared.tree.Literal.{Literal}
 use Rattle.rdf_grammar.specs.declared.tree.Literal.TheVariants as l
 use Rattle.rdf_turtle.specs.Bases.{lacks, lacks_name, lacks_verb, lacks_literal}
 use Rattle.rdf_tokens.specs.Forms.{IsLocal}
-use Rattle.rdf_turtle.specs.Known.{holds, known_name, known_verb, known_literal}
-use Rattle.rdf_turtle.specs.Meaning.{Meaning, Says, known, resolved, iri_of, iri, verb, untagged, literal, object, objects, behind, list_term, list_inside}
-use Rattle.rdf_turtle.specs.References.{resolve, iri_text}
-use Rattle.rdf_turtle.specs.State.{State, Does, key_of, same_key, fresh, labelled, labelled_as, triple, says}
+use Rattle.rdf_turtle.specs.Keys.{key_of, same_key}
+use Rattle.rdf_turtle.specs.Known.{holds, known_verb, known_literal}
+use Rattle.rdf_turtle.specs.Meaning.{Meaning, Says, iri, verb, untagged, literal, object, objects, behind, list_term, list_inside}
+use Rattle.rdf_turtle.specs.Numbering as numbering
+use Rattle.rdf_turtle.specs.Numbering.{Numbering}
+use Rattle.rdf_turtle.specs.Prologue.{Prologue, knows, resolved, prefixed, iri_of}
+use Rattle.rdf_turtle.specs.References.{resolve}
+use Rattle.rdf_turtle.specs.State.{State, Does, told, blank, fresh, labelled, triple, says}
 use Rattle.rdf_grammar.specs.Steps.{Outcome, and_then, each}
 use Rattle.rdf_tokens.specs.Values.{iri_value, local_value, text_value, tag_value}
-use Rattle.rdf_turtle.specs.Vocabulary.{rdf_first, rdf_rest, rdf_nil}
-use Rattle.rdf_tokens.proofs.CallerLemmas.{iri_value_allowed, pname_iri}
+use Rattle.rdf_tokens.proofs.CallerLemmas.{iri_value_allowed}
+use Rattle.rdf_tokens.proofs.CallerLemmas.{pname_iri}
 
 -- a base is in force or not, and each declared prefix stands for an IRI
-pub record Given (based : Bool) (declared : List (List ℕ)) (s : State) : Type 0 where
-  pub base : is_some s.base ≡ based
-  pub base_iri : IfSome s.base (λ b. IsTrue (is_iri b))
-  pub known : (p : List ℕ) → list_any (same_key p) declared ≡ true → (i : List ℕ) × (lookup (same_key p) s.prefixes ≡ Some i) × IsTrue (is_iri i)
+pub record Holds (based : Bool) (declared : List (List ℕ)) (p : Prologue) : Type 0 where
+  pub base : is_some p.base ≡ based
+  pub base_iri : IfSome p.base (λ b. IsTrue (is_iri b))
+  pub known : (prefix : List ℕ) → list_any (same_key prefix) declared ≡ true → (i : List ℕ) × (lookup (same_key prefix) p.prefixes ≡ Some i) × IsTrue (is_iri i)
+
+abbrev pub Given : Bool → List (List ℕ) → State → Type 0
+Given based declared s = Holds based declared s.prologue
 
 pub record Fine {A : Type 0} (based : Bool) (declared : List (List ℕ)) (Good : A → Type 0) (o : Outcome State A) : Type 0 where
   pub value : A
@@ -111,9 +119,9 @@ module _ (based : Bool) (declared : List (List ℕ)) where
   Finds true P o = o ≡ None
   Finds false P o = There P o
 
-  known_goes : {A : Type 0} (b : Bool) (f : State → Option A) (P : A → Type 0) → ((s : State) → Given based declared s → Finds b P (f s)) → Goes b P (known f)
-  known_goes {A = A} true f P p = λ s h. ap (λ o. option_map {U = A × State} (λ a. (a, s)) o) (p s h)
-  known_goes {A = A} false f P p = λ s h. (let r = p s h in record { value = r.value; state = s; is = ap (λ o. option_map {U = A × State} (λ a. (a, s)) o) r.is; given = h; good = r.good })
+  told_goes : {A : Type 0} (b : Bool) (f : Prologue → Option A) (P : A → Type 0) → ((p : Prologue) → Holds based declared p → Finds b P (f p)) → Goes b P (told f)
+  told_goes {A = A} true f P p = λ s h. ap (λ o. option_map {U = A × State} (λ a. (a, s)) o) (p s.prologue h)
+  told_goes {A = A} false f P p = λ s h. (let r = p s.prologue h in record { value = r.value; state = s; is = ap (λ o. option_map {U = A × State} (λ a. (a, s)) o) r.is; given = h; good = r.good })
 
   resolve_finds : (o : Option (List ℕ)) (v : List ℕ) (has : Bool) → IfSome o (λ b. IsTrue (is_iri b)) → IsUtf8 v → has_forbidden v ≡ false → has_scheme v ≡ has
       → Finds (not (is_some o) && not has) IsIri (resolve o v)
@@ -123,33 +131,30 @@ module _ (based : Bool) (declared : List (List ℕ)) where
   resolve_finds (Some b) v true base utf8 allowed scheme = record { value = v; is = rw (allowed, scheme) refl; good = iri_from v utf8 scheme allowed }
   resolve_finds (Some b) v false base utf8 allowed scheme = record { value = rewriting.resolved b v; is = rw (allowed, scheme) refl; good = resolved_iri b v base utf8 allowed }
 
-  reference_finds : (r : List ℕ) → IsUtf8 (iri_value r) → (s : State) → Given based declared s → Finds (lacks based r) IsIri (resolve s.base (iri_value r))
-  reference_finds r utf8 s h =
-      subst (λ (b : Bool). Finds (not b && not (has_scheme (iri_value r))) IsIri (resolve s.base (iri_value r))) h.base
-      (resolve_finds s.base (iri_value r) (has_scheme (iri_value r)) h.base_iri utf8 (iri_value_allowed r) refl)
-
-  pub resolved_goes : (r : List ℕ) → IsUtf8 (iri_value r) → Goes (lacks based r) IsIri (resolved r)
+  reference_finds : (r : List ℕ) → IsUtf8 (iri_value r) → (p : Prologue) → Holds based declared p → Finds (lacks based r) IsIri (resolved r p)
   unfolding resolved
-  resolved_goes r utf8 = known_goes (lacks based r) (λ s. resolve s.base (iri_value r)) IsIri (reference_finds r utf8)
+  reference_finds r utf8 p h =
+      subst (λ (b : Bool). Finds (not b && not (has_scheme (iri_value r))) IsIri (resolve p.base (iri_value r))) h.base
+      (resolve_finds p.base (iri_value r) (has_scheme (iri_value r)) h.base_iri utf8 (iri_value_allowed r) refl)
 
-  text_found : (i : List ℕ) → IsTrue (is_iri i) → iri_text i ≡ Some i
-  unfolding iri_text
-  text_found i h = let both : (has_scheme i && not (has_forbidden i)) ≡ true = (and_parts (is_utf8 i) (has_scheme i && not (has_forbidden i)) h).1 in rw both refl
+  pub resolved_goes : (r : List ℕ) → IsUtf8 (iri_value r) → Goes (lacks based r) IsIri (told (resolved r))
+  resolved_goes r utf8 = told_goes (lacks based r) (resolved r) IsIri (reference_finds r utf8)
 
-  prefixed_finds : (prefix local : List ℕ) → IsLocal local → list_any (same_key (key_of prefix)) declared ≡ true → (s : State) → Given based declared s → There IsIri (iri_of (Prefixed prefix local) s)
-  prefixed_finds prefix local is in_scope s h =
+  prefixed_finds : (prefix local : List ℕ) → IsLocal local → list_any (same_key (key_of prefix)) declared ≡ true → (p : Prologue) → Holds based declared p → There IsIri (prefixed prefix local p)
+  unfolding prefixed
+  prefixed_finds prefix local is in_scope p h =
       let k = h.known (key_of prefix) in_scope in
       let whole : IsTrue (is_iri (k.0 ++ local_value local)) = pname_iri k.0 local k.2 is in
       record {
         value = k.0 ++ local_value local;
-        is = ap (λ o. option_and_then (λ i. iri_text (i ++ local_value local)) o) k.1 ∙ text_found (k.0 ++ local_value local) whole;
+        is = ap (λ o. option_map (λ i. i ++ local_value local) o) k.1;
         good = whole;
       }
 
-  pub iri_goes : (name : Name) → NameFormed name → known_name declared name ≡ true → Goes (lacks_name based name) IsIri (iri name)
+  pub iri_goes : (name : Name) → NameFormed name → knows declared name ≡ true → Goes (lacks_name based name) IsIri (iri name)
   unfolding iri
-  iri_goes (Full r) form in_scope = known_goes (lacks based r) (λ s. resolve s.base (iri_value r)) IsIri (reference_finds r form)
-  iri_goes (Prefixed prefix local) form in_scope = known_goes false (iri_of (Prefixed prefix local)) IsIri (prefixed_finds prefix local form in_scope)
+  iri_goes (Full r) form in_scope = told_goes (lacks based r) (resolved r) IsIri (reference_finds r form)
+  iri_goes (Prefixed prefix local) form in_scope = told_goes false (prefixed prefix local) IsIri (prefixed_finds prefix local form in_scope)
 
   pub verb_goes : (w : Verb) → VerbFormed w → known_verb declared w ≡ true → Goes (lacks_verb based w) Any (verb w)
   unfolding verb
@@ -168,17 +173,16 @@ module _ (based : Bool) (declared : List (List ℕ)) where
 
   -- ---- terms
 
+  blank_goes : (f : Numbering → ℕ × Numbering) → Goes false NoLiteral (blank f)
+  blank_goes f = λ s h. record { value = t.Blank (f s.numbering).0; state = _; is = refl; given = h; good = refl }
+
   pub fresh_goes : Goes false NoLiteral fresh
   unfolding fresh
-  fresh_goes = λ s h. record { value = t.Blank s.next; state = _; is = refl; given = record { base = h.base; base_iri = h.base_iri; known = h.known }; good = refl }
-
-  labelled_as_goes : (label : List ℕ) (o : Option ℕ) → Goes false NoLiteral (labelled_as label o)
-  labelled_as_goes label (Some n) = λ s h. record { value = t.Blank n; state = s; is = refl; given = h; good = refl }
-  labelled_as_goes label None = λ s h. record { value = t.Blank s.next; state = _; is = refl; given = record { base = h.base; base_iri = h.base_iri; known = h.known }; good = refl }
+  fresh_goes = blank_goes numbering.fresh
 
   pub labelled_goes : (label : List ℕ) → Goes false NoLiteral (labelled label)
   unfolding labelled
-  labelled_goes label = λ s h. labelled_as_goes label (lookup (same_key label) s.labels) s h
+  labelled_goes label = blank_goes (numbering.labelled label)
 
   right : (subject o : Term) (predicate : List ℕ) → NoLiteral subject → has_right_kinds (triple subject predicate o) ≡ true
   right subject o predicate h = rw h refl
@@ -187,7 +191,7 @@ module _ (based : Bool) (declared : List (List ℕ)) where
   unfolding says
   says_goes subject o predicate h = λ s given. (
       let kinds = right subject o predicate h in
-      record { value = tt; state = record s { quads = s.quads ++ triple subject predicate o ∷ [] }; is = rw kinds refl; given = record { base = given.base; base_iri = given.base_iri; known = given.known }; good = tt })
+      record { value = tt; state = record s { quads = s.quads ++ triple subject predicate o ∷ [] }; is = rw kinds refl; given = given; good = tt })
 
   -- ---- nodes
 

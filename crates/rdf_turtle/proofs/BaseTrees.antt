@@ -1,6 +1,6 @@
 -- What the grammar derives from the lexemes of a text fails just where a reference lacks a base.
-use Rattle.std.proofs.Common.{◌≡◌, ◌∙◌, ap, refl, sym, subst, inl, inr, ℕ, zero, suc, Bool, true, false, ◌||◌, List, [], ◌∷◌, ◌++◌, map, Option, Some, None, true≢false}
-use Rattle.std.proofs.lemmas.Bool.{and_parts}
+use Rattle.std.proofs.Common.{◌≡◌, ◌∙◌, ap, refl, sym, subst, inl, inr, ℕ, zero, suc, Bool, true, false, ◌||◌, not, List, [], ◌∷◌, ◌++◌, map, Option, Some, None, true≢false}
+use Rattle.std.proofs.lemmas.Bool.{and_parts, and_from}
 use Rattle.std.specs.Prelude.{option_to_list}
 use Rattle.std.specs.List.{list_any, list_all, AllByRecursion}
 use Rattle.rdf_terms.specs.declared.term.Term.TheVariants as t
@@ -8,7 +8,7 @@ use Rattle.rdf_turtle.specs.declared.terminal.Terminal.{Terminal}
 use Rattle.rdf_turtle.specs.declared.terminal.Terminal.TheVariants as terminal
 use Rattle.rdf_turtle.specs.Lexemes.{Lexeme, Lexemes, Derives}
 use Rattle.rdf_grammar.specs.declared.tree.Name.{Name}
-use Rattle.rdf_grammar.specs.declared.tree.Name.TheVariants.{Full}
+use Rattle.rdf_grammar.specs.declared.tree.Name.TheVariants.{Full, Prefixed}
 use Rattle.rdf_turtle.specs.declared.tree.Verb.{Verb}
 use Rattle.rdf_turtle.specs.declared.tree.Verb.TheVariants as v
 use Rattle.rdf_grammar.specs.declared.tree.Literal.{Literal}
@@ -21,15 +21,19 @@ use Rattle.rdf_turtle.specs.declared.tree.Property.{Property}
 use Rattle.rdf_turtle.specs.declared.tree.Statement.{Statement}
 use Rattle.rdf_turtle.specs.declared.tree.Statement.TheVariants as s
 use Rattle.rdf_turtle.specs.Bases.{lacks_name, lacks_literal, lacks_property_of, lacks_node_of, lacks_node, lacks_property}
-use Rattle.rdf_turtle.specs.Known.{holds, known_name, known_literal, known_property_of, known_node_of, known_node, known_property}
+use Rattle.rdf_turtle.specs.Known.{holds, known_literal, known_property_of, known_node_of, known_node, known_property}
 use Rattle.rdf_turtle.specs.Meaning.{Meaning, Says, iri, literal, node_of, property_of, meaning, property, has_properties, is_some_property}
-use Rattle.rdf_turtle.specs.State.{key_of}
+use Rattle.rdf_turtle.specs.Keys.{key_of}
+use Rattle.rdf_turtle.specs.Prologue.{knows, is_proper}
+use Rattle.rdf_turtle.specs.Proper.{is_filled, proper_verb, proper_literal, proper_property_of, proper_node_of, proper_node, proper_property, is_literal, proper_statement}
 use Rattle.rdf_grammar.specs.Terminals.{Piece}
 use Rattle.rdf_turtle.specs.Reading as read
 use Rattle.rdf_grammar.specs.Derivations as grammar
 use Rattle.rdf_grammar.specs.Derivations.{Then, Star, stop, more}
 use Rattle.rdf_turtle.specs.Grammar as g
-use Rattle.rdf_turtle.proofs.BaseLeaves.{Formed, is_tag_terminal, iri_utf8, local_formed, tag_formed}
+use Rattle.rdf_turtle.specs.Formed.{Formed}
+use Rattle.rdf_turtle.proofs.BaseLeaves.{is_tag_terminal, iri_utf8, local_formed, tag_formed}
+use Rattle.rdf_tokens.proofs.CallerLemmas.{local_allowed}
 use Rattle.rdf_turtle.proofs.BaseSteps.{NameFormed, VerbFormed, LiteralFormed, Any, IsIri, NoLiteral, IsMore, NodeGoes, SomeGoes, SaysGoes, AllGo, AllSay, pure_goes, map_goes, wide_goes, iri_goes, literal_goes, labelled_goes, fresh_goes, each_goes, list_term_goes, list_inside_goes, property_goes}
 
 -- ---- trees by what they are
@@ -55,17 +59,55 @@ module _ {A B : Type 0} (f : Node-F A B → A) (h : Property-F A B → B) where
 
 -- ---- what is good
 
-abbrev pub GoodNode : Node → Type 0
-GoodNode x = (based : Bool) (declared : List (List ℕ)) → known_node declared x ≡ true → SomeGoes based declared (meaning x) (lacks_node based x)
+abbrev NodeSays : Node → Type 0
+NodeSays x = (based : Bool) (declared : List (List ℕ)) → known_node declared x ≡ true → SomeGoes based declared (meaning x) (lacks_node based x)
 
-abbrev pub GoodSubject : Node → Type 0
-GoodSubject x = (based : Bool) (declared : List (List ℕ)) → known_node declared x ≡ true → NodeGoes based declared true (meaning x) (lacks_node based x)
+abbrev SubjectSays : Node → Type 0
+SubjectSays x = (based : Bool) (declared : List (List ℕ)) → known_node declared x ≡ true → NodeGoes based declared true (meaning x) (lacks_node based x)
 
-abbrev pub GoodProperty : Property → Type 0
-GoodProperty p = (based : Bool) (declared : List (List ℕ)) → known_property declared p ≡ true → SaysGoes based declared (property p) (lacks_property based p)
+abbrev PropertySays : Property → Type 0
+PropertySays p = (based : Bool) (declared : List (List ℕ)) → known_property declared p ≡ true → SaysGoes based declared (property p) (lacks_property based p)
+
+pub record GoodNode (x : Node) : Type 0 where
+  pub proper : proper_node x ≡ true
+  pub says : NodeSays x
+
+pub record GoodSubject (x : Node) : Type 0 where
+  pub proper : proper_node x ≡ true
+  pub subject : is_literal x ≡ false
+  pub says : SubjectSays x
+
+pub record GoodProperty (p : Property) : Type 0 where
+  pub proper : proper_property p ≡ true
+  pub says : PropertySays p
 
 subject_good : (x : Node) → GoodSubject x → GoodNode x
-subject_good x h based declared k = (true, h based declared k)
+subject_good x h = record { proper = h.proper; says = λ based declared k. (true, h.says based declared k) }
+
+name_proper : (name : Name) → NameFormed name → is_proper name ≡ true
+name_proper (Full reference) form = refl
+name_proper (Prefixed prefix local) form = ap not (local_allowed local form)
+
+verb_proper : (verb : Verb) → VerbFormed verb → proper_verb verb ≡ true
+verb_proper (v.Name name) form = name_proper name form
+verb_proper v.Type form = refl
+
+literal_proper : (x : Literal) → LiteralFormed x → proper_literal x ≡ true
+literal_proper (l.Plain text) form = refl
+literal_proper (l.Tagged text tag) form = form
+literal_proper (l.Typed text name) form = name_proper name form
+literal_proper (l.Integer text) form = refl
+literal_proper (l.Decimal text) form = refl
+literal_proper (l.Double text) form = refl
+literal_proper (l.Boolean value) form = refl
+
+nodes_proper : (xs : List Node) → AllByRecursion GoodNode xs → list_all holds (map proper_node xs) ≡ true
+nodes_proper [] all = refl
+nodes_proper (x ∷ xs) all = and_from (proper_node x) (list_all holds (map proper_node xs)) all.0.proper (nodes_proper xs all.1)
+
+properties_proper : (ps : List Property) → AllByRecursion GoodProperty ps → list_all holds (map proper_property ps) ≡ true
+properties_proper [] all = refl
+properties_proper (p ∷ ps) all = and_from (proper_property p) (list_all holds (map proper_property ps)) all.0.proper (properties_proper ps all.1)
 
 node_by : (based : Bool) (declared : List (List ℕ)) (plain : Bool) (m w : Meaning) (b c : Bool) → m ≡ w → b ≡ c → NodeGoes based declared plain w c → NodeGoes based declared plain m b
 node_by based declared plain m w b c e f h = subst (λ (x : Meaning). NodeGoes based declared plain x b) (sym e) (subst (λ (x : Bool). NodeGoes based declared plain w x) (sym f) h)
@@ -79,18 +121,18 @@ pub all_say : (based : Bool) (declared : List (List ℕ)) (ps : List Property) �
 all_say based declared [] all k = tt
 all_say based declared (p ∷ ps) all k =
     let both = and_parts (known_property declared p) (list_all holds (map (known_property declared) ps)) k in
-    (all.0 based declared both.0, all_say based declared ps all.1 both.1)
+    (all.0.says based declared both.0, all_say based declared ps all.1 both.1)
 
 all_go : (based : Bool) (declared : List (List ℕ)) (xs : List Node) → AllByRecursion GoodNode xs → list_all holds (map (known_node declared) xs) ≡ true
     → AllGo based declared (map meaning xs) (map (lacks_node based) xs)
 all_go based declared [] all k = tt
 all_go based declared (x ∷ xs) all k =
     let both = and_parts (known_node declared x) (list_all holds (map (known_node declared) xs)) k in
-    (all.0 based declared both.0, all_go based declared xs all.1 both.1)
+    (all.0.says based declared both.0, all_go based declared xs all.1 both.1)
 
-good_name : (name : Name) → NameFormed name → GoodSubject (n.Name name)
-good_name name form based declared k =
-    let in_scope : known_name declared name ≡ true = sym (by-Name (known_node_of declared) (known_property_of declared) name) ∙ k in
+name_says : (name : Name) → NameFormed name → SubjectSays (n.Name name)
+name_says name form based declared k =
+    let in_scope : knows declared name ≡ true = sym (by-Name (known_node_of declared) (known_property_of declared) name) ∙ k in
     node_by based declared true _ _ _ _ (by-Name node_of property_of name) (by-Name (lacks_node_of based) (lacks_property_of based) name) (record {
       term_flag = lacks_name based name;
       inside_flag = false;
@@ -99,8 +141,8 @@ good_name name form based declared k =
       inside = λ x h. pure_goes based declared tt Any tt;
     })
 
-good_label : (label : Piece) → GoodSubject (n.Label label)
-good_label label based declared k =
+label_says : (label : Piece) → SubjectSays (n.Label label)
+label_says label based declared k =
     node_by based declared true _ _ _ _ (by-Label node_of property_of label) (by-Label (lacks_node_of based) (lacks_property_of based) label) (record {
       term_flag = false;
       inside_flag = false;
@@ -109,8 +151,8 @@ good_label label based declared k =
       inside = λ x h. pure_goes based declared tt Any tt;
     })
 
-good_blank : (ps : List Property) → AllByRecursion GoodProperty ps → GoodSubject (n.Blank ps)
-good_blank ps all based declared k =
+blank_says : (ps : List Property) → AllByRecursion GoodProperty ps → SubjectSays (n.Blank ps)
+blank_says ps all based declared k =
     let in_scope : list_all holds (map (known_property declared) ps) ≡ true = sym (by-Blank (known_node_of declared) (known_property_of declared) ps) ∙ k in
     node_by based declared true _ _ _ _ (by-Blank node_of property_of ps) (by-Blank (lacks_node_of based) (lacks_property_of based) ps) (record {
       term_flag = false;
@@ -120,8 +162,8 @@ good_blank ps all based declared k =
       inside = λ x h. each_goes based declared (map property ps) (map (lacks_property based) ps) (all_say based declared ps all in_scope) x (h refl);
     })
 
-good_collection : (xs : List Node) → AllByRecursion GoodNode xs → GoodSubject (n.Collection xs)
-good_collection xs all based declared k =
+collection_says : (xs : List Node) → AllByRecursion GoodNode xs → SubjectSays (n.Collection xs)
+collection_says xs all based declared k =
     let in_scope : list_all holds (map (known_node declared) xs) ≡ true = sym (by-Collection (known_node_of declared) (known_property_of declared) xs) ∙ k in
     node_by based declared true _ _ _ _ (by-Collection node_of property_of xs) (by-Collection (lacks_node_of based) (lacks_property_of based) xs) (record {
       term_flag = false;
@@ -131,8 +173,8 @@ good_collection xs all based declared k =
       inside = λ x h. list_inside_goes based declared (map meaning xs) (map (lacks_node based) xs) (all_go based declared xs all in_scope) x (h refl);
     })
 
-good_literal : (x : Literal) → LiteralFormed x → GoodNode (n.Literal x)
-good_literal x form based declared k =
+literal_says : (x : Literal) → LiteralFormed x → NodeSays (n.Literal x)
+literal_says x form based declared k =
     let in_scope : known_literal declared x ≡ true = sym (by-Literal (known_node_of declared) (known_property_of declared) x) ∙ k in (
       false,
       node_by based declared false _ _ _ _ (by-Literal node_of property_of x) (by-Literal (lacks_node_of based) (lacks_property_of based) x) (record {
@@ -148,12 +190,41 @@ some_map : {A B : Type 0} (f : A → B) (xs : List A) → IsMore xs → IsMore (
 some_map f [] h = h
 some_map f (x ∷ xs) h = tt
 
-good_property : (verb : Verb) (objects : List Node) → VerbFormed verb → AllByRecursion GoodNode objects × IsMore objects → GoodProperty (read.property_with verb objects)
-good_property verb objects form all based declared k =
+property_says : (verb : Verb) (objects : List Node) → VerbFormed verb → AllByRecursion GoodNode objects × IsMore objects → PropertySays (read.property_with verb objects)
+property_says verb objects form all based declared k =
     let both = and_parts _ _ (sym (by-property (known_node_of declared) (known_property_of declared) verb objects) ∙ k) in
     subst (λ (f : Says). SaysGoes based declared f (lacks_property based (read.property_with verb objects))) (sym (by-property node_of property_of verb objects))
     (subst (λ (b : Bool). SaysGoes based declared (property_of (record { verb = verb; objects = map meaning objects })) b) (sym (by-property (lacks_node_of based) (lacks_property_of based) verb objects))
     (property_goes based declared verb (map meaning objects) (map (lacks_node based) objects) form both.0 (some_map meaning objects all.1) (all_go based declared objects all.0 both.1)))
+
+-- ---- good trees
+
+good_name : (name : Name) → NameFormed name → GoodSubject (n.Name name)
+good_name name form = record { proper = by-Name proper_node_of proper_property_of name ∙ name_proper name form; subject = refl; says = name_says name form }
+
+good_label : (label : Piece) → GoodSubject (n.Label label)
+good_label label = record { proper = by-Label proper_node_of proper_property_of label; subject = refl; says = label_says label }
+
+good_blank : (ps : List Property) → AllByRecursion GoodProperty ps → GoodSubject (n.Blank ps)
+good_blank ps all = record { proper = by-Blank proper_node_of proper_property_of ps ∙ properties_proper ps all; subject = refl; says = blank_says ps all }
+
+good_collection : (xs : List Node) → AllByRecursion GoodNode xs → GoodSubject (n.Collection xs)
+good_collection xs all = record { proper = by-Collection proper_node_of proper_property_of xs ∙ nodes_proper xs all; subject = refl; says = collection_says xs all }
+
+good_literal : (x : Literal) → LiteralFormed x → GoodNode (n.Literal x)
+good_literal x form = record { proper = by-Literal proper_node_of proper_property_of x ∙ literal_proper x form; says = literal_says x form }
+
+filled_map : (xs : List Node) → IsMore xs → is_filled (map proper_node xs) ≡ true
+filled_map [] h = absurd h
+filled_map (x ∷ xs) h = refl
+
+good_property : (verb : Verb) (objects : List Node) → VerbFormed verb → AllByRecursion GoodNode objects × IsMore objects → GoodProperty (read.property_with verb objects)
+good_property verb objects form all = record {
+  proper = by-property proper_node_of proper_property_of verb objects
+      ∙ and_from (proper_verb verb) _ (verb_proper verb form)
+      (and_from (is_filled (map proper_node objects)) (list_all holds (map proper_node objects)) (filled_map objects all.1) (nodes_proper objects all.0));
+  says = property_says verb objects form all;
+}
 
 -- ---- derivations
 
@@ -390,6 +461,24 @@ module _ (I P : Derives Node) (i : Gives I GoodNode) (p : Gives P GoodNode) wher
 
 document_gives : (depth : ℕ) → Gives (g.Document depth) (AllByRecursion GoodStatement)
 document_gives depth = star_gives _ GoodStatement (one_gives _ GoodStatement (statement_gives (g.Objects_at depth) (g.Objects_at (suc depth)) (objects_at_give depth) (objects_at_give (suc depth))))
+
+statement_proper : (w : Statement) → GoodStatement w → proper_statement w ≡ true
+statement_proper (s.Prefix prefix reference) h = refl
+statement_proper (s.Base reference) h = refl
+statement_proper (s.Triples node ps) h =
+    and_from (not (is_literal node)) _ (ap not h.subject.subject)
+    (and_from (proper_node node) _ h.subject.proper (and_from (list_all holds (map proper_property ps)) _ (properties_proper ps h.properties) h.some))
+
+pub statements_proper : (ws : List Statement) → AllByRecursion GoodStatement ws → list_all holds (map proper_statement ws) ≡ true
+statements_proper [] all = refl
+statements_proper (w ∷ ws) all = and_from (proper_statement w) (list_all holds (map proper_statement ws)) (statement_proper w all.0) (statements_proper ws all.1)
+
+pub statement_of_formed : (ts : Lexemes) (x : Statement) (us : Lexemes) → AllByRecursion Formed ts → g.AStatement (g.Objects_at 100) (g.Objects_at 101) ts x us
+    → (proper_statement x ≡ true) × AllByRecursion Formed us
+unfolding Gives AllFormed
+statement_of_formed ts x us w d =
+    let r = statement_gives (g.Objects_at 100) (g.Objects_at 101) (objects_at_give 100) (objects_at_give 101) ts x us d w in
+    (statement_proper x r.0, r.1)
 
 pub good_document : (ts : Lexemes) (ss : List Statement) → AllByRecursion Formed ts → g.IsDocument ts ss → AllByRecursion GoodStatement ss
 unfolding Gives AllFormed

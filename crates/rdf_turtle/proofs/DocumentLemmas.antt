@@ -10,13 +10,15 @@ use Rattle.rdf_turtle.specs.declared.fault.TurtleFaultKind.TheVariants as fault
 use Rattle.rdf_turtle.specs.Lexemes.{Lexeme, IsLexeme, AreLexemes}
 use Rattle.rdf_turtle.specs.declared.terminal.Terminal.{Terminal}
 use Rattle.rdf_tokens.specs.declared.token.Token.{Token}
+use Rattle.rdf_turtle.specs.declared.prologue.PrologueFault.{PrologueFault}
+use Rattle.rdf_turtle.specs.declared.prologue.PrologueFault.TheVariants as names
 use Rattle.rdf_turtle.specs.declared.tree.Statement.{Statement}
 use Rattle.rdf_turtle.specs.Document.{HasTokens, HasTree, IsDocument, FaultIs, IsFaulty, TellsFault}
 use Rattle.rdf_turtle.specs.DocumentLaws.{has_free_line, OneDocument, NeverBoth, OneFault}
 use Rattle.rdf_turtle.specs.Grammar as grammar
 use Rattle.rdf_turtle.specs.Terminals.{terminal_of}
 use Rattle.rdf_tokens.specs.Lines.{line_of}
-use Rattle.rdf_turtle.specs.Kept.{IsFaultOf}
+use Rattle.rdf_turtle.specs.Kept.{IsFaultOf, IsNameFault}
 use Rattle.rdf_turtle.specs.Known.{declares_first}
 use Rattle.rdf_turtle.specs.Meaning.{answer, triples_of}
 use Rattle.rdf_turtle.specs.Nesting.{IsTooDeep, IsTooDeepAt}
@@ -288,20 +290,8 @@ pub name_is : (base : Option (List ℕ)) (text : List ℕ) (tree : List Statemen
 name_is base text tree k line h e (inl u) = subst (λ (x : TurtleFaultKind). FaultIs base text x line) (sym u) (tree, h, e ∙ ap (λ (x : TurtleFaultKind). Err x) u)
 name_is base text tree k line h e (inr r) = subst (λ (x : TurtleFaultKind). FaultIs base text x line) (sym r) (tree, h, e ∙ ap (λ (x : TurtleFaultKind). Err x) r)
 
-fault_of : (o : Result (List Quad) TurtleFaultKind) (k : TurtleFaultKind) → IsFaultOf o k → k ≢ fault.NoMemory → o ≡ Err k
-fault_of o fault.NoMemory h n = absurd (n refl)
-fault_of o fault.NotUtf8 h n = h
-fault_of o fault.Token h n = h
-fault_of o fault.TooDeep h n = h
-fault_of o fault.Syntax h n = h
-fault_of o fault.UnknownPrefix h n = h
-fault_of o fault.Relative h n = h
-
-pub name_tells : (base : Option (List ℕ)) (text : List ℕ) (tree : List Statement) (k : TurtleFaultKind) (start : ℕ) (f : TurtleFault) → HasTree text tree → IsFaultOf (answer base tree) k
-    → f.kind ≡ k → (k ≢ fault.NoMemory → f.line ≡ line_of text start) → (k ≡ fault.NoMemory → f.line ≡ 0) → TellsFault base text f f.kind
-name_tells base text tree k start f h is e l none = elim (same_or_not k) [
-  | inl m ↦ memory_tells base text f (e ∙ m) (none m)
-  | inr n ↦
-      let a : answer base tree ≡ Err k = fault_of (answer base tree) k is n in
-      fault_tells base text f k e (name_is base text tree k f.line h a (answer_kind (declares_first [] tree) (triples_of base tree) k a))
-]
+pub name_tells : (base : Option (List ℕ)) (text : List ℕ) (tree : List Statement) (e : PrologueFault) (f : TurtleFault) → HasTree text tree → IsFaultOf (answer base tree) e → IsNameFault text e f
+    → TellsFault base text f f.kind
+name_tells base text tree (names.NoMemory m) f h is named = memory_tells base text f named.0 named.1
+name_tells base text tree (names.UnknownPrefix start) f h is named = fault_tells base text f fault.UnknownPrefix named.0 (tree, h, is)
+name_tells base text tree (names.Relative start) f h is named = fault_tells base text f fault.Relative named.0 (tree, h, is)

@@ -274,7 +274,7 @@ module _ (inner node : Reading Node) (Inner Node' : Derives Node) (ri : IsNodeRu
       let z = h.goes in
       omega (arith, ap length z.reads.2, ap length z.goes.1)
 
-  statement_decides : Decides (read.statement inner node) (g.AStatement Inner Node') always
+  pub statement_decides : Decides (read.statement inner node) (g.AStatement Inner Node') always
   unfolding read.statement
   statement_decides = record {
     sound = λ ts x us h. statement_sound (next_terminal ts) ts x us refl h;
@@ -303,3 +303,7 @@ module _ (inner node : Reading Node) (Inner Node' : Derives Node) (ri : IsNodeRu
 pub document_decides : (depth : ℕ) → Decides (read.document depth) (g.Document depth) ended
 unfolding read.document
 document_decides depth = statements_decide (read.node depth) (read.node (suc depth)) (g.Objects_at depth) (g.Objects_at (suc depth)) (node_rule depth) (node_rule (suc depth))
+
+-- A statement that is read is one of the grammar.
+pub statement_derived : (ts us : Lexemes) (x : Statement) → read.statement (read.node 100) (read.node 101) ts ≡ Some (x, us) → g.AStatement (g.Objects_at 100) (g.Objects_at 101) ts x us
+statement_derived ts us x h = (statement_decides (read.node 100) (read.node 101) (g.Objects_at 100) (g.Objects_at 101) (node_rule 100) (node_rule 101)).sound ts x us h

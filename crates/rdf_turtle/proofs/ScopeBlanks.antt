@@ -6,6 +6,7 @@ use Rattle.std.specs.List.{flat_map, AllByRecursion}
 use Rattle.std.specs.Option.{option_map}
 use Rattle.rdf_terms.specs.Literal.{LiteralParts, is_tag}
 use Rattle.rdf_terms.specs.Quad.{QuadParts}
+use Rattle.rdf_terms.specs.Vocabulary.{rdf_first, rdf_rest, rdf_nil}
 use Rattle.rdf_terms.specs.declared.term.Term.{Term}
 use Rattle.rdf_terms.specs.declared.term.Term.TheVariants as t
 use Rattle.rdf_turtle.specs.declared.fault.TurtleFaultKind.TheVariants.{Relative, UnknownPrefix}
@@ -24,18 +25,18 @@ use Rattle.rdf_turtle.specs.declared.tree.Statement.TheVariants as s
 use Rattle.rdf_terms.specs.Blanks.{blanks_of}
 use Rattle.rdf_turtle.specs.Blanks.{BlankNumbersAreBelow, IsTriple}
 use Rattle.rdf_turtle.specs.Known.{declares_first}
-use Rattle.rdf_tokens.specs.Values.{iri_value, text_value, tag_value}
-use Rattle.rdf_turtle.specs.References.{resolve}
-use Rattle.rdf_turtle.specs.Vocabulary.{rdf_first, rdf_rest, rdf_nil}
+use Rattle.rdf_turtle.specs.Keys.{key_of}
+use Rattle.rdf_turtle.specs.Prologue.{Prologue, iri_of, resolved, declares, moves_base}
+use Rattle.rdf_tokens.specs.Values.{text_value, tag_value}
 use Rattle.rdf_grammar.specs.Steps.{Outcome, each, and_then}
-use Rattle.rdf_turtle.specs.State.{State, Does, key_of, start, fresh, says, declares, moves_base}
-use Rattle.rdf_turtle.specs.Meaning.{Meaning, Says, known, resolved, iri, iri_of, verb, literal, object, objects, behind, list_term, list_inside, is_some_property, node_of, property_of, meaning, property, properties, has_properties, statement, document, triples_of}
+use Rattle.rdf_turtle.specs.State.{State, Does, start, told, declared, fresh, says}
+use Rattle.rdf_turtle.specs.Meaning.{Meaning, Says, iri, verb, literal, object, objects, behind, list_term, list_inside, is_some_property, node_of, property_of, meaning, property, properties, has_properties, statement, document, triples_of}
 use Rattle.rdf_turtle.proofs.ScopeSteps.{then_parts, Numbered, IsBelow, Said, wider, also, below_on, says_numbered, TermKeeps, fresh_keeps, labelled_keeps, Stays, stays_keeps}
 
 -- ---- leaves
 
-known_same : {A : Type 0} (f : State → Option A) (s u : State) (a : A) → known f s ≡ Some (a, u) → s ≡ u
-known_same {A = A} f s u a e = by (f s) e
+told_same : {A : Type 0} (f : Prologue → Option A) (s u : State) (a : A) → told f s ≡ Some (a, u) → s ≡ u
+told_same {A = A} f s u a e = by (f s.prologue) e
   where
     by : (o : Option A) → option_map {U = A × State} (λ x. (x, s)) o ≡ Some (a, u) → s ≡ u
     by None e = absurd (cc e)
@@ -43,16 +44,12 @@ known_same {A = A} f s u a e = by (f s) e
 
 iri_same : (name : Name) (s u : State) (a : List ℕ) → iri name s ≡ Some (a, u) → s ≡ u
 unfolding iri
-iri_same name s u a e = known_same (iri_of name) s u a e
+iri_same name s u a e = told_same (iri_of name) s u a e
 
 verb_same : (w : Verb) (s u : State) (a : List ℕ) → verb w s ≡ Some (a, u) → s ≡ u
 unfolding verb
 verb_same (v.Name name) s u a e = iri_same name s u a e
 verb_same v.Type s u a e = ap (λ p. p.1) (same_Some _ _ e)
-
-resolved_same : (r : List ℕ) (s u : State) (a : List ℕ) → resolved r s ≡ Some (a, u) → s ≡ u
-unfolding resolved
-resolved_same r s u a e = known_same (λ z. resolve z.base (iri_value r)) s u a e
 
 -- a term that is no blank node
 apart : (x y : Term) → x ≡ y → ((n : ℕ) → x ≡ t.Blank n → ⊥) → (n : ℕ) → y ≡ t.Blank n → ⊥
@@ -106,14 +103,14 @@ nil_stays s u x e =
 
 -- triples are said; nothing is left pending that wasn't
 abbrev Keeps : Does (Unit {0}) → State → Type 0
-Keeps f s = (pending : List Term) (u : State) → Numbered pending s → f s ≡ Some (tt, u) → Numbered pending u × (s.next ≤ u.next)
+Keeps f s = (pending : List Term) (u : State) → Numbered pending s → f s ≡ Some (tt, u) → Numbered pending u × (s.numbering.next ≤ u.numbering.next)
 
 abbrev InsideKeeps : (Term → Does (Unit {0})) → Type 0
 InsideKeeps f = (x : Term) (s : State) → IsBelow x s → Keeps (f x) s
 
 -- and the subject stands in one
 abbrev Uses : (Term → Does (Unit {0})) → Type 0
-Uses f = (x : Term) (pending : List Term) (s u : State) → IsBelow x s → Numbered (x ∷ pending) s → f x s ≡ Some (tt, u) → Numbered pending u × (s.next ≤ u.next)
+Uses f = (x : Term) (pending : List Term) (s u : State) → IsBelow x s → Numbered (x ∷ pending) s → f x s ≡ Some (tt, u) → Numbered pending u × (s.numbering.next ≤ u.numbering.next)
 
 record Good (m : Meaning) : Type 0 where
   term : TermKeeps m.term
@@ -130,18 +127,18 @@ object_uses predicate m g x pending s u b n e =
     let o = g.term (x ∷ pending) s p.1 p.0 n p.2 in
     let q = then_parts (says x predicate p.0 p.1) _ (tt, u) p.3 in
     let said = says_numbered x p.0 predicate pending p.1 q.1 o.0 (below_on x s p.1 o.1 b) o.2 q.2 in
-    let l : p.1.next ≤ q.1.next = omega (arith, said.1) in
+    let l : p.1.numbering.next ≤ q.1.numbering.next = omega (arith, said.1) in
     let r = g.inside p.0 q.1 (below_on p.0 p.1 q.1 l o.2) pending u said.0 q.3 in
-    (r.0, (let a : s.next ≤ p.1.next = o.1 in let c : q.1.next ≤ u.next = r.1 in omega (arith, a, l, c)))
+    (r.0, (let a : s.numbering.next ≤ p.1.numbering.next = o.1 in let c : q.1.numbering.next ≤ u.numbering.next = r.1 in omega (arith, a, l, c)))
 
 objects_keep : (predicate : List ℕ) (ms : List Meaning) → AllByRecursion Good ms → InsideKeeps (λ x. each (object x predicate) ms)
 objects_keep predicate [] all x s b pending u n e =
-    let same : s ≡ u = ap (λ p. p.1) (same_Some _ _ e) in (subst (Numbered pending) same n, (let a : s.next ≡ u.next = ap (λ (z : State). z.next) same in omega (arith, a)))
+    let same : s ≡ u = ap (λ p. p.1) (same_Some _ _ e) in (subst (Numbered pending) same n, (let a : s.numbering.next ≡ u.numbering.next = ap (λ (z : State). z.numbering.next) same in omega (arith, a)))
 objects_keep predicate (m ∷ ms) all x s b pending u n e =
     let p = then_parts (object x predicate m s) _ (tt, u) e in
     let first = uses_keeps (λ y. object y predicate m) (object_uses predicate m all.0) x s b pending p.1 n p.2 in
     let rest = objects_keep predicate ms all.1 x p.1 (below_on x s p.1 first.1 b) pending u first.0 p.3 in
-    (rest.0, (let a : s.next ≤ p.1.next = first.1 in let c : p.1.next ≤ u.next = rest.1 in omega (arith, a, c)))
+    (rest.0, (let a : s.numbering.next ≤ p.1.numbering.next = first.1 in let c : p.1.numbering.next ≤ u.numbering.next = rest.1 in omega (arith, a, c)))
 
 objects_use : (predicate : List ℕ) (ms : List Meaning) → AllByRecursion Good ms → Uses (λ x. objects x predicate ms)
 objects_use predicate [] all x pending s u b n e = absurd (cc e)
@@ -149,7 +146,7 @@ objects_use predicate (m ∷ ms) all x pending s u b n e =
     let p = then_parts (object x predicate m s) _ (tt, u) e in
     let first = object_uses predicate m all.0 x pending s p.1 b n p.2 in
     let rest = objects_keep predicate ms all.1 x p.1 (below_on x s p.1 first.1 b) pending u first.0 p.3 in
-    (rest.0, (let a : s.next ≤ p.1.next = first.1 in let c : p.1.next ≤ u.next = rest.1 in omega (arith, a, c)))
+    (rest.0, (let a : s.numbering.next ≤ p.1.numbering.next = first.1 in let c : p.1.numbering.next ≤ u.numbering.next = rest.1 in omega (arith, a, c)))
 
 property_uses : (w : Verb) (ms : List Meaning) → AllByRecursion Good ms → Uses (λ x s. and_then (verb w s) (λ predicate. objects x predicate ms))
 property_uses w ms all x pending s u b n e =
@@ -160,12 +157,12 @@ property_uses w ms all x pending s u b n e =
 
 properties_keep : (ps : List Says) → AllByRecursion Uses ps → InsideKeeps (λ x. each (λ p. p x) ps)
 properties_keep [] all x s b pending u n e =
-    let same : s ≡ u = ap (λ p. p.1) (same_Some _ _ e) in (subst (Numbered pending) same n, (let a : s.next ≡ u.next = ap (λ (z : State). z.next) same in omega (arith, a)))
+    let same : s ≡ u = ap (λ p. p.1) (same_Some _ _ e) in (subst (Numbered pending) same n, (let a : s.numbering.next ≡ u.numbering.next = ap (λ (z : State). z.numbering.next) same in omega (arith, a)))
 properties_keep (f ∷ ps) all x s b pending u n e =
     let p = then_parts (f x s) _ (tt, u) e in
     let first = uses_keeps f all.0 x s b pending p.1 n p.2 in
     let rest = properties_keep ps all.1 x p.1 (below_on x s p.1 first.1 b) pending u first.0 p.3 in
-    (rest.0, (let a : s.next ≤ p.1.next = first.1 in let c : p.1.next ≤ u.next = rest.1 in omega (arith, a, c)))
+    (rest.0, (let a : s.numbering.next ≤ p.1.numbering.next = first.1 in let c : p.1.numbering.next ≤ u.numbering.next = rest.1 in omega (arith, a, c)))
 
 properties_use : (ps : List Says) → is_some_property ps ≡ true → AllByRecursion Uses ps → Uses (λ x. each (λ p. p x) ps)
 properties_use [] some all = absurd (cc some)
@@ -173,26 +170,26 @@ properties_use (f ∷ ps) some all = λ x pending s u b n e. (
     let p = then_parts (f x s) _ (tt, u) e in
     let first = all.0 x pending s p.1 b n p.2 in
     let rest = properties_keep ps all.1 x p.1 (below_on x s p.1 first.1 b) pending u first.0 p.3 in
-    (rest.0, (let a : s.next ≤ p.1.next = first.1 in let c : p.1.next ≤ u.next = rest.1 in omega (arith, a, c))))
+    (rest.0, (let a : s.numbering.next ≤ p.1.numbering.next = first.1 in let c : p.1.numbering.next ≤ u.numbering.next = rest.1 in omega (arith, a, c))))
 
 -- ---- lists
 
 behind_keeps : (ms : List Meaning) → AllByRecursion Good ms → InsideKeeps (λ x. behind x ms)
 behind_keeps [] all x s b pending u n e =
     let r = says_numbered x (t.Iri rdf_nil) rdf_rest pending s u (also (t.Iri rdf_nil) (x ∷ pending) s (also x pending s n)) b (λ k z. absurd (iri_apart rdf_nil k z)) e in
-    (r.0, (let a : u.next ≡ s.next = r.1 in omega (arith, a)))
+    (r.0, (let a : u.numbering.next ≡ s.numbering.next = r.1 in omega (arith, a)))
 behind_keeps (m ∷ ms) all x s b pending u n e =
     let p = then_parts (fresh s) _ (tt, u) e in
     let new = fresh_keeps pending s p.1 p.0 n p.2 in
     let q = then_parts (says x rdf_rest p.0 p.1) _ (tt, u) p.3 in
     let open_ones = wider (p.0 ∷ pending) (p.0 ∷ x ∷ pending) p.1 (λ k z. elim z [ inl here ↦ inl here | inr there ↦ inr (inr there) ]) new.0 in
     let said = says_numbered x p.0 rdf_rest pending p.1 q.1 open_ones (below_on x s p.1 new.1 b) new.2 q.2 in
-    let l : p.1.next ≤ q.1.next = omega (arith, said.1) in
+    let l : p.1.numbering.next ≤ q.1.numbering.next = omega (arith, said.1) in
     let r = then_parts (object p.0 rdf_first m q.1) _ (tt, u) q.3 in
     let first = uses_keeps (λ y. object y rdf_first m) (object_uses rdf_first m all.0) p.0 q.1 (below_on p.0 p.1 q.1 l new.2) pending r.1 said.0 r.2 in
-    let far : p.1.next ≤ r.1.next = (let a : q.1.next ≤ r.1.next = first.1 in omega (arith, l, a)) in
+    let far : p.1.numbering.next ≤ r.1.numbering.next = (let a : q.1.numbering.next ≤ r.1.numbering.next = first.1 in omega (arith, l, a)) in
     let rest = behind_keeps ms all.1 p.0 r.1 (below_on p.0 p.1 r.1 far new.2) pending u first.0 r.3 in
-    (rest.0, (let a : s.next ≤ p.1.next = new.1 in let c : r.1.next ≤ u.next = rest.1 in omega (arith, a, far, c)))
+    (rest.0, (let a : s.numbering.next ≤ p.1.numbering.next = new.1 in let c : r.1.numbering.next ≤ u.numbering.next = rest.1 in omega (arith, a, far, c)))
 
 list_term_keeps : (ms : List Meaning) → TermKeeps (list_term ms)
 list_term_keeps [] = stays_keeps _ nil_stays
@@ -200,19 +197,19 @@ list_term_keeps (m ∷ ms) = fresh_keeps
 
 list_inside_keeps : (ms : List Meaning) → AllByRecursion Good ms → InsideKeeps (list_inside ms)
 list_inside_keeps [] all x s b pending u n e =
-    let same : s ≡ u = ap (λ p. p.1) (same_Some _ _ e) in (subst (Numbered pending) same n, (let a : s.next ≡ u.next = ap (λ (z : State). z.next) same in omega (arith, a)))
+    let same : s ≡ u = ap (λ p. p.1) (same_Some _ _ e) in (subst (Numbered pending) same n, (let a : s.numbering.next ≡ u.numbering.next = ap (λ (z : State). z.numbering.next) same in omega (arith, a)))
 list_inside_keeps (m ∷ ms) all x s b pending u n e =
     let p = then_parts (object x rdf_first m s) _ (tt, u) e in
     let first = uses_keeps (λ y. object y rdf_first m) (object_uses rdf_first m all.0) x s b pending p.1 n p.2 in
     let rest = behind_keeps ms all.1 x p.1 (below_on x s p.1 first.1 b) pending u first.0 p.3 in
-    (rest.0, (let a : s.next ≤ p.1.next = first.1 in let c : p.1.next ≤ u.next = rest.1 in omega (arith, a, c)))
+    (rest.0, (let a : s.numbering.next ≤ p.1.numbering.next = first.1 in let c : p.1.numbering.next ≤ u.numbering.next = rest.1 in omega (arith, a, c)))
 
 -- ---- trees
 
 only_good : (f : Does Term) → TermKeeps f → Good (record { term = f; inside = λ _ s. Some (tt, s); alone = false })
 only_good f h = record {
   term = h;
-  inside = λ x s b pending u n e. (let same : s ≡ u = ap (λ p. p.1) (same_Some _ _ e) in (subst (Numbered pending) same n, (let a : s.next ≡ u.next = ap (λ (z : State). z.next) same in omega (arith, a))));
+  inside = λ x s b pending u n e. (let same : s ≡ u = ap (λ p. p.1) (same_Some _ _ e) in (subst (Numbered pending) same n, (let a : s.numbering.next ≡ u.numbering.next = ap (λ (z : State). z.numbering.next) same in omega (arith, a))));
   alone = λ no. absurd (cc no);
 }
 
@@ -271,30 +268,23 @@ all_good (p ∷ ps) = (properties_good p, all_good ps)
 abbrev Closed : Does (Unit {0}) → Type 0
 Closed f = (s u : State) → Numbered [] s → f s ≡ Some (tt, u) → Numbered [] u
 
-same_numbers : (s u : State) → Numbered [] s → s.next ≡ u.next → s.quads ≡ u.quads → s.labels ≡ u.labels → Numbered [] u
+same_numbers : (s u : State) → Numbered [] s → s.numbering.next ≡ u.numbering.next → s.quads ≡ u.quads → s.numbering.labels ≡ u.numbering.labels → Numbered [] u
 same_numbers s u h next quads labels = record {
   covered = λ n l. elim (h.covered n (subst (λ (i : ℕ). n < i) (sym next) l)) [ inl x ↦ inl (subst (λ (z : List QuadParts). Said z n) quads x) | inr y ↦ inr y ];
   below = λ n x. subst (λ (i : ℕ). n < i) next (h.below n (subst (λ (z : List QuadParts). Said z n) (sym quads) x));
-  labels = subst (λ z. AllByRecursion (λ e. e.1 < u.next) z) labels (subst (λ (i : ℕ). AllByRecursion (λ e. e.1 < i) s.labels) next h.labels);
+  labels = subst (λ z. AllByRecursion (λ e. e.1 < u.numbering.next) z) labels (subst (λ (i : ℕ). AllByRecursion (λ e. e.1 < i) s.numbering.labels) next h.labels);
   triples = subst (λ z. AllByRecursion IsTriple z) quads h.triples;
 }
 
-declares_closed : (prefix i : List ℕ) → Closed (declares prefix i)
-unfolding declares
-declares_closed prefix i s u h e =
+declared_closed : (f : Prologue → Prologue) → Closed (declared f)
+declared_closed f s u h e =
     let same = ap (λ p. p.1) (same_Some _ _ e) in
-    same_numbers s u h (ap (λ (z : State). z.next) same) (ap (λ (z : State). z.quads) same) (ap (λ (z : State). z.labels) same)
+    same_numbers s u h (ap (λ (z : State). z.numbering.next) same) (ap (λ (z : State). z.quads) same) (ap (λ (z : State). z.numbering.labels) same)
 
-moves_closed : (i : List ℕ) → Closed (moves_base i)
-unfolding moves_base
-moves_closed i s u h e =
-    let same = ap (λ p. p.1) (same_Some _ _ e) in
-    same_numbers s u h (ap (λ (z : State). z.next) same) (ap (λ (z : State). z.quads) same) (ap (λ (z : State). z.labels) same)
-
-resolved_closed : (r : List ℕ) (f : List ℕ → Does (Unit {0})) → ((i : List ℕ) → Closed (f i)) → Closed (λ s. and_then (resolved r s) f)
+resolved_closed : (r : List ℕ) (f : List ℕ → Does (Unit {0})) → ((i : List ℕ) → Closed (f i)) → Closed (λ s. and_then (told (resolved r) s) f)
 resolved_closed r f h s u n e =
-    let p = then_parts (resolved r s) f (tt, u) e in
-    let same = resolved_same r s p.1 p.0 p.2 in
+    let p = then_parts (told (resolved r) s) f (tt, u) e in
+    let same = told_same (resolved r) s p.1 p.0 p.2 in
     h p.0 p.1 u (subst (Numbered []) same n) p.3
 
 triples_closed : (m : Meaning) (ps : List Says) → Good m → AllByRecursion Uses ps → (m.alone ≡ true) ⊎ (is_some_property ps ≡ true)
@@ -318,8 +308,8 @@ some_of alone (p ∷ ps) h = inr refl
 
 statement_closed : (w : Statement) → Closed (statement w)
 unfolding statement
-statement_closed (s.Prefix prefix reference) = resolved_closed reference (declares (key_of prefix)) (declares_closed (key_of prefix))
-statement_closed (s.Base reference) = resolved_closed reference moves_base moves_closed
+statement_closed (s.Prefix prefix reference) = resolved_closed reference (λ i. declared (declares (key_of prefix) i)) (λ i. declared_closed (declares (key_of prefix) i))
+statement_closed (s.Base reference) = resolved_closed reference (λ i. declared (moves_base i)) (λ i. declared_closed (moves_base i))
 statement_closed (s.Triples node ps) = λ x u n e. by x u n (has_properties (meaning node).alone ps) refl e
   where
     by : (x u : State) → Numbered [] x → (b : Bool) → has_properties (meaning node).alone ps ≡ b
@@ -359,7 +349,7 @@ at_end base ws quads e = by (document ws (start base)) refl e
 pub numbers : BlankNumbersAreBelow
 numbers base ws quads e =
     let end = at_end base ws quads (answered (declares_first [] ws) (triples_of base ws) quads e) in (
-      end.0.next,
+      end.0.numbering.next,
       (λ n. (
         (λ l. elim (end.1.covered n l) [ inl said ↦ subst (λ z. Contains (flat_map blanks_of z) n) end.2 said | inr none ↦ absurd none ]),
         (λ h. end.1.below n (subst (λ z. Contains (flat_map blanks_of z) n) (sym end.2) h)),

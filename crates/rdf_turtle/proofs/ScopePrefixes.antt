@@ -1,10 +1,10 @@
 -- What prefixes stand for behind a declaration.
 use Rattle.std.proofs.Common.{◌≡◌, ◌≢◌, ◌∙◌, ap, refl, sym, ℕ, Bool, true, false, cond, List, [], ◌∷◌, Option, Some}
-use Rattle.std.proofs.lemmas.Option.{same_Some}
 use Rattle.std.proofs.lemmas.Slice.Eq.{bytes_eq-Decides}
 use Rattle.std.specs.Map.{lookup}
 use Rattle.indexmap.specs.IndexMap.{insert_entry}
-use Rattle.rdf_turtle.specs.State.{same_key, declares}
+use Rattle.rdf_turtle.specs.Keys.{same_key}
+use Rattle.rdf_turtle.specs.Prologue.{Prologue, declares}
 use Rattle.rdf_turtle.specs.StateLaws.{PrefixesAreReplaced}
 
 abbrev Entries : Type 0
@@ -46,7 +46,7 @@ kept key iri other (e ∷ es) apart = by (same_key key e.0) refl (kept key iri o
 pub prefixes_are_replaced : PrefixesAreReplaced
 unfolding declares
 prefixes_are_replaced s u declared iri e =
-    let is : insert_entry same_key s.prefixes declared iri ≡ u.prefixes = ap (λ p. (p.1).prefixes) (same_Some _ _ e) in (
+    let is : insert_entry same_key s.prefixes declared iri ≡ u.prefixes = ap (λ (p : Prologue). p.prefixes) e in (
       ap (λ (es : Entries). lookup (same_key declared) es) (sym is) ∙ found declared iri s.prefixes,
       λ other apart. ap (λ (es : Entries). lookup (same_key other) es) (sym is) ∙ kept declared iri other s.prefixes apart,
     )

@@ -13,7 +13,9 @@ use Rattle.rdf_terms.specs.declared.term.Term.TheVariants.{Blank, Iri, Literal}
 use Rattle.rdf_terms.specs.Blanks.{blanks_in, blanks_of}
 use Rattle.rdf_turtle.specs.Blanks.{IsTriple}
 use Rattle.rdf_grammar.specs.Steps.{Outcome, Step, and_then}
-use Rattle.rdf_turtle.specs.State.{State, Does, same_key, fresh, labelled, labelled_as, triple, says}
+use Rattle.rdf_turtle.specs.Keys.{same_key}
+use Rattle.rdf_turtle.specs.Numbering.{Numbering, labelled_as}
+use Rattle.rdf_turtle.specs.State.{State, Does, fresh, labelled, blank, triple, says}
 
 -- the parts of a step behind another
 pub then_parts : {S A B : Type 0} (o : Outcome S A) (f : A → Step S B) (r : B × S) → and_then o f ≡ Some r → (a : A) × (s : S) × (o ≡ Some (a, s)) × (f a s ≡ Some r)
@@ -32,13 +34,13 @@ Pending (t ∷ ts) n = (t ≡ Blank n) ⊎ Pending ts n
 
 -- each number so far stands in a triple or is pending, and the triples have no other
 pub record Numbered (pending : List Term) (s : State) : Type 0 where
-  pub covered : (n : ℕ) → n < s.next → Said s.quads n ⊎ Pending pending n
-  pub below : (n : ℕ) → Said s.quads n → n < s.next
-  pub labels : AllByRecursion (λ e. e.1 < s.next) s.labels
+  pub covered : (n : ℕ) → n < s.numbering.next → Said s.quads n ⊎ Pending pending n
+  pub below : (n : ℕ) → Said s.quads n → n < s.numbering.next
+  pub labels : AllByRecursion (λ e. e.1 < s.numbering.next) s.numbering.labels
   pub triples : AllByRecursion IsTriple s.quads
 
 abbrev pub IsBelow : Term → State → Type 0
-IsBelow t s = (n : ℕ) → t ≡ Blank n → n < s.next
+IsBelow t s = (n : ℕ) → t ≡ Blank n → n < s.numbering.next
 
 pub wider : (a b : List Term) (s : State) → ((n : ℕ) → Pending a n → Pending b n) → Numbered a s → Numbered b s
 wider a b s w h = record {
@@ -52,8 +54,8 @@ wider a b s w h = record {
 pub also : (t : Term) (pending : List Term) (s : State) → Numbered pending s → Numbered (t ∷ pending) s
 also t pending s h = wider pending (t ∷ pending) s (λ n p. inr p) h
 
-pub below_on : (t : Term) (s u : State) → s.next ≤ u.next → IsBelow t s → IsBelow t u
-below_on t s u l h = λ n e. (let z : n < s.next = h n e in omega (arith, z, l))
+pub below_on : (t : Term) (s u : State) → s.numbering.next ≤ u.numbering.next → IsBelow t s → IsBelow t u
+below_on t s u l h = λ n e. (let z : n < s.numbering.next = h n e in omega (arith, z, l))
 
 in_term : (t : Term) (n : ℕ) → t ≡ Blank n → Contains (blanks_in t) n
 in_term t n e = subst (λ (x : Term). Contains (blanks_in x) n) (sym e) (0, (let z : 0 < length (n ∷ []) = omega arith in z), refl)
@@ -114,19 +116,19 @@ module _ (subject o : Term) (predicate : List ℕ) (pending : List Term) (s : St
     triples = all_behind IsTriple s.quads q h.triples (right, refl);
   }
 
-  pub says_numbered : (u : State) → Numbered (o ∷ subject ∷ pending) s → IsBelow subject s → IsBelow o s → says subject predicate o s ≡ Some (tt, u) → Numbered pending u × (u.next ≡ s.next)
+  pub says_numbered : (u : State) → Numbered (o ∷ subject ∷ pending) s → IsBelow subject s → IsBelow o s → says subject predicate o s ≡ Some (tt, u) → Numbered pending u × (u.numbering.next ≡ s.numbering.next)
   unfolding says
   says_numbered u h sb ob e = by (has_right_kinds q) refl e
     where
-      by : (b : Bool) → has_right_kinds q ≡ b → if◌then◌else◌ {A = Outcome State (Unit {0})} b (Some (tt, grown s q)) None ≡ Some (tt, u) → Numbered pending u × (u.next ≡ s.next)
-      by true right e = (let same : grown s q ≡ u = ap (λ p. p.1) (same_Some _ _ e) in (subst (Numbered pending) same (grown_numbered right h sb ob), ap (λ (x : State). x.next) (sym same)))
+      by : (b : Bool) → has_right_kinds q ≡ b → if◌then◌else◌ {A = Outcome State (Unit {0})} b (Some (tt, grown s q)) None ≡ Some (tt, u) → Numbered pending u × (u.numbering.next ≡ s.numbering.next)
+      by true right e = (let same : grown s q ≡ u = ap (λ p. p.1) (same_Some _ _ e) in (subst (Numbered pending) same (grown_numbered right h sb ob), ap (λ (x : State). x.numbering.next) (sym same)))
       by false right e = absurd (cc e)
 
 -- ---- terms
 
 -- a step gives a term, pending from then on
 abbrev pub TermKeeps : Does Term → Type 0
-TermKeeps f = (pending : List Term) (s u : State) (t : Term) → Numbered pending s → f s ≡ Some (t, u) → Numbered (t ∷ pending) u × (s.next ≤ u.next) × IsBelow t u
+TermKeeps f = (pending : List Term) (s u : State) (t : Term) → Numbered pending s → f s ≡ Some (t, u) → Numbered (t ∷ pending) u × (s.numbering.next ≤ u.numbering.next) × IsBelow t u
 
 more_labels : (m n : ℕ) (es : List (List ℕ × ℕ)) → m ≤ n → AllByRecursion (λ e. e.1 < m) es → AllByRecursion (λ e. e.1 < n) es
 more_labels m n [] l h = tt
@@ -156,18 +158,18 @@ lt_or_is m n h = elim (cases_lt m n) [
 ]
 
 -- a new number
-numbered_on : (pending : List Term) (s u : State) → Numbered pending s → u.next ≡ s.next + 1 → u.quads ≡ s.quads → AllByRecursion (λ e. e.1 < s.next + 1) u.labels
-    → Numbered (Blank s.next ∷ pending) u
+numbered_on : (pending : List Term) (s u : State) → Numbered pending s → u.numbering.next ≡ s.numbering.next + 1 → u.quads ≡ s.quads → AllByRecursion (λ e. e.1 < s.numbering.next + 1) u.numbering.labels
+    → Numbered (Blank s.numbering.next ∷ pending) u
 numbered_on pending s u h next quads labels = record {
-  covered = λ n l. elim (lt_or_is n s.next (omega (arith, l, next))) [
+  covered = λ n l. elim (lt_or_is n s.numbering.next (omega (arith, l, next))) [
     | inl old ↦ elim (h.covered n old) [
       | inl said ↦ inl (subst (λ (x : List QuadParts). Said x n) (sym quads) said)
       | inr p ↦ inr (inr p)
     ]
     | inr new ↦ inr (inl (ap (λ (i : ℕ). Blank i) (sym new)))
   ];
-  below = λ n said. (let z : n < s.next = h.below n (subst (λ (x : List QuadParts). Said x n) quads said) in omega (arith, z, next));
-  labels = subst (λ (i : ℕ). AllByRecursion (λ e. e.1 < i) u.labels) (sym next) labels;
+  below = λ n said. (let z : n < s.numbering.next = h.below n (subst (λ (x : List QuadParts). Said x n) quads said) in omega (arith, z, next));
+  labels = subst (λ (i : ℕ). AllByRecursion (λ e. e.1 < i) u.numbering.labels) (sym next) labels;
   triples = subst (λ (x : List QuadParts). AllByRecursion IsTriple x) (sym quads) h.triples;
 }
 
@@ -175,39 +177,39 @@ blank_number : (t : Term) (m n : ℕ) → t ≡ Blank m → t ≡ Blank n → m 
 blank_number t m n a b = cc
 
 -- the new blank node
-new_keeps : (pending : List Term) (s v u : State) (t : Term) → Numbered pending s → v.next ≡ s.next + 1 → v.quads ≡ s.quads → AllByRecursion (λ e. e.1 < s.next + 1) v.labels
-    → ◌≡◌ {A = Outcome State Term} (Some (Blank s.next, v)) (Some (t, u)) → Numbered (t ∷ pending) u × (s.next ≤ u.next) × IsBelow t u
+new_keeps : (pending : List Term) (s v u : State) (t : Term) → Numbered pending s → v.numbering.next ≡ s.numbering.next + 1 → v.quads ≡ s.quads → AllByRecursion (λ e. e.1 < s.numbering.next + 1) v.numbering.labels
+    → ◌≡◌ {A = Outcome State Term} (Some (Blank s.numbering.next, v)) (Some (t, u)) → Numbered (t ∷ pending) u × (s.numbering.next ≤ u.numbering.next) × IsBelow t u
 new_keeps pending s v u t h next quads labels e =
-    let is_t : Blank s.next ≡ t = ap (λ p. p.0) (same_Some _ _ e) in
+    let is_t : Blank s.numbering.next ≡ t = ap (λ p. p.0) (same_Some _ _ e) in
     let is_u : v ≡ u = ap (λ p. p.1) (same_Some _ _ e) in
-    let grows : u.next ≡ s.next + 1 = ap (λ (x : State). x.next) (sym is_u) ∙ next in (
-      subst (λ (x : Term). Numbered (x ∷ pending) u) is_t (subst (Numbered (Blank s.next ∷ pending)) is_u (numbered_on pending s v h next quads labels)),
+    let grows : u.numbering.next ≡ s.numbering.next + 1 = ap (λ (x : State). x.numbering.next) (sym is_u) ∙ next in (
+      subst (λ (x : Term). Numbered (x ∷ pending) u) is_t (subst (Numbered (Blank s.numbering.next ∷ pending)) is_u (numbered_on pending s v h next quads labels)),
       omega (arith, grows),
-      λ n b. (let z : n ≡ s.next = blank_number t n s.next b (sym is_t) in omega (arith, z, grows)),
+      λ n b. (let z : n ≡ s.numbering.next = blank_number t n s.numbering.next b (sym is_t) in omega (arith, z, grows)),
     )
 
 pub fresh_keeps : TermKeeps fresh
 unfolding fresh
 fresh_keeps pending s u t h e =
-    new_keeps pending s (record s { next = s.next + 1 }) u t h refl refl (more_labels s.next (s.next + 1) s.labels (omega arith) h.labels) e
+    new_keeps pending s (record s { numbering = record s.numbering { next = s.numbering.next + 1 } }) u t h refl refl (more_labels s.numbering.next (s.numbering.next + 1) s.numbering.labels (omega arith) h.labels) e
 
-labelled_as_keeps : (label : List ℕ) (o : Option ℕ) (pending : List Term) (s u : State) (t : Term) → lookup (same_key label) s.labels ≡ o → Numbered pending s → labelled_as label o s ≡ Some (t, u)
-    → Numbered (t ∷ pending) u × (s.next ≤ u.next) × IsBelow t u
+labelled_as_keeps : (label : List ℕ) (o : Option ℕ) (pending : List Term) (s u : State) (t : Term) → lookup (same_key label) s.numbering.labels ≡ o → Numbered pending s → blank (labelled_as label o) s ≡ Some (t, u)
+    → Numbered (t ∷ pending) u × (s.numbering.next ≤ u.numbering.next) × IsBelow t u
 labelled_as_keeps label (Some k) pending s u t found h e =
     let is_t : Blank k ≡ t = ap (λ p. p.0) (same_Some _ _ e) in
     let is_u : s ≡ u = ap (λ p. p.1) (same_Some _ _ e) in
-    let same : s.next ≡ u.next = ap (λ (x : State). x.next) is_u in (
+    let same : s.numbering.next ≡ u.numbering.next = ap (λ (x : State). x.numbering.next) is_u in (
       also t pending u (subst (Numbered pending) is_u h),
       omega (arith, same),
-      λ n b. (let z : n ≡ k = blank_number t n k b (sym is_t) in let l : k < s.next = label_below s.next (same_key label) s.labels k h.labels found in omega (arith, z, l, same)),
+      λ n b. (let z : n ≡ k = blank_number t n k b (sym is_t) in let l : k < s.numbering.next = label_below s.numbering.next (same_key label) s.numbering.labels k h.labels found in omega (arith, z, l, same)),
     )
 labelled_as_keeps label None pending s u t found h e =
-    new_keeps pending s (record s { labels = insert_entry same_key s.labels label s.next; next = s.next + 1 }) u t h refl refl
-    (label_inserted (s.next + 1) label s.next s.labels (omega arith) (more_labels s.next (s.next + 1) s.labels (omega arith) h.labels)) e
+    new_keeps pending s (record s { numbering = record { labels = insert_entry same_key s.numbering.labels label s.numbering.next; next = s.numbering.next + 1 } }) u t h refl refl
+    (label_inserted (s.numbering.next + 1) label s.numbering.next s.numbering.labels (omega arith) (more_labels s.numbering.next (s.numbering.next + 1) s.numbering.labels (omega arith) h.labels)) e
 
 pub labelled_keeps : (label : List ℕ) → TermKeeps (labelled label)
 unfolding labelled
-labelled_keeps label pending s u t h e = labelled_as_keeps label (lookup (same_key label) s.labels) pending s u t refl h e
+labelled_keeps label pending s u t h e = labelled_as_keeps label (lookup (same_key label) s.numbering.labels) pending s u t refl h e
 
 -- a step that gives no blank node and leaves the state
 abbrev pub Stays : Does Term → Type 0
@@ -216,7 +218,7 @@ Stays f = (s u : State) (t : Term) → f s ≡ Some (t, u) → (s ≡ u) × ((n 
 pub stays_keeps : (f : Does Term) → Stays f → TermKeeps f
 stays_keeps f h pending s u t old e =
     let st = h s u t e in
-    let same : s.next ≡ u.next = ap (λ (x : State). x.next) st.0 in (
+    let same : s.numbering.next ≡ u.numbering.next = ap (λ (x : State). x.numbering.next) st.0 in (
       also t pending u (subst (Numbered pending) st.0 old),
       omega (arith, same),
       λ n b. absurd (st.1 n b),

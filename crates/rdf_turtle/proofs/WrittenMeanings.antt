@@ -36,6 +36,7 @@ use Rattle.rdf_terms.specs.Blanks.{blanks_in, blanks_in_graph, blanks_of}
 use Rattle.rdf_turtle.specs.Known.{known_verb, known_literal, known_property_of, known_node_of, known_node, known_property, known_statement, declares_first}
 use Rattle.rdf_turtle.specs.Meaning.{Meaning, Says, only, iri, verb, literal, object, node_of, property_of, meaning, property, statement, document, triples_of, answer}
 use Rattle.rdf_turtle.specs.Reading.{property_with}
+use Rattle.rdf_turtle.specs.Prologue.{resolved}
 use Rattle.rdf_turtle.specs.References.{resolve}
 use Rattle.rdf_turtle.specs.State.{State, Does, start, labelled, triple, says}
 use Rattle.rdf_grammar.specs.Steps.{◌>>=◌, ◌>>◌, ◌<$>◌, each}
@@ -56,8 +57,8 @@ resolves base i h =
     rw (e, iri_allowed i h, iri_scheme i h) refl
 
 iri_goes : (i : List ℕ) (st : State) → is_iri i ≡ true → iri (Full (iri_slice i)) st ≡ Some (i, st)
-unfolding iri
-iri_goes i st h = rw (resolves st.base i h) refl
+unfolding iri resolved
+iri_goes i st h = rw (resolves st.prologue.base i h) refl
 
 text_is : (text : List ℕ) → IsUtf8 text → text_value (text_slice text) ≡ text
 text_is text u =

@@ -12,7 +12,8 @@ use Rattle.rdf_terms.specs.declared.quad.Quad.{Quad}
 use Rattle.rdf_terms.specs.declared.term.Term.TheVariants.{Blank}
 use Rattle.rdf_terms.specs.Blanks.{AreNumberedInOrder, blanks_of}
 use Rattle.rdf_terms.proofs.WrittenNumberLemmas.{blank_ascii}
-use Rattle.rdf_turtle.specs.State.{State, key_of, same_key, start, labelled}
+use Rattle.rdf_turtle.specs.Keys.{key_of, same_key}
+use Rattle.rdf_turtle.specs.State.{State, start, labelled}
 use Rattle.rdf_turtle.proofs.WrittenTerms.{label_slice}
 
 -- ---- numbers in order
@@ -97,9 +98,9 @@ kept a n other (e ∷ es) apart = by (same_key a e.0) refl (kept a n other es ap
 
 -- The labels of the numbers below n are known by these numbers, and no others.
 pub record Names (s : State) (n : ℕ) : Type 0 where
-  pub next : s.next ≡ n
-  pub known : (k : ℕ) → k < 2 ^ 64 → k < n → lookup (same_key (key k)) s.labels ≡ Some k
-  pub new : (k : ℕ) → k < 2 ^ 64 → n ≤ k → lookup (same_key (key k)) s.labels ≡ None
+  pub next : s.numbering.next ≡ n
+  pub known : (k : ℕ) → k < 2 ^ 64 → k < n → lookup (same_key (key k)) s.numbering.labels ≡ Some k
+  pub new : (k : ℕ) → k < 2 ^ 64 → n ≤ k → lookup (same_key (key k)) s.numbering.labels ≡ None
 
 pub starts : (base : Option (List ℕ)) → Names (start base) 0
 starts base = record { next = refl; known = λ k h l. absurd (omega (arith, l)); new = λ k h l. refl }
@@ -121,19 +122,19 @@ label_goes k n m s low names (inl h) =
 label_goes k n m s low names (inr h) =
     let here : k ≡ n = h.0 in
     let behind : n + 1 ≡ m = h.1 in
-    let own : s.next ≡ k = names.next ∙ sym here in
-    let u : State = record s { labels = insert_entry same_key s.labels (key k) s.next; next = s.next + 1 } in (
+    let own : s.numbering.next ≡ k = names.next ∙ sym here in
+    let u : State = record s { numbering = record { labels = insert_entry same_key s.numbering.labels (key k) s.numbering.next; next = s.numbering.next + 1 } } in (
       u,
       rw (names.new k low (omega (arith, here))) (ap (λ (j : ℕ). Some (Blank j, u)) own),
       record {
         next = omega (arith, names.next, behind);
         known = λ j l less. elim (cases_lt j k) [
-          | inl old ↦ kept (key k) s.next (key j) s.labels (keys_apart j k l low (λ e. omega (arith, e, old))) ∙ names.known j l (omega (arith, old, here))
+          | inl old ↦ kept (key k) s.numbering.next (key j) s.numbering.labels (keys_apart j k l low (λ e. omega (arith, e, old))) ∙ names.known j l (omega (arith, old, here))
           | inr last ↦
               let same : j ≡ k = omega (arith, less, last, here, behind) in
-              ap (λ (i : ℕ). lookup (same_key (key i)) (insert_entry same_key s.labels (key k) s.next)) same ∙ found (key k) s.next s.labels ∙ ap (λ (i : ℕ). Some i) (own ∙ sym same)
+              ap (λ (i : ℕ). lookup (same_key (key i)) (insert_entry same_key s.numbering.labels (key k) s.numbering.next)) same ∙ found (key k) s.numbering.next s.numbering.labels ∙ ap (λ (i : ℕ). Some i) (own ∙ sym same)
         ];
-        new = λ j l more. kept (key k) s.next (key j) s.labels (keys_apart j k l low (λ e. omega (arith, e, more, here, behind))) ∙ names.new j l (omega (arith, more, behind));
+        new = λ j l more. kept (key k) s.numbering.next (key j) s.numbering.labels (keys_apart j k l low (λ e. omega (arith, e, more, here, behind))) ∙ names.new j l (omega (arith, more, behind));
       },
       refl,
     )

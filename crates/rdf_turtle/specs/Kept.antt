@@ -1,30 +1,32 @@
 -- What a function that goes through a tree answers.
-use Rattle.std.specs.Prelude.{◌≡◌, Option, Some, None, Result, Ok, Err}
+use Rattle.std.specs.Prelude.{◌≡◌, ℕ, List, Option, Some, None, Result, Ok, Err}
+use Rattle.rdf_turtle.specs.declared.fault.TurtleFault.{TurtleFault}
 use Rattle.rdf_turtle.specs.declared.fault.TurtleFaultKind.{TurtleFaultKind}
-use Rattle.rdf_turtle.specs.declared.fault.TurtleFaultKind.TheVariants.{NotUtf8, Token, TooDeep, Syntax, UnknownPrefix, Relative, NoMemory}
+use Rattle.rdf_turtle.specs.declared.fault.TurtleFaultKind.TheVariants as kind
+use Rattle.rdf_turtle.specs.declared.prologue.PrologueFault.{PrologueFault}
+use Rattle.rdf_turtle.specs.declared.prologue.PrologueFault.TheVariants.{UnknownPrefix, Relative, NoMemory}
+use Rattle.rdf_tokens.specs.Lines.{line_of}
 use Rattle.rdf_grammar.specs.Steps.{Outcome}
 
--- Relative where the outcome is missing
-abbrev pub Fails : {A : Type 0} → Option A → TurtleFaultKind → Type 0
-Fails outcome NoMemory = Unit {0}
-Fails outcome Relative = outcome ≡ None
-Fails outcome UnknownPrefix = ⊥
-Fails outcome Syntax = ⊥
-Fails outcome TooDeep = ⊥
-Fails outcome Token = ⊥
-Fails outcome NotUtf8 = ⊥
+-- Relative where the outcome is missing: each prefix is known to be declared
+abbrev pub Fails : {A : Type 0} → Option A → PrologueFault → Type 0
+Fails outcome (NoMemory e) = Unit {0}
+Fails outcome (Relative start) = outcome ≡ None
+Fails outcome (UnknownPrefix start) = ⊥
 
 -- what is answered, and the state that is left: the step's outcome, unless memory was wanting
-abbrev pub Gives : {S A : Type 0} → Outcome S A → Result A TurtleFaultKind → S → Type 0
+abbrev pub Gives : {S A : Type 0} → Outcome S A → Result A PrologueFault → S → Type 0
 Gives outcome (Ok a) new = outcome ≡ Some (a, new)
 Gives outcome (Err e) new = Fails outcome e
 
--- what a function that changes no state answers
-abbrev pub Finds : {A : Type 0} → Option A → Result A TurtleFaultKind → Type 0
-Finds found (Ok a) = found ≡ Some a
-Finds found (Err e) = Fails found e
-
 -- this is the fault that is answered, unless memory was wanting
-abbrev pub IsFaultOf : {A : Type 0} → Result A TurtleFaultKind → TurtleFaultKind → Type 0
-IsFaultOf answer NoMemory = Unit {0}
-IsFaultOf answer kind = answer ≡ Err kind
+abbrev pub IsFaultOf : {A : Type 0} → Result A TurtleFaultKind → PrologueFault → Type 0
+IsFaultOf answer (NoMemory e) = Unit {0}
+IsFaultOf answer (UnknownPrefix start) = answer ≡ Err kind.UnknownPrefix
+IsFaultOf answer (Relative start) = answer ≡ Err kind.Relative
+
+-- the fault of a document for that of a name, at the line where the name stands
+abbrev pub IsNameFault : List ℕ → PrologueFault → TurtleFault → Type 0
+IsNameFault text (NoMemory e) f = (f.kind ≡ kind.NoMemory) × (f.line ≡ 0)
+IsNameFault text (UnknownPrefix start) f = (f.kind ≡ kind.UnknownPrefix) × (f.line ≡ line_of text start)
+IsNameFault text (Relative start) f = (f.kind ≡ kind.Relative) × (f.line ≡ line_of text start)

@@ -1,9 +1,7 @@
 -- Prefixes are declared before they are used.
 use Rattle.std.specs.Prelude.{ℕ, Bool, true, false, ◌&&◌, List, [], ◌∷◌, map, Option, Some, None, if◌then◌else◌}
-use Rattle.std.specs.List.{list_all, list_any}
+use Rattle.std.specs.List.{list_all}
 use Rattle.indexmap.specs.IndexSet.{insert_key}
-use Rattle.rdf_grammar.specs.declared.tree.Name.{Name}
-use Rattle.rdf_grammar.specs.declared.tree.Name.TheVariants.{Full, Prefixed}
 use Rattle.rdf_turtle.specs.declared.tree.Verb.{Verb}
 use Rattle.rdf_turtle.specs.declared.tree.Verb.TheVariants as v
 use Rattle.rdf_grammar.specs.declared.tree.Literal.{Literal}
@@ -14,7 +12,8 @@ use Rattle.rdf_turtle.specs.declared.tree.Node.TheFolds.{fold-Node, fold-Propert
 use Rattle.rdf_turtle.specs.declared.tree.Property.{Property}
 use Rattle.rdf_turtle.specs.declared.tree.Statement.{Statement}
 use Rattle.rdf_turtle.specs.declared.tree.Statement.TheVariants as s
-use Rattle.rdf_turtle.specs.State.{key_of, same_key}
+use Rattle.rdf_turtle.specs.Keys.{key_of, same_key}
+use Rattle.rdf_turtle.specs.Prologue.{knows}
 
 abbrev pub holds : Bool → Bool
 holds b = b
@@ -25,23 +24,19 @@ is_none (Some a) = false
 
 -- each prefix that stands in the tree is one of these
 module _ (declared : List (List ℕ)) where
-  abbrev pub known_name : Name → Bool
-  known_name (Full reference) = true
-  known_name (Prefixed prefix local) = list_any (same_key (key_of prefix)) declared
-
   abbrev pub known_verb : Verb → Bool
-  known_verb (v.Name name) = known_name name
+  known_verb (v.Name name) = knows declared name
   known_verb v.Type = true
 
   abbrev pub known_literal : Literal → Bool
-  known_literal (l.Typed text name) = known_name name
+  known_literal (l.Typed text name) = knows declared name
   known_literal _ = true
 
   abbrev pub known_property_of : Property-F Bool Bool → Bool
   known_property_of p = known_verb p.verb && list_all holds p.objects
 
   abbrev pub known_node_of : Node-F Bool Bool → Bool
-  known_node_of (Node-F.Name name) = known_name name
+  known_node_of (Node-F.Name name) = knows declared name
   known_node_of (Node-F.Label label) = true
   known_node_of (Node-F.Blank properties) = list_all holds properties
   known_node_of (Node-F.Collection items) = list_all holds items
@@ -53,8 +48,11 @@ module _ (declared : List (List ℕ)) where
   abbrev pub known_property : Property → Bool
   known_property = fold-Property Bool Bool known_node_of known_property_of
 
+  abbrev pub known_triples : Node → List Property → Bool
+  known_triples node ps = known_node node && list_all holds (map known_property ps)
+
   unfoldable pub known_statement : Statement → Bool
-  known_statement (s.Triples node ps) = known_node node && list_all holds (map known_property ps)
+  known_statement (s.Triples node ps) = known_triples node ps
   known_statement _ = true
 
 -- the prefixes behind a statement

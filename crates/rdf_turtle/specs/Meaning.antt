@@ -1,14 +1,13 @@
 -- The triples of a document: the tree is gone through as it stands in the text (Turtle 1.1, section 7.2 and 7.3).
-use Rattle.std.specs.Prelude.{ℕ, Bool, true, false, List, [], ◌∷◌, ◌++◌, Option, None, map, Result, Err, if◌then◌else◌, ok_or, option_and_then}
+use Rattle.std.specs.Prelude.{ℕ, Bool, true, false, List, [], ◌∷◌, Option, None, map, Result, Err, if◌then◌else◌, ok_or, codes}
 use Rattle.std.specs.Option.{option_map}
-use Rattle.std.specs.Map.{lookup}
 use Rattle.std.specs.Str.{encode_utf8_all}
 use Rattle.rdf_terms.specs.Literal.{xsd_string, is_tag, tagged}
 use Rattle.rdf_terms.specs.Quad.{QuadParts}
+use Rattle.rdf_terms.specs.Vocabulary.{rdf_type, rdf_first, rdf_rest, rdf_nil, xsd_integer, xsd_decimal, xsd_double, xsd_boolean}
 use Rattle.rdf_terms.specs.declared.term.Term.{Term}
 use Rattle.rdf_terms.specs.declared.term.Term.TheVariants as t
 use Rattle.rdf_grammar.specs.declared.tree.Name.{Name}
-use Rattle.rdf_grammar.specs.declared.tree.Name.TheVariants.{Full, Prefixed}
 use Rattle.rdf_turtle.specs.declared.tree.Verb.{Verb}
 use Rattle.rdf_turtle.specs.declared.tree.Verb.TheVariants as v
 use Rattle.rdf_grammar.specs.declared.tree.Literal.{Literal}
@@ -22,29 +21,16 @@ use Rattle.rdf_turtle.specs.declared.tree.Statement.TheVariants as s
 use Rattle.rdf_turtle.specs.declared.fault.TurtleFaultKind.{TurtleFaultKind}
 use Rattle.rdf_turtle.specs.declared.fault.TurtleFaultKind.TheVariants.{UnknownPrefix, Relative}
 use Rattle.rdf_turtle.specs.Known.{declares_first}
-use Rattle.rdf_turtle.specs.References.{resolve, iri_text}
-use Rattle.rdf_tokens.specs.Values.{iri_value, text_value, local_value, tag_value}
-use Rattle.rdf_turtle.specs.Vocabulary.{rdf_type, rdf_first, rdf_rest, rdf_nil, xsd_integer, xsd_decimal, xsd_double, xsd_boolean, boolean_text}
+use Rattle.rdf_turtle.specs.Keys.{key_of}
+use Rattle.rdf_turtle.specs.Prologue.{iri_of, resolved, declares, moves_base}
+use Rattle.rdf_tokens.specs.Values.{text_value, tag_value}
 use Rattle.rdf_grammar.specs.Steps.{◌>>=◌, ◌>>◌, ◌<$>◌, pure, none, each}
-use Rattle.rdf_turtle.specs.State.{State, Does, key_of, same_key, start, fresh, labelled, says, declares, moves_base}
-
--- a value that may be missing
-abbrev pub known : {A : Type 0} → (State → Option A) → Does A
-known f = λ s. option_map (λ a. (a, s)) (f s)
+use Rattle.rdf_turtle.specs.State.{State, Does, start, told, declared, fresh, labelled, says}
 
 -- ---- IRIs and literals
 
--- a reference, resolved against the base in force (Turtle 1.1, section 6.3)
-unfoldable pub resolved : List ℕ → Does (List ℕ)
-resolved reference = known (λ s. resolve s.base (iri_value reference))
-
--- a reference, or what the prefix stands for, followed by the local part (Turtle 1.1, section 2.4)
-abbrev pub iri_of : Name → State → Option (List ℕ)
-iri_of (Full reference) = λ s. resolve s.base (iri_value reference)
-iri_of (Prefixed prefix local) = λ s. option_and_then (λ i. iri_text (i ++ local_value local)) (lookup (same_key (key_of prefix)) s.prefixes)
-
 unfoldable pub iri : Name → Does (List ℕ)
-iri name = known (iri_of name)
+iri name = told (iri_of name)
 
 -- `a` is rdf:type (Turtle 1.1, section 2.4)
 unfoldable pub verb : Verb → Does (List ℕ)
@@ -53,6 +39,10 @@ verb v.Type = pure rdf_type
 
 abbrev pub untagged : List ℕ → List ℕ → Term
 untagged lexical datatype = t.Literal (record { lexical = lexical; datatype = datatype; tag = None })
+
+abbrev pub boolean_text : Bool → List ℕ
+boolean_text true = codes "true"
+boolean_text false = codes "false"
 
 -- numbers keep their text (Turtle 1.1, section 2.5)
 unfoldable pub literal : Literal → Does Term
@@ -144,17 +134,18 @@ abbrev pub has_properties : Bool → List Property → Bool
 has_properties alone [] = alone
 has_properties alone (p ∷ ps) = true
 
--- a directive, or the triples inside the subject, then those of its properties
+-- the triples inside the subject, then those of its properties
+abbrev pub triples : Node → List Property → Does (Unit {0})
+triples node ps = do
+  subject ← (meaning node).term
+  (meaning node).inside subject
+  properties subject ps
+
+-- a directive, or triples
 unfoldable pub statement : Statement → Does (Unit {0})
-statement (s.Prefix prefix reference) = resolved reference >>= declares (key_of prefix)
-statement (s.Base reference) = resolved reference >>= moves_base
-statement (s.Triples node ps) =
-    if has_properties (meaning node).alone ps
-    then (do
-      subject ← (meaning node).term
-      (meaning node).inside subject
-      properties subject ps)
-    else none
+statement (s.Prefix prefix reference) = told (resolved reference) >>= (λ i. declared (declares (key_of prefix) i))
+statement (s.Base reference) = told (resolved reference) >>= (λ i. declared (moves_base i))
+statement (s.Triples node ps) = if has_properties (meaning node).alone ps then triples node ps else none
 
 abbrev pub document : List Statement → Does (Unit {0})
 document ss = each (λ f. f) (map statement ss)

@@ -1,5 +1,5 @@
 -- The IRIs that are written in a document.
-use Rattle.std.specs.Prelude.{◌≡◌, ◌↔◌, ℕ, ◌&&◌, not, true, false, if◌then◌else◌, List, Option, Some, None, IfSome}
+use Rattle.std.specs.Prelude.{◌≡◌, ◌↔◌, ℕ, true, false, if◌then◌else◌, List, Option, Some, None, IfSome}
 use Rattle.std.specs.Option.{option_map}
 use Rattle.rdf_terms.specs.Iri.{has_scheme, has_forbidden}
 use Rattle.rdf_terms.specs.Resolution.{Means}
@@ -16,7 +16,3 @@ resolve base reference =
 abbrev pub ReferencesAreResolved : Type 0
 ReferencesAreResolved = (base : Option (List ℕ)) (reference iri : List ℕ) → IfSome base (λ b. has_scheme b ≡ true) → has_forbidden reference ≡ false →
     (resolve base reference ≡ Some iri) ↔ Means base reference iri
-
--- the text, where it is an IRI
-unfoldable pub iri_text : List ℕ → Option (List ℕ)
-iri_text text = if has_scheme text && not (has_forbidden text) then Some text else None

@@ -1,53 +1,45 @@
--- The state in which a document is read (Turtle 1.1, section 7): the base, the prefixes and the labels, as the text so far leaves them.
-use Rattle.std.specs.Prelude.{ℕ, ◌+◌, Bool, List, [], ◌∷◌, ◌++◌, Option, Some, None, nat_eq, if◌then◌else◌}
-use Rattle.std.specs.Cmp.Lexicographic.{pointwise}
-use Rattle.std.specs.Map.{lookup}
-use Rattle.std.specs.Str.{encode_utf8_all}
-use Rattle.indexmap.specs.IndexMap.{insert_entry}
+-- The state in which a document is read (Turtle 1.1, section 7): the prologue and the numbering, as the text so far leaves them,
+-- and the triples said.
+use Rattle.std.specs.Prelude.{ℕ, Bool, List, [], ◌∷◌, ◌++◌, Option, Some, None, if◌then◌else◌}
+use Rattle.std.specs.Option.{option_map}
 use Rattle.rdf_terms.specs.Quad.{QuadParts, has_right_kinds}
 use Rattle.rdf_terms.specs.declared.term.Term.{Term}
 use Rattle.rdf_terms.specs.declared.term.Term.TheVariants.{Blank, Iri}
 use Rattle.rdf_terms.specs.declared.quad.GraphName.TheVariants.{Default}
-use Rattle.rdf_grammar.specs.Steps.{Step, ◌<$>◌}
-
--- names and labels are told apart by the UTF-8 bytes of their characters
-abbrev pub key_of : List ℕ → List ℕ
-key_of slice = encode_utf8_all slice
-
-abbrev pub same_key : List ℕ → List ℕ → Bool
-same_key = pointwise nat_eq
+use Rattle.rdf_turtle.specs.Numbering as numbering
+use Rattle.rdf_turtle.specs.Numbering.{Numbering}
+use Rattle.rdf_turtle.specs.Prologue as prologue
+use Rattle.rdf_turtle.specs.Prologue.{Prologue}
+use Rattle.rdf_grammar.specs.Steps.{Step}
 
 pub record State : Type 0 where
-  pub base : Option (List ℕ)
-  -- the prefixes with their IRIs
-  pub prefixes : List (List ℕ × List ℕ)
-  -- the labels with their numbers
-  pub labels : List (List ℕ × ℕ)
-  -- the number of the next blank node
-  pub next : ℕ
+  pub prologue : Prologue
+  pub numbering : Numbering
   pub quads : List QuadParts
 
 abbrev pub Does : Type 0 → Type 0
 Does A = Step State A
 
 abbrev pub start : Option (List ℕ) → State
-start base = record { base = base; prefixes = []; labels = []; next = 0; quads = [] }
+start base = record { prologue = prologue.start base; numbering = numbering.start; quads = [] }
 
--- takes the next number
-abbrev pub number : Does ℕ
-number s = Some (s.next, record s { next = s.next + 1 })
+-- what the prologue tells, if it does
+abbrev pub told : {A : Type 0} → (Prologue → Option A) → Does A
+told f s = option_map (λ a. (a, s)) (f s.prologue)
 
--- a new blank node
+-- what is declared
+abbrev pub declared : (Prologue → Prologue) → Does (Unit {0})
+declared f s = Some (tt, record s { prologue = f s.prologue })
+
+-- the blank node of a number
+abbrev pub blank : (Numbering → ℕ × Numbering) → Does Term
+blank f s = Some (Blank (f s.numbering).0, record s { numbering = (f s.numbering).1 })
+
 unfoldable pub fresh : Does Term
-fresh = Blank <$> number
-
--- the blank node of a label: a new one where the label stands for the first time
-abbrev pub labelled_as : List ℕ → Option ℕ → Does Term
-labelled_as label (Some n) = λ s. Some (Blank n, s)
-labelled_as label None = λ s. Some (Blank s.next, record s { labels = insert_entry same_key s.labels label s.next; next = s.next + 1 })
+fresh = blank numbering.fresh
 
 unfoldable pub labelled : List ℕ → Does Term
-labelled label = λ s. labelled_as label (lookup (same_key label) s.labels) s
+labelled label = blank (numbering.labelled label)
 
 -- a triple in the default graph
 abbrev pub triple : Term → List ℕ → Term → QuadParts
@@ -58,10 +50,3 @@ unfoldable pub says : Term → List ℕ → Term → Does (Unit {0})
 says subject predicate object s =
     if has_right_kinds (triple subject predicate object)
     then Some (tt, record s { quads = s.quads ++ triple subject predicate object ∷ [] }) else None
-
--- a prefix stands for an IRI; a later declaration replaces an earlier one (Turtle 1.1, section 2.4)
-unfoldable pub declares : List ℕ → List ℕ → Does (Unit {0})
-declares prefix iri s = Some (tt, record s { prefixes = insert_entry same_key s.prefixes prefix iri })
-
-unfoldable pub moves_base : List ℕ → Does (Unit {0})
-moves_base iri s = Some (tt, record s { base = Some iri })

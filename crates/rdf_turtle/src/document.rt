@@ -6,13 +6,14 @@ ghost use Rattle.rdf_turtle.specs.declared.fault.TurtleFaultKind.TheVariants.{No
 ghost use Rattle.rdf_tokens.specs.declared.token.Token.{Token as Held};
 ghost use Rattle.rdf_turtle.specs.Bases.{RelativeLacksABase};
 ghost use Rattle.rdf_turtle.specs.Document.{HasTokens, HasTree, IsDocument, TellsFault};
+ghost use Rattle.rdf_turtle.specs.Kept.{IsNameFault};
 ghost use Rattle.rdf_turtle.specs.DocumentLaws.{SomeMeaning, OneDocument, NeverBoth, OneFault};
 ghost use Rattle.rdf_tokens.specs.Lines.{line_of};
 
 use crate::fault::{TurtleFault, TurtleFaultKind};
 use crate::lexeme::Lexeme;
 use crate::meaning::triples_of;
-use crate::placed::PlacedFault;
+use crate::prologue::PrologueFault;
 use crate::read::{Stop, parse_document};
 use crate::straight::straight_triples;
 use crate::token_list::tokens;
@@ -33,6 +34,19 @@ fn fault_at(text: &[u8], kind: TurtleFaultKind, place: usize) -> TurtleFault
         _ => line_at(text, place),
     };
     TurtleFault { line, kind }
+}
+
+// The fault of a name, at the line where it stands.
+fn name_fault(text: &[u8], fault: PrologueFault) -> TurtleFault
+    ensures { IsNameFault text.now fault result }
+{
+    match fault {
+        PrologueFault::UnknownPrefix(start) => {
+            fault_at(text, TurtleFaultKind::UnknownPrefix, start)
+        }
+        PrologueFault::Relative(start) => fault_at(text, TurtleFaultKind::Relative, start),
+        PrologueFault::NoMemory(_) => fault_at(text, TurtleFaultKind::NoMemory, 0),
+    }
 }
 
 // The byte where the token of that number starts, or the end of the text.
@@ -112,7 +126,7 @@ fn read_text(alloc: Global, text: &str, base: Option<&Iri>) -> Result<Vec<Quad>,
     };
     match triples_of(alloc, base, tree.into_vec()) {
         Ok(quads) => Ok(quads),
-        Err(PlacedFault { kind, start }) => Err(fault_at(text.as_bytes(), kind, start)),
+        Err(fault) => Err(name_fault(text.as_bytes(), fault)),
     }
 }
 

@@ -5,7 +5,7 @@ ghost use Rattle.std.specs.Cmp.Lexicographic.{pointwise, nat_list_eq_equiv};
 ghost use Rattle.std.specs.Cmp.{partial_equiv_from_equiv};
 ghost use Rattle.std.specs.Cmp.Rules.{hashing};
 ghost use Rattle.std.proofs.Common.{rules};
-ghost use Rattle.rdf_turtle.specs.State.{key_of};
+ghost use Rattle.rdf_turtle.specs.Keys.{key_of};
 
 use rdf_tokens::Slice;
 use std::hash::{Hash, Hasher};

@@ -3,6 +3,7 @@ ghost use Rattle.std.specs.Prelude.{◌≡◌, [], IfOk, OnOk, map};
 ghost use Rattle.std.specs.List.{list_all};
 ghost use Rattle.rdf_turtle.specs.Known as spec;
 ghost use Rattle.rdf_turtle.specs.Known.{is_none};
+ghost use Rattle.rdf_turtle.specs.Prologue.{knows};
 
 use crate::key::Key;
 use crate::tree::{Literal, Name, Node, Property, Statement, Verb};
@@ -13,7 +14,7 @@ use std::alloc::Global;
 // Each of these answers where the first name stands whose prefix isn't declared.
 
 fn unknown_name<'a>(declared: &IndexSet<Key<'a>>, name: &Name<'a>) -> Option<usize>
-    ensures { is_none result ≡ spec.known_name declared.now.keys name.now }
+    ensures { is_none result ≡ knows declared.now.keys name.now }
 {
     match name {
         Name::Full(_) => None,

@@ -10,7 +10,8 @@ mod laws;
 mod lexeme;
 mod meaning;
 mod names;
-mod placed;
+mod numbering;
+mod prologue;
 mod read;
 mod scope;
 mod statement;
@@ -18,7 +19,6 @@ mod straight;
 mod terminal;
 mod token_list;
 mod tree;
-mod vocabulary;
 
 pub use document::{one_meaning, read_turtle};
 pub use fault::{TurtleFault, TurtleFaultKind};

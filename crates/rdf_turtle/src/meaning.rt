@@ -1,17 +1,22 @@
 //! The triples of a tree.
-ghost use Rattle.std.specs.Prelude.{◌≡◌, IfOk, MatchResult, Ok, map};
+ghost use Rattle.std.specs.Prelude.{◌≡◌, ◌+◌, ◌≤◌, [], false, length, IfOk, OnOk, MatchResult, IsTrue, Ok, map};
+ghost use Rattle.std.specs.List.{list_all};
 ghost use Rattle.std.specs.Option.{option_copied};
 ghost use Rattle.std.specs.Str.{encode_utf8_all};
-ghost use Rattle.rdf_turtle.specs.Vocabulary as word;
-ghost use Rattle.rdf_turtle.specs.Meaning as spec;
-ghost use Rattle.rdf_turtle.specs.Kept.{Gives, IsFaultOf};
+ghost use Rattle.rdf_terms.specs.Term.{is_literal_term};
 ghost use Rattle.rdf_turtle.specs.Blanks.{BlankNumbersAreBelow};
+ghost use Rattle.rdf_turtle.specs.Kept.{Gives, IsFaultOf};
+ghost use Rattle.rdf_turtle.specs.Known as known;
+ghost use Rattle.rdf_turtle.specs.Known.{holds, declared_behind, declares_first};
+ghost use Rattle.rdf_turtle.specs.Meaning as spec;
+ghost use Rattle.rdf_turtle.specs.Prologue.{declared};
+ghost use Rattle.rdf_turtle.specs.Proper as proper;
 ghost use Rattle.rdf_turtle.specs.References.{ReferencesAreResolved};
+ghost use Rattle.rdf_turtle.specs.Room.{HasRoom, TakesAtMost};
 ghost use Rattle.rdf_turtle.specs.StateLaws.{PrefixesAreReplaced};
 
-use crate::fault::TurtleFaultKind;
 use crate::known::first_unknown;
-use crate::placed::PlacedFault;
+use crate::prologue::PrologueFault;
 use crate::scope::Scope;
 use crate::tree::{Literal as Written, Node, Property, Statement, Verb};
 use rdf_terms::{Iri, Literal, NoMemory, Quad, Term, Text};
@@ -19,7 +24,7 @@ use rdf_tokens::{Slice, tag_value, text_value};
 use std::alloc::Global;
 
 fn boolean_text(alloc: Global, value: bool) -> Result<Text, NoMemory>
-    ensures { IfOk result (λ text. text ≡ word.boolean_text value) }
+    ensures { IfOk result (λ text. text ≡ spec.boolean_text value) }
 {
     if value {
         Text::new(alloc, "true")
@@ -45,66 +50,47 @@ pub(crate) fn copied(base: Option<&Iri>) -> Result<Option<Iri>, NoMemory>
     }
 }
 
-fn stands_alone(node: &Node<'_>) -> bool
-    ensures { result ≡ (spec.meaning node.now).alone }
-{
-    match node {
-        Node::Blank(properties) => match properties.as_slice() {
-            [] => false,
-            [_, ..] => true,
-        },
-        Node::Name(_) | Node::Label(_) | Node::Collection(_) | Node::Literal(_) => false,
-    }
-}
-
-fn has_properties(node: &Node<'_>, properties: &[Property<'_>]) -> bool
-    ensures { result ≡ spec.has_properties (spec.meaning node.now).alone properties.now }
-{
-    match properties {
-        [] => stands_alone(node),
-        [_, ..] => true,
-    }
-}
-
 impl<'a> Scope<'a> {
     #[tactic(auto, unfolding(crate::specs::Meaning::verb))]
-    fn verb(&mut self, verb: &Verb<'a>) -> Result<Iri, TurtleFaultKind>
-        ensures { Gives (spec.verb verb.now self.old) result self.new }
+    fn verb(&mut self, verb: &Verb<'a>) -> Result<Iri, PrologueFault>
+        requires known { IsTrue (known.known_verb (declared self.old.prologue) verb.now) }
+        requires proper { IsTrue (proper.proper_verb verb.now) }
+        ensures gives { Gives (spec.verb verb.now self.old) result self.new }
+        ensures same { self.new ≡ self.old }
     {
         match verb {
             Verb::Name(name) => self.iri(name),
-            Verb::Type => Ok(self.vocabulary.rdf_type()?),
+            Verb::Type => Ok(self.vocabulary.rdf_type().copy()?),
         }
     }
 
     #[tactic(auto, unfolding(crate::specs::Meaning::literal))]
-    fn literal(&mut self, literal: &Written<'a>) -> Result<Term, TurtleFaultKind>
-        ensures { Gives (spec.literal literal.now self.old) result self.new }
+    fn literal(&mut self, literal: &Written<'a>) -> Result<Term, PrologueFault>
+        requires known { IsTrue (known.known_literal (declared self.old.prologue) literal.now) }
+        requires proper { IsTrue (proper.proper_literal literal.now) }
+        ensures gives { Gives (spec.literal literal.now self.old) result self.new }
+        ensures same { self.new ≡ self.old }
     {
+        let word = &self.vocabulary;
         let (text, datatype) = match literal {
-            Written::Plain(text) => (text_value(self.alloc, text)?, self.vocabulary.xsd_string()?),
+            Written::Plain(text) => (text_value(self.alloc, text)?, word.xsd_string().copy()?),
             Written::Tagged(text, tag) => {
                 let text = text_value(self.alloc, text)?;
                 let tagged = Literal::tagged_from_text(self.alloc, text, tag_value(tag))?;
-                return Ok(Term::Literal(tagged.ok_or(TurtleFaultKind::Relative)?));
+                let Some(tagged) = tagged else { unreachable!() };
+                return Ok(Term::Literal(tagged));
             }
             Written::Typed(text, name) => {
                 let datatype = self.iri(name)?;
                 (text_value(self.alloc, text)?, datatype)
             }
-            Written::Integer(text) => (
-                as_written(self.alloc, text)?,
-                self.vocabulary.xsd_integer()?,
-            ),
-            Written::Decimal(text) => (
-                as_written(self.alloc, text)?,
-                self.vocabulary.xsd_decimal()?,
-            ),
-            Written::Double(text) => (as_written(self.alloc, text)?, self.vocabulary.xsd_double()?),
+            Written::Integer(text) => (as_written(self.alloc, text)?, word.xsd_integer().copy()?),
+            Written::Decimal(text) => (as_written(self.alloc, text)?, word.xsd_decimal().copy()?),
+            Written::Double(text) => (as_written(self.alloc, text)?, word.xsd_double().copy()?),
             Written::Boolean(value) => {
                 (
                     boolean_text(self.alloc, *value)?,
-                    self.vocabulary.xsd_boolean()?,
+                    word.xsd_boolean().copy()?,
                 )
             }
         };
@@ -112,16 +98,23 @@ impl<'a> Scope<'a> {
     }
 
     // The term that a node stands for.
-    fn term(&mut self, node: &Node<'a>) -> Result<Term, TurtleFaultKind>
-        ensures { Gives ((spec.meaning node.now).term self.old) result self.new }
+    fn term(&mut self, node: &Node<'a>) -> Result<Term, PrologueFault>
+        requires known { IsTrue (known.known_node (declared self.old.prologue) node.now) }
+        requires proper { IsTrue (proper.proper_node node.now) }
+        requires room { HasRoom 0 self.old }
+        ensures gives { Gives ((spec.meaning node.now).term self.old) result self.new }
+        ensures prologue { self.new.prologue ≡ self.old.prologue }
+        ensures room { TakesAtMost 1 self.old self.new }
+        ensures kind { proper.is_literal node.now ≡ false
+            → IfOk result (λ term. is_literal_term term ≡ false) }
     {
         match node {
             Node::Name(name) => Ok(Term::Iri(self.iri(name)?)),
-            Node::Label(label) => self.labelled(label),
-            Node::Blank(_) => self.fresh(),
+            Node::Label(label) => Ok(self.labelled(label)?),
+            Node::Blank(_) => Ok(self.fresh()),
             Node::Collection(items) => match items.as_slice() {
-                [] => Ok(Term::Iri(self.vocabulary.rdf_nil()?)),
-                [_, ..] => self.fresh(),
+                [] => Ok(Term::Iri(self.vocabulary.rdf_nil().copy()?)),
+                [_, ..] => Ok(self.fresh()),
             },
             Node::Literal(literal) => self.literal(literal),
         }
@@ -129,15 +122,21 @@ impl<'a> Scope<'a> {
 
     // The triples inside a node.
     #[cycle(inside)]
-    fn inside(&mut self, node: &Node<'a>, term: &Term) -> Result<(), TurtleFaultKind>
-        ensures { Gives ((spec.meaning node.now).inside term.now self.old) result self.new }
+    fn inside(&mut self, node: &Node<'a>, term: &Term) -> Result<(), PrologueFault>
+        requires known { IsTrue (known.known_node (declared self.old.prologue) node.now) }
+        requires proper { IsTrue (proper.proper_node node.now) }
+        requires subject { is_literal_term term.now ≡ false }
+        requires room { HasRoom 0 self.old }
+        ensures gives { Gives ((spec.meaning node.now).inside term.now self.old) result self.new }
+        ensures prologue { self.new.prologue ≡ self.old.prologue }
+        ensures room { OnOk result (TakesAtMost 0 self.old self.new) }
     {
         match node {
             Node::Blank(properties) => self.properties(term, properties.as_slice()),
             Node::Collection(items) => match items.as_slice() {
                 [] => Ok(()),
                 [first, rest @ ..] => {
-                    let predicate = self.vocabulary.rdf_first()?;
+                    let predicate = self.vocabulary.rdf_first().copy()?;
                     self.object(term, &predicate, first)?;
                     self.behind(term, rest)
                 }
@@ -154,13 +153,20 @@ impl<'a> Scope<'a> {
         subject: &Term,
         predicate: &Iri,
         node: &Node<'a>,
-    ) -> Result<(), TurtleFaultKind>
-        ensures { Gives (spec.object subject.now predicate.now (spec.meaning node.now) self.old) result self.new }
+    ) -> Result<(), PrologueFault>
+        requires known { IsTrue (known.known_node (declared self.old.prologue) node.now) }
+        requires proper { IsTrue (proper.proper_node node.now) }
+        requires subject { is_literal_term subject.now ≡ false }
+        requires room { HasRoom 0 self.old }
+        ensures gives { let says = spec.object subject.now predicate.now (spec.meaning node.now) in
+            Gives (says self.old) result self.new }
+        ensures prologue { self.new.prologue ≡ self.old.prologue }
+        ensures room { OnOk result (TakesAtMost 0 self.old self.new) }
     {
         let object = self.term(node)?;
         match node {
             Node::Name(_) | Node::Label(_) | Node::Literal(_) => {
-                self.says(subject, predicate, object)
+                Ok(self.says(subject, predicate, object)?)
             }
             Node::Blank(_) | Node::Collection(_) => {
                 let said = object.copy()?;
@@ -172,21 +178,29 @@ impl<'a> Scope<'a> {
 
     // The cells behind one, and what is inside their elements.
     #[cycle(inside)]
-    fn behind(&mut self, cell: &Term, items: &[Node<'a>]) -> Result<(), TurtleFaultKind>
-        ensures { Gives (spec.behind cell.now (map spec.meaning items.now) self.old) result self.new }
+    fn behind(&mut self, cell: &Term, items: &[Node<'a>]) -> Result<(), PrologueFault>
+        requires known { let knows = known.known_node (declared self.old.prologue) in
+            IsTrue (list_all holds (map knows items.now)) }
+        requires proper { IsTrue (list_all holds (map proper.proper_node items.now)) }
+        requires subject { is_literal_term cell.now ≡ false }
+        requires room { HasRoom 0 self.old }
+        ensures gives { let says = spec.behind cell.now (map spec.meaning items.now) in
+            Gives (says self.old) result self.new }
+        ensures prologue { self.new.prologue ≡ self.old.prologue }
+        ensures room { OnOk result (TakesAtMost 0 self.old self.new) }
     {
-        let first = self.vocabulary.rdf_first()?;
-        let rest = self.vocabulary.rdf_rest()?;
+        let first = self.vocabulary.rdf_first().copy()?;
+        let rest = self.vocabulary.rdf_rest().copy()?;
         let mut cell = cell.copy()?;
         for item in items {
-            let next = self.fresh()?;
+            let next = self.fresh();
             let said = next.copy()?;
             self.says(&cell, &rest, said)?;
             self.object(&next, &first, item)?;
             cell = next;
         }
-        let nil = Term::Iri(self.vocabulary.rdf_nil()?);
-        self.says(&cell, &rest, nil)
+        let nil = Term::Iri(self.vocabulary.rdf_nil().copy()?);
+        Ok(self.says(&cell, &rest, nil)?)
     }
 
     #[cycle(inside)]
@@ -195,11 +209,20 @@ impl<'a> Scope<'a> {
         subject: &Term,
         predicate: &Iri,
         nodes: &[Node<'a>],
-    ) -> Result<(), TurtleFaultKind>
-        ensures { Gives (spec.objects subject.now predicate.now (map spec.meaning nodes.now) self.old) result self.new }
+    ) -> Result<(), PrologueFault>
+        requires known { let knows = known.known_node (declared self.old.prologue) in
+            IsTrue (list_all holds (map knows nodes.now)) }
+        requires proper { IsTrue (list_all holds (map proper.proper_node nodes.now)) }
+        requires filled { IsTrue (proper.is_filled nodes.now) }
+        requires subject { is_literal_term subject.now ≡ false }
+        requires room { HasRoom 0 self.old }
+        ensures gives { let says = spec.objects subject.now predicate.now (map spec.meaning nodes.now) in
+            Gives (says self.old) result self.new }
+        ensures prologue { self.new.prologue ≡ self.old.prologue }
+        ensures room { OnOk result (TakesAtMost 0 self.old self.new) }
     {
         if nodes.is_empty() {
-            return Err(TurtleFaultKind::Relative);
+            unreachable!();
         }
         for node in nodes {
             self.object(subject, predicate, node)?;
@@ -208,8 +231,14 @@ impl<'a> Scope<'a> {
     }
 
     #[cycle(inside)]
-    fn property(&mut self, subject: &Term, property: &Property<'a>) -> Result<(), TurtleFaultKind>
-        ensures { Gives (spec.property property.now subject.now self.old) result self.new }
+    fn property(&mut self, subject: &Term, property: &Property<'a>) -> Result<(), PrologueFault>
+        requires known { IsTrue (known.known_property (declared self.old.prologue) property.now) }
+        requires proper { IsTrue (proper.proper_property property.now) }
+        requires subject { is_literal_term subject.now ≡ false }
+        requires room { HasRoom 0 self.old }
+        ensures gives { Gives (spec.property property.now subject.now self.old) result self.new }
+        ensures prologue { self.new.prologue ≡ self.old.prologue }
+        ensures room { OnOk result (TakesAtMost 0 self.old self.new) }
     {
         let predicate = self.verb(&property.verb)?;
         self.objects(subject, &predicate, property.objects.as_slice())
@@ -220,8 +249,16 @@ impl<'a> Scope<'a> {
         &mut self,
         subject: &Term,
         properties: &[Property<'a>],
-    ) -> Result<(), TurtleFaultKind>
-        ensures { Gives (spec.properties subject.now properties.now self.old) result self.new }
+    ) -> Result<(), PrologueFault>
+        requires known { let knows = known.known_property (declared self.old.prologue) in
+            IsTrue (list_all holds (map knows properties.now)) }
+        requires proper { IsTrue (list_all holds (map proper.proper_property properties.now)) }
+        requires subject { is_literal_term subject.now ≡ false }
+        requires room { HasRoom 0 self.old }
+        ensures gives { let says = spec.properties subject.now properties.now in
+            Gives (says self.old) result self.new }
+        ensures prologue { self.new.prologue ≡ self.old.prologue }
+        ensures room { OnOk result (TakesAtMost 0 self.old self.new) }
     {
         for property in properties {
             self.property(subject, property)?;
@@ -229,34 +266,51 @@ impl<'a> Scope<'a> {
         Ok(())
     }
 
+    // The triples of a subject with its properties.
+    fn triples(&mut self, node: &Node<'a>, properties: &[Property<'a>]) -> Result<(), PrologueFault>
+        requires known { let knows = known.known_triples (declared self.old.prologue) in
+            IsTrue (knows node.now properties.now) }
+        requires proper { IsTrue (proper.proper_triples node.now properties.now) }
+        requires room { HasRoom 1 self.old }
+        ensures gives { Gives (spec.triples node.now properties.now self.old) result self.new }
+        ensures prologue { self.new.prologue ≡ self.old.prologue }
+        ensures room { OnOk result (TakesAtMost 1 self.old self.new) }
+    {
+        let subject = self.term(node)?;
+        self.inside(node, &subject)?;
+        self.properties(&subject, properties)
+    }
+
     /// Says the triples of a statement, or declares its prefix or base.
-    #[tactic(auto, unfolding(crate::specs::Meaning::statement))]
-    pub(crate) fn statement(&mut self, statement: &Statement<'a>) -> Result<(), TurtleFaultKind>
-        ensures { Gives (spec.statement statement.now self.old) result self.new }
+    #[tactic(auto, using(crate::proofs::PrologueKeys::declares_key), unfolding(crate::specs::Meaning::statement, crate::specs::Known::known_statement, crate::specs::Prologue::moves_base))]
+    pub(crate) fn statement(&mut self, statement: &Statement<'a>) -> Result<(), PrologueFault>
+        requires known { IsTrue (known.known_statement (declared self.old.prologue) statement.now) }
+        requires proper { IsTrue (proper.proper_statement statement.now) }
+        requires room { HasRoom 1 self.old }
+        ensures gives { Gives (spec.statement statement.now self.old) result self.new }
+        ensures declares { let before = declared self.old.prologue in
+            OnOk result (declared self.new.prologue ≡ declared_behind before statement.now) }
+        ensures room { OnOk result (TakesAtMost 1 self.old self.new) }
     {
         match statement {
             Statement::Prefix(prefix, reference) => {
                 let iri = self.resolved(reference)?;
-                self.declares(prefix, iri)
+                Ok(self.prologue.declare(prefix, iri)?)
             }
             Statement::Base(reference) => {
                 let base = self.resolved(reference)?;
-                self.moves_base(base)
+                self.prologue.set_base(base);
+                Ok(())
             }
-            Statement::Triples(node, properties) => {
-                let properties = properties.as_slice();
-                if !has_properties(node, properties) {
-                    return Err(TurtleFaultKind::Relative);
-                }
-                let subject = self.term(node)?;
-                self.inside(node, &subject)?;
-                self.properties(&subject, properties)
-            }
+            Statement::Triples(node, properties) => self.triples(node, properties.as_slice()),
         }
     }
 
     // Each statement's tree is let go when its triples are said.
-    fn document(&mut self, statements: Vec<Statement<'a>>) -> Result<(), TurtleFaultKind>
+    fn document(&mut self, statements: Vec<Statement<'a>>) -> Result<(), PrologueFault>
+        requires known { IsTrue (declares_first (declared self.old.prologue) statements.items) }
+        requires proper { IsTrue (list_all holds (map proper.proper_statement statements.items)) }
+        requires room { self.old.numbering.next ≤ length self.old.quads }
         ensures { Gives (spec.document statements.entry.items self.old) result self.new }
     {
         for statement in statements {
@@ -270,32 +324,27 @@ impl<'a> Scope<'a> {
 /// (Turtle 1.1, section 7).
 ///
 /// # Errors
-/// [`TurtleFaultKind::UnknownPrefix`] where a prefix is used that isn't declared before it, at the
-/// first such name; else [`TurtleFaultKind::Relative`] at the first relative reference without a
-/// base; [`TurtleFaultKind::NoMemory`] where memory is wanting.
+/// [`PrologueFault::UnknownPrefix`] where a prefix is used that isn't declared before it, at the first
+/// such name; else [`PrologueFault::Relative`] at the first relative reference without a base;
+/// [`PrologueFault::NoMemory`] where memory is wanting.
 #[tactic(auto, unfolding(crate::specs::Meaning::triples_of))]
 pub(crate) fn triples_of(
     alloc: Global,
     base: Option<&Iri>,
     statements: Vec<Statement<'_>>,
-) -> Result<Vec<Quad>, PlacedFault>
+) -> Result<Vec<Quad>, PrologueFault>
+    requires { IsTrue (list_all holds (map proper.proper_statement statements.items)) }
     ensures { MatchResult result
         (λ quads. spec.answer (option_copied base.entry) statements.entry.items ≡ Ok quads.items)
-        (λ fault. IsFaultOf (spec.answer (option_copied base.entry) statements.entry.items) fault.kind) }
+        (λ fault. IsFaultOf (spec.answer (option_copied base.entry) statements.entry.items) fault) }
 {
     if let Some(start) = first_unknown(alloc, statements.as_slice())? {
-        return Err(PlacedFault {
-            kind: TurtleFaultKind::UnknownPrefix,
-            start,
-        });
+        return Err(PrologueFault::UnknownPrefix(start));
     }
     let mut scope = Scope::new(alloc, copied(base)?)?;
     match scope.document(statements) {
         Ok(()) => Ok(scope.into_quads()),
-        Err(kind) => Err(PlacedFault {
-            kind,
-            start: scope.at(),
-        }),
+        Err(fault) => Err(fault),
     }
 }
 

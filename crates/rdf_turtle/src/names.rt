@@ -1,11 +1,8 @@
 //! The IRIs of prefixed names, kept for the next time that a name stands in the text.
-ghost use Rattle.std.specs.Prelude.{◌≡◌, ◌++◌, IfOk, IfErr, IfSome};
-ghost use Rattle.rdf_turtle.specs.declared.fault.TurtleFaultKind.TheVariants as faults;
-ghost use Rattle.rdf_turtle.specs.References as references;
-ghost use Rattle.rdf_turtle.specs.Kept.{Finds};
+ghost use Rattle.std.specs.Prelude.{◌≡◌, ◌++◌, false, IfOk, IfSome};
+ghost use Rattle.rdf_terms.specs.Iri.{has_forbidden};
 ghost use Rattle.rdf_tokens.specs.Values as values;
 
-use crate::fault::TurtleFaultKind;
 use rdf_terms::{Iri, NoMemory, Text};
 use rdf_tokens::{Slice, local_value};
 use std::alloc::Global;
@@ -31,17 +28,16 @@ fn joined_local(alloc: Global, front: &str, local: &Slice<'_>) -> Result<Text, N
     joined(alloc, front, value.as_str())
 }
 
-/// The text, which must be an IRI.
-#[tactic(auto, unfolding(crate::specs::References::iri_text))]
-fn iri_text(text: Text) -> Result<Iri, TurtleFaultKind>
-    ensures found { Finds (references.iri_text text) result }
-    ensures value { IfOk result (λ iri. iri ≡ text) }
-    ensures fault { IfErr result (λ e. e ≡ faults.Relative) }
+// What a prefix stands for, and a local part behind it.
+fn pname(alloc: Global, front: &Iri, local: &Slice<'_>) -> Result<Iri, NoMemory>
+    requires { has_forbidden (values.local_value local.now) ≡ false }
+    ensures { IfOk result (λ iri. iri ≡ front.now ++ values.local_value local.now) }
 {
-    match Iri::from_text(text) {
-        Ok(iri) => Ok(iri),
-        Err(_) => Err(TurtleFaultKind::Relative),
-    }
+    let text = joined_local(alloc, front.as_str(), local)?;
+    let Ok(iri) = Iri::from_text(text) else {
+        unreachable!()
+    };
+    Ok(iri)
 }
 
 /// How many names are kept at once.
@@ -115,21 +111,22 @@ impl<'a> Names<'a> {
 
     /// The IRI of a name (Turtle 1.1, section 2.4): what its prefix stands for, and what its local
     /// part does.
-    #[tactic(auto, unfolding(crate::specs::References::iri_text))]
+    ///
+    /// # Errors
+    /// [`NoMemory`] where memory is wanting.
     pub(crate) fn iri(
         &mut self,
         alloc: Global,
         front: &Iri,
         local: &Slice<'a>,
-    ) -> Result<Iri, TurtleFaultKind>
-        ensures { Finds (references.iri_text (front.now ++ values.local_value local.now)) result }
+    ) -> Result<Iri, NoMemory>
+        requires { has_forbidden (values.local_value local.now) ≡ false }
+        ensures { IfOk result (λ iri. iri ≡ front.now ++ values.local_value local.now) }
     {
         if let Some(iri) = self.kept(front, local)? {
-            let _ = iri.as_str();
             return Ok(iri);
         }
-        let text = joined_local(alloc, front.as_str(), local)?;
-        let iri = iri_text(text)?;
+        let iri = pname(alloc, front, local)?;
         self.keep(front, local, &iri)?;
         Ok(iri)
     }

@@ -1,11 +1,15 @@
 //! Documents without a fault, read statement by statement.
 ghost use Rattle.std.specs.Prelude.{◌≡◌, List, Ok, IfSome};
+ghost use Rattle.std.specs.List.{AllByRecursion};
 ghost use Rattle.std.specs.Bool.{OnTrue};
 ghost use Rattle.std.specs.Option.{option_copied};
 ghost use Rattle.rdf_turtle.specs.declared.tree.Statement.{Statement as Tree};
 ghost use Rattle.rdf_turtle.specs.Grammar.{IsDocument};
 ghost use Rattle.rdf_turtle.specs.Meaning.{answer};
 ghost use Rattle.rdf_turtle.specs.Nesting.{IsTooDeep};
+ghost use Rattle.rdf_turtle.specs.Formed.{Formed};
+ghost use Rattle.rdf_turtle.specs.Prologue as prologue;
+ghost use Rattle.rdf_turtle.specs.Room.{HasRoom};
 ghost use Rattle.rdf_turtle.specs.Turns.{Turn};
 
 use crate::key::Key;
@@ -25,6 +29,9 @@ fn turn<'a>(
     scope: &mut Scope<'a>,
     declared: &mut IndexSet<Key<'a>>,
 ) -> bool
+    requires formed { AllByRecursion Formed parser.old }
+    requires known { declared.old.keys ≡ prologue.declared scope.old.prologue }
+    requires room { HasRoom 1 scope.old }
     ensures { OnTrue result (Turn parser.old parser.new scope.old scope.new declared.old.keys declared.new.keys) }
 {
     let Ok(statement) = statement(parser) else {
@@ -50,6 +57,7 @@ pub(crate) fn straight_triples(
     base: Option<&Iri>,
     lexemes: &[Lexeme<'_>],
 ) -> Option<Vec<Quad>>
+    requires { AllByRecursion Formed lexemes.now }
     ensures { IfSome result (λ quads. (tree : List Tree) × ¬ (IsTooDeep lexemes.now) × IsDocument lexemes.now tree
         × (answer (option_copied base.entry) tree ≡ Ok quads.items)) }
 {

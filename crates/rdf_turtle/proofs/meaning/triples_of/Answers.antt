@@ -10,6 +10,6 @@ use Rattle.rdf_turtle.proofs.meaning.triples_of.Goals as goal
 pub returns-in-Err : goal.returns-in-Err
 returns-in-Err c =
     let declared : declares_first [] c.args.statements.items ≡ true = search rules in
-    let fails : Fails (document c.args.statements.items (start (option_copied c.args.base))) c.in-Err.kind =
+    let fails : Fails (document c.args.statements.items (start (option_copied c.args.base))) c.in-Err.fault =
     rw (sym c.in_ok-copied.ensures, sym c.in_ok-scope.ensures) c.in-Err.ensures in
-    document_fails (option_copied c.args.base) c.args.statements.items c.in-Err.kind declared fails
+    document_fails (option_copied c.args.base) c.args.statements.items c.in-Err.fault declared fails

@@ -1,12 +1,21 @@
-use Rattle.std.proofs.Common.{◌≡◌, sym, []}
+use Rattle.std.proofs.Common.{◌≡◌, sym, [], arith}
 use Rattle.rdf_turtle.proofs.GrammarWhole.{shallow}
-use Rattle.rdf_turtle.proofs.StraightReading.{read_starts_at, read_on, read_done}
+use Rattle.rdf_turtle.proofs.StraightReading.{read_starts_at, read_on, read_done, some_left}
 use Rattle.rdf_turtle.proofs.straight.straight_triples.Goals as goal
 
 pub loop-parser-init : goal.loop-parser-init
 loop-parser-init c =
     let none : c.new-declared.result.keys ≡ [] = c.new-declared.ensures.empty in
-    read_starts_at _ _ _ _ _ _ c.in-Ok.ensures c.in-Ok-new.ensures none c.new-parser.ensures
+    read_starts_at _ _ _ _ _ _ c.requires c.in-Ok.ensures c.in-Ok-new.ensures none c.new-parser.ensures
+
+pub turn-requires-clause-formed : goal.turn-requires-clause-formed
+turn-requires-clause-formed c = c.loop-parser.invariant.formed
+
+pub turn-requires-clause-known : goal.turn-requires-clause-known
+turn-requires-clause-known c = c.loop-parser.invariant.prefixes
+
+pub turn-requires-clause-room : goal.turn-requires-clause-room
+turn-requires-clause-room c = omega (arith, c.loop-parser.invariant.room, some_left _ (sym c.loop-parser-test.ensures))
 
 pub loop-parser-smaller : goal.loop-parser-smaller
 loop-parser-smaller c = c.if-not-turn.ensures.shorter

@@ -1,5 +1,6 @@
--- The IRIs that Turtle's short forms stand for (Turtle 1.1, sections 2.4, 2.5 and 2.8; RDF Schema 1.1, section 5.2).
-use Rattle.std.specs.Prelude.{ℕ, Bool, true, false, List, codes}
+-- The IRIs of RDF's and XML Schema's vocabularies that the short forms of Turtle and SPARQL stand for (Turtle 1.1, sections 2.4,
+-- 2.5 and 2.8; RDF Schema 1.1, sections 3.1 and 5.2; RDF 1.1 Concepts, section 5.1).
+use Rattle.std.specs.Prelude.{ℕ, List, codes}
 
 abbrev pub rdf_type : List ℕ
 rdf_type = codes "http://www.w3.org/1999/02/22-rdf-syntax-ns#type"
@@ -24,7 +25,3 @@ xsd_double = codes "http://www.w3.org/2001/XMLSchema#double"
 
 abbrev pub xsd_boolean : List ℕ
 xsd_boolean = codes "http://www.w3.org/2001/XMLSchema#boolean"
-
-abbrev pub boolean_text : Bool → List ℕ
-boolean_text true = codes "true"
-boolean_text false = codes "false"

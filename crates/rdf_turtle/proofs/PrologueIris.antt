@@ -1,0 +1,47 @@
+-- The IRIs of references and names.
+use Rattle.std.proofs.Common.{◌≡◌, ◌↔◌, ◌∙◌, ap, refl, sym, subst, ℕ, Bool, true, false, ◌&&◌, ◌||◌, not, List, ◌++◌, Option, Some, Result, Ok, Err, IsTrue, true≢false}
+use Rattle.std.specs.Prelude.{IsErrOf}
+use Rattle.std.proofs.lemmas.Bool.{and_parts}
+use Rattle.std.proofs.lemmas.List.Folds.{list_any-append}
+use Rattle.std.specs.Str.{is_utf8}
+use Rattle.rdf_terms.specs.Iri.{is_iri, is_forbidden, has_scheme, has_forbidden}
+use Rattle.rdf_terms.specs.Resolution.{Means}
+use Rattle.rdf_terms.specs.declared.fault.IriFault.{IriFault}
+use Rattle.rdf_terms.specs.declared.fault.IriFault.TheVariants as fault
+use Rattle.rdf_turtle.specs.Prologue.{Prologue, resolved}
+use Rattle.rdf_turtle.specs.References.{resolve}
+use Rattle.rdf_tokens.specs.Values.{iri_value}
+use Rattle.rdf_turtle.proofs.ScopeReferences.{resolve_found}
+use Rattle.rdf_tokens.proofs.CallerLemmas.{iri_value_allowed}
+use Rattle.rdf_tokens.proofs.CallerLemmas.{has_scheme_after}
+
+-- what is meant is what is resolved
+pub resolved_is : (p : Prologue) (base : Option (List ℕ)) (reference text iri : List ℕ) → base ≡ p.base → text ≡ iri_value reference → Means base text iri → resolved reference p ≡ Some iri
+unfolding resolved
+resolved_is p base reference text iri b t m =
+    let of_base : Means p.base text iri = subst (λ (o : Option (List ℕ)). Means o text iri) b m in
+    let of_text : Means p.base (iri_value reference) iri = subst (λ (r : List ℕ). Means p.base r iri) t of_base in
+    resolve_found p.base (iri_value reference) iri of_text (iri_value_allowed reference)
+
+pub never_forbidden : (reference text : List ℕ) → text ≡ iri_value reference → IsTrue (has_forbidden text) → ⊥
+never_forbidden reference text t bad = true≢false (sym bad ∙ ap has_forbidden t ∙ iri_value_allowed reference)
+
+neither : (a b : Bool) → not a ≡ true → b ≡ false → (a || b) ≡ false
+neither true b n e = absurd (true≢false (sym n))
+neither false b n e = e
+
+-- behind an IRI come characters that may stand in one
+pub behind_iri : (iri more : List ℕ) → IsTrue (is_iri iri) → has_forbidden more ≡ false → (has_scheme (iri ++ more) ≡ true) × (has_forbidden (iri ++ more) ≡ false)
+behind_iri iri more h allowed =
+    let p = and_parts (is_utf8 iri) (has_scheme iri && not (has_forbidden iri)) h in
+    let q = and_parts (has_scheme iri) (not (has_forbidden iri)) p.1 in
+    (has_scheme_after iri more q.0, list_any-append is_forbidden iri more ∙ neither (has_forbidden iri) (has_forbidden more) q.1 allowed)
+
+-- what has a scheme and no forbidden character is taken for an IRI
+pub never_refused : {A : Type 0} (r : Result A IriFault) (text : List ℕ) → has_scheme text ≡ true → has_forbidden text ≡ false
+    → (IsErrOf r fault.Relative ↔ (has_scheme text ≡ false)) → (IsErrOf r fault.BadCharacter ↔ IsTrue (has_scheme text && has_forbidden text)) → (IsErrOf r fault.NoMemory → ⊥)
+    → ((x : A) → r ≡ Ok x → ⊥) → ⊥
+never_refused (Ok x) text scheme allowed relative bad memory not_ok = not_ok x refl
+never_refused (Err fault.Relative) text scheme allowed relative bad memory not_ok = true≢false (sym scheme ∙ relative.0 refl)
+never_refused (Err fault.BadCharacter) text scheme allowed relative bad memory not_ok = true≢false (sym (and_parts (has_scheme text) (has_forbidden text) (bad.0 refl)).1 ∙ allowed)
+never_refused (Err fault.NoMemory) text scheme allowed relative bad memory not_ok = memory refl

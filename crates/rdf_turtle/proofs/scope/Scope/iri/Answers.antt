@@ -1,0 +1,12 @@
+use Rattle.std.proofs.Common.{◌≡◌, IfOk, Some, rules}
+use Rattle.std.specs.Prelude.{IfErr}
+use Rattle.rdf_turtle.specs.Prologue.{iri_of}
+use Rattle.rdf_turtle.specs.PrologueFaults.{Explains}
+use Rattle.rdf_turtle.proofs.PrologueSteps.{iri_gives}
+use Rattle.rdf_turtle.proofs.scope.Scope.iri.Goals as goal
+
+pub returns-clause-gives : goal.returns-clause-gives
+returns-clause-gives c =
+    let value : IfOk c.iri.result (λ i. iri_of c.args.name.now c.args.self.now.prologue ≡ Some i) = search rules in
+    let fault : IfErr c.iri.result (λ e. Explains c.args.self.now.prologue c.args.name.now e) = search rules in
+    iri_gives c.args.name.now c.args.self.now _ c.iri.result c.requires.known value fault (search rules)

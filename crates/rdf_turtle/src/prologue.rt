@@ -1,0 +1,145 @@
+//! The base and the prefixes in force, and the IRIs of names.
+ghost use Rattle.std.specs.Prelude.{◌≡◌, Some, IfOk, IfErr, OnOk, OnErr, IsTrue};
+ghost use Rattle.rdf_turtle.specs.Keys.{key_of};
+ghost use Rattle.rdf_turtle.specs.Prologue as spec;
+ghost use Rattle.rdf_turtle.specs.PrologueFaults.{Explains};
+
+use crate::key::Key;
+use crate::names::Names;
+use rdf_tokens::Slice;
+use crate::tree::Name;
+use rdf_tokens::iri_value;
+use indexmap::IndexMap;
+use rdf_terms::{Iri, IriFault, NoMemory, resolve};
+use std::alloc::Global;
+use std::marker::Model;
+
+/// Why a name has no IRI.
+#[derive(Clone, Copy, Debug, PartialEq, Eq)]
+pub(crate) enum PrologueFault {
+    /// The prefix that starts at this byte of the text isn't declared before it.
+    UnknownPrefix(usize),
+    /// The reference that starts at this byte of the text is relative, and there is no base.
+    Relative(usize),
+    /// Memory was wanting.
+    NoMemory(NoMemory),
+}
+
+impl From<NoMemory> for PrologueFault {
+    ghost use Rattle.rdf_turtle.specs.declared.prologue.PrologueFault.TheVariants.{NoMemory as WantsMemory};
+
+    ghost from_gives = { λ e f. f ≡ WantsMemory e };
+
+    fn from(e: NoMemory) -> PrologueFault {
+        PrologueFault::NoMemory(e)
+    }
+}
+
+/// The base and the prefixes in force (Turtle 1.1, section 6.5; SPARQL 1.1 Query, section 4.1.1). The
+/// IRIs of names that were looked at are kept for the next time that they stand in the text.
+#[derive(Drop)]
+pub(crate) struct Prologue<'a> {
+    alloc: Global,
+    base: Option<Iri>,
+    prefixes: IndexMap<Key<'a>, Iri>,
+    names: Names<'a>,
+}
+
+impl<'a> Model for Prologue<'a> {
+    ghost use Rattle.rdf_turtle.specs.Prologue as spec;
+
+    ghost Value = { spec.Prologue };
+
+    ghost view = { λ p. record { base = p.base; prefixes = p.prefixes.entries } };
+}
+
+impl<'a> Prologue<'a> {
+    /// This base, and no prefixes.
+    ///
+    /// # Errors
+    /// [`NoMemory`] where memory is wanting.
+    pub(crate) fn new(alloc: Global, base: Option<Iri>) -> Result<Prologue<'a>, NoMemory>
+        ensures { IfOk result (λ prologue. prologue ≡ spec.start base) }
+    {
+        Ok(Prologue {
+            alloc,
+            base,
+            prefixes: IndexMap::new(alloc),
+            names: Names::new(alloc)?,
+        })
+    }
+
+    /// Declares a prefix: from here on it stands for this IRI.
+    ///
+    /// # Errors
+    /// [`NoMemory`] where memory is wanting; then nothing is declared.
+    #[tactic(auto, unfolding(crate::specs::Prologue::declares))]
+    pub(crate) fn declare(&mut self, prefix: &Slice<'a>, iri: Iri) -> Result<(), NoMemory>
+        ensures declared { OnOk result (self.new ≡ spec.declares (key_of prefix.now) iri self.old) }
+        ensures kept { OnErr result (self.new ≡ self.old) }
+    {
+        self.prefixes.insert(Key::of(prefix), iri)?;
+        Ok(())
+    }
+
+    /// Moves the base.
+    #[tactic(auto, unfolding(crate::specs::Prologue::moves_base))]
+    pub(crate) fn set_base(&mut self, iri: Iri)
+        ensures { self.new ≡ spec.moves_base iri self.old }
+    {
+        self.base = Some(iri);
+    }
+
+    /// The IRI that a reference means against the base in force (RFC 3986, section 5.2).
+    ///
+    /// # Errors
+    /// [`PrologueFault::Relative`] where the reference has no scheme and there is no base;
+    /// [`PrologueFault::NoMemory`] where memory is wanting.
+    #[tactic(auto, unfolding(crate::specs::Prologue::resolved))]
+    pub(crate) fn resolve(&self, reference: &Slice<'a>) -> Result<Iri, PrologueFault>
+        ensures value { IfOk result (λ iri. spec.resolved reference.now self.now ≡ Some iri) }
+        ensures fault { IfErr result (λ fault. Explains self.now (Name.Full reference.now) fault) }
+    {
+        let text = iri_value(self.alloc, reference)?;
+        match resolve(self.alloc, self.base.as_ref(), text.as_str()) {
+            Ok(iri) => Ok(iri),
+            Err(IriFault::Relative) => Err(PrologueFault::Relative(reference.start())),
+            Err(IriFault::BadCharacter) => unreachable!(),
+            Err(IriFault::NoMemory) => Err(PrologueFault::NoMemory(NoMemory)),
+        }
+    }
+
+    // The IRI of a prefix and a local part.
+    #[tactic(auto, unfolding(crate::specs::Prologue::prefixed))]
+    fn prefixed(&mut self, prefix: &Slice<'a>, local: &Slice<'a>) -> Result<Iri, PrologueFault>
+        requires { IsTrue (spec.is_proper (Name.Prefixed prefix.now local.now)) }
+        ensures value { let found = spec.prefixed prefix.now local.now self.old in
+            IfOk result (λ iri. found ≡ Some iri) }
+        ensures fault { let name = Name.Prefixed prefix.now local.now in
+            IfErr result (λ fault. Explains self.old name fault) }
+        ensures same { self.new ≡ self.old }
+    {
+        let Some(front) = self.prefixes.get(&Key::of(prefix)) else {
+            return Err(PrologueFault::UnknownPrefix(prefix.start()));
+        };
+        Ok(self.names.iri(self.alloc, front, local)?)
+    }
+
+    /// The IRI of a name (Turtle 1.1, section 2.4).
+    ///
+    /// # Errors
+    /// [`PrologueFault::UnknownPrefix`] where its prefix isn't declared; [`PrologueFault::Relative`]
+    /// where it is a relative reference and there is no base; [`PrologueFault::NoMemory`] where memory
+    /// is wanting.
+    pub(crate) fn iri(&mut self, name: &Name<'a>) -> Result<Iri, PrologueFault>
+        requires { IsTrue (spec.is_proper name.now) }
+        ensures value { IfOk result (λ iri. spec.iri_of name.now self.old ≡ Some iri) }
+        ensures fault { IfErr result (λ fault. Explains self.old name.now fault) }
+        ensures same { self.new ≡ self.old }
+    {
+        match name {
+            Name::Full(reference) => self.resolve(reference),
+            Name::Prefixed(prefix, local) => self.prefixed(prefix, local),
+        }
+    }
+}
