@@ -37,12 +37,15 @@ graph_below next (Named t) h = term_below next t h
 
 all_below : (next : ℕ) (qs : List QuadParts) → blank_limit qs ≤ next → AreBelow next qs
 all_below next [] h = tt
-all_below next (q ∷ qs) h = (record {
-  graph = graph_below next q.graph (omega (arith, h));
-  subject = term_below next q.subject (omega (arith, h));
-  predicate = term_below next q.predicate (omega (arith, h));
-  object = term_below next q.object (omega (arith, h));
-}, all_below next qs (omega (arith, h)))
+all_below next (q ∷ qs) h = (
+  record {
+    graph = graph_below next q.graph (omega (arith, h));
+    subject = term_below next q.subject (omega (arith, h));
+    predicate = term_below next q.predicate (omega (arith, h));
+    object = term_below next q.object (omega (arith, h));
+  },
+  all_below next qs (omega (arith, h)),
+)
 
 -- what was counted is the limit, where it is no greater than the last number
 pub counted_below : (qs : List QuadParts) (count : ℕ) → count ≡ min (blank_limit qs) (last_number + 1) → count ≤ last_number → AreBelow count qs

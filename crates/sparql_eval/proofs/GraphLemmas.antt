@@ -57,7 +57,7 @@ emptied_each-quads s [] = sym (kept_all quad_cmp_total quad_cmp-IsAntisymmetric 
 emptied_each-quads s (n ∷ ns) =
     emptied_each-quads (emptied s (Named n)) ns
     ∙ kept_twice quad_cmp_total quad_cmp-IsAntisymmetric s.quads (λ q. not (same_graph (Named n) q.graph)) (λ q. not (list_any (names_it q.graph) ns)) (λ q. not (names_it q.graph n || list_any (names_it q.graph) ns))
-      (λ q. not_either (same_graph (Named n) q.graph) (list_any (names_it q.graph) ns))
+    (λ q. not_either (same_graph (Named n) q.graph) (list_any (names_it q.graph) ns))
   where
     not_either : (a b : Bool) → (not a && not b) ≡ not (a || b)
     not_either true b = refl
@@ -128,7 +128,7 @@ gone_each-quads s [] = sym (kept_all quad_cmp_total quad_cmp-IsAntisymmetric s.q
 gone_each-quads s (n ∷ ns) =
     gone_each-quads (gone s (Named n)) ns
     ∙ kept_twice quad_cmp_total quad_cmp-IsAntisymmetric s.quads (λ q. not (same_graph (Named n) q.graph)) (λ q. not (list_any (names_it q.graph) ns)) (λ q. not (names_it q.graph n || list_any (names_it q.graph) ns))
-      (λ q. not_either (same_graph (Named n) q.graph) (list_any (names_it q.graph) ns))
+    (λ q. not_either (same_graph (Named n) q.graph) (list_any (names_it q.graph) ns))
   where
     not_either : (a b : Bool) → (not a && not b) ≡ not (a || b)
     not_either true b = refl
@@ -195,7 +195,7 @@ all_dropped s mid e =
     ap (λ t. dropped t some.Named) e
     ∙ (λ i. record {
       quads = (ap (λ z. retain z (λ q. not (not (is_default q.graph)))) (λ i. retain s.quads (λ q. default_apart q i))
-        ∙ kept_twice quad_cmp_total quad_cmp-IsAntisymmetric s.quads (λ q. not (is_default q.graph)) (λ q. not (not (is_default q.graph))) (λ q. false) (λ q. none_stays (is_default q.graph))) i;
+          ∙ kept_twice quad_cmp_total quad_cmp-IsAntisymmetric s.quads (λ q. not (is_default q.graph)) (λ q. not (not (is_default q.graph))) (λ q. false) (λ q. none_stays (is_default q.graph))) i;
       names = retain s.names (λ n. false);
       next = s.next;
     })

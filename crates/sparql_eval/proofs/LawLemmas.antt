@@ -71,7 +71,7 @@ carried quads g h q =
     contains-from_list quad_cmp_total (map (quad_in h) (set.items here)) (quad_in h q)
     ∙ any_map (eq_by_cmp quad_cmp (quad_in h q)) (quad_in h) (set.items here)
     ∙ any_alike (λ x. eq_by_cmp quad_cmp (quad_in h q) (quad_in h x)) (eq_by_cmp quad_cmp (quad_in g q)) (set.items here)
-      (λ x a. alike x (and_second (contains quads x) _ (sym (contains-kept quad_cmp_total quad_cmp-IsAntisymmetric quads (λ q. same_graph g q.graph) x) ∙ contains-items here x ∙ a)))
+    (λ x a. alike x (and_second (contains quads x) _ (sym (contains-kept quad_cmp_total quad_cmp-IsAntisymmetric quads (λ q. same_graph g q.graph) x) ∙ contains-items here x ∙ a)))
     ∙ sym (contains-items here (quad_in g q))
   where
     alike : (x : QuadParts) → same_graph g x.graph ≡ true → eq_by_cmp quad_cmp (quad_in h q) (quad_in h x) ≡ eq_by_cmp quad_cmp (quad_in g q) x
@@ -140,7 +140,7 @@ move_is_copy_then_drop s silent from to there out =
     there_leads s (onto g h s (moved s g h)) silent (is_there s g) there
     ∙ ap (λ b. Ok (if b then s else moved s g h)) out
     ∙ sym (ap (λ z. go_on z (λ t. step t (Drop silent (reference from)))) (there_leads s (onto g h s (copied s g h)) silent (is_there s g) there ∙ ap (λ b. Ok (if b then s else copied s g h)) out)
-      ∙ dropped_leads (copied s g h) silent from h s refl (still_there s g h there))
+    ∙ dropped_leads (copied s g h) silent from h s refl (still_there s g h there))
 
 -- ---- INSERT DATA
 
@@ -188,8 +188,9 @@ within false false h = refl
 pub insert_again : InsertAgain
 insert_again s t brought sound all leads =
     let qs = map (quad_from s.next) brought.quads in
-    let led : with_data s brought.quads brought.blanks ≡ t = not_silent s (with_data s brought.quads brought.blanks) t _ leads in
-    (ap (λ (z : State). z.quads) (sym led) ∙ same_set quad_cmp_total quad_cmp-IsAntisymmetric _ _ (λ q.
-      contains-union quad_cmp_total s.quads (from_list qs) q ∙ ap (λ b. contains s.quads q || b) (contains-from_list quad_cmp_total qs q) ∙ within (contains s.quads q) _ (all_there s.quads qs q all)),
-    ap (λ (z : State). z.names) (sym led) ∙ same_set term_cmp_total term_cmp-IsAntisymmetric _ _ (λ n.
-      contains-union term_cmp_total s.names (from_list (flat_map names_in qs)) n ∙ ap (λ b. contains s.names n || b) (contains-from_list term_cmp_total (flat_map names_in qs) n) ∙ within (contains s.names n) _ (names_there s qs n sound all)))
+    let led : with_data s brought.quads brought.blanks ≡ t = not_silent s (with_data s brought.quads brought.blanks) t _ leads in (
+      ap (λ (z : State). z.quads) (sym led) ∙ same_set quad_cmp_total quad_cmp-IsAntisymmetric _ _ (λ q.
+          contains-union quad_cmp_total s.quads (from_list qs) q ∙ ap (λ b. contains s.quads q || b) (contains-from_list quad_cmp_total qs q) ∙ within (contains s.quads q) _ (all_there s.quads qs q all)),
+      ap (λ (z : State). z.names) (sym led) ∙ same_set term_cmp_total term_cmp-IsAntisymmetric _ _ (λ n.
+          contains-union term_cmp_total s.names (from_list (flat_map names_in qs)) n ∙ ap (λ b. contains s.names n || b) (contains-from_list term_cmp_total (flat_map names_in qs) n) ∙ within (contains s.names n) _ (names_there s qs n sound all)),
+    )

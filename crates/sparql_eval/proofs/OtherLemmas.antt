@@ -156,13 +156,14 @@ led s t u false (Some fault) e = absurd (true≢false (sym (ap is_ok e)))
 
 others : (s t : State) (operation : Operation) (g : GraphName) → (t ≡ s) ⊎ (t ≡ after s operation) → writes s operation g ≡ false → (quads_of t.quads g ≡ quads_of s.quads g) × (is_there t g ≡ is_there s g)
 others s t operation g (inl same) out = (ap (λ (z : State). quads_of z.quads g) same, ap (λ z. is_there z g) same)
-others s t operation g (inr is) out =
-    (ap (λ (z : State). quads_of z.quads g) is
+others s t operation g (inr is) out = (
+  ap (λ (z : State). quads_of z.quads g) is
       ∙ same_set quad_cmp_total quad_cmp-IsAntisymmetric _ _ (λ q.
-        contains-kept quad_cmp_total quad_cmp-IsAntisymmetric (after s operation).quads (λ x. same_graph g x.graph) q
-        ∙ where_second (contains (after s operation).quads q) (contains s.quads q) (same_graph g q.graph) (quads_kept s operation g q out)
-        ∙ sym (contains-kept quad_cmp_total quad_cmp-IsAntisymmetric s.quads (λ x. same_graph g x.graph) q)),
-    ap (λ z. is_there z g) is ∙ there_kept s operation g out)
+      contains-kept quad_cmp_total quad_cmp-IsAntisymmetric (after s operation).quads (λ x. same_graph g x.graph) q
+      ∙ where_second (contains (after s operation).quads q) (contains s.quads q) (same_graph g q.graph) (quads_kept s operation g q out)
+      ∙ sym (contains-kept quad_cmp_total quad_cmp-IsAntisymmetric s.quads (λ x. same_graph g x.graph) q)),
+  ap (λ z. is_there z g) is ∙ there_kept s operation g out,
+)
 
 pub others_stay : OthersStay
 others_stay s t operation g leads out = others s t operation g (led s (after s operation) t (is_silent operation) (obstacle s operation) leads) out

@@ -68,7 +68,7 @@ pub quad_in-made : (g : GraphName) (q : QuadParts) (s p o : Term) (r : Option Qu
 quad_in-made g q s p o r es ep eo e named sound =
     e ∙ (λ i. let parts : QuadParts = record { graph = g; subject = es i; predicate = ep i; object = eo i } in if has_right_kinds parts then Some parts else None)
     ∙ ap (λ b. if b then Some (quad_in g q) else None)
-      (literal_and (may_name_graph g) (may_name_graph q.graph) (not (is_literal_term q.subject) && is_iri_term q.predicate) named (and_first (has_right_kinds q) _ sound))
+    (literal_and (may_name_graph g) (may_name_graph q.graph) (not (is_literal_term q.subject) && is_iri_term q.predicate) named (and_first (has_right_kinds q) _ sound))
 
 -- the name of the graph comes last
 abbrev pub named : State → GraphName → State
@@ -120,9 +120,9 @@ found_all : (s : State) (g : GraphName) (old found : List QuadParts) → old ≡
 found_all s g old found none l =
     ap from_list (front_nothing old found l.found none l.appended) ∙ l.each_once.all
     ∙ same_set quad_cmp_total quad_cmp-IsAntisymmetric _ _ (λ q.
-      contains-kept quad_cmp_total quad_cmp-IsAntisymmetric s.quads (matches g None None None) q
-      ∙ ap (λ b. contains s.quads q && b) (matches_all g q)
-      ∙ sym (contains-kept quad_cmp_total quad_cmp-IsAntisymmetric s.quads (λ q. same_graph g q.graph) q))
+    contains-kept quad_cmp_total quad_cmp-IsAntisymmetric s.quads (matches g None None None) q
+    ∙ ap (λ b. contains s.quads q && b) (matches_all g q)
+    ∙ sym (contains-kept quad_cmp_total quad_cmp-IsAntisymmetric s.quads (λ q. same_graph g q.graph) q))
 
 -- some of the quads of one graph have come into another, and the rest are to come
 pub record IsAdding (s now : State) (g h : GraphName) (rest : List QuadParts) : Type 0 where
@@ -137,7 +137,7 @@ adding_begins s g h old found rest sound none l e =
       all = ap (λ xs. named (with_all s (map (quad_in h) xs)) h) e
           ∙ (λ i. record { quads = union s.quads (listed_in (quads_of s.quads g) h found all i); names = names_come s.names h found i; next = s.next });
       below = subst (AreBelow s.next) (sym e) (each_item quad_cmp_total quad_cmp-IsAntisymmetric (IsQuadBelow s.next) found (λ q a.
-        sound.quads_below q (and_first (contains s.quads q) _ (sym (contains-kept quad_cmp_total quad_cmp-IsAntisymmetric s.quads (λ q. same_graph g q.graph) q) ∙ ap (λ z. contains z q) (sym all) ∙ contains-from_list quad_cmp_total found q ∙ a))));
+          sound.quads_below q (and_first (contains s.quads q) _ (sym (contains-kept quad_cmp_total quad_cmp-IsAntisymmetric s.quads (λ q. same_graph g q.graph) q) ∙ ap (λ z. contains z q) (sym all) ∙ contains-from_list quad_cmp_total found q ∙ a))));
       counter = refl;
     }
 

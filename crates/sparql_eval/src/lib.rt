@@ -10,7 +10,7 @@ mod request;
 
 pub use fault::ApplyFault;
 pub use laws::{
-    copy_reads, drop_all_empties, insert_again, move_is_copy_then_drop, one_answer,
-    others_stay, silent_changes_nothing,
+    copy_reads, drop_all_empties, insert_again, move_is_copy_then_drop, one_answer, others_stay,
+    silent_changes_nothing,
 };
 pub use request::apply;

@@ -24,10 +24,7 @@ fn is_named<D: Source>(iri: &Iri, view: &Staged<'_, D>) -> Result<bool, NoMemory
     Ok(view.has_name(&Term::Iri(iri.copy()?)))
 }
 
-fn is_there<D: Source>(
-    graph: &GraphOrDefault,
-    view: &Staged<'_, D>,
-) -> Result<bool, NoMemory>
+fn is_there<D: Source>(graph: &GraphOrDefault, view: &Staged<'_, D>) -> Result<bool, NoMemory>
     ensures { IfOk result (λ there. there ≡ is_there view.now.now (graph_of graph.now)) }
 {
     match graph {
@@ -74,11 +71,8 @@ pub(crate) fn obstacle<D: Source>(
         Operation::Clear { graphs, .. } | Operation::Drop { graphs, .. } => {
             missing_of(graphs, view)
         }
-        Operation::Copy { from, .. }
-        | Operation::Move { from, .. }
-        | Operation::Add { from, .. } => {
-            Ok(unless(is_there(from, view)?, ApplyFault::MissingGraph))
-        }
+        Operation::Copy { from, .. } | Operation::Move { from, .. } | Operation::Add { from, .. } =>
+            { Ok(unless(is_there(from, view)?, ApplyFault::MissingGraph)) }
     }
 }
 

@@ -19,7 +19,11 @@ fn act<D: Source>(
     ensures beneath { view.new.under ≡ view.old.under }
 {
     if let Some(fault) = obstacle(operation, view)? {
-        return if is_silent(operation) { Ok(()) } else { Err(fault) };
+        return if is_silent(operation) {
+            Ok(())
+        } else {
+            Err(fault)
+        };
     }
     Ok(perform(alloc, operation, view)?)
 }

@@ -33,11 +33,20 @@ pub enum Operation {
     /// DELETE DATA (section 3.1.2).
     DeleteData(GroundData),
     /// CREATE (section 3.2.1).
-    Create { silent: bool, graph: Iri },
+    Create {
+        silent: bool,
+        graph: Iri,
+    },
     /// CLEAR (section 3.1.5).
-    Clear { silent: bool, graphs: GraphRefAll },
+    Clear {
+        silent: bool,
+        graphs: GraphRefAll,
+    },
     /// DROP (section 3.2.2).
-    Drop { silent: bool, graphs: GraphRefAll },
+    Drop {
+        silent: bool,
+        graphs: GraphRefAll,
+    },
     /// COPY (section 3.2.3).
     Copy {
         silent: bool,

@@ -7,5 +7,7 @@ use Rattle.sparql_eval.proofs.graphs.drop_graph.Goals as goal
 
 pub drop_name-requires : goal.drop_name-requires
 drop_name-requires g c =
-    record { empty = subst (λ (t : State). IsEmptyGraph t (Named c.in-Named.name)) (sym c.in_ok-empty_graph.ensures.ok)
-      (subst (IsEmptyGraph (emptied c.args.view.now.now c.args.graph.now)) c.in-Named.is (emptied_is_empty c.args.view.now.now c.args.graph.now)) }
+    record {
+      empty = subst (λ (t : State). IsEmptyGraph t (Named c.in-Named.name)) (sym c.in_ok-empty_graph.ensures.ok)
+          (subst (IsEmptyGraph (emptied c.args.view.now.now c.args.graph.now)) c.in-Named.is (emptied_is_empty c.args.view.now.now c.args.graph.now));
+    }
