@@ -4,9 +4,9 @@ ghost use Rattle.rdf_turtle.specs.Keys.{key_of};
 ghost use Rattle.rdf_turtle.specs.Numbering as spec;
 
 use crate::key::Key;
-use rdf_tokens::Slice;
 use indexmap::IndexMap;
 use rdf_terms::NoMemory;
+use rdf_tokens::Slice;
 use std::alloc::Global;
 use std::marker::Model;
 

@@ -6,11 +6,10 @@ ghost use Rattle.rdf_turtle.specs.PrologueFaults.{Explains};
 
 use crate::key::Key;
 use crate::names::Names;
-use rdf_tokens::Slice;
 use crate::tree::Name;
-use rdf_tokens::iri_value;
 use indexmap::IndexMap;
 use rdf_terms::{Iri, IriFault, NoMemory, resolve};
+use rdf_tokens::{Slice, iri_value};
 use std::alloc::Global;
 use std::marker::Model;
 

@@ -11,9 +11,9 @@ ghost use Rattle.rdf_turtle.specs.State as state;
 
 use crate::numbering::Numbering;
 use crate::prologue::{Prologue, PrologueFault};
-use rdf_tokens::Slice;
 use crate::tree::Name;
 use rdf_terms::{GraphName, Iri, NoMemory, Quad, Term, Vocabulary};
+use rdf_tokens::Slice;
 use std::alloc::Global;
 use std::marker::Model;
 
