@@ -89,7 +89,7 @@ def verdicts(batch, said):
     if not re.search(r"(?m)^(only=|logic=(not-)?proved)", said):
         return {}, set()
     lines = dict(re.findall(r"(?m)^fn (\S+): (.*)", said))
-    failures, told, seen = {name: of for name, of in ((it, failure(it, lines[it])) for it in lines) if of}, {}, set()
+    failures, told, seen = {name: of for name, of in ((it, failure(it, lines[it], said)) for it in lines) if of}, {}, set()
     for it in batch:
         own = [name for name in failures if any(is_of(name, s) for s in it.symbols)]
         seen |= {*own}
@@ -111,15 +111,21 @@ def verdicts(batch, said):
     return told, others
 
 
-def failure(symbol, line):
+def failure(symbol, line, said):
     """What a check says of a function's own failure, if it fails by itself: not if it only stands on others that aren't proved."""
     if not re.match("not proved|no proof|could not tell", line):
         return ""
     text, (crate, _, path) = CALLS.sub("", line), symbol.partition("::")
     refused = re.search(r"; it stands on (.*), which antt refuses", text)
-    if refused and f"`Rattle.{crate}.proofs.{path.replace('::', '.')}." not in refused[1]:
+    # its own answers, or those of its cycle of calls, which lie beside it in a folder +NAME
+    own, module = path.replace("::", "."), path.replace("::", ".").rpartition(".")[0]
+    if refused and not re.search(rf"`Rattle\.{crate}\.proofs\.({re.escape(own)}|{re.escape(module)}\.\+\w+)\.", refused[1]):
         text = text.replace(refused[0], "")
         return "" if text == "not proved" else text
+    if text == "not proved" and text != line:
+        # a callee isn't proved: it fails by itself only where its answers do, or its cycle's
+        places = "|".join(re.escape(it.replace(".", "/")) for it in (own, f"{module}.+"))
+        return text if re.search(rf"(?m)^(\./)?proofs/({places})\w*/\w+\.antt:\d+:\d+: error", said) else ""
     return "" if text == "no proof" else text
 
 
