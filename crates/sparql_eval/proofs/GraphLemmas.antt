@@ -17,7 +17,7 @@ use Rattle.sparql_eval.specs.Graphs.{is_default, is_meant, quads_in, same_graph,
 use Rattle.sparql_eval.specs.Operations.{added, cleared, copied, dropped}
 use Rattle.sparql_eval.specs.Staging.{emptied, gone}
 use Rattle.sparql_eval.proofs.SetLemmas.{and_second, contains-kept, difference-more, difference-nothing, front_nothing, kept_alike, kept_all, kept_twice, tie_itself, tie_same, tie_sym}
-use Rattle.sparql_syntax.specs.declared.operation.GraphRefAll.TheVariants as some
+use Rattle.sparql_trees.specs.declared.operation.GraphRefAll.TheVariants as some
 
 -- ---- which graphs
 

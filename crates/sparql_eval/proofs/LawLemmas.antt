@@ -22,10 +22,10 @@ use Rattle.sparql_eval.specs.declared.fault.ApplyFault.TheVariants.{BlankNumbers
 use Rattle.sparql_eval.proofs.GraphLemmas.{default_gone, one_gone}
 use Rattle.sparql_eval.proofs.QuadLemmas.{any_map}
 use Rattle.sparql_eval.proofs.SetLemmas.{and_second, both_ways, contains-kept, kept_none, tie_itself, tie_same}
-use Rattle.sparql_syntax.specs.declared.operation.GraphOrDefault.{GraphOrDefault}
-use Rattle.sparql_syntax.specs.declared.operation.GraphOrDefault.TheVariants as one
-use Rattle.sparql_syntax.specs.declared.operation.GraphRefAll.TheVariants as some
-use Rattle.sparql_syntax.specs.declared.operation.Operation.TheVariants.{Drop}
+use Rattle.sparql_trees.specs.declared.operation.GraphOrDefault.{GraphOrDefault}
+use Rattle.sparql_trees.specs.declared.operation.GraphOrDefault.TheVariants as one
+use Rattle.sparql_trees.specs.declared.operation.GraphRefAll.TheVariants as some
+use Rattle.sparql_trees.specs.declared.operation.Operation.TheVariants.{Drop}
 
 pub one_answer : OneAnswer
 one_answer s t operations fault a b = true≢false (ap is_ok (sym a ∙ b))

@@ -20,8 +20,8 @@ use Rattle.sparql_eval.specs.Operations.{added, after, answer, copied, is_silent
 use Rattle.sparql_eval.specs.declared.fault.ApplyFault.{ApplyFault}
 use Rattle.sparql_eval.proofs.LawLemmas.{any_join, state_or}
 use Rattle.sparql_eval.proofs.SetLemmas.{and_true, contains-kept, or_false, tie_same, tie_sym}
-use Rattle.sparql_syntax.specs.declared.operation.Operation.{Operation}
-use Rattle.sparql_syntax.specs.declared.operation.Operation.TheVariants.{InsertData, DeleteData, Create, Clear, Drop, Copy, Move, Add}
+use Rattle.sparql_trees.specs.declared.operation.Operation.{Operation}
+use Rattle.sparql_trees.specs.declared.operation.Operation.TheVariants.{InsertData, DeleteData, Create, Clear, Drop, Copy, Move, Add}
 
 first_not : (a b : Bool) → (a || b) ≡ false → a ≡ false
 first_not true b h = h

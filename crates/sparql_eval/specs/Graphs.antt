@@ -8,10 +8,10 @@ use Rattle.rdf_terms.specs.declared.quad.GraphName.{GraphName}
 use Rattle.rdf_terms.specs.declared.quad.GraphName.TheVariants as name
 use Rattle.rdf_terms.specs.declared.term.Term.TheVariants.{Iri}
 use Rattle.rdf_dataset.specs.State.{State, Quads, Names}
-use Rattle.sparql_syntax.specs.declared.operation.GraphOrDefault.{GraphOrDefault}
-use Rattle.sparql_syntax.specs.declared.operation.GraphOrDefault.TheVariants as one
-use Rattle.sparql_syntax.specs.declared.operation.GraphRefAll.{GraphRefAll}
-use Rattle.sparql_syntax.specs.declared.operation.GraphRefAll.TheVariants as some
+use Rattle.sparql_trees.specs.declared.operation.GraphOrDefault.{GraphOrDefault}
+use Rattle.sparql_trees.specs.declared.operation.GraphOrDefault.TheVariants as one
+use Rattle.sparql_trees.specs.declared.operation.GraphRefAll.{GraphRefAll}
+use Rattle.sparql_trees.specs.declared.operation.GraphRefAll.TheVariants as some
 
 -- ---- which graphs
 

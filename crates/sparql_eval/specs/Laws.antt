@@ -11,13 +11,13 @@ use Rattle.rdf_dataset.specs.State.{State, IsSound, empty_state}
 use Rattle.sparql_eval.specs.Graphs.{graph_of, is_meant, is_there, quad_in, quads_of, same_graph}
 use Rattle.sparql_eval.specs.Operations.{Leads, go_on, is_silent, obstacle, step, steps}
 use Rattle.sparql_eval.specs.declared.fault.ApplyFault.{ApplyFault}
-use Rattle.sparql_syntax.specs.Data.{DataParts}
-use Rattle.sparql_syntax.specs.declared.operation.GraphOrDefault.{GraphOrDefault}
-use Rattle.sparql_syntax.specs.declared.operation.GraphOrDefault.TheVariants as one
-use Rattle.sparql_syntax.specs.declared.operation.GraphRefAll.{GraphRefAll}
-use Rattle.sparql_syntax.specs.declared.operation.GraphRefAll.TheVariants as some
-use Rattle.sparql_syntax.specs.declared.operation.Operation.{Operation}
-use Rattle.sparql_syntax.specs.declared.operation.Operation.TheVariants.{InsertData, DeleteData, Create, Clear, Drop, Copy, Move, Add}
+use Rattle.sparql_trees.specs.Data.{DataParts}
+use Rattle.sparql_trees.specs.declared.operation.GraphOrDefault.{GraphOrDefault}
+use Rattle.sparql_trees.specs.declared.operation.GraphOrDefault.TheVariants as one
+use Rattle.sparql_trees.specs.declared.operation.GraphRefAll.{GraphRefAll}
+use Rattle.sparql_trees.specs.declared.operation.GraphRefAll.TheVariants as some
+use Rattle.sparql_trees.specs.declared.operation.Operation.{Operation}
+use Rattle.sparql_trees.specs.declared.operation.Operation.TheVariants.{InsertData, DeleteData, Create, Clear, Drop, Copy, Move, Add}
 
 -- a request leads to a state or is refused, never both
 abbrev pub OneAnswer : Type 0

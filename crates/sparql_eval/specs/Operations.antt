@@ -10,10 +10,10 @@ use Rattle.rdf_dataset.specs.Insertion.{with_data}
 use Rattle.sparql_eval.specs.Graphs.{graph_of, is_meant, is_there, quads_in, quads_of, same_graph, without_graph, without_name_of}
 use Rattle.sparql_eval.specs.declared.fault.ApplyFault.{ApplyFault}
 use Rattle.sparql_eval.specs.declared.fault.ApplyFault.TheVariants.{MissingGraph, GraphExists, BlankNumbers, NoMemory}
-use Rattle.sparql_syntax.specs.declared.operation.GraphRefAll.{GraphRefAll}
-use Rattle.sparql_syntax.specs.declared.operation.GraphRefAll.TheVariants as some
-use Rattle.sparql_syntax.specs.declared.operation.Operation.{Operation}
-use Rattle.sparql_syntax.specs.declared.operation.Operation.TheVariants.{InsertData, DeleteData, Create, Clear, Drop, Copy, Move, Add}
+use Rattle.sparql_trees.specs.declared.operation.GraphRefAll.{GraphRefAll}
+use Rattle.sparql_trees.specs.declared.operation.GraphRefAll.TheVariants as some
+use Rattle.sparql_trees.specs.declared.operation.Operation.{Operation}
+use Rattle.sparql_trees.specs.declared.operation.Operation.TheVariants.{InsertData, DeleteData, Create, Clear, Drop, Copy, Move, Add}
 
 -- ---- effects
 

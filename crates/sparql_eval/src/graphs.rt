@@ -5,12 +5,12 @@ ghost use Rattle.rdf_terms.specs.Quad.{may_name_graph};
 ghost use Rattle.sparql_eval.specs.Graphs.{graph_of, same_graph};
 ghost use Rattle.sparql_eval.specs.Operations.{added, cleared, copied, dropped, moved, onto};
 ghost use Rattle.sparql_eval.specs.Staging.{gone};
-ghost use Rattle.sparql_syntax.specs.declared.operation.GraphRefAll.TheVariants.{Named as each_named};
+ghost use Rattle.sparql_trees.specs.declared.operation.GraphRefAll.TheVariants.{Named as each_named};
 
 use crate::quads::{add_graph, empty_graph, is_sound};
 use rdf_dataset::{Source, Staged};
 use rdf_terms::{GraphName, NoMemory, Term};
-use sparql_syntax::{GraphOrDefault, GraphRefAll};
+use sparql_trees::{GraphOrDefault, GraphRefAll};
 use std::alloc::Global;
 
 // The name of the graph.

@@ -12,7 +12,7 @@ use crate::graphs::{add, clear, copy, drop_graphs, move_graph};
 use crate::quads::remove_all;
 use rdf_dataset::{Source, Staged};
 use rdf_terms::{Iri, NoMemory, Quad, Term};
-use sparql_syntax::{Data, GraphOrDefault, GraphRefAll, Operation};
+use sparql_trees::{Data, GraphOrDefault, GraphRefAll, Operation};
 use std::alloc::Global;
 
 // The counter of blank nodes goes no further.

@@ -6,7 +6,7 @@ ghost use Rattle.sparql_eval.specs.Operations.{Tells, step, steps};
 use crate::fault::ApplyFault;
 use crate::operations::{is_silent, obstacle, perform};
 use rdf_dataset::{Source, Staged};
-use sparql_syntax::{Operation, Request};
+use sparql_trees::{Operation, Request};
 use std::alloc::Global;
 
 fn act<D: Source>(

@@ -1,1 +1,1 @@
-pub mod Data
+pub mod Drafts

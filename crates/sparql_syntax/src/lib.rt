@@ -1,8 +1,7 @@
-//! Updates of SPARQL 1.1 as trees, whose terms are resolved (SPARQL 1.1 Update, section 3).
+//! SPARQL 1.1 requests, from their text to trees whose terms are resolved (SPARQL 1.1 Query, section
+//! 19, and Update, section 3).
 #![tactic(auto)]
 
-mod data;
-mod operation;
+mod draft;
 
-pub use data::{Data, GroundData};
-pub use operation::{GraphOrDefault, GraphRefAll, Operation, Request};
+pub use sparql_trees::{Data, GraphOrDefault, GraphRefAll, GroundData, Operation, Request};

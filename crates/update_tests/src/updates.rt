@@ -5,7 +5,7 @@ ghost use Rattle.rdf_terms.specs.Below.{IsQuadBelow};
 use rdf_dataset::{Dataset, Source, Staged};
 use rdf_terms::{GraphName, Iri, Items, Quad, Term};
 use sparql_eval::apply;
-use sparql_syntax::{Data, GraphOrDefault, GraphRefAll, GroundData, Operation, Request};
+use sparql_trees::{Data, GraphOrDefault, GraphRefAll, GroundData, Operation, Request};
 use std::alloc::Global;
 
 fn iri(alloc: Global, text: &str) -> Option<Iri> {

@@ -3,7 +3,7 @@ use Rattle.std.specs.Vec.Iter.{into_iter_items, into_iter_len}
 use Rattle.sparql_eval.specs.Operations.{dropped}
 use Rattle.sparql_eval.proofs.GraphLemmas.{gone_each}
 use Rattle.sparql_eval.proofs.graphs.drop_named.Given as goal
-use Rattle.sparql_syntax.specs.declared.operation.GraphRefAll.TheVariants as some
+use Rattle.sparql_trees.specs.declared.operation.GraphRefAll.TheVariants as some
 
 abbrev pub invariant-loop-name : goal.invariant-loop-name
 invariant-loop-name g l = record {

@@ -1,7 +1,7 @@
 //! The data of an update: quads without variables (SPARQL 1.1 Update, sections 3.1.1 and 3.1.2).
 ghost use Rattle.std.specs.Prelude.{◌≡◌, IfOk};
 ghost use Rattle.rdf_terms.specs.Below.{AreBelow};
-ghost use Rattle.sparql_syntax.specs.Data.{DataParts};
+ghost use Rattle.sparql_trees.specs.Data.{DataParts};
 
 use rdf_terms::{Items, NoMemory, Quad};
 use std::alloc::Global;
@@ -17,7 +17,7 @@ pub struct Data {
 
 impl Model for Data {
     ghost use Rattle.rdf_terms.specs.Below.{AreBelow};
-    ghost use Rattle.sparql_syntax.specs.Data.{DataParts, coded_data};
+    ghost use Rattle.sparql_trees.specs.Data.{DataParts, coded_data};
 
     ghost Value = { DataParts };
 

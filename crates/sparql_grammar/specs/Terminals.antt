@@ -1,0 +1,114 @@
+-- The terminals of SPARQL's grammar (SPARQL 1.1 Query, section 19.8).
+use Rattle.std.specs.Prelude.{ℕ, Bool, if◌then◌else◌, List, codes, map, refl}
+use Rattle.std.specs.Char.{to_ascii_lowercase}
+use Rattle.std.specs.Str.{bytes_eq, encode_utf8_all}
+use denote.Enum.Bare.{sameb, same_true, true_same}
+use Rattle.rdf_tokens.specs.declared.token.Kind.{Kind}
+use Rattle.rdf_tokens.specs.declared.token.Kind.TheVariants as kind
+use Rattle.rdf_grammar.specs.declared.bracket.Bracket.{Bracket}
+use Rattle.rdf_grammar.specs.declared.bracket.Bracket.TheVariants as turn
+use Rattle.rdf_grammar.specs.Terminals.{TellsApart}
+use Rattle.sparql_grammar.specs.contracts.terminal.Terminal.{the_type}
+use Rattle.sparql_grammar.specs.declared.terminal.Terminal.{Terminal}
+use Rattle.sparql_grammar.specs.declared.terminal.Terminal.TheVariants as terminal
+
+-- ---- by the UTF-8 of slices
+
+abbrev pub without_case : List ℕ → List ℕ
+without_case text = map to_ascii_lowercase text
+
+abbrev pub is_word : List ℕ → List ℕ → Bool
+is_word word text = bytes_eq (without_case text) word
+
+-- words in any case: where an operation acts
+abbrev pub place_terminal : List ℕ → Terminal
+place_terminal text =
+    if is_word (codes "silent") text then terminal.Silent
+    else if is_word (codes "graph") text then terminal.Graph
+    else if is_word (codes "default") text then terminal.Default
+    else if is_word (codes "named") text then terminal.Named
+    else if is_word (codes "all") text then terminal.All
+    else if is_word (codes "to") text then terminal.To
+    else terminal.Other
+
+-- what is done to graphs
+abbrev pub graph_terminal : List ℕ → Terminal
+graph_terminal text =
+    if is_word (codes "create") text then terminal.Create
+    else if is_word (codes "clear") text then terminal.Clear
+    else if is_word (codes "drop") text then terminal.Drop
+    else if is_word (codes "copy") text then terminal.Copy
+    else if is_word (codes "move") text then terminal.Move
+    else if is_word (codes "add") text then terminal.Add
+    else place_terminal text
+
+-- declarations, data and truth values
+abbrev pub keyword_terminal : List ℕ → Terminal
+keyword_terminal text =
+    if is_word (codes "prefix") text then terminal.Prefix
+    else if is_word (codes "base") text then terminal.Base
+    else if is_word (codes "insert") text then terminal.Insert
+    else if is_word (codes "delete") text then terminal.Delete
+    else if is_word (codes "data") text then terminal.Data
+    else if is_word (codes "true") text then terminal.True
+    else if is_word (codes "false") text then terminal.False
+    else graph_terminal text
+
+-- `a` with just this letter; the other words in any case
+abbrev pub word_terminal : List ℕ → Terminal
+word_terminal text = if bytes_eq text (codes "a") then terminal.A else keyword_terminal text
+
+abbrev pub bracket_terminal : List ℕ → Terminal
+bracket_terminal text =
+    if bytes_eq text (codes "[") then terminal.OpenBracket
+    else if bytes_eq text (codes "]") then terminal.CloseBracket
+    else if bytes_eq text (codes "(") then terminal.Open
+    else if bytes_eq text (codes ")") then terminal.Close
+    else if bytes_eq text (codes "{") then terminal.OpenBrace
+    else if bytes_eq text (codes "}") then terminal.CloseBrace
+    else terminal.Other
+
+abbrev pub symbol_terminal : List ℕ → Terminal
+symbol_terminal text =
+    if bytes_eq text (codes ".") then terminal.Dot
+    else if bytes_eq text (codes ";") then terminal.Semicolon
+    else if bytes_eq text (codes ",") then terminal.Comma
+    else if bytes_eq text (codes "^^") then terminal.Caret
+    else bracket_terminal text
+
+abbrev pub terminal_by : Kind → List ℕ → Terminal
+terminal_by kind.Iri text = terminal.Iri
+terminal_by kind.Pname text = terminal.Pname
+terminal_by kind.BlankLabel text = terminal.BlankLabel
+terminal_by kind.AtWord text = terminal.AtWord
+terminal_by kind.Text text = terminal.Text
+terminal_by kind.Integer text = terminal.Integer
+terminal_by kind.Decimal text = terminal.Decimal
+terminal_by kind.Double text = terminal.Double
+terminal_by kind.Var text = terminal.Variable
+terminal_by kind.Word text = word_terminal text
+terminal_by kind.Symbol text = symbol_terminal text
+
+-- the terminal of a slice with the form of that kind
+abbrev pub terminal_of : Kind → List ℕ → Terminal
+terminal_of kind slice = terminal_by kind (encode_utf8_all slice)
+
+-- ---- what sets them apart
+
+unfoldable pub same_terminal : Terminal → Terminal → Bool
+same_terminal = sameb the_type
+
+pub apart : TellsApart same_terminal
+unfolding same_terminal
+apart = record { alike = λ k. true_same the_type k k refl; is = λ a b h. same_true the_type tt a b h }
+
+-- ---- brackets: `[`, `(` and `{`
+
+abbrev pub bracket : Terminal → Bracket
+bracket terminal.OpenBracket = turn.Opens
+bracket terminal.Open = turn.Opens
+bracket terminal.OpenBrace = turn.Opens
+bracket terminal.CloseBracket = turn.Closes
+bracket terminal.Close = turn.Closes
+bracket terminal.CloseBrace = turn.Closes
+bracket _ = turn.Neither

@@ -1,0 +1,233 @@
+//! The terminals of SPARQL's grammar.
+ghost use Rattle.std.specs.Prelude.{◌≡◌, map};
+ghost use Rattle.std.specs.Char.{to_ascii_lowercase};
+ghost use Rattle.std.specs.Str.{bytes_eq};
+ghost use Rattle.sparql_grammar.specs.Terminals as spec;
+
+use rdf_grammar::Bracket;
+use rdf_tokens::Kind;
+
+/// A terminal of SPARQL's grammar (SPARQL 1.1 Query, section 19.8). Keywords are read in any case.
+#[derive(Clone, Copy, Debug, PartialEq, Eq)]
+pub enum Terminal {
+    Iri,
+    Pname,
+    BlankLabel,
+    /// `@` and a tag
+    AtWord,
+    /// `?` or `$`, and a name
+    Variable,
+    Text,
+    Integer,
+    Decimal,
+    Double,
+    /// `a` with just this letter
+    A,
+    True,
+    False,
+    Prefix,
+    Base,
+    Insert,
+    Delete,
+    Data,
+    Create,
+    Clear,
+    Drop,
+    Copy,
+    Move,
+    Add,
+    Silent,
+    Graph,
+    Default,
+    Named,
+    All,
+    To,
+    /// `^^`
+    Caret,
+    OpenBracket,
+    CloseBracket,
+    /// `(`
+    Open,
+    /// `)`
+    Close,
+    OpenBrace,
+    CloseBrace,
+    Dot,
+    Semicolon,
+    Comma,
+    /// What the grammar has no use for: another word, an operator.
+    Other,
+}
+
+// Whether the text is this word, in any case.
+fn is_word(text: &str, word: &str) -> bool
+    ensures { result ≡ bytes_eq (map to_ascii_lowercase text.now) (map to_ascii_lowercase word.now) }
+{
+    text.eq_ignore_ascii_case(word)
+}
+
+fn place_terminal(text: &str) -> Terminal
+    ensures { result ≡ spec.place_terminal text.now }
+{
+    if is_word(text, "silent") {
+        Terminal::Silent
+    } else if is_word(text, "graph") {
+        Terminal::Graph
+    } else if is_word(text, "default") {
+        Terminal::Default
+    } else if is_word(text, "named") {
+        Terminal::Named
+    } else if is_word(text, "all") {
+        Terminal::All
+    } else if is_word(text, "to") {
+        Terminal::To
+    } else {
+        Terminal::Other
+    }
+}
+
+fn graph_terminal(text: &str) -> Terminal
+    ensures { result ≡ spec.graph_terminal text.now }
+{
+    if is_word(text, "create") {
+        Terminal::Create
+    } else if is_word(text, "clear") {
+        Terminal::Clear
+    } else if is_word(text, "drop") {
+        Terminal::Drop
+    } else if is_word(text, "copy") {
+        Terminal::Copy
+    } else if is_word(text, "move") {
+        Terminal::Move
+    } else if is_word(text, "add") {
+        Terminal::Add
+    } else {
+        place_terminal(text)
+    }
+}
+
+fn keyword_terminal(text: &str) -> Terminal
+    ensures { result ≡ spec.keyword_terminal text.now }
+{
+    if is_word(text, "prefix") {
+        Terminal::Prefix
+    } else if is_word(text, "base") {
+        Terminal::Base
+    } else if is_word(text, "insert") {
+        Terminal::Insert
+    } else if is_word(text, "delete") {
+        Terminal::Delete
+    } else if is_word(text, "data") {
+        Terminal::Data
+    } else if is_word(text, "true") {
+        Terminal::True
+    } else if is_word(text, "false") {
+        Terminal::False
+    } else {
+        graph_terminal(text)
+    }
+}
+
+fn word_terminal(text: &str) -> Terminal
+    ensures { result ≡ spec.word_terminal text.now }
+{
+    if text == "a" {
+        Terminal::A
+    } else {
+        keyword_terminal(text)
+    }
+}
+
+fn bracket_terminal(text: &str) -> Terminal
+    ensures { result ≡ spec.bracket_terminal text.now }
+{
+    if text == "[" {
+        Terminal::OpenBracket
+    } else if text == "]" {
+        Terminal::CloseBracket
+    } else if text == "(" {
+        Terminal::Open
+    } else if text == ")" {
+        Terminal::Close
+    } else if text == "{" {
+        Terminal::OpenBrace
+    } else if text == "}" {
+        Terminal::CloseBrace
+    } else {
+        Terminal::Other
+    }
+}
+
+fn symbol_terminal(text: &str) -> Terminal
+    ensures { result ≡ spec.symbol_terminal text.now }
+{
+    if text == "." {
+        Terminal::Dot
+    } else if text == ";" {
+        Terminal::Semicolon
+    } else if text == "," {
+        Terminal::Comma
+    } else if text == "^^" {
+        Terminal::Caret
+    } else {
+        bracket_terminal(text)
+    }
+}
+
+// The terminal of a slice with the form of that kind.
+fn terminal_of(kind: Kind, text: &str) -> Terminal
+    ensures { result ≡ spec.terminal_by kind text.now }
+{
+    match kind {
+        Kind::Iri => Terminal::Iri,
+        Kind::Pname => Terminal::Pname,
+        Kind::BlankLabel => Terminal::BlankLabel,
+        Kind::AtWord => Terminal::AtWord,
+        Kind::Text => Terminal::Text,
+        Kind::Integer => Terminal::Integer,
+        Kind::Decimal => Terminal::Decimal,
+        Kind::Double => Terminal::Double,
+        Kind::Var => Terminal::Variable,
+        Kind::Word => word_terminal(text),
+        Kind::Symbol => symbol_terminal(text),
+    }
+}
+
+#[tactic(auto, unfolding(crate::specs::Terminals::same_terminal))]
+fn same_terminal(a: Terminal, b: Terminal) -> bool
+    ensures { result ≡ spec.same_terminal a b }
+{
+    a == b
+}
+
+fn bracket(terminal: Terminal) -> Bracket
+    ensures { result ≡ spec.bracket terminal }
+{
+    match terminal {
+        Terminal::OpenBracket | Terminal::Open | Terminal::OpenBrace => Bracket::Opens,
+        Terminal::CloseBracket | Terminal::Close | Terminal::CloseBrace => Bracket::Closes,
+        _ => Bracket::Neither,
+    }
+}
+
+impl rdf_grammar::Terminal for Terminal {
+    ghost of = { spec.terminal_by };
+
+    ghost same = { spec.same_terminal };
+
+    ghost bracket = { spec.bracket };
+
+    fn of(kind: Kind, text: &str) -> Terminal {
+        terminal_of(kind, text)
+    }
+
+    fn same(self, other: Terminal) -> bool {
+        same_terminal(self, other)
+    }
+
+    fn bracket(self) -> Bracket {
+        bracket(self)
+    }
+
+    ghost tells_apart = { spec.apart };
+}
