@@ -4,5 +4,10 @@ pub mod Decides
 pub mod Depths
 pub mod LexemeLemmas
 pub mod Nests
+pub mod PrologueIris
+pub mod PrologueKeys
 pub mod Repeats
+pub mod ScopePrefixes
+pub mod ScopeReferences
+pub mod ScopeTexts
 pub mod Terminals

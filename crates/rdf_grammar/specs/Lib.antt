@@ -1,7 +1,13 @@
 pub mod Derivations
+pub mod Keys
 pub mod Lexemes
 pub mod Nesting
+pub mod Numbering
+pub mod Prologue
+pub mod PrologueFaults
+pub mod PrologueLaws
 pub mod Readings
+pub mod References
 pub mod Steps
 pub mod Terminals
 pub mod formers

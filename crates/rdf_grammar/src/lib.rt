@@ -1,14 +1,20 @@
 //! What the grammars of Turtle and SPARQL share: tokens as terminals, a cursor over them, readings
-//! and derivations with the bridge between the two, the depth of brackets, and boxes for trees.
+//! and derivations with the bridge between the two, the depth of brackets, boxes for trees, the
+//! prologue with the IRIs of names, and the numbers of blank nodes.
 #![tactic(auto)]
 
 mod boxed;
 mod bracket;
 mod depth;
 mod fault;
+mod key;
+mod laws;
 mod lexeme;
 mod lexeme_list;
+mod names;
+mod numbering;
 mod parser;
+mod prologue;
 mod terminal;
 mod tree;
 
@@ -16,8 +22,12 @@ pub use boxed::Boxed;
 pub use bracket::Bracket;
 pub use depth::{MAX_OPEN, too_deep};
 pub use fault::GrammarFault;
+pub use key::Key;
+pub use laws::{prefixes_are_replaced, references_are_resolved};
 pub use lexeme::Lexeme;
 pub use lexeme_list::{lexemes, lexemes_have_forms};
+pub use numbering::Numbering;
 pub use parser::Parser;
+pub use prologue::{Prologue, PrologueFault};
 pub use terminal::Terminal;
 pub use tree::{Literal, Name};

@@ -20,15 +20,15 @@ use Rattle.rdf_turtle.specs.Known.{holds, known_node, known_property, known_stat
 use Rattle.rdf_turtle.specs.Document.{HasTree}
 use Rattle.rdf_turtle.specs.Proper.{proper_statement}
 use Rattle.rdf_turtle.specs.Meaning.{meaning, property, properties, has_properties, statement, document, triples_of}
-use Rattle.rdf_turtle.specs.Keys.{key_of, same_key}
-use Rattle.rdf_turtle.specs.Prologue.{Prologue, resolved, declares, moves_base}
+use Rattle.rdf_grammar.specs.Keys.{key_of, same_key}
+use Rattle.rdf_grammar.specs.Prologue.{Prologue, resolved, declares, moves_base}
 use Rattle.rdf_turtle.specs.State as state
 use Rattle.rdf_turtle.specs.State.{State, Does, start, told}
 use Rattle.rdf_grammar.specs.Steps.{Outcome, and_then}
 use Rattle.rdf_turtle.proofs.BaseLeaves.{lexemes_formed}
 use Rattle.rdf_turtle.proofs.BaseSteps.{Holds, Given, Any, IsIri, NoLiteral, Comes, Goes, NodeGoes, then_goes, resolved_goes, each_goes}
 use Rattle.rdf_turtle.proofs.BaseTrees.{GoodStatement, GoodTriples, all_say, good_document, statements_proper}
-use Rattle.rdf_turtle.proofs.ScopePrefixes.{prefixes_are_replaced}
+use Rattle.rdf_grammar.proofs.ScopePrefixes.{prefixes_are_replaced}
 
 -- ---- declarations
 

@@ -23,13 +23,13 @@ use Rattle.rdf_grammar.specs.declared.tree.Literal.{Literal}
 use Rattle.rdf_grammar.specs.declared.tree.Literal.TheVariants as l
 use Rattle.rdf_turtle.specs.Bases.{lacks, lacks_name, lacks_verb, lacks_literal}
 use Rattle.rdf_tokens.specs.Forms.{IsLocal}
-use Rattle.rdf_turtle.specs.Keys.{key_of, same_key}
+use Rattle.rdf_grammar.specs.Keys.{key_of, same_key}
 use Rattle.rdf_turtle.specs.Known.{holds, known_verb, known_literal}
 use Rattle.rdf_turtle.specs.Meaning.{Meaning, Says, iri, verb, untagged, literal, object, objects, behind, list_term, list_inside}
-use Rattle.rdf_turtle.specs.Numbering as numbering
-use Rattle.rdf_turtle.specs.Numbering.{Numbering}
-use Rattle.rdf_turtle.specs.Prologue.{Prologue, knows, resolved, prefixed, iri_of}
-use Rattle.rdf_turtle.specs.References.{resolve}
+use Rattle.rdf_grammar.specs.Numbering as numbering
+use Rattle.rdf_grammar.specs.Numbering.{Numbering}
+use Rattle.rdf_grammar.specs.Prologue.{Prologue, knows, resolved, prefixed, iri_of}
+use Rattle.rdf_grammar.specs.References.{resolve}
 use Rattle.rdf_turtle.specs.State.{State, Does, told, blank, fresh, labelled, triple, says}
 use Rattle.rdf_grammar.specs.Steps.{Outcome, and_then, each}
 use Rattle.rdf_tokens.specs.Values.{iri_value, local_value, text_value, tag_value}

@@ -23,8 +23,8 @@ use Rattle.rdf_turtle.specs.declared.tree.Statement.TheVariants as s
 use Rattle.rdf_turtle.specs.Bases.{lacks_name, lacks_literal, lacks_property_of, lacks_node_of, lacks_node, lacks_property}
 use Rattle.rdf_turtle.specs.Known.{holds, known_literal, known_property_of, known_node_of, known_node, known_property}
 use Rattle.rdf_turtle.specs.Meaning.{Meaning, Says, iri, literal, node_of, property_of, meaning, property, has_properties, is_some_property}
-use Rattle.rdf_turtle.specs.Keys.{key_of}
-use Rattle.rdf_turtle.specs.Prologue.{knows, is_proper}
+use Rattle.rdf_grammar.specs.Keys.{key_of}
+use Rattle.rdf_grammar.specs.Prologue.{knows, is_proper}
 use Rattle.rdf_turtle.specs.Proper.{is_filled, proper_verb, proper_literal, proper_property_of, proper_node_of, proper_node, proper_property, is_literal, proper_statement}
 use Rattle.rdf_grammar.specs.Terminals.{Piece}
 use Rattle.rdf_turtle.specs.Reading as read

@@ -10,8 +10,8 @@ use Rattle.rdf_turtle.specs.declared.fault.TurtleFaultKind.TheVariants as fault
 use Rattle.rdf_turtle.specs.Lexemes.{Lexeme, IsLexeme, AreLexemes}
 use Rattle.rdf_turtle.specs.declared.terminal.Terminal.{Terminal}
 use Rattle.rdf_tokens.specs.declared.token.Token.{Token}
-use Rattle.rdf_turtle.specs.declared.prologue.PrologueFault.{PrologueFault}
-use Rattle.rdf_turtle.specs.declared.prologue.PrologueFault.TheVariants as names
+use Rattle.rdf_grammar.specs.declared.prologue.PrologueFault.{PrologueFault}
+use Rattle.rdf_grammar.specs.declared.prologue.PrologueFault.TheVariants as names
 use Rattle.rdf_turtle.specs.declared.tree.Statement.{Statement}
 use Rattle.rdf_turtle.specs.Document.{HasTokens, HasTree, IsDocument, FaultIs, IsFaulty, TellsFault}
 use Rattle.rdf_turtle.specs.DocumentLaws.{has_free_line, OneDocument, NeverBoth, OneFault}

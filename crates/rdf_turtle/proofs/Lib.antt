@@ -12,16 +12,11 @@ pub mod GrammarProductions
 pub mod GrammarStatements
 pub mod GrammarTerminals
 pub mod GrammarWhole
-pub mod PrologueIris
-pub mod PrologueKeys
 pub mod PrologueSteps
 pub mod ProperLists
 pub mod ScopeBlanks
 pub mod ScopeLoops
-pub mod ScopePrefixes
-pub mod ScopeReferences
 pub mod ScopeSteps
-pub mod ScopeTexts
 pub mod StraightReading
 pub mod TokenFaultLemmas
 pub mod WrittenCuts

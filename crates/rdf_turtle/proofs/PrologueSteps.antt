@@ -2,17 +2,17 @@
 use Rattle.std.proofs.Common.{◌≡◌, ◌∙◌, ap, sym, ℕ, true, List, Option, Some, None, Result, Ok, Err, IfOk, true≢false}
 use Rattle.std.specs.Prelude.{IfErr}
 use Rattle.std.specs.Option.{option_map}
-use Rattle.rdf_turtle.specs.declared.prologue.PrologueFault.{PrologueFault}
-use Rattle.rdf_turtle.specs.declared.prologue.PrologueFault.TheVariants.{UnknownPrefix, Relative, NoMemory}
+use Rattle.rdf_grammar.specs.declared.prologue.PrologueFault.{PrologueFault}
+use Rattle.rdf_grammar.specs.declared.prologue.PrologueFault.TheVariants.{UnknownPrefix, Relative, NoMemory}
 use Rattle.rdf_grammar.specs.declared.tree.Name.{Name}
 use Rattle.rdf_grammar.specs.declared.tree.Name.TheVariants.{Full, Prefixed}
 use Rattle.rdf_turtle.specs.Kept.{Gives}
 use Rattle.rdf_turtle.specs.Meaning.{iri}
-use Rattle.rdf_turtle.specs.Prologue.{Prologue, declared, knows, iri_of, resolved}
-use Rattle.rdf_turtle.specs.PrologueFaults.{Explains}
+use Rattle.rdf_grammar.specs.Prologue.{Prologue, declared, knows, iri_of, resolved}
+use Rattle.rdf_grammar.specs.PrologueFaults.{Explains}
 use Rattle.rdf_turtle.specs.State.{State, told}
 use Rattle.rdf_tokens.specs.Values.{iri_value}
-use Rattle.rdf_turtle.proofs.ScopeReferences.{resolve_lacking}
+use Rattle.rdf_grammar.proofs.ScopeReferences.{resolve_lacking}
 
 told_is : (f : Prologue → Option (List ℕ)) (s u : State) (i : List ℕ) → f s.prologue ≡ Some i → u ≡ s → told f s ≡ Some (i, u)
 told_is f s u i e same = ap (λ (o : Option (List ℕ)). option_map {U = List ℕ × State} (λ a. (a, s)) o) e ∙ ap (λ (z : State). Some (i, z)) (sym same)

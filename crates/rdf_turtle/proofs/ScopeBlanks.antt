@@ -25,8 +25,8 @@ use Rattle.rdf_turtle.specs.declared.tree.Statement.TheVariants as s
 use Rattle.rdf_terms.specs.Blanks.{blanks_of}
 use Rattle.rdf_turtle.specs.Blanks.{BlankNumbersAreBelow, IsTriple}
 use Rattle.rdf_turtle.specs.Known.{declares_first}
-use Rattle.rdf_turtle.specs.Keys.{key_of}
-use Rattle.rdf_turtle.specs.Prologue.{Prologue, iri_of, resolved, declares, moves_base}
+use Rattle.rdf_grammar.specs.Keys.{key_of}
+use Rattle.rdf_grammar.specs.Prologue.{Prologue, iri_of, resolved, declares, moves_base}
 use Rattle.rdf_tokens.specs.Values.{text_value, tag_value}
 use Rattle.rdf_grammar.specs.Steps.{Outcome, each, and_then}
 use Rattle.rdf_turtle.specs.State.{State, Does, start, told, declared, fresh, says}

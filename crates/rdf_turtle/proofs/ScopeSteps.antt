@@ -13,8 +13,8 @@ use Rattle.rdf_terms.specs.declared.term.Term.TheVariants.{Blank, Iri, Literal}
 use Rattle.rdf_terms.specs.Blanks.{blanks_in, blanks_of}
 use Rattle.rdf_turtle.specs.Blanks.{IsTriple}
 use Rattle.rdf_grammar.specs.Steps.{Outcome, Step, and_then}
-use Rattle.rdf_turtle.specs.Keys.{same_key}
-use Rattle.rdf_turtle.specs.Numbering.{Numbering, labelled_as}
+use Rattle.rdf_grammar.specs.Keys.{same_key}
+use Rattle.rdf_grammar.specs.Numbering.{Numbering, labelled_as}
 use Rattle.rdf_turtle.specs.State.{State, Does, fresh, labelled, blank, triple, says}
 
 -- the parts of a step behind another

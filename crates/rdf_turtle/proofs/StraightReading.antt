@@ -12,7 +12,7 @@ use Rattle.rdf_turtle.specs.Grammar.{IsDocument}
 use Rattle.rdf_turtle.specs.Known.{known_statement, declared_behind, declares_first}
 use Rattle.rdf_turtle.specs.Meaning as meaning
 use Rattle.rdf_turtle.specs.Nesting.{IsTooDeep}
-use Rattle.rdf_turtle.specs.Prologue as prologue
+use Rattle.rdf_grammar.specs.Prologue as prologue
 use Rattle.rdf_grammar.specs.Readings.{is_more, one}
 use Rattle.rdf_turtle.specs.Reading.{node, statement, document}
 use Rattle.rdf_turtle.specs.Lexemes.{Lexemes}

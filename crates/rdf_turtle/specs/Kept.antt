@@ -3,8 +3,8 @@ use Rattle.std.specs.Prelude.{◌≡◌, ℕ, List, Option, Some, None, Result, 
 use Rattle.rdf_turtle.specs.declared.fault.TurtleFault.{TurtleFault}
 use Rattle.rdf_turtle.specs.declared.fault.TurtleFaultKind.{TurtleFaultKind}
 use Rattle.rdf_turtle.specs.declared.fault.TurtleFaultKind.TheVariants as kind
-use Rattle.rdf_turtle.specs.declared.prologue.PrologueFault.{PrologueFault}
-use Rattle.rdf_turtle.specs.declared.prologue.PrologueFault.TheVariants.{UnknownPrefix, Relative, NoMemory}
+use Rattle.rdf_grammar.specs.declared.prologue.PrologueFault.{PrologueFault}
+use Rattle.rdf_grammar.specs.declared.prologue.PrologueFault.TheVariants.{UnknownPrefix, Relative, NoMemory}
 use Rattle.rdf_tokens.specs.Lines.{line_of}
 use Rattle.rdf_grammar.specs.Steps.{Outcome}
 

@@ -12,8 +12,8 @@ use Rattle.rdf_turtle.specs.declared.tree.Node.TheFolds.{fold-Node, fold-Propert
 use Rattle.rdf_turtle.specs.declared.tree.Property.{Property}
 use Rattle.rdf_turtle.specs.declared.tree.Statement.{Statement}
 use Rattle.rdf_turtle.specs.declared.tree.Statement.TheVariants as s
-use Rattle.rdf_turtle.specs.Keys.{key_of, same_key}
-use Rattle.rdf_turtle.specs.Prologue.{knows}
+use Rattle.rdf_grammar.specs.Keys.{key_of, same_key}
+use Rattle.rdf_grammar.specs.Prologue.{knows}
 
 abbrev pub holds : Bool → Bool
 holds b = b

@@ -21,8 +21,8 @@ use Rattle.rdf_turtle.specs.declared.tree.Statement.TheVariants as s
 use Rattle.rdf_turtle.specs.declared.fault.TurtleFaultKind.{TurtleFaultKind}
 use Rattle.rdf_turtle.specs.declared.fault.TurtleFaultKind.TheVariants.{UnknownPrefix, Relative}
 use Rattle.rdf_turtle.specs.Known.{declares_first}
-use Rattle.rdf_turtle.specs.Keys.{key_of}
-use Rattle.rdf_turtle.specs.Prologue.{iri_of, resolved, declares, moves_base}
+use Rattle.rdf_grammar.specs.Keys.{key_of}
+use Rattle.rdf_grammar.specs.Prologue.{iri_of, resolved, declares, moves_base}
 use Rattle.rdf_tokens.specs.Values.{text_value, tag_value}
 use Rattle.rdf_grammar.specs.Steps.{◌>>=◌, ◌>>◌, ◌<$>◌, pure, none, each}
 use Rattle.rdf_turtle.specs.State.{State, Does, start, told, declared, fresh, labelled, says}

@@ -15,7 +15,7 @@ use Rattle.rdf_turtle.specs.declared.tree.Statement.{Statement}
 use Rattle.rdf_turtle.specs.declared.tree.Statement.TheVariants as s
 use Rattle.rdf_turtle.specs.Known.{holds}
 use Rattle.rdf_turtle.specs.Meaning.{meaning, has_properties}
-use Rattle.rdf_turtle.specs.Prologue.{is_proper}
+use Rattle.rdf_grammar.specs.Prologue.{is_proper}
 use Rattle.rdf_tokens.specs.Values.{tag_value}
 
 abbrev pub proper_verb : Verb → Bool

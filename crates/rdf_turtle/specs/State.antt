@@ -6,10 +6,10 @@ use Rattle.rdf_terms.specs.Quad.{QuadParts, has_right_kinds}
 use Rattle.rdf_terms.specs.declared.term.Term.{Term}
 use Rattle.rdf_terms.specs.declared.term.Term.TheVariants.{Blank, Iri}
 use Rattle.rdf_terms.specs.declared.quad.GraphName.TheVariants.{Default}
-use Rattle.rdf_turtle.specs.Numbering as numbering
-use Rattle.rdf_turtle.specs.Numbering.{Numbering}
-use Rattle.rdf_turtle.specs.Prologue as prologue
-use Rattle.rdf_turtle.specs.Prologue.{Prologue}
+use Rattle.rdf_grammar.specs.Numbering as numbering
+use Rattle.rdf_grammar.specs.Numbering.{Numbering}
+use Rattle.rdf_grammar.specs.Prologue as prologue
+use Rattle.rdf_grammar.specs.Prologue.{Prologue}
 use Rattle.rdf_grammar.specs.Steps.{Step}
 
 pub record State : Type 0 where

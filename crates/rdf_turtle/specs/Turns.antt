@@ -3,7 +3,7 @@ use Rattle.std.specs.Prelude.{◌≡◌, ◌<◌, ℕ, true, List, length, Some}
 use Rattle.rdf_turtle.specs.declared.tree.Statement.{Statement}
 use Rattle.rdf_turtle.specs.Known.{known_statement, declared_behind}
 use Rattle.rdf_turtle.specs.Meaning as meaning
-use Rattle.rdf_turtle.specs.Prologue as prologue
+use Rattle.rdf_grammar.specs.Prologue as prologue
 use Rattle.rdf_turtle.specs.Reading.{node, statement}
 use Rattle.rdf_turtle.specs.Lexemes.{Lexemes}
 use Rattle.rdf_turtle.specs.Room.{TakesAtMost}

@@ -3,11 +3,11 @@ ghost use Rattle.std.specs.Prelude.{◌≡◌, [], IfOk, OnOk, map};
 ghost use Rattle.std.specs.List.{list_all};
 ghost use Rattle.rdf_turtle.specs.Known as spec;
 ghost use Rattle.rdf_turtle.specs.Known.{is_none};
-ghost use Rattle.rdf_turtle.specs.Prologue.{knows};
+ghost use Rattle.rdf_grammar.specs.Prologue.{knows};
 
-use crate::key::Key;
 use crate::tree::{Literal, Name, Node, Property, Statement, Verb};
 use indexmap::IndexSet;
+use rdf_grammar::Key;
 use rdf_terms::NoMemory;
 use std::alloc::Global;
 

@@ -4,14 +4,10 @@
 mod document;
 mod fault;
 mod grammar;
-mod key;
 mod known;
 mod laws;
 mod lexeme;
 mod meaning;
-mod names;
-mod numbering;
-mod prologue;
 mod read;
 mod scope;
 mod statement;
@@ -27,7 +23,8 @@ pub use laws::{
     written_triples_are_turtle,
 };
 pub use lexeme::Lexeme;
-pub use meaning::{blank_numbers_are_below, prefixes_are_replaced, references_are_resolved};
+pub use meaning::blank_numbers_are_below;
+pub use rdf_grammar::{prefixes_are_replaced, references_are_resolved};
 pub use rdf_tokens::{
     Kind, Slice, Token, iris_have_values, line_ends_are_counted, locals_have_values,
     one_token_list, one_token_text, pnames_are_iris, pnames_have_parts, some_token_list,

@@ -9,16 +9,14 @@ ghost use Rattle.rdf_turtle.specs.Kept.{Gives, IsFaultOf};
 ghost use Rattle.rdf_turtle.specs.Known as known;
 ghost use Rattle.rdf_turtle.specs.Known.{holds, declared_behind, declares_first};
 ghost use Rattle.rdf_turtle.specs.Meaning as spec;
-ghost use Rattle.rdf_turtle.specs.Prologue.{declared};
+ghost use Rattle.rdf_grammar.specs.Prologue.{declared};
 ghost use Rattle.rdf_turtle.specs.Proper as proper;
-ghost use Rattle.rdf_turtle.specs.References.{ReferencesAreResolved};
 ghost use Rattle.rdf_turtle.specs.Room.{HasRoom, TakesAtMost};
-ghost use Rattle.rdf_turtle.specs.StateLaws.{PrefixesAreReplaced};
 
 use crate::known::first_unknown;
-use crate::prologue::PrologueFault;
 use crate::scope::Scope;
 use crate::tree::{Literal as Written, Node, Property, Statement, Verb};
+use rdf_grammar::PrologueFault;
 use rdf_terms::{Iri, Literal, NoMemory, Quad, Term, Text};
 use rdf_tokens::{Slice, tag_value, text_value};
 use std::alloc::Global;
@@ -282,7 +280,7 @@ impl<'a> Scope<'a> {
     }
 
     /// Says the triples of a statement, or declares its prefix or base.
-    #[tactic(auto, using(crate::proofs::PrologueKeys::declares_key), unfolding(crate::specs::Meaning::statement, crate::specs::Known::known_statement, crate::specs::Prologue::moves_base))]
+    #[tactic(auto, using(rdf_grammar::proofs::PrologueKeys::declares_key), unfolding(crate::specs::Meaning::statement, crate::specs::Known::known_statement, rdf_grammar::specs::Prologue::moves_base))]
     pub(crate) fn statement(&mut self, statement: &Statement<'a>) -> Result<(), PrologueFault>
         requires known { IsTrue (known.known_statement (declared self.old.prologue) statement.now) }
         requires proper { IsTrue (proper.proper_statement statement.now) }
@@ -352,16 +350,4 @@ pub(crate) fn triples_of(
 /// triple in the default graph.
 pub fn blank_numbers_are_below()
     ensures { BlankNumbersAreBelow }
-{}
-
-/// A reference without forbidden characters is resolved to what it means against the base, and to
-/// nothing else (RFC 3986, section 5.2).
-pub fn references_are_resolved()
-    ensures { ReferencesAreResolved }
-{}
-
-/// Behind the declaration of a prefix it stands for that IRI, and each other prefix for what it stood
-/// for before (Turtle 1.1, section 2.4).
-pub fn prefixes_are_replaced()
-    ensures { PrefixesAreReplaced }
 {}

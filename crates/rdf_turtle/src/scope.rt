@@ -1,17 +1,16 @@
 //! The state in which a document is read.
 ghost use Rattle.std.specs.Prelude.{◌≡◌, ◌+◌, false, length, IfOk, OnOk, IsTrue};
 ghost use Rattle.rdf_terms.specs.Term.{is_literal_term};
-ghost use Rattle.rdf_turtle.specs.Keys.{key_of};
+ghost use Rattle.rdf_grammar.specs.Keys.{key_of};
 ghost use Rattle.rdf_turtle.specs.Kept.{Gives};
 ghost use Rattle.rdf_turtle.specs.Meaning as meaning;
-ghost use Rattle.rdf_turtle.specs.Prologue as prologue;
-ghost use Rattle.rdf_turtle.specs.Prologue.{declared, knows, is_proper};
+ghost use Rattle.rdf_grammar.specs.Prologue as prologue;
+ghost use Rattle.rdf_grammar.specs.Prologue.{declared, knows, is_proper};
 ghost use Rattle.rdf_turtle.specs.Room.{HasRoom, TakesAtMost};
 ghost use Rattle.rdf_turtle.specs.State as state;
 
-use crate::numbering::Numbering;
-use crate::prologue::{Prologue, PrologueFault};
 use crate::tree::Name;
+use rdf_grammar::{Numbering, Prologue, PrologueFault};
 use rdf_terms::{GraphName, Iri, NoMemory, Quad, Term, Vocabulary};
 use rdf_tokens::Slice;
 use std::alloc::Global;

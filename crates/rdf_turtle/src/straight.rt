@@ -8,18 +8,17 @@ ghost use Rattle.rdf_turtle.specs.Grammar.{IsDocument};
 ghost use Rattle.rdf_turtle.specs.Meaning.{answer};
 ghost use Rattle.rdf_turtle.specs.Nesting.{IsTooDeep};
 ghost use Rattle.rdf_turtle.specs.Formed.{Formed};
-ghost use Rattle.rdf_turtle.specs.Prologue as prologue;
+ghost use Rattle.rdf_grammar.specs.Prologue as prologue;
 ghost use Rattle.rdf_turtle.specs.Room.{HasRoom};
 ghost use Rattle.rdf_turtle.specs.Turns.{Turn};
 
-use crate::key::Key;
 use crate::known::{declare, unknown_in};
 use crate::lexeme::{Lexeme, Parser};
 use crate::meaning::copied;
 use crate::scope::Scope;
 use crate::statement::statement;
 use indexmap::IndexSet;
-use rdf_grammar::too_deep;
+use rdf_grammar::{Key, too_deep};
 use rdf_terms::{Iri, Quad};
 use std::alloc::Global;
 

@@ -1,5 +1,5 @@
 use Rattle.std.proofs.Common.{◌≡◌, ℕ, List, subst, IfOk}
-use Rattle.rdf_turtle.proofs.ScopeTexts.{bytes_of}
+use Rattle.rdf_grammar.proofs.ScopeTexts.{bytes_of}
 use Rattle.rdf_turtle.proofs.meaning.as_written.Goals as goal
 
 pub returns : goal.returns

@@ -2,8 +2,8 @@ use Rattle.std.proofs.Common.{◌≡◌, ◌∙◌, ap, sym, subst, true, map, d
 use Rattle.std.specs.List.{list_all}
 use Rattle.rdf_turtle.specs.Known.{holds, known_node, known_property}
 use Rattle.rdf_turtle.specs.Meaning as spec
-use Rattle.rdf_turtle.specs.Numbering.{Numbering}
-use Rattle.rdf_turtle.specs.Prologue.{Prologue, declared}
+use Rattle.rdf_grammar.specs.Numbering.{Numbering}
+use Rattle.rdf_grammar.specs.Prologue.{Prologue, declared}
 use Rattle.rdf_turtle.specs.Proper.{proper_node, proper_property}
 use Rattle.rdf_turtle.proofs.ProperLists.{next_member}
 use Rattle.rdf_turtle.proofs.ScopeLoops.{next_step, next_cell}

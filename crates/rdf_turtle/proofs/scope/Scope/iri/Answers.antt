@@ -1,7 +1,7 @@
 use Rattle.std.proofs.Common.{◌≡◌, IfOk, Some, rules}
 use Rattle.std.specs.Prelude.{IfErr}
-use Rattle.rdf_turtle.specs.Prologue.{iri_of}
-use Rattle.rdf_turtle.specs.PrologueFaults.{Explains}
+use Rattle.rdf_grammar.specs.Prologue.{iri_of}
+use Rattle.rdf_grammar.specs.PrologueFaults.{Explains}
 use Rattle.rdf_turtle.proofs.PrologueSteps.{iri_gives}
 use Rattle.rdf_turtle.proofs.scope.Scope.iri.Goals as goal
 

@@ -1,8 +1,8 @@
 use Rattle.std.proofs.Common.{◌≡◌, IfOk, Some, rules}
 use Rattle.std.specs.Prelude.{IfErr}
 use Rattle.rdf_grammar.specs.declared.tree.Name.TheVariants.{Full}
-use Rattle.rdf_turtle.specs.Prologue.{resolved}
-use Rattle.rdf_turtle.specs.PrologueFaults.{Explains}
+use Rattle.rdf_grammar.specs.Prologue.{resolved}
+use Rattle.rdf_grammar.specs.PrologueFaults.{Explains}
 use Rattle.rdf_turtle.proofs.PrologueSteps.{reference_gives}
 use Rattle.rdf_turtle.proofs.scope.Scope.resolved.Goals as goal
 

@@ -2,7 +2,7 @@
 use Rattle.std.specs.Prelude.{ℕ, ◌+◌, List, [], Option, Some, None}
 use Rattle.std.specs.Map.{lookup}
 use Rattle.indexmap.specs.IndexMap.{insert_entry}
-use Rattle.rdf_turtle.specs.Keys.{same_key}
+use Rattle.rdf_grammar.specs.Keys.{same_key}
 
 pub record Numbering : Type 0 where
   -- the labels so far, with their numbers

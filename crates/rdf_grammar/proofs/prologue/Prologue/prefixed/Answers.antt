@@ -1,8 +1,8 @@
 use Rattle.std.proofs.Common.{◌≡◌, None, rules}
 use Rattle.std.specs.Map.{lookup}
-use Rattle.rdf_turtle.specs.Keys.{key_of, same_key}
-use Rattle.rdf_turtle.proofs.PrologueKeys.{not_declared}
-use Rattle.rdf_turtle.proofs.prologue.Prologue.prefixed.Goals as goal
+use Rattle.rdf_grammar.specs.Keys.{key_of, same_key}
+use Rattle.rdf_grammar.proofs.PrologueKeys.{not_declared}
+use Rattle.rdf_grammar.proofs.prologue.Prologue.prefixed.Goals as goal
 
 pub returns-in_default-clause-fault : goal.returns-in_default-clause-fault
 returns-in_default-clause-fault c =

@@ -1,8 +1,8 @@
 //! The base and the prefixes in force, and the IRIs of names.
 ghost use Rattle.std.specs.Prelude.{◌≡◌, Some, IfOk, IfErr, OnOk, OnErr, IsTrue};
-ghost use Rattle.rdf_turtle.specs.Keys.{key_of};
-ghost use Rattle.rdf_turtle.specs.Prologue as spec;
-ghost use Rattle.rdf_turtle.specs.PrologueFaults.{Explains};
+ghost use Rattle.rdf_grammar.specs.Keys.{key_of};
+ghost use Rattle.rdf_grammar.specs.Prologue as spec;
+ghost use Rattle.rdf_grammar.specs.PrologueFaults.{Explains};
 
 use crate::key::Key;
 use crate::names::Names;
@@ -12,20 +12,24 @@ use rdf_terms::{Iri, IriFault, NoMemory, resolve};
 use rdf_tokens::{Slice, iri_value};
 use std::alloc::Global;
 use std::marker::Model;
+use thiserror::Error;
 
 /// Why a name has no IRI.
-#[derive(Clone, Copy, Debug, PartialEq, Eq)]
-pub(crate) enum PrologueFault {
+#[derive(Clone, Copy, Debug, Error, PartialEq, Eq)]
+pub enum PrologueFault {
     /// The prefix that starts at this byte of the text isn't declared before it.
+    #[error("UnknownPrefix")]
     UnknownPrefix(usize),
     /// The reference that starts at this byte of the text is relative, and there is no base.
+    #[error("Relative")]
     Relative(usize),
     /// Memory was wanting.
+    #[error("NoMemory")]
     NoMemory(NoMemory),
 }
 
 impl From<NoMemory> for PrologueFault {
-    ghost use Rattle.rdf_turtle.specs.declared.prologue.PrologueFault.TheVariants.{NoMemory as WantsMemory};
+    ghost use Rattle.rdf_grammar.specs.declared.prologue.PrologueFault.TheVariants.{NoMemory as WantsMemory};
 
     ghost from_gives = { λ e f. f ≡ WantsMemory e };
 
@@ -37,7 +41,7 @@ impl From<NoMemory> for PrologueFault {
 /// The base and the prefixes in force (Turtle 1.1, section 6.5; SPARQL 1.1 Query, section 4.1.1). The
 /// IRIs of names that were looked at are kept for the next time that they stand in the text.
 #[derive(Drop)]
-pub(crate) struct Prologue<'a> {
+pub struct Prologue<'a> {
     alloc: Global,
     base: Option<Iri>,
     prefixes: IndexMap<Key<'a>, Iri>,
@@ -45,7 +49,7 @@ pub(crate) struct Prologue<'a> {
 }
 
 impl<'a> Model for Prologue<'a> {
-    ghost use Rattle.rdf_turtle.specs.Prologue as spec;
+    ghost use Rattle.rdf_grammar.specs.Prologue as spec;
 
     ghost Value = { spec.Prologue };
 
@@ -57,7 +61,7 @@ impl<'a> Prologue<'a> {
     ///
     /// # Errors
     /// [`NoMemory`] where memory is wanting.
-    pub(crate) fn new(alloc: Global, base: Option<Iri>) -> Result<Prologue<'a>, NoMemory>
+    pub fn new(alloc: Global, base: Option<Iri>) -> Result<Prologue<'a>, NoMemory>
         ensures { IfOk result (λ prologue. prologue ≡ spec.start base) }
     {
         Ok(Prologue {
@@ -73,7 +77,7 @@ impl<'a> Prologue<'a> {
     /// # Errors
     /// [`NoMemory`] where memory is wanting; then nothing is declared.
     #[tactic(auto, unfolding(crate::specs::Prologue::declares))]
-    pub(crate) fn declare(&mut self, prefix: &Slice<'a>, iri: Iri) -> Result<(), NoMemory>
+    pub fn declare(&mut self, prefix: &Slice<'a>, iri: Iri) -> Result<(), NoMemory>
         ensures declared { OnOk result (self.new ≡ spec.declares (key_of prefix.now) iri self.old) }
         ensures kept { OnErr result (self.new ≡ self.old) }
     {
@@ -83,7 +87,7 @@ impl<'a> Prologue<'a> {
 
     /// Moves the base.
     #[tactic(auto, unfolding(crate::specs::Prologue::moves_base))]
-    pub(crate) fn set_base(&mut self, iri: Iri)
+    pub fn set_base(&mut self, iri: Iri)
         ensures { self.new ≡ spec.moves_base iri self.old }
     {
         self.base = Some(iri);
@@ -95,7 +99,7 @@ impl<'a> Prologue<'a> {
     /// [`PrologueFault::Relative`] where the reference has no scheme and there is no base;
     /// [`PrologueFault::NoMemory`] where memory is wanting.
     #[tactic(auto, unfolding(crate::specs::Prologue::resolved))]
-    pub(crate) fn resolve(&self, reference: &Slice<'a>) -> Result<Iri, PrologueFault>
+    pub fn resolve(&self, reference: &Slice<'a>) -> Result<Iri, PrologueFault>
         ensures value { IfOk result (λ iri. spec.resolved reference.now self.now ≡ Some iri) }
         ensures fault { IfErr result (λ fault. Explains self.now (Name.Full reference.now) fault) }
     {
@@ -130,7 +134,7 @@ impl<'a> Prologue<'a> {
     /// [`PrologueFault::UnknownPrefix`] where its prefix isn't declared; [`PrologueFault::Relative`]
     /// where it is a relative reference and there is no base; [`PrologueFault::NoMemory`] where memory
     /// is wanting.
-    pub(crate) fn iri(&mut self, name: &Name<'a>) -> Result<Iri, PrologueFault>
+    pub fn iri(&mut self, name: &Name<'a>) -> Result<Iri, PrologueFault>
         requires { IsTrue (spec.is_proper name.now) }
         ensures value { IfOk result (λ iri. spec.iri_of name.now self.old ≡ Some iri) }
         ensures fault { IfErr result (λ fault. Explains self.old name.now fault) }

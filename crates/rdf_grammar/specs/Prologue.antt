@@ -8,8 +8,8 @@ use Rattle.rdf_terms.specs.Iri.{has_forbidden}
 use Rattle.indexmap.specs.IndexMap.{insert_entry}
 use Rattle.rdf_grammar.specs.declared.tree.Name.{Name}
 use Rattle.rdf_grammar.specs.declared.tree.Name.TheVariants.{Full, Prefixed}
-use Rattle.rdf_turtle.specs.Keys.{key_of, same_key}
-use Rattle.rdf_turtle.specs.References.{resolve}
+use Rattle.rdf_grammar.specs.Keys.{key_of, same_key}
+use Rattle.rdf_grammar.specs.References.{resolve}
 use Rattle.rdf_tokens.specs.Values.{iri_value, local_value}
 
 pub record Prologue : Type 0 where

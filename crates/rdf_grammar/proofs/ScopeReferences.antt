@@ -10,7 +10,7 @@ use Rattle.rdf_terms.specs.Resolution.{target, ResolvesTo, Means, LacksBase}
 use Rattle.rdf_terms.proofs.CutLemmas.{before_joined, after_joined}
 use Rattle.rdf_terms.proofs.ReferenceLemmas.{components_are}
 use Rattle.rdf_terms.proofs.ResolutionLemmas.{means_itself, means_resolved}
-use Rattle.rdf_turtle.specs.References.{resolve, ReferencesAreResolved}
+use Rattle.rdf_grammar.specs.References.{resolve, ReferencesAreResolved}
 
 resolved_once : (base reference text : List ℕ) → ResolvesTo base reference text → text ≡ resolved base reference
 unfolding resolved

@@ -3,9 +3,9 @@ use Rattle.std.proofs.Common.{◌≡◌, ◌≢◌, ◌∙◌, ap, refl, sym, �
 use Rattle.std.proofs.lemmas.Slice.Eq.{bytes_eq-Decides}
 use Rattle.std.specs.Map.{lookup}
 use Rattle.indexmap.specs.IndexMap.{insert_entry}
-use Rattle.rdf_turtle.specs.Keys.{same_key}
-use Rattle.rdf_turtle.specs.Prologue.{Prologue, declares}
-use Rattle.rdf_turtle.specs.StateLaws.{PrefixesAreReplaced}
+use Rattle.rdf_grammar.specs.Keys.{same_key}
+use Rattle.rdf_grammar.specs.Prologue.{Prologue, declares}
+use Rattle.rdf_grammar.specs.PrologueLaws.{PrefixesAreReplaced}
 
 abbrev Entries : Type 0
 Entries = List (List ℕ × List ℕ)

@@ -5,15 +5,15 @@ ghost use Rattle.std.specs.Cmp.Lexicographic.{pointwise, nat_list_eq_equiv};
 ghost use Rattle.std.specs.Cmp.{partial_equiv_from_equiv};
 ghost use Rattle.std.specs.Cmp.Rules.{hashing};
 ghost use Rattle.std.proofs.Common.{rules};
-ghost use Rattle.rdf_turtle.specs.Keys.{key_of};
+ghost use Rattle.rdf_grammar.specs.Keys.{key_of};
 
 use rdf_tokens::Slice;
 use std::hash::{Hash, Hasher};
 use std::marker::Model;
 
-/// A name or a label of a document, borrowed from it. A contract sees its UTF-8 bytes.
+/// A prefix or a label of a text, borrowed from it. A contract sees its UTF-8 bytes.
 #[derive(Drop)]
-pub(crate) struct Key<'a> {
+pub struct Key<'a> {
     text: &'a str,
 }
 
@@ -27,7 +27,7 @@ impl<'a> Model for Key<'a> {
 
 impl<'a> Key<'a> {
     /// The key of a piece of the text.
-    pub(crate) fn of(slice: &Slice<'a>) -> Key<'a>
+    pub fn of(slice: &Slice<'a>) -> Key<'a>
         ensures { result ≡ key_of slice.now }
     {
         Key {

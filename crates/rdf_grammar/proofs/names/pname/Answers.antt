@@ -1,8 +1,8 @@
 use Rattle.std.proofs.Common.{◌≡◌, ◌∙◌, ◌++◌, ap, List, ℕ}
 use Rattle.rdf_terms.specs.Iri.{has_scheme, has_forbidden}
 use Rattle.rdf_tokens.specs.Values.{local_value}
-use Rattle.rdf_turtle.proofs.PrologueIris.{behind_iri, never_refused}
-use Rattle.rdf_turtle.proofs.names.pname.Goals as goal
+use Rattle.rdf_grammar.proofs.PrologueIris.{behind_iri, never_refused}
+use Rattle.rdf_grammar.proofs.names.pname.Goals as goal
 
 pub unreachable-requires : goal.unreachable-requires
 unreachable-requires c =

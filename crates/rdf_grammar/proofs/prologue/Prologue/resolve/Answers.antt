@@ -1,9 +1,8 @@
 use Rattle.std.proofs.Common.{◌≡◌, ◌∙◌, ap, rules, Err}
 use Rattle.std.specs.Option.{option_copied}
 use Rattle.rdf_terms.specs.declared.fault.IriFault.{IriFault}
-use Rattle.rdf_tokens.specs.Values.{iri_value}
-use Rattle.rdf_turtle.proofs.PrologueIris.{resolved_is, never_forbidden}
-use Rattle.rdf_turtle.proofs.prologue.Prologue.resolve.Goals as goal
+use Rattle.rdf_grammar.proofs.PrologueIris.{resolved_is, never_forbidden}
+use Rattle.rdf_grammar.proofs.prologue.Prologue.resolve.Goals as goal
 
 pub returns-in-Ok-clause-value : goal.returns-in-Ok-clause-value
 returns-in-Ok-clause-value c =

@@ -8,10 +8,9 @@ use Rattle.rdf_terms.specs.Iri.{is_iri, is_forbidden, has_scheme, has_forbidden}
 use Rattle.rdf_terms.specs.Resolution.{Means}
 use Rattle.rdf_terms.specs.declared.fault.IriFault.{IriFault}
 use Rattle.rdf_terms.specs.declared.fault.IriFault.TheVariants as fault
-use Rattle.rdf_turtle.specs.Prologue.{Prologue, resolved}
-use Rattle.rdf_turtle.specs.References.{resolve}
+use Rattle.rdf_grammar.specs.Prologue.{Prologue, resolved}
 use Rattle.rdf_tokens.specs.Values.{iri_value}
-use Rattle.rdf_turtle.proofs.ScopeReferences.{resolve_found}
+use Rattle.rdf_grammar.proofs.ScopeReferences.{resolve_found}
 use Rattle.rdf_tokens.proofs.CallerLemmas.{iri_value_allowed}
 use Rattle.rdf_tokens.proofs.CallerLemmas.{has_scheme_after}
 

@@ -1,11 +1,11 @@
 -- The prefixes that are declared, as a list and as they are looked up.
-use Rattle.std.proofs.Common.{◌≡◌, ◌∙◌, ℕ, Bool, true, false, cond, ◌||◌, List, [], ◌∷◌, ◌++◌, map, Option, Some, None, refl, ap, sym, true≢false}
+use Rattle.std.proofs.Common.{◌≡◌, ℕ, Bool, true, false, cond, ◌||◌, List, [], ◌∷◌, ◌++◌, map, Some, None, refl, ap}
 use Rattle.std.specs.List.{list_any}
 use Rattle.std.specs.Map.{lookup}
 use Rattle.indexmap.specs.IndexMap.{insert_entry}
 use Rattle.indexmap.specs.IndexSet.{insert_key}
-use Rattle.rdf_turtle.specs.Keys.{same_key}
-use Rattle.rdf_turtle.specs.Prologue.{Prologue, declares, declared}
+use Rattle.rdf_grammar.specs.Keys.{same_key}
+use Rattle.rdf_grammar.specs.Prologue.{Prologue, declares, declared}
 
 abbrev Entries : Type 0
 Entries = List (List ℕ × List ℕ)

@@ -1,7 +1,7 @@
 //! Blank nodes, numbered by their places in the text.
 ghost use Rattle.std.specs.Prelude.{◌≡◌, ◌<◌, IfOk, OnErr};
-ghost use Rattle.rdf_turtle.specs.Keys.{key_of};
-ghost use Rattle.rdf_turtle.specs.Numbering as spec;
+ghost use Rattle.rdf_grammar.specs.Keys.{key_of};
+ghost use Rattle.rdf_grammar.specs.Numbering as spec;
 
 use crate::key::Key;
 use indexmap::IndexMap;
@@ -13,13 +13,13 @@ use std::marker::Model;
 /// The labels of a text with their numbers, and the next number: a blank node is numbered where it
 /// stands first, from 0.
 #[derive(Drop)]
-pub(crate) struct Numbering<'a> {
+pub struct Numbering<'a> {
     labels: IndexMap<Key<'a>, u64>,
     next: u64,
 }
 
 impl<'a> Model for Numbering<'a> {
-    ghost use Rattle.rdf_turtle.specs.Numbering as spec;
+    ghost use Rattle.rdf_grammar.specs.Numbering as spec;
 
     ghost Value = { spec.Numbering };
 
@@ -28,7 +28,7 @@ impl<'a> Model for Numbering<'a> {
 
 impl<'a> Numbering<'a> {
     /// No labels, and the number 0 next.
-    pub(crate) fn new(alloc: Global) -> Numbering<'a>
+    pub fn new(alloc: Global) -> Numbering<'a>
         ensures { result ≡ spec.start }
     {
         Numbering {
@@ -38,7 +38,7 @@ impl<'a> Numbering<'a> {
     }
 
     /// The number of a blank node without a label: of a `[`, or of a list's cell.
-    pub(crate) fn fresh(&mut self) -> u64
+    pub fn fresh(&mut self) -> u64
         requires room { self.old.next < 18446744073709551615 }
         ensures { (result, self.new) ≡ spec.fresh self.old }
     {
@@ -51,7 +51,7 @@ impl<'a> Numbering<'a> {
     ///
     /// # Errors
     /// [`NoMemory`] where memory is wanting; then the label has no number.
-    pub(crate) fn labelled(&mut self, label: &Slice<'a>) -> Result<u64, NoMemory>
+    pub fn labelled(&mut self, label: &Slice<'a>) -> Result<u64, NoMemory>
         requires room { self.old.next < 18446744073709551615 }
         ensures value { let step = spec.labelled (key_of label.now) self.old in
             IfOk result (λ number. (number, self.new) ≡ step) }
