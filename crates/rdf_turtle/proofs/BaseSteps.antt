@@ -1,10 +1,9 @@
 -- The steps of a reading fail just where a reference lacks a base.
-use Rattle.std.proofs.Common.{◌≡◌, ◌∙◌, ap, refl, sym, subst, ℕ, Bool, true, false, ◌||◌, ◌&&◌, not, List, [], ◌∷◌, ◌++◌, Option, Some, None, IsTrue, IfSome, is_some}
-use Rattle.std.proofs.lemmas.Bool.{and_parts}
+use Rattle.std.proofs.Common.{◌≡◌, ap, refl, sym, subst, ℕ, Bool, true, false, ◌||◌, ◌&&◌, not, List, [], ◌∷◌, ◌++◌, Option, Some, None, IsTrue, IfSome, is_some}
 use Rattle.std.specs.List.{list_any}
 use Rattle.std.specs.Map.{lookup}
 use Rattle.std.specs.Option.{option_map}
-use Rattle.std.specs.Str.{IsUtf8, is_utf8}
+use Rattle.std.specs.Str.{IsUtf8}
 use Rattle.rdf_terms.specs.Iri.{has_scheme, has_forbidden, is_iri}
 use Rattle.rdf_terms.specs.Literal.{is_tag}
 use Rattle.rdf_terms.specs.Quad.{has_right_kinds}
@@ -28,7 +27,7 @@ use Rattle.rdf_turtle.specs.Known.{holds, known_verb, known_literal}
 use Rattle.rdf_turtle.specs.Meaning.{Meaning, Says, iri, verb, untagged, literal, object, objects, behind, list_term, list_inside}
 use Rattle.rdf_grammar.specs.Numbering as numbering
 use Rattle.rdf_grammar.specs.Numbering.{Numbering}
-use Rattle.rdf_grammar.specs.Prologue.{Prologue, knows, resolved, prefixed, iri_of}
+use Rattle.rdf_grammar.specs.Prologue.{Prologue, knows, resolved, prefixed}
 use Rattle.rdf_grammar.specs.References.{resolve}
 use Rattle.rdf_turtle.specs.State.{State, Does, told, blank, fresh, labelled, triple, says}
 use Rattle.rdf_grammar.specs.Steps.{Outcome, and_then, each}

@@ -19,8 +19,7 @@ use Rattle.rdf_turtle.specs.Grammar as grammar
 use Rattle.rdf_turtle.specs.Terminals.{terminal_of}
 use Rattle.rdf_tokens.specs.Lines.{line_of}
 use Rattle.rdf_turtle.specs.Kept.{IsFaultOf, IsNameFault}
-use Rattle.rdf_turtle.specs.Known.{declares_first}
-use Rattle.rdf_turtle.specs.Meaning.{answer, triples_of}
+use Rattle.rdf_turtle.specs.Meaning.{answer}
 use Rattle.rdf_turtle.specs.Nesting.{IsTooDeep, IsTooDeepAt}
 use Rattle.rdf_turtle.specs.Stops.{Explains}
 use Rattle.rdf_tokens.specs.Tokens.{Says}

@@ -1,5 +1,5 @@
 -- A turn of each loop of the reading.
-use Rattle.std.proofs.Common.{◌≡◌, ◌∙◌, ap, refl, sym, ℕ, suc, ◌+◌, ◌<◌, List, [], ◌∷◌, map, drop, length, get_or, drop-cons, add-one, Some, cond, Bool, true, false, true≢false}
+use Rattle.std.proofs.Common.{◌≡◌, ◌∙◌, ap, refl, sym, ℕ, suc, ◌+◌, ◌<◌, List, ◌∷◌, map, drop, length, get_or, drop-cons, add-one, Some, cond, Bool, true, false, true≢false}
 use Rattle.rdf_terms.specs.declared.term.Term.{Term}
 use Rattle.rdf_terms.specs.Vocabulary.{rdf_first, rdf_rest}
 use Rattle.rdf_turtle.specs.declared.tree.Node.{Node}

@@ -14,7 +14,7 @@ use Rattle.rdf_terms.specs.Blanks.{blanks_in, blanks_of}
 use Rattle.rdf_turtle.specs.Blanks.{IsTriple}
 use Rattle.rdf_grammar.specs.Steps.{Outcome, Step, and_then}
 use Rattle.rdf_grammar.specs.Keys.{same_key}
-use Rattle.rdf_grammar.specs.Numbering.{Numbering, labelled_as}
+use Rattle.rdf_grammar.specs.Numbering.{labelled_as}
 use Rattle.rdf_turtle.specs.State.{State, Does, fresh, labelled, blank, triple, says}
 
 -- the parts of a step behind another

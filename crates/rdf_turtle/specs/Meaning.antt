@@ -25,7 +25,7 @@ use Rattle.rdf_grammar.specs.Keys.{key_of}
 use Rattle.rdf_grammar.specs.Prologue.{iri_of, resolved, declares, moves_base}
 use Rattle.rdf_tokens.specs.Values.{text_value, tag_value}
 use Rattle.rdf_grammar.specs.Steps.{◌>>=◌, ◌>>◌, ◌<$>◌, pure, none, each}
-use Rattle.rdf_turtle.specs.State.{State, Does, start, told, declared, fresh, labelled, says}
+use Rattle.rdf_turtle.specs.State.{Does, start, told, declared, fresh, labelled, says}
 
 -- ---- IRIs and literals
 

@@ -1,4 +1,4 @@
-use Rattle.std.proofs.Common.{◌≡◌, ◌+◌, ◌≤◌, length, false, map, drop, IsTrue}
+use Rattle.std.proofs.Common.{◌≡◌, false, map, drop, IsTrue}
 use Rattle.std.specs.List.{list_all}
 use Rattle.rdf_terms.specs.Term.{is_literal_term}
 use Rattle.rdf_turtle.specs.Known.{holds, known_node, known_property}
