@@ -1,6 +1,6 @@
 //! A conversion in pieces, on readers and writers that fail, and by the words of a command line.
 
-use crate::one_byte::{Ending, OneByteReader, OneByteWriter};
+use one_byte::{Ending, OneByteReader, OneByteWriter};
 use rdf_keeper::{ConvertFault, Format, convert, start};
 use std::alloc::Global;
 use std::test::Fail;

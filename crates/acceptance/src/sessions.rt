@@ -1,5 +1,5 @@
 //! Sessions whose reader or writer fails.
-use crate::one_byte::{Ending, OneByteReader, OneByteWriter};
+use one_byte::{Ending, OneByteReader, OneByteWriter};
 use rdf_keeper::{Keeper, Settings, Status, run};
 use std::alloc::Global;
 use std::test::Fail;

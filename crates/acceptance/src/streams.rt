@@ -1,5 +1,5 @@
 //! Each read and each write failing in turn: what is answered before stands, and no more is written.
-use crate::one_byte::{Ending, OneByteReader, OneByteWriter};
+use one_byte::{Ending, OneByteReader, OneByteWriter};
 use rdf_keeper::{ConvertFault, Format, Keeper, Settings, Status, convert, run};
 use std::alloc::Global;
 use std::test::Fail;

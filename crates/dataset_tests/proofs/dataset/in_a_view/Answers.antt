@@ -6,7 +6,7 @@ use Rattle.rdf_terms.specs.declared.quad.GraphName.{GraphName}
 use Rattle.rdf_terms.specs.Order.{quad_cmp}
 use Rattle.rdf_terms.specs.Quad.{QuadParts}
 use Rattle.rdf_dataset.specs.State.{Quads}
-use Rattle.acceptance.proofs.dataset.in_a_view.Goals as goal
+use Rattle.dataset_tests.proofs.dataset.in_a_view.Goals as goal
 
 no_quad : (quads : Quads) (g : GraphName) → quads ≡ set.empty → (q : QuadParts) → IsTrue (contains quads q) → ¬ (q.graph ≡ g)
 no_quad quads g none q here same = true≢false (sym here ∙ ap (λ z. contains z q) none ∙ contains-empty quad_cmp q)

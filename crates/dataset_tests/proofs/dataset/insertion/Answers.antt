@@ -1,6 +1,6 @@
 use Rattle.std.proofs.Common.{ap, ◌∙◌}
 use Rattle.rdf_dataset.specs.State.{net_between}
-use Rattle.acceptance.proofs.dataset.insertion.Goals as goal
+use Rattle.dataset_tests.proofs.dataset.insertion.Goals as goal
 
 pub returns-in-Ok : goal.returns-in-Ok
 returns-in-Ok c =

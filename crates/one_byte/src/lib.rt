@@ -1,5 +1,8 @@
-//! A reader that gives one byte at a call, and a writer that takes one, until each ends or fails.
-ghost use Rattle.std.specs.Prelude.{◌≡◌, IfOk};
+//! A reader that gives one byte at a call, and a writer that takes one, until each ends or fails: for
+//! tests of what reads and writes.
+#![tactic(auto)]
+
+ghost use Rattle.std.specs.Prelude.{◌≡◌, [], IfOk};
 
 use std::alloc::Global;
 use std::io;
@@ -7,7 +10,7 @@ use std::io::{ErrorKind, Read, Write};
 
 /// What a reader answers behind its last byte, and a writer that has no room left.
 #[derive(Clone, Copy)]
-pub(crate) enum Ending {
+pub enum Ending {
     /// That no byte was moved: the input's end, or a writer that takes nothing.
     Nothing,
     /// The error [`ErrorKind::Interrupted`].
@@ -30,11 +33,11 @@ impl Ending {
 
 /// Gives its bytes, one at a call.
 #[derive(Drop)]
-pub(crate) struct OneByteReader {
+pub struct OneByteReader {
     /// The bytes that are still to come.
-    pub(crate) bytes: &'static [u8],
+    pub bytes: &'static [u8],
     /// What it answers behind them.
-    pub(crate) ending: Ending,
+    pub ending: Ending,
 }
 
 impl Read for OneByteReader {
@@ -55,18 +58,22 @@ impl Read for OneByteReader {
 
 /// Takes so many bytes, one at a call.
 #[derive(Drop)]
-pub(crate) struct OneByteWriter {
+pub struct OneByteWriter {
     /// The bytes that it took.
-    pub(crate) taken: Vec<u8>,
+    pub taken: Vec<u8>,
     /// How many more bytes it takes.
-    pub(crate) room: usize,
+    pub room: usize,
     /// What it answers where it has no room.
-    pub(crate) ending: Ending,
+    pub ending: Ending,
 }
 
 impl OneByteWriter {
     /// A writer that takes so many bytes. It takes no memory before the first.
-    pub(crate) fn new(alloc: Global, room: usize, ending: Ending) -> OneByteWriter {
+    pub fn new(alloc: Global, room: usize, ending: Ending) -> OneByteWriter
+        ensures taken { result.taken.items ≡ [] }
+        ensures room { result.room ≡ room }
+        ensures ending { result.ending ≡ ending }
+    {
         OneByteWriter {
             taken: Vec::new(alloc),
             room,

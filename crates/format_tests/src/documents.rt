@@ -1,6 +1,6 @@
 //! Streams in pieces, and the lines of quads.
 
-use crate::one_byte::{Ending, OneByteReader};
+use one_byte::{Ending, OneByteReader};
 use rdf_lines::{
     FaultKind, LineFault, LineFormat, LineReader, read_lines, write_quad, write_sorted,
 };

@@ -1,0 +1,9 @@
+//! Tests that call the readers of lines and of tokens as a host does. It has no code of its own.
+#![tactic(auto)]
+
+#[cfg(test)]
+mod documents;
+#[cfg(test)]
+mod lines;
+#[cfg(test)]
+mod tokens;

@@ -1,0 +1,7 @@
+//! Tests that call `rdf_terms` as a host does. It has no code of its own.
+#![tactic(auto)]
+
+#[cfg(test)]
+mod resolution;
+#[cfg(test)]
+mod terms;
