@@ -35,7 +35,7 @@ use Rattle.rdf_turtle.specs.Terminals.{word}
 use Rattle.rdf_grammar.specs.Productions as productions
 use Rattle.rdf_grammar.specs.declared.word.Word.{Word}
 use Rattle.rdf_grammar.specs.declared.word.Word.TheVariants as w
-use Rattle.rdf_turtle.proofs.GrammarWords.{IsJust, Tag, is_iri, is_pname, is_text, is_caret, is_integer, is_decimal, is_double, is_true, is_false, value_is, namespace_is, behind_is, tag_is}
+use Rattle.rdf_turtle.proofs.GrammarWords.{IsJust, Tag, is_iri, is_pname, is_text, is_caret, is_integer, is_decimal, is_double, is_true, is_false, value_is, behind_is, tag_is}
 use Rattle.rdf_turtle.specs.Formed.{Formed}
 use Rattle.rdf_turtle.proofs.BaseLeaves.{is_tag_terminal, iri_utf8, local_formed, tag_formed}
 use Rattle.rdf_tokens.proofs.CallerLemmas.{local_allowed}
@@ -432,7 +432,7 @@ GoodStatement (s.Prefix prefix reference) = NameFormed (Full reference)
 GoodStatement (s.Base reference) = NameFormed (Full reference)
 GoodStatement (s.Triples subject ps) = GoodTriples subject ps
 
-namespace_gives : Gives (grammar.namespace terminal.Pname) Any
+namespace_gives : Gives (productions.namespace word) Any
 unfolding Gives
 namespace_gives ts x us d w = (tt, (front_formed ts us d.0 d.4 w).1)
 
@@ -441,7 +441,7 @@ GoodBound b = GoodStatement (read.bound b)
 
 binding_gives : Gives g.Binding GoodStatement
 binding_gives = map_gives read.bound _ GoodBound GoodStatement
-    (then_gives _ _ Any GoodBound (by_gives _ _ Any namespace_is namespace_gives) (λ prefix h. then_gives _ _ (IsOf terminal.Iri) GoodBound (word_gives w.Iri terminal.Iri is_iri)
+    (then_gives _ _ Any GoodBound namespace_gives (λ prefix h. then_gives _ _ (IsOf terminal.Iri) GoodBound (word_gives w.Iri terminal.Iri is_iri)
     (λ reference i. pure_gives (prefix, reference) GoodBound (reference_formed reference i))))
     (λ b h. h)
 

@@ -28,7 +28,7 @@ use Rattle.rdf_turtle.specs.Terminals.{word}
 use Rattle.rdf_grammar.specs.Productions as productions
 use Rattle.rdf_grammar.specs.declared.word.Word.{Word}
 use Rattle.rdf_grammar.specs.declared.word.Word.TheVariants as w
-use Rattle.rdf_turtle.proofs.GrammarWords.{IsJust, Tag, is_iri, is_pname, is_text, is_caret, is_integer, is_decimal, is_double, is_true, is_false, value_is, namespace_is, behind_is, tag_is}
+use Rattle.rdf_turtle.proofs.GrammarWords.{IsJust, Tag, is_iri, is_pname, is_text, is_caret, is_integer, is_decimal, is_double, is_true, is_false, value_is, behind_is, tag_is}
 use Rattle.rdf_turtle.specs.Leaves.{Leaf, leaf, leaf_by, Stands, AllStand, joined, name_leaves, verb_leaves, literal_leaves, node_leaves_of, property_leaves_of, node_leaves, property_leaves, statement_leaves, document_leaves, IsSubject, HasSubject}
 
 -- these lexemes are the last of all
@@ -276,10 +276,10 @@ module _ (all : Lexemes) where
   abbrev IsNamespace : Piece → Type 0
   IsNamespace prefix = Stands all (terminal.Pname, prefix ∷ [] ∷ [])
 
-  namespace_gives : Gives all (grammar.namespace terminal.Pname) IsNamespace
+  namespace_gives : Gives all (productions.namespace word) IsNamespace
   unfolding Gives
   namespace_gives ts x us d w =
-      let e : leaf_by d.0.terminal d.0.text ≡ (terminal.Pname, x ∷ [] ∷ []) = ap (λ k. leaf_by k d.0.text) d.1 ∙ ap (λ p. (terminal.Pname, p ∷ local_part d.0.text ∷ [])) d.3 ∙ ap (λ p. (terminal.Pname, x ∷ p ∷ [])) d.2 in
+      let e : leaf_by d.0.terminal d.0.text ≡ (terminal.Pname, x ∷ [] ∷ []) = ap (λ k. leaf_by k d.0.text) (is_pname d.0.terminal d.1) ∙ ap (λ p. (terminal.Pname, p ∷ local_part d.0.text ∷ [])) d.3 ∙ ap (λ p. (terminal.Pname, x ∷ p ∷ [])) d.2 in
       (stands_as all (leaf_by d.0.terminal d.0.text) (terminal.Pname, x ∷ [] ∷ []) e (stands_at all ts us d.0 d.4 w), within_next all ts us d.0 d.4 w)
 
   abbrev GoodBound : Piece × Piece → Type 0
@@ -287,7 +287,7 @@ module _ (all : Lexemes) where
 
   binding_gives : Gives all g.Binding GoodStatement
   binding_gives = map_gives read.bound _ GoodBound GoodStatement
-      (then_gives _ _ IsNamespace GoodBound (by_gives _ _ IsNamespace namespace_is namespace_gives) (λ prefix h. then_gives _ _ (IsLeaf (leaf terminal.Iri)) GoodBound (word_gives w.Iri terminal.Iri is_iri)
+      (then_gives _ _ IsNamespace GoodBound namespace_gives (λ prefix h. then_gives _ _ (IsLeaf (leaf terminal.Iri)) GoodBound (word_gives w.Iri terminal.Iri is_iri)
       (λ reference i. pure_gives (prefix, reference) GoodBound ((h, (i, tt)), tt))))
       (λ b h. h)
 

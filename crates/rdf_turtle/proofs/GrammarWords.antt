@@ -61,9 +61,6 @@ the_is w k is ts u us d = (d.0, is d.0.terminal d.1, d.2)
 pub value_is : (w : Word) (k : Terminal) → IsJust w k → (ts : Lexemes) (v : Piece) (us : Lexemes) → productions.value word w ts v us → grammar.value k ts v us
 value_is w k is ts v us d = (d.0, is d.0.terminal d.1, d.2, d.3)
 
-pub namespace_is : (ts : Lexemes) (v : Piece) (us : Lexemes) → productions.namespace word ts v us → grammar.namespace terminal.Pname ts v us
-namespace_is ts v us d = (d.0, is_pname d.0.terminal d.1, d.2, d.3, d.4)
-
 pub behind_is : {A : Type 0} (w : Word) (k : Terminal) (P : Derives A) → IsJust w k → (ts : Lexemes) (x : A) (us : Lexemes) → (productions.the word w >> P) ts x us → (grammar.the k >> P) ts x us
 behind_is w k P is ts x us d = record { first = d.first; mid = d.mid; reads = the_is w k is ts d.first d.mid d.reads; goes = d.goes }
 
