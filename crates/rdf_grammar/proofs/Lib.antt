@@ -4,6 +4,8 @@ pub mod Decides
 pub mod Depths
 pub mod LexemeLemmas
 pub mod Nests
+pub mod ProductionNests
+pub mod Productions
 pub mod PrologueIris
 pub mod PrologueKeys
 pub mod Repeats
@@ -11,3 +13,4 @@ pub mod ScopePrefixes
 pub mod ScopeReferences
 pub mod ScopeTexts
 pub mod Terminals
+pub mod WordLemmas

@@ -15,7 +15,7 @@ use Rattle.rdf_grammar.proofs.Decides.{always, Decides, then_decides, pure_decid
 use Rattle.rdf_grammar.proofs.Combinators.{seq}
 use Rattle.rdf_grammar.proofs.Repeats.{Going, Grown, going_on, going_fails, grown_on, fails_on}
 
-is_nil_is : {A : Type 0} (xs : List A) → is_nil xs ≡ true → xs ≡ []
+pub is_nil_is : {A : Type 0} (xs : List A) → is_nil xs ≡ true → xs ≡ []
 is_nil_is [] h = refl
 is_nil_is (x ∷ xs) h = absurd (cc)
 

@@ -3,6 +3,9 @@ pub mod Keys
 pub mod Lexemes
 pub mod Nesting
 pub mod Numbering
+pub mod ProductionLaws
+pub mod ProductionReadings
+pub mod Productions
 pub mod Prologue
 pub mod PrologueFaults
 pub mod PrologueLaws
@@ -10,4 +13,5 @@ pub mod Readings
 pub mod References
 pub mod Steps
 pub mod Terminals
+pub mod Words
 pub mod formers

@@ -1,6 +1,17 @@
-//! What holds of each prologue.
+//! What holds of productions and of prologues.
+ghost use Rattle.rdf_grammar.specs.ProductionLaws.{IrisAreRead, LiteralsAreRead, BindingsAreRead};
 ghost use Rattle.rdf_grammar.specs.PrologueLaws.{PrefixesAreReplaced};
 ghost use Rattle.rdf_grammar.specs.References.{ReferencesAreResolved};
+
+use crate::word::Words;
+
+/// What is read of the productions that Turtle and SPARQL share is what they derive (Turtle 1.1,
+/// section 6.5; SPARQL 1.1 Query, section 19.8).
+pub fn productions_are_read<T: Words>()
+    ensures iris { IrisAreRead T.word }
+    ensures literals { LiteralsAreRead T.word }
+    ensures bindings { BindingsAreRead T.word }
+{}
 
 /// A reference without forbidden characters is resolved to what it means against the base, and to
 /// nothing else (RFC 3986, section 5.2).

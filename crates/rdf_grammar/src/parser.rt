@@ -4,11 +4,13 @@ ghost use Rattle.std.specs.Bool.{OnTrue};
 ghost use Rattle.rdf_grammar.specs.Readings.{Reads, next, is_more, is_nil};
 ghost use Rattle.rdf_tokens.specs.Values as values;
 ghost use Rattle.rdf_grammar.specs.Terminals as spec;
+ghost use Rattle.rdf_grammar.specs.Words as words;
 ghost use Rattle.rdf_grammar.specs.declared.fault.GrammarFault.TheVariants.{Syntax};
 
 use crate::fault::GrammarFault;
 use crate::lexeme::Lexeme;
 use crate::terminal::Terminal;
+use crate::word::{Word, Words, same_word};
 use rdf_terms::Cursor;
 use rdf_tokens::{Slice, local_part, prefix_part};
 use std::alloc::Global;
@@ -172,6 +174,72 @@ impl<'l, 'a, T: Terminal> Parser<'l, 'a, T> {
                 self.lexemes = rest;
                 Ok(prefix_part(&lexeme.text))
             }
+        }
+    }
+}
+
+impl<'l, 'a, T: Words> Parser<'l, 'a, T> {
+    /// The word that the next lexeme is, if it is one.
+    pub fn peek_word(&self) -> Option<Word>
+        ensures { result ≡ words.next_word T.word self.now }
+    {
+        match self.lexemes {
+            [] => None,
+            [lexeme, ..] => lexeme.terminal.word(),
+        }
+    }
+
+    // Whether a lexeme of this word comes next.
+    fn sees_word(&self, word: Word) -> bool
+        ensures { result ≡ words.sees T.word word self.now }
+    {
+        match self.peek_word() {
+            Some(next) => same_word(next, word),
+            None => false,
+        }
+    }
+
+    /// Takes the next lexeme, which is of this word, for its characters.
+    ///
+    /// # Errors
+    /// `Syntax` where it isn't; it is then still the next.
+    #[tactic(auto, unfolding(crate::specs::Words::value))]
+    pub fn word(&mut self, word: Word) -> Result<Slice<'a>, GrammarFault>
+        ensures reads { Reads (words.value T.word word self.old) result self.new }
+        ensures fault { IfErr result (λ e. e ≡ Syntax) }
+        ensures kept { OnErr result (self.new ≡ self.old) }
+        ensures shorter { OnOk result (length self.new < length self.old) }
+    {
+        let found = self.sees_word(word);
+        match self.lexemes {
+            [lexeme, rest @ ..] if found => {
+                let text = lexeme.text.fork();
+                self.lexemes = rest;
+                Ok(text)
+            }
+            _ => Err(GrammarFault::Syntax),
+        }
+    }
+
+    /// Takes the next lexeme, a prefixed name with no local part, for its prefix.
+    ///
+    /// # Errors
+    /// `Syntax` where it isn't; it is then still the next.
+    #[tactic(auto, unfolding(crate::specs::Words::namespace))]
+    pub fn prefix(&mut self) -> Result<Slice<'a>, GrammarFault>
+        ensures reads { Reads (words.namespace T.word self.old) result self.new }
+        ensures fault { IfErr result (λ e. e ≡ Syntax) }
+        ensures kept { OnErr result (self.new ≡ self.old) }
+        ensures shorter { OnOk result (length self.new < length self.old) }
+    {
+        let found = self.sees_word(Word::Pname);
+        match self.lexemes {
+            [lexeme, rest @ ..] if found && has_no_local_part(&lexeme.text) => {
+                let prefix = prefix_part(&lexeme.text);
+                self.lexemes = rest;
+                Ok(prefix)
+            }
+            _ => Err(GrammarFault::Syntax),
         }
     }
 }

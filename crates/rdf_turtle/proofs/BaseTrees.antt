@@ -31,6 +31,11 @@ use Rattle.rdf_turtle.specs.Reading as read
 use Rattle.rdf_grammar.specs.Derivations as grammar
 use Rattle.rdf_grammar.specs.Derivations.{Then, Star, stop, more}
 use Rattle.rdf_turtle.specs.Grammar as g
+use Rattle.rdf_turtle.specs.Terminals.{word}
+use Rattle.rdf_grammar.specs.Productions as productions
+use Rattle.rdf_grammar.specs.declared.word.Word.{Word}
+use Rattle.rdf_grammar.specs.declared.word.Word.TheVariants as w
+use Rattle.rdf_turtle.proofs.GrammarWords.{IsJust, Tag, is_iri, is_pname, is_text, is_caret, is_integer, is_decimal, is_double, is_true, is_false, value_is, behind_is, tag_is}
 use Rattle.rdf_turtle.specs.Formed.{Formed}
 use Rattle.rdf_turtle.proofs.BaseLeaves.{is_tag_terminal, iri_utf8, local_formed, tag_formed}
 use Rattle.rdf_tokens.proofs.CallerLemmas.{local_allowed}
@@ -306,14 +311,25 @@ one_gives P Good p = map_gives (λ x. x ∷ []) P Good (AllByRecursion Good) p (
 reference_formed : (r : Piece) → IsOf terminal.Iri r → NameFormed (Full r)
 reference_formed r h = subst (λ (x : Piece). NameFormed (Full x)) h.is (iri_utf8 h.lexeme h.formed h.terminal)
 
-prefixed_formed : (text : Piece) → IsOf terminal.Pname text → NameFormed (read.prefixed text)
-prefixed_formed text h = subst (λ (x : Piece). NameFormed (read.prefixed x)) h.is (local_formed h.lexeme h.formed h.terminal)
+prefixed_formed : (text : Piece) → IsOf terminal.Pname text → NameFormed (productions.prefixed text)
+prefixed_formed text h = subst (λ (x : Piece). NameFormed (productions.prefixed x)) h.is (local_formed h.lexeme h.formed h.terminal)
 
 tag_at : (k : Terminal) (form tag : Piece) → is_tag_terminal k ≡ true → IsOf k tag → LiteralFormed (l.Tagged form tag)
 tag_at k form tag e h = subst (λ (x : Piece). LiteralFormed (l.Tagged form x)) h.is (tag_formed h.lexeme h.formed (ap is_tag_terminal h.terminal ∙ e))
 
+-- what derives no more gives the same
+by_gives : {A : Type 0} (P Q : Derives A) (Good : A → Type 0) → ((ts : Lexemes) (x : A) (us : Lexemes) → P ts x us → Q ts x us) → Gives Q Good → Gives P Good
+unfolding Gives
+by_gives P Q Good there q ts x us d w = q ts x us (there ts x us d) w
+
+word_gives : (w : Word) (k : Terminal) → IsJust w k → Gives (productions.value word w) (IsOf k)
+word_gives w k is = by_gives _ _ (IsOf k) (value_is w k is) (value_gives k)
+
+behind_word : {A : Type 0} (w : Word) (k : Terminal) → IsJust w k → (P : Derives A) (Good : A → Type 0) → Gives P Good → Gives (grammar.◌>>◌ (productions.the word w) P) Good
+behind_word w k is P Good p = by_gives _ _ Good (behind_is w k P is) (behind_gives k P Good p)
+
 iri_gives : Gives g.Iri NameFormed
-iri_gives = or_gives _ _ NameFormed (map_gives Full _ _ NameFormed (value_gives terminal.Iri) reference_formed) (map_gives read.prefixed _ _ NameFormed (value_gives terminal.Pname) prefixed_formed)
+iri_gives = or_gives _ _ NameFormed (map_gives Full _ _ NameFormed (word_gives w.Iri terminal.Iri is_iri) reference_formed) (map_gives productions.prefixed _ _ NameFormed (word_gives w.Pname terminal.Pname is_pname) prefixed_formed)
 
 verb_gives : Gives g.AVerb VerbFormed
 verb_gives = or_gives _ _ VerbFormed (map_gives v.Name _ NameFormed VerbFormed iri_gives (λ a h. h)) (closed_gives terminal.A v.Type VerbFormed tt)
@@ -325,23 +341,30 @@ tag_of : (k : Terminal) → is_tag_terminal k ≡ true → Gives (grammar.value 
 unfolding Gives
 tag_of k e ts x us d w = let r = value_gives k ts x us d w in (tag_at k [] x e r.0, r.1)
 
-tag_gives : Gives g.Tag IsTag
+tag_gives : Gives Tag IsTag
 tag_gives = or_gives _ _ IsTag (tag_of terminal.AtWord refl) (or_gives _ _ IsTag (tag_of terminal.AtPrefix refl) (tag_of terminal.AtBase refl))
 
-suffix_gives : (form : Piece) → Gives (g.Suffix form) LiteralFormed
+suffix_gives : (form : Piece) → Gives (productions.Suffix word form) LiteralFormed
 suffix_gives form =
-    or_gives _ _ LiteralFormed (map_gives (l.Tagged form) _ IsTag LiteralFormed tag_gives (λ a h. h))
-    (or_gives _ _ LiteralFormed (behind_gives terminal.Caret _ LiteralFormed (map_gives (l.Typed form) _ NameFormed LiteralFormed iri_gives (λ a h. h))) (pure_gives (l.Plain form) LiteralFormed tt))
+    or_gives _ _ LiteralFormed (map_gives (l.Tagged form) _ IsTag LiteralFormed (by_gives _ Tag IsTag tag_is tag_gives) (λ a h. h))
+    (or_gives _ _ LiteralFormed (behind_word w.Caret terminal.Caret is_caret _ LiteralFormed (map_gives (l.Typed form) _ NameFormed LiteralFormed iri_gives (λ a h. h))) (pure_gives (l.Plain form) LiteralFormed tt))
 
-text_gives : Gives g.AText LiteralFormed
-text_gives = then_gives _ _ _ LiteralFormed (value_gives terminal.Text) (λ form h. suffix_gives form)
+text_gives : Gives (productions.RDFLiteral word) LiteralFormed
+text_gives = then_gives _ _ _ LiteralFormed (word_gives w.Text terminal.Text is_text) (λ form h. suffix_gives form)
+
+number_gives : Gives (productions.NumericLiteral word) LiteralFormed
+number_gives =
+    or_gives _ _ LiteralFormed (map_gives l.Integer _ _ LiteralFormed (word_gives w.Integer terminal.Integer is_integer) (λ a h. tt))
+    (or_gives _ _ LiteralFormed (map_gives l.Decimal _ _ LiteralFormed (word_gives w.Decimal terminal.Decimal is_decimal) (λ a h. tt))
+    (map_gives l.Double _ _ LiteralFormed (word_gives w.Double terminal.Double is_double) (λ a h. tt)))
+
+truth_gives : Gives (productions.BooleanLiteral word) LiteralFormed
+truth_gives =
+    or_gives _ _ LiteralFormed (behind_word w.True terminal.True is_true _ LiteralFormed (pure_gives (l.Boolean true) LiteralFormed tt))
+    (behind_word w.False terminal.False is_false _ LiteralFormed (pure_gives (l.Boolean false) LiteralFormed tt))
 
 literal_gives : Gives g.ALiteral LiteralFormed
-literal_gives =
-    or_gives _ _ LiteralFormed text_gives (or_gives _ _ LiteralFormed (map_gives l.Integer _ _ LiteralFormed (value_gives terminal.Integer) (λ a h. tt))
-    (or_gives _ _ LiteralFormed (map_gives l.Decimal _ _ LiteralFormed (value_gives terminal.Decimal) (λ a h. tt))
-    (or_gives _ _ LiteralFormed (map_gives l.Double _ _ LiteralFormed (value_gives terminal.Double) (λ a h. tt))
-    (or_gives _ _ LiteralFormed (closed_gives terminal.True (l.Boolean true) LiteralFormed tt) (closed_gives terminal.False (l.Boolean false) LiteralFormed tt)))))
+literal_gives = or_gives _ _ LiteralFormed text_gives (or_gives _ _ LiteralFormed number_gives truth_gives)
 
 abbrev SomeNodes : List Node → Type 0
 SomeNodes xs = AllByRecursion GoodNode xs × IsMore xs
@@ -409,12 +432,18 @@ GoodStatement (s.Prefix prefix reference) = NameFormed (Full reference)
 GoodStatement (s.Base reference) = NameFormed (Full reference)
 GoodStatement (s.Triples subject ps) = GoodTriples subject ps
 
-namespace_gives : Gives (grammar.namespace terminal.Pname) Any
+namespace_gives : Gives (productions.namespace word) Any
 unfolding Gives
 namespace_gives ts x us d w = (tt, (front_formed ts us d.0 d.4 w).1)
 
+abbrev GoodBound : Piece × Piece → Type 0
+GoodBound b = GoodStatement (read.bound b)
+
 binding_gives : Gives g.Binding GoodStatement
-binding_gives = then_gives _ _ Any _ namespace_gives (λ prefix h. then_gives _ _ (IsOf terminal.Iri) _ (value_gives terminal.Iri) (λ reference i. pure_gives (s.Prefix prefix reference) GoodStatement (reference_formed reference i)))
+binding_gives = map_gives read.bound _ GoodBound GoodStatement
+    (then_gives _ _ Any GoodBound namespace_gives (λ prefix h. then_gives _ _ (IsOf terminal.Iri) GoodBound (word_gives w.Iri terminal.Iri is_iri)
+    (λ reference i. pure_gives (prefix, reference) GoodBound (reference_formed reference i))))
+    (λ b h. h)
 
 base_gives : Gives g.Base GoodStatement
 base_gives = map_gives s.Base _ (IsOf terminal.Iri) GoodStatement (value_gives terminal.Iri) reference_formed

@@ -24,6 +24,11 @@ use Rattle.rdf_turtle.specs.Reading as read
 use Rattle.rdf_grammar.specs.Derivations as grammar
 use Rattle.rdf_grammar.specs.Derivations.{Then, Star, stop, more}
 use Rattle.rdf_turtle.specs.Grammar as g
+use Rattle.rdf_turtle.specs.Terminals.{word}
+use Rattle.rdf_grammar.specs.Productions as productions
+use Rattle.rdf_grammar.specs.declared.word.Word.{Word}
+use Rattle.rdf_grammar.specs.declared.word.Word.TheVariants as w
+use Rattle.rdf_turtle.proofs.GrammarWords.{IsJust, Tag, is_iri, is_pname, is_text, is_caret, is_integer, is_decimal, is_double, is_true, is_false, value_is, behind_is, tag_is}
 use Rattle.rdf_turtle.specs.Leaves.{Leaf, leaf, leaf_by, Stands, AllStand, joined, name_leaves, verb_leaves, literal_leaves, node_leaves_of, property_leaves_of, node_leaves, property_leaves, statement_leaves, document_leaves, IsSubject, HasSubject}
 
 -- these lexemes are the last of all
@@ -133,6 +138,17 @@ module _ (all : Lexemes) where
   one_gives : {A : Type 0} (P : Derives A) (Good : A → Type 0) → Gives all P Good → Gives all (grammar.one P) (AllByRecursion Good)
   one_gives P Good p = map_gives (λ x. x ∷ []) P Good (AllByRecursion Good) p (λ a h. (h, tt))
 
+  -- what derives no more gives the same
+  by_gives : {A : Type 0} (P Q : Derives A) (Good : A → Type 0) → ((ts : Lexemes) (x : A) (us : Lexemes) → P ts x us → Q ts x us) → Gives all Q Good → Gives all P Good
+  unfolding Gives
+  by_gives P Q Good there q ts x us d w = q ts x us (there ts x us d) w
+
+  word_gives : (w : Word) (k : Terminal) → IsJust w k → Gives all (productions.value word w) (IsLeaf (leaf_by k))
+  word_gives w k is = by_gives _ _ (IsLeaf (leaf_by k)) (value_is w k is) (value_gives k)
+
+  behind_word : {A : Type 0} (w : Word) (k : Terminal) → IsJust w k → (P : Derives A) (Good : A → Type 0) → Gives all P Good → Gives all (grammar.◌>>◌ (productions.the word w) P) Good
+  behind_word w k is P Good p = by_gives _ _ Good (behind_is w k P is) (behind_gives k P Good p)
+
   -- ---- the productions
 
   abbrev GoodName : Name → Type 0
@@ -154,28 +170,35 @@ module _ (all : Lexemes) where
   GoodStatement x = AllStand all (statement_leaves x) × HasSubject x
 
   iri_gives : Gives all g.Iri GoodName
-  iri_gives = or_gives _ _ GoodName (map_gives Full _ _ GoodName (value_gives terminal.Iri) (λ a h. (h, tt))) (map_gives read.prefixed _ _ GoodName (value_gives terminal.Pname) (λ a h. (h, tt)))
+  iri_gives = or_gives _ _ GoodName (map_gives Full _ _ GoodName (word_gives w.Iri terminal.Iri is_iri) (λ a h. (h, tt))) (map_gives productions.prefixed _ _ GoodName (word_gives w.Pname terminal.Pname is_pname) (λ a h. (h, tt)))
 
   verb_gives : Gives all g.AVerb GoodVerb
   verb_gives = or_gives _ _ GoodVerb (map_gives v.Name _ _ GoodVerb iri_gives (λ a h. h)) (closed_gives terminal.A v.Type GoodVerb tt)
 
-  tag_gives : Gives all g.Tag (IsLeaf (leaf terminal.AtWord))
+  tag_gives : Gives all Tag (IsLeaf (leaf terminal.AtWord))
   tag_gives = or_gives _ _ (IsLeaf (leaf terminal.AtWord)) (value_gives terminal.AtWord) (or_gives _ _ (IsLeaf (leaf terminal.AtWord)) (value_gives terminal.AtPrefix) (value_gives terminal.AtBase))
 
-  suffix_gives : (form : Piece) → IsLeaf (leaf terminal.Text) form → Gives all (g.Suffix form) GoodLiteral
+  suffix_gives : (form : Piece) → IsLeaf (leaf terminal.Text) form → Gives all (productions.Suffix word form) GoodLiteral
   suffix_gives form f =
-      or_gives _ _ GoodLiteral (map_gives (l.Tagged form) _ _ GoodLiteral tag_gives (λ a h. (f, (h, tt))))
-      (or_gives _ _ GoodLiteral (behind_gives terminal.Caret _ GoodLiteral (map_gives (l.Typed form) _ _ GoodLiteral iri_gives (λ a h. (f, h)))) (pure_gives (l.Plain form) GoodLiteral (f, tt)))
+      or_gives _ _ GoodLiteral (map_gives (l.Tagged form) _ _ GoodLiteral (by_gives _ Tag _ tag_is tag_gives) (λ a h. (f, (h, tt))))
+      (or_gives _ _ GoodLiteral (behind_word w.Caret terminal.Caret is_caret _ GoodLiteral (map_gives (l.Typed form) _ _ GoodLiteral iri_gives (λ a h. (f, h)))) (pure_gives (l.Plain form) GoodLiteral (f, tt)))
 
-  text_gives : Gives all g.AText GoodLiteral
-  text_gives = then_gives _ _ _ GoodLiteral (value_gives terminal.Text) suffix_gives
+  text_gives : Gives all (productions.RDFLiteral word) GoodLiteral
+  text_gives = then_gives _ _ _ GoodLiteral (word_gives w.Text terminal.Text is_text) suffix_gives
+
+  number_gives : Gives all (productions.NumericLiteral word) GoodLiteral
+  number_gives =
+      or_gives _ _ GoodLiteral (map_gives l.Integer _ _ GoodLiteral (word_gives w.Integer terminal.Integer is_integer) (λ a h. (h, tt)))
+      (or_gives _ _ GoodLiteral (map_gives l.Decimal _ _ GoodLiteral (word_gives w.Decimal terminal.Decimal is_decimal) (λ a h. (h, tt)))
+      (map_gives l.Double _ _ GoodLiteral (word_gives w.Double terminal.Double is_double) (λ a h. (h, tt))))
+
+  truth_gives : Gives all (productions.BooleanLiteral word) GoodLiteral
+  truth_gives =
+      or_gives _ _ GoodLiteral (behind_word w.True terminal.True is_true _ GoodLiteral (pure_gives (l.Boolean true) GoodLiteral tt))
+      (behind_word w.False terminal.False is_false _ GoodLiteral (pure_gives (l.Boolean false) GoodLiteral tt))
 
   literal_gives : Gives all g.ALiteral GoodLiteral
-  literal_gives =
-      or_gives _ _ GoodLiteral text_gives (or_gives _ _ GoodLiteral (map_gives l.Integer _ _ GoodLiteral (value_gives terminal.Integer) (λ a h. (h, tt)))
-      (or_gives _ _ GoodLiteral (map_gives l.Decimal _ _ GoodLiteral (value_gives terminal.Decimal) (λ a h. (h, tt)))
-      (or_gives _ _ GoodLiteral (map_gives l.Double _ _ GoodLiteral (value_gives terminal.Double) (λ a h. (h, tt)))
-      (or_gives _ _ GoodLiteral (closed_gives terminal.True (l.Boolean true) GoodLiteral tt) (closed_gives terminal.False (l.Boolean false) GoodLiteral tt)))))
+  literal_gives = or_gives _ _ GoodLiteral text_gives (or_gives _ _ GoodLiteral number_gives truth_gives)
 
   nodes_stand : (xs : List Node) → AllByRecursion GoodNode xs → AllStand all (joined (map node_leaves xs))
   nodes_stand [] h = tt
@@ -253,14 +276,20 @@ module _ (all : Lexemes) where
   abbrev IsNamespace : Piece → Type 0
   IsNamespace prefix = Stands all (terminal.Pname, prefix ∷ [] ∷ [])
 
-  namespace_gives : Gives all (grammar.namespace terminal.Pname) IsNamespace
+  namespace_gives : Gives all (productions.namespace word) IsNamespace
   unfolding Gives
   namespace_gives ts x us d w =
-      let e : leaf_by d.0.terminal d.0.text ≡ (terminal.Pname, x ∷ [] ∷ []) = ap (λ k. leaf_by k d.0.text) d.1 ∙ ap (λ p. (terminal.Pname, p ∷ local_part d.0.text ∷ [])) d.3 ∙ ap (λ p. (terminal.Pname, x ∷ p ∷ [])) d.2 in
+      let e : leaf_by d.0.terminal d.0.text ≡ (terminal.Pname, x ∷ [] ∷ []) = ap (λ k. leaf_by k d.0.text) (is_pname d.0.terminal d.1) ∙ ap (λ p. (terminal.Pname, p ∷ local_part d.0.text ∷ [])) d.3 ∙ ap (λ p. (terminal.Pname, x ∷ p ∷ [])) d.2 in
       (stands_as all (leaf_by d.0.terminal d.0.text) (terminal.Pname, x ∷ [] ∷ []) e (stands_at all ts us d.0 d.4 w), within_next all ts us d.0 d.4 w)
 
+  abbrev GoodBound : Piece × Piece → Type 0
+  GoodBound b = GoodStatement (read.bound b)
+
   binding_gives : Gives all g.Binding GoodStatement
-  binding_gives = then_gives _ _ IsNamespace _ namespace_gives (λ prefix h. then_gives _ _ (IsLeaf (leaf terminal.Iri)) _ (value_gives terminal.Iri) (λ reference i. pure_gives (s.Prefix prefix reference) GoodStatement ((h, (i, tt)), tt)))
+  binding_gives = map_gives read.bound _ GoodBound GoodStatement
+      (then_gives _ _ IsNamespace GoodBound namespace_gives (λ prefix h. then_gives _ _ (IsLeaf (leaf terminal.Iri)) GoodBound (word_gives w.Iri terminal.Iri is_iri)
+      (λ reference i. pure_gives (prefix, reference) GoodBound ((h, (i, tt)), tt))))
+      (λ b h. h)
 
   base_gives : Gives all g.Base GoodStatement
   base_gives = map_gives s.Base _ (IsLeaf (leaf terminal.Iri)) GoodStatement (value_gives terminal.Iri) (λ a h. ((h, tt), tt))

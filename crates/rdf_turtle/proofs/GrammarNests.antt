@@ -1,46 +1,32 @@
 -- Where no more than so many brackets are open at once, no derivation nests deeper.
-use Rattle.std.proofs.Common.{◌≡◌, ℕ, zero, suc, ◌+◌, ◌-◌, ◌≤◌, List, [], ◌∷◌, take, refl, arith, true, false}
+use Rattle.std.proofs.Common.{◌≡◌, ℕ, zero, suc, ◌+◌, ◌-◌, ◌≤◌, List, [], ◌∷◌, take, refl, arith}
 use Rattle.std.specs.Prelude.{option_to_list}
 use Rattle.rdf_turtle.specs.declared.terminal.Terminal.TheVariants as terminal
 use Rattle.rdf_turtle.specs.Lexemes.{Lexemes, Derives}
-use Rattle.rdf_grammar.specs.declared.tree.Name.TheVariants.{Full}
 use Rattle.rdf_turtle.specs.declared.tree.Verb.TheVariants as v
-use Rattle.rdf_grammar.specs.declared.tree.Literal.TheVariants as l
 use Rattle.rdf_turtle.specs.declared.tree.Node.{Node}
 use Rattle.rdf_turtle.specs.declared.tree.Node.TheVariants as n
 use Rattle.rdf_turtle.specs.declared.tree.Statement.{Statement}
 use Rattle.rdf_turtle.specs.declared.tree.Statement.TheVariants as s
-use Rattle.rdf_grammar.specs.Terminals.{Piece}
 use Rattle.rdf_turtle.specs.Nesting.{open_after}
 use Rattle.rdf_turtle.specs.Reading as read
 use Rattle.rdf_grammar.specs.Derivations as grammar
 use Rattle.rdf_grammar.specs.Derivations.{Then, Star, stop, more}
 use Rattle.rdf_turtle.specs.Grammar as g
-use Rattle.rdf_turtle.specs.Terminals.{bracket}
-use Rattle.rdf_grammar.proofs.Nests.{Keeps, then_keeps, pure_keeps, or_keeps, value_keeps, map_keeps, behind_keeps, word_keeps, leaf_keeps, maybe_keeps, star_keeps, one_keeps, enclosed, pair_keeps, namespace_keeps}
+use Rattle.rdf_turtle.specs.Terminals.{bracket, word}
+use Rattle.rdf_grammar.proofs.Nests.{Keeps, then_keeps, pure_keeps, or_keeps, map_keeps, behind_keeps, word_keeps, leaf_keeps, maybe_keeps, star_keeps, one_keeps, enclosed, pair_keeps}
+use Rattle.rdf_grammar.proofs.ProductionNests as shared
+use Rattle.rdf_turtle.proofs.GrammarWords.{plain}
 
 module _ (limit b : ℕ) where
   iri_keeps : Keeps bracket limit b g.Iri g.Iri
-  iri_keeps = or_keeps bracket limit b _ _ _ _ (leaf_keeps bracket limit b Full terminal.Iri refl) (leaf_keeps bracket limit b read.prefixed terminal.Pname refl)
+  iri_keeps = shared.iri_keeps word bracket plain limit b
 
   verb_keeps : Keeps bracket limit b g.AVerb g.AVerb
   verb_keeps = or_keeps bracket limit b _ _ _ _ (map_keeps bracket limit b v.Name _ _ iri_keeps) (word_keeps bracket limit b terminal.A v.Type refl)
 
-  tag_keeps : Keeps bracket limit b g.Tag g.Tag
-  tag_keeps = or_keeps bracket limit b _ _ _ _ (value_keeps bracket limit b terminal.AtWord refl) (or_keeps bracket limit b _ _ _ _ (value_keeps bracket limit b terminal.AtPrefix refl) (value_keeps bracket limit b terminal.AtBase refl))
-
-  suffix_keeps : (form : Piece) → Keeps bracket limit b (g.Suffix form) (g.Suffix form)
-  suffix_keeps form = or_keeps bracket limit b _ _ _ _ (map_keeps bracket limit b (l.Tagged form) _ _ tag_keeps)
-      (or_keeps bracket limit b _ _ _ _ (behind_keeps bracket limit b terminal.Caret _ _ refl (map_keeps bracket limit b (l.Typed form) _ _ iri_keeps)) (pure_keeps bracket limit b (l.Plain form)))
-
-  text_keeps : Keeps bracket limit b g.AText g.AText
-  text_keeps = then_keeps bracket limit b _ _ _ _ (value_keeps bracket limit b terminal.Text refl) suffix_keeps
-
   literal_keeps : Keeps bracket limit b g.ALiteral g.ALiteral
-  literal_keeps =
-      or_keeps bracket limit b _ _ _ _ text_keeps (or_keeps bracket limit b _ _ _ _ (leaf_keeps bracket limit b l.Integer terminal.Integer refl)
-      (or_keeps bracket limit b _ _ _ _ (leaf_keeps bracket limit b l.Decimal terminal.Decimal refl) (or_keeps bracket limit b _ _ _ _ (leaf_keeps bracket limit b l.Double terminal.Double refl)
-      (or_keeps bracket limit b _ _ _ _ (word_keeps bracket limit b terminal.True (l.Boolean true) refl) (word_keeps bracket limit b terminal.False (l.Boolean false) refl)))))
+  literal_keeps = shared.literal_keeps word bracket plain limit b
 
   -- lists of nodes with as many brackets open as before them
   module _ (P Q : Derives Node) (p : Keeps bracket limit b P Q) where
@@ -92,7 +78,7 @@ objects_at limit (suc d) b ts x us h below =
 
 module _ (limit : ℕ) where
   binding_keeps : Keeps bracket limit 0 g.Binding g.Binding
-  binding_keeps = then_keeps bracket limit 0 _ _ _ _ (namespace_keeps bracket limit 0 terminal.Pname refl) (λ prefix. then_keeps bracket limit 0 _ _ _ _ (value_keeps bracket limit 0 terminal.Iri refl) (λ reference. pure_keeps bracket limit 0 (s.Prefix prefix reference)))
+  binding_keeps = map_keeps bracket limit 0 read.bound _ _ (shared.binding_keeps word bracket plain limit 0)
 
   base_keeps : Keeps bracket limit 0 g.Base g.Base
   base_keeps = leaf_keeps bracket limit 0 s.Base terminal.Iri refl

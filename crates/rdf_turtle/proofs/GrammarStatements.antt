@@ -12,15 +12,16 @@ use Rattle.rdf_grammar.specs.Steps as steps
 use Rattle.rdf_turtle.specs.Lexemes as lexemes
 use Rattle.rdf_grammar.specs.Readings as reading
 use Rattle.rdf_grammar.specs.Terminals.{next_terminal}
-use Rattle.rdf_turtle.specs.Terminals.{same_terminal, apart}
+use Rattle.rdf_turtle.specs.Terminals.{same_terminal, apart, word}
 use Rattle.rdf_grammar.specs.Readings.{any, is_nil, is_more}
 use Rattle.rdf_grammar.specs.Derivations as grammar
 use Rattle.rdf_grammar.specs.Derivations.{Then, Star, stop, more}
 use Rattle.rdf_turtle.specs.Reading as read
 use Rattle.rdf_turtle.specs.Grammar as g
 use Rattle.rdf_grammar.proofs.Decides.{always, Decides, then_decides, pure_decides, repeat_decides}
-use Rattle.rdf_grammar.proofs.Terminals.{the_decides, value_decides, after_terminal, the_terminal, value_terminal, any_the, namespace_decides}
+use Rattle.rdf_grammar.proofs.Terminals.{the_decides, value_decides, after_terminal, the_terminal, value_terminal, any_the}
 use Rattle.rdf_grammar.proofs.Combinators.{one_decides, seq, last}
+use Rattle.rdf_grammar.proofs.Productions as shared
 use Rattle.rdf_turtle.proofs.GrammarProductions.{iri_terminal}
 use Rattle.rdf_turtle.proofs.GrammarNodes.{ends_list, IsNodeRule, node_rule, Bracketed, bracketed_decides, OptionalPredicateObjectList, optional_predicate_object_list_decides, predicate_object_list_decides, AnySubject, subject_decides, bracketed_is, anonymous_is, blank_node_property_list_is}
 
@@ -28,7 +29,7 @@ use Rattle.rdf_turtle.proofs.GrammarNodes.{ends_list, IsNodeRule, node_rule, Bra
 
 binding_decides : Decides read.binding g.Binding always
 unfolding read.binding
-binding_decides = seq _ _ _ _ always (namespace_decides same_terminal apart terminal.Pname) (λ p. seq _ _ _ _ always (value_decides same_terminal apart terminal.Iri) (λ r. pure_decides (s.Prefix p r) always))
+binding_decides = last read.bound _ _ always (shared.binding_decides word)
 
 base_decides : Decides read.base g.Base always
 unfolding read.base

@@ -10,8 +10,8 @@ pub mod GrammarNests
 pub mod GrammarNodes
 pub mod GrammarProductions
 pub mod GrammarStatements
-pub mod GrammarTerminals
 pub mod GrammarWhole
+pub mod GrammarWords
 pub mod PrologueSteps
 pub mod ProperLists
 pub mod ScopeBlanks

@@ -26,7 +26,9 @@ use Rattle.rdf_turtle.specs.declared.tree.Statement.TheVariants as s
 use Rattle.rdf_turtle.specs.Lexemes.{Derives, Lexemes}
 use Rattle.rdf_grammar.specs.Derivations.{Then, stop, more}
 use Rattle.rdf_turtle.specs.Grammar as g
-use Rattle.rdf_turtle.specs.Terminals.{at_word_terminal, terminal_of}
+use Rattle.rdf_turtle.specs.Terminals.{at_word_terminal, terminal_of, word}
+use Rattle.rdf_grammar.specs.declared.word.Word.TheVariants as w
+use Rattle.rdf_grammar.specs.Productions as productions
 use Rattle.rdf_turtle.specs.Nesting.{open_behind, open_after, IsTooDeep}
 use Rattle.rdf_turtle.specs.Reading.{property_with}
 use Rattle.rdf_turtle.specs.WrittenLaws.{IsDefaultQuad}
@@ -90,26 +92,28 @@ made_from {us = us} f a p = then_from a us p (refl, refl)
 iri_derives : (iri : List ℕ) (us : Lexemes) → g.Iri (lexeme_of (kind.Iri, iri_slice iri) ∷ us) (Full (iri_slice iri)) us
 iri_derives iri us = inl (made_from Full (iri_slice iri) (lexeme_of (kind.Iri, iri_slice iri), refl, refl, refl))
 
-tag_derives : (tag : List ℕ) (us : Lexemes) → g.Tag (lexeme_of (kind.AtWord, tag_slice tag) ∷ us) (tag_slice tag) us
-tag_derives tag us =
-    let here = lexeme_of (kind.AtWord, tag_slice tag) in
-    elim (tag_terminal (encode_utf8_all (tag_slice tag))) [
-      | inl word ↦ inl (here, word, refl, refl)
-      | inr (inl prefix) ↦ inr (inl (here, prefix, refl, refl))
-      | inr (inr base) ↦ inr (inr (here, base, refl, refl))
+tag_word : (text : List ℕ) → word (at_word_terminal text) ≡ Some w.Tag
+tag_word text =
+    elim (tag_terminal text) [
+      | inl e ↦ ap word e
+      | inr (inl e) ↦ ap word e
+      | inr (inr e) ↦ ap word e
     ]
 
+tag_derives : (tag : List ℕ) (us : Lexemes) → productions.value word w.Tag (lexeme_of (kind.AtWord, tag_slice tag) ∷ us) (tag_slice tag) us
+tag_derives tag us = (lexeme_of (kind.AtWord, tag_slice tag), tag_word (encode_utf8_all (tag_slice tag)), refl, refl)
+
 typed_derives : (form : List ℕ) (datatype : List ℕ) (us : Lexemes)
-    → g.Suffix form (lexeme_of (kind.Symbol, 94 ∷ 94 ∷ []) ∷ lexeme_of (kind.Iri, iri_slice datatype) ∷ us) (l.Typed form (Full (iri_slice datatype))) us
+    → productions.Suffix word form (lexeme_of (kind.Symbol, 94 ∷ 94 ∷ []) ∷ lexeme_of (kind.Iri, iri_slice datatype) ∷ us) (l.Typed form (Full (iri_slice datatype))) us
 typed_derives form datatype us =
-    inr (inl (then_from tt (lexeme_of (kind.Iri, iri_slice datatype) ∷ us) (lexeme_of (kind.Symbol, 94 ∷ 94 ∷ []), caret_terminal, refl) (made_from (l.Typed form) (Full (iri_slice datatype)) (iri_derives datatype us))))
+    inr (inl (then_from tt (lexeme_of (kind.Iri, iri_slice datatype) ∷ us) (lexeme_of (kind.Symbol, 94 ∷ 94 ∷ []), ap word caret_terminal, refl) (made_from (l.Typed form) (Full (iri_slice datatype)) (iri_derives datatype us))))
 
 suffix_derives : (lexical datatype : List ℕ) (tag : Option (List ℕ)) (ps : List Slice)
-    → g.Suffix (text_slice lexical) (lexemes_of (suffix_slices datatype tag ++ ps)) (literal_tree lexical datatype tag) (lexemes_of ps)
+    → productions.Suffix word (text_slice lexical) (lexemes_of (suffix_slices datatype tag ++ ps)) (literal_tree lexical datatype tag) (lexemes_of ps)
 suffix_derives lexical datatype (Some tag) ps = inl (made_from (l.Tagged (text_slice lexical)) (tag_slice tag) (tag_derives tag (lexemes_of ps)))
 suffix_derives lexical datatype None ps = by (pointwise nat_eq datatype xsd_string)
   where
-    by : (b : Bool) → g.Suffix (text_slice lexical) (lexemes_of (datatype_slices b datatype ++ ps)) (datatype_tree b lexical datatype) (lexemes_of ps)
+    by : (b : Bool) → productions.Suffix word (text_slice lexical) (lexemes_of (datatype_slices b datatype ++ ps)) (datatype_tree b lexical datatype) (lexemes_of ps)
     by true = inr (inr (refl, refl))
     by false = typed_derives (text_slice lexical) datatype (lexemes_of ps)
 

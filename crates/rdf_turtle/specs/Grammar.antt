@@ -1,44 +1,32 @@
 -- The grammar of Turtle as it is written (Turtle 1.1, section 6.5, by the numbers of its rules), with no look at the next lexeme.
-use Rattle.std.specs.Prelude.{ℕ, zero, suc, true, false, List, [], ◌∷◌, option_to_list}
+use Rattle.std.specs.Prelude.{ℕ, zero, suc, List, [], ◌∷◌, option_to_list}
 use Rattle.rdf_turtle.specs.declared.terminal.Terminal.TheVariants as terminal
 use Rattle.rdf_turtle.specs.Lexemes.{Lexemes, Derives}
 use Rattle.rdf_grammar.specs.declared.tree.Name.{Name}
-use Rattle.rdf_grammar.specs.declared.tree.Name.TheVariants.{Full}
 use Rattle.rdf_turtle.specs.declared.tree.Verb.{Verb}
 use Rattle.rdf_turtle.specs.declared.tree.Verb.TheVariants as v
 use Rattle.rdf_grammar.specs.declared.tree.Literal.{Literal}
-use Rattle.rdf_grammar.specs.declared.tree.Literal.TheVariants as l
 use Rattle.rdf_turtle.specs.declared.tree.Node.{Node}
 use Rattle.rdf_turtle.specs.declared.tree.Node.TheVariants as n
 use Rattle.rdf_turtle.specs.declared.tree.Property.{Property}
 use Rattle.rdf_turtle.specs.declared.tree.Statement.{Statement}
 use Rattle.rdf_turtle.specs.declared.tree.Statement.TheVariants as s
-use Rattle.rdf_grammar.specs.Terminals.{Piece}
-use Rattle.rdf_turtle.specs.Reading.{prefixed, property_with, all_of}
-use Rattle.rdf_grammar.specs.Derivations.{◌>>=◌, ◌>>◌, ◌<$>◌, ◌∣◌, pure, the, value, namespace, one, maybe, Star}
+use Rattle.rdf_turtle.specs.Reading.{bound, property_with, all_of}
+use Rattle.rdf_turtle.specs.Terminals.{word}
+use Rattle.rdf_grammar.specs.Derivations.{◌>>=◌, ◌>>◌, ◌<$>◌, ◌∣◌, pure, the, value, one, maybe, Star}
+use Rattle.rdf_grammar.specs.Productions as productions
 
 -- 135s: iri = IRIREF | PrefixedName
 abbrev pub Iri : Derives Name
-Iri = (Full <$> value terminal.Iri) ∣ (prefixed <$> value terminal.Pname)
+Iri = productions.Iri word
 
 -- 9: verb = predicate | "a", and 11: predicate = iri
 abbrev pub AVerb : Derives Verb
 AVerb = (v.Name <$> Iri) ∣ (the terminal.A >> pure v.Type)
 
--- LANGTAG: at this place the words of directives are tags too
-abbrev pub Tag : Derives Piece
-Tag = value terminal.AtWord ∣ value terminal.AtPrefix ∣ value terminal.AtBase
-
--- 128s: RDFLiteral = String ( LANGTAG | "^^" iri )?
-abbrev pub Suffix : Piece → Derives Literal
-Suffix form = (l.Tagged form <$> Tag) ∣ (the terminal.Caret >> l.Typed form <$> Iri) ∣ pure (l.Plain form)
-
-abbrev pub AText : Derives Literal
-AText = value terminal.Text >>= Suffix
-
--- 13: literal = RDFLiteral | NumericLiteral | BooleanLiteral, 16: NumericLiteral = INTEGER | DECIMAL | DOUBLE, and 133s: BooleanLiteral = "true" | "false"
+-- 13: literal = RDFLiteral | NumericLiteral | BooleanLiteral
 abbrev pub ALiteral : Derives Literal
-ALiteral = AText ∣ (l.Integer <$> value terminal.Integer) ∣ (l.Decimal <$> value terminal.Decimal) ∣ (l.Double <$> value terminal.Double) ∣ (the terminal.True >> pure (l.Boolean true)) ∣ (the terminal.False >> pure (l.Boolean false))
+ALiteral = productions.ALiteral word
 
 -- object is the grammar of what stands inside brackets
 module _ (object : Derives Node) where
@@ -105,10 +93,7 @@ Objects_at (suc depth) ts x us = Object (Objects_at depth) ts x us
 
 -- PNAME_NS (139s) IRIREF
 abbrev pub Binding : Derives Statement
-Binding = do
-  prefix ← namespace terminal.Pname
-  reference ← value terminal.Iri
-  pure (s.Prefix prefix reference)
+Binding = bound <$> productions.Binding word
 
 -- IRIREF
 abbrev pub Base : Derives Statement

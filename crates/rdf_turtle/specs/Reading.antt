@@ -4,34 +4,24 @@ use Rattle.std.specs.Prelude.{ℕ, zero, suc, Bool, true, false, List, [], ◌�
 use Rattle.rdf_turtle.specs.declared.terminal.Terminal.{Terminal}
 use Rattle.rdf_turtle.specs.declared.terminal.Terminal.TheVariants as terminal
 use Rattle.rdf_grammar.specs.declared.tree.Name.{Name}
-use Rattle.rdf_grammar.specs.declared.tree.Name.TheVariants.{Full, Prefixed}
 use Rattle.rdf_turtle.specs.declared.tree.Verb.{Verb}
 use Rattle.rdf_turtle.specs.declared.tree.Verb.TheVariants as v
 use Rattle.rdf_grammar.specs.declared.tree.Literal.{Literal}
-use Rattle.rdf_grammar.specs.declared.tree.Literal.TheVariants as l
 use Rattle.rdf_turtle.specs.declared.tree.Node.{Node}
 use Rattle.rdf_turtle.specs.declared.tree.Node.TheVariants as n
 use Rattle.rdf_turtle.specs.declared.tree.Property.{Property}
 use Rattle.rdf_turtle.specs.declared.tree.Statement.{Statement}
 use Rattle.rdf_turtle.specs.declared.tree.Statement.TheVariants as s
-use Rattle.rdf_tokens.specs.Values.{prefix_part, local_part}
 use Rattle.rdf_grammar.specs.Steps.{◌>>=◌, ◌>>◌, ◌<$>◌, pure, none}
+use Rattle.rdf_grammar.specs.ProductionReadings as productions
 use Rattle.rdf_grammar.specs.Terminals.{Piece, peek, next_terminal}
-use Rattle.rdf_turtle.specs.Lexemes.{Lexemes, Reading, sees, the, value, namespace}
+use Rattle.rdf_turtle.specs.Lexemes.{Lexemes, Reading, sees, the, value}
+use Rattle.rdf_turtle.specs.Terminals.{word}
 use Rattle.rdf_grammar.specs.Readings.{any, one, optional, repeat, is_more}
 
--- a prefix and a local part
-abbrev pub prefixed : Piece → Name
-prefixed text = Prefixed (prefix_part text) (local_part text)
-
 -- iri = IRIREF | PrefixedName
-abbrev pub iri_by : Option Terminal → Reading Name
-iri_by (Some terminal.Iri) = Full <$> value terminal.Iri
-iri_by (Some terminal.Pname) = prefixed <$> value terminal.Pname
-iri_by _ = none
-
-unfoldable pub iri : Reading Name
-iri = peek >>= iri_by
+abbrev pub iri : Reading Name
+iri = productions.iri word
 
 -- verb = iri | "a"
 abbrev pub verb_by : Option Terminal → Reading Verb
@@ -50,32 +40,9 @@ begins_verb _ = false
 abbrev pub sees_verb : Lexemes → Bool
 sees_verb ts = begins_verb (next_terminal ts)
 
--- ( LANGTAG | "^^" iri )?, behind a String
-abbrev pub suffix_by : Piece → Option Terminal → Reading Literal
-suffix_by form (Some terminal.AtWord) = l.Tagged form <$> value terminal.AtWord
-suffix_by form (Some terminal.AtPrefix) = l.Tagged form <$> value terminal.AtPrefix
-suffix_by form (Some terminal.AtBase) = l.Tagged form <$> value terminal.AtBase
-suffix_by form (Some terminal.Caret) = any >> l.Typed form <$> iri
-suffix_by form _ = pure (l.Plain form)
-
--- RDFLiteral = String ( LANGTAG | "^^" iri )?
-unfoldable pub text : Reading Literal
-text = do
-  form ← value terminal.Text
-  k ← peek
-  suffix_by form k
-
 -- literal = RDFLiteral | NumericLiteral | BooleanLiteral
-abbrev pub literal_by : Option Terminal → Reading Literal
-literal_by (Some terminal.Integer) = l.Integer <$> value terminal.Integer
-literal_by (Some terminal.Decimal) = l.Decimal <$> value terminal.Decimal
-literal_by (Some terminal.Double) = l.Double <$> value terminal.Double
-literal_by (Some terminal.True) = any >> pure (l.Boolean true)
-literal_by (Some terminal.False) = any >> pure (l.Boolean false)
-literal_by _ = text
-
-unfoldable pub literal : Reading Literal
-literal = peek >>= literal_by
+abbrev pub literal : Reading Literal
+literal = productions.literal word
 
 abbrev pub begins_node : Option Terminal → Bool
 begins_node (Some terminal.Iri) = true
@@ -189,12 +156,13 @@ unfoldable pub node : ℕ → Reading Node
 node zero = none
 node (suc depth) = object (node depth)
 
+-- a prefix, and what it is bound to
+abbrev pub bound : Piece × Piece → Statement
+bound b = s.Prefix b.0 b.1
+
 -- PNAME_NS IRIREF
 unfoldable pub binding : Reading Statement
-binding = do
-  prefix ← namespace terminal.Pname
-  reference ← value terminal.Iri
-  pure (s.Prefix prefix reference)
+binding = bound <$> productions.binding word
 
 -- IRIREF
 unfoldable pub base : Reading Statement

@@ -1,5 +1,5 @@
 -- The terminals of Turtle's grammar (Turtle 1.1, section 6.5).
-use Rattle.std.specs.Prelude.{ℕ, Bool, if◌then◌else◌, List, codes, map, refl}
+use Rattle.std.specs.Prelude.{ℕ, Bool, if◌then◌else◌, List, codes, map, Option, Some, None, refl}
 use Rattle.std.specs.Char.{to_ascii_lowercase}
 use Rattle.std.specs.Str.{bytes_eq, encode_utf8_all}
 use denote.Enum.Bare.{sameb, same_true, true_same}
@@ -8,6 +8,8 @@ use Rattle.rdf_tokens.specs.declared.token.Kind.TheVariants as kind
 use Rattle.rdf_grammar.specs.declared.bracket.Bracket.{Bracket}
 use Rattle.rdf_grammar.specs.declared.bracket.Bracket.TheVariants as turn
 use Rattle.rdf_grammar.specs.Terminals.{TellsApart}
+use Rattle.rdf_grammar.specs.declared.word.Word.{Word}
+use Rattle.rdf_grammar.specs.declared.word.Word.TheVariants as w
 use Rattle.rdf_turtle.specs.contracts.terminal.Terminal.{the_type}
 use Rattle.rdf_turtle.specs.declared.terminal.Terminal.{Terminal}
 use Rattle.rdf_turtle.specs.declared.terminal.Terminal.TheVariants as terminal
@@ -88,3 +90,20 @@ bracket terminal.CloseBracket = turn.Closes
 bracket terminal.Close = turn.Closes
 bracket terminal.CloseBrace = turn.Closes
 bracket _ = turn.Neither
+
+-- ---- what it is in IRIs and literals, where the words of directives are tags too
+
+abbrev pub word : Terminal → Option Word
+word terminal.Iri = Some w.Iri
+word terminal.Pname = Some w.Pname
+word terminal.Text = Some w.Text
+word terminal.AtWord = Some w.Tag
+word terminal.AtPrefix = Some w.Tag
+word terminal.AtBase = Some w.Tag
+word terminal.Caret = Some w.Caret
+word terminal.Integer = Some w.Integer
+word terminal.Decimal = Some w.Decimal
+word terminal.Double = Some w.Double
+word terminal.True = Some w.True
+word terminal.False = Some w.False
+word _ = None

@@ -8,10 +8,9 @@ ghost use Rattle.rdf_turtle.specs.Reading as spec;
 
 use crate::lexeme::Parser;
 use crate::terminal::Terminal;
-use crate::tree::{Literal, Name, Node, Property, Verb};
-use rdf_grammar::GrammarFault;
+use crate::tree::{Node, Property, Verb};
+use rdf_grammar::{GrammarFault, iri, literal};
 use rdf_terms::Items;
-use rdf_tokens::{local_part, prefix_part};
 
 fn begins_verb(terminal: Option<Terminal>) -> bool
     ensures { result ≡ spec.begins_verb terminal }
@@ -58,23 +57,6 @@ fn begins_node(terminal: Option<Terminal>) -> bool
     )
 }
 
-#[tactic(auto, unfolding(crate::specs::Reading::iri))]
-fn iri<'a>(parser: &mut Parser<'_, 'a>) -> Result<Name<'a>, GrammarFault>
-    ensures reads { Reads (spec.iri parser.old) result parser.new }
-    ensures fault { IfErr result (λ e. e ≡ Syntax) }
-    ensures kept { OnErr result (parser.new ≡ parser.old) }
-    ensures shorter { OnOk result (length parser.new < length parser.old) }
-{
-    match parser.peek() {
-        Some(Terminal::Iri) => Ok(Name::Full(parser.value(Terminal::Iri)?)),
-        Some(Terminal::Pname) => {
-            let name = parser.value(Terminal::Pname)?;
-            Ok(Name::Prefixed(prefix_part(&name), local_part(&name)))
-        }
-        _ => Err(GrammarFault::Syntax),
-    }
-}
-
 #[tactic(auto, unfolding(crate::specs::Reading::verb, rdf_grammar::specs::Readings::any))]
 fn verb<'a>(parser: &mut Parser<'_, 'a>) -> Result<Verb<'a>, GrammarFault>
     ensures reads { Reads (spec.verb parser.old) result parser.new }
@@ -88,47 +70,6 @@ fn verb<'a>(parser: &mut Parser<'_, 'a>) -> Result<Verb<'a>, GrammarFault>
             Ok(Verb::Type)
         }
         _ => Ok(Verb::Name(iri(parser)?)),
-    }
-}
-
-#[tactic(auto, unfolding(crate::specs::Reading::text, rdf_grammar::specs::Readings::any))]
-fn text<'a>(parser: &mut Parser<'_, 'a>) -> Result<Literal<'a>, GrammarFault>
-    ensures reads { Reads (spec.text parser.old) result parser.new }
-    ensures fault { IfErr result (λ e. e ≡ Syntax) }
-    ensures shorter { OnOk result (length parser.new < length parser.old) }
-{
-    let form = parser.value(Terminal::Text)?;
-    match parser.peek() {
-        Some(Terminal::AtWord) => Ok(Literal::Tagged(form, parser.value(Terminal::AtWord)?)),
-        Some(Terminal::AtPrefix) => Ok(Literal::Tagged(form, parser.value(Terminal::AtPrefix)?)),
-        Some(Terminal::AtBase) => Ok(Literal::Tagged(form, parser.value(Terminal::AtBase)?)),
-        Some(Terminal::Caret) => {
-            parser.pass();
-            Ok(Literal::Typed(form, iri(parser)?))
-        }
-        _ => Ok(Literal::Plain(form)),
-    }
-}
-
-#[tactic(auto, unfolding(crate::specs::Reading::literal, rdf_grammar::specs::Readings::any))]
-fn literal<'a>(parser: &mut Parser<'_, 'a>) -> Result<Literal<'a>, GrammarFault>
-    ensures reads { Reads (spec.literal parser.old) result parser.new }
-    ensures fault { IfErr result (λ e. e ≡ Syntax) }
-    ensures shorter { OnOk result (length parser.new < length parser.old) }
-{
-    match parser.peek() {
-        Some(Terminal::Integer) => Ok(Literal::Integer(parser.value(Terminal::Integer)?)),
-        Some(Terminal::Decimal) => Ok(Literal::Decimal(parser.value(Terminal::Decimal)?)),
-        Some(Terminal::Double) => Ok(Literal::Double(parser.value(Terminal::Double)?)),
-        Some(Terminal::True) => {
-            parser.pass();
-            Ok(Literal::Boolean(true))
-        }
-        Some(Terminal::False) => {
-            parser.pass();
-            Ok(Literal::Boolean(false))
-        }
-        _ => text(parser),
     }
 }
 

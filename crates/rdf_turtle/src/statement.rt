@@ -9,17 +9,16 @@ use crate::grammar::{bracketed, optional_predicate_object_list, predicate_object
 use crate::lexeme::Parser;
 use crate::terminal::Terminal;
 use crate::tree::{Node, Property, Statement};
-use rdf_grammar::{GrammarFault, MAX_OPEN};
+use rdf_grammar::{GrammarFault, MAX_OPEN, binding};
 use rdf_terms::Items;
 
 #[tactic(auto, unfolding(crate::specs::Reading::binding))]
-fn binding<'a>(parser: &mut Parser<'_, 'a>) -> Result<Statement<'a>, GrammarFault>
+fn prefix<'a>(parser: &mut Parser<'_, 'a>) -> Result<Statement<'a>, GrammarFault>
     ensures reads { Reads (spec.binding parser.old) result parser.new }
     ensures fault { IfErr result (λ e. e ≡ Syntax) }
     ensures shorter { OnOk result (length parser.new < length parser.old) }
 {
-    let prefix = parser.namespace(Terminal::Pname)?;
-    let reference = parser.value(Terminal::Iri)?;
+    let (prefix, reference) = binding(parser)?;
     Ok(Statement::Prefix(prefix, reference))
 }
 
@@ -86,7 +85,7 @@ pub fn statement<'a>(parser: &mut Parser<'_, 'a>) -> Result<Statement<'a>, Gramm
     match parser.peek() {
         Some(Terminal::AtPrefix) => {
             parser.pass();
-            let statement = binding(parser)?;
+            let statement = prefix(parser)?;
             parser.expect(Terminal::Dot)?;
             Ok(statement)
         }
@@ -98,7 +97,7 @@ pub fn statement<'a>(parser: &mut Parser<'_, 'a>) -> Result<Statement<'a>, Gramm
         }
         Some(Terminal::Prefix) => {
             parser.pass();
-            binding(parser)
+            prefix(parser)
         }
         Some(Terminal::Base) => {
             parser.pass();
