@@ -1,2 +1,6 @@
+pub mod Grammar
 pub mod Lexemes
+pub mod Reading
 pub mod Terminals
+pub mod WordGrammar
+pub mod WordReading

@@ -1,0 +1,55 @@
+-- Turns of the readers of lists.
+use Rattle.std.proofs.Common.{◌≡◌, ◌<◌, true, ◌&&◌, [], ◌∷◌, length, Option, Some, None, refl, sym, ◌∙◌, ap, arith}
+use Rattle.std.proofs.lemmas.Bool.{and_parts}
+use Rattle.std.specs.Prelude.{option_to_list}
+use Rattle.sparql_grammar.specs.declared.terminal.Terminal.{Terminal}
+use Rattle.sparql_grammar.specs.declared.terminal.Terminal.TheVariants as terminal
+use Rattle.sparql_grammar.specs.declared.tree.Node.{Node}
+use Rattle.sparql_grammar.specs.declared.tree.Property.{Property}
+use Rattle.sparql_grammar.specs.declared.tree.Triples.{Triples}
+use Rattle.sparql_grammar.specs.Lexemes.{Lexemes, Reading, sees, the}
+use Rattle.rdf_grammar.specs.Readings.{next, one}
+use Rattle.rdf_grammar.specs.Steps.{◌>>◌}
+use Rattle.rdf_grammar.specs.Terminals as front
+use Rattle.rdf_grammar.specs.Terminals.{next_terminal}
+use Rattle.sparql_grammar.specs.Reading.{more, optional_property, begins_node, sees_node, sees_another, same_subject}
+
+pub node_seen : (ts : Lexemes) {k : Option Terminal} → k ≡ next_terminal ts → true ≡ begins_node k → sees_node ts ≡ true
+node_seen ts p q = ap begins_node (sym p) ∙ sym q
+
+pub node_some : (ts : Lexemes) → sees_node ts ≡ true → 0 < length ts
+node_some [] h = absurd (cc)
+node_some (t ∷ ts) h = omega arith
+
+pub sees_some : (k : Terminal) (ts : Lexemes) → sees k ts ≡ true → 0 < length ts
+sees_some k [] h = absurd (cc)
+sees_some k (t ∷ ts) h = omega arith
+
+module _ (node : Reading Node) where
+  pub more_reads : (now mid then : Lexemes) (o : Option Property) → sees terminal.Semicolon now ≡ true → mid ≡ next now → optional_property node mid ≡ Some (o, then)
+      → more node now ≡ Some (option_to_list o, then)
+  unfolding front.the
+  more_reads now mid then o s m h = let e : optional_property node (next now) ≡ Some (o, then) = ap (optional_property node) (sym m) ∙ h in rw (s, e) refl
+
+  pub more_fails : (now mid : Lexemes) → sees terminal.Semicolon now ≡ true → mid ≡ next now → optional_property node mid ≡ None → more node now ≡ None
+  unfolding front.the
+  more_fails now mid s m h = let e : optional_property node (next now) ≡ None = ap (optional_property node) (sym m) ∙ h in rw (s, e) refl
+
+-- ---- a dot, and triples behind it
+
+pub dot_seen : (ts : Lexemes) → sees_another ts ≡ true → sees terminal.Dot ts ≡ true
+dot_seen ts h = (and_parts (sees terminal.Dot ts) (sees_node (next ts)) h).0
+
+pub another_some : (ts : Lexemes) → sees_another ts ≡ true → length (next ts) < length ts
+another_some [] h = absurd (cc)
+another_some (t ∷ ts) h = omega arith
+
+module _ (node : Reading Node) where
+  pub another_reads : (now mid then : Lexemes) (x : Triples) → sees_another now ≡ true → mid ≡ next now → same_subject node mid ≡ Some (x, then)
+      → one (the terminal.Dot >> same_subject node) now ≡ Some (x ∷ [], then)
+  unfolding front.the
+  another_reads now mid then x s m h = let e : same_subject node (next now) ≡ Some (x, then) = ap (same_subject node) (sym m) ∙ h in rw (dot_seen now s, e) refl
+
+  pub another_fails : (now mid : Lexemes) → sees_another now ≡ true → mid ≡ next now → same_subject node mid ≡ None → one (the terminal.Dot >> same_subject node) now ≡ None
+  unfolding front.the
+  another_fails now mid s m h = let e : same_subject node (next now) ≡ None = ap (same_subject node) (sym m) ∙ h in rw (dot_seen now s, e) refl
