@@ -1,5 +1,6 @@
 pub mod Grammar
 pub mod Lexemes
+pub mod Proper
 pub mod Reading
 pub mod Terminals
 pub mod WordGrammar

@@ -9,14 +9,13 @@ use Rattle.sparql_grammar.specs.declared.tree.Verb.{Verb}
 use Rattle.sparql_grammar.specs.declared.tree.Verb.TheVariants as v
 use Rattle.sparql_grammar.specs.declared.tree.Node.{Node}
 use Rattle.sparql_grammar.specs.declared.tree.Node.TheVariants as n
-use Rattle.sparql_grammar.specs.declared.tree.Node.TheOpen.{Node-F}
-use Rattle.sparql_grammar.specs.declared.tree.Node.TheViews.{out-Node}
 use Rattle.sparql_grammar.specs.declared.tree.Property.{Property}
 use Rattle.sparql_grammar.specs.declared.tree.Triples.{Triples}
 use Rattle.rdf_grammar.specs.Readings.{any, one, optional, repeat, next}
 use Rattle.rdf_grammar.specs.Steps.{◌>>=◌, ◌>>◌, ◌<$>◌, pure, none}
 use Rattle.rdf_grammar.specs.Terminals.{peek, next_terminal}
 use Rattle.sparql_grammar.specs.Lexemes.{Lexemes, Reading, Test, sees, the, value}
+use Rattle.sparql_grammar.specs.Proper.{stands_alone}
 use Rattle.sparql_grammar.specs.WordReading.{iri, literal}
 
 -- VarOrIri = Var | iri
@@ -75,19 +74,6 @@ triples_with subject properties = record { subject = subject; properties = prope
 abbrev pub all_of : {A : Type 0} → Option (List A) → List A
 all_of None = []
 all_of (Some xs) = xs
-
-abbrev pub is_filled : {A : Type 0} → List A → Bool
-is_filled [] = false
-is_filled (x ∷ xs) = true
-
-abbrev pub makes_triples_of : Node-F Node Property → Bool
-makes_triples_of (Node-F.Blank bracket properties) = is_filled properties
-makes_triples_of (Node-F.Collection bracket items) = is_filled items
-makes_triples_of _ = false
-
--- TriplesNode: what makes triples by itself, so that it needs no properties
-abbrev pub makes_triples : Node → Bool
-makes_triples node = makes_triples_of (out-Node node)
 
 -- node is the rule for what stands inside brackets
 module _ (node : Reading Node) where
@@ -164,9 +150,9 @@ sees_another ts = sees terminal.Dot ts && sees_node (next ts)
 
 -- node is the rule for subjects and objects
 module _ (node : Reading Node) where
-  -- behind VarOrTerm PropertyListNotEmpty, behind TriplesNode PropertyList
+  -- behind VarOrTerm PropertyListNotEmpty; behind TriplesNode, which stands alone, PropertyList
   unfoldable pub properties_of : Node → Reading (List Property)
-  properties_of subject = if makes_triples subject then property_list node else property_list_not_empty node
+  properties_of subject = if stands_alone subject then property_list node else property_list_not_empty node
 
   -- TriplesSameSubject = VarOrTerm PropertyListNotEmpty | TriplesNode PropertyList
   unfoldable pub same_subject : Reading Triples

@@ -3,6 +3,7 @@
 ghost use Rattle.std.specs.Prelude.{◌≡◌, ◌≤◌, ◌<◌, length, OnOk, OnErr, IfErr};
 ghost use Rattle.rdf_grammar.specs.Readings.{Reads};
 ghost use Rattle.rdf_grammar.specs.declared.fault.GrammarFault.TheVariants.{Syntax};
+ghost use Rattle.sparql_grammar.specs.Proper.{stands_alone};
 ghost use Rattle.sparql_grammar.specs.Reading as spec;
 
 use crate::lexeme::Parser;
@@ -75,8 +76,9 @@ pub fn begins_node(terminal: Option<Terminal>) -> bool
     )
 }
 
-fn makes_triples(node: &Node<'_>) -> bool
-    ensures { result ≡ spec.makes_triples node.now }
+#[tactic(auto, using(crate::proofs::Trees::alone_variable, crate::proofs::Trees::alone_name, crate::proofs::Trees::alone_literal, crate::proofs::Trees::alone_label, crate::proofs::Trees::alone_blank, crate::proofs::Trees::alone_collection))]
+fn stands_alone(node: &Node<'_>) -> bool
+    ensures { result ≡ stands_alone node.now }
 {
     match node {
         Node::Blank(_, properties) => !properties.as_slice().is_empty(),
@@ -226,7 +228,7 @@ fn properties_of<'a>(
     ensures reads { Reads (spec.properties_of (spec.node depth) subject.now parser.old) result parser.new }
     ensures shorter { OnOk result (length parser.new ≤ length parser.old) }
 {
-    if makes_triples(subject) {
+    if stands_alone(subject) {
         property_list(parser, depth)
     } else {
         property_list_not_empty(parser, depth)
