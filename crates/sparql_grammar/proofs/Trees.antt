@@ -36,7 +36,7 @@ module _ {A B : Type 0} (f : Node-F A B → A) (h : Property-F A B → B) where
 
 -- ---- which nodes stand alone
 
-filled_map : {A B : Type 0} (f : A → B) (xs : List A) → is_filled (map f xs) ≡ is_filled xs
+pub filled_map : {A B : Type 0} (f : A → B) (xs : List A) → is_filled (map f xs) ≡ is_filled xs
 filled_map f [] = refl
 filled_map f (x ∷ xs) = refl
 

@@ -1,3 +1,4 @@
+pub mod Formed
 pub mod Grammar
 pub mod Lexemes
 pub mod Proper
