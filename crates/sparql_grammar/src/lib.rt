@@ -2,9 +2,11 @@
 //! written.
 #![tactic(auto)]
 
+mod grammar;
 mod lexeme;
 mod terminal;
 mod tree;
+mod words;
 
 pub use lexeme::Lexeme;
 pub use terminal::Terminal;

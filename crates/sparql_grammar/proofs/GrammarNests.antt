@@ -1,0 +1,165 @@
+-- Where no more than so many brackets are open at once, no triples nest deeper.
+use Rattle.std.proofs.Common.{◌≡◌, ℕ, zero, suc, ◌+◌, ◌-◌, ◌≤◌, List, [], ◌∷◌, refl, ◌∙◌, ap, arith, true, false}
+use Rattle.std.specs.Prelude.{option_to_list}
+use Rattle.rdf_grammar.specs.declared.tree.Name.TheVariants.{Full}
+use Rattle.rdf_grammar.specs.declared.tree.Literal.TheVariants as l
+use Rattle.rdf_grammar.specs.Terminals.{Piece}
+use Rattle.rdf_grammar.specs.Nesting.{open_behind}
+use Rattle.rdf_grammar.specs.Derivations as grammar
+use Rattle.rdf_grammar.specs.Derivations.{Then, Star}
+use Rattle.rdf_grammar.proofs.Nests.{Keeps, then_keeps, pure_keeps, or_keeps, the_keeps, value_keeps, map_keeps, behind_keeps, word_keeps, leaf_keeps, maybe_keeps, star_keeps, one_keeps, Below, after}
+use Rattle.sparql_grammar.specs.declared.terminal.Terminal.{Terminal}
+use Rattle.sparql_grammar.specs.declared.terminal.Terminal.TheVariants as terminal
+use Rattle.sparql_grammar.specs.declared.tree.Node.{Node}
+use Rattle.sparql_grammar.specs.declared.tree.Node.TheVariants as n
+use Rattle.sparql_grammar.specs.declared.tree.Property.{Property}
+use Rattle.sparql_grammar.specs.declared.tree.Triples.{Triples}
+use Rattle.sparql_grammar.specs.declared.tree.VarOrIri.TheVariants as i
+use Rattle.sparql_grammar.specs.declared.tree.Verb.TheVariants as v
+use Rattle.sparql_grammar.specs.Lexemes.{Lexemes, Derives}
+use Rattle.sparql_grammar.specs.Terminals.{bracket}
+use Rattle.sparql_grammar.specs.WordReading.{prefixed}
+use Rattle.sparql_grammar.specs.Reading as read
+use Rattle.sparql_grammar.specs.WordGrammar.{Iri, Suffix, RDFLiteral, NumericLiteral, BooleanLiteral, ALiteral}
+use Rattle.sparql_grammar.specs.Grammar as g
+
+module _ (limit b : ℕ) where
+  pub iri_keeps : Keeps bracket limit b Iri Iri
+  iri_keeps = or_keeps bracket limit b _ _ _ _ (leaf_keeps bracket limit b Full terminal.Iri refl) (leaf_keeps bracket limit b prefixed terminal.Pname refl)
+
+  pub var_or_iri_keeps : Keeps bracket limit b g.AVarOrIri g.AVarOrIri
+  var_or_iri_keeps = or_keeps bracket limit b _ _ _ _ (leaf_keeps bracket limit b i.Variable terminal.Variable refl) (map_keeps bracket limit b i.Name _ _ iri_keeps)
+
+  verb_keeps : Keeps bracket limit b g.AVerb g.AVerb
+  verb_keeps = or_keeps bracket limit b _ _ _ _ (leaf_keeps bracket limit b v.Variable terminal.Variable refl)
+      (or_keeps bracket limit b _ _ _ _ (map_keeps bracket limit b v.Name _ _ iri_keeps) (word_keeps bracket limit b terminal.A v.Type refl))
+
+  suffix_keeps : (form : Piece) → Keeps bracket limit b (Suffix form) (Suffix form)
+  suffix_keeps form = or_keeps bracket limit b _ _ _ _ (leaf_keeps bracket limit b (l.Tagged form) terminal.AtWord refl)
+      (or_keeps bracket limit b _ _ _ _ (behind_keeps bracket limit b terminal.Caret _ _ refl (map_keeps bracket limit b (l.Typed form) _ _ iri_keeps)) (pure_keeps bracket limit b (l.Plain form)))
+
+  text_keeps : Keeps bracket limit b RDFLiteral RDFLiteral
+  text_keeps = then_keeps bracket limit b _ _ _ _ (value_keeps bracket limit b terminal.Text refl) suffix_keeps
+
+  number_keeps : Keeps bracket limit b NumericLiteral NumericLiteral
+  number_keeps = or_keeps bracket limit b _ _ _ _ (leaf_keeps bracket limit b l.Integer terminal.Integer refl)
+      (or_keeps bracket limit b _ _ _ _ (leaf_keeps bracket limit b l.Decimal terminal.Decimal refl) (leaf_keeps bracket limit b l.Double terminal.Double refl))
+
+  boolean_keeps : Keeps bracket limit b BooleanLiteral BooleanLiteral
+  boolean_keeps = or_keeps bracket limit b _ _ _ _ (word_keeps bracket limit b terminal.True (l.Boolean true) refl) (word_keeps bracket limit b terminal.False (l.Boolean false) refl)
+
+  literal_keeps : Keeps bracket limit b ALiteral ALiteral
+  literal_keeps = or_keeps bracket limit b _ _ _ _ text_keeps (or_keeps bracket limit b _ _ _ _ number_keeps boolean_keeps)
+
+  -- lists of nodes with as many brackets open as before them
+  module _ (P Q : Derives Node) (p : Keeps bracket limit b P Q) where
+    objects_keep : Keeps bracket limit b (g.ObjectList P) (g.ObjectList Q)
+    objects_keep = then_keeps bracket limit b _ _ _ _ p (λ first. then_keeps bracket limit b _ _ _ _ (star_keeps bracket limit b _ _ (one_keeps bracket limit b _ _ (behind_keeps bracket limit b terminal.Comma P Q refl p))) (λ others. pure_keeps bracket limit b (first ∷ others)))
+
+    property_keeps : Keeps bracket limit b (g.VerbObjects P) (g.VerbObjects Q)
+    property_keeps = then_keeps bracket limit b _ _ _ _ verb_keeps (λ verb. then_keeps bracket limit b _ _ _ _ objects_keep (λ objects. pure_keeps bracket limit b (read.property_with verb objects)))
+
+    not_empty_keeps : Keeps bracket limit b (g.PropertyListNotEmpty P) (g.PropertyListNotEmpty Q)
+    not_empty_keeps = then_keeps bracket limit b _ _ _ _ property_keeps (λ first. then_keeps bracket limit b _ _ _ _
+        (star_keeps bracket limit b _ _ (behind_keeps bracket limit b terminal.Semicolon _ _ refl (map_keeps bracket limit b option_to_list _ _ (maybe_keeps bracket limit b _ _ property_keeps)))) (λ others. pure_keeps bracket limit b (first ∷ others)))
+
+    properties_keep : Keeps bracket limit b (g.PropertyList P) (g.PropertyList Q)
+    properties_keep = map_keeps bracket limit b read.all_of _ _ (maybe_keeps bracket limit b _ _ not_empty_keeps)
+
+-- ---- brackets
+
+-- from where b are open to where c are open, what P derives Q derives
+unfoldable Shifts : {A : Type 0} → ℕ → ℕ → ℕ → Derives A → Derives A → Type 0
+Shifts {A} limit b c P Q = (ts : Lexemes) (x : A) (us : Lexemes) → P ts x us → Below bracket limit b ts → Q ts x us × Below bracket limit c us
+
+kept : {A : Type 0} (limit b : ℕ) (P Q : Derives A) → Keeps bracket limit b P Q → Shifts limit b b P Q
+unfolding Keeps Shifts
+kept limit b P Q p ts x us d h = p ts x us d h
+
+keeps : {A : Type 0} (limit b : ℕ) (P Q : Derives A) → Shifts limit b b P Q → Keeps bracket limit b P Q
+unfolding Keeps Shifts
+keeps limit b P Q p ts x us d h = p ts x us d h
+
+then_shifts : {A B : Type 0} (limit b c e : ℕ) (P Q : Derives A) (F G : A → Derives B) → Shifts limit b c P Q → ((a : A) → Shifts limit c e (F a) (G a)) → Shifts limit b e (Then P F) (Then Q G)
+unfolding Shifts
+then_shifts limit b c e P Q F G p f ts x us d h =
+    let r = p ts d.first d.mid d.reads h in
+    let q = f d.first d.mid x us d.goes r.1 in
+    (record { first = d.first; mid = d.mid; reads = r.0; goes = q.0 }, q.1)
+
+opens : (limit b : ℕ) (k : Terminal) → open_behind bracket b k ≡ b + 1 → Shifts limit b (b + 1) (grammar.value k) (grammar.value k)
+unfolding Shifts
+opens limit b k e ts x us d h = (d, let a = after bracket limit b d.0 us (rw d.3 at h) in rw (ap (open_behind bracket b) d.1 ∙ e) at a)
+
+closes : (limit b : ℕ) (k : Terminal) → open_behind bracket (b + 1) k ≡ b → Shifts limit (b + 1) b (grammar.the k) (grammar.the k)
+unfolding Shifts
+closes limit b k e ts x us d h = (d, let a = after bracket limit (b + 1) d.0 us (rw d.2 at h) in rw (ap (open_behind bracket (b + 1)) d.1 ∙ e) at a)
+
+-- the closer, and the tree behind it
+closed : {A : Type 0} (limit b : ℕ) (k : Terminal) (x : A) → open_behind bracket (b + 1) k ≡ b
+    → Shifts limit (b + 1) b (Then (grammar.the k) (λ _. grammar.pure x)) (Then (grammar.the k) (λ _. grammar.pure x))
+closed limit b k x e = then_shifts limit (b + 1) b b _ _ _ _ (closes limit b k e) (λ _. kept limit b _ _ (pure_keeps bracket limit b x))
+
+module _ (limit b : ℕ) where
+  anon_keeps : Keeps bracket limit b g.Anon g.Anon
+  anon_keeps = keeps limit b _ _ (then_shifts limit b (b + 1) b _ _ _ _ (opens limit b terminal.OpenBracket refl) (λ opener. closed limit b terminal.CloseBracket (n.Blank opener []) (omega arith)))
+
+  nil_keeps : Keeps bracket limit b g.Nil g.Nil
+  nil_keeps = keeps limit b _ _ (then_shifts limit b (b + 1) b _ _ _ _ (opens limit b terminal.Open refl) (λ opener. closed limit b terminal.Close (n.Collection opener []) (omega arith)))
+
+  term_keeps : Keeps bracket limit b g.VarOrTerm g.VarOrTerm
+  term_keeps = or_keeps bracket limit b _ _ _ _ (leaf_keeps bracket limit b n.Variable terminal.Variable refl) (or_keeps bracket limit b _ _ _ _ (map_keeps bracket limit b n.Name _ _ (iri_keeps limit b))
+      (or_keeps bracket limit b _ _ _ _ (map_keeps bracket limit b n.Literal _ _ (literal_keeps limit b))
+      (or_keeps bracket limit b _ _ _ _ (or_keeps bracket limit b _ _ _ _ (leaf_keeps bracket limit b n.Label terminal.BlankLabel refl) anon_keeps) nil_keeps)))
+
+-- what stands in brackets
+module _ (limit b : ℕ) (P Q : Derives Node) (p : Keeps bracket limit (b + 1) P Q) where
+  blank_keeps : Keeps bracket limit b (g.BlankNodePropertyList P) (g.BlankNodePropertyList Q)
+  blank_keeps = keeps limit b _ _ (then_shifts limit b (b + 1) b _ _ _ _ (opens limit b terminal.OpenBracket refl)
+      (λ opener. then_shifts limit (b + 1) (b + 1) b _ _ _ _ (kept limit (b + 1) _ _ (not_empty_keeps limit (b + 1) P Q p))
+      (λ ps. closed limit b terminal.CloseBracket (n.Blank opener ps) (omega arith))))
+
+  collection_keeps : Keeps bracket limit b (g.Collection P) (g.Collection Q)
+  collection_keeps = keeps limit b _ _ (then_shifts limit b (b + 1) b _ _ _ _ (opens limit b terminal.Open refl)
+      (λ opener. then_shifts limit (b + 1) (b + 1) b _ _ _ _ (kept limit (b + 1) _ _ p)
+      (λ first. then_shifts limit (b + 1) (b + 1) b _ _ _ _ (kept limit (b + 1) _ _ (star_keeps bracket limit (b + 1) _ _ (one_keeps bracket limit (b + 1) P Q p)))
+      (λ others. closed limit b terminal.Close (n.Collection opener (first ∷ others)) (omega arith)))))
+
+  triples_node_keeps : Keeps bracket limit b (g.TriplesNode P) (g.TriplesNode Q)
+  triples_node_keeps = or_keeps bracket limit b _ _ _ _ collection_keeps blank_keeps
+
+  graph_node_keeps : Keeps bracket limit b (g.GraphNode P) (g.GraphNode Q)
+  graph_node_keeps = or_keeps bracket limit b _ _ _ _ (term_keeps limit b) triples_node_keeps
+
+  about_term_keeps : Keeps bracket limit b (g.AboutTerm P) (g.AboutTerm Q)
+  about_term_keeps = then_keeps bracket limit b _ _ _ _ (term_keeps limit b) (λ subject. then_keeps bracket limit b _ _ _ _ (not_empty_keeps limit b (g.GraphNode P) (g.GraphNode Q) graph_node_keeps)
+      (λ ps. pure_keeps bracket limit b (read.triples_with subject ps)))
+
+  about_node_keeps : Keeps bracket limit b (g.AboutNode P) (g.AboutNode Q)
+  about_node_keeps = then_keeps bracket limit b _ _ _ _ triples_node_keeps (λ subject. then_keeps bracket limit b _ _ _ _ (properties_keep limit b (g.GraphNode P) (g.GraphNode Q) graph_node_keeps)
+      (λ ps. pure_keeps bracket limit b (read.triples_with subject ps)))
+
+  same_subject_keeps : Keeps bracket limit b (g.TriplesSameSubject P) (g.TriplesSameSubject Q)
+  same_subject_keeps = or_keeps bracket limit b _ _ _ _ about_term_keeps about_node_keeps
+
+  template_keeps : Keeps bracket limit b (g.TriplesTemplate P) (g.TriplesTemplate Q)
+  template_keeps = then_keeps bracket limit b _ _ _ _ same_subject_keeps
+      (λ first. then_keeps bracket limit b _ _ _ _ (star_keeps bracket limit b _ _ (one_keeps bracket limit b _ _ (behind_keeps bracket limit b terminal.Dot _ _ refl same_subject_keeps)))
+      (λ others. then_keeps bracket limit b _ _ _ _ (maybe_keeps bracket limit b _ _ (the_keeps bracket limit b terminal.Dot refl)) (λ _. pure_keeps bracket limit b (first ∷ others))))
+
+nodes_keep : (limit d b : ℕ) → Keeps bracket limit b (g.Nodes_at d) (g.Nodes_at (suc limit - b))
+unfolding Keeps
+nodes_keep limit zero b ts x us h below = absurd h
+nodes_keep limit (suc d) b ts x us h below =
+    let some : b ≤ limit = below.at 0 in
+    let i : suc limit - (b + 1) ≡ limit - b = omega arith in
+    let inside : Keeps bracket limit (b + 1) (g.Nodes_at d) (g.Nodes_at (limit - b)) = rw i at (nodes_keep limit d (b + 1)) in
+    let m : suc limit - b ≡ suc (limit - b) = omega arith in
+    rw m (graph_node_keeps limit b (g.Nodes_at d) (g.Nodes_at (limit - b)) inside ts x us h below)
+
+-- Triples behind b brackets, derived at any depth, are derived at the depth that the limit leaves.
+pub triples_keep : (limit d b : ℕ) → Keeps bracket limit b (g.TriplesTemplate (g.Nodes_at d)) (g.TriplesTemplate (g.Nodes_at (limit - b)))
+triples_keep limit d b =
+    let i : suc limit - (b + 1) ≡ limit - b = omega arith in
+    let inside : Keeps bracket limit (b + 1) (g.Nodes_at d) (g.Nodes_at (limit - b)) = rw i at (nodes_keep limit d (b + 1)) in
+    template_keeps limit b (g.Nodes_at d) (g.Nodes_at (limit - b)) inside

@@ -1,0 +1,9 @@
+pub mod FormedPieces
+pub mod Gives
+pub mod GrammarNests
+pub mod GrammarNodes
+pub mod GrammarProper
+pub mod GrammarTriples
+pub mod GrammarWords
+pub mod Trees
+pub mod Turns
