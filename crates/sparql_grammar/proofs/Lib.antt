@@ -7,3 +7,8 @@ pub mod GrammarTriples
 pub mod GrammarWords
 pub mod Trees
 pub mod Turns
+pub mod OperationData
+pub mod OperationNests
+pub mod OperationParts
+pub mod OperationProductions
+pub mod OperationWhole
