@@ -20,9 +20,17 @@ use Rattle.sparql_grammar.specs.OperationReading as read
 use Rattle.sparql_grammar.specs.Reading.{all_of, begins_node, sees_node}
 use Rattle.sparql_grammar.specs.Terminals.{same_terminal, apart}
 use Rattle.sparql_grammar.proofs.OperationProductions.{perhaps_decides}
-use Rattle.sparql_grammar.proofs.GrammarStandIn.{var_or_iri_decides, closes_triples, ends_triples}
+use Rattle.sparql_grammar.proofs.GrammarNodes.{var_or_iri_decides}
 
 -- ---- what may follow
+
+abbrev pub closes_triples : Option Terminal → Bool
+closes_triples (Some terminal.CloseBrace) = true
+closes_triples (Some terminal.Graph) = true
+closes_triples _ = false
+
+abbrev pub ends_triples : Test
+ends_triples us = closes_triples (next_terminal us)
 
 closes_no_node : (k : Option Terminal) → closes_triples k ≡ true → begins_node k ≡ false
 closes_no_node (Some terminal.CloseBrace) h = refl

@@ -23,7 +23,7 @@ use Rattle.sparql_grammar.specs.OperationGrammar as g
 use Rattle.sparql_grammar.specs.OperationReading as read
 use Rattle.sparql_grammar.specs.Reading.{all_of}
 use Rattle.sparql_grammar.specs.Terminals.{bracket}
-use Rattle.sparql_grammar.proofs.GrammarStandIn.{iri_keeps, var_or_iri_keeps, triples_keep}
+use Rattle.sparql_grammar.proofs.GrammarNests.{iri_keeps, var_or_iri_keeps, triples_keep}
 use Rattle.sparql_grammar.proofs.OperationParts.{Nothing, Ended, EndedOperation, APart}
 
 -- what stands where so many brackets are open
@@ -133,6 +133,6 @@ unfolding Keeps
 parts_within depth d ts parts below h =
     let once : suc (suc depth) - 1 ≡ suc depth = omega arith in
     let twice : suc (suc depth) - 2 ≡ depth = omega arith in
-    let outer : Keeps bracket (suc (suc depth)) 1 (TriplesTemplate (Nodes_at (suc d))) (TriplesTemplate (Nodes_at (suc depth))) = rw once at (triples_keep (suc (suc depth)) 1 (suc d)) in
-    let inner : Keeps bracket (suc (suc depth)) 2 (TriplesTemplate (Nodes_at d)) (TriplesTemplate (Nodes_at depth)) = rw twice at (triples_keep (suc (suc depth)) 2 d) in
+    let outer : Keeps bracket (suc (suc depth)) 1 (TriplesTemplate (Nodes_at (suc d))) (TriplesTemplate (Nodes_at (suc depth))) = rw once at (triples_keep (suc (suc depth)) (suc d) 1) in
+    let inner : Keeps bracket (suc (suc depth)) 2 (TriplesTemplate (Nodes_at d)) (TriplesTemplate (Nodes_at depth)) = rw twice at (triples_keep (suc (suc depth)) d 2) in
     (parts_keep (suc (suc depth)) 0 (TriplesTemplate (Nodes_at (suc d))) (TriplesTemplate (Nodes_at (suc depth))) (TriplesTemplate (Nodes_at d)) (TriplesTemplate (Nodes_at depth)) outer inner ts parts [] h (record { at = below })).0

@@ -29,7 +29,7 @@ use Rattle.sparql_grammar.specs.OperationReading as read
 use Rattle.sparql_grammar.specs.Terminals.{same_terminal, apart}
 use Rattle.sparql_grammar.specs.WordGrammar.{Iri}
 use Rattle.sparql_grammar.specs.WordReading.{iri}
-use Rattle.sparql_grammar.proofs.GrammarStandIn.{iri_terminal, iri_decides}
+use Rattle.sparql_grammar.proofs.GrammarWords.{iri_terminal, iri_decides}
 
 -- ---- a lexeme that may be missing
 

@@ -1,11 +1,14 @@
 -- All of the lexemes.
-use Rattle.std.proofs.Common.{◌≡◌, ℕ, suc, ◌+◌, ◌<◌, ◌≤◌, List, [], take, length, Option, Some, None, refl, ap, sym, ◌∙◌, arith, inl, inr, ◌⊎◌}
+use Rattle.std.proofs.Common.{◌≡◌, ℕ, suc, ◌+◌, ◌<◌, ◌≤◌, true, List, [], take, length, Option, Some, None, refl, ap, sym, ◌∙◌, arith, inl, inr, ◌⊎◌}
 use Rattle.std.specs.Prelude.{MatchOption}
 use Rattle.rdf_grammar.specs.declared.fault.GrammarFault.{GrammarFault}
 use Rattle.rdf_grammar.specs.declared.fault.GrammarFault.TheVariants.{Syntax, NoMemory}
 use Rattle.rdf_grammar.specs.Readings.{Fails}
+use Rattle.rdf_grammar.specs.Terminals.{next_terminal}
 use Rattle.rdf_grammar.proofs.Decides.{some_pair}
 use Rattle.rdf_grammar.proofs.Depths.{never_more}
+use Rattle.sparql_grammar.specs.declared.terminal.Terminal.{Terminal}
+use Rattle.sparql_grammar.specs.declared.terminal.Terminal.TheVariants as terminal
 use Rattle.sparql_grammar.specs.declared.tree.Operation.{Operation}
 use Rattle.sparql_grammar.specs.declared.tree.Part.{Part}
 use Rattle.sparql_grammar.specs.declared.tree.Triples.{Triples}
@@ -17,13 +20,23 @@ use Rattle.sparql_grammar.specs.OperationReading.{request}
 use Rattle.sparql_grammar.specs.Reading.{node, triples_template}
 use Rattle.sparql_grammar.specs.Stops.{Explains, kind_of}
 use Rattle.sparql_grammar.specs.Terminals.{bracket}
-use Rattle.sparql_grammar.proofs.GrammarStandIn.{triples_decides, triples_begin}
-use Rattle.sparql_grammar.proofs.OperationData.{IsTemplateRule}
+use Rattle.sparql_grammar.proofs.GrammarTriples.{triples_decides, triples_begin, closes_template, ends_template}
+use Rattle.sparql_grammar.proofs.OperationData.{closes_triples, ends_triples, IsTemplateRule}
 use Rattle.sparql_grammar.proofs.OperationNests.{PartsAt, parts_within}
 use Rattle.sparql_grammar.proofs.OperationParts.{operation_strict, parts_sound, parts_complete, parts_of, update_of}
 
+closes_there : (k : Option Terminal) → closes_triples k ≡ true → closes_template k ≡ true
+closes_there (Some terminal.CloseBrace) h = refl
+closes_there (Some terminal.Graph) h = refl
+closes_there _ h = absurd (cc)
+
 template_rule : (depth : ℕ) → IsTemplateRule (triples_template (node (suc depth))) (TriplesTemplate (Nodes_at depth))
-template_rule depth = record { decides = triples_decides depth; begins = triples_begin depth }
+template_rule depth =
+    let d = triples_decides depth in
+    record {
+      decides = record { sound = d.sound; complete = λ ts x us h e. d.complete ts x us h (closes_there (next_terminal us) e); shorter = d.shorter };
+      begins = triples_begin depth;
+    }
 
 -- the readings of triples in the braces of data and of GRAPH, and what they read
 module _ (depth : ℕ) where
