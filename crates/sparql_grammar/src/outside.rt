@@ -1,10 +1,11 @@
 //! The words of SPARQL that this profile leaves out.
-ghost use Rattle.std.specs.Prelude.{◌≡◌, ℕ, List, MatchOption};
+ghost use Rattle.std.specs.Prelude.{◌≡◌, ℕ, List, MatchBool, MatchOption};
 ghost use Rattle.std.specs.Str.{chars};
 ghost use Rattle.rdf_tokens.specs.Tokens.{Runs, HasItsForm};
 ghost use Rattle.sparql_grammar.specs.Profile as spec;
 ghost use Rattle.sparql_grammar.specs.Profile.{AreInside, IsFirstOutside, IsOutside};
 
+use crate::terminal::is_word;
 use rdf_tokens::{Kind, Token, slice_of};
 
 // In lower case.
@@ -69,9 +70,16 @@ const OUTSIDE_WORDS: [&str; 55] = [
 fn is_outside_word(text: &str) -> bool
     ensures { result ≡ spec.is_outside text.now }
 {
-    OUTSIDE_WORDS
-        .iter()
-        .any(|word| text.eq_ignore_ascii_case(word))
+    OUTSIDE_WORDS.iter().any(|word| is_word(text, word))
+}
+
+fn is_outside(text: &str, token: &Token) -> bool
+    requires { HasItsForm (chars text.now) token.now }
+    ensures { MatchBool result
+        (IsOutside (chars text.now) token.now)
+        (¬ (IsOutside (chars text.now) token.now)) }
+{
+    token.kind == Kind::Word && is_outside_word(slice_of(text, token).as_str())
 }
 
 /// The number of the first token that is a word which this profile leaves out, in any case.
@@ -82,7 +90,7 @@ pub fn first_outside(text: &str, tokens: &[Token]) -> Option<usize>
         (λ place. IsFirstOutside (chars text.now) tokens.now place) }
 {
     for (place, token) in tokens.iter().enumerate() {
-        if token.kind == Kind::Word && is_outside_word(slice_of(text, token).as_str()) {
+        if is_outside(text, token) {
             return Some(place);
         }
     }
