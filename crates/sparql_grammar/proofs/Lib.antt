@@ -5,5 +5,12 @@ pub mod GrammarNodes
 pub mod GrammarProper
 pub mod GrammarTriples
 pub mod GrammarWords
+pub mod ProfileTokens
 pub mod Trees
 pub mod Turns
+pub mod OperationData
+pub mod OperationNests
+pub mod OperationParts
+pub mod OperationProductions
+pub mod OperationTurns
+pub mod OperationWhole

@@ -1,8 +1,13 @@
 pub mod Formed
 pub mod Grammar
 pub mod Lexemes
+pub mod Nesting
+pub mod OperationGrammar
+pub mod OperationReading
+pub mod Profile
 pub mod Proper
 pub mod Reading
+pub mod Stops
 pub mod Terminals
 pub mod WordGrammar
 pub mod WordReading

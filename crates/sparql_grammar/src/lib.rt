@@ -3,14 +3,23 @@
 #![tactic(auto)]
 
 mod grammar;
+mod laws;
 mod lexeme;
+mod operations;
+mod outside;
+mod stop;
 mod terminal;
 mod tree;
+mod update;
 mod words;
 
+pub use laws::{lexemes_have_forms, one_request_tree};
 pub use lexeme::Lexeme;
+pub use outside::first_outside;
+pub use stop::{Stop, StopKind};
 pub use terminal::Terminal;
 pub use tree::{
     Block, GraphOrDefault, GraphRefAll, Literal, Name, Node, Operation, Part, Property, Triples,
     VarOrIri, Verb,
 };
+pub use update::parse_update;

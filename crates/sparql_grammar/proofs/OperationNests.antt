@@ -1,0 +1,138 @@
+-- Where no more than so many brackets are open at once, no request nests deeper.
+use Rattle.std.proofs.Common.{◌≡◌, ℕ, suc, ◌+◌, ◌-◌, ◌≤◌, Bool, List, [], ◌∷◌, take, Some, refl, arith, inl, inr}
+use Rattle.std.specs.Prelude.{is_some}
+use Rattle.rdf_grammar.specs.Derivations as grammar
+use Rattle.rdf_grammar.specs.Derivations.{Star}
+use Rattle.rdf_grammar.proofs.Nests.{Keeps, then_keeps, pure_keeps, or_keeps, the_keeps, value_keeps, namespace_keeps, map_keeps, behind_keeps, word_keeps, leaf_keeps, maybe_keeps, star_keeps, one_keeps, enclosed}
+use Rattle.sparql_grammar.specs.declared.terminal.Terminal.{Terminal}
+use Rattle.sparql_grammar.specs.declared.terminal.Terminal.TheVariants as terminal
+use Rattle.sparql_grammar.specs.declared.tree.Block.{Block}
+use Rattle.sparql_grammar.specs.declared.tree.GraphOrDefault.{GraphOrDefault}
+use Rattle.sparql_grammar.specs.declared.tree.GraphOrDefault.TheVariants as place
+use Rattle.sparql_grammar.specs.declared.tree.GraphRefAll.{GraphRefAll}
+use Rattle.sparql_grammar.specs.declared.tree.GraphRefAll.TheVariants as graphs
+use Rattle.sparql_grammar.specs.declared.tree.Operation.{Operation}
+use Rattle.sparql_grammar.specs.declared.tree.Operation.TheVariants as o
+use Rattle.sparql_grammar.specs.declared.tree.Part.{Part}
+use Rattle.sparql_grammar.specs.declared.tree.Part.TheVariants as part
+use Rattle.sparql_grammar.specs.declared.tree.Triples.{Triples}
+use Rattle.sparql_grammar.specs.Grammar.{Nodes_at, TriplesTemplate}
+use Rattle.sparql_grammar.specs.Lexemes.{Lexemes, Derives}
+use Rattle.sparql_grammar.specs.Nesting.{open_after}
+use Rattle.sparql_grammar.specs.OperationGrammar as g
+use Rattle.sparql_grammar.specs.OperationReading as read
+use Rattle.sparql_grammar.specs.Reading.{all_of}
+use Rattle.sparql_grammar.specs.Terminals.{bracket}
+use Rattle.sparql_grammar.proofs.GrammarNests.{iri_keeps, var_or_iri_keeps, triples_keep}
+use Rattle.sparql_grammar.proofs.OperationParts.{Nothing, Ended, EndedOperation, APart}
+
+-- what stands where so many brackets are open
+module _ (limit b : ℕ) where
+  perhaps_keeps : (k : Terminal) → Keeps bracket limit b (grammar.the k) (grammar.the k) → Keeps bracket limit b (g.Perhaps k) (g.Perhaps k)
+  perhaps_keeps k p = map_keeps bracket limit b is_some _ _ (maybe_keeps bracket limit b _ _ p)
+
+  silent_keeps : Keeps bracket limit b (g.Perhaps terminal.Silent) (g.Perhaps terminal.Silent)
+  silent_keeps = perhaps_keeps terminal.Silent (the_keeps bracket limit b terminal.Silent refl)
+
+  base_keeps : Keeps bracket limit b g.BaseDecl g.BaseDecl
+  base_keeps = behind_keeps bracket limit b terminal.Base _ _ refl (leaf_keeps bracket limit b part.Base terminal.Iri refl)
+
+  prefix_keeps : Keeps bracket limit b g.PrefixDecl g.PrefixDecl
+  prefix_keeps = behind_keeps bracket limit b terminal.Prefix _ _ refl (then_keeps bracket limit b _ _ _ _ (namespace_keeps bracket limit b terminal.Pname refl)
+      (λ prefix. then_keeps bracket limit b _ _ _ _ (value_keeps bracket limit b terminal.Iri refl) (λ reference. pure_keeps bracket limit b (part.Prefix prefix reference))))
+
+  graph_ref_keeps : Keeps bracket limit b g.GraphRef g.GraphRef
+  graph_ref_keeps = behind_keeps bracket limit b terminal.Graph _ _ refl (iri_keeps limit b)
+
+  graph_ref_all_keeps : Keeps bracket limit b g.AGraphRefAll g.AGraphRefAll
+  graph_ref_all_keeps =
+      or_keeps bracket limit b _ _ _ _ (map_keeps bracket limit b graphs.Graph _ _ graph_ref_keeps)
+      (or_keeps bracket limit b _ _ _ _ (word_keeps bracket limit b terminal.Default graphs.Default refl)
+      (or_keeps bracket limit b _ _ _ _ (word_keeps bracket limit b terminal.Named graphs.Named refl) (word_keeps bracket limit b terminal.All graphs.All refl)))
+
+  graph_or_default_keeps : Keeps bracket limit b g.AGraphOrDefault g.AGraphOrDefault
+  graph_or_default_keeps =
+      or_keeps bracket limit b _ _ _ _ (word_keeps bracket limit b terminal.Default place.Default refl)
+      (then_keeps bracket limit b _ _ _ _ (perhaps_keeps terminal.Graph (the_keeps bracket limit b terminal.Graph refl)) (λ _. map_keeps bracket limit b place.Graph _ _ (iri_keeps limit b)))
+
+  create_keeps : Keeps bracket limit b g.Create g.Create
+  create_keeps = behind_keeps bracket limit b terminal.Create _ _ refl (then_keeps bracket limit b _ _ _ _ silent_keeps
+      (λ silent. then_keeps bracket limit b _ _ _ _ graph_ref_keeps (λ graph. pure_keeps bracket limit b (o.Create silent graph))))
+
+  on_graphs_keeps : (k : Terminal) (operation : Bool → GraphRefAll → Operation) → Keeps bracket limit b (grammar.the k) (grammar.the k) → Keeps bracket limit b (g.OnGraphs k operation) (g.OnGraphs k operation)
+  on_graphs_keeps k operation p = then_keeps bracket limit b _ _ _ _ p (λ _. then_keeps bracket limit b _ _ _ _ silent_keeps
+      (λ silent. then_keeps bracket limit b _ _ _ _ graph_ref_all_keeps (λ graphs. pure_keeps bracket limit b (operation silent graphs))))
+
+  between_keeps : (k : Terminal) (operation : Bool → GraphOrDefault → GraphOrDefault → Operation) → Keeps bracket limit b (grammar.the k) (grammar.the k) → Keeps bracket limit b (g.Between k operation) (g.Between k operation)
+  between_keeps k operation p = then_keeps bracket limit b _ _ _ _ p (λ _. then_keeps bracket limit b _ _ _ _ silent_keeps
+      (λ silent. then_keeps bracket limit b _ _ _ _ graph_or_default_keeps (λ from. behind_keeps bracket limit b terminal.To _ _ refl
+      (then_keeps bracket limit b _ _ _ _ graph_or_default_keeps (λ to. pure_keeps bracket limit b (operation silent from to))))))
+
+  end_keeps : Keeps bracket limit b Ended Ended
+  unfolding Keeps
+  end_keeps ts x us (inl d) h = let q = (the_keeps bracket limit b terminal.Semicolon refl) ts x us d h in (inl q.0, q.1)
+  end_keeps ts x us (inr d) h = (inr d, rw (← d.0) h)
+
+  -- triples that may be missing
+  module _ (P Q : Derives (List Triples)) (p : Keeps bracket limit b P Q) where
+    maybe_triples_keep : Keeps bracket limit b (g.MaybeTriples P) (g.MaybeTriples Q)
+    maybe_triples_keep = map_keeps bracket limit b all_of _ _ (maybe_keeps bracket limit b _ _ p)
+
+    default_block_keeps : Keeps bracket limit b (g.DefaultBlock P) (g.DefaultBlock Q)
+    default_block_keeps = map_keeps bracket limit b (read.block _) _ _ maybe_triples_keep
+
+-- data, which stand where b brackets are open
+module _ (limit b : ℕ) (P Q I J : Derives (List Triples)) (p : Keeps bracket limit (b + 1) P Q) (i : Keeps bracket limit (b + 1 + 1) I J) where
+  quads_not_triples_keep : Keeps bracket limit (b + 1) (g.QuadsNotTriples I) (g.QuadsNotTriples J)
+  quads_not_triples_keep = behind_keeps bracket limit (b + 1) terminal.Graph _ _ refl (then_keeps bracket limit (b + 1) _ _ _ _ (var_or_iri_keeps limit (b + 1))
+      (λ graph. enclosed bracket limit (b + 1) terminal.OpenBrace terminal.CloseBrace _ _ (λ triples. grammar.pure (read.block (Some graph) triples)) refl (omega arith)
+      (maybe_triples_keep limit (b + 1 + 1) I J i) (λ a ts x us d. d.1)))
+
+  named_and_default_keep : Keeps bracket limit (b + 1) (g.NamedAndDefault P I) (g.NamedAndDefault Q J)
+  named_and_default_keep = then_keeps bracket limit (b + 1) _ _ _ _ quads_not_triples_keep (λ named. then_keeps bracket limit (b + 1) _ _ _ _
+      (perhaps_keeps limit (b + 1) terminal.Dot (the_keeps bracket limit (b + 1) terminal.Dot refl))
+      (λ _. then_keeps bracket limit (b + 1) _ _ _ _ (default_block_keeps limit (b + 1) P Q p) (λ default. pure_keeps bracket limit (b + 1) (named ∷ default ∷ []))))
+
+  quads_keep : Keeps bracket limit (b + 1) (g.Quads P I) (g.Quads Q J)
+  quads_keep = then_keeps bracket limit (b + 1) _ _ _ _ (default_block_keeps limit (b + 1) P Q p) (λ first. then_keeps bracket limit (b + 1) _ _ _ _
+      (star_keeps bracket limit (b + 1) _ _ named_and_default_keep) (λ others. pure_keeps bracket limit (b + 1) (first ∷ others)))
+
+  quad_data_keeps : Keeps bracket limit b (g.QuadData P I) (g.QuadData Q J)
+  quad_data_keeps = enclosed bracket limit b terminal.OpenBrace terminal.CloseBrace _ _ grammar.pure refl (omega arith) quads_keep (λ a ts x us d. d.1)
+
+  data_keep : (k : Terminal) (operation : List Block → Operation) → Keeps bracket limit b (grammar.the k) (grammar.the k) → Keeps bracket limit b (g.DataOf P I k operation) (g.DataOf Q J k operation)
+  data_keep k operation q = then_keeps bracket limit b _ _ _ _ q (λ _. behind_keeps bracket limit b terminal.Data _ _ refl
+      (then_keeps bracket limit b _ _ _ _ quad_data_keeps (λ blocks. pure_keeps bracket limit b (operation blocks))))
+
+  operation_keeps : Keeps bracket limit b (g.Update1 P I) (g.Update1 Q J)
+  operation_keeps =
+      or_keeps bracket limit b _ _ _ _ (on_graphs_keeps limit b terminal.Clear o.Clear (the_keeps bracket limit b terminal.Clear refl))
+      (or_keeps bracket limit b _ _ _ _ (on_graphs_keeps limit b terminal.Drop o.Drop (the_keeps bracket limit b terminal.Drop refl))
+      (or_keeps bracket limit b _ _ _ _ (between_keeps limit b terminal.Add o.Add (the_keeps bracket limit b terminal.Add refl))
+      (or_keeps bracket limit b _ _ _ _ (between_keeps limit b terminal.Move o.Move (the_keeps bracket limit b terminal.Move refl))
+      (or_keeps bracket limit b _ _ _ _ (between_keeps limit b terminal.Copy o.Copy (the_keeps bracket limit b terminal.Copy refl))
+      (or_keeps bracket limit b _ _ _ _ (create_keeps limit b)
+      (or_keeps bracket limit b _ _ _ _ (data_keep terminal.Insert o.InsertData (the_keeps bracket limit b terminal.Insert refl))
+      (data_keep terminal.Delete o.DeleteData (the_keeps bracket limit b terminal.Delete refl))))))))
+
+  part_keeps : Keeps bracket limit b (APart (g.Update1 P I)) (APart (g.Update1 Q J))
+  part_keeps =
+      or_keeps bracket limit b _ _ _ _ (or_keeps bracket limit b _ _ _ _ (base_keeps limit b) (prefix_keeps limit b))
+      (then_keeps bracket limit b _ _ _ _ operation_keeps (λ operation. then_keeps bracket limit b _ _ _ _ (end_keeps limit b) (λ _. pure_keeps bracket limit b (part.Operation operation))))
+
+  pub parts_keep : Keeps bracket limit b (Star (grammar.one (APart (g.Update1 P I)))) (Star (grammar.one (APart (g.Update1 Q J))))
+  parts_keep = star_keeps bracket limit b _ _ (one_keeps bracket limit b _ _ part_keeps)
+
+-- the parts of a request whose brackets nest less than so deep
+abbrev pub PartsAt : ℕ → Derives (List Part)
+PartsAt depth = Star (grammar.one (APart (g.Update1 (TriplesTemplate (Nodes_at (suc depth))) (TriplesTemplate (Nodes_at depth)))))
+
+-- Parts that are derived at any depth are derived at the limit.
+pub parts_within : (depth d : ℕ) (ts : Lexemes) (parts : List Part) → ((n : ℕ) → open_after 0 (take n ts) ≤ suc (suc depth)) → PartsAt d ts parts [] → PartsAt depth ts parts []
+unfolding Keeps
+parts_within depth d ts parts below h =
+    let once : suc (suc depth) - 1 ≡ suc depth = omega arith in
+    let twice : suc (suc depth) - 2 ≡ depth = omega arith in
+    let outer : Keeps bracket (suc (suc depth)) 1 (TriplesTemplate (Nodes_at (suc d))) (TriplesTemplate (Nodes_at (suc depth))) = rw once at (triples_keep (suc (suc depth)) (suc d) 1) in
+    let inner : Keeps bracket (suc (suc depth)) 2 (TriplesTemplate (Nodes_at d)) (TriplesTemplate (Nodes_at depth)) = rw twice at (triples_keep (suc (suc depth)) d 2) in
+    (parts_keep (suc (suc depth)) 0 (TriplesTemplate (Nodes_at (suc d))) (TriplesTemplate (Nodes_at (suc depth))) (TriplesTemplate (Nodes_at d)) (TriplesTemplate (Nodes_at depth)) outer inner ts parts [] h (record { at = below })).0

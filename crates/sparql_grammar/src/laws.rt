@@ -1,0 +1,14 @@
+//! What holds of each request and its tree.
+ghost use Rattle.sparql_grammar.specs.Lexemes.{LexemesHaveForms};
+ghost use Rattle.sparql_grammar.specs.OperationGrammar.{OneRequest};
+
+/// No lexemes are two requests (SPARQL 1.1 Query, section 19.8): the grammar has one tree at most
+/// for them, however deep their brackets nest.
+pub fn one_request_tree()
+    ensures { OneRequest }
+{}
+
+/// The lexemes of a text have the forms of its tokens.
+pub fn lexemes_have_forms()
+    ensures { LexemesHaveForms }
+{}

@@ -1,0 +1,317 @@
+//! The operations of a request and its declarations (SPARQL 1.1 Query, section 19.8).
+
+ghost use Rattle.std.specs.Prelude.{◌≡◌, ◌≤◌, ◌<◌, length, [], OnOk};
+ghost use Rattle.rdf_grammar.specs.Readings.{Reads};
+ghost use Rattle.sparql_grammar.specs.OperationReading as spec;
+ghost use Rattle.sparql_grammar.specs.Reading.{node, triples_template};
+ghost use Rattle.sparql_grammar.specs.declared.tree.Operation.TheVariants as operation;
+
+use crate::grammar::{begins_node, triples_template, var_or_iri};
+use crate::lexeme::Parser;
+use crate::terminal::Terminal;
+use crate::tree::{Block, GraphOrDefault, GraphRefAll, Name, Operation, Part, Triples};
+use crate::words::iri;
+use rdf_grammar::{GrammarFault, MAX_OPEN};
+use rdf_terms::Items;
+
+#[tactic(auto, unfolding(crate::specs::OperationReading::graph_ref))]
+fn graph_ref<'a>(parser: &mut Parser<'_, 'a>) -> Result<Name<'a>, GrammarFault>
+    ensures reads { Reads (spec.graph_ref parser.old) result parser.new }
+    ensures shorter { OnOk result (length parser.new < length parser.old) }
+{
+    parser.expect(Terminal::Graph)?;
+    iri(parser)
+}
+
+#[tactic(auto, unfolding(crate::specs::OperationReading::graph_ref_all, rdf_grammar::specs::Readings::any))]
+fn graph_ref_all<'a>(parser: &mut Parser<'_, 'a>) -> Result<GraphRefAll<'a>, GrammarFault>
+    ensures reads { Reads (spec.graph_ref_all parser.old) result parser.new }
+    ensures shorter { OnOk result (length parser.new < length parser.old) }
+{
+    match parser.peek() {
+        Some(Terminal::Default) => {
+            parser.pass();
+            Ok(GraphRefAll::Default)
+        }
+        Some(Terminal::Named) => {
+            parser.pass();
+            Ok(GraphRefAll::Named)
+        }
+        Some(Terminal::All) => {
+            parser.pass();
+            Ok(GraphRefAll::All)
+        }
+        _ => Ok(GraphRefAll::Graph(graph_ref(parser)?)),
+    }
+}
+
+#[tactic(auto, unfolding(crate::specs::OperationReading::graph_or_default, rdf_grammar::specs::Readings::any))]
+fn graph_or_default<'a>(parser: &mut Parser<'_, 'a>) -> Result<GraphOrDefault<'a>, GrammarFault>
+    ensures reads { Reads (spec.graph_or_default parser.old) result parser.new }
+    ensures shorter { OnOk result (length parser.new < length parser.old) }
+{
+    match parser.peek() {
+        Some(Terminal::Default) => {
+            parser.pass();
+            Ok(GraphOrDefault::Default)
+        }
+        _ => {
+            parser.eat(Terminal::Graph);
+            Ok(GraphOrDefault::Graph(iri(parser)?))
+        }
+    }
+}
+
+#[tactic(auto, unfolding(crate::specs::OperationReading::create))]
+fn create<'a>(parser: &mut Parser<'_, 'a>) -> Result<Operation<'a>, GrammarFault>
+    ensures reads { Reads (spec.create parser.old) result parser.new }
+    ensures shorter { OnOk result (length parser.new < length parser.old) }
+{
+    let silent = parser.eat(Terminal::Silent);
+    let graph = graph_ref(parser)?;
+    Ok(Operation::Create { silent, graph })
+}
+
+#[tactic(auto, unfolding(crate::specs::OperationReading::on_graphs))]
+fn clear<'a>(parser: &mut Parser<'_, 'a>) -> Result<Operation<'a>, GrammarFault>
+    ensures reads { Reads (spec.on_graphs operation.Clear parser.old) result parser.new }
+    ensures shorter { OnOk result (length parser.new < length parser.old) }
+{
+    let silent = parser.eat(Terminal::Silent);
+    let graphs = graph_ref_all(parser)?;
+    Ok(Operation::Clear { silent, graphs })
+}
+
+#[tactic(auto, unfolding(crate::specs::OperationReading::on_graphs))]
+fn drop<'a>(parser: &mut Parser<'_, 'a>) -> Result<Operation<'a>, GrammarFault>
+    ensures reads { Reads (spec.on_graphs operation.Drop parser.old) result parser.new }
+    ensures shorter { OnOk result (length parser.new < length parser.old) }
+{
+    let silent = parser.eat(Terminal::Silent);
+    let graphs = graph_ref_all(parser)?;
+    Ok(Operation::Drop { silent, graphs })
+}
+
+#[tactic(auto, unfolding(crate::specs::OperationReading::between))]
+fn copy<'a>(parser: &mut Parser<'_, 'a>) -> Result<Operation<'a>, GrammarFault>
+    ensures reads { Reads (spec.between operation.Copy parser.old) result parser.new }
+    ensures shorter { OnOk result (length parser.new < length parser.old) }
+{
+    let silent = parser.eat(Terminal::Silent);
+    let from = graph_or_default(parser)?;
+    parser.expect(Terminal::To)?;
+    let to = graph_or_default(parser)?;
+    Ok(Operation::Copy { silent, from, to })
+}
+
+#[tactic(auto, unfolding(crate::specs::OperationReading::between))]
+fn move_between<'a>(parser: &mut Parser<'_, 'a>) -> Result<Operation<'a>, GrammarFault>
+    ensures reads { Reads (spec.between operation.Move parser.old) result parser.new }
+    ensures shorter { OnOk result (length parser.new < length parser.old) }
+{
+    let silent = parser.eat(Terminal::Silent);
+    let from = graph_or_default(parser)?;
+    parser.expect(Terminal::To)?;
+    let to = graph_or_default(parser)?;
+    Ok(Operation::Move { silent, from, to })
+}
+
+#[tactic(auto, unfolding(crate::specs::OperationReading::between))]
+fn add<'a>(parser: &mut Parser<'_, 'a>) -> Result<Operation<'a>, GrammarFault>
+    ensures reads { Reads (spec.between operation.Add parser.old) result parser.new }
+    ensures shorter { OnOk result (length parser.new < length parser.old) }
+{
+    let silent = parser.eat(Terminal::Silent);
+    let from = graph_or_default(parser)?;
+    parser.expect(Terminal::To)?;
+    let to = graph_or_default(parser)?;
+    Ok(Operation::Add { silent, from, to })
+}
+
+#[tactic(auto, unfolding(crate::specs::OperationReading::prefix))]
+fn prefix<'a>(parser: &mut Parser<'_, 'a>) -> Result<Part<'a>, GrammarFault>
+    ensures reads { Reads (spec.prefix parser.old) result parser.new }
+    ensures shorter { OnOk result (length parser.new < length parser.old) }
+{
+    let prefix = parser.namespace(Terminal::Pname)?;
+    let reference = parser.value(Terminal::Iri)?;
+    Ok(Part::Prefix(prefix, reference))
+}
+
+#[tactic(auto, unfolding(crate::specs::OperationReading::base))]
+fn base<'a>(parser: &mut Parser<'_, 'a>) -> Result<Part<'a>, GrammarFault>
+    ensures reads { Reads (spec.base parser.old) result parser.new }
+    ensures shorter { OnOk result (length parser.new < length parser.old) }
+{
+    Ok(Part::Base(parser.value(Terminal::Iri)?))
+}
+
+#[tactic(auto, unfolding(crate::specs::OperationReading::triples))]
+fn triples<'a>(
+    parser: &mut Parser<'_, 'a>,
+    depth: usize,
+) -> Result<Items<Triples<'a>>, GrammarFault>
+    ensures reads { Reads (spec.triples (triples_template (node depth)) parser.old) result parser.new }
+    ensures shorter { OnOk result (length parser.new ≤ length parser.old) }
+{
+    if !begins_node(parser.peek()) {
+        return Ok(Items::new(parser.alloc()));
+    }
+    triples_template(parser, depth)
+}
+
+#[tactic(auto, unfolding(crate::specs::OperationReading::default_block))]
+fn default_block<'a>(parser: &mut Parser<'_, 'a>) -> Result<Block<'a>, GrammarFault>
+    ensures reads { Reads (spec.default_block (triples_template (node 100)) parser.old) result parser.new }
+    ensures shorter { OnOk result (length parser.new ≤ length parser.old) }
+{
+    Ok(Block {
+        graph: None,
+        triples: triples(parser, MAX_OPEN)?,
+    })
+}
+
+#[tactic(auto, unfolding(crate::specs::OperationReading::named_block))]
+fn named_block<'a>(parser: &mut Parser<'_, 'a>) -> Result<Block<'a>, GrammarFault>
+    ensures reads { Reads (spec.named_block (triples_template (node 99)) parser.old) result parser.new }
+    ensures shorter { OnOk result (length parser.new < length parser.old) }
+{
+    parser.expect(Terminal::Graph)?;
+    let graph = var_or_iri(parser)?;
+    parser.expect(Terminal::OpenBrace)?;
+    let triples = triples(parser, MAX_OPEN - 1)?;
+    parser.expect(Terminal::CloseBrace)?;
+    Ok(Block {
+        graph: Some(graph),
+        triples,
+    })
+}
+
+#[tactic(auto, unfolding(crate::specs::OperationReading::quads))]
+fn quads<'a>(parser: &mut Parser<'_, 'a>) -> Result<Items<Block<'a>>, GrammarFault>
+    ensures reads { Reads (spec.quads (triples_template (node 100)) (triples_template (node 99)) parser.old) result parser.new }
+    ensures shorter { OnOk result (length parser.new ≤ length parser.old) }
+{
+    let mut blocks = Items::new(parser.alloc());
+    blocks.push(default_block(parser)?)?;
+    while parser.sees(Terminal::Graph) {
+        blocks.push(named_block(parser)?)?;
+        parser.eat(Terminal::Dot);
+        blocks.push(default_block(parser)?)?;
+    }
+    Ok(blocks)
+}
+
+#[tactic(auto, unfolding(crate::specs::OperationReading::quad_data))]
+fn quad_data<'a>(parser: &mut Parser<'_, 'a>) -> Result<Items<Block<'a>>, GrammarFault>
+    ensures reads { Reads (spec.quad_data (triples_template (node 100)) (triples_template (node 99)) parser.old) result parser.new }
+    ensures shorter { OnOk result (length parser.new < length parser.old) }
+{
+    parser.expect(Terminal::OpenBrace)?;
+    let blocks = quads(parser)?;
+    parser.expect(Terminal::CloseBrace)?;
+    Ok(blocks)
+}
+
+#[tactic(auto, unfolding(crate::specs::OperationReading::data_of))]
+fn insert_data<'a>(parser: &mut Parser<'_, 'a>) -> Result<Operation<'a>, GrammarFault>
+    ensures reads { Reads (spec.data_of (triples_template (node 100)) (triples_template (node 99)) operation.InsertData parser.old) result parser.new }
+    ensures shorter { OnOk result (length parser.new < length parser.old) }
+{
+    parser.expect(Terminal::Data)?;
+    Ok(Operation::InsertData(quad_data(parser)?))
+}
+
+#[tactic(auto, unfolding(crate::specs::OperationReading::data_of))]
+fn delete_data<'a>(parser: &mut Parser<'_, 'a>) -> Result<Operation<'a>, GrammarFault>
+    ensures reads { Reads (spec.data_of (triples_template (node 100)) (triples_template (node 99)) operation.DeleteData parser.old) result parser.new }
+    ensures shorter { OnOk result (length parser.new < length parser.old) }
+{
+    parser.expect(Terminal::Data)?;
+    Ok(Operation::DeleteData(quad_data(parser)?))
+}
+
+#[tactic(auto, unfolding(crate::specs::OperationReading::operation, rdf_grammar::specs::Readings::any))]
+fn operation<'a>(parser: &mut Parser<'_, 'a>) -> Result<Operation<'a>, GrammarFault>
+    ensures reads { Reads (spec.operation (triples_template (node 100)) (triples_template (node 99)) parser.old) result parser.new }
+    ensures shorter { OnOk result (length parser.new < length parser.old) }
+{
+    match parser.peek() {
+        Some(Terminal::Insert) => {
+            parser.pass();
+            insert_data(parser)
+        }
+        Some(Terminal::Delete) => {
+            parser.pass();
+            delete_data(parser)
+        }
+        Some(Terminal::Create) => {
+            parser.pass();
+            create(parser)
+        }
+        Some(Terminal::Clear) => {
+            parser.pass();
+            clear(parser)
+        }
+        Some(Terminal::Drop) => {
+            parser.pass();
+            drop(parser)
+        }
+        Some(Terminal::Copy) => {
+            parser.pass();
+            copy(parser)
+        }
+        Some(Terminal::Move) => {
+            parser.pass();
+            move_between(parser)
+        }
+        Some(Terminal::Add) => {
+            parser.pass();
+            add(parser)
+        }
+        _ => Err(GrammarFault::Syntax),
+    }
+}
+
+#[tactic(auto, unfolding(crate::specs::OperationReading::ended_operation))]
+fn ended_operation<'a>(parser: &mut Parser<'_, 'a>) -> Result<Part<'a>, GrammarFault>
+    ensures reads { Reads (spec.ended_operation (triples_template (node 100)) (triples_template (node 99)) parser.old) result parser.new }
+    ensures shorter { OnOk result (length parser.new < length parser.old) }
+{
+    let operation = operation(parser)?;
+    if parser.is_more() {
+        parser.expect(Terminal::Semicolon)?;
+    }
+    Ok(Part::Operation(operation))
+}
+
+#[tactic(auto, unfolding(crate::specs::OperationReading::part, rdf_grammar::specs::Readings::any))]
+fn part<'a>(parser: &mut Parser<'_, 'a>) -> Result<Part<'a>, GrammarFault>
+    ensures reads { Reads (spec.part (triples_template (node 100)) (triples_template (node 99)) parser.old) result parser.new }
+    ensures shorter { OnOk result (length parser.new < length parser.old) }
+{
+    match parser.peek() {
+        Some(Terminal::Prefix) => {
+            parser.pass();
+            prefix(parser)
+        }
+        Some(Terminal::Base) => {
+            parser.pass();
+            base(parser)
+        }
+        _ => ended_operation(parser),
+    }
+}
+
+/// The parts of a request up to the last lexeme (29: Update).
+#[tactic(auto, unfolding(crate::specs::OperationReading::request, crate::specs::OperationReading::update))]
+pub fn request<'a>(parser: &mut Parser<'_, 'a>) -> Result<Items<Part<'a>>, GrammarFault>
+    ensures reads { Reads (spec.request 99 parser.old) result parser.new }
+    ensures all { OnOk result (parser.new ≡ []) }
+{
+    let mut all = Items::new(parser.alloc());
+    while parser.is_more() {
+        all.push(part(parser)?)?;
+    }
+    Ok(all)
+}
