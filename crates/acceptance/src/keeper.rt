@@ -1,7 +1,8 @@
-//! A keeper as a host calls it: each call once, and a load for which no blank numbers are left.
+//! A keeper as a host calls it: each call once, and requests for which no blank numbers are left.
 use rdf_dataset::Dataset;
 use rdf_keeper::{Counts, Format, Keeper, KeeperFault};
 use rdf_terms::Term;
+use sparql_eval::ApplyFault;
 use std::alloc::Global;
 use std::test::Fail;
 
@@ -60,6 +61,22 @@ fn the_last_blank_number(rt: HostRuntime) -> Result<(), Fail> {
     assert_eq!(rt; keeper.next_blank(), 1_000_000_000_000_000_000);
     let text = text_of(rt.alloc(), &keeper)?;
     let wanted = b"_:b999999999999999999 <a:p> \"1\" .\n".as_slice();
+    assert_eq!(rt; text.as_slice(), wanted);
+    Ok(())
+}
+
+#[test]
+fn the_last_blank_number_of_an_update(rt: HostRuntime) -> Result<(), Fail> {
+    let dataset = Dataset::starting_at(rt.alloc(), 999_999_999_999_999_999);
+    let mut keeper = Keeper::over(rt.alloc(), dataset, None);
+    let insertion = b"INSERT DATA { _:x <http://e/p> \"1\" }".as_slice();
+    assert!(rt; keeper.update(insertion) == Ok(ADDED));
+    assert_eq!(rt; keeper.next_blank(), 1_000_000_000_000_000_000);
+    let refused = Err(KeeperFault::Apply(ApplyFault::BlankNumbers));
+    assert!(rt; keeper.update(insertion) == refused);
+    assert_eq!(rt; keeper.next_blank(), 1_000_000_000_000_000_000);
+    let text = text_of(rt.alloc(), &keeper)?;
+    let wanted = b"_:b999999999999999999 <http://e/p> \"1\" .\n".as_slice();
     assert_eq!(rt; text.as_slice(), wanted);
     Ok(())
 }

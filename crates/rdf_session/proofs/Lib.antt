@@ -1,5 +1,6 @@
 mod AnswerLemmas
 mod GivesBackLemmas
+mod InsertionLemmas
 mod KeptLemmas
 mod ListingLemmas
 mod LoadLemmas

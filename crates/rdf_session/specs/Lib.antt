@@ -4,6 +4,7 @@ pub mod GivesBack
 pub mod History
 pub mod Inside
 pub mod Listing
+pub mod LoadLaws
 pub mod OneReply
 pub mod Request
 pub mod Session

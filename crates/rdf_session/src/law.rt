@@ -1,11 +1,12 @@
-//! Laws over the definitions alone: what holds after any list of commands, that undo gives back and redo gives again, and
-//! that a command has one reply.
+//! Laws over the definitions alone: what holds after any list of commands, that undo gives back and redo gives again, that
+//! a command has one reply, and that a load is INSERT DATA.
 ghost use Rattle.std.specs.Prelude.{◌≡◌, List, ℕ, Option, take};
 ghost use Rattle.rdf_dataset.specs.State.{State};
 ghost use Rattle.rdf_session.specs.History.{nothing};
 ghost use Rattle.rdf_session.specs.Session.{Session, Command, Reply, fresh, now};
 ghost use Rattle.rdf_session.specs.Standing.{Run, Follows, requests_of, MakesAll};
 ghost use Rattle.rdf_session.specs.GivesBack.{RunsAreWhole, UndoGivesBack, RedoGivesAgain, RollbackGivesBack, RefusalsLeave};
+ghost use Rattle.rdf_session.specs.LoadLaws.{LoadInserts, LoadIsRefusedAlike};
 ghost use Rattle.rdf_session.specs.OneReply.{OneReply};
 ghost use Rattle.rdf_session.specs.UndoRedo.{UndoThenRedo, RedoThenUndo};
 
@@ -47,3 +48,9 @@ pub fn one_reply()
     rdf_turtle::one_meaning();
     sparql_syntax::one_request();
 }
+
+/// A load does what INSERT DATA of its document's quads does, and is refused for want of blank numbers just where that is.
+pub fn a_load_is_insert_data()
+    ensures leads { LoadInserts }
+    ensures refused { LoadIsRefusedAlike }
+{}

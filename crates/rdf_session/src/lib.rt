@@ -13,4 +13,4 @@ mod update;
 pub use fault::{Counts, KeeperFault};
 pub use format::Format;
 pub use keeper::Keeper;
-pub use law::{one_reply, standing_requests, undo_gives_back};
+pub use law::{a_load_is_insert_data, one_reply, standing_requests, undo_gives_back};

@@ -1,11 +1,12 @@
-use Rattle.std.proofs.Common.{◌≡◌, Ok, ◌∙◌, ap, subst}
-use Rattle.std.proofs.lemmas.Result.{IfOk-weaker}
+use Rattle.std.proofs.Common.{◌≡◌, Ok, Err, ◌∙◌, ap, subst}
+use Rattle.std.proofs.lemmas.Result.{IfOk-weaker, err_from_is_err_and}
 use Rattle.rdf_dataset.specs.State.{State, net_between}
 use Rattle.sparql_eval.specs.Operations.{steps}
 use Rattle.sparql_syntax.specs.Update.{IsUpdate}
+use Rattle.rdf_session.specs.Inside.Staging.{StagesSteps, TellsSyntaxFault}
 use Rattle.rdf_session.specs.Request.{Update, Makes}
 use Rattle.rdf_session.specs.Session.{Session, now}
-use Rattle.rdf_session.proofs.AnswerLemmas.{accept_step}
+use Rattle.rdf_session.proofs.AnswerLemmas.{accept_step, stopped, unread}
 use Rattle.rdf_session.proofs.KeptLemmas.{now_is}
 use Rattle.rdf_session.proofs.keeper.Keeper.update.Goals as goal
 
@@ -28,3 +29,20 @@ returns c =
     ) in
     accept_step _ _ (Update c.args.text.now) st.0 c.accept.result makes
     (IfOk-weaker c.accept.result _ _ (λ x h. h st.0 net) c.accept.ensures.ok) c.accept.ensures.refused c.accept.ensures.err
+
+pub returns-in_err-request : goal.returns-in_err-request
+returns-in_err-request c =
+    let p = err_from_is_err_and c.from_residual.result c.from_residual.ensures.1 in
+    let f = c.in_err-request.field-0.0 in
+    let told = subst (λ b. TellsSyntaxFault b c.args.text.now f) (c.as_ref.ensures.value ∙ ap (λ (o : Session). o.base_iri) c.self.view_is) c.in_err-request.ensures in
+    rw (p.1, p.2) (unread c.args.self.now c.args.text.now f told)
+
+pub returns-in_err-net : goal.returns-in_err-net
+returns-in_err-net c =
+    let n = now_is _ _ _ _ _ c.self.inside.marks c.self.invariant _ c.self.view_is in
+    let request = c.in_ok-request.request in
+    let is = subst (λ b. IsUpdate b c.args.text.now request) (c.as_ref.ensures.value ∙ ap (λ (o : Session). o.base_iri) c.self.view_is) c.in_ok-request.ensures in
+    let p = err_from_is_err_and c.from_residual-in_err-net.result c.from_residual-in_err-net.ensures.1 in
+    let f = c.in_err-net.field-0.0 in
+    let told = subst (λ (s : State). StagesSteps s request.operations (Err f)) n c.in_err-net.ensures in
+    rw (p.1, p.2) (stopped c.args.self.now c.args.text.now request f is told)
