@@ -13,7 +13,7 @@ use Rattle.rdf_session.specs.Session.{Session, Step, Undo, Redo, Rollback, Chang
 use Rattle.rdf_session.specs.Inside.Kept.{before_all, states_after, AreNets, session_from, base_of, IsKept}
 use Rattle.rdf_session.specs.Session.{nets_between}
 use Rattle.rdf_session.specs.declared.fault.Counts.{Counts}
-use Rattle.rdf_session.specs.declared.fault.KeeperFault.TheVariants.{NoMemory}
+use Rattle.rdf_session.specs.Faults.{no_memory}
 
 abbrev pub Marks : Type 0
 Marks = List (List ℕ × ℕ)
@@ -166,24 +166,24 @@ module _ (iri : Base) (base s : State) (ns : List Change) (k : ℕ) (marks : Mar
       (there, subst (λ x. Step x (Rollback name) (Changed counts) (session_from iri (base_of t ns j) ns j marks)) view (j, found, h, st.0, st.1))
 
   -- want of memory, which leaves the session
-  pub undo_refused : (t : State) (e : Change) → 0 < k → e ≡ get_or ns (k - 1) e → (e.removed ≡ set.empty → e.names_removed ≡ set.empty → false ≡ true) → t ≡ s → Step o Undo (Refused NoMemory) (session_from iri (base_of t ns k) ns k marks)
+  pub undo_refused : (t : State) (e : Change) → 0 < k → e ≡ get_or ns (k - 1) e → (e.removed ≡ set.empty → e.names_removed ≡ set.empty → false ≡ true) → t ≡ s → Step o Undo (Refused no_memory) (session_from iri (base_of t ns k) ns k marks)
   undo_refused t e h is some same =
       let n = undo_entry e h is in
-      subst (λ x. Step x Undo (Refused NoMemory) (session_from iri (base_of t ns k) ns k marks)) view (
+      subst (λ x. Step x Undo (Refused no_memory) (session_from iri (base_of t ns k) ns k marks)) view (
         (h, λ z. let f = n ∙ ap (net_between (at base ns (k - 1) base)) c.current in no_truth (some (ap (λ (x : Change). x.removed) f ∙ z.0) (ap (λ (x : Change). x.names_removed) f ∙ z.1))),
         ap (λ x. session_from iri (base_of x ns k) ns k marks) same ∙ session_at iri base s ns k marks c,
       )
 
-  pub redo_refused : (t : State) (e : Change) → k < length ns → e ≡ get_or ns k e → (e.added ≡ set.empty → e.names_added ≡ set.empty → false ≡ true) → t ≡ s → Step o Redo (Refused NoMemory) (session_from iri (base_of t ns k) ns k marks)
+  pub redo_refused : (t : State) (e : Change) → k < length ns → e ≡ get_or ns k e → (e.added ≡ set.empty → e.names_added ≡ set.empty → false ≡ true) → t ≡ s → Step o Redo (Refused no_memory) (session_from iri (base_of t ns k) ns k marks)
   redo_refused t e h is some same =
       let n = redo_entry e h is in
-      subst (λ x. Step x Redo (Refused NoMemory) (session_from iri (base_of t ns k) ns k marks)) view (
+      subst (λ x. Step x Redo (Refused no_memory) (session_from iri (base_of t ns k) ns k marks)) view (
         (rw (length-states_after base ns) h, λ z. let f = n ∙ ap (λ x. net_between x (at base ns (k + 1) base)) c.current in no_truth (some (ap (λ (x : Change). x.added) f ∙ z.0) (ap (λ (x : Change). x.names_added) f ∙ z.1))),
         ap (λ x. session_from iri (base_of x ns k) ns k marks) same ∙ session_at iri base s ns k marks c,
       )
 
-  pub rollback_refused : (name : List ℕ) (t : State) → t ≡ s → Step o (Rollback name) (Refused NoMemory) (session_from iri (base_of t ns k) ns k marks)
-  rollback_refused name t same = subst (λ x. Step x (Rollback name) (Refused NoMemory) (session_from iri (base_of t ns k) ns k marks)) view (tt, ap (λ x. session_from iri (base_of x ns k) ns k marks) same ∙ session_at iri base s ns k marks c)
+  pub rollback_refused : (name : List ℕ) (t : State) → t ≡ s → Step o (Rollback name) (Refused no_memory) (session_from iri (base_of t ns k) ns k marks)
+  rollback_refused name t same = subst (λ x. Step x (Rollback name) (Refused no_memory) (session_from iri (base_of t ns k) ns k marks)) view (tt, ap (λ x. session_from iri (base_of x ns k) ns k marks) same ∙ session_at iri base s ns k marks c)
 
   -- an accepted request
   pub accept_step : (t after : State) (counts : Counts) (e : Change) (ns' : List Change) (j : ℕ) (marks' : Marks) → IsSound after → e ≡ net_between s after → ((end : State) → e ≡ net_between s end → t ≡ end) → ns' ≡ take k ns ++ e ∷ [] → j ≡ k + 1 → marks' ≡ filter (λ m. nat_le m.1 k) marks → counts.added ≡ set.len e.added → counts.removed ≡ set.len e.removed → IsKept base t ns' j marks' × ((session_from iri (base_of t ns' j) ns' j marks' ≡ accepted after o) × (counts ≡ counts_between (now o) after))

@@ -25,21 +25,22 @@ use Rattle.rdf_session.specs.declared.fault.KeeperFault.{KeeperFault}
 use Rattle.rdf_session.specs.declared.fault.KeeperFault.TheVariants.{NothingToUndo, NothingToRedo, NoSuchMark, MarkAhead, NoMemory as NoMemoryFault, BlankNumbers, Line as LineFaultOf, Turtle as TurtleFaultOf, Syntax as SyntaxFaultOf, Apply as ApplyFaultOf}
 use Rattle.rdf_session.specs.declared.format.Format.{Format}
 use Rattle.rdf_session.specs.declared.format.Format.TheVariants.{NQuads, NTriples, Turtle}
+use Rattle.rdf_session.specs.Faults.{no_memory}
 
 -- ---- refusals but for want of memory
 
-undo_fault : (s : Session) (f : KeeperFault) → MayRefuse s Undo f → f ≢ NoMemoryFault → (f ≡ NothingToUndo) × (s.states.cursor ≡ 0)
+undo_fault : (s : Session) (f : KeeperFault) → MayRefuse s Undo f → f ≢ no_memory → (f ≡ NothingToUndo) × (s.states.cursor ≡ 0)
 undo_fault s NothingToUndo h n = (refl, h)
-undo_fault s NoMemoryFault h n = absurd (n refl)
+undo_fault s (NoMemoryFault _) h n = absurd (n refl)
 undo_fault s _ h n = absurd h
 
-redo_fault : (s : Session) (f : KeeperFault) → MayRefuse s Redo f → f ≢ NoMemoryFault → (f ≡ NothingToRedo) × (s.states.cursor ≡ length s.states.items)
+redo_fault : (s : Session) (f : KeeperFault) → MayRefuse s Redo f → f ≢ no_memory → (f ≡ NothingToRedo) × (s.states.cursor ≡ length s.states.items)
 redo_fault s NothingToRedo h n = (refl, h)
-redo_fault s NoMemoryFault h n = absurd (n refl)
+redo_fault s (NoMemoryFault _) h n = absurd (n refl)
 redo_fault s _ h n = absurd h
 
-mark_fault : {A : Type 0} (s : Session) (name : List ℕ) (f : KeeperFault) → MayRefuse s (Mark name) f → f ≢ NoMemoryFault → A
-mark_fault s name NoMemoryFault h n = absurd (n refl)
+mark_fault : {A : Type 0} (s : Session) (name : List ℕ) (f : KeeperFault) → MayRefuse s (Mark name) f → f ≢ no_memory → A
+mark_fault s name (NoMemoryFault _) h n = absurd (n refl)
 mark_fault s name _ h n = absurd h
 
 commit_fault : {A : Type 0} (s : Session) (f : KeeperFault) → MayRefuse s Commit f → A
@@ -50,10 +51,10 @@ RollbackFault s name f =
     ((f ≡ NoSuchMark) × (place_of name s.states ≡ None))
     ⊎ ((f ≡ MarkAhead) × ((k : ℕ) × (place_of name s.states ≡ Some k) × (s.states.cursor < k)))
 
-rollback_fault : (s : Session) (name : List ℕ) (f : KeeperFault) → MayRefuse s (Rollback name) f → f ≢ NoMemoryFault → RollbackFault s name f
+rollback_fault : (s : Session) (name : List ℕ) (f : KeeperFault) → MayRefuse s (Rollback name) f → f ≢ no_memory → RollbackFault s name f
 rollback_fault s name NoSuchMark h n = inl (refl, h)
 rollback_fault s name MarkAhead h n = inr (refl, h)
-rollback_fault s name NoMemoryFault h n = absurd (n refl)
+rollback_fault s name (NoMemoryFault _) h n = absurd (n refl)
 rollback_fault s name _ h n = absurd h
 
 abbrev LoadFault : Session → Format → List ℕ → KeeperFault → Type 0
@@ -61,9 +62,9 @@ LoadFault s format text f =
     ((quads : List QuadParts) × IsDocument format s.base_iri text quads × (last_number < (now s).next + blank_limit quads) × (f ≡ BlankNumbers))
     ⊎ IsFaulty format s.base_iri text f
 
-load_fault : (s : Session) (format : Format) (text : List ℕ) (f : KeeperFault) → MayRefuse s (Do (Load format text)) f → f ≢ NoMemoryFault → LoadFault s format text f
+load_fault : (s : Session) (format : Format) (text : List ℕ) (f : KeeperFault) → MayRefuse s (Do (Load format text)) f → f ≢ no_memory → LoadFault s format text f
 load_fault s format text BlankNumbers h n = inl (h.0, h.1, h.2, refl)
-load_fault s format text NoMemoryFault h n = absurd (n refl)
+load_fault s format text (NoMemoryFault _) h n = absurd (n refl)
 load_fault s format text _ h n = inr h
 
 abbrev NoRequest : Session → List ℕ → KeeperFault → Type 0
@@ -76,10 +77,10 @@ Stopped s text f =
 abbrev UpdateFault : Session → List ℕ → KeeperFault → Type 0
 UpdateFault s text f = NoRequest s text f ⊎ Stopped s text f
 
-update_fault : (s : Session) (text : List ℕ) (f : KeeperFault) → MayRefuse s (Do (Update text)) f → f ≢ NoMemoryFault → UpdateFault s text f
+update_fault : (s : Session) (text : List ℕ) (f : KeeperFault) → MayRefuse s (Do (Update text)) f → f ≢ no_memory → UpdateFault s text f
 update_fault s text (SyntaxFaultOf at) h n = inl (at, h, refl)
 update_fault s text (ApplyFaultOf at) h n = inr (at, h.0, h.1, h.2, refl)
-update_fault s text NoMemoryFault h n = absurd (n refl)
+update_fault s text (NoMemoryFault _) h n = absurd (n refl)
 update_fault s text _ h n = absurd h
 
 -- ---- one reply
@@ -87,7 +88,7 @@ update_fault s text _ h n = absurd h
 abbrev Same : Reply → Session → Reply → Session → Type 0
 Same r t q u = (r ≡ q) × (t ≡ u)
 
-full_fault : (f : KeeperFault) → IsFull (RefusedReply f) → f ≢ NoMemoryFault
+full_fault : (f : KeeperFault) → IsFull (RefusedReply f) → f ≢ no_memory
 full_fault f n e = n (ap RefusedReply e)
 
 both_refused : {s t u : Session} {f g : KeeperFault} → f ≡ g → t ≡ s → u ≡ s → Same (RefusedReply f) t (RefusedReply g) u
@@ -293,11 +294,11 @@ module _ (laws : Laws) where
   one_meaning base (Load format text) s t u a b = a.3 ∙ ap (loaded s) (one_document format base text a.0 b.0 a.1 b.1) ∙ sym b.3
   one_meaning base (Update text) s t u a b = same_state _ t u a.2 (one_ending base text s a.0 b.0 (Ok u) a.1 b.1 b.2)
 
-  refused_alike : (s : Session) (r : Request) (f g : KeeperFault) → MayRefuse s (Do r) f → MayRefuse s (Do r) g → f ≢ NoMemoryFault → g ≢ NoMemoryFault → AreAlike r f g
+  refused_alike : (s : Session) (r : Request) (f g : KeeperFault) → MayRefuse s (Do r) f → MayRefuse s (Do r) g → f ≢ no_memory → g ≢ no_memory → AreAlike r f g
   refused_alike s (Load format text) f g a b n m = load_faults s format text f g (load_fault s format text f a n) (load_fault s format text g b m)
   refused_alike s (Update text) f g a b n m = update_faults s text f g (update_fault s text f a n) (update_fault s text g b m)
 
-  never_refused : {A : Type 0} (s : Session) (r : Request) (f : KeeperFault) (after : State) → MayRefuse s (Do r) f → f ≢ NoMemoryFault → Makes s.base_iri r (now s) after → A
+  never_refused : {A : Type 0} (s : Session) (r : Request) (f : KeeperFault) (after : State) → MayRefuse s (Do r) f → f ≢ no_memory → Makes s.base_iri r (now s) after → A
   never_refused s (Load format text) f after a n b = load_not s format text f after (load_fault s format text f a n) b
   never_refused s (Update text) f after a n b = update_not s text f after (update_fault s text f a n) b
 

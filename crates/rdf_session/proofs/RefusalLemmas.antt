@@ -7,7 +7,7 @@ use Rattle.rdf_turtle.specs.declared.fault.TurtleFaultKind.TheVariants as kind
 use Rattle.rdf_session.specs.Inside.Staging.{TellsTurtleFault, turtle_refusal}
 
 pub refused : (base : Option (List ℕ)) (text : List ℕ) (f : TurtleFault) (k : TurtleFaultKind) → turtle.TellsFault base text f k → TellsTurtleFault base text (turtle_refusal f k)
-refused base text f kind.NoMemory h = tt
+refused base text f (kind.NoMemory _) h = tt
 refused base text f kind.NotUtf8 h = h
 refused base text f kind.Token h = h
 refused base text f kind.TooDeep h = h

@@ -1,5 +1,6 @@
--- The printed words of refusals, and their lines.
+-- The printed words of refusals, their lines, and the one refusal where memory is wanting.
 use Rattle.std.specs.Prelude.{ℕ, List, codes, Option, Some, None}
+use Rattle.rdf_terms.specs.Names.{refused}
 use Rattle.rdf_lines.specs.FaultName as lines
 use Rattle.rdf_turtle.specs.FaultName as turtle
 use Rattle.sparql_eval.specs.Faults as eval
@@ -14,7 +15,7 @@ name_of NoSuchMark = codes "NoSuchMark"
 name_of MarkAhead = codes "MarkAhead"
 name_of BadCommand = codes "BadCommand"
 name_of NoEnd = codes "NoEnd"
-name_of NoMemory = codes "NoMemory"
+name_of (NoMemory _) = codes "NoMemory"
 name_of BlankNumbers = codes "BlankNumbers"
 name_of (Line fault) = lines.fault_name fault.kind
 name_of (Turtle fault) = turtle.fault_name fault.kind
@@ -29,9 +30,12 @@ line_of NoSuchMark = None
 line_of MarkAhead = None
 line_of BadCommand = None
 line_of NoEnd = None
-line_of NoMemory = None
+line_of (NoMemory _) = None
 line_of BlankNumbers = None
 line_of (Line fault) = Some fault.line
 line_of (Turtle fault) = Some fault.line
 line_of (Syntax fault) = Some fault.line
 line_of (Apply fault) = None
+
+abbrev pub no_memory : KeeperFault
+no_memory = NoMemory refused

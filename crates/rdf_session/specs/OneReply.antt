@@ -5,8 +5,9 @@ use Rattle.sparql_syntax.specs.UpdateLaws as update
 use Rattle.rdf_session.specs.Request.{Load, Update}
 use Rattle.rdf_session.specs.Session.{Session, Command, Reply, Do, Refused, Step}
 use Rattle.rdf_session.specs.declared.fault.KeeperFault.{KeeperFault}
-use Rattle.rdf_session.specs.declared.fault.KeeperFault.TheVariants.{NoMemory, Turtle as InTurtle, Syntax as InUpdate}
+use Rattle.rdf_session.specs.declared.fault.KeeperFault.TheVariants.{Turtle as InTurtle, Syntax as InUpdate}
 use Rattle.rdf_session.specs.declared.format.Format.TheVariants.{Turtle}
+use Rattle.rdf_session.specs.Faults.{no_memory}
 
 -- The command may be refused by the fault, and its line is then the reader's own choice: that of some faults of Turtle
 -- and of updates.
@@ -33,7 +34,7 @@ SameReply command reply other =
 
 -- the reply isn't that memory is wanting
 abbrev pub IsFull : Reply → Type 0
-IsFull reply = reply ≢ Refused NoMemory
+IsFull reply = reply ≢ Refused no_memory
 
 -- Where memory isn't wanting, a command has one reply, but for such a line, and leads to one session.
 abbrev pub OneReply : Type 0

@@ -78,17 +78,17 @@ RemovesSome net = ¬ ((net.removed ≡ set.empty) × (net.names_removed ≡ set.
 
 -- why a command may be refused at a session
 abbrev pub MayRefuse : Session → Command → KeeperFault → Type 0
-MayRefuse s (Do request) NoMemory = Unit {0}
+MayRefuse s (Do request) (NoMemory _) = Unit {0}
 MayRefuse s (Do request) fault = IsRefused s.base_iri request (now s) fault
 MayRefuse s Undo NothingToUndo = s.states.cursor ≡ 0
 -- going back puts in what the entry removed
-MayRefuse s Undo NoMemory = (0 < s.states.cursor) × RemovesSome (net_between (state_at s (s.states.cursor - 1)) (now s))
+MayRefuse s Undo (NoMemory _) = (0 < s.states.cursor) × RemovesSome (net_between (state_at s (s.states.cursor - 1)) (now s))
 MayRefuse s Redo NothingToRedo = s.states.cursor ≡ length s.states.items
-MayRefuse s Redo NoMemory = (s.states.cursor < length s.states.items) × AddsSome (net_between (now s) (state_at s (s.states.cursor + 1)))
-MayRefuse s (Mark name) NoMemory = Unit {0}
+MayRefuse s Redo (NoMemory _) = (s.states.cursor < length s.states.items) × AddsSome (net_between (now s) (state_at s (s.states.cursor + 1)))
+MayRefuse s (Mark name) (NoMemory _) = Unit {0}
 MayRefuse s (Rollback name) NoSuchMark = place_of name s.states ≡ None
 MayRefuse s (Rollback name) MarkAhead = (k : ℕ) × (place_of name s.states ≡ Some k) × (s.states.cursor < k)
-MayRefuse s (Rollback name) NoMemory = Unit {0}
+MayRefuse s (Rollback name) (NoMemory _) = Unit {0}
 MayRefuse s _ _ = ⊥
 
 -- from old, the command may have this reply and lead to new
@@ -112,4 +112,4 @@ reply_of (Err fault) = Refused fault
 
 abbrev pub reply_of_mark : Result (Unit {0}) NoMemoryFault → Reply
 reply_of_mark (Ok u) = Done
-reply_of_mark (Err fault) = Refused NoMemory
+reply_of_mark (Err fault) = Refused (NoMemory fault)

@@ -1,6 +1,6 @@
 //! Refusals, and what an accepted command answers.
 ghost use Rattle.std.specs.Prelude.{◌≡◌};
-ghost use Rattle.rdf_session.specs.Faults.{line_of, name_of};
+ghost use Rattle.rdf_session.specs.Faults.{line_of, name_of, no_memory};
 ghost use Rattle.rdf_session.specs.declared.fault.KeeperFault.TheVariants.{NoMemory};
 
 use rdf_lines::LineFault;
@@ -34,7 +34,7 @@ pub enum KeeperFault {
     NoEnd,
     /// Memory is wanting.
     #[error("no memory")]
-    NoMemory,
+    NoMemory(NoMemoryFault),
     /// A load's blank nodes would bring the counter past 10^18.
     #[error("no blank numbers are left")]
     BlankNumbers,
@@ -64,7 +64,7 @@ impl KeeperFault {
             KeeperFault::MarkAhead => "MarkAhead",
             KeeperFault::BadCommand => "BadCommand",
             KeeperFault::NoEnd => "NoEnd",
-            KeeperFault::NoMemory => "NoMemory",
+            KeeperFault::NoMemory(refused) => refused.name(),
             KeeperFault::BlankNumbers => "BlankNumbers",
             KeeperFault::Line(fault) => fault.name(),
             KeeperFault::Turtle(fault) => fault.name(),
@@ -87,7 +87,7 @@ impl KeeperFault {
             | KeeperFault::MarkAhead
             | KeeperFault::BadCommand
             | KeeperFault::NoEnd
-            | KeeperFault::NoMemory
+            | KeeperFault::NoMemory(_)
             | KeeperFault::BlankNumbers
             | KeeperFault::Apply(_) => None,
         }
@@ -95,26 +95,26 @@ impl KeeperFault {
 }
 
 impl From<NoMemoryFault> for KeeperFault {
-    ghost from_gives = { λ _ e. e ≡ NoMemory };
+    ghost from_gives = { λ refused e. e ≡ NoMemory refused };
 
-    fn from(_e: NoMemoryFault) -> KeeperFault {
-        KeeperFault::NoMemory
+    fn from(refused: NoMemoryFault) -> KeeperFault {
+        KeeperFault::NoMemory(refused)
     }
 }
 
 impl From<AllocError> for KeeperFault {
-    ghost from_gives = { λ _ e. e ≡ NoMemory };
+    ghost from_gives = { λ _ e. e ≡ no_memory };
 
-    fn from(_e: AllocError) -> KeeperFault {
-        KeeperFault::NoMemory
+    fn from(e: AllocError) -> KeeperFault {
+        KeeperFault::NoMemory(NoMemoryFault::from(e))
     }
 }
 
 impl<T: Drop> From<AllocFailed<T>> for KeeperFault {
-    ghost from_gives = { λ _ e. e ≡ NoMemory };
+    ghost from_gives = { λ _ e. e ≡ no_memory };
 
-    fn from(_e: AllocFailed<T>) -> KeeperFault {
-        KeeperFault::NoMemory
+    fn from(e: AllocFailed<T>) -> KeeperFault {
+        KeeperFault::NoMemory(NoMemoryFault::from(e))
     }
 }
 

@@ -10,7 +10,7 @@ ghost use Rattle.rdf_dataset.specs.Sorted.{ListsSorted};
 ghost use Rattle.rdf_session.specs.Listing.{ListsQuads};
 ghost use Rattle.rdf_session.specs.Request.{Load, Update};
 ghost use Rattle.rdf_session.specs.Session.{Commit, Do, Done, Mark, Redo, Rollback, Session, Step, Undo, accepted, all_states, counts_between, fresh, now, reply_of, reply_of_mark};
-ghost use Rattle.rdf_session.specs.declared.fault.KeeperFault.TheVariants.{NoMemory};
+ghost use Rattle.rdf_session.specs.Faults.{no_memory};
 
 use crate::fault::{Counts, KeeperFault};
 use crate::format::Format;
@@ -107,7 +107,7 @@ impl Keeper {
             net ≡ net_between (now self.old) after →
             (self.new ≡ accepted after self.old)
             × (counts ≡ counts_between (now self.old) after)) }
-        ensures refused { IfErr result (λ fault. fault ≡ NoMemory) }
+        ensures refused { IfErr result (λ fault. fault ≡ no_memory) }
         ensures err { OnErr result (self.new ≡ self.old) }
     {
         self.entries.reserve(1)?;

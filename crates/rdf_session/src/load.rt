@@ -69,10 +69,10 @@ fn read_in_lines(alloc: Global, format: LineFormat, text: &[u8]) -> Result<Vec<Q
         Ok(quads) => Ok(quads),
         Err(
             LineFault {
-                kind: FaultKind::NoMemory,
+                kind: FaultKind::NoMemory(refused),
                 ..
             },
-        ) => Err(KeeperFault::NoMemory),
+        ) => Err(KeeperFault::NoMemory(refused)),
         Err(fault) => Err(KeeperFault::Line(fault)),
     }
 }
@@ -81,7 +81,7 @@ fn turtle_refusal(fault: TurtleFault) -> KeeperFault
     ensures { result ≡ turtle_refusal fault fault.kind }
 {
     match fault.kind {
-        TurtleFaultKind::NoMemory => KeeperFault::NoMemory,
+        TurtleFaultKind::NoMemory(refused) => KeeperFault::NoMemory(refused),
         TurtleFaultKind::NotUtf8
         | TurtleFaultKind::Token
         | TurtleFaultKind::TooDeep

@@ -16,7 +16,7 @@ fn syntax_refusal(fault: SyntaxFault) -> KeeperFault
     ensures { result ≡ syntax_refusal fault fault.kind }
 {
     match fault.kind {
-        SyntaxFaultKind::NoMemory(refused) => KeeperFault::from(refused),
+        SyntaxFaultKind::NoMemory(refused) => KeeperFault::NoMemory(refused),
         SyntaxFaultKind::NotUtf8
         | SyntaxFaultKind::Token
         | SyntaxFaultKind::NotInProfile
@@ -35,7 +35,7 @@ fn apply_refusal(fault: ApplyFault) -> KeeperFault
     ensures { result ≡ apply_refusal fault }
 {
     match fault {
-        ApplyFault::NoMemory(refused) => KeeperFault::from(refused),
+        ApplyFault::NoMemory(refused) => KeeperFault::NoMemory(refused),
         ApplyFault::MissingGraph | ApplyFault::GraphExists | ApplyFault::BlankNumbers => {
             KeeperFault::Apply(fault)
         }

@@ -24,24 +24,24 @@ use Rattle.rdf_session.specs.declared.format.Format.{Format}
 
 -- the fault of the document, or want of memory
 abbrev pub TellsFault : Format → Option (List ℕ) → List ℕ → KeeperFault → Type 0
-TellsFault format base text NoMemory = Unit {0}
+TellsFault format base text (NoMemory _) = Unit {0}
 TellsFault format base text fault = IsFaulty format base text fault
 
 -- the same of a text of lines
 abbrev pub TellsLineFault : LineFormat → List ℕ → KeeperFault → Type 0
-TellsLineFault format text NoMemory = Unit {0}
+TellsLineFault format text (NoMemory _) = Unit {0}
 TellsLineFault format text (Line fault) = (quads : List QuadParts) × lines.IsDocument format text quads (Some fault)
 TellsLineFault format text _ = ⊥
 
 -- and of one of Turtle
 abbrev pub TellsTurtleFault : Option (List ℕ) → List ℕ → KeeperFault → Type 0
-TellsTurtleFault base text NoMemory = Unit {0}
+TellsTurtleFault base text (NoMemory _) = Unit {0}
 TellsTurtleFault base text (Turtle fault) = turtle.IsFaulty base text fault
 TellsTurtleFault base text _ = ⊥
 
 -- the refusal that a fault of Turtle is, by its kind
 abbrev pub turtle_refusal : TurtleFault → TurtleFaultKind → KeeperFault
-turtle_refusal fault kind.NoMemory = NoMemory
+turtle_refusal fault (kind.NoMemory refused) = NoMemory refused
 turtle_refusal fault kind.NotUtf8 = Turtle fault
 turtle_refusal fault kind.Token = Turtle fault
 turtle_refusal fault kind.TooDeep = Turtle fault
@@ -52,7 +52,7 @@ turtle_refusal fault kind.Relative = Turtle fault
 -- the net to the state with the quads, which is sound, or its refusal
 abbrev pub Stages : State → List QuadParts → Result Change KeeperFault → Type 0
 Stages s quads (Ok net) = (s.next + blank_limit quads ≤ last_number) × (IsSound (loaded s quads) × (net ≡ net_between s (loaded s quads)))
-Stages s quads (Err NoMemory) = Unit {0}
+Stages s quads (Err (NoMemory _)) = Unit {0}
 Stages s quads (Err BlankNumbers) = last_number < s.next + blank_limit quads
 Stages s quads (Err _) = ⊥
 
@@ -60,7 +60,7 @@ Stages s quads (Err _) = ⊥
 
 -- the fault of a text of an update, or want of memory
 abbrev pub TellsSyntaxFault : Option (List ℕ) → List ℕ → KeeperFault → Type 0
-TellsSyntaxFault base text NoMemory = Unit {0}
+TellsSyntaxFault base text (NoMemory _) = Unit {0}
 TellsSyntaxFault base text (Syntax fault) = update.IsFaulty base text fault
 TellsSyntaxFault base text _ = ⊥
 
@@ -77,18 +77,18 @@ syntax_refusal fault syntax.BlankInDelete = Syntax fault
 syntax_refusal fault syntax.VariableInData = Syntax fault
 syntax_refusal fault syntax.LiteralSubject = Syntax fault
 syntax_refusal fault syntax.BlankReused = Syntax fault
-syntax_refusal fault (syntax.NoMemory refused) = NoMemory
+syntax_refusal fault (syntax.NoMemory refused) = NoMemory refused
 
 -- the refusal that an obstacle to an operation is
 abbrev pub apply_refusal : ApplyFault → KeeperFault
 apply_refusal obstacle.MissingGraph = Apply obstacle.MissingGraph
 apply_refusal obstacle.GraphExists = Apply obstacle.GraphExists
 apply_refusal obstacle.BlankNumbers = Apply obstacle.BlankNumbers
-apply_refusal (obstacle.NoMemory refused) = NoMemory
+apply_refusal (obstacle.NoMemory refused) = NoMemory refused
 
 -- the net to the state that the operations lead to, which is sound, or their refusal
 abbrev pub StagesSteps : State → List Operation → Result Change KeeperFault → Type 0
 StagesSteps s operations (Ok net) = (t : State) × (steps s operations ≡ Ok t) × IsSound t × (net ≡ net_between s t)
-StagesSteps s operations (Err NoMemory) = Unit {0}
+StagesSteps s operations (Err (NoMemory _)) = Unit {0}
 StagesSteps s operations (Err (Apply fault)) = steps s operations ≡ Err fault
 StagesSteps s operations (Err _) = ⊥
