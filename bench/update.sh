@@ -49,7 +49,7 @@ took = {script: seconds(script) for script in answers}
 with open(f"{work}/rdfkeep", "w") as out:
     for change in ("insert", "delete"):
         print(change, took[change] - took["start"], took[change + "-undo"] - took[change], file=out)
-print("rdfkeep: the start alone %.2f s, of which no more is told" % took["start"])
+print("rdfkeep begins with the data in %.2f s, which the times below leave out" % took["start"])
 PY
 
 "$python" "$here/update_rdflib.py" "$work" > "$work/rdflib"
