@@ -1,6 +1,7 @@
 #!/usr/bin/env bash
 # Changes 10^5 quads by INSERT DATA of as many others and by DELETE DATA of them all, and takes each change back, with
-# rdfkeep and with rdflib, in one go, and prints what each takes.
+# rdfkeep and with rdflib, in one go, and prints what each takes. rdflib is given each change in requests of 500 quads,
+# since one of 10^4 takes it minutes.
 # Usage: bench/update.sh [RDFKEEP [COUNT [SEED]]], where RDFKEEP is the built program and COUNT the number of quads
 # (apt-get install python3-rdflib).
 set -euo pipefail

@@ -4,6 +4,7 @@
     data          COUNT quads as N-Quads, without blank nodes
     insert        INSERT DATA of COUNT other quads
     delete        DELETE DATA of the quads of data
+    insert-000 .. delete-000 ..    the same in requests of 500 quads each, for those whom a long text takes hours
 """
 import pathlib
 import random
@@ -36,14 +37,24 @@ def operation(words, graphs):
     return "%s {\n%s\n}\n" % (words, "\n".join(blocks))
 
 
+def write(folder, name, words, graphs):
+    (folder / name).write_text(operation(words, graphs))
+    alone = [(graph, triple) for graph, triples in sorted(graphs.items()) for triple in triples]
+    for start in range(0, len(alone), 500):
+        part = {}
+        for graph, triple in alone[start : start + 500]:
+            part.setdefault(graph, []).append(triple)
+        (folder / ("%s-%03d" % (name, start // 500))).write_text(operation(words, part))
+
+
 def main(folder, count, seed):
     source, folder, count = random.Random(int(seed)), pathlib.Path(folder), int(count)
     there = quads(source, count, 0)
     lines = ["%s %s.\n" % (triple, graph + " " if graph else "") for graph, triples in there.items() for triple in triples]
     source.shuffle(lines)
     (folder / "data").write_text("".join(lines))
-    (folder / "insert").write_text(operation("INSERT DATA", quads(source, count, count)))
-    (folder / "delete").write_text(operation("DELETE DATA", there))
+    write(folder, "insert", "INSERT DATA", quads(source, count, count))
+    write(folder, "delete", "DELETE DATA", there)
 
 
 main(*sys.argv[1:])
