@@ -1,12 +1,13 @@
 #!/usr/bin/env python3
 """Writes large documents into the current folder, with what the program has to make of them, known by construction.
 
-    large.py nquads|turtle convert|print|load
-    large.py lines|faulty|long-line|cr-lf|objects|statements|brackets
+    large.py nquads|ntriples|turtle|update convert|print|load
+    large.py lines|faulty|long-line|cr-lf|objects|statements|brackets|updates
 
 The first form makes 10^5 statements by a seeded generator, always the same: long texts, escapes, many labels and
 prefixes. `convert` writes the document as data and its canonical lines as stdout; `print` its sorted lines, as the
-command %print shows them; `load` a script that loads, undoes and redoes it.
+command %print shows them; `load` a script that loads, undoes and redoes it. An update is the data of one INSERT DATA,
+which can only be loaded.
 The second form makes documents whose size is their only difficulty.
 """
 import random
@@ -50,10 +51,14 @@ class Document:
     def __init__(self, seed):
         self.random = random.Random(seed)
         self.text, self.quads, self.numbers, self.count = [], [], {}, 0
+        self.graph = ()  # of the triples to come
 
     def fresh(self):
         self.count += 1
         return (BLANK, self.count - 1)
+
+    def add(self, subject, predicate, value):
+        self.quads.append((self.graph, subject, predicate, value))
 
     def label(self, name):
         if name not in self.numbers:
@@ -101,8 +106,15 @@ def line(quad):
 
 
 def nquads():
-    """A document of lines: its objects differ, so that no quad stands twice."""
-    document = Document(1)
+    return lines(Document(1), 0.3)
+
+
+def ntriples():
+    return lines(Document(3), 0)
+
+
+def lines(document, named):
+    """A document of lines: its objects differ, so that no quad stands twice. So many parts of it have graph labels."""
     pick = document.random
 
     def node(names):
@@ -116,7 +128,7 @@ def nquads():
         subject, subject_text = node("s")
         predicate = f"http://e/p/{pick.randrange(40)}"
         value, value_text = document.literal(number)
-        graph, graph_text = node("g") if pick.random() < 0.3 else (None, "")
+        graph, graph_text = node("g") if pick.random() < named else (None, "")
         subject = subject()
         document.quads.append(((graph(),) if graph else (), subject, iri(predicate), value))
         space = pick.choice(["", " ", "\t "])
@@ -129,9 +141,26 @@ def nquads():
 def turtle():
     """A document of Turtle, against the base http://e/base/."""
     document = Document(2)
-    pick, text, quads = document.random, document.text, document.quads
     for prefix in range(300):
-        text.append(f"@prefix p{prefix}: <http://e/p{prefix}#> .\n")
+        document.text.append(f"@prefix p{prefix}: <http://e/p{prefix}#> .\n")
+    triples(document, 0)
+    return document
+
+
+def update():
+    """INSERT DATA, against the base http://e/base/, with parts in GRAPH blocks."""
+    document = Document(4)
+    for prefix in range(300):
+        document.text.append(f"{document.random.choice(['PREFIX', 'prefix'])} p{prefix}: <http://e/p{prefix}#>\n")
+    document.text.append("INSERT DATA {\n")
+    triples(document, 0.3)
+    document.text.append("}")
+    return document
+
+
+def triples(document, named):
+    """Triples as Turtle and SPARQL have them. So many parts of them stand in GRAPH blocks."""
+    pick, text, quads = document.random, document.text, document.quads
 
     def name():
         prefix, local = pick.randrange(300), pick.randrange(1_000)
@@ -148,14 +177,14 @@ def turtle():
         for place in range(size):
             following = document.fresh()
             if cell is None:
-                quads.append(((), subject, predicate, following))
+                document.add(subject, predicate, following)
             else:
-                quads.append(((), cell, iri(RDF + "rest"), following))
+                document.add(cell, iri(RDF + "rest"), following)
             cell = following
             value, value_text = document.literal(len(quads))
             text.append(value_text + " ")
-            quads.append(((), cell, iri(RDF + "first"), value))
-        quads.append(((), cell, iri(RDF + "rest"), iri(RDF + "nil")))
+            document.add(cell, iri(RDF + "first"), value)
+        document.add(cell, iri(RDF + "rest"), iri(RDF + "nil"))
         text.append(")")
 
     def thing(subject, predicate, depth):
@@ -163,18 +192,18 @@ def turtle():
         if kind == 0 and depth < 3:
             text.append("[ ")
             node = document.fresh()
-            quads.append(((), subject, predicate, node))
+            document.add(subject, predicate, node)
             properties(node, depth + 1)
             text.append(" ]")
         elif kind == 1:
             collection(subject, predicate)
         elif kind == 2:
             number = len(quads)
-            quads.append(((), subject, predicate, literal(str(number), XSD + "integer")))
+            document.add(subject, predicate, literal(str(number), XSD + "integer"))
             text.append(str(number))
         else:
             value, value_text = document.literal(len(quads))
-            quads.append(((), subject, predicate, value))
+            document.add(subject, predicate, value)
             text.append(value_text)
 
     def properties(subject, depth):
@@ -186,6 +215,10 @@ def turtle():
                 thing(subject, predicate, depth)
 
     while len(quads) < STATEMENTS:
+        in_block = named > 0 and pick.random() < named
+        if in_block:
+            document.graph = (iri(f"http://e/g/{pick.randrange(100)}"),)
+            text.append(f"GRAPH {written(document.graph[0])} {{ ")
         if pick.random() < 0.6:
             label = f"n{pick.randrange(20_000)}"
             subject = document.label(label)
@@ -194,7 +227,9 @@ def turtle():
             subject = name()
         properties(subject, 0)
         text.append(pick.choice([" .\n", " .\r\n\n", ". # é\n"]))
-    return document
+        if in_block:
+            document.graph = ()
+            text.append(pick.choice(["}\n", "} .\n"]))
 
 
 def write(name, text):
@@ -202,7 +237,7 @@ def write(name, text):
 
 
 def large(form, what):
-    document = {"nquads": nquads, "turtle": turtle}[form]()
+    document = {"nquads": nquads, "ntriples": ntriples, "turtle": turtle, "update": update}[form]()
     text, count = "".join(document.text), len(document.quads)
     assert count == len(set(document.quads)) and count >= STATEMENTS and len(document.numbers) > 5_000
     if what == "convert":
@@ -214,7 +249,8 @@ def large(form, what):
     elif what == "load":
         graphs = sorted({quad[0] for quad in document.quads if quad[0]})
         names = "".join(written(graph[0]) + "\n" for graph in graphs) + f"ok {len(graphs)}\n"
-        write("script", f"%load {form}\n{text}\n%end\n%graphs\n%undo\n%graphs\n%redo\n%mark all\n%rollback all\n")
+        command = "%update" if form == "update" else f"%load {form}"
+        write("script", f"{command}\n{text}\n%end\n%graphs\n%undo\n%graphs\n%redo\n%mark all\n%rollback all\n")
         write("stdout", f"ok +{count} -0\n{names}ok +0 -{count}\nok 0\nok +{count} -0\nok\nok +0 -0\n")
 
 
@@ -241,6 +277,23 @@ def size(what):
     elif what == "statements":
         write("data", "<a:s> <a:p> [] ." * 10_000)
         write("stdout", "".join(f"<a:s> <a:p> _:b{number} .\n" for number in range(10_000)))
+    elif what == "updates":
+        numbers = range(STATEMENTS)
+        triples = " .\n".join(f"<a:s> <a:p> {number}" for number in numbers)
+        bodies = [
+            (" ;\n".join(f"INSERT DATA {{ <a:s> <a:p> {number} }}" for number in range(10_000)), 10_000),
+            (" ;\n".join(f"CREATE GRAPH <a:{number}> ; DROP GRAPH <a:{number}>" for number in range(5_000)), 0),
+            (f"INSERT DATA {{ {triples} }}", 100_000),
+            (f"INSERT DATA {{ {triples} }} ; DELETE DATA {{ {triples} }}", 0),
+            (f"INSERT DATA {{ <a:s> <a:p> {', '.join('[]' for _ in numbers)} }}", 100_000),
+            (f"INSERT DATA {{ <a:s> <a:p> ( {' '.join(map(str, numbers))} ) }}", 200_001),
+            (f"INSERT DATA {{ {' '.join(f'GRAPH <a:g> {{ <a:s> <a:p> {number} }}' for number in numbers)} }}", 100_000),
+            (f"INSERT DATA {{ <a:s> {'; '.join(f'<a:p> {number}' for number in numbers)} }}", 100_000),
+        ]
+        answers = "".join(f"ok +{count} -0\nok +0 -{count}\n" for _, count in bodies)
+        script = "".join(f"%update\n{body}\n%end\n%undo\n" for body, _ in bodies)
+        write("script", script + "%update\nINSERT DATA {\n" + "(" * 1_000_000 + "\n%end\n%graphs\n")
+        write("stdout", answers + "refused: TooDeep line 2\nok 0\n")
     elif what == "brackets":
         write("data", "<a:s> <a:p>\n" + "(" * 1_000_000)
 
