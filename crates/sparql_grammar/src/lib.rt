@@ -13,7 +13,7 @@ mod tree;
 mod update;
 mod words;
 
-pub use laws::{lexemes_have_forms, one_request_tree};
+pub use laws::{lexemes_have_forms, one_request_tree, requests_are_proper};
 pub use lexeme::Lexeme;
 pub use outside::first_outside;
 pub use stop::{Stop, StopKind};
