@@ -1,1 +1,6 @@
 pub mod Drafts
+pub mod Kept
+pub mod Known
+pub mod Meaning
+pub mod Room
+pub mod State

@@ -3,5 +3,9 @@
 #![tactic(auto)]
 
 mod draft;
+mod known;
+mod meaning;
+mod operation;
+mod scope;
 
 pub use sparql_trees::{Data, GraphOrDefault, GraphRefAll, GroundData, Operation, Request};
