@@ -3,7 +3,8 @@ use Rattle.std.specs.Prelude.{◌≡◌, Option, Some, None, Result, Ok, Err}
 use Rattle.rdf_grammar.specs.declared.prologue.PrologueFault.{PrologueFault}
 use Rattle.rdf_grammar.specs.declared.prologue.PrologueFault.TheVariants.{UnknownPrefix, Relative, NoMemory}
 use Rattle.rdf_grammar.specs.Steps.{Outcome}
-use Rattle.sparql_syntax.specs.Meaning.{NameFault}
+use Rattle.sparql_syntax.specs.declared.fault.SyntaxFaultKind.{SyntaxFaultKind}
+use Rattle.sparql_syntax.specs.declared.fault.SyntaxFaultKind.TheVariants as kind
 
 -- Relative where the outcome is missing: each prefix is known to be declared
 abbrev pub Fails : {A : Type 0} → Option A → PrologueFault → Type 0
@@ -22,7 +23,7 @@ Tells outcome (Ok a) = outcome ≡ Some a
 Tells outcome (Err e) = Fails outcome e
 
 -- this is the fault that is answered, unless memory was wanting
-abbrev pub IsFaultOf : {A : Type 0} → Result A NameFault → PrologueFault → Type 0
+abbrev pub IsFaultOf : {A : Type 0} → Result A SyntaxFaultKind → PrologueFault → Type 0
 IsFaultOf answer (NoMemory e) = Unit {0}
-IsFaultOf answer (UnknownPrefix start) = answer ≡ Err NameFault.UnknownPrefix
-IsFaultOf answer (Relative start) = answer ≡ Err NameFault.Relative
+IsFaultOf answer (UnknownPrefix start) = answer ≡ Err kind.UnknownPrefix
+IsFaultOf answer (Relative start) = answer ≡ Err kind.Relative

@@ -1,4 +1,5 @@
 pub mod Drafts
+pub mod FaultName
 pub mod Kept
 pub mod Known
 pub mod Meaning

@@ -46,6 +46,8 @@ use Rattle.sparql_syntax.specs.declared.draft.VarOrIri.{VarOrIri}
 use Rattle.sparql_syntax.specs.declared.draft.VarOrIri.TheVariants as i
 use Rattle.sparql_syntax.specs.declared.draft.VarOrTerm.{VarOrTerm}
 use Rattle.sparql_syntax.specs.declared.draft.VarOrTerm.TheVariants as x
+use Rattle.sparql_syntax.specs.declared.fault.SyntaxFaultKind.{SyntaxFaultKind}
+use Rattle.sparql_syntax.specs.declared.fault.SyntaxFaultKind.TheVariants.{UnknownPrefix, Relative}
 use Rattle.sparql_syntax.specs.Known.{declares_first}
 use Rattle.sparql_syntax.specs.State.{State, Does, start, quads, told, fresh, labelled, in_default, in_graph, says}
 
@@ -227,12 +229,7 @@ drafts (p ∷ ps) = do
 unfoldable pub drafts_of : Option (List ℕ) → List Part → Option (List Draft)
 drafts_of base ps = option_map (λ r. r.0) (drafts ps (prologue.start base))
 
--- why a request has no drafts: a prefix is used before it is declared, or a relative reference has no base
-pub data NameFault : Type 0 where
-  UnknownPrefix : NameFault
-  Relative : NameFault
-
 -- what is answered to a request: its drafts, or the first fault, UnknownPrefix before Relative over the whole text
-abbrev pub answer : Option (List ℕ) → List Part → Result (List Draft) NameFault
+abbrev pub answer : Option (List ℕ) → List Part → Result (List Draft) SyntaxFaultKind
 answer base ps =
-    if declares_first [] ps then ok_or (drafts_of base ps) NameFault.Relative else Err NameFault.UnknownPrefix
+    if declares_first [] ps then ok_or (drafts_of base ps) Relative else Err UnknownPrefix

@@ -3,9 +3,11 @@
 #![tactic(auto)]
 
 mod draft;
+mod fault;
 mod known;
 mod meaning;
 mod operation;
 mod scope;
 
+pub use fault::{SyntaxFault, SyntaxFaultKind};
 pub use sparql_trees::{Data, GraphOrDefault, GraphRefAll, GroundData, Operation, Request};
