@@ -1,3 +1,4 @@
+pub mod Blanks
 pub mod Drafts
 pub mod FaultName
 pub mod Kept

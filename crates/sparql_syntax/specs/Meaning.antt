@@ -15,7 +15,7 @@ use Rattle.rdf_grammar.specs.Steps.{Step, ◌>>=◌, ◌>>◌, ◌<$>◌, pure, 
 use Rattle.rdf_grammar.specs.declared.tree.Literal.{Literal}
 use Rattle.rdf_grammar.specs.declared.tree.Literal.TheVariants as l
 use Rattle.rdf_grammar.specs.declared.tree.Name.{Name}
-use Rattle.sparql_grammar.specs.Proper.{is_filled}
+use Rattle.sparql_grammar.specs.Proper.{is_filled, stands_alone}
 use Rattle.sparql_grammar.specs.declared.tree.Block.{Block}
 use Rattle.sparql_grammar.specs.declared.tree.GraphOrDefault.{GraphOrDefault}
 use Rattle.sparql_grammar.specs.declared.tree.GraphOrDefault.TheVariants as written_one
@@ -86,14 +86,13 @@ literal (l.Boolean value) = pure (untagged (boolean_text value) xsd_boolean)
 
 -- ---- nodes
 
--- A node stands for a variable or a term, and then says the triples inside it. Some may stand without properties.
+-- A node stands for a variable or a term, and then says the triples inside it.
 pub record Meaning : Type 0 where
   pub term : Does VarOrTerm
   pub inside : VarOrTerm → Does (Unit {0})
-  pub alone : Bool
 
 abbrev pub only : Does VarOrTerm → Meaning
-only term = record { term = term; inside = λ _. pure tt; alone = false }
+only term = record { term = term; inside = λ _. pure tt }
 
 -- for an object the triple itself, then those inside the object
 unfoldable pub object : VarOrTerm → VarOrIri → Meaning → Does (Unit {0})
@@ -107,27 +106,36 @@ abbrev pub objects : VarOrTerm → VarOrIri → List Meaning → Does (Unit {0})
 objects subject predicate [] = none
 objects subject predicate (m ∷ ms) = each (object subject predicate) (m ∷ ms)
 
+-- the properties of a list's cells, and the list without elements (SPARQL 1.1 Query, section 4.2.3)
+abbrev pub first : VarOrIri
+first = i.Iri rdf_first
+
+abbrev pub rest : VarOrIri
+rest = i.Iri rdf_rest
+
+abbrev pub nil : VarOrTerm
+nil = x.Term (t.Iri rdf_nil)
+
 -- behind a cell its rdf:rest: rdf:nil, or the next cell, which has its rdf:first and those inside the element
--- (SPARQL 1.1 Query, section 4.2.3)
 abbrev pub behind : VarOrTerm → List Meaning → Does (Unit {0})
-behind cell [] = says cell (i.Iri rdf_rest) (x.Term (t.Iri rdf_nil))
+behind cell [] = says cell rest nil
 behind cell (m ∷ ms) = do
   next ← fresh
-  says cell (i.Iri rdf_rest) next
-  object next (i.Iri rdf_first) m
+  says cell rest next
+  object next first m
   behind next ms
 
 -- rdf:nil, or a first cell with the triples of the list
 abbrev pub list_term : List Meaning → Does VarOrTerm
-list_term [] = pure (x.Term (t.Iri rdf_nil))
+list_term [] = pure nil
 list_term (m ∷ ms) = fresh
 
 abbrev pub list_inside : List Meaning → VarOrTerm → Does (Unit {0})
 list_inside [] cell = pure tt
-list_inside (m ∷ ms) cell = object cell (i.Iri rdf_first) m >> behind cell ms
+list_inside (m ∷ ms) cell = object cell first m >> behind cell ms
 
 abbrev pub collection : List Meaning → Meaning
-collection ms = record { term = list_term ms; inside = list_inside ms; alone = is_filled ms }
+collection ms = record { term = list_term ms; inside = list_inside ms }
 
 -- what a verb and its objects say of a subject
 abbrev pub Says : Type 0
@@ -142,7 +150,7 @@ node_of (Node-F.Name name) = only ((λ iri. x.Term (t.Iri iri)) <$> iri name)
 node_of (Node-F.Literal l) = only (x.Term <$> literal l)
 node_of (Node-F.Label label) = only (labelled label)
 node_of (Node-F.Blank bracket properties) =
-    record { term = fresh; inside = λ blank. each (λ p. p blank) properties; alone = is_filled properties }
+    record { term = fresh; inside = λ blank. each (λ p. p blank) properties }
 node_of (Node-F.Collection bracket items) = collection items
 
 abbrev pub meaning : Node → Meaning
@@ -165,7 +173,7 @@ subject_with node ps = do
 
 -- a subject has properties, behind it or inside its brackets
 unfoldable pub triples : Triples → Does (Unit {0})
-triples ts = if (meaning ts.subject).alone || is_filled ts.properties then subject_with ts.subject ts.properties else none
+triples ts = if stands_alone ts.subject || is_filled ts.properties then subject_with ts.subject ts.properties else none
 
 -- the default graph, or the graph that GRAPH names
 abbrev pub graph : Option written_name.VarOrIri → Does (Unit {0})
@@ -176,8 +184,8 @@ abbrev pub block : Block → Does (Unit {0})
 block b = graph b.graph >> each (λ f. f) (map triples b.triples)
 
 -- the quads of one operation's data, whose blank nodes are numbered from 0 over all its blocks
-unfoldable pub data : List Block → Prologue → Option Quads
-data blocks p = option_map (λ r. quads r.1) (each (λ f. f) (map block blocks) (start p))
+unfoldable pub quads_in : List Block → Prologue → Option Quads
+quads_in blocks p = option_map (λ r. quads r.1) (each (λ f. f) (map block blocks) (start p))
 
 -- ---- operations
 
@@ -196,8 +204,8 @@ abbrev pub both : GraphOrDefault → GraphOrDefault → Prologue → Option (one
 both from to p = option_and_then (λ f. option_map (λ u. (f, u)) (graph_or_default to p)) (graph_or_default from p)
 
 unfoldable pub operation : Operation → Prologue → Option Draft
-operation (written.InsertData blocks) p = option_map InsertData (data blocks p)
-operation (written.DeleteData blocks) p = option_map DeleteData (data blocks p)
+operation (written.InsertData blocks) p = option_map InsertData (quads_in blocks p)
+operation (written.DeleteData blocks) p = option_map DeleteData (quads_in blocks p)
 operation (written.Create silent name) p = option_map (λ g. Other (op.Create silent g)) (iri_of name p)
 operation (written.Clear silent graphs) p = option_map (λ g. Other (op.Clear silent g)) (graph_ref_all graphs p)
 operation (written.Drop silent graphs) p = option_map (λ g. Other (op.Drop silent g)) (graph_ref_all graphs p)
@@ -221,9 +229,9 @@ listed (Some d) ds = d ∷ ds
 abbrev pub drafts : List Part → Step Prologue (List Draft)
 drafts [] = pure []
 drafts (p ∷ ps) = do
-  first ← part p
+  now ← part p
   more ← drafts ps
-  pure (listed first more)
+  pure (listed now more)
 
 -- the drafts of a request; none where a relative reference has no base, or something has no meaning
 unfoldable pub drafts_of : Option (List ℕ) → List Part → Option (List Draft)

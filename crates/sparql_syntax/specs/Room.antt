@@ -1,8 +1,5 @@
 -- The numbers of blank nodes don't run out: but for a subject's, each stands in a pattern of its own.
 use Rattle.std.specs.Prelude.{ℕ, ◌+◌, ◌≤◌, length}
-use Rattle.sparql_grammar.specs.declared.tree.Node.{Node}
-use Rattle.sparql_grammar.specs.declared.tree.Node.TheOpen.{Node-F}
-use Rattle.sparql_grammar.specs.declared.tree.Node.TheFolds.{fold-Node}
 use Rattle.sparql_syntax.specs.State.{State}
 
 -- No list in memory is longer than this.
@@ -24,12 +21,3 @@ SaysAtLeast least s u = length s.patterns + least ≤ length u.patterns
 -- each pattern said has taken two numbers at most
 abbrev pub IsPaired : State → Type 0
 IsPaired s = s.numbering.next ≤ length s.patterns + length s.patterns
-
--- how many properties or elements stand inside a node
-abbrev pub inside_count_of : Node-F ℕ ℕ → ℕ
-inside_count_of (Node-F.Blank bracket properties) = length properties
-inside_count_of (Node-F.Collection bracket items) = length items
-inside_count_of _ = 0
-
-abbrev pub inside_count : Node → ℕ
-inside_count = fold-Node ℕ ℕ inside_count_of (λ _. 0)

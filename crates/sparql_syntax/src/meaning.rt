@@ -1,5 +1,5 @@
 //! What the data of an operation says.
-ghost use Rattle.std.specs.Prelude.{◌≡◌, ◌+◌, ◌≤◌, length, IfOk, OnOk, IsTrue, map};
+ghost use Rattle.std.specs.Prelude.{◌≡◌, true, length, IfOk, OnOk, IsTrue, map};
 ghost use Rattle.std.specs.List.{list_all};
 ghost use Rattle.std.specs.Str.{encode_utf8_all};
 ghost use Rattle.rdf_grammar.specs.Prologue.{declared};
@@ -8,7 +8,7 @@ ghost use Rattle.sparql_grammar.specs.Proper.{holds};
 ghost use Rattle.sparql_syntax.specs.Kept.{Gives, Tells};
 ghost use Rattle.sparql_syntax.specs.Known as known;
 ghost use Rattle.sparql_syntax.specs.Meaning as spec;
-ghost use Rattle.sparql_syntax.specs.Room.{HasRoom, TakesAtMost, SaysAtLeast, IsPaired, inside_count};
+ghost use Rattle.sparql_syntax.specs.Room.{HasRoom, TakesAtMost, SaysAtLeast, IsPaired};
 
 use crate::draft::{Quads, VarOrIri, VarOrTerm};
 use crate::scope::Scope;
@@ -143,9 +143,7 @@ impl<'a> Scope<'a> {
                 Ok(self.fresh())
             }
             Node::Collection(bracket, items) => match items.as_slice() {
-                [] => Ok(VarOrTerm::Term(Term::Iri(
-                    self.vocabulary.rdf_nil().copy()?,
-                ))),
+                [] => Ok(self.rdf_nil()?),
                 [_, ..] => {
                     self.mark_blank(bracket.start());
                     Ok(self.fresh())
@@ -156,6 +154,7 @@ impl<'a> Scope<'a> {
 
     // The triples inside a node.
     #[cycle(inside)]
+    #[tactic(auto, using(crate::proofs::ScopeLoops::filled_count))]
     fn inside(&mut self, node: &Node<'a>, term: &VarOrTerm<'a>) -> Result<(), PrologueFault>
         requires known { IsTrue (known.known_node (declared self.old.prologue) node.now) }
         requires proper { IsTrue (proper.proper_node node.now) }
@@ -163,19 +162,37 @@ impl<'a> Scope<'a> {
         ensures gives { Gives ((spec.meaning node.now).inside term.now self.old) result self.new }
         ensures prologue { self.new.prologue ≡ self.old.prologue }
         ensures room { OnOk result (TakesAtMost 0 self.old self.new) }
-        ensures says { OnOk result (SaysAtLeast (inside_count node.now) self.old self.new) }
+        ensures says { OnOk result (SaysAtLeast 0 self.old self.new) }
+        ensures alone { proper.stands_alone node.now ≡ true
+            → OnOk result (SaysAtLeast 1 self.old self.new) }
     {
         match node {
             Node::Blank(_, properties) => self.properties(term, properties.as_slice()),
-            Node::Collection(_, items) => match items.as_slice() {
-                [] => Ok(()),
-                [first, rest @ ..] => {
-                    let predicate = VarOrIri::Iri(self.vocabulary.rdf_first().copy()?);
-                    self.object(term, &predicate, first)?;
-                    self.behind(term, rest)
-                }
-            },
+            Node::Collection(_, items) => self.elements(term, items.as_slice()),
             Node::Variable(_) | Node::Name(_) | Node::Literal(_) | Node::Label(_) => Ok(()),
+        }
+    }
+
+    // The triples of a list, from its first cell on.
+    #[cycle(inside)]
+    fn elements(&mut self, cell: &VarOrTerm<'a>, items: &[Node<'a>]) -> Result<(), PrologueFault>
+        requires known { let knows = known.known_node (declared self.old.prologue) in
+            IsTrue (list_all holds (map knows items.now)) }
+        requires proper { IsTrue (list_all holds (map proper.proper_node items.now)) }
+        requires room { HasRoom 0 self.old }
+        ensures gives { let says = spec.list_inside (map spec.meaning items.now) cell.now in
+            Gives (says self.old) result self.new }
+        ensures prologue { self.new.prologue ≡ self.old.prologue }
+        ensures room { OnOk result (TakesAtMost 0 self.old self.new) }
+        ensures says { OnOk result (SaysAtLeast (length items.now) self.old self.new) }
+    {
+        match items {
+            [] => Ok(()),
+            [first, rest @ ..] => {
+                let predicate = self.rdf_first()?;
+                self.object(cell, &predicate, first)?;
+                self.behind(cell, rest)
+            }
         }
     }
 
@@ -223,8 +240,8 @@ impl<'a> Scope<'a> {
         ensures room { OnOk result (TakesAtMost 0 self.old self.new) }
         ensures says { OnOk result (SaysAtLeast (length items.now) self.old self.new) }
     {
-        let first = VarOrIri::Iri(self.vocabulary.rdf_first().copy()?);
-        let rest = VarOrIri::Iri(self.vocabulary.rdf_rest().copy()?);
+        let first = self.rdf_first()?;
+        let rest = self.rdf_rest()?;
         let mut cell = cell.copy()?;
         for item in items {
             let next = self.fresh();
@@ -233,7 +250,7 @@ impl<'a> Scope<'a> {
             self.object(&next, &first, item)?;
             cell = next;
         }
-        let nil = VarOrTerm::Term(Term::Iri(self.vocabulary.rdf_nil().copy()?));
+        let nil = self.rdf_nil()?;
         Ok(self.says(&cell, &rest, nil)?)
     }
 
@@ -367,12 +384,12 @@ impl<'a> Scope<'a> {
     }
 
     /// The quads of an operation's data, whose blank nodes are numbered from 0.
-    #[tactic(auto, unfolding(crate::specs::Meaning::data))]
+    #[tactic(auto, unfolding(crate::specs::Meaning::quads_in))]
     pub(crate) fn data(&mut self, blocks: &[Block<'a>]) -> Result<Quads<'a>, PrologueFault>
         requires known { let knows = known.known_block (declared self.old.prologue) in
             IsTrue (list_all holds (map knows blocks.now)) }
         requires proper { IsTrue (list_all holds (map proper.proper_block blocks.now)) }
-        ensures tells { Tells (spec.data blocks.now self.old.prologue) result }
+        ensures tells { Tells (spec.quads_in blocks.now self.old.prologue) result }
         ensures prologue { self.new.prologue ≡ self.old.prologue }
     {
         self.begin();

@@ -168,7 +168,7 @@ impl<'a> Scope<'a> {
         predicate: &VarOrIri<'a>,
         object: VarOrTerm<'a>,
     ) -> Result<(), NoMemory>
-        ensures gives { let step = state.says subject.now predicate.now object in
+        ensures gives { let step = state.says subject.now predicate.now object.entry in
             OnOk result (step self.old ≡ Some (tt, self.new)) }
         ensures prologue { self.new.prologue ≡ self.old.prologue }
         ensures number { self.new.numbering ≡ self.old.numbering }
@@ -203,7 +203,7 @@ impl<'a> Scope<'a> {
     /// The triples that follow stand in the graph of this name.
     #[tactic(auto, unfolding(crate::specs::State::in_graph))]
     pub(crate) fn in_graph(&mut self, name: VarOrIri<'a>) -> Result<(), NoMemory>
-        ensures gives { OnOk result (state.in_graph name self.old ≡ Some (tt, self.new)) }
+        ensures gives { OnOk result (state.in_graph name.entry self.old ≡ Some (tt, self.new)) }
         ensures prologue { self.new.prologue ≡ self.old.prologue }
         ensures number { self.new.numbering ≡ self.old.numbering }
         ensures patterns { self.new.patterns ≡ self.old.patterns }
@@ -211,6 +211,29 @@ impl<'a> Scope<'a> {
         self.graphs.push(name.copy()?)?;
         self.graph = Some(name);
         Ok(())
+    }
+
+    /// The property from a cell of a list to its element.
+    pub(crate) fn rdf_first(&self) -> Result<VarOrIri<'a>, NoMemory>
+        ensures { IfOk result (λ property. property ≡ meaning.first) }
+    {
+        Ok(VarOrIri::Iri(self.vocabulary.rdf_first().copy()?))
+    }
+
+    /// The property from a cell of a list to the next one.
+    pub(crate) fn rdf_rest(&self) -> Result<VarOrIri<'a>, NoMemory>
+        ensures { IfOk result (λ property. property ≡ meaning.rest) }
+    {
+        Ok(VarOrIri::Iri(self.vocabulary.rdf_rest().copy()?))
+    }
+
+    /// The list without elements.
+    pub(crate) fn rdf_nil(&self) -> Result<VarOrTerm<'a>, NoMemory>
+        ensures { IfOk result (λ list. list ≡ meaning.nil) }
+    {
+        Ok(VarOrTerm::Term(Term::Iri(
+            self.vocabulary.rdf_nil().copy()?,
+        )))
     }
 
     /// The IRI of a name.

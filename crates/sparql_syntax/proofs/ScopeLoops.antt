@@ -1,0 +1,66 @@
+-- A turn of each loop of the reading.
+use Rattle.std.proofs.Common.{◌≡◌, ◌∙◌, ◌≤◌, ap, refl, sym, ℕ, zero, suc, ◌+◌, ◌<◌, List, [], ◌∷◌, map, drop, length, get_or, drop-cons, add-one, arith, Some, cond, Bool, true, false, ◌&&◌, true≢false}
+use Rattle.std.proofs.lemmas.Bool.{and_parts}
+use Rattle.std.specs.List.{list_all}
+use Rattle.rdf_grammar.specs.Steps.{Step, and_then, each}
+use Rattle.sparql_grammar.specs.Proper.{holds, is_filled}
+use Rattle.sparql_grammar.specs.declared.tree.Node.{Node}
+use Rattle.sparql_grammar.specs.declared.tree.Part.{Part}
+use Rattle.sparql_syntax.specs.declared.draft.VarOrIri.{VarOrIri}
+use Rattle.sparql_syntax.specs.declared.draft.VarOrTerm.{VarOrTerm}
+use Rattle.sparql_syntax.specs.Known.{known_part, declared_behind, declares_first}
+use Rattle.sparql_syntax.specs.Meaning.{Meaning, meaning, first, rest, object, behind}
+use Rattle.sparql_syntax.specs.State.{State, fresh, says}
+
+-- ---- what holds of each member of a list, one after the other
+
+member : {A : Type 0} (f : A → Bool) (xs : List A) (i : ℕ) (x : A) → i < length xs → x ≡ get_or xs i x → list_all holds (map f (drop i xs)) ≡ true
+    → (f x ≡ true) × (list_all holds (map f (drop (suc i) xs)) ≡ true)
+member f [] i x l e h = absurd (omega (arith, l))
+member f (y ∷ ys) zero x l e h = let p = and_parts (f y) (list_all holds (map f ys)) h in (ap f e ∙ p.0, p.1)
+member f (y ∷ ys) (suc i) x l e h = member f ys i x (omega (arith, l)) e h
+
+-- the next member, and those behind it
+pub next_member : {A : Type 0} (f : A → Bool) (xs : List A) (i : ℕ) (x : A) → i < length xs → x ≡ get_or xs i x → list_all holds (map f (drop i xs)) ≡ true
+    → (f x ≡ true) × (list_all holds (map f (drop (i + 1) xs)) ≡ true)
+next_member f xs i x l e h = let r = member f xs i x l e h in (r.0, rw add-one r.1)
+
+pub first_member : {A : Type 0} (f : A → Bool) (x : A) (xs : List A) → list_all holds (map f (x ∷ xs)) ≡ true → (f x ≡ true) × (list_all holds (map f xs) ≡ true)
+first_member f x xs h = and_parts (f x) (list_all holds (map f xs)) h
+
+pub filled_count : {A B : Type 0} (f : A → B) (xs : List A) → is_filled (map f xs) ≡ true → 1 ≤ length xs
+filled_count f [] h = absurd (true≢false (sym h))
+filled_count f (x ∷ xs) h = omega arith
+
+-- ---- steps
+
+drop_is : {A : Type 0} (xs : List A) (i : ℕ) (x : A) → i < length xs → x ≡ get_or xs i x → drop i xs ≡ x ∷ drop (suc i) xs
+drop_is {A = A} xs i x l is = drop-cons xs i x l ∙ ap (λ (y : A). y ∷ drop (suc i) xs) (sym is)
+
+-- a step for each member
+pub next_step : {S A B : Type 0} (f : B → Step S (Unit {0})) (g : A → B) (xs : List A) (i : ℕ) (x : A) (s u : S) → i < length xs → x ≡ get_or xs i x → f (g x) s ≡ Some (tt, u)
+    → each f (map g (drop i xs)) s ≡ each f (map g (drop (i + 1) xs)) u
+next_step {A = A} f g xs i x s u l is h =
+    rw add-one (ap (λ (ys : List A). each f (map g ys) s) (drop_is xs i x l is) ∙ ap (λ o. and_then o (λ _. each f (map g (drop (suc i) xs)))) h)
+
+cell_step : (cell next : VarOrTerm) (m : Meaning) (ms : List Meaning) (s s1 s2 u : State) → fresh s ≡ Some (next, s1) → says cell rest next s1 ≡ Some (tt, s2)
+    → object next first m s2 ≡ Some (tt, u) → behind cell (m ∷ ms) s ≡ behind next ms u
+cell_step cell next m ms s s1 s2 u h1 h2 h3 = rw (h1, h2, h3) refl
+
+-- the next cell of a list
+pub next_cell : (cell next said : VarOrTerm) (f r : VarOrIri) (items : List Node) (i : ℕ) (x : Node) (s s1 s2 u : State) → f ≡ first → r ≡ rest → said ≡ next
+    → i < length items → x ≡ get_or items i x → fresh s ≡ Some (next, s1) → says cell r said s1 ≡ Some (tt, s2) → object next f (meaning x) s2 ≡ Some (tt, u)
+    → behind cell (map meaning (drop i items)) s ≡ behind next (map meaning (drop (i + 1) items)) u
+next_cell cell next said f r items i x s s1 s2 u e1 e2 e3 l is h1 h2 h3 =
+    let k2 : says cell rest next s1 ≡ Some (tt, s2) = ap (λ (p : VarOrIri). says cell p next s1) (sym e2) ∙ ap (λ (o : VarOrTerm). says cell r o s1) (sym e3) ∙ h2 in
+    let k3 : object next first (meaning x) s2 ≡ Some (tt, u) = ap (λ (p : VarOrIri). object next p (meaning x) s2) (sym e1) ∙ h3 in
+    rw add-one (ap (λ (ys : List Node). behind cell (map meaning ys) s) (drop_is items i x l is) ∙ cell_step cell next (meaning x) (map meaning (drop (suc i) items)) s s1 s2 u h1 k2 k3)
+
+both_of : (b c : Bool) → cond b c false ≡ true → (b ≡ true) × (c ≡ true)
+both_of true c e = (refl, e)
+both_of false c e = absurd (true≢false (sym e))
+
+-- the next part of a request
+pub first_known : (declared : List (List ℕ)) (w : Part) (ws : List Part) → declares_first declared (w ∷ ws) ≡ true
+    → (known_part declared w ≡ true) × (declares_first (declared_behind declared w) ws ≡ true)
+first_known declared w ws e = both_of (known_part declared w) (declares_first (declared_behind declared w) ws) e
