@@ -47,7 +47,7 @@ use Rattle.sparql_syntax.specs.declared.draft.VarOrTerm.TheVariants as x
 use Rattle.sparql_syntax.specs.declared.fault.SyntaxFaultKind.{SyntaxFaultKind}
 use Rattle.sparql_syntax.specs.declared.fault.SyntaxFaultKind.TheVariants.{Relative, UnknownPrefix}
 use Rattle.sparql_syntax.specs.State.{State, Does, start, quads, told, fresh, in_default, in_graph, says}
-use Rattle.sparql_syntax.specs.Meaning.{Meaning, Says, iri, verb, var_or_iri, literal, object, objects, first, rest, nil, behind, list_term, list_inside, node_of, property_of, meaning, property, properties, subject_with, triples, graph, block, quads_in, operation, part, listed, drafts, drafts_of, answer}
+use Rattle.sparql_syntax.specs.Meaning.{Meaning, Says, iri, verb, var_or_iri, literal, object, objects, first, rest, nil, next_cell, behind, list_term, list_inside, node_of, property_of, meaning, property, properties, subject_with, triples, graph, block, quads_in, operation, part, listed, drafts, drafts_of, answer}
 use Rattle.sparql_syntax.proofs.BlankSteps.{then_parts, node, Numbered, IsBelow, Said, wider, also, below_on, says_numbered, TermKeeps, fresh_keeps, labelled_keeps, Stays, stays_keeps}
 
 -- ---- leaves
@@ -227,22 +227,34 @@ properties_use f ps all = then_uses f (λ a. each (λ p. p a) ps) all.0 (propert
 
 -- ---- lists
 
+next_cell_keeps : (m : Meaning) → Good m → (a next : VarOrTerm) (pending : List VarOrTerm) (s u : State) → IsBelow a s → Numbered pending s → next_cell a m s ≡ Some (next, u)
+    → Numbered pending u × (s.numbering.next ≤ u.numbering.next) × IsBelow next u
+next_cell_keeps m good a next pending s u b numbered e =
+    let p = then_parts (fresh s) _ (next, u) e in
+    let new = fresh_keeps pending s p.1 p.0 numbered p.2 in
+    let q = then_parts (says a rest p.0 p.1) _ (next, u) p.3 in
+    let open_ones = wider (p.0 ∷ pending) (p.0 ∷ a ∷ pending) p.1 (λ k z. elim z [ inl here ↦ inl here | inr there ↦ inr (inr there) ]) new.0 in
+    let said = says_numbered a p.0 rest pending p.1 q.1 open_ones (below_on a s p.1 new.1 b) new.2 q.2 in
+    let near : p.1.numbering.next ≤ q.1.numbering.next = omega (arith, said.1) in
+    let r = then_parts (object p.0 first m q.1) _ (next, u) q.3 in
+    let one = uses_keeps (λ y. object y first m) (object_uses first m good) p.0 q.1 (below_on p.0 p.1 q.1 near new.2) pending r.1 said.0 r.2 in
+    let far : p.1.numbering.next ≤ r.1.numbering.next = (let y : q.1.numbering.next ≤ r.1.numbering.next = one.1 in omega (arith, near, y)) in
+    let is_next : p.0 ≡ next = ap (λ z. z.0) (same_Some _ _ r.3) in
+    let is_u : r.1 ≡ u = ap (λ z. z.1) (same_Some _ _ r.3) in (
+      subst (Numbered pending) is_u one.0,
+      (let y : s.numbering.next ≤ p.1.numbering.next = new.1 in let z : r.1.numbering.next ≡ u.numbering.next = ap (λ (v : State). v.numbering.next) is_u in omega (arith, y, far, z)),
+      subst (λ (v : VarOrTerm). IsBelow v u) is_next (subst (IsBelow p.0) is_u (below_on p.0 p.1 r.1 far new.2)),
+    )
+
 behind_keeps : (ms : List Meaning) → AllByRecursion Good ms → InsideKeeps (λ a. behind a ms)
 behind_keeps [] all a s b pending u numbered e =
     let r = says_numbered a nil rest pending s u (also nil (a ∷ pending) s (also a pending s numbered)) b (λ k z. absurd (iri_apart rdf_nil k z)) e in
     (r.0, (let y : u.numbering.next ≡ s.numbering.next = r.1 in omega (arith, y)))
 behind_keeps (m ∷ ms) all a s b pending u numbered e =
-    let p = then_parts (fresh s) _ (tt, u) e in
-    let new = fresh_keeps pending s p.1 p.0 numbered p.2 in
-    let q = then_parts (says a rest p.0 p.1) _ (tt, u) p.3 in
-    let open_ones = wider (p.0 ∷ pending) (p.0 ∷ a ∷ pending) p.1 (λ k z. elim z [ inl here ↦ inl here | inr there ↦ inr (inr there) ]) new.0 in
-    let said = says_numbered a p.0 rest pending p.1 q.1 open_ones (below_on a s p.1 new.1 b) new.2 q.2 in
-    let near : p.1.numbering.next ≤ q.1.numbering.next = omega (arith, said.1) in
-    let r = then_parts (object p.0 first m q.1) _ (tt, u) q.3 in
-    let one = uses_keeps (λ y. object y first m) (object_uses first m all.0) p.0 q.1 (below_on p.0 p.1 q.1 near new.2) pending r.1 said.0 r.2 in
-    let far : p.1.numbering.next ≤ r.1.numbering.next = (let y : q.1.numbering.next ≤ r.1.numbering.next = one.1 in omega (arith, near, y)) in
-    let more = behind_keeps ms all.1 p.0 r.1 (below_on p.0 p.1 r.1 far new.2) pending u one.0 r.3 in
-    (more.0, (let y : s.numbering.next ≤ p.1.numbering.next = new.1 in let z : r.1.numbering.next ≤ u.numbering.next = more.1 in omega (arith, y, far, z)))
+    let p = then_parts (next_cell a m s) _ (tt, u) e in
+    let one = next_cell_keeps m all.0 a p.0 pending s p.1 b numbered p.2 in
+    let more = behind_keeps ms all.1 p.0 p.1 one.2 pending u one.0 p.3 in
+    (more.0, (let y : s.numbering.next ≤ p.1.numbering.next = one.1 in let z : p.1.numbering.next ≤ u.numbering.next = more.1 in omega (arith, y, z)))
 
 list_term_keeps : (ms : List Meaning) → TermKeeps (list_term ms)
 list_term_keeps [] = stays_keeps _ (pure_stays nil (iri_apart rdf_nil))

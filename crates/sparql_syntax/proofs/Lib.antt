@@ -1,3 +1,4 @@
+pub mod AnswerLemmas
 pub mod BlankSteps
 pub mod DraftsBelow
 pub mod ScopeLabels

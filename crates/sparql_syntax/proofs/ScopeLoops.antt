@@ -6,11 +6,10 @@ use Rattle.rdf_grammar.specs.Steps.{Step, and_then, each}
 use Rattle.sparql_grammar.specs.Proper.{holds, is_filled}
 use Rattle.sparql_grammar.specs.declared.tree.Node.{Node}
 use Rattle.sparql_grammar.specs.declared.tree.Part.{Part}
-use Rattle.sparql_syntax.specs.declared.draft.VarOrIri.{VarOrIri}
 use Rattle.sparql_syntax.specs.declared.draft.VarOrTerm.{VarOrTerm}
 use Rattle.sparql_syntax.specs.Known.{known_part, declared_behind, declares_first}
-use Rattle.sparql_syntax.specs.Meaning.{Meaning, meaning, first, rest, object, behind}
-use Rattle.sparql_syntax.specs.State.{State, fresh, says}
+use Rattle.sparql_syntax.specs.Meaning.{meaning, next_cell, behind}
+use Rattle.sparql_syntax.specs.State.{State}
 
 -- ---- what holds of each member of a list, one after the other
 
@@ -43,18 +42,11 @@ pub next_step : {S A B : Type 0} (f : B → Step S (Unit {0})) (g : A → B) (xs
 next_step {A = A} f g xs i x s u l is h =
     rw add-one (ap (λ (ys : List A). each f (map g ys) s) (drop_is xs i x l is) ∙ ap (λ o. and_then o (λ _. each f (map g (drop (suc i) xs)))) h)
 
-cell_step : (cell next : VarOrTerm) (m : Meaning) (ms : List Meaning) (s s1 s2 u : State) → fresh s ≡ Some (next, s1) → says cell rest next s1 ≡ Some (tt, s2)
-    → object next first m s2 ≡ Some (tt, u) → behind cell (m ∷ ms) s ≡ behind next ms u
-cell_step cell next m ms s s1 s2 u h1 h2 h3 = rw (h1, h2, h3) refl
-
 -- the next cell of a list
-pub next_cell : (cell next said : VarOrTerm) (f r : VarOrIri) (items : List Node) (i : ℕ) (x : Node) (s s1 s2 u : State) → f ≡ first → r ≡ rest → said ≡ next
-    → i < length items → x ≡ get_or items i x → fresh s ≡ Some (next, s1) → says cell r said s1 ≡ Some (tt, s2) → object next f (meaning x) s2 ≡ Some (tt, u)
+pub next_in_list : (cell next : VarOrTerm) (items : List Node) (i : ℕ) (x : Node) (s u : State) → i < length items → x ≡ get_or items i x → next_cell cell (meaning x) s ≡ Some (next, u)
     → behind cell (map meaning (drop i items)) s ≡ behind next (map meaning (drop (i + 1) items)) u
-next_cell cell next said f r items i x s s1 s2 u e1 e2 e3 l is h1 h2 h3 =
-    let k2 : says cell rest next s1 ≡ Some (tt, s2) = ap (λ (p : VarOrIri). says cell p next s1) (sym e2) ∙ ap (λ (o : VarOrTerm). says cell r o s1) (sym e3) ∙ h2 in
-    let k3 : object next first (meaning x) s2 ≡ Some (tt, u) = ap (λ (p : VarOrIri). object next p (meaning x) s2) (sym e1) ∙ h3 in
-    rw add-one (ap (λ (ys : List Node). behind cell (map meaning ys) s) (drop_is items i x l is) ∙ cell_step cell next (meaning x) (map meaning (drop (suc i) items)) s s1 s2 u h1 k2 k3)
+next_in_list cell next items i x s u l is h =
+    rw add-one (ap (λ (ys : List Node). behind cell (map meaning ys) s) (drop_is items i x l is) ∙ ap (λ o. and_then o (λ n. behind n (map meaning (drop (suc i) items)))) h)
 
 both_of : (b c : Bool) → cond b c false ≡ true → (b ≡ true) × (c ≡ true)
 both_of true c e = (refl, e)

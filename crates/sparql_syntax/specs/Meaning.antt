@@ -116,13 +116,19 @@ rest = i.Iri rdf_rest
 abbrev pub nil : VarOrTerm
 nil = x.Term (t.Iri rdf_nil)
 
--- behind a cell its rdf:rest: rdf:nil, or the next cell, which has its rdf:first and those inside the element
-abbrev pub behind : VarOrTerm → List Meaning → Does (Unit {0})
-behind cell [] = says cell rest nil
-behind cell (m ∷ ms) = do
+-- the cell behind one, with its rdf:first and those inside the element
+abbrev pub next_cell : VarOrTerm → Meaning → Does VarOrTerm
+next_cell cell m = do
   next ← fresh
   says cell rest next
   object next first m
+  pure next
+
+-- behind a cell the next one, in the end rdf:nil
+abbrev pub behind : VarOrTerm → List Meaning → Does (Unit {0})
+behind cell [] = says cell rest nil
+behind cell (m ∷ ms) = do
+  next ← next_cell cell m
   behind next ms
 
 -- rdf:nil, or a first cell with the triples of the list

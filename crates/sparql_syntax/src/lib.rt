@@ -10,4 +10,5 @@ mod operation;
 mod scope;
 
 pub use fault::{SyntaxFault, SyntaxFaultKind};
+pub use operation::blank_numbers_are_below;
 pub use sparql_trees::{Data, GraphOrDefault, GraphRefAll, GroundData, Operation, Request};

@@ -1,8 +1,9 @@
 //! What the data of an operation says.
-ghost use Rattle.std.specs.Prelude.{◌≡◌, true, length, IfOk, OnOk, IsTrue, map};
+ghost use Rattle.std.specs.Prelude.{◌≡◌, ◌+◌, ◌∷◌, true, length, IfOk, OnOk, IsTrue, map};
 ghost use Rattle.std.specs.List.{list_all};
 ghost use Rattle.std.specs.Str.{encode_utf8_all};
 ghost use Rattle.rdf_grammar.specs.Prologue.{declared};
+ghost use Rattle.rdf_grammar.specs.Steps.{each};
 ghost use Rattle.sparql_grammar.specs.Proper as proper;
 ghost use Rattle.sparql_grammar.specs.Proper.{holds};
 ghost use Rattle.sparql_syntax.specs.Kept.{Gives, Tells};
@@ -173,7 +174,7 @@ impl<'a> Scope<'a> {
         }
     }
 
-    // The triples of a list, from its first cell on.
+    // The triples of a list, if it isn't empty.
     #[cycle(inside)]
     fn elements(&mut self, cell: &VarOrTerm<'a>, items: &[Node<'a>]) -> Result<(), PrologueFault>
         requires known { let knows = known.known_node (declared self.old.prologue) in
@@ -188,12 +189,33 @@ impl<'a> Scope<'a> {
     {
         match items {
             [] => Ok(()),
-            [first, rest @ ..] => {
-                let predicate = self.rdf_first()?;
-                self.object(cell, &predicate, first)?;
-                self.behind(cell, rest)
-            }
+            [first, rest @ ..] => self.first_and_rest(cell, first, rest),
         }
+    }
+
+    // The triples of a list with this first element.
+    #[cycle(inside)]
+    fn first_and_rest(
+        &mut self,
+        cell: &VarOrTerm<'a>,
+        first: &Node<'a>,
+        rest: &[Node<'a>],
+    ) -> Result<(), PrologueFault>
+        requires known { IsTrue (known.known_node (declared self.old.prologue) first.now) }
+        requires known_rest { let knows = known.known_node (declared self.old.prologue) in
+            IsTrue (list_all holds (map knows rest.now)) }
+        requires proper { IsTrue (proper.proper_node first.now) }
+        requires proper_rest { IsTrue (list_all holds (map proper.proper_node rest.now)) }
+        requires room { HasRoom 0 self.old }
+        ensures gives { let meanings = map spec.meaning (first.now ∷ rest.now) in
+            Gives (spec.list_inside meanings cell.now self.old) result self.new }
+        ensures prologue { self.new.prologue ≡ self.old.prologue }
+        ensures room { OnOk result (TakesAtMost 0 self.old self.new) }
+        ensures says { OnOk result (SaysAtLeast (length rest.now + 1) self.old self.new) }
+    {
+        let predicate = self.rdf_first()?;
+        self.object(cell, &predicate, first)?;
+        self.behind(cell, rest)
     }
 
     // The triple itself, then those inside the object.
@@ -240,18 +262,39 @@ impl<'a> Scope<'a> {
         ensures room { OnOk result (TakesAtMost 0 self.old self.new) }
         ensures says { OnOk result (SaysAtLeast (length items.now) self.old self.new) }
     {
-        let first = self.rdf_first()?;
-        let rest = self.rdf_rest()?;
         let mut cell = cell.copy()?;
         for item in items {
-            let next = self.fresh();
-            let said = next.copy()?;
-            self.says(&cell, &rest, said)?;
-            self.object(&next, &first, item)?;
+            let next = self.next_cell(&cell, item)?;
             cell = next;
         }
+        let rest = self.rdf_rest()?;
         let nil = self.rdf_nil()?;
         Ok(self.says(&cell, &rest, nil)?)
+    }
+
+    // The cell behind one, and what is inside its element.
+    #[cycle(inside)]
+    fn next_cell(
+        &mut self,
+        cell: &VarOrTerm<'a>,
+        item: &Node<'a>,
+    ) -> Result<VarOrTerm<'a>, PrologueFault>
+        requires known { IsTrue (known.known_node (declared self.old.prologue) item.now) }
+        requires proper { IsTrue (proper.proper_node item.now) }
+        requires room { HasRoom 0 self.old }
+        ensures gives { let step = spec.next_cell cell.now (spec.meaning item.now) in
+            Gives (step self.old) result self.new }
+        ensures prologue { self.new.prologue ≡ self.old.prologue }
+        ensures room { OnOk result (TakesAtMost 0 self.old self.new) }
+        ensures says { OnOk result (SaysAtLeast 1 self.old self.new) }
+    {
+        let first = self.rdf_first()?;
+        let rest = self.rdf_rest()?;
+        let next = self.fresh();
+        let said = next.copy()?;
+        self.says(cell, &rest, said)?;
+        self.object(&next, &first, item)?;
+        Ok(next)
     }
 
     #[cycle(inside)]
@@ -368,6 +411,22 @@ impl<'a> Scope<'a> {
         }
     }
 
+    fn all_triples(&mut self, all: &[Triples<'a>]) -> Result<(), PrologueFault>
+        requires known { let knows = known.known_triples (declared self.old.prologue) in
+            IsTrue (list_all holds (map knows all.now)) }
+        requires proper { IsTrue (list_all holds (map proper.proper_triples all.now)) }
+        requires room { IsPaired self.old }
+        ensures gives { let says = each (λ f. f) (map spec.triples all.now) in
+            Gives (says self.old) result self.new }
+        ensures prologue { self.new.prologue ≡ self.old.prologue }
+        ensures room { OnOk result (IsPaired self.new) }
+    {
+        for one in all {
+            self.triples(one)?;
+        }
+        Ok(())
+    }
+
     fn block(&mut self, block: &Block<'a>) -> Result<(), PrologueFault>
         requires known { IsTrue (known.known_block (declared self.old.prologue) block.now) }
         requires proper { IsTrue (proper.proper_block block.now) }
@@ -377,10 +436,7 @@ impl<'a> Scope<'a> {
         ensures room { OnOk result (IsPaired self.new) }
     {
         self.graph(&block.graph)?;
-        for triples in block.triples.as_slice() {
-            self.triples(triples)?;
-        }
-        Ok(())
+        self.all_triples(block.triples.as_slice())
     }
 
     /// The quads of an operation's data, whose blank nodes are numbered from 0.

@@ -7,6 +7,7 @@ ghost use Rattle.rdf_grammar.specs.Prologue as prologue;
 ghost use Rattle.rdf_grammar.specs.Prologue.{declared, is_proper, knows};
 ghost use Rattle.sparql_grammar.specs.Proper as proper;
 ghost use Rattle.sparql_grammar.specs.Proper.{holds};
+ghost use Rattle.sparql_syntax.specs.Blanks.{BlankNumbersAreBelow};
 ghost use Rattle.sparql_syntax.specs.Kept.{Gives, Tells, IsFaultOf};
 ghost use Rattle.sparql_syntax.specs.Known as known;
 ghost use Rattle.sparql_syntax.specs.Known.{declared_behind, declares_first};
@@ -200,3 +201,9 @@ pub(crate) fn drafts_of<'a>(
     let mut scope = Scope::new(alloc, copied(base)?)?;
     scope.drafts(parts)
 }
+
+/// The data of each operation has blank nodes of its own, whose numbers are just those below their
+/// count.
+pub fn blank_numbers_are_below()
+    ensures { BlankNumbersAreBelow }
+{}
