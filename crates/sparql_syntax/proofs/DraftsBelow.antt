@@ -47,7 +47,7 @@ use Rattle.sparql_syntax.specs.declared.draft.VarOrTerm.TheVariants as x
 use Rattle.sparql_syntax.specs.declared.fault.SyntaxFaultKind.{SyntaxFaultKind}
 use Rattle.sparql_syntax.specs.declared.fault.SyntaxFaultKind.TheVariants.{Relative, UnknownPrefix}
 use Rattle.sparql_syntax.specs.State.{State, Does, start, quads, told, fresh, in_default, in_graph, says}
-use Rattle.sparql_syntax.specs.Meaning.{Meaning, Says, iri, verb, var_or_iri, literal, object, objects, first, rest, nil, next_cell, behind, list_term, list_inside, node_of, property_of, meaning, property, properties, subject_with, triples, graph, block, quads_in, operation, part, listed, drafts, drafts_of, answer}
+use Rattle.sparql_syntax.specs.Meaning.{Meaning, Says, iri, verb, var_or_iri, literal, object, objects, first, rest, nil, next_cell, behind, list_term, list_inside, node_of, property_of, meaning, property, properties, subject_with, triples, graph, block, quads_in, operation, part, listed, drafts, drafts_behind, drafts_of, answer}
 use Rattle.sparql_syntax.proofs.BlankSteps.{then_parts, node, Numbered, IsBelow, Said, wider, also, below_on, says_numbered, TermKeeps, fresh_keeps, labelled_keeps, Stays, stays_keeps}
 
 -- ---- leaves
@@ -72,13 +72,13 @@ behind_iri_same name f s u a e =
 verb_same : (word : Verb) (s u : State) (a : VarOrIri) → verb word s ≡ Some (a, u) → s ≡ u
 unfolding verb
 verb_same (v.Variable name) s u a e = ap (λ p. p.1) (same_Some _ _ e)
-verb_same (v.Name name) s u a e = behind_iri_same name (λ i. i.Iri i) s u a e
+verb_same (v.Name name) s u a e = behind_iri_same name (λ z. i.Iri z) s u a e
 verb_same v.Type s u a e = ap (λ p. p.1) (same_Some _ _ e)
 
 var_or_iri_same : (word : written.VarOrIri) (s u : State) (a : VarOrIri) → var_or_iri word s ≡ Some (a, u) → s ≡ u
 unfolding var_or_iri
 var_or_iri_same (n.Variable name) s u a e = ap (λ p. p.1) (same_Some _ _ e)
-var_or_iri_same (n.Name name) s u a e = behind_iri_same name (λ i. i.Iri i) s u a e
+var_or_iri_same (n.Name name) s u a e = behind_iri_same name (λ z. i.Iri z) s u a e
 
 -- a term that is no blank node
 apart : (a b : VarOrTerm) → a ≡ b → ((k : ℕ) → a ≡ node k → ⊥) → (k : ℕ) → b ≡ node k → ⊥
@@ -208,7 +208,7 @@ objects_keep predicate (m ∷ ms) all =
     then_keeps (λ a. object a predicate m) (λ a. each (object a predicate) ms) (uses_keeps (λ a. object a predicate m) (object_uses predicate m all.0)) (objects_keep predicate ms all.1)
 
 objects_use : (predicate : VarOrIri) (ms : List Meaning) → AllByRecursion Good ms → Uses (λ a. objects a predicate ms)
-objects_use predicate [] all a pending s u b numbered e = absurd (cc e)
+objects_use predicate [] all = λ a pending s u b numbered e. absurd (cc e)
 objects_use predicate (m ∷ ms) all = then_uses (λ a. object a predicate m) (λ a. each (object a predicate) ms) (object_uses predicate m all.0) (objects_keep predicate ms all.1)
 
 property_uses : (word : Verb) (ms : List Meaning) → AllByRecursion Good ms → Uses (λ a s. and_then (verb word s) (λ predicate. objects a predicate ms))
@@ -408,7 +408,7 @@ unfolding in_graph
 graph_is_closed name s u h e = let same = ap (λ p. p.1) (same_Some _ _ e) in same_numbers s u h (ap (λ (z : State). z.numbering) same) (ap (λ (z : State). z.patterns) same)
 
 graph_closed : (name : Option written.VarOrIri) → Closed (graph name)
-graph_closed None = default_closed
+graph_closed None s u h e = default_closed s u h e
 graph_closed (Some name) s u h e =
     let p = then_parts (var_or_iri name s) _ (tt, u) e in
     graph_is_closed p.0 p.1 u (subst (Numbered []) (var_or_iri_same name s p.1 p.0 p.2) h) p.3
@@ -485,16 +485,19 @@ part_numbered (w.Prefix prefix reference) p u a e = declared_numbered (resolved 
 part_numbered (w.Base reference) p u a e = declared_numbered (resolved reference p) (λ z. moves_base z p) a u e
 part_numbered (w.Operation it) p u a e = drafted_numbered (operation it p) p a u (λ draft. operation_numbered it p draft) e
 
-listed_numbered : (a : Option Draft) (ds : List Draft) → IsPartNumbered a → AllByRecursion IsDraftNumbered ds → AllByRecursion IsDraftNumbered (listed a ds)
-listed_numbered None ds h all = all
-listed_numbered (Some z) ds h all = (h, all)
+joined_numbered : (ds es : List Draft) → AllByRecursion IsDraftNumbered ds → AllByRecursion IsDraftNumbered es → AllByRecursion IsDraftNumbered (ds ++ es)
+joined_numbered [] es all more = more
+joined_numbered (z ∷ ds) es all more = (all.0, joined_numbered ds es all.1 more)
 
-parts_numbered : (ps : List Part) (p u : Prologue) (ds : List Draft) → drafts ps p ≡ Some (ds, u) → AllByRecursion IsDraftNumbered ds
-parts_numbered [] p u ds e = subst (AllByRecursion IsDraftNumbered) (ap (λ q. q.0) (same_Some _ _ e)) tt
-parts_numbered (one ∷ ps) p u ds e =
-    let a = then_parts (part one p) _ (ds, u) e in
-    let b = then_parts (drafts ps a.1) _ (ds, u) a.3 in
-    subst (AllByRecursion IsDraftNumbered) (ap (λ q. q.0) (same_Some _ _ b.3)) (listed_numbered a.0 b.0 (part_numbered one p a.1 a.0 a.2) (parts_numbered ps a.1 b.1 b.0 b.2))
+listed_numbered : (a : Option Draft) → IsPartNumbered a → AllByRecursion IsDraftNumbered (listed a)
+listed_numbered None h = tt
+listed_numbered (Some z) h = (h, tt)
+
+parts_numbered : (ds : List Draft) (ps : List Part) (p u : Prologue) (es : List Draft) → AllByRecursion IsDraftNumbered ds → drafts_behind ds ps p ≡ Some (es, u) → AllByRecursion IsDraftNumbered es
+parts_numbered ds [] p u es all e = subst (AllByRecursion IsDraftNumbered) (ap (λ q. q.0) (same_Some _ _ e)) all
+parts_numbered ds (one ∷ ps) p u es all e =
+    let a = then_parts (part one p) _ (es, u) e in
+    parts_numbered (ds ++ listed a.0) ps a.1 u es (joined_numbered ds (listed a.0) all (listed_numbered a.0 (part_numbered one p a.1 a.0 a.2))) a.3
 
 request_numbered : (base : Option (List ℕ)) (ps : List Part) (ds : List Draft) → drafts_of base ps ≡ Some ds → AllByRecursion IsDraftNumbered ds
 unfolding drafts_of
@@ -502,7 +505,7 @@ request_numbered base ps ds e = by (drafts ps (prologue.start base)) refl e
   where
     by : (r : Outcome Prologue (List Draft)) → drafts ps (prologue.start base) ≡ r → option_map (λ z. z.0) r ≡ Some ds → AllByRecursion IsDraftNumbered ds
     by None h e = absurd (cc e)
-    by (Some z) h e = subst (AllByRecursion IsDraftNumbered) (same_Some _ _ e) (parts_numbered ps (prologue.start base) z.1 z.0 h)
+    by (Some z) h e = subst (AllByRecursion IsDraftNumbered) (same_Some _ _ e) (parts_numbered [] ps (prologue.start base) z.1 z.0 tt h)
 
 answered : (ok : Bool) (r : Option (List Draft)) (ds : List Draft) → ◌≡◌ {A = Result (List Draft) SyntaxFaultKind} (if ok then ok_or r Relative else Err UnknownPrefix) (Ok ds) → r ≡ Some ds
 answered true None ds e = absurd (cc e)

@@ -31,6 +31,11 @@ pub filled_count : {A B : Type 0} (f : A → B) (xs : List A) → is_filled (map
 filled_count f [] h = absurd (true≢false (sym h))
 filled_count f (x ∷ xs) h = omega arith
 
+-- the members behind the first
+pub rest_all : {A : Type 0} (f : A → Bool) (xs : List A) → list_all holds (map f xs) ≡ true → list_all holds (map f (drop 1 xs)) ≡ true
+rest_all f [] h = h
+rest_all f (x ∷ xs) h = (and_parts (f x) (list_all holds (map f xs)) h).1
+
 -- ---- steps
 
 drop_is : {A : Type 0} (xs : List A) (i : ℕ) (x : A) → i < length xs → x ≡ get_or xs i x → drop i xs ≡ x ∷ drop (suc i) xs

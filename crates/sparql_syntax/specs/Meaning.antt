@@ -1,6 +1,6 @@
 -- What a request says before its static rules are asked: the tree is gone through as it stands in the text, names get their IRIs and blank
 -- nodes their numbers (SPARQL 1.1 Query, section 4.1, and Update, section 3).
-use Rattle.std.specs.Prelude.{ℕ, Bool, true, false, ◌||◌, List, [], ◌∷◌, Option, Some, None, map, Result, Err, if◌then◌else◌, ok_or, codes}
+use Rattle.std.specs.Prelude.{ℕ, Bool, true, false, ◌||◌, List, [], ◌∷◌, ◌++◌, Option, Some, None, map, Result, Err, if◌then◌else◌, ok_or, codes}
 use Rattle.std.specs.Option.{option_map, option_and_then}
 use Rattle.std.specs.Str.{encode_utf8_all}
 use Rattle.rdf_terms.specs.Literal.{xsd_string, is_tag, tagged}
@@ -227,17 +227,19 @@ part (written_part.Prefix prefix reference) p = option_map (λ i. (None, declare
 part (written_part.Base reference) p = option_map (λ i. (None, moves_base i p)) (resolved reference p)
 part (written_part.Operation o) p = option_map (λ d. (Some d, p)) (operation o p)
 
-abbrev pub listed : Option Draft → List Draft → List Draft
-listed None ds = ds
-listed (Some d) ds = d ∷ ds
+abbrev pub listed : Option Draft → List Draft
+listed None = []
+listed (Some d) = d ∷ []
 
--- the drafts of the parts in order
+-- drafts, and behind them those of the parts in order
+abbrev pub drafts_behind : List Draft → List Part → Step Prologue (List Draft)
+drafts_behind ds [] = pure ds
+drafts_behind ds (p ∷ ps) = do
+  d ← part p
+  drafts_behind (ds ++ listed d) ps
+
 abbrev pub drafts : List Part → Step Prologue (List Draft)
-drafts [] = pure []
-drafts (p ∷ ps) = do
-  now ← part p
-  more ← drafts ps
-  pure (listed now more)
+drafts ps = drafts_behind [] ps
 
 -- the drafts of a request; none where a relative reference has no base, or something has no meaning
 unfoldable pub drafts_of : Option (List ℕ) → List Part → Option (List Draft)

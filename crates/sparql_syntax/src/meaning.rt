@@ -1,5 +1,5 @@
 //! What the data of an operation says.
-ghost use Rattle.std.specs.Prelude.{◌≡◌, ◌+◌, ◌∷◌, true, length, IfOk, OnOk, IsTrue, map};
+ghost use Rattle.std.specs.Prelude.{◌≡◌, true, drop, length, IfOk, OnOk, IsTrue, map};
 ghost use Rattle.std.specs.List.{list_all};
 ghost use Rattle.std.specs.Str.{encode_utf8_all};
 ghost use Rattle.rdf_grammar.specs.Prologue.{declared};
@@ -155,7 +155,7 @@ impl<'a> Scope<'a> {
 
     // The triples inside a node.
     #[cycle(inside)]
-    #[tactic(auto, using(crate::proofs::ScopeLoops::filled_count))]
+    #[tactic(auto, using(crate::proofs::ScopeLoops::filled_count, crate::proofs::ScopeLoops::rest_all))]
     fn inside(&mut self, node: &Node<'a>, term: &VarOrTerm<'a>) -> Result<(), PrologueFault>
         requires known { IsTrue (known.known_node (declared self.old.prologue) node.now) }
         requires proper { IsTrue (proper.proper_node node.now) }
@@ -174,12 +174,15 @@ impl<'a> Scope<'a> {
         }
     }
 
-    // The triples of a list, if it isn't empty.
+    // The triples of a list, from its first cell on.
     #[cycle(inside)]
     fn elements(&mut self, cell: &VarOrTerm<'a>, items: &[Node<'a>]) -> Result<(), PrologueFault>
         requires known { let knows = known.known_node (declared self.old.prologue) in
             IsTrue (list_all holds (map knows items.now)) }
+        requires known_rest { let knows = known.known_node (declared self.old.prologue) in
+            IsTrue (list_all holds (map knows (drop 1 items.now))) }
         requires proper { IsTrue (list_all holds (map proper.proper_node items.now)) }
+        requires proper_rest { IsTrue (list_all holds (map proper.proper_node (drop 1 items.now))) }
         requires room { HasRoom 0 self.old }
         ensures gives { let says = spec.list_inside (map spec.meaning items.now) cell.now in
             Gives (says self.old) result self.new }
@@ -189,33 +192,12 @@ impl<'a> Scope<'a> {
     {
         match items {
             [] => Ok(()),
-            [first, rest @ ..] => self.first_and_rest(cell, first, rest),
+            [first, rest @ ..] => {
+                let predicate = self.rdf_first()?;
+                self.object(cell, &predicate, first)?;
+                self.behind(cell, rest)
+            }
         }
-    }
-
-    // The triples of a list with this first element.
-    #[cycle(inside)]
-    fn first_and_rest(
-        &mut self,
-        cell: &VarOrTerm<'a>,
-        first: &Node<'a>,
-        rest: &[Node<'a>],
-    ) -> Result<(), PrologueFault>
-        requires known { IsTrue (known.known_node (declared self.old.prologue) first.now) }
-        requires known_rest { let knows = known.known_node (declared self.old.prologue) in
-            IsTrue (list_all holds (map knows rest.now)) }
-        requires proper { IsTrue (proper.proper_node first.now) }
-        requires proper_rest { IsTrue (list_all holds (map proper.proper_node rest.now)) }
-        requires room { HasRoom 0 self.old }
-        ensures gives { let meanings = map spec.meaning (first.now ∷ rest.now) in
-            Gives (spec.list_inside meanings cell.now self.old) result self.new }
-        ensures prologue { self.new.prologue ≡ self.old.prologue }
-        ensures room { OnOk result (TakesAtMost 0 self.old self.new) }
-        ensures says { OnOk result (SaysAtLeast (length rest.now + 1) self.old self.new) }
-    {
-        let predicate = self.rdf_first()?;
-        self.object(cell, &predicate, first)?;
-        self.behind(cell, rest)
     }
 
     // The triple itself, then those inside the object.
@@ -364,13 +346,43 @@ impl<'a> Scope<'a> {
         Ok(())
     }
 
-    // Marks a subject that is a literal.
-    fn mark_subject(&mut self, subject: &Node<'a>)
-        ensures { self.new ≡ self.old }
+    // Makes room for a subject, and marks one that is a literal.
+    fn prepare(&mut self, subject: &Node<'a>) -> Result<(), NoMemory>
+        requires { IsPaired self.old }
+        ensures same { self.new ≡ self.old }
+        ensures room { OnOk result (HasRoom 1 self.new) }
     {
+        self.reserve()?;
         if let Node::Literal(literal) = subject {
             self.mark_literal(start_of(literal).unwrap_or(0));
         }
+        Ok(())
+    }
+
+    // The triples inside a subject, then those of its properties.
+    fn subject_with(
+        &mut self,
+        node: &Node<'a>,
+        properties: &[Property<'a>],
+    ) -> Result<(), PrologueFault>
+        requires known { IsTrue (known.known_node (declared self.old.prologue) node.now) }
+        requires known_properties { let knows = known.known_property (declared self.old.prologue) in
+            IsTrue (list_all holds (map knows properties.now)) }
+        requires proper { IsTrue (proper.proper_node node.now) }
+        requires proper_properties {
+            IsTrue (list_all holds (map proper.proper_property properties.now)) }
+        requires room { HasRoom 1 self.old }
+        ensures gives { let says = spec.subject_with node.now properties.now in
+            Gives (says self.old) result self.new }
+        ensures prologue { self.new.prologue ≡ self.old.prologue }
+        ensures room { OnOk result (TakesAtMost 1 self.old self.new) }
+        ensures says { OnOk result (SaysAtLeast (length properties.now) self.old self.new) }
+        ensures alone { proper.stands_alone node.now ≡ true
+            → OnOk result (SaysAtLeast 1 self.old self.new) }
+    {
+        let subject = self.term(node)?;
+        self.inside(node, &subject)?;
+        self.properties(&subject, properties)
     }
 
     // The triples of a subject with its properties.
@@ -383,11 +395,8 @@ impl<'a> Scope<'a> {
         ensures prologue { self.new.prologue ≡ self.old.prologue }
         ensures room { OnOk result (IsPaired self.new) }
     {
-        self.reserve()?;
-        self.mark_subject(&triples.subject);
-        let subject = self.term(&triples.subject)?;
-        self.inside(&triples.subject, &subject)?;
-        self.properties(&subject, triples.properties.as_slice())
+        self.prepare(&triples.subject)?;
+        self.subject_with(&triples.subject, triples.properties.as_slice())
     }
 
     // The graph in which the triples of a block stand.

@@ -1,5 +1,5 @@
 //! The drafts of a request's operations.
-ghost use Rattle.std.specs.Prelude.{◌≡◌, ◌&&◌, [], IfOk, OnOk, MatchResult, IsTrue, Ok, map};
+ghost use Rattle.std.specs.Prelude.{◌≡◌, ◌&&◌, ◌++◌, [], IfOk, OnOk, MatchResult, IsTrue, Ok, map};
 ghost use Rattle.std.specs.List.{list_all};
 ghost use Rattle.std.specs.Option.{option_copied, option_map};
 ghost use Rattle.rdf_grammar.specs.Keys.{key_of};
@@ -32,6 +32,16 @@ fn copied(base: Option<&Iri>) -> Result<Option<Iri>, NoMemory>
         Some(iri) => Ok(Some(iri.copy()?)),
         None => Ok(None),
     }
+}
+
+// Puts a draft behind the others, if there is one.
+fn add<'a>(drafts: &mut Items<Draft<'a>>, draft: Option<Draft<'a>>) -> Result<(), NoMemory>
+    ensures { OnOk result (drafts.new ≡ drafts.old ++ spec.listed draft.entry) }
+{
+    if let Some(draft) = draft {
+        drafts.push(draft)?;
+    }
+    Ok(())
 }
 
 impl<'a> Scope<'a> {
@@ -170,9 +180,8 @@ impl<'a> Scope<'a> {
     {
         let mut drafts = Items::new(self.alloc);
         for part in parts {
-            if let Some(draft) = self.part(&part)? {
-                drafts.push(draft)?;
-            }
+            let draft = self.part(&part)?;
+            add(&mut drafts, draft)?;
         }
         Ok(drafts)
     }

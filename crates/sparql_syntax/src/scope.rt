@@ -72,10 +72,10 @@ impl<'a> Scope<'a> {
         ensures { self.new ≡ state.start self.old.prologue }
     {
         self.graph = None;
-        self.numbering = Numbering::new(self.alloc);
         self.patterns = Vec::new(self.alloc);
-        self.graphs = Items::new(self.alloc);
-        self.labels = Items::new(self.alloc);
+        let _ = mem::replace(&mut self.numbering, Numbering::new(self.alloc));
+        let _ = mem::replace(&mut self.graphs, Items::new(self.alloc));
+        let _ = mem::replace(&mut self.labels, Items::new(self.alloc));
         self.first_blank = None;
         self.first_variable = None;
         self.first_literal = None;

@@ -1,6 +1,5 @@
-use Rattle.std.proofs.Common.{◌≡◌, ◌++◌, map, IsTrue}
+use Rattle.std.proofs.Common.{◌≡◌, map, IsTrue}
 use Rattle.std.specs.List.{list_all}
-use Rattle.std.specs.Option.{option_map}
 use Rattle.std.specs.Vec.Iter.{into_iter_items}
 use Rattle.rdf_grammar.specs.Prologue.{declared}
 use Rattle.sparql_grammar.specs.Proper.{holds, proper_part}
@@ -12,8 +11,7 @@ abbrev pub invariant-loop-part : goal.invariant-loop-part
 invariant-loop-part l = record {
   steps : (goal.iterator-loop-part).can_next l.part-iterator;
   ends : (goal.iterator-loop-part).is_finite l.part-iterator;
-  rest : option_map (λ r. r.0) (spec.drafts l.fn.parts.items l.fn.self.prologue)
-      ≡ option_map (λ r. l.drafts ++ r.0) (spec.drafts (into_iter_items l.part-iterator) l.self.prologue);
+  rest : spec.drafts l.fn.parts.items l.fn.self.prologue ≡ spec.drafts_behind l.drafts (into_iter_items l.part-iterator) l.self.prologue;
   known : IsTrue (declares_first (declared l.self.prologue) (into_iter_items l.part-iterator));
   proper : IsTrue (list_all holds (map proper_part (into_iter_items l.part-iterator)));
 }
