@@ -174,32 +174,6 @@ impl<'a> Scope<'a> {
         }
     }
 
-    // The triples of a list, from its first cell on.
-    #[cycle(inside)]
-    fn elements(&mut self, cell: &VarOrTerm<'a>, items: &[Node<'a>]) -> Result<(), PrologueFault>
-        requires known { let knows = known.known_node (declared self.old.prologue) in
-            IsTrue (list_all holds (map knows items.now)) }
-        requires known_rest { let knows = known.known_node (declared self.old.prologue) in
-            IsTrue (list_all holds (map knows (drop 1 items.now))) }
-        requires proper { IsTrue (list_all holds (map proper.proper_node items.now)) }
-        requires proper_rest { IsTrue (list_all holds (map proper.proper_node (drop 1 items.now))) }
-        requires room { HasRoom 0 self.old }
-        ensures gives { let says = spec.list_inside (map spec.meaning items.now) cell.now in
-            Gives (says self.old) result self.new }
-        ensures prologue { self.new.prologue ≡ self.old.prologue }
-        ensures room { OnOk result (TakesAtMost 0 self.old self.new) }
-        ensures says { OnOk result (SaysAtLeast (length items.now) self.old self.new) }
-    {
-        match items {
-            [] => Ok(()),
-            [first, rest @ ..] => {
-                let predicate = self.rdf_first()?;
-                self.object(cell, &predicate, first)?;
-                self.behind(cell, rest)
-            }
-        }
-    }
-
     // The triple itself, then those inside the object.
     #[cycle(inside)]
     #[tactic(auto, unfolding(crate::specs::Meaning::object))]
@@ -231,29 +205,6 @@ impl<'a> Scope<'a> {
         }
     }
 
-    // The cells behind one, and what is inside their elements.
-    #[cycle(inside)]
-    fn behind(&mut self, cell: &VarOrTerm<'a>, items: &[Node<'a>]) -> Result<(), PrologueFault>
-        requires known { let knows = known.known_node (declared self.old.prologue) in
-            IsTrue (list_all holds (map knows items.now)) }
-        requires proper { IsTrue (list_all holds (map proper.proper_node items.now)) }
-        requires room { HasRoom 0 self.old }
-        ensures gives { let says = spec.behind cell.now (map spec.meaning items.now) in
-            Gives (says self.old) result self.new }
-        ensures prologue { self.new.prologue ≡ self.old.prologue }
-        ensures room { OnOk result (TakesAtMost 0 self.old self.new) }
-        ensures says { OnOk result (SaysAtLeast (length items.now) self.old self.new) }
-    {
-        let mut cell = cell.copy()?;
-        for item in items {
-            let next = self.next_cell(&cell, item)?;
-            cell = next;
-        }
-        let rest = self.rdf_rest()?;
-        let nil = self.rdf_nil()?;
-        Ok(self.says(&cell, &rest, nil)?)
-    }
-
     // The cell behind one, and what is inside its element.
     #[cycle(inside)]
     fn next_cell(
@@ -277,6 +228,55 @@ impl<'a> Scope<'a> {
         self.says(cell, &rest, said)?;
         self.object(&next, &first, item)?;
         Ok(next)
+    }
+
+    // The cells behind one, and what is inside their elements.
+    #[cycle(inside)]
+    fn behind(&mut self, cell: &VarOrTerm<'a>, items: &[Node<'a>]) -> Result<(), PrologueFault>
+        requires known { let knows = known.known_node (declared self.old.prologue) in
+            IsTrue (list_all holds (map knows items.now)) }
+        requires proper { IsTrue (list_all holds (map proper.proper_node items.now)) }
+        requires room { HasRoom 0 self.old }
+        ensures gives { let says = spec.behind cell.now (map spec.meaning items.now) in
+            Gives (says self.old) result self.new }
+        ensures prologue { self.new.prologue ≡ self.old.prologue }
+        ensures room { OnOk result (TakesAtMost 0 self.old self.new) }
+        ensures says { OnOk result (SaysAtLeast (length items.now) self.old self.new) }
+    {
+        let mut cell = cell.copy()?;
+        for item in items {
+            let next = self.next_cell(&cell, item)?;
+            cell = next;
+        }
+        let rest = self.rdf_rest()?;
+        let nil = self.rdf_nil()?;
+        Ok(self.says(&cell, &rest, nil)?)
+    }
+
+    // The triples of a list, from its first cell on.
+    #[cycle(inside)]
+    fn elements(&mut self, cell: &VarOrTerm<'a>, items: &[Node<'a>]) -> Result<(), PrologueFault>
+        requires known { let knows = known.known_node (declared self.old.prologue) in
+            IsTrue (list_all holds (map knows items.now)) }
+        requires known_rest { let knows = known.known_node (declared self.old.prologue) in
+            IsTrue (list_all holds (map knows (drop 1 items.now))) }
+        requires proper { IsTrue (list_all holds (map proper.proper_node items.now)) }
+        requires proper_rest { IsTrue (list_all holds (map proper.proper_node (drop 1 items.now))) }
+        requires room { HasRoom 0 self.old }
+        ensures gives { let says = spec.list_inside (map spec.meaning items.now) cell.now in
+            Gives (says self.old) result self.new }
+        ensures prologue { self.new.prologue ≡ self.old.prologue }
+        ensures room { OnOk result (TakesAtMost 0 self.old self.new) }
+        ensures says { OnOk result (SaysAtLeast (length items.now) self.old self.new) }
+    {
+        match items {
+            [] => Ok(()),
+            [first, rest @ ..] => {
+                let predicate = self.rdf_first()?;
+                self.object(cell, &predicate, first)?;
+                self.behind(cell, rest)
+            }
+        }
     }
 
     #[cycle(inside)]

@@ -1,4 +1,4 @@
-use Rattle.std.proofs.Common.{◌≡◌, ◌∙◌, sym, subst, true, map, drop, ◌+◌, arith, rules}
+use Rattle.std.proofs.Common.{◌≡◌, ◌∙◌, sym, subst, true, map, drop, ◌+◌, arith}
 use Rattle.std.specs.List.{list_all}
 use Rattle.sparql_syntax.specs.Known.{known_node, known_property}
 use Rattle.sparql_syntax.specs.Meaning as spec
@@ -62,15 +62,3 @@ properties-loop-property-preserved t c =
       takes = omega (arith, c.loop-property.invariant.takes, c.in_ok-property.ensures.room);
       least = omega (arith, c.loop-property.invariant.least, c.in_ok-property.ensures.says);
     }
-
-pub elements-behind-requires : goal.elements-behind-requires
-elements-behind-requires t c =
-    let same : c.object.new.self.prologue ≡ c.args.self.now.prologue = c.object.ensures.prologue in
-    (
-      search rules,
-      record {
-        known = subst (λ (p : Prologue). list_all holds (map (known_node (declared p)) (drop 1 c.args.items.now)) ≡ true) (sym same) c.requires.known_rest;
-        proper = c.requires.proper_rest;
-        room = omega (arith, c.requires.room, c.in_ok-object-in-len1-up.ensures.room);
-      },
-    )
