@@ -11,3 +11,4 @@ pub mod ScopePrefixes
 pub mod ScopeReferences
 pub mod ScopeTexts
 pub mod Terminals
+pub mod TextLemmas
