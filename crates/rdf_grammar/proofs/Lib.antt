@@ -13,4 +13,5 @@ pub mod ScopePrefixes
 pub mod ScopeReferences
 pub mod ScopeTexts
 pub mod Terminals
+pub mod TextLemmas
 pub mod WordLemmas

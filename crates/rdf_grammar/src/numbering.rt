@@ -37,6 +37,13 @@ impl<'a> Numbering<'a> {
         }
     }
 
+    /// The next number: how many are taken.
+    pub fn next(&self) -> u64
+        ensures { result ≡ self.now.next }
+    {
+        self.next
+    }
+
     /// The number of a blank node without a label: of a `[`, or of a list's cell.
     pub fn fresh(&mut self) -> u64
         requires room { self.old.next < 18446744073709551615 }

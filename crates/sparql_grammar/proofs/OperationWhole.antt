@@ -79,7 +79,7 @@ low_or_high n = grind arith
 never_high : (ts : Lexemes) → (IsTooDeep ts → ⊥) → (n : ℕ) → open_after 0 (take n ts) ≤ 100
 never_high ts h n = elim (low_or_high (open_after 0 (take n ts))) [ inl low ↦ low | inr high ↦ absurd (h (n, high)) ]
 
-request_read : (ts : Lexemes) (parts : List Part) → (IsTooDeep ts → ⊥) → IsRequest ts parts → request 99 ts ≡ Some (parts, [])
+pub request_read : (ts : Lexemes) (parts : List Part) → (IsTooDeep ts → ⊥) → IsRequest ts parts → request 99 ts ≡ Some (parts, [])
 request_read ts parts h d = request_read_at 98 ts parts (never_high ts h) d
 
 -- each request is one at a depth that its lexemes determine

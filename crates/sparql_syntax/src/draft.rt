@@ -1,8 +1,8 @@
 //! What the text of a request says before its static rules are asked: names have their IRIs, and data
 //! may hold variables still.
-ghost use Rattle.std.specs.Prelude.{◌≡◌};
+ghost use Rattle.std.specs.Prelude.{◌≡◌, IfOk};
 
-use rdf_terms::{Iri, Items, Term};
+use rdf_terms::{Iri, Items, NoMemory, Term};
 use rdf_tokens::Slice;
 use sparql_trees::Operation;
 use std::marker::Model;
@@ -15,12 +15,36 @@ pub(crate) enum VarOrIri<'a> {
     Iri(Iri),
 }
 
+impl<'a> VarOrIri<'a> {
+    /// An equal one. An IRI's copy shares its text.
+    pub(crate) fn copy(&self) -> Result<VarOrIri<'a>, NoMemory>
+        ensures { IfOk result (λ copy. copy ≡ self.now) }
+    {
+        Ok(match self {
+            VarOrIri::Variable(name) => VarOrIri::Variable(name.fork()),
+            VarOrIri::Iri(iri) => VarOrIri::Iri(iri.copy()?),
+        })
+    }
+}
+
 /// A variable, or a term, whose blank nodes are numbered by their places in the text.
 #[derive(Debug, Drop)]
 pub(crate) enum VarOrTerm<'a> {
     /// With its `?` or `$`.
     Variable(Slice<'a>),
     Term(Term),
+}
+
+impl<'a> VarOrTerm<'a> {
+    /// An equal one. A term's copy shares its text.
+    pub(crate) fn copy(&self) -> Result<VarOrTerm<'a>, NoMemory>
+        ensures { IfOk result (λ copy. copy ≡ self.now) }
+    {
+        Ok(match self {
+            VarOrTerm::Variable(name) => VarOrTerm::Variable(name.fork()),
+            VarOrTerm::Term(term) => VarOrTerm::Term(term.copy()?),
+        })
+    }
 }
 
 /// A triple with the graph where it stands, as written: any place may be a variable (SPARQL 1.1 Update,

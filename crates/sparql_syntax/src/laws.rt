@@ -1,0 +1,16 @@
+//! What holds of each text.
+ghost use Rattle.sparql_syntax.specs.RuleLaws.{PatternsAreQuads};
+ghost use Rattle.sparql_syntax.specs.UpdateLaws.{SomeMeaning, OneRequest, NeverBoth, OneFault};
+
+/// Each text is one request, or faulty, and never both.
+pub fn one_request()
+    ensures there { SomeMeaning }
+    ensures request { OneRequest }
+    ensures never_both { NeverBoth }
+    ensures fault { OneFault }
+{}
+
+/// Where the static rules are kept no quad of the data is lost.
+pub fn data_are_quads()
+    ensures { PatternsAreQuads }
+{}

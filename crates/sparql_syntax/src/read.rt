@@ -1,0 +1,188 @@
+//! Updates, from bytes to requests.
+ghost use Rattle.std.specs.Prelude.{◌≡◌, ℕ, List, length, Ok, Some, None, MatchResult, slice_get};
+ghost use Rattle.std.specs.List.{AllByRecursion};
+ghost use Rattle.std.specs.Option.{option_copied};
+ghost use Rattle.std.specs.Str.{chars, IsUtf8};
+ghost use Rattle.rdf_tokens.specs.Tokens.{Says};
+ghost use Rattle.rdf_tokens.specs.declared.token.Token.{Token as Held};
+ghost use Rattle.sparql_grammar.specs.Profile.{AreInside};
+ghost use Rattle.sparql_syntax.specs.Drafts.{IsDraftBelow};
+ghost use Rattle.sparql_syntax.specs.Rules.{judged};
+ghost use Rattle.sparql_syntax.specs.Told as spec;
+ghost use Rattle.sparql_syntax.specs.Told.{IsRuleFault, IsTold};
+ghost use Rattle.sparql_syntax.specs.Update.{HasTree, IsUpdate, TellsFault};
+
+use crate::draft::Draft;
+use crate::fault::{SyntaxFault, SyntaxFaultKind};
+use crate::operation::drafts_of;
+use crate::request::operations_of;
+use crate::rules::{Broken, first_broken};
+use rdf_grammar::{PrologueFault, lexemes};
+use rdf_terms::{Iri, Items};
+use rdf_tokens::{Token, TokenFault, line_at, tokens};
+use sparql_grammar::{Part, Stop, StopKind, first_outside, parse_update};
+use sparql_trees::Request;
+use std::alloc::Global;
+
+// The fault of this kind, at the line of that byte.
+fn fault_at(text: &[u8], kind: SyntaxFaultKind, start: usize) -> SyntaxFault
+    ensures { result ≡ spec.fault_at text.now kind start }
+{
+    SyntaxFault {
+        line: line_at(text, start),
+        kind,
+    }
+}
+
+// The fault of a text whose parser stopped at the token that starts at that byte.
+fn stop_fault(text: &[u8], kind: StopKind, start: usize) -> SyntaxFault
+    ensures { result ≡ spec.stop_fault text.now kind start }
+{
+    match kind {
+        StopKind::TooDeep => fault_at(text, SyntaxFaultKind::TooDeep, start),
+        StopKind::Syntax => fault_at(text, SyntaxFaultKind::Syntax, start),
+        StopKind::NoMemory(refused) => SyntaxFault::from(refused),
+    }
+}
+
+// The fault of a name, at the line where it stands.
+fn name_fault(text: &[u8], fault: PrologueFault) -> SyntaxFault
+    ensures { result ≡ spec.name_fault text.now fault }
+{
+    match fault {
+        PrologueFault::UnknownPrefix(start) => {
+            fault_at(text, SyntaxFaultKind::UnknownPrefix, start)
+        }
+        PrologueFault::Relative(start) => fault_at(text, SyntaxFaultKind::Relative, start),
+        PrologueFault::NoMemory(refused) => SyntaxFault::from(refused),
+    }
+}
+
+// The byte where the token of that number starts, or the end of the text.
+fn start_of(text: &str, tokens: &[Token], number: usize) -> usize
+    ensures found { (token : Held) → slice_get tokens.now number ≡ Some token → result ≡ token.start }
+    ensures end { slice_get tokens.now number ≡ None → result ≡ length text.now }
+{
+    match tokens.get(number) {
+        Some(token) => token.start,
+        None => text.len(),
+    }
+}
+
+// The tokens of a text.
+fn tokens_of(alloc: Global, text: &str) -> Result<Vec<Token>, SyntaxFault>
+    requires { IsUtf8 text.now }
+    ensures { MatchResult result
+        (λ tokens. Says (chars text.now) (Ok tokens.items))
+        (λ fault. IsTold text.now fault) }
+{
+    match tokens(alloc, text) {
+        Ok(list) => Ok(list),
+        Err(TokenFault::NoToken(start)) => {
+            Err(fault_at(text.as_bytes(), SyntaxFaultKind::Token, start))
+        }
+        Err(TokenFault::NoMemory(refused)) => Err(SyntaxFault::from(refused)),
+    }
+}
+
+// Whether the profile has each word of a text.
+fn check_profile(text: &str, tokens: &[Token]) -> Result<(), SyntaxFault>
+    requires utf8 { IsUtf8 text.now }
+    requires list { Says (chars text.now) (Ok tokens.now) }
+    ensures { MatchResult result
+        (λ _. AreInside (chars text.now) tokens.now)
+        (λ fault. IsTold text.now fault) }
+{
+    match first_outside(text, tokens) {
+        None => Ok(()),
+        Some(place) => {
+            let start = start_of(text, tokens, place);
+            Err(fault_at(text.as_bytes(), SyntaxFaultKind::NotInProfile, start))
+        }
+    }
+}
+
+// The tree of a text with these tokens.
+fn tree_of<'a>(
+    alloc: Global,
+    text: &'a str,
+    tokens: &[Token],
+) -> Result<Items<Part<'a>>, SyntaxFault>
+    requires utf8 { IsUtf8 text.now }
+    requires list { Says (chars text.now) (Ok tokens.now) }
+    requires inside { AreInside (chars text.now) tokens.now }
+    ensures { MatchResult result (λ tree. HasTree text.now tree) (λ fault. IsTold text.now fault) }
+{
+    let lexemes = lexemes(alloc, text, tokens)?;
+    match parse_update(alloc, lexemes.as_slice()) {
+        Ok(tree) => Ok(tree),
+        Err(Stop { kind, place }) => {
+            let start = start_of(text, tokens, place);
+            Err(stop_fault(text.as_bytes(), kind, start))
+        }
+    }
+}
+
+// The tree of a text. Its tokens are let go when the tree stands.
+fn read_tree<'a>(alloc: Global, text: &'a str) -> Result<Items<Part<'a>>, SyntaxFault>
+    requires { IsUtf8 text.now }
+    ensures { MatchResult result (λ tree. HasTree text.now tree) (λ fault. IsTold text.now fault) }
+{
+    let tokens = tokens_of(alloc, text)?;
+    check_profile(text, tokens.as_slice())?;
+    tree_of(alloc, text, tokens.as_slice())
+}
+
+// The request that drafts are, where they keep to the static rules.
+fn request_of(alloc: Global, text: &str, drafts: Items<Draft<'_>>) -> Result<Request, SyntaxFault>
+    requires { AllByRecursion IsDraftBelow drafts }
+    ensures { MatchResult result
+        (λ request. judged drafts.entry ≡ Ok request.operations)
+        (λ fault. IsRuleFault (judged drafts.entry) fault) }
+{
+    if let Some(Broken { rule, start }) = first_broken(alloc, drafts.as_slice())? {
+        return Err(fault_at(text.as_bytes(), rule, start));
+    }
+    let operations = operations_of(alloc, drafts.into_vec())?;
+    Ok(Request { operations })
+}
+
+// The request that a text is.
+fn read_text(alloc: Global, text: &str, base: Option<&Iri>) -> Result<Request, SyntaxFault>
+    requires { IsUtf8 text.now }
+    ensures { MatchResult result
+        (λ request. IsUpdate (option_copied base.entry) text.now request)
+        (λ fault. TellsFault (option_copied base.entry) text.now fault fault.kind) }
+{
+    let tree = match read_tree(alloc, text) {
+        Ok(tree) => tree,
+        Err(fault) => return Err(fault),
+    };
+    let drafts = match drafts_of(alloc, base, tree.into_vec()) {
+        Ok(drafts) => drafts,
+        Err(fault) => return Err(name_fault(text.as_bytes(), fault)),
+    };
+    request_of(alloc, text, drafts)
+}
+
+/// The request that a text is (SPARQL 1.1 Query, section 19.8; SPARQL 1.1 Update, section 3). Names
+/// have their IRIs, and references are resolved against `base`, until the text declares another. The
+/// blank nodes of an operation's data are numbered from 0 by their places in the text.
+///
+/// # Errors
+/// The first of these that applies, with the number of its line: [`SyntaxFaultKind::NotUtf8`],
+/// [`SyntaxFaultKind::Token`], [`SyntaxFaultKind::NotInProfile`], [`SyntaxFaultKind::TooDeep`],
+/// [`SyntaxFaultKind::Syntax`], [`SyntaxFaultKind::UnknownPrefix`], [`SyntaxFaultKind::Relative`],
+/// [`SyntaxFaultKind::BlankInDelete`], [`SyntaxFaultKind::VariableInData`],
+/// [`SyntaxFaultKind::LiteralSubject`], [`SyntaxFaultKind::BlankReused`]; and
+/// [`SyntaxFaultKind::NoMemory`] at any point, with line 0.
+pub fn read_update(alloc: Global, bytes: &[u8], base: Option<&Iri>) -> Result<Request, SyntaxFault>
+    ensures { MatchResult result
+        (λ request. IsUpdate (option_copied base.entry) bytes.now request)
+        (λ fault. TellsFault (option_copied base.entry) bytes.now fault fault.kind) }
+{
+    match str::from_utf8(bytes) {
+        Ok(text) => read_text(alloc, text, base),
+        Err(fault) => Err(fault_at(bytes, SyntaxFaultKind::NotUtf8, fault.valid_up_to())),
+    }
+}
