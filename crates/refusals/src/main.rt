@@ -11,6 +11,7 @@ mod retry;
 mod script;
 mod sessions;
 mod terms;
+mod updates;
 
 use std::alloc::Global;
 use std::io;
@@ -25,6 +26,7 @@ fn main(rt: HostRuntime) -> io::Result<()> {
     }
     println!(rt; "{}", terms::outcome(alloc))?;
     println!(rt; "{}", sessions::outcome(alloc))?;
+    println!(rt; "{}", updates::outcome(alloc))?;
     println!(rt; "{}", script::outcome(alloc))?;
     println!(rt; "{}", conversions::outcome(alloc))
 }
