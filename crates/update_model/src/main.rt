@@ -1,6 +1,7 @@
 //! Lets two thousands of random requests act on a dataset and on a model of it in plain vectors, takes
-//! some of them back, and compares the two after each; then the same requests as texts. Of each thousand it writes how many requests
-//! agreed, how many of them were refused, and which, as SPARQL, was the first that didn't agree.
+//! some of them back, and compares the two after each; then the same requests, read as texts. Of each
+//! thousand it writes how many requests agreed, how many of them were refused, and which, as SPARQL, was
+//! the first that didn't agree.
 #![tactic(auto)]
 
 mod action;
