@@ -10,11 +10,13 @@ use crate::tally::Tally;
 use crate::{text, tree};
 use rdf_dataset::{Dataset, Net, Staged};
 use sparql_eval::{ApplyFault, apply};
+use sparql_syntax::read_update;
 use sparql_trees::Request;
 use std::alloc::Global;
 
-/// A thousand requests on a dataset that begins with a graph whose name is a blank node.
-pub fn thousand(alloc: Global, seed: u64, next: u64) -> Tally
+/// A thousand requests, made as trees or read as texts. The first of each hundred brings a graph whose
+/// name is a blank node, which no text can name.
+pub fn thousand(alloc: Global, made: Made, seed: u64, next: u64) -> Tally
     requires { next ≤ last_number }
 {
     let mut trial = Trial {
@@ -25,10 +27,12 @@ pub fn thousand(alloc: Global, seed: u64, next: u64) -> Tally
         tally: Tally::new(),
     };
     for number in 0..1000u32 {
-        let Some(actions) = trial.actions(number) else {
+        let is_first = number % 100 == 0;
+        let Some(actions) = trial.actions(is_first) else {
             break;
         };
-        if !trial.turn(actions.as_slice()) {
+        let made = if is_first { Made::Tree } else { made };
+        if !trial.turn(actions.as_slice(), made) {
             let text = text::request(alloc, actions.as_slice()).ok();
             trial.tally.disagrees(text);
             break;
@@ -36,6 +40,13 @@ pub fn thousand(alloc: Global, seed: u64, next: u64) -> Tally
         trial.tally.agreed = trial.tally.agreed.saturating_add(1);
     }
     trial.tally
+}
+
+/// How requests are made.
+#[derive(Clone, Copy)]
+pub enum Made {
+    Tree,
+    Text,
 }
 
 // A run.
@@ -49,9 +60,8 @@ struct Trial {
 }
 
 impl Trial {
-    // Of a hundred requests the first brings a graph that no text names.
-    fn actions(&mut self, number: u32) -> Option<Vec<Action>> {
-        if number % 100 == 0 {
+    fn actions(&mut self, is_first: bool) -> Option<Vec<Action>> {
+        if is_first {
             with_blank_graph(self.alloc)
         } else {
             self.draw.request(self.alloc)
@@ -60,8 +70,8 @@ impl Trial {
 
     // Whether the dataset and the model answer the same and hold the same, after the request and
     // after it is taken back.
-    fn turn(&mut self, actions: &[Action]) -> bool {
-        let Some(request) = tree::request(self.alloc, actions) else {
+    fn turn(&mut self, actions: &[Action], made: Made) -> bool {
+        let Some(request) = request(self.alloc, actions, made) else {
             return false;
         };
         let Some(mut after) = self.model.copy(self.alloc) else {
@@ -96,6 +106,16 @@ impl Trial {
                 self.model = after;
                 true
             }
+        }
+    }
+}
+
+fn request(alloc: Global, actions: &[Action], made: Made) -> Option<Request> {
+    match made {
+        Made::Tree => tree::request(alloc, actions),
+        Made::Text => {
+            let text = text::request(alloc, actions).ok()?;
+            read_update(alloc, text.as_bytes(), None).ok()
         }
     }
 }
