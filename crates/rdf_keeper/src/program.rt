@@ -28,7 +28,7 @@ fn base_of(alloc: Global, word: Option<&str>) -> Result<Option<Iri>, Outcome> {
         None => Ok(None),
         Some(text) => match Iri::new(alloc, text) {
             Ok(iri) => Ok(Some(iri)),
-            Err(IriFault::NoMemory) => Err(Outcome::NoMemory),
+            Err(IriFault::NoMemory(refused)) => Err(Outcome::NoMemory(refused)),
             Err(IriFault::Relative | IriFault::BadCharacter) => Err(Outcome::BadBase),
         },
     }
@@ -49,14 +49,14 @@ fn begin<T: Files>(
     match read_all(&mut file, &mut text) {
         Ending::AtEnd => {}
         Ending::Failed => return Err(Outcome::ReadFailed),
-        Ending::NoMemory => return Err(Outcome::NoMemory),
+        Ending::NoMemory(refused) => return Err(Outcome::NoMemory(refused)),
     }
     match keeper.load(format, text.as_slice()) {
         Ok(_) => {
             keeper.commit();
             Ok(())
         }
-        Err(KeeperFault::NoMemory) => Err(Outcome::NoMemory),
+        Err(KeeperFault::NoMemory(refused)) => Err(Outcome::NoMemory(refused)),
         Err(fault) => Err(Outcome::BadData(fault)),
     }
 }
@@ -76,7 +76,7 @@ fn run_all<R: Read + Drop, W: Write>(
         Status::Refused => Outcome::SomeRefused,
         Status::ReadFailed => Outcome::ReadFailed,
         Status::WriteFailed => Outcome::WriteFailed,
-        Status::NoMemory => Outcome::NoMemory,
+        Status::NoMemory(refused) => Outcome::NoMemory(refused),
     }
 }
 
@@ -180,7 +180,8 @@ fn answer_words<T: Files + AllocGlobal, R: Read + Drop, W: Write, E: Write>(
             let _ = write_whole(errors, text.as_str().as_bytes());
             Outcome::BadWords
         }
-        Err(WordsFault::NoMemory) => Outcome::NoMemory,
+        Err(WordsFault::NoMemory(refused)) => Outcome::NoMemory(refused),
+        Err(WordsFault::ParserNoMemory) => Outcome::ParserNoMemory,
     }
 }
 

@@ -17,6 +17,8 @@ use Rattle.rdf_keeper.specs.declared.conversion.fault.ConvertFault.TheVariants.{
 use Rattle.rdf_keeper.proofs.StreamLemmas.{Appends-chain}
 use Rattle.rdf_keeper.proofs.ConversionLemmas.Documents.{found, Begins, one_quad, whole, faulty, begins}
 use Rattle.rdf_keeper.proofs.ConversionLemmas.Fronts.{before_read_fault}
+use Rattle.rdf_keeper.specs.Conversion.Faults.{no_memory}
+use Rattle.rdf_lines.specs.FaultName as line_names
 
 pub lines_of-append : (quads others : List Quad) → lines_of (quads ++ others) ≡ lines_of quads ++ lines_of others
 lines_of-append [] others = refl
@@ -45,7 +47,7 @@ cut_short format text out more quads (others, ending, doc) parts some = (
 )
 
 -- the lines of the first statements
-wanting : (format : LineFormat) (text out : List ℕ) (quads : List Quad) → Begins format text quads → out ≡ lines_of quads → ConvertsLines format text out (Err NoMemory)
+wanting : (format : LineFormat) (text out : List ℕ) (quads : List Quad) → Begins format text quads → out ≡ lines_of quads → ConvertsLines format text out (Err no_memory)
 wanting format text out quads (others, ending, doc) is = (quads, others, ending, doc, is)
 
 pub finished : (start before after : Option (List ℕ)) (format : LineFormat) (text out held : List ℕ) (quads : List Quad) (given answer : Result (Unit {0}) ConvertFault)
@@ -71,7 +73,7 @@ nothing_yet before start document e = ([], [], Appends-none before, e, refl)
 
 module _ (law : AnswersAreTheDocument) (each : EachTextIsOneDocument) (format : LineFormat) (text : List ℕ) where
   -- no memory for the reader
-  pub none_read : (before : Option (List ℕ)) → Outcome before before format text (Err NoMemory)
+  pub none_read : (before : Option (List ℕ)) → Outcome before before format text (Err no_memory)
   none_read before = let doc = each format text in ([], Appends-none before, wanting format text [] [] (doc.0, doc.1, doc.2) refl)
 
   module _ (before now : Option (List ℕ)) (document next : LineState) (held : List ℕ) where
@@ -81,10 +83,10 @@ module _ (law : AnswersAreTheDocument) (each : EachTextIsOneDocument) (format : 
         (quads, whole law each format text quads document next calls step, are) f
 
     of_fault : (quads : List Quad) (out : List ℕ) (f : LineFault) (k : FaultKind) → f.kind ≡ k → Calls (fresh format (Some text)) (found quads) document → out ++ held ≡ lines_of quads → Step document (Err f) next
-        → IsDocument format text quads (Some f) ⊎ ((f.kind ≡ kind.Read) ⊎ (f.kind ≡ kind.NoMemory)) → ConvertsLines format text (out ++ held) (Err (fault_of_kind f k))
+        → IsDocument format text quads (Some f) ⊎ ((f.kind ≡ kind.Read) ⊎ (f.kind ≡ line_names.no_memory)) → ConvertsLines format text (out ++ held) (Err (fault_of_kind f k))
     of_fault quads out f kind.Read is calls are step why =
         let front = before_read_fault format text quads document next f is calls step in (front.0, front.1, quads, front.2, front.3, are)
-    of_fault quads out f kind.NoMemory is calls are step why = wanting format text (out ++ held) quads (begins law each format text quads document calls) are
+    of_fault quads out f (kind.NoMemory _) is calls are step why = wanting format text (out ++ held) quads (begins law each format text quads document calls) are
     of_fault quads out f kind.NotUtf8 is calls are step why = elim why [ inl doc ↦ (quads, doc, are) | inr (inl r) ↦ (let e = sym is ∙ r in cc) | inr (inr m) ↦ (let e = sym is ∙ m in cc) ]
     of_fault quads out f kind.Syntax is calls are step why = elim why [ inl doc ↦ (quads, doc, are) | inr (inl r) ↦ (let e = sym is ∙ r in cc) | inr (inr m) ↦ (let e = sym is ∙ m in cc) ]
     of_fault quads out f kind.Relative is calls are step why = elim why [ inl doc ↦ (quads, doc, are) | inr (inl r) ↦ (let e = sym is ∙ r in cc) | inr (inr m) ↦ (let e = sym is ∙ m in cc) ]
@@ -107,7 +109,7 @@ module _ (law : AnswersAreTheDocument) (each : EachTextIsOneDocument) (format : 
         let lines : lines_of (quads ++ q ∷ []) ≡ (out ++ front) ++ more =
         lines_of-push quads q ∙ ap (λ t. t ++ quad_text q) (sym are) ∙ append_assoc out held (quad_text q) ∙ ap (λ t. out ++ t) parts ∙ sym (append_assoc out front more) in
         (out ++ front, Appends-chain before now after out front wrote w, cut_short format text (out ++ front) more (quads ++ q ∷ []) (begins law each format text (quads ++ q ∷ []) next grown) lines some)
-    gathered_fault after q rest NoMemory (quads, out, wrote, calls, are) step w =
+    gathered_fault after q rest (NoMemory _) (quads, out, wrote, calls, are) step w =
         (out ++ held, Appends-chain before now after out held wrote w, wanting format text (out ++ held) quads (begins law each format text quads document calls) are)
 
 pub gathered : (before now after : Option (List ℕ)) (start document next : LineState) (held rest : List ℕ) (q : Quad) (u : Unit {0}) → SoFar before now start document held → Step document (Ok (Some q)) next
@@ -121,7 +123,7 @@ gathered before now after start document next held rest q u (quads, out, wrote, 
 )
 
 -- ---- a line for which memory was wanting
-pub not_gathered : (before after : Option (List ℕ)) (held line rest : List ℕ) (answer : Result (Unit {0}) ConvertFault) → Finishes before held (Err NoMemory) answer after → Gathers before held line answer after rest
+pub not_gathered : (before after : Option (List ℕ)) (held line rest : List ℕ) (answer : Result (Unit {0}) ConvertFault) → Finishes before held (Err no_memory) answer after → Gathers before held line answer after rest
 not_gathered before after held line rest answer f = elim f [
   | inl done ↦ subst (λ (a : Result (Unit {0}) ConvertFault). Gathers before held line a after rest) (sym done.0) done.1
   | inr cut ↦

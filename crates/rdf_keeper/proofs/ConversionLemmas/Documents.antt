@@ -2,11 +2,12 @@
 use Rattle.std.proofs.Common.{◌≡◌, ◌∙◌, inl, inr, ap, refl, sym, subst, ℕ, List, [], ◌∷◌, ◌++◌, map, Option, Some, None}
 use Rattle.std.specs.Prelude.{◌⊎◌, Ok, Err}
 use Rattle.rdf_lines.specs.declared.fault.LineFault.{LineFault}
-use Rattle.rdf_lines.specs.declared.fault.FaultKind.TheVariants.{Read, NoMemory}
+use Rattle.rdf_lines.specs.declared.fault.FaultKind.TheVariants.{Read}
 use Rattle.rdf_lines.specs.declared.format.LineFormat.{LineFormat}
 use Rattle.rdf_terms.specs.declared.quad.Quad.{Quad}
 use Rattle.rdf_lines.specs.Document.{IsDocument, EachTextIsOneDocument}
 use Rattle.rdf_lines.specs.Reader.{LineState, Answer, Step, Calls, Agrees, fresh, AnswersAreTheDocument}
+use Rattle.rdf_lines.specs.FaultName.{no_memory}
 
 abbrev pub found : List Quad → List Answer
 found quads = map (λ q. Ok (Some q)) quads
@@ -27,7 +28,7 @@ at_none [] all ending a = (a.0, a.1)
 at_none (q ∷ quads) all ending a = let later = at_none quads a.0 ending a.2 in (a.1 ∙ ap (λ l. q ∷ l) later.0, later.1)
 
 at_fault : (quads all : List Quad) (ending : Option LineFault) (f : LineFault) → Agrees (found quads ++ Err f ∷ []) all ending
-    → ((all ≡ quads) × (ending ≡ Some f)) ⊎ ((f.kind ≡ Read) ⊎ (f.kind ≡ NoMemory))
+    → ((all ≡ quads) × (ending ≡ Some f)) ⊎ ((f.kind ≡ Read) ⊎ (f.kind ≡ no_memory))
 at_fault [] all ending f a = a.1
 at_fault (q ∷ quads) all ending f a = elim (at_fault quads a.0 ending f a.2) [ inl own ↦ inl (a.1 ∙ ap (λ l. q ∷ l) own.0, own.1) | inr other ↦ inr other ]
 
@@ -47,7 +48,7 @@ module _ (law : AnswersAreTheDocument) (each : EachTextIsOneDocument) (format : 
       subst (λ q. IsDocument format text q None) same.0 (subst (IsDocument format text doc.0) same.1 doc.2)
 
   pub faulty : (mid end : LineState) (f : LineFault) → Calls (fresh format (Some text)) (found quads) mid → Step mid (Err f) end
-      → IsDocument format text quads (Some f) ⊎ ((f.kind ≡ Read) ⊎ (f.kind ≡ NoMemory))
+      → IsDocument format text quads (Some f) ⊎ ((f.kind ≡ Read) ⊎ (f.kind ≡ no_memory))
   faulty mid end f calls step =
       let doc = each format text in
       elim (at_fault quads doc.0 doc.1 f (law format text (found quads ++ Err f ∷ []) end doc.0 doc.1 (one_more (found quads) _ mid end (Err f) calls step) doc.2)) [

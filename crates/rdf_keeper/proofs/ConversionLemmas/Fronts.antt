@@ -3,7 +3,7 @@ use Rattle.std.proofs.Common.{◌≡◌, ◌∙◌, inl, inr, ap, refl, sym, sub
 use Rattle.std.specs.Prelude.{Ok, Err}
 use Rattle.std.specs.Io.KnownBytes.{Consumes}
 use Rattle.rdf_lines.specs.declared.fault.FaultKind.{FaultKind}
-use Rattle.rdf_lines.specs.declared.fault.FaultKind.TheVariants.{Read, NoMemory}
+use Rattle.rdf_lines.specs.declared.fault.FaultKind.TheVariants.{Read}
 use Rattle.rdf_lines.specs.declared.fault.LineFault.{LineFault}
 use Rattle.rdf_lines.specs.declared.format.LineFormat.{LineFormat}
 use Rattle.rdf_lines.specs.declared.statement.Statement.{Statement}
@@ -19,6 +19,7 @@ use Rattle.rdf_lines.proofs.LawLemmas.{quads_of, first_quad}
 use Rattle.rdf_keeper.specs.Conversion.Converts.{whole_lines}
 use Rattle.rdf_keeper.proofs.ConversionLemmas.Documents.{found}
 use Rattle.rdf_keeper.proofs.ConversionLemmas.WholeLines.{lines_of_whole}
+use Rattle.rdf_lines.specs.FaultName.{no_memory}
 
 -- ---- lines, one after another
 
@@ -53,7 +54,7 @@ at_read s end xs f is_read ahead (ls, still, line, state, number, why) = elim wh
       let b = failed.1 in
       let c = consumed s.ahead end.ahead xs b.0 ahead b.2 in
       (b.0, c.0, b.1, ls, end.behind_return, [], c.2, b.3, silent_lines s.format s.number ls still, refl)
-  | inr (inr memory) ↦ (let bad : Read ≡ NoMemory = sym is_read ∙ memory.2 in cc)
+  | inr (inr memory) ↦ (let bad : Read ≡ no_memory = sym is_read ∙ memory.2 in cc)
 ]
 
 never_ended : (s mid end : LineState) (quads : List Quad) (f : LineFault) → s.state ≡ Ended → Calls s (found quads) mid → Step mid (Err f) end → ⊥

@@ -17,6 +17,7 @@ use Rattle.rdf_keeper.specs.declared.conversion.fault.ConvertFault.TheVariants.{
 use Rattle.rdf_keeper.specs.declared.streams.reading.Ending.TheVariants.{AtEnd}
 use Rattle.rdf_keeper.proofs.StreamLemmas.{Appends-chain}
 use Rattle.rdf_keeper.proofs.ConversionLemmas.Converts.{Appends-none, lines_of-append, lines_of-push, more_left}
+use Rattle.rdf_keeper.specs.Conversion.Faults.{no_memory}
 
 -- ---- the quads of a slice, one after another
 
@@ -50,7 +51,7 @@ module _ (before now after : Option (List ℕ)) (quads : List Quad) (i : ℕ) (q
       let lines : lines_of (take (i + 1) quads) ≡ (out ++ front) ++ more =
       one_more quads i q h is ∙ ap (λ t. t ++ quad_text q) (sym are) ∙ append_assoc out held (quad_text q) ∙ ap (λ t. out ++ t) parts ∙ sym (append_assoc out front more) in
       (out ++ front, more ++ later, Appends-chain before now after out front wrote w, parts_of quads (i + 1) ∙ ap (λ t. t ++ later) lines ∙ append_assoc (out ++ front) more later, more_left more later some)
-  stopped NoMemory (out, wrote, are) w =
+  stopped (NoMemory _) (out, wrote, are) w =
       (take i quads, drop i quads, sym (take-append-drop i quads), subst (Appends before after) are (Appends-chain before now after out held wrote w))
 
 pub all_written : (before now after : Option (List ℕ)) (quads : List Quad) (i : ℕ) (held : List ℕ) (answer : Result (Unit {0}) ConvertFault) → length quads ≤ i → Written before now quads i held → Finishes now held (Ok tt) answer after → WritesQuads before quads answer after
@@ -81,12 +82,12 @@ Outcome before after base text answer = (out : List ℕ) × Appends before after
 pub document : (before after base : Option (List ℕ)) (text : List ℕ) (quads : List Quad) (answer : Result (Unit {0}) ConvertFault) → turtle.IsDocument base text quads → WritesQuads before quads answer after → Outcome before after base text answer
 document before after base text quads (Ok u) doc w = (lines_of quads, w, (quads, doc, refl))
 document before after base text quads (Err Write) doc (out, more, w, parts, some) = (out, w, (quads, more, doc, parts, some))
-document before after base text quads (Err NoMemory) doc (written, others, parts, w) = (lines_of written, w, inr (written, others, subst (turtle.IsDocument base text) parts doc, refl))
+document before after base text quads (Err (NoMemory _)) doc (written, others, parts, w) = (lines_of written, w, inr (written, others, subst (turtle.IsDocument base text) parts doc, refl))
 document before after base text quads (Err Read) doc w = absurd w
 document before after base text quads (Err (Document at)) doc w = absurd w
 
 told : (base : Option (List ℕ)) (text : List ℕ) (f : TurtleFault) (k : TurtleFaultKind) → turtle.TellsFault base text f k → ConvertsTurtle base text [] (Err (turtle_fault f k))
-told base text f kind.NoMemory h = inl refl
+told base text f (kind.NoMemory _) h = inl refl
 told base text f kind.NotUtf8 h = (h, refl)
 told base text f kind.Token h = (h, refl)
 told base text f kind.TooDeep h = (h, refl)
@@ -101,5 +102,5 @@ no_document before base text f fault is h = ([], Appends-none before, subst (λ 
 pub not_read : (before base : Option (List ℕ)) (text : List ℕ) → Outcome before before base text (Err Read)
 not_read before base text = ([], Appends-none before, refl)
 
-pub no_memory : (before base : Option (List ℕ)) (text : List ℕ) → Outcome before before base text (Err NoMemory)
-no_memory before base text = ([], Appends-none before, inl refl)
+pub not_held : (before base : Option (List ℕ)) (text : List ℕ) → Outcome before before base text (Err no_memory)
+not_held before base text = ([], Appends-none before, inl refl)

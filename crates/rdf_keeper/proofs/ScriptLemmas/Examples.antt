@@ -28,12 +28,13 @@ use Rattle.rdf_session.specs.Request.{Load, loaded}
 use Rattle.rdf_keeper.specs.Script.Runs.{Runs, final}
 use Rattle.rdf_session.specs.Session.{Session, Do, Undo, Redo, Mark, Rollback, Commit, Changed, Done, Refused as RefusedReply, accepted, at_place, counts_between, fresh, now, with_mark}
 use Rattle.rdf_session.specs.declared.fault.Counts.{Counts}
-use Rattle.rdf_session.specs.declared.fault.KeeperFault.TheVariants.{NoMemory as NoMemoryFault, NoSuchMark, NothingToUndo, NothingToRedo}
+use Rattle.rdf_session.specs.declared.fault.KeeperFault.TheVariants.{NoSuchMark, NothingToUndo, NothingToRedo}
 use Rattle.rdf_session.specs.declared.format.Format.TheVariants.{NQuads}
 use Rattle.rdf_keeper.specs.declared.script.command.Listing.TheVariants.{Quads}
 use Rattle.rdf_keeper.specs.declared.script.status.Status.{Status}
 use Rattle.rdf_keeper.specs.declared.script.status.Status.TheVariants.{Accepted, Refused}
 use Rattle.rdf_keeper.proofs.ScriptLemmas.OneOutputOfBytes.{run_of_bytes}
+use Rattle.rdf_session.specs.Faults.{no_memory}
 
 -- ---- sets of one member or none
 
@@ -129,7 +130,7 @@ record Entry : Type 0 where
   after : Session
 
 abbrev wanting : List ℕ
-wanting = reply_line (RefusedReply NoMemoryFault)
+wanting = reply_line (RefusedReply no_memory)
 
 abbrev IsSession : Session → List Entry → Type 0
 IsSession s [] = Unit {0}

@@ -8,7 +8,7 @@ use Rattle.rdf_terms.specs.OrderLaws.{term_cmp_total, term_cmp-IsAntisymmetric, 
 use Rattle.rdf_dataset.specs.State.{net_between}
 use Rattle.rdf_session.specs.OneReply.{IsFull, OneReply, SameReply}
 use Rattle.rdf_session.specs.Session.{Session, Command, Reply, Refused as RefusedReply, now}
-use Rattle.rdf_session.specs.declared.fault.KeeperFault.TheVariants.{NoMemory as NoMemoryFault}
+use Rattle.rdf_session.specs.Faults.{no_memory as no_memory_fault}
 use Rattle.rdf_keeper.specs.Script.Answers.{count_line, is_refused, reply_line}
 use Rattle.rdf_keeper.specs.Script.Commands.{Asked, act, bad, show, unended}
 use Rattle.rdf_keeper.specs.Script.Listing.{Shows, name_line}
@@ -17,8 +17,9 @@ use Rattle.rdf_keeper.specs.Script.Runs.{Runs, final}
 use Rattle.rdf_keeper.specs.declared.script.command.Listing.{Listing}
 use Rattle.rdf_keeper.specs.declared.script.command.Listing.TheVariants.{Changes, Graphs, Quads}
 use Rattle.rdf_keeper.specs.declared.script.status.Status.{Status}
-use Rattle.rdf_keeper.specs.declared.script.status.Status.TheVariants.{Accepted, WriteFailed, NoMemory}
+use Rattle.rdf_keeper.specs.declared.script.status.Status.TheVariants.{Accepted, WriteFailed}
 use Rattle.rdf_keeper.proofs.ScriptLemmas.OneListing.{one_listing}
+use Rattle.rdf_keeper.specs.Script.Statuses.{no_memory}
 
 -- ---- one listing
 
@@ -42,7 +43,7 @@ listing_same Changes s lines others a b =
 abbrev Alike : Asked → List ℕ → Bool → Session → List ℕ → Bool → Session → Type 0
 Alike c text refused t other otherwise u = SameAnswer c text other × (refused ≡ otherwise) × (t ≡ u)
 
-full_reply : (r : Reply) (text : List ℕ) → text ≡ reply_line r → text ≢ reply_line (RefusedReply NoMemoryFault) → IsFull r
+full_reply : (r : Reply) (text : List ℕ) → text ≡ reply_line r → text ≢ reply_line (RefusedReply no_memory_fault) → IsFull r
 full_reply r text e n f = n (e ∙ ap reply_line f)
 
 same_reply : (c : Command) (t u : Session) (text other : List ℕ) (refused otherwise : Bool) (r q : Reply) → SameReply c r q → t ≡ u → text ≡ reply_line r → refused ≡ is_refused r → other ≡ reply_line q → otherwise ≡ is_refused q → Alike (act c) text refused t other otherwise u
@@ -81,7 +82,7 @@ module _ (one : OneReply) where
 
 -- ---- one run, where two answers to a command are related, and so are lists of related answers
 
-not_whole : {A : Type 0} (status : Status) → IsWhole status → status ≡ NoMemory → A
+not_whole : {A : Type 0} (status : Status) → IsWhole status → status ≡ no_memory → A
 not_whole status w e = absurd (subst IsWhole e w)
 
 not_written : {A : Type 0} (status : Status) → IsWhole status → status ≡ WriteFailed → A

@@ -10,7 +10,8 @@ use Rattle.rdf_keeper.specs.Script.Runs.{Runs, RunsOver}
 use Rattle.rdf_session.specs.Session.{Session}
 use Rattle.rdf_keeper.specs.declared.script.command.Body.{Body}
 use Rattle.rdf_keeper.specs.declared.script.status.Status.{Status}
-use Rattle.rdf_keeper.specs.declared.script.status.Status.TheVariants.{Accepted, ReadFailed, WriteFailed, NoMemory}
+use Rattle.rdf_keeper.specs.declared.script.status.Status.TheVariants.{Accepted, ReadFailed, WriteFailed}
+use Rattle.rdf_keeper.specs.Script.Statuses.{no_memory}
 
 -- ---- the commands of a front of a text are the first of the text's
 
@@ -92,10 +93,10 @@ full_run stop refused last (c ∷ cs) s t answers status a w f =
 
 -- a run that came to its end before the reader's fault counted is one over more commands
 ended_run : (stop refused : Bool) (cs more : List Asked) (s t : Session) (answers : List (List ℕ)) (status : Status) → Runs FullAnswers stop ReadFailed refused cs s answers t status → IsWhole status → Runs FullAnswers stop Accepted refused (cs ++ more) s answers t status
-ended_run stop refused [] more s t answers status a w = elim (a.2) [ inl p ↦ not_whole status ReadFailed w p (λ n. n) | inr p ↦ not_whole status NoMemory w p (λ n. n) ]
+ended_run stop refused [] more s t answers status a w = elim (a.2) [ inl p ↦ not_whole status ReadFailed w p (λ n. n) | inr p ↦ not_whole status no_memory w p (λ n. n) ]
 ended_run stop refused (c ∷ cs) more s t answers status a w =
     elim a [
-      | inl p ↦ not_whole status NoMemory w p.2 (λ n. n)
+      | inl p ↦ not_whole status no_memory w p.2 (λ n. n)
       | inr p ↦ elim (p.4) [
         | inl x ↦ not_whole status WriteFailed w x.6 (λ n. n)
         | inr (inl x) ↦ inr (p.0, p.1, p.2, p.3, inr (inl x))

@@ -11,8 +11,9 @@ use Rattle.rdf_keeper.specs.Inside.Streams.{WritesTo}
 use Rattle.rdf_keeper.specs.Script.Runs.{Runs, final}
 use Rattle.rdf_keeper.proofs.StreamLemmas.{Appends-chain}
 use Rattle.rdf_keeper.specs.declared.script.status.Status.{Status}
-use Rattle.rdf_keeper.specs.declared.script.status.Status.TheVariants.{Refused, WriteFailed, NoMemory}
+use Rattle.rdf_keeper.specs.declared.script.status.Status.TheVariants.{Refused, WriteFailed}
 use Rattle.rdf_keeper.specs.declared.streams.writing.WriteFault.{WriteFault}
+use Rattle.rdf_keeper.specs.Script.Statuses.{no_memory}
 
 pub wrote_ok : (a b : Option (List ℕ)) (text : List ℕ) (r : Result (Unit {0}) WriteFault) → is_err r ≡ false → WritesTo a text r b → Appends a b text
 wrote_ok a b text (Ok u) e w = w
@@ -23,9 +24,9 @@ wrote_err a b text (Ok u) e w = cc
 wrote_err a b text (Err f) e w = w
 
 module _ (stop : Bool) (last : Status) (refused : Bool) where
-  pub no_memory : (cs : List Asked) (s : Session) → Runs Answers stop last refused cs s [] s NoMemory
-  no_memory [] s = (refl, refl, inr refl)
-  no_memory (c ∷ cs) s = inl (refl, refl, refl)
+  pub not_taken : (cs : List Asked) (s : Session) → Runs Answers stop last refused cs s [] s no_memory
+  not_taken [] s = (refl, refl, inr refl)
+  not_taken (c ∷ cs) s = inl (refl, refl, refl)
 
   pub at_end : (cs : List Asked) (s : Session) → cs ≡ [] → Runs Answers stop last refused cs s [] s (final last refused)
   at_end cs s e = rw e (refl, refl, inl refl)

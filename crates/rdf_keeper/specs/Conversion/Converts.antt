@@ -42,7 +42,7 @@ ConvertsLines format text out (Err Read) =
 ConvertsLines format text out (Err Write) =
     (quads : List Quad) × (ending : Option LineFault) × (more : List ℕ) × lines.IsDocument format text quads ending × (lines_of quads ≡ out ++ more) × (more ≢ [])
 -- Memory was wanting: the lines of the first statements.
-ConvertsLines format text out (Err NoMemory) =
+ConvertsLines format text out (Err (NoMemory _)) =
     (quads others : List Quad) × (ending : Option LineFault) × lines.IsDocument format text (quads ++ others) ending × (out ≡ lines_of quads)
 
 -- What is written of a text of Turtle against a base IRI, and how it ends.
@@ -58,7 +58,7 @@ ConvertsTurtle base text out (Err Read) = out ≡ []
 ConvertsTurtle base text out (Err Write) =
     (quads : List Quad) × (more : List ℕ) × turtle.IsDocument base text quads × (lines_of quads ≡ out ++ more) × (more ≢ [])
 -- Memory was wanting, before all was read: nothing; or behind that: the lines of the first quads.
-ConvertsTurtle base text out (Err NoMemory) =
+ConvertsTurtle base text out (Err (NoMemory _)) =
     (out ≡ []) ⊎ ((quads others : List Quad) × turtle.IsDocument base text (quads ++ others) × (out ≡ lines_of quads))
 
 -- What is written of a text in a format, against a base IRI for which the line formats don't ask, and how it ends.

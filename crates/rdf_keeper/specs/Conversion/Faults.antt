@@ -1,5 +1,6 @@
--- The printed words of the faults that end a conversion, and their lines.
+-- The printed words of the faults that end a conversion, and their lines; the one where memory is wanting.
 use Rattle.std.specs.Prelude.{ℕ, List, codes}
+use Rattle.rdf_terms.specs.Names.{refused}
 use Rattle.rdf_lines.specs.FaultName as line_names
 use Rattle.rdf_turtle.specs.FaultName as turtle_names
 use Rattle.rdf_keeper.specs.declared.conversion.fault.DocumentFault.{DocumentFault}
@@ -22,4 +23,7 @@ abbrev pub convert_fault_name : ConvertFault → List ℕ
 convert_fault_name (Document fault) = document_fault_name fault
 convert_fault_name Read = codes "Read"
 convert_fault_name Write = codes "Write"
-convert_fault_name NoMemory = codes "NoMemory"
+convert_fault_name (NoMemory _) = codes "NoMemory"
+
+abbrev pub no_memory : ConvertFault
+no_memory = NoMemory refused

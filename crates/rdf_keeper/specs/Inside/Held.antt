@@ -17,7 +17,7 @@ use Rattle.rdf_keeper.specs.declared.conversion.fault.ConvertFault.TheVariants.{
 abbrev pub WritesQuads : Option (List ℕ) → List Quad → Result (Unit {0}) ConvertFault → Option (List ℕ) → Type 0
 WritesQuads before quads (Ok u) after = Appends before after (lines_of quads)
 WritesQuads before quads (Err Write) after = (out more : List ℕ) × Appends before after out × (lines_of quads ≡ out ++ more) × (more ≢ [])
-WritesQuads before quads (Err NoMemory) after = (written others : List Quad) × (quads ≡ written ++ others) × Appends before after (lines_of written)
+WritesQuads before quads (Err (NoMemory _)) after = (written others : List Quad) × (quads ≡ written ++ others) × Appends before after (lines_of written)
 WritesQuads before quads (Err Read) after = ⊥
 WritesQuads before quads (Err (Document fault)) after = ⊥
 
@@ -25,7 +25,7 @@ WritesQuads before quads (Err (Document fault)) after = ⊥
 abbrev pub Gathers : Option (List ℕ) → List ℕ → List ℕ → Result (Unit {0}) ConvertFault → Option (List ℕ) → List ℕ → Type 0
 Gathers before held line (Ok u) after now = (out : List ℕ) × Appends before after out × (held ++ line ≡ out ++ now)
 Gathers before held line (Err Write) after now = (out more : List ℕ) × Appends before after out × (held ++ line ≡ out ++ more) × (more ≢ [])
-Gathers before held line (Err NoMemory) after now = Appends before after held
+Gathers before held line (Err (NoMemory _)) after now = Appends before after held
 Gathers before held line (Err Read) after now = ⊥
 Gathers before held line (Err (Document fault)) after now = ⊥
 
@@ -37,7 +37,7 @@ Finishes before held given answer after =
 -- the fault of a conversion that a reader's fault is
 abbrev pub fault_of_kind : LineFault → FaultKind → ConvertFault
 fault_of_kind at kind.Read = Read
-fault_of_kind at kind.NoMemory = NoMemory
+fault_of_kind at (kind.NoMemory refused) = NoMemory refused
 fault_of_kind at kind.NotUtf8 = Document (InLine at)
 fault_of_kind at kind.Syntax = Document (InLine at)
 fault_of_kind at kind.Relative = Document (InLine at)
@@ -45,7 +45,7 @@ fault_of_kind at kind.Failed = Document (InLine at)
 
 -- and that a fault of Turtle is, by its kind
 abbrev pub turtle_fault : TurtleFault → TurtleFaultKind → ConvertFault
-turtle_fault at turtle_kind.NoMemory = NoMemory
+turtle_fault at (turtle_kind.NoMemory refused) = NoMemory refused
 turtle_fault at turtle_kind.NotUtf8 = Document (InTurtle at)
 turtle_fault at turtle_kind.Token = Document (InTurtle at)
 turtle_fault at turtle_kind.TooDeep = Document (InTurtle at)

@@ -8,7 +8,7 @@ use Rattle.rdf_session.specs.declared.fault.KeeperFault.{KeeperFault}
 use Rattle.rdf_keeper.specs.declared.conversion.fault.ConvertFault.{ConvertFault}
 use Rattle.rdf_keeper.specs.declared.conversion.fault.ConvertFault.TheVariants as fault
 use Rattle.rdf_keeper.specs.declared.program.outcome.Outcome.{Outcome}
-use Rattle.rdf_keeper.specs.declared.program.outcome.Outcome.TheVariants.{Done, SomeRefused, BadDocument, BadWords, BadBase, BadData, ReadFailed, WriteFailed, NoMemory}
+use Rattle.rdf_keeper.specs.declared.program.outcome.Outcome.TheVariants.{Done, SomeRefused, BadDocument, BadWords, BadBase, BadData, ReadFailed, WriteFailed, NoMemory, ParserNoMemory}
 
 -- how a conversion ends the program
 abbrev pub outcome_of : Result (Unit {0}) ConvertFault → Outcome
@@ -16,7 +16,7 @@ outcome_of (Ok u) = Done
 outcome_of (Err (fault.Document at)) = BadDocument at
 outcome_of (Err fault.Read) = ReadFailed
 outcome_of (Err fault.Write) = WriteFailed
-outcome_of (Err fault.NoMemory) = NoMemory
+outcome_of (Err (fault.NoMemory refused)) = NoMemory refused
 
 abbrev pub status_of : Outcome → ℕ
 status_of Done = 0
@@ -27,7 +27,8 @@ status_of BadBase = 2
 status_of (BadData fault) = 2
 status_of ReadFailed = 3
 status_of WriteFailed = 3
-status_of NoMemory = 4
+status_of (NoMemory refused) = 4
+status_of ParserNoMemory = 4
 
 -- the line of a refusal, by its word and its place
 abbrev pub refused_line : List ℕ → Option ℕ → List ℕ
@@ -50,4 +51,5 @@ error_line BadBase = codes "rdfkeep: bad base\n"
 error_line (BadData fault) = refused_data fault
 error_line ReadFailed = codes "rdfkeep: read failed\n"
 error_line WriteFailed = codes "rdfkeep: write failed\n"
-error_line NoMemory = codes "rdfkeep: no memory\n"
+error_line (NoMemory refused) = codes "rdfkeep: no memory\n"
+error_line ParserNoMemory = codes "rdfkeep: no memory\n"

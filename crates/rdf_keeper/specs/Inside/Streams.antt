@@ -10,7 +10,7 @@ abbrev pub ReadsTo : Option (List ℕ) → Option (List ℕ) → List ℕ → En
 ReadsTo before after held AtEnd now = (read : List ℕ) × (now ≡ held ++ read) × Consumes before after read × IsAtEnd after
 ReadsTo before after held Failed now = (read : List ℕ) × (now ≡ held ++ read) × Consumes before after read
 -- the last piece was read and isn't held
-ReadsTo before after held NoMemory now = (read : List ℕ) × Consumes before after read
+ReadsTo before after held (NoMemory _) now = (read : List ℕ) × Consumes before after read
 
 -- the text was written, or a proper front of it
 abbrev pub WritesTo : Option (List ℕ) → List ℕ → Result (Unit {0}) WriteFault → Option (List ℕ) → Type 0

@@ -2,10 +2,10 @@
 use Rattle.std.specs.Prelude.{◌≡◌, ◌⊎◌, ℕ, Bool, true, false, List, [], ◌∷◌, ◌++◌, codes, decimal, length, Option, Some, None}
 use Rattle.std.specs.List.{concat}
 use Rattle.rdf_keeper.specs.Script.Commands.{Asked, act, show, bad, unended}
-use Rattle.rdf_session.specs.Faults.{line_of, name_of}
+use Rattle.rdf_session.specs.Faults.{line_of, name_of, no_memory}
 use Rattle.rdf_keeper.specs.Script.Listing.{Shows}
 use Rattle.rdf_session.specs.Session.{Session, Step, Reply, Changed, Done, Refused}
-use Rattle.rdf_session.specs.declared.fault.KeeperFault.TheVariants.{BadCommand, NoEnd, NoMemory}
+use Rattle.rdf_session.specs.declared.fault.KeeperFault.TheVariants.{BadCommand, NoEnd}
 
 -- the number of a line
 abbrev pub line_text : ℕ → List ℕ
@@ -36,6 +36,6 @@ abbrev pub Answers : Asked → Session → List ℕ → Bool → Session → Typ
 Answers (act c) s text refused t = (reply : Reply) × Step s c reply t × (text ≡ reply_line reply) × (refused ≡ is_refused reply)
 Answers (show listing) s text refused t =
     (t ≡ s) × (((lines : List (List ℕ)) × Shows listing s lines × (text ≡ concat lines ++ count_line (length lines)) × (refused ≡ false))
-    ⊎ ((text ≡ reply_line (Refused NoMemory)) × (refused ≡ true)))
+    ⊎ ((text ≡ reply_line (Refused no_memory)) × (refused ≡ true)))
 Answers bad s text refused t = (t ≡ s) × (text ≡ reply_line (Refused BadCommand)) × (refused ≡ true)
 Answers unended s text refused t = (t ≡ s) × (text ≡ reply_line (Refused NoEnd)) × (refused ≡ true)

@@ -8,13 +8,13 @@ use Rattle.rdf_session.specs.OneReply.{HasFreeLine, SameButLine}
 use Rattle.rdf_keeper.specs.Script.Runs.{Runs, RunsOver}
 use Rattle.rdf_session.specs.Session.{Session, Refused as RefusedReply}
 use Rattle.rdf_session.specs.declared.fault.KeeperFault.{KeeperFault}
-use Rattle.rdf_session.specs.declared.fault.KeeperFault.TheVariants.{NoMemory as NoMemoryFault}
+use Rattle.rdf_session.specs.Faults.{no_memory}
 use Rattle.rdf_keeper.specs.declared.script.status.Status.{Status}
 use Rattle.rdf_keeper.specs.declared.script.status.Status.TheVariants.{Accepted, Refused}
 
 -- the answer isn't that memory is wanting
 abbrev pub FullAnswers : Asked → Session → List ℕ → Bool → Session → Type 0
-FullAnswers c s text refused t = Answers c s text refused t × (text ≢ reply_line (RefusedReply NoMemoryFault))
+FullAnswers c s text refused t = Answers c s text refused t × (text ≢ reply_line (RefusedReply no_memory))
 
 -- the session came to its end
 abbrev pub IsWhole : Status → Type 0
@@ -64,7 +64,7 @@ OneText = (stop : Bool) (commands : List Asked) (s t u : Session) (answers other
 
 -- no answer is that memory is wanting
 abbrev pub AreFull : List (List ℕ) → Type 0
-AreFull answers = AllByRecursion (λ text. text ≢ reply_line (RefusedReply NoMemoryFault)) answers
+AreFull answers = AllByRecursion (λ text. text ≢ reply_line (RefusedReply no_memory)) answers
 
 -- Two sessions that begin alike and are given readers of the same bytes, in whatever pieces these come, in which no answer
 -- is that memory is wanting, and which come to their end, have the same answers to the commands of these bytes, one by one,

@@ -6,7 +6,8 @@ use Rattle.rdf_keeper.specs.Script.Lines.{raw_lines, upto_last_end}
 use Rattle.rdf_keeper.specs.Script.Commands.{Asked, commands}
 use Rattle.rdf_keeper.specs.Script.Answers.{Answers}
 use Rattle.rdf_keeper.specs.declared.script.status.Status.{Status}
-use Rattle.rdf_keeper.specs.declared.script.status.Status.TheVariants.{Accepted, Refused, ReadFailed, WriteFailed, NoMemory}
+use Rattle.rdf_keeper.specs.declared.script.status.Status.TheVariants.{Accepted, Refused, ReadFailed, WriteFailed}
+use Rattle.rdf_keeper.specs.Script.Statuses.{no_memory}
 
 -- the status after the last command
 abbrev pub final : Status → Bool → Status
@@ -17,7 +18,7 @@ final status refused = status
 
 -- There is no memory to take it.
 abbrev pub NotTaken : Session → List (List ℕ) → Session → Status → Type 0
-NotTaken old answers new status = (answers ≡ []) × (new ≡ old) × (status ≡ NoMemory)
+NotTaken old answers new status = (answers ≡ []) × (new ≡ old) × (status ≡ no_memory)
 
 -- A write fails: a proper front of the answer is written, and the session is where the command led.
 abbrev pub BreaksOff : List ℕ → Session → List (List ℕ) → Session → Status → Type 0
@@ -40,7 +41,7 @@ AnswerRelation = Asked → Session → List ℕ → Bool → Session → Type 0
 abbrev pub Runs : AnswerRelation → Bool → Status → Bool → List Asked → Session → List (List ℕ) → Session → Status → Type 0
 Runs May stop last refused [] old answers new status =
     -- all are answered, or memory for the next one is wanting
-    (answers ≡ []) × (new ≡ old) × ((status ≡ final last refused) ⊎ (status ≡ NoMemory))
+    (answers ≡ []) × (new ≡ old) × ((status ≡ final last refused) ⊎ (status ≡ no_memory))
 Runs May stop last refused (c ∷ cs) old answers new status =
     NotTaken old answers new status ⊎
     ((text : List ℕ) × (is_refused : Bool) × (mid : Session) × May c old text is_refused mid ×

@@ -1,5 +1,6 @@
--- The exit status of a session.
+-- The exit status of a session, and its one ending where memory is wanting.
 use Rattle.std.specs.Prelude.{ℕ}
+use Rattle.rdf_terms.specs.Names.{refused}
 use Rattle.rdf_keeper.specs.declared.script.status.Status.{Status}
 use Rattle.rdf_keeper.specs.declared.script.status.Status.TheVariants.{Accepted, Refused, ReadFailed, WriteFailed, NoMemory}
 
@@ -9,4 +10,7 @@ status_code Accepted = 0
 status_code Refused = 1
 status_code ReadFailed = 3
 status_code WriteFailed = 3
-status_code NoMemory = 4
+status_code (NoMemory _) = 4
+
+abbrev pub no_memory : Status
+no_memory = NoMemory refused

@@ -3,6 +3,7 @@ ghost use Rattle.std.specs.Prelude.{◌≡◌};
 ghost use Rattle.rdf_keeper.specs.Conversion.Faults.{convert_fault_name, document_fault_line, document_fault_name};
 
 use rdf_lines::LineFault;
+use rdf_terms::NoMemory;
 use rdf_turtle::TurtleFault;
 use thiserror::Error;
 
@@ -56,7 +57,7 @@ pub enum ConvertFault {
     /// A growth was refused. Of a document of lines the statements before it are written; of one of Turtle nothing while
     /// it is read, and afterwards the first of its lines.
     #[error("no memory")]
-    NoMemory,
+    NoMemory(NoMemory),
 }
 
 impl ConvertFault {
@@ -68,7 +69,7 @@ impl ConvertFault {
             ConvertFault::Document(fault) => fault.name(),
             ConvertFault::Read => "Read",
             ConvertFault::Write => "Write",
-            ConvertFault::NoMemory => "NoMemory",
+            ConvertFault::NoMemory(refused) => refused.name(),
         }
     }
 }

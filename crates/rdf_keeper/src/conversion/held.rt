@@ -37,8 +37,9 @@ pub(crate) fn gather<W: Write>(
     ensures { Gathers (W.contents writer.old) lines.old.items (quad_text quad.now) result
         (W.contents writer.new) lines.new.items }
 {
-    if write_quad(alloc, quad, lines).is_err() {
-        return finish(lines.as_slice(), writer, Err(ConvertFault::NoMemory));
+    if let Err(refused) = write_quad(alloc, quad, lines) {
+        let answer = Err(ConvertFault::NoMemory(refused));
+        return finish(lines.as_slice(), writer, answer);
     }
     if lines.len() < PIECE {
         return Ok(());

@@ -18,7 +18,7 @@ fn fault_of(fault: LineFault) -> ConvertFault
 {
     match fault.kind {
         FaultKind::Read => ConvertFault::Read,
-        FaultKind::NoMemory => ConvertFault::NoMemory,
+        FaultKind::NoMemory(refused) => ConvertFault::NoMemory(refused),
         FaultKind::NotUtf8 | FaultKind::Syntax | FaultKind::Relative | FaultKind::Failed => {
             ConvertFault::Document(DocumentFault::Line(fault))
         }
@@ -52,8 +52,9 @@ fn convert_from<R: Read + Drop, W: Write>(
 {
     answers_are_the_document();
     each_text_is_one_document();
-    let Ok(mut document) = LineReader::new(alloc, format, reader) else {
-        return Err(ConvertFault::NoMemory);
+    let mut document = match LineReader::new(alloc, format, reader) {
+        Ok(document) => document,
+        Err(refused) => return Err(ConvertFault::NoMemory(refused)),
     };
     let mut lines = Vec::new(alloc);
     loop {

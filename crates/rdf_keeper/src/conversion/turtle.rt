@@ -17,7 +17,7 @@ fn turtle_fault(fault: TurtleFault) -> ConvertFault
     ensures { result ≡ turtle_fault fault fault.kind }
 {
     match fault.kind {
-        TurtleFaultKind::NoMemory => ConvertFault::NoMemory,
+        TurtleFaultKind::NoMemory(refused) => ConvertFault::NoMemory(refused),
         TurtleFaultKind::NotUtf8
         | TurtleFaultKind::Token
         | TurtleFaultKind::TooDeep
@@ -45,7 +45,7 @@ pub(crate) fn convert_turtle<R: Read, W: Write>(
             Err(fault) => Err(turtle_fault(fault)),
         },
         Ending::Failed => Err(ConvertFault::Read),
-        Ending::NoMemory => Err(ConvertFault::NoMemory),
+        Ending::NoMemory(refused) => Err(ConvertFault::NoMemory(refused)),
     }
 }
 

@@ -10,6 +10,7 @@ use crate::short_line::{append, append_place};
 use crate::streams::writing::write_whole;
 use arrayvec::ArrayVec;
 use rdf_session::KeeperFault;
+use rdf_terms::NoMemory;
 use std::io::Write;
 
 /// How the program ends.
@@ -32,7 +33,9 @@ pub(crate) enum Outcome {
     /// A write failed.
     WriteFailed,
     /// A growth was refused.
-    NoMemory,
+    NoMemory(NoMemory),
+    /// Memory was wanting inside the parser of words, which shows no refusal.
+    ParserNoMemory,
 }
 
 /// How a conversion ends the program.
@@ -44,7 +47,7 @@ pub(crate) fn outcome_of(answer: Result<(), ConvertFault>) -> Outcome
         Err(ConvertFault::Document(fault)) => Outcome::BadDocument(fault),
         Err(ConvertFault::Read) => Outcome::ReadFailed,
         Err(ConvertFault::Write) => Outcome::WriteFailed,
-        Err(ConvertFault::NoMemory) => Outcome::NoMemory,
+        Err(ConvertFault::NoMemory(refused)) => Outcome::NoMemory(refused),
     }
 }
 
@@ -56,7 +59,7 @@ fn status_of(outcome: &Outcome) -> u8
         Outcome::SomeRefused | Outcome::BadDocument(_) => 1,
         Outcome::BadWords | Outcome::BadBase | Outcome::BadData(_) => 2,
         Outcome::ReadFailed | Outcome::WriteFailed => 3,
-        Outcome::NoMemory => 4,
+        Outcome::NoMemory(_) | Outcome::ParserNoMemory => 4,
     }
 }
 
@@ -119,7 +122,7 @@ fn error_line(outcome: &Outcome) -> ArrayVec<u8, 64>
         Outcome::BadData(fault) => refused_data(*fault),
         Outcome::ReadFailed => plain(b"rdfkeep: read failed\n"),
         Outcome::WriteFailed => plain(b"rdfkeep: write failed\n"),
-        Outcome::NoMemory => plain(b"rdfkeep: no memory\n"),
+        Outcome::NoMemory(_) | Outcome::ParserNoMemory => plain(b"rdfkeep: no memory\n"),
     }
 }
 

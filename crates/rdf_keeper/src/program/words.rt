@@ -10,6 +10,7 @@ use crate::script::command::format_named;
 use clap::error::ErrorKind;
 use clap::{Arg, ArgAction, ArgMatches, Command, Error};
 use rdf_session::Format;
+use rdf_terms::NoMemory;
 use std::alloc::{AllocError, Global};
 
 /// A session: its base, the data that it begins with, and its script.
@@ -44,12 +45,14 @@ pub(crate) enum Asked<'a> {
 pub(crate) enum WordsFault {
     /// They are no command line of the program. The text, for standard error, says why.
     Usage(String),
-    NoMemory,
+    NoMemory(NoMemory),
+    /// Memory was wanting inside `clap`, which shows no refusal.
+    ParserNoMemory,
 }
 
 impl From<AllocError> for WordsFault {
-    fn from(_e: AllocError) -> WordsFault {
-        WordsFault::NoMemory
+    fn from(e: AllocError) -> WordsFault {
+        WordsFault::NoMemory(NoMemory::from(e))
     }
 }
 
@@ -151,7 +154,7 @@ fn asked_or_shown<'a>(alloc: Global, error: &Error) -> Result<Asked<'a>, WordsFa
     let text = error.to_string(alloc)?;
     match error.kind() {
         ErrorKind::DisplayHelp | ErrorKind::DisplayVersion => Ok(Asked::Shown(text)),
-        ErrorKind::OutOfMemory => Err(WordsFault::NoMemory),
+        ErrorKind::OutOfMemory => Err(WordsFault::ParserNoMemory),
         _ => Err(WordsFault::Usage(text)),
     }
 }

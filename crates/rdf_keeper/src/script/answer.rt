@@ -89,7 +89,7 @@ fn marked(alloc: Global, reply: Result<(), NoMemory>) -> Answer
 {
     match reply {
         Ok(()) => done(alloc),
-        Err(NoMemory) => without_payload(alloc, Err(KeeperFault::NoMemory)),
+        Err(refused) => without_payload(alloc, Err(KeeperFault::NoMemory(refused))),
     }
 }
 
@@ -125,7 +125,7 @@ fn show(alloc: Global, keeper: &Keeper, listing: Listing) -> Answer
             line: count_line(count),
             refused: false,
         },
-        Err(NoMemory) => without_payload(alloc, Err(KeeperFault::NoMemory)),
+        Err(refused) => without_payload(alloc, Err(KeeperFault::NoMemory(refused))),
     }
 }
 

@@ -136,6 +136,6 @@ pub fn run<R: Read, W: Write>(
                 settings.stop,
             )
         }
-        Ending::NoMemory => Status::NoMemory,
+        Ending::NoMemory(refused) => Status::NoMemory(refused),
     }
 }

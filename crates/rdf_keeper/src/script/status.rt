@@ -2,6 +2,8 @@
 ghost use Rattle.std.specs.Prelude.{◌≡◌};
 ghost use Rattle.rdf_keeper.specs.Script.Statuses.{status_code};
 
+use rdf_terms::NoMemory;
+
 /// How a session ended.
 #[derive(Clone, Copy, Debug, PartialEq, Eq)]
 pub enum Status {
@@ -14,7 +16,7 @@ pub enum Status {
     /// A write call failed, or took nothing.
     WriteFailed,
     /// Memory was wanting for the session itself.
-    NoMemory,
+    NoMemory(NoMemory),
 }
 
 impl Status {
@@ -26,7 +28,7 @@ impl Status {
             Status::Accepted => 0,
             Status::Refused => 1,
             Status::ReadFailed | Status::WriteFailed => 3,
-            Status::NoMemory => 4,
+            Status::NoMemory(_) => 4,
         }
     }
 }

@@ -3,6 +3,7 @@ ghost use Rattle.std.specs.Prelude.{◌≡◌, ℕ, List, length};
 ghost use Rattle.std.specs.Io.KnownBytes.{Consumes, IsAtEnd};
 ghost use Rattle.rdf_keeper.specs.Inside.Streams.{ReadsTo};
 
+use rdf_terms::NoMemory;
 use std::alloc::Global;
 use std::io::Read;
 
@@ -11,7 +12,7 @@ use std::io::Read;
 pub enum Ending {
     AtEnd,
     Failed,
-    NoMemory,
+    NoMemory(NoMemory),
 }
 
 /// The read calls of one session.
@@ -26,11 +27,10 @@ pub fn read_all<R: Read>(reader: &mut R, held: &mut Vec<u8>) -> Ending
     for _ in 0..READ_CALLS {
         match reader.read(&mut buffer) {
             Ok(0) => return Ending::AtEnd,
-            Ok(n) => {
-                if held.extend_from_slice(&buffer[..n]).is_err() {
-                    return Ending::NoMemory;
-                }
-            }
+            Ok(n) => match held.extend_from_slice(&buffer[..n]) {
+                Ok(()) => {}
+                Err(refused) => return Ending::NoMemory(NoMemory::from(refused)),
+            },
             Err(_) => return Ending::Failed,
         }
     }

@@ -6,8 +6,8 @@ use Rattle.rdf_keeper.specs.Inside.Held.{Finishes}
 use Rattle.rdf_keeper.proofs.ConversionLemmas.Converts.{SoFar, none_read, nothing_yet, at_end, at_fault, gathered, gathered_fault}
 use Rattle.rdf_keeper.proofs.conversion.lines.convert_from.Goals as goal
 
-pub returns-in_default : goal.returns-in_default
-returns-in_default g c text e =
+pub returns-in-Err : goal.returns-in-Err
+returns-in-Err g c text e =
     none_read c.answers_are_the_document.ensures c.each_text_is_one_document.ensures c.args.format text (g.W.Write.contents c.args.writer.now)
 
 pub loop-quad-init : goal.loop-quad-init
@@ -44,12 +44,12 @@ returns-in-Ok-None g c text e =
     at_end c.answers_are_the_document.ensures c.each_text_is_one_document.ensures c.args.format text w now c.loop-quad.document c.next.new.self c.loop-quad.lines.items
     after c.finish.result far step (subst (λ (held : List ℕ). Finishes now held (Ok tt) c.finish.result after) c.as_slice.ensures.value c.finish.ensures)
 
-pub returns-in-Err : goal.returns-in-Err
-returns-in-Err g c text e =
+pub returns-in-Err-next : goal.returns-in-Err-next
+returns-in-Err-next g c text e =
     let w = g.W.Write.contents c.args.writer.now in
     let now = g.W.Write.contents c.loop-quad.writer in
-    let after = g.W.Write.contents c.finish-in-Err.new.writer in
+    let after = g.W.Write.contents c.finish-in-Err-next.new.writer in
     let far = subst (λ (r : Option (List ℕ)). SoFar w now (fresh c.args.format r) c.loop-quad.document c.loop-quad.lines.items) e c.loop-quad.invariant in
     at_fault c.answers_are_the_document.ensures c.each_text_is_one_document.ensures c.args.format text w now c.loop-quad.document c.next.new.self c.loop-quad.lines.items
-    after c.in-Err.fault c.fault_of.result c.finish-in-Err.result far c.in-Err.ensures.step c.fault_of.ensures
-    (subst (λ (held : List ℕ). Finishes now held (Err c.fault_of.result) c.finish-in-Err.result after) c.as_slice-in-Err.ensures.value c.finish-in-Err.ensures)
+    after c.in-Err-next.fault c.fault_of.result c.finish-in-Err-next.result far c.in-Err-next.ensures.step c.fault_of.ensures
+    (subst (λ (held : List ℕ). Finishes now held (Err c.fault_of.result) c.finish-in-Err-next.result after) c.as_slice-in-Err-next.ensures.value c.finish-in-Err-next.ensures)
