@@ -39,7 +39,7 @@ impl Attempt {
     fn is_refused(&self, wanted: &[u8]) -> bool {
         let is_refusal = matches!(
             self.answer,
-            Err(ConvertFault::NoMemory) | Err(ConvertFault::Write)
+            Err(ConvertFault::NoMemory(_)) | Err(ConvertFault::Write)
         );
         is_refusal && wanted.starts_with(self.output.as_slice())
     }
@@ -63,7 +63,7 @@ fn lines(alloc: Global) -> bool {
 
 fn base(alloc: Global) -> Option<Iri> {
     match Iri::new(alloc, "a:b") {
-        Err(IriFault::NoMemory) => Iri::new(alloc, "a:b").ok(),
+        Err(IriFault::NoMemory(_)) => Iri::new(alloc, "a:b").ok(),
         made => made.ok(),
     }
 }

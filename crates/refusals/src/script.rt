@@ -20,7 +20,11 @@ fn script(alloc: Global) -> Option<bool> {
         return Some(true);
     }
     // a command, or the session itself, was refused
-    if status != Status::Refused && status != Status::NoMemory && status != Status::WriteFailed {
+    let is_refusal = matches!(
+        status,
+        Status::Refused | Status::NoMemory(_) | Status::WriteFailed
+    );
+    if !is_refusal {
         return None;
     }
     let (output, status) = ran(alloc);

@@ -96,7 +96,7 @@ fn counts(added: u64, removed: u64) -> Counts {
 // that is still at the place.
 fn survives(alloc: Global, keeper: &mut Keeper, command: Command, before: Place) -> Option<Counts> {
     let answer = done(keeper, command);
-    if answer != Err(KeeperFault::NoMemory) {
+    if !matches!(answer, Err(KeeperFault::NoMemory(_))) {
         return answer.ok();
     }
     if is_at(alloc, keeper, before) {
@@ -118,10 +118,8 @@ fn done(keeper: &mut Keeper, command: Command) -> Result<Counts, KeeperFault> {
 }
 
 fn marked(keeper: &mut Keeper, name: &[u8]) -> Result<Counts, KeeperFault> {
-    match keeper.mark(name) {
-        Ok(()) => Ok(counts(0, 0)),
-        Err(_) => Err(KeeperFault::NoMemory),
-    }
+    keeper.mark(name)?;
+    Ok(counts(0, 0))
 }
 
 // Whether the session shows what it should at the place, and has its cursor and marks there.

@@ -1,5 +1,5 @@
 //! One term of each kind: made, copied and written.
-use rdf_terms::{Iri, IriFault, Literal, NoMemory, Term, Text, write_term};
+use rdf_terms::{Iri, IriFault, Literal, Term, Text, write_term};
 use std::alloc::Global;
 
 /// Whether each term that is made, copied and written anew after a refusal is written as it should
@@ -14,7 +14,7 @@ pub fn outcome(alloc: Global) -> &'static str {
 
 fn iri(alloc: Global) -> Option<bool> {
     let made = match Iri::new(alloc, "a:b") {
-        Err(IriFault::NoMemory) => Iri::new(alloc, "a:b"),
+        Err(IriFault::NoMemory(_)) => Iri::new(alloc, "a:b"),
         made => made,
     };
     Some(is_kept(alloc, &Term::Iri(made.ok()?), b"ab<a:b>"))
@@ -22,11 +22,11 @@ fn iri(alloc: Global) -> Option<bool> {
 
 fn typed(alloc: Global) -> Option<bool> {
     let datatype = match Iri::new(alloc, "a:d") {
-        Err(IriFault::NoMemory) => Iri::new(alloc, "a:d").ok()?,
+        Err(IriFault::NoMemory(_)) => Iri::new(alloc, "a:d").ok()?,
         made => made.ok()?,
     };
     let lexical = match Text::new(alloc, "1\n") {
-        Err(NoMemory) => Text::new(alloc, "1\n").ok()?,
+        Err(_) => Text::new(alloc, "1\n").ok()?,
         Ok(lexical) => lexical,
     };
     let literal = Literal::from_text(lexical, datatype);
@@ -35,7 +35,7 @@ fn typed(alloc: Global) -> Option<bool> {
 
 fn tagged(alloc: Global) -> Option<bool> {
     let made = match Literal::tagged(alloc, "x", "EN") {
-        Err(NoMemory) => Literal::tagged(alloc, "x", "EN").ok()?,
+        Err(_) => Literal::tagged(alloc, "x", "EN").ok()?,
         Ok(made) => made,
     };
     Some(is_kept(alloc, &Term::Literal(made?), b"ab\"x\"@en"))
@@ -44,7 +44,7 @@ fn tagged(alloc: Global) -> Option<bool> {
 // Writes a copy of the term behind `ab`.
 fn is_kept(alloc: Global, term: &Term, wanted: &[u8]) -> bool {
     let copied = match term.copy() {
-        Err(NoMemory) => term.copy(),
+        Err(_) => term.copy(),
         copied => copied,
     };
     match (copied, begun(alloc)) {

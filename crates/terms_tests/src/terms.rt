@@ -1,6 +1,6 @@
 //! Values from outside, each call once, and what no clause says.
 use rdf_terms::*;
-use std::alloc::Global;
+use std::alloc::{AllocError, Global};
 use std::cmp::Ordering;
 use std::test::Fail;
 
@@ -73,8 +73,9 @@ fn iris_from_texts(rt: HostRuntime) -> Result<(), Fail> {
 fn fault_names(rt: HostRuntime) {
     assert_eq!(rt; IriFault::Relative.name(), "Relative");
     assert_eq!(rt; IriFault::BadCharacter.name(), "BadCharacter");
-    assert_eq!(rt; IriFault::NoMemory.name(), "NoMemory");
-    assert_eq!(rt; NoMemory.name(), "NoMemory");
+    let refused = NoMemory::from(AllocError);
+    assert_eq!(rt; IriFault::from(refused).name(), "NoMemory");
+    assert_eq!(rt; refused.name(), "NoMemory");
 }
 
 #[test]
