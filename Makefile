@@ -1,7 +1,7 @@
 # Builds, runs and checks rdfkeep. It needs make, Python 3.8 and the Rattle toolchain's command `rt`, and no network.
 #
 #   make           the program, proved and built, at ./rdfkeep
-#   make test      every proof and test, every wrong body in batches, every refused allocation, every file test
+#   make test      every proof and test, every wrong body in batches, every refused allocation and where a refusal may come of, every file test
 #   make gate      every proof and test, and every wrong body in a check of its own: the same, by rt ci alone, in hours
 #
 # A second call does nothing again that is done.
