@@ -4,7 +4,6 @@ use Rattle.rdf_dataset.specs.State.{State}
 use Rattle.rdf_terms.specs.Quad.{QuadParts}
 use Rattle.sparql_eval.specs.Operations.{Leads, Refuses}
 use Rattle.sparql_eval.specs.declared.fault.ApplyFault.TheVariants as obstacle
-use Rattle.sparql_trees.specs.Data.{DataParts}
 use Rattle.sparql_trees.specs.declared.operation.Operation.{Operation}
 use Rattle.sparql_trees.specs.declared.operation.Operation.TheVariants.{InsertData}
 use Rattle.rdf_session.specs.Documents.{IsDocument}
