@@ -1,4 +1,5 @@
-use Rattle.std.proofs.Common.{◌≡◌, ◌∙◌, sym, subst, true, map, drop, ◌+◌, arith}
+use Rattle.std.proofs.Common.{◌≡◌, ◌∙◌, sym, subst, true, map, drop, ◌+◌, arith, rules}
+use Rattle.std.proofs.lemmas.List.{take_rest}
 use Rattle.std.specs.List.{list_all}
 use Rattle.sparql_syntax.specs.Known.{known_node, known_property}
 use Rattle.sparql_syntax.specs.Meaning as spec
@@ -62,3 +63,10 @@ properties-loop-property-preserved t c =
       takes = omega (arith, c.loop-property.invariant.takes, c.in_ok-property.ensures.room);
       least = omega (arith, c.loop-property.invariant.least, c.in_ok-property.ensures.says);
     }
+
+pub elements-behind-requires : goal.elements-behind-requires
+elements-behind-requires t c =
+    let same : c.first_element.new.self.prologue ≡ c.args.self.now.prologue = c.first_element.ensures.prologue in
+    let known : list_all holds (map (known_node (declared c.first_element.new.self.prologue)) (drop 1 c.args.items.now)) ≡ true =
+    subst (λ (p : Prologue). list_all holds (map (known_node (declared p)) (drop 1 c.args.items.now)) ≡ true) (sym same) c.requires.known_rest in
+    (rw (take_rest c.args.items.now 1) (search rules), (rw (take_rest c.args.items.now 1) known, (rw (take_rest c.args.items.now 1) c.requires.proper_rest, omega (arith, c.requires.room, c.in_ok-first_element-in-len1-up.ensures.room))))
