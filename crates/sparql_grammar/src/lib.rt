@@ -11,7 +11,6 @@ mod stop;
 mod terminal;
 mod tree;
 mod update;
-mod words;
 
 pub use laws::{lexemes_have_forms, one_request_tree};
 pub use lexeme::Lexeme;
