@@ -5,12 +5,13 @@ pub mod GrammarNodes
 pub mod GrammarProper
 pub mod GrammarTriples
 pub mod GrammarWords
-pub mod ProfileTokens
-pub mod Trees
-pub mod Turns
 pub mod OperationData
 pub mod OperationNests
 pub mod OperationParts
 pub mod OperationProductions
+pub mod OperationProper
 pub mod OperationTurns
 pub mod OperationWhole
+pub mod ProfileTokens
+pub mod Trees
+pub mod Turns

@@ -1,6 +1,5 @@
 -- Data are read just as they are derived, over a rule for triples.
-use Rattle.std.proofs.Common.{◌≡◌, ◌<◌, ◌≤◌, Bool, true, false, List, [], ◌∷◌, length, Option, Some, None, refl, ◌∙◌, ap, arith, inl, inr, ◌⊎◌}
-use Rattle.rdf_grammar.specs.Steps as steps
+use Rattle.std.proofs.Common.{◌≡◌, ◌<◌, Bool, true, false, List, [], ◌∷◌, length, Option, Some, None, refl, ◌∙◌, ap, arith}
 use Rattle.rdf_grammar.specs.Readings as reading
 use Rattle.rdf_grammar.specs.Terminals.{next_terminal}
 use Rattle.rdf_grammar.specs.Derivations as grammar
@@ -13,7 +12,6 @@ use Rattle.sparql_grammar.specs.declared.terminal.Terminal.TheVariants as termin
 use Rattle.sparql_grammar.specs.declared.tree.Block.{Block}
 use Rattle.sparql_grammar.specs.declared.tree.Operation.{Operation}
 use Rattle.sparql_grammar.specs.declared.tree.Triples.{Triples}
-use Rattle.sparql_grammar.specs.Lexemes as lexemes
 use Rattle.sparql_grammar.specs.Lexemes.{Lexemes, Reading, sees, Derives, Test}
 use Rattle.sparql_grammar.specs.OperationGrammar as g
 use Rattle.sparql_grammar.specs.OperationReading as read

@@ -24,7 +24,7 @@ use Rattle.sparql_grammar.specs.OperationReading as read
 use Rattle.sparql_grammar.specs.Reading.{all_of}
 use Rattle.sparql_grammar.specs.Terminals.{bracket}
 use Rattle.sparql_grammar.proofs.GrammarNests.{iri_keeps, var_or_iri_keeps, triples_keep}
-use Rattle.sparql_grammar.proofs.OperationParts.{Nothing, Ended, EndedOperation, APart}
+use Rattle.sparql_grammar.proofs.OperationParts.{Ended, APart}
 
 -- what stands where so many brackets are open
 module _ (limit b : ℕ) where

@@ -1,5 +1,5 @@
 -- The parts of a request are read just as they are derived.
-use Rattle.std.proofs.Common.{◌≡◌, ◌<◌, ◌≤◌, Bool, true, false, List, [], ◌∷◌, ◌++◌, length, Option, Some, None, refl, sym, ◌∙◌, ap, arith, inl, inr, ◌⊎◌, append_assoc}
+use Rattle.std.proofs.Common.{◌≡◌, ◌<◌, ◌≤◌, Bool, true, false, List, [], ◌∷◌, ◌++◌, length, Option, Some, refl, sym, ◌∙◌, ap, arith, inl, inr, append_assoc}
 use Rattle.rdf_grammar.specs.Steps as steps
 use Rattle.rdf_grammar.specs.Readings as reading
 use Rattle.rdf_grammar.specs.Readings.{any, is_more}
@@ -21,7 +21,7 @@ use Rattle.sparql_grammar.specs.Lexemes.{Lexeme, Lexemes, Reading, Outcome, sees
 use Rattle.sparql_grammar.specs.OperationGrammar as g
 use Rattle.sparql_grammar.specs.OperationReading as read
 use Rattle.sparql_grammar.specs.Terminals.{same_terminal, apart}
-use Rattle.sparql_grammar.proofs.OperationProductions.{PrefixRest, prefix_decides, base_decides, CreateRest, create_decides, OnGraphsRest, on_graphs_decides, BetweenRest, between_decides}
+use Rattle.sparql_grammar.proofs.OperationProductions.{prefix_decides, base_decides, create_decides, on_graphs_decides, between_decides}
 use Rattle.sparql_grammar.proofs.OperationData.{IsTemplateRule, DataRest, data_decides}
 
 -- ---- the end of an operation: ";" or no more lexemes

@@ -1,5 +1,5 @@
 -- Declarations and operations on graphs are read just as they are derived.
-use Rattle.std.proofs.Common.{◌≡◌, ◌<◌, ◌≤◌, Bool, true, false, cond, length, Option, Some, None, refl, ap, arith, inl, inr, ◌⊎◌}
+use Rattle.std.proofs.Common.{◌≡◌, ◌≤◌, Bool, true, false, length, Option, Some, None, refl, arith, inl, inr, ◌⊎◌}
 use Rattle.std.specs.Prelude.{is_some}
 use Rattle.rdf_grammar.specs.declared.tree.Name.{Name}
 use Rattle.rdf_grammar.specs.Steps as steps
@@ -11,7 +11,7 @@ use Rattle.rdf_grammar.specs.Derivations as grammar
 use Rattle.rdf_grammar.specs.Derivations.{Then}
 use Rattle.rdf_grammar.proofs.Combinators.{seq, last, maybe_decides}
 use Rattle.rdf_grammar.proofs.Decides.{always, Decides, then_decides, pure_decides}
-use Rattle.rdf_grammar.proofs.Terminals.{the_decides, value_decides, namespace_decides, after_terminal, the_terminal, terminal_seen, unseen, any_the, word_sound, word_complete, word_strict}
+use Rattle.rdf_grammar.proofs.Terminals.{the_decides, value_decides, namespace_decides, after_terminal, the_terminal, terminal_seen, unseen, word_sound, word_complete, word_strict}
 use Rattle.sparql_grammar.specs.declared.terminal.Terminal.{Terminal}
 use Rattle.sparql_grammar.specs.declared.terminal.Terminal.TheVariants as terminal
 use Rattle.sparql_grammar.specs.declared.tree.GraphOrDefault.{GraphOrDefault}

@@ -1,5 +1,5 @@
 -- All of the lexemes.
-use Rattle.std.proofs.Common.{◌≡◌, ℕ, suc, ◌+◌, ◌<◌, ◌≤◌, true, List, [], take, length, Option, Some, None, refl, ap, sym, ◌∙◌, arith, inl, inr, ◌⊎◌}
+use Rattle.std.proofs.Common.{◌≡◌, ℕ, suc, ◌<◌, ◌≤◌, true, List, [], take, length, Option, Some, None, refl, ap, sym, ◌∙◌, arith, inl, inr, ◌⊎◌}
 use Rattle.std.specs.Prelude.{MatchOption}
 use Rattle.rdf_grammar.specs.declared.fault.GrammarFault.{GrammarFault}
 use Rattle.rdf_grammar.specs.declared.fault.GrammarFault.TheVariants.{Syntax, NoMemory}
@@ -15,13 +15,14 @@ use Rattle.sparql_grammar.specs.declared.tree.Triples.{Triples}
 use Rattle.sparql_grammar.specs.Grammar.{Nodes_at, TriplesTemplate}
 use Rattle.sparql_grammar.specs.Lexemes.{Lexemes, Reading, Derives}
 use Rattle.sparql_grammar.specs.Nesting.{open_after, IsTooDeep, IsTooDeepAt}
-use Rattle.sparql_grammar.specs.OperationGrammar.{IsRequest, Update1, OneRequest}
+use Rattle.sparql_grammar.specs.OperationGrammar.{IsRequest, Update1}
 use Rattle.sparql_grammar.specs.OperationReading.{request}
 use Rattle.sparql_grammar.specs.Reading.{node, triples_template}
+use Rattle.sparql_grammar.specs.RequestLaws.{OneRequest}
 use Rattle.sparql_grammar.specs.Stops.{Explains, kind_of}
 use Rattle.sparql_grammar.specs.Terminals.{bracket}
-use Rattle.sparql_grammar.proofs.GrammarTriples.{triples_decides, triples_begin, closes_template, ends_template}
-use Rattle.sparql_grammar.proofs.OperationData.{closes_triples, ends_triples, IsTemplateRule}
+use Rattle.sparql_grammar.proofs.GrammarTriples.{triples_decides, triples_begin, closes_template}
+use Rattle.sparql_grammar.proofs.OperationData.{closes_triples, IsTemplateRule}
 use Rattle.sparql_grammar.proofs.OperationNests.{PartsAt, parts_within}
 use Rattle.sparql_grammar.proofs.OperationParts.{operation_strict, parts_sound, parts_complete, parts_of, update_of}
 
@@ -65,7 +66,7 @@ request_complete : (depth : ℕ) (ts : Lexemes) (parts : List Part) → PartsAt 
 unfolding request
 request_complete depth ts parts h = parts_complete (template depth) (inner depth) (Template depth) (Inner depth) (template_rule (suc depth)) (template_rule depth) ts parts h
 
-parts_are : (ts : Lexemes) (parts : List Part) → (d : IsRequest ts parts) → PartsAt d.0 ts parts []
+pub parts_are : (ts : Lexemes) (parts : List Part) → (d : IsRequest ts parts) → PartsAt d.0 ts parts []
 parts_are ts parts d = parts_of (Update1 (Template d.0) (Inner d.0)) (strict d.0) ts [] parts refl d.1
 
 -- where so many brackets are open at most

@@ -7,6 +7,7 @@ pub mod OperationReading
 pub mod Profile
 pub mod Proper
 pub mod Reading
+pub mod RequestLaws
 pub mod Stops
 pub mod Terminals
 pub mod WordGrammar

@@ -1,5 +1,5 @@
 -- Requests as they are written (SPARQL 1.1 Query, section 19.8, by the numbers of its rules), with no look at the next lexeme.
-use Rattle.std.specs.Prelude.{◌≡◌, ℕ, suc, Bool, List, [], ◌∷◌, ◌++◌, Option, Some, None, is_some}
+use Rattle.std.specs.Prelude.{ℕ, suc, Bool, List, [], ◌∷◌, ◌++◌, Some, None, is_some}
 use Rattle.rdf_grammar.specs.Derivations.{◌>>=◌, ◌>>◌, ◌<$>◌, ◌∣◌, pure, the, value, namespace, one, maybe, Star}
 use Rattle.rdf_grammar.specs.declared.tree.Name.{Name}
 use Rattle.sparql_grammar.specs.declared.terminal.Terminal.{Terminal}
@@ -14,7 +14,6 @@ use Rattle.sparql_grammar.specs.declared.tree.Operation.TheVariants as o
 use Rattle.sparql_grammar.specs.declared.tree.Part.{Part}
 use Rattle.sparql_grammar.specs.declared.tree.Part.TheVariants as p
 use Rattle.sparql_grammar.specs.declared.tree.Triples.{Triples}
-use Rattle.sparql_grammar.specs.declared.tree.VarOrIri.{VarOrIri}
 use Rattle.sparql_grammar.specs.Lexemes.{Lexemes, Derives}
 use Rattle.sparql_grammar.specs.Grammar.{AVarOrIri, Nodes_at, TriplesTemplate}
 use Rattle.sparql_grammar.specs.OperationReading.{block}
@@ -159,7 +158,3 @@ pub data Update (Operation' : Derives Operation) : Lexemes → List Part → Lex
 -- All of the lexemes are this request. Its brackets may nest as deep as they do.
 abbrev pub IsRequest : Lexemes → List Part → Type 0
 IsRequest ts parts = (depth : ℕ) × Update (Update1 (TriplesTemplate (Nodes_at (suc depth))) (TriplesTemplate (Nodes_at depth))) ts parts []
-
--- no lexemes are two requests
-abbrev pub OneRequest : Type 0
-OneRequest = (ts : Lexemes) (one other : List Part) → IsRequest ts one → IsRequest ts other → one ≡ other

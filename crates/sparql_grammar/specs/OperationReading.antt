@@ -1,6 +1,6 @@
 -- Requests (SPARQL 1.1 Query, section 19.8), a definition for each production. Where a production has alternatives the next
 -- lexeme chooses.
-use Rattle.std.specs.Prelude.{ℕ, suc, Bool, true, false, if◌then◌else◌, List, [], ◌∷◌, Option, Some, None}
+use Rattle.std.specs.Prelude.{ℕ, suc, Bool, if◌then◌else◌, List, [], ◌∷◌, Option, Some, None}
 use Rattle.rdf_grammar.specs.Steps.{◌>>=◌, ◌>>◌, ◌<$>◌, pure, none}
 use Rattle.rdf_grammar.specs.Terminals.{peek}
 use Rattle.rdf_grammar.specs.Readings.{any, choose, is_more, next, one, optional, repeat}
@@ -18,7 +18,7 @@ use Rattle.sparql_grammar.specs.declared.tree.Part.{Part}
 use Rattle.sparql_grammar.specs.declared.tree.Part.TheVariants as p
 use Rattle.sparql_grammar.specs.declared.tree.Triples.{Triples}
 use Rattle.sparql_grammar.specs.declared.tree.VarOrIri.{VarOrIri}
-use Rattle.sparql_grammar.specs.Lexemes.{Lexemes, Reading, sees, the, value, namespace}
+use Rattle.sparql_grammar.specs.Lexemes.{Reading, sees, the, value, namespace}
 use Rattle.sparql_grammar.specs.Reading.{all_of, node, sees_node, triples_template, var_or_iri}
 use Rattle.sparql_grammar.specs.WordReading.{iri}
 
@@ -179,3 +179,10 @@ module _ (template inner : Reading (List Triples)) where
 -- The number is how many brackets may be open from GRAPH's braces on.
 unfoldable pub request : ℕ → Reading (List Part)
 request depth = update (triples_template (node (suc depth))) (triples_template (node depth))
+
+-- At most 100 brackets are open at once: triples in the braces of data, and in GRAPH's.
+abbrev pub in_data : Reading (List Triples)
+in_data = triples_template (node 100)
+
+abbrev pub in_graph : Reading (List Triples)
+in_graph = triples_template (node 99)

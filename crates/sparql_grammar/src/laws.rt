@@ -1,11 +1,18 @@
 //! What holds of each request and its tree.
 ghost use Rattle.sparql_grammar.specs.Lexemes.{LexemesHaveForms};
-ghost use Rattle.sparql_grammar.specs.OperationGrammar.{OneRequest};
+ghost use Rattle.sparql_grammar.specs.RequestLaws.{OneRequest, RequestsAreProper};
 
 /// No lexemes are two requests (SPARQL 1.1 Query, section 19.8): the grammar has one tree at most
 /// for them, however deep their brackets nest.
 pub fn one_request_tree()
     ensures { OneRequest }
+{}
+
+/// The parts of a text's request are proper: prefixed names have local parts that may stand in an
+/// IRI, tags are tags, each verb has an object, and each subject has properties, behind it or
+/// inside.
+pub fn requests_are_proper()
+    ensures { RequestsAreProper }
 {}
 
 /// The lexemes of a text have the forms of its tokens.

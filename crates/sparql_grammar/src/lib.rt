@@ -12,7 +12,7 @@ mod terminal;
 mod tree;
 mod update;
 
-pub use laws::{lexemes_have_forms, one_request_tree};
+pub use laws::{lexemes_have_forms, one_request_tree, requests_are_proper};
 pub use lexeme::Lexeme;
 pub use outside::first_outside;
 pub use stop::{Stop, StopKind};

@@ -150,7 +150,8 @@ fn triples<'a>(
     parser: &mut Parser<'_, 'a>,
     depth: usize,
 ) -> Result<Items<Triples<'a>>, GrammarFault>
-    ensures reads { Reads (spec.triples (triples_template (node depth)) parser.old) result parser.new }
+    ensures reads { Reads
+        (spec.triples (triples_template (node depth)) parser.old) result parser.new }
     ensures shorter { OnOk result (length parser.new ≤ length parser.old) }
 {
     if !begins_node(parser.peek()) {
@@ -161,7 +162,7 @@ fn triples<'a>(
 
 #[tactic(auto, unfolding(crate::specs::OperationReading::default_block))]
 fn default_block<'a>(parser: &mut Parser<'_, 'a>) -> Result<Block<'a>, GrammarFault>
-    ensures reads { Reads (spec.default_block (triples_template (node 100)) parser.old) result parser.new }
+    ensures reads { Reads (spec.default_block spec.in_data parser.old) result parser.new }
     ensures shorter { OnOk result (length parser.new ≤ length parser.old) }
 {
     Ok(Block {
@@ -172,7 +173,7 @@ fn default_block<'a>(parser: &mut Parser<'_, 'a>) -> Result<Block<'a>, GrammarFa
 
 #[tactic(auto, unfolding(crate::specs::OperationReading::named_block))]
 fn named_block<'a>(parser: &mut Parser<'_, 'a>) -> Result<Block<'a>, GrammarFault>
-    ensures reads { Reads (spec.named_block (triples_template (node 99)) parser.old) result parser.new }
+    ensures reads { Reads (spec.named_block spec.in_graph parser.old) result parser.new }
     ensures shorter { OnOk result (length parser.new < length parser.old) }
 {
     parser.expect(Terminal::Graph)?;
@@ -188,7 +189,7 @@ fn named_block<'a>(parser: &mut Parser<'_, 'a>) -> Result<Block<'a>, GrammarFaul
 
 #[tactic(auto, unfolding(crate::specs::OperationReading::quads))]
 fn quads<'a>(parser: &mut Parser<'_, 'a>) -> Result<Items<Block<'a>>, GrammarFault>
-    ensures reads { Reads (spec.quads (triples_template (node 100)) (triples_template (node 99)) parser.old) result parser.new }
+    ensures reads { Reads (spec.quads spec.in_data spec.in_graph parser.old) result parser.new }
     ensures shorter { OnOk result (length parser.new ≤ length parser.old) }
 {
     let mut blocks = Items::new(parser.alloc());
@@ -203,7 +204,7 @@ fn quads<'a>(parser: &mut Parser<'_, 'a>) -> Result<Items<Block<'a>>, GrammarFau
 
 #[tactic(auto, unfolding(crate::specs::OperationReading::quad_data))]
 fn quad_data<'a>(parser: &mut Parser<'_, 'a>) -> Result<Items<Block<'a>>, GrammarFault>
-    ensures reads { Reads (spec.quad_data (triples_template (node 100)) (triples_template (node 99)) parser.old) result parser.new }
+    ensures reads { Reads (spec.quad_data spec.in_data spec.in_graph parser.old) result parser.new }
     ensures shorter { OnOk result (length parser.new < length parser.old) }
 {
     parser.expect(Terminal::OpenBrace)?;
@@ -214,7 +215,9 @@ fn quad_data<'a>(parser: &mut Parser<'_, 'a>) -> Result<Items<Block<'a>>, Gramma
 
 #[tactic(auto, unfolding(crate::specs::OperationReading::data_of))]
 fn insert_data<'a>(parser: &mut Parser<'_, 'a>) -> Result<Operation<'a>, GrammarFault>
-    ensures reads { Reads (spec.data_of (triples_template (node 100)) (triples_template (node 99)) operation.InsertData parser.old) result parser.new }
+    ensures reads { Reads
+        (spec.data_of spec.in_data spec.in_graph operation.InsertData parser.old)
+        result parser.new }
     ensures shorter { OnOk result (length parser.new < length parser.old) }
 {
     parser.expect(Terminal::Data)?;
@@ -223,7 +226,9 @@ fn insert_data<'a>(parser: &mut Parser<'_, 'a>) -> Result<Operation<'a>, Grammar
 
 #[tactic(auto, unfolding(crate::specs::OperationReading::data_of))]
 fn delete_data<'a>(parser: &mut Parser<'_, 'a>) -> Result<Operation<'a>, GrammarFault>
-    ensures reads { Reads (spec.data_of (triples_template (node 100)) (triples_template (node 99)) operation.DeleteData parser.old) result parser.new }
+    ensures reads { Reads
+        (spec.data_of spec.in_data spec.in_graph operation.DeleteData parser.old)
+        result parser.new }
     ensures shorter { OnOk result (length parser.new < length parser.old) }
 {
     parser.expect(Terminal::Data)?;
@@ -232,7 +237,7 @@ fn delete_data<'a>(parser: &mut Parser<'_, 'a>) -> Result<Operation<'a>, Grammar
 
 #[tactic(auto, unfolding(crate::specs::OperationReading::operation, rdf_grammar::specs::Readings::any))]
 fn operation<'a>(parser: &mut Parser<'_, 'a>) -> Result<Operation<'a>, GrammarFault>
-    ensures reads { Reads (spec.operation (triples_template (node 100)) (triples_template (node 99)) parser.old) result parser.new }
+    ensures reads { Reads (spec.operation spec.in_data spec.in_graph parser.old) result parser.new }
     ensures shorter { OnOk result (length parser.new < length parser.old) }
 {
     match parser.peek() {
@@ -274,7 +279,8 @@ fn operation<'a>(parser: &mut Parser<'_, 'a>) -> Result<Operation<'a>, GrammarFa
 
 #[tactic(auto, unfolding(crate::specs::OperationReading::ended_operation))]
 fn ended_operation<'a>(parser: &mut Parser<'_, 'a>) -> Result<Part<'a>, GrammarFault>
-    ensures reads { Reads (spec.ended_operation (triples_template (node 100)) (triples_template (node 99)) parser.old) result parser.new }
+    ensures reads { Reads
+        (spec.ended_operation spec.in_data spec.in_graph parser.old) result parser.new }
     ensures shorter { OnOk result (length parser.new < length parser.old) }
 {
     let operation = operation(parser)?;
@@ -286,7 +292,7 @@ fn ended_operation<'a>(parser: &mut Parser<'_, 'a>) -> Result<Part<'a>, GrammarF
 
 #[tactic(auto, unfolding(crate::specs::OperationReading::part, rdf_grammar::specs::Readings::any))]
 fn part<'a>(parser: &mut Parser<'_, 'a>) -> Result<Part<'a>, GrammarFault>
-    ensures reads { Reads (spec.part (triples_template (node 100)) (triples_template (node 99)) parser.old) result parser.new }
+    ensures reads { Reads (spec.part spec.in_data spec.in_graph parser.old) result parser.new }
     ensures shorter { OnOk result (length parser.new < length parser.old) }
 {
     match parser.peek() {

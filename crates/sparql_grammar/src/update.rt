@@ -24,7 +24,8 @@ use std::alloc::Global;
 pub fn parse_update<'a>(alloc: Global, lexemes: &[Lexeme<'a>]) -> Result<Items<Part<'a>>, Stop>
     // What is read is derived from the lexemes, and nothing else is.
     ensures found { IfOk result (λ parts. IsRequest lexemes.now parts) }
-    ensures only { (parts : List Tree) → IsRequest lexemes.now parts → IfOk result (λ found. found ≡ parts) }
+    ensures only { (parts : List Tree) →
+        IsRequest lexemes.now parts → IfOk result (λ found. found ≡ parts) }
 
     ensures too_deep { IsTooDeep lexemes.now → IsErrAnd result (λ stop. stop.kind ≡ TooDeep) }
     ensures fault { IfErr result (λ stop. Explains lexemes.now stop.kind stop.place) }

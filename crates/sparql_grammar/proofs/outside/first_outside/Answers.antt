@@ -1,8 +1,7 @@
-use Rattle.std.proofs.Common.{rules}
 use Rattle.std.specs.Str.{chars}
 use Rattle.rdf_tokens.specs.declared.token.Kind.TheVariants.{Iri}
 use Rattle.rdf_tokens.proofs.CallerLemmas.{runs_have_forms, form_at}
-use Rattle.sparql_grammar.proofs.ProfileTokens.{inside_more, first_found}
+use Rattle.sparql_grammar.proofs.ProfileTokens.{first_found}
 use Rattle.sparql_grammar.proofs.outside.first_outside.Goals as goal
 
 pub is_outside-requires : goal.is_outside-requires
