@@ -1,5 +1,5 @@
 //! A set of items, kept as a sorted list without repeats.
-ghost use Rattle.std.specs.Prelude.{◌≡◌, [], ◌∷◌, ◌++◌, ◌≤◌, List, length, take, filter, not, IsOk, IfOk, IfErr, OnOk, OnErr, MatchOption};
+ghost use Rattle.std.specs.Prelude.{◌≡◌, [], ◌∷◌, ◌++◌, ◌≤◌, ◌+◌, List, length, take, filter, not, IsOk, IfOk, IfErr, OnOk, OnErr, MatchOption};
 ghost use Rattle.std.specs.FinSet as set;
 ghost use Rattle.std.specs.List.{AllByRecursion};
 ghost use Rattle.std.specs.List.Sorted.{IsStrictlySortedBy};
@@ -132,6 +132,20 @@ pub(crate) fn append_copy<T: Item>(out: &mut Vec<T>, item: &T) -> Result<(), NoM
     Ok(())
 }
 
+// How many both are. More than a list can hold are refused by the list itself.
+fn room_for_both<T: Item>(items: &[T], more: &mut Vec<T>) -> Result<usize, NoMemory>
+    ensures ok { IfOk result (λ room. room ≡ length items.now + length more.old.items) }
+    ensures kept { more.new.items ≡ more.old.items }
+{
+    match items.len().checked_add(more.len()) {
+        Some(room) => Ok(room),
+        None => {
+            more.reserve(items.len())?;
+            unreachable!()
+        }
+    }
+}
+
 // Merges two lists from their ends; the memory is taken before any item moves.
 fn merge_into<T: Item>(items: &mut Vec<T>, more: Vec<T>) -> Result<(), NoMemory>
     requires items { IsStrictlySortedBy T.order items.old.items }
@@ -140,11 +154,9 @@ fn merge_into<T: Item>(items: &mut Vec<T>, more: Vec<T>) -> Result<(), NoMemory>
     ensures ok { OnOk result (set.from_list {R = T.order} items.new.items ≡ set.union (set.from_list items.old.items) (set.from_list more.items)) }
     ensures err { OnErr result (items.new.items ≡ items.old.items) }
 {
-    let Some(room) = items.len().checked_add(more.len()) else {
-        return Err(NoMemory);
-    };
-    let mut merged = Vec::with_capacity(*items.allocator(), room)?;
     let mut more = more;
+    let room = room_for_both(items, &mut more)?;
+    let mut merged = Vec::with_capacity(*items.allocator(), room)?;
     while let Some(item) = pop_greatest(items, &mut more) {
         merged.push(item).unwrap();
     }

@@ -5,6 +5,7 @@ use Rattle.std.proofs.lemmas.Bool.{and_parts}
 use Rattle.std.proofs.lemmas.List.Folds.{list_any-append}
 use Rattle.std.specs.Str.{is_utf8}
 use Rattle.rdf_terms.specs.Iri.{is_iri, is_forbidden, has_scheme, has_forbidden}
+use Rattle.rdf_terms.specs.Names.{no_memory}
 use Rattle.rdf_terms.specs.Resolution.{Means}
 use Rattle.rdf_terms.specs.declared.fault.IriFault.{IriFault}
 use Rattle.rdf_terms.specs.declared.fault.IriFault.TheVariants as fault
@@ -38,9 +39,9 @@ behind_iri iri more h allowed =
 
 -- what has a scheme and no forbidden character is taken for an IRI
 pub never_refused : {A : Type 0} (r : Result A IriFault) (text : List ℕ) → has_scheme text ≡ true → has_forbidden text ≡ false
-    → (IsErrOf r fault.Relative ↔ (has_scheme text ≡ false)) → (IsErrOf r fault.BadCharacter ↔ IsTrue (has_scheme text && has_forbidden text)) → (IsErrOf r fault.NoMemory → ⊥)
+    → (IsErrOf r fault.Relative ↔ (has_scheme text ≡ false)) → (IsErrOf r fault.BadCharacter ↔ IsTrue (has_scheme text && has_forbidden text)) → (IsErrOf r no_memory → ⊥)
     → ((x : A) → r ≡ Ok x → ⊥) → ⊥
 never_refused (Ok x) text scheme allowed relative bad memory not_ok = not_ok x refl
 never_refused (Err fault.Relative) text scheme allowed relative bad memory not_ok = true≢false (sym scheme ∙ relative.0 refl)
 never_refused (Err fault.BadCharacter) text scheme allowed relative bad memory not_ok = true≢false (sym (and_parts (has_scheme text) (has_forbidden text) (bad.0 refl)).1 ∙ allowed)
-never_refused (Err fault.NoMemory) text scheme allowed relative bad memory not_ok = memory refl
+never_refused (Err (fault.NoMemory _)) text scheme allowed relative bad memory not_ok = memory refl

@@ -108,7 +108,7 @@ impl<'a> Prologue<'a> {
             Ok(iri) => Ok(iri),
             Err(IriFault::Relative) => Err(PrologueFault::Relative(reference.start())),
             Err(IriFault::BadCharacter) => unreachable!(),
-            Err(IriFault::NoMemory) => Err(PrologueFault::NoMemory(NoMemory)),
+            Err(IriFault::NoMemory(refusal)) => Err(PrologueFault::NoMemory(refusal)),
         }
     }
 

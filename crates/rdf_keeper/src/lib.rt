@@ -1,4 +1,4 @@
-//! The keeper of an RDF dataset: the session with its loads, undo, redo, marks, rollback and commit, scripts of these,
+//! The keeper of an RDF dataset: the session with its loads, updates, undo, redo, marks, rollback and commit, scripts of these,
 //! conversion of documents, and the whole program `rdfkeep` over its words.
 #![tactic(auto)]
 

@@ -34,19 +34,19 @@ answers_agree f line (Err Relative) (Err NotUtf8) h k = absurd (k h.0)
 answers_agree f line (Err Relative) (Err Syntax) h k = absurd (k.1 h.1.0 h.1.1)
 answers_agree f line (Err Relative) (Err Relative) h k = refl
 answers_agree f line (Err Read) b h k = absurd h
-answers_agree f line (Err NoMemory) b h k = absurd h
+answers_agree f line (Err (NoMemory _)) b h k = absurd h
 answers_agree f line (Err Failed) b h k = absurd h
 answers_agree f line (Ok r) (Err Read) h k = absurd k
-answers_agree f line (Ok r) (Err NoMemory) h k = absurd k
+answers_agree f line (Ok r) (Err (NoMemory _)) h k = absurd k
 answers_agree f line (Ok r) (Err Failed) h k = absurd k
 answers_agree f line (Err NotUtf8) (Err Read) h k = absurd k
-answers_agree f line (Err NotUtf8) (Err NoMemory) h k = absurd k
+answers_agree f line (Err NotUtf8) (Err (NoMemory _)) h k = absurd k
 answers_agree f line (Err NotUtf8) (Err Failed) h k = absurd k
 answers_agree f line (Err Syntax) (Err Read) h k = absurd k
-answers_agree f line (Err Syntax) (Err NoMemory) h k = absurd k
+answers_agree f line (Err Syntax) (Err (NoMemory _)) h k = absurd k
 answers_agree f line (Err Syntax) (Err Failed) h k = absurd k
 answers_agree f line (Err Relative) (Err Read) h k = absurd k
-answers_agree f line (Err Relative) (Err NoMemory) h k = absurd k
+answers_agree f line (Err Relative) (Err (NoMemory _)) h k = absurd k
 answers_agree f line (Err Relative) (Err Failed) h k = absurd k
 
 -- ---- a line says something

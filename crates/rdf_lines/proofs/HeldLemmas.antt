@@ -13,6 +13,7 @@ use Rattle.rdf_lines.specs.Labels.{all_noted, labels_of, quad_in}
 use Rattle.rdf_lines.specs.Document.{IsDocument, TellsFault, HasSaid}
 use Rattle.rdf_lines.specs.Reader.{ReadsLine, FaultOf, fault}
 use Rattle.rdf_lines.proofs.FrontLemmas.{said_nothing, said_silent, said_statement, said_all}
+use Rattle.rdf_lines.specs.FaultName.{no_memory}
 
 module _ (format : LineFormat) (text : List ℕ) where
   -- what was said by the lines before the rest
@@ -49,7 +50,7 @@ module _ (format : LineFormat) (text : List ℕ) where
 
   -- memory is wanting at a line
   pub at_line : (done : List Quad) (n : ℕ) (labels : List (List ℕ)) (rest line after : List ℕ) (f : LineFault) → SoFar done n labels rest → lines rest ≡ line ∷ lines after
-      → f.line ≡ n → f.kind ≡ NoMemory → TellsFault format text f f.kind
+      → f.line ≡ n → f.kind ≡ no_memory → TellsFault format text f f.kind
   at_line done n labels rest line after f (front, e, said) cut is_line is_kind =
       subst (TellsFault format text f) (sym is_kind)
       (done, line, lines after, (front, labels, e ∙ ap (λ l. front ++ l) cut, subst (λ k. HasSaid format front k labels done) (sym is_line) said))
@@ -72,7 +73,7 @@ module _ (format : LineFormat) (text : List ℕ) where
       by Syntax own e = (done, faulty done n labels rest line after f Syntax h cut e own)
       by Relative own e = (done, faulty done n labels rest line after f Relative h cut e own)
       by Read own e = absurd own
-      by NoMemory own e = absurd own
+      by (NoMemory _) own e = absurd own
       by FailedKind own e = absurd own
 
   pub at_end : (done : List Quad) (n : ℕ) (labels : List (List ℕ)) (rest : List ℕ) → SoFar done n labels rest → rest ≡ [] → IsDocument format text done None

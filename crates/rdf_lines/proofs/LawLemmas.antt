@@ -25,7 +25,7 @@ fault_says format line NotUtf8 h = h
 fault_says format line Syntax h = h
 fault_says format line Relative h = h
 fault_says format line Read h = absurd h
-fault_says format line NoMemory h = absurd h
+fault_says format line (NoMemory _) h = absurd h
 fault_says format line FailedKind h = absurd h
 
 none_is_some : {A B : Type 0} {E : Type 0} (s : A) → ◌≡◌ {A = Result (Option A) E} (Ok None) (Ok (Some s)) → B

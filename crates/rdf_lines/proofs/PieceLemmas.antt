@@ -5,8 +5,8 @@ use Rattle.std.proofs.lemmas.List.{drop-take, drop-drop, take_more, take_all, dr
 use Rattle.rdf_lines.specs.Lines.{lines_behind, onto_first, is_line_feed, is_return}
 use Rattle.rdf_lines.specs.Pieces.{onto, Hold, feed_len, Held, TakesPart, HasLine, HasNoLine, ahead, room}
 use Rattle.std.specs.Prelude.{Result, Ok, Err, is_ok, is_err}
-use Rattle.rdf_lines.specs.declared.fault.FaultKind.TheVariants.{NoMemory}
 use Rattle.memchr.specs.Find.{NoneBefore, Nowhere, Passes, is_byte2}
+use Rattle.rdf_lines.specs.FaultName.{no_memory}
 
 pub advanced : (xs : List ℕ) (s e n : ℕ) → s ≤ e → n ≤ length (take (e - s) (drop s xs)) → take (e - (s + n)) (drop (s + n) xs) ≡ drop n (take (e - s) (drop s xs))
 advanced xs s e n h k =
@@ -252,7 +252,7 @@ first_open text line rest n some none is_n is_line is_rest =
     ap (lines_behind false) (sym (append-nil text)) ∙ no_end text (λ j l. not_true _ (none j (omega arith) l)) [] ∙ onto-none text (not_nil text some)
     ∙ ap (λ l. l ∷ []) (sym all) ∙ ap (λ t. line ∷ lines_behind false t) (sym over)
 
-pub stops : (start : Option (List ℕ)) (b c d : Bool) (old new : Held) (read line grown : List ℕ) → Consumes start (ahead old) read → Hold b read [] line c → TakesPart old c line (Err NoMemory) new d grown
+pub stops : (start : Option (List ℕ)) (b c d : Bool) (old new : Held) (read line grown : List ℕ) → Consumes start (ahead old) read → Hold b read [] line c → TakesPart old c line (Err no_memory) new d grown
     → (more : List ℕ) × Consumes start (ahead new) more × Hold b more [] grown d
 stops start b c d old new read line grown p q t =
     (read, subst (λ (h : Held). Consumes start (ahead h) read) (sym t.0) p, subst (λ v. Hold b read [] grown v) (sym t.1) (subst (λ g. Hold b read [] g c) (sym t.2) q))

@@ -37,7 +37,7 @@ no_line old new t s n l f = ([], true, (tt, (t.0, t.1, is_end_of_text old.behind
 pub line_failed : (old new : LineState) (line : List ℕ) (kind : FaultKind) (f : LineFault) → TakesLine old.ahead old.behind_return (Err kind) line new.ahead new.behind_return
     → f.line ≡ old.number → f.kind ≡ kind → new.state ≡ Failed → new.number ≡ old.number → OneLine old (Err f) new
 line_failed old new line Read f t l k s n = ([], tt, omega (arith, l), s, n ∙ sym l, inr (inl (inl k, (t.0, line, t.1, t.2))))
-line_failed old new line NoMemory f t l k s n = ([], tt, omega (arith, l), s, n ∙ sym l, inr (inl (inr k, (t.0, line, t.1, t.2))))
+line_failed old new line (NoMemory _) f t l k s n = ([], tt, omega (arith, l), s, n ∙ sym l, inr (inl (inr k, (t.0, line, t.1, t.2))))
 line_failed old new line NotUtf8 f t l k s n = absurd t
 line_failed old new line Syntax f t l k s n = absurd t
 line_failed old new line Relative f t l k s n = absurd t

@@ -34,7 +34,7 @@ ReadsFront format text number quads behind = (front : List (List ℕ)) × (label
 -- A fault that a reader of a whole text answers, by its kind: that of the document, or want of memory at a line whose
 -- forerunners were all read.
 abbrev pub TellsFault : LineFormat → List ℕ → LineFault → FaultKind → Type 0
-TellsFault format text fault NoMemory = (quads : List Quad) × (line : List ℕ) × (behind : List (List ℕ)) × ReadsFront format text fault.line quads (line ∷ behind)
+TellsFault format text fault (NoMemory _) = (quads : List Quad) × (line : List ℕ) × (behind : List (List ℕ)) × ReadsFront format text fault.line quads (line ∷ behind)
 TellsFault format text fault Read = ⊥
 TellsFault format text fault Failed = ⊥
 TellsFault format text fault kind = (quads : List Quad) × IsDocument format text quads (Some fault)

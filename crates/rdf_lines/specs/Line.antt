@@ -41,7 +41,7 @@ Says format line (Err NotUtf8) = ¬ (IsUtf8 line)
 Says format line (Err Syntax) = IsUtf8 line × ((reading : Option Statement) → ¬ (Reads format (chars line) reading))
 Says format line (Err Relative) = IsUtf8 line × ((reading : Option Statement) × Reads format (chars line) reading × ¬ (IsAbsolute reading))
 Says format line (Err Read) = ⊥
-Says format line (Err NoMemory) = ⊥
+Says format line (Err (NoMemory _)) = ⊥
 Says format line (Err Failed) = ⊥
 
 -- An answer of a reader: want of memory tells nothing of the line.
@@ -51,7 +51,7 @@ Tells format line (Err NotUtf8) = Says format line (Err NotUtf8)
 Tells format line (Err Syntax) = Says format line (Err Syntax)
 Tells format line (Err Relative) = Says format line (Err Relative)
 Tells format line (Err Read) = ⊥
-Tells format line (Err NoMemory) = Unit {0}
+Tells format line (Err (NoMemory _)) = Unit {0}
 Tells format line (Err Failed) = ⊥
 
 -- no line says two things

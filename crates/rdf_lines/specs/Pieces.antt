@@ -43,7 +43,7 @@ TakesLine before behind (Ok Line) line after now = (read : List ℕ) × Consumes
 TakesLine before behind (Ok Last) line after now = (read : List ℕ) × Consumes before after read × Hold behind read [] line now × (line ≢ []) × IsAtEnd after
 TakesLine before behind (Ok End) line after now = (read : List ℕ) × Consumes before after read × Hold behind read [] [] now × IsAtEnd after
 TakesLine before behind (Err Read) line after now = (read : List ℕ) × Consumes before after read × Hold behind read [] line now
-TakesLine before behind (Err NoMemory) line after now = (read : List ℕ) × Consumes before after read × Hold behind read [] line now
+TakesLine before behind (Err (NoMemory _)) line after now = (read : List ℕ) × Consumes before after read × Hold behind read [] line now
 TakesLine before behind (Err _) line after now = ⊥
 
 -- the bytes that reads can still bring, at most
@@ -77,7 +77,7 @@ TakesPart old behind line (Ok true) new now grown =
     (part : List ℕ) × (n : ℕ) × (new ≡ record old { held = drop n old.held }) × Hold behind (take n old.held) (part ∷ []) [] now × (grown ≡ line ++ part) × (length part < n) × (n ≤ length old.held)
 TakesPart old behind line (Ok false) new now grown =
     (part : List ℕ) × (new ≡ record old { held = [] }) × Hold behind old.held [] part now × (grown ≡ line ++ part) × (length part ≤ length old.held)
-TakesPart old behind line (Err NoMemory) new now grown = (new ≡ old) × (now ≡ behind) × (grown ≡ line)
+TakesPart old behind line (Err (NoMemory _)) new now grown = (new ≡ old) × (now ≡ behind) × (grown ≡ line)
 TakesPart old behind line (Err _) new now grown = ⊥
 
 -- a line takes a byte at least

@@ -15,6 +15,7 @@ use Rattle.rdf_lines.specs.Line.{Says}
 use Rattle.rdf_lines.specs.Labels.{quad_in, labels_of, all_noted}
 use Rattle.rdf_lines.specs.Document.{IsDocument, HasSaid, ReadsFront}
 use Rattle.rdf_lines.specs.Pieces.{Hold}
+use Rattle.rdf_lines.specs.FaultName.{no_memory}
 
 pub record LineState : Type 0 where
   pub format : LineFormat
@@ -70,7 +71,7 @@ FaultOf format line NotUtf8 = Says format line (Err NotUtf8)
 FaultOf format line Syntax = Says format line (Err Syntax)
 FaultOf format line Relative = Says format line (Err Relative)
 FaultOf format line Read = ⊥
-FaultOf format line NoMemory = ⊥
+FaultOf format line (NoMemory _) = ⊥
 FaultOf format line FailedKind = ⊥
 
 -- what reading one whole line gives, from its number and the labels before
@@ -78,7 +79,7 @@ abbrev pub ReadsLine : LineFormat → List ℕ → ℕ → List (List ℕ) → A
 ReadsLine format line n labels (Ok None) m now = Says format line (Ok None) × (m ≡ n + 1) × (now ≡ labels)
 ReadsLine format line n labels (Ok (Some quad)) m now =
     (s : Statement) × Says format line (Ok (Some s)) × (now ≡ all_noted labels (labels_of s)) × (quad ≡ quad_in now s) × (m ≡ n + 1)
-ReadsLine format line n labels (Err f) m now = (f.line ≡ n) × (m ≡ n) × (FaultOf format line f.kind ⊎ (f.kind ≡ NoMemory))
+ReadsLine format line n labels (Err f) m now = (f.line ≡ n) × (m ≡ n) × (FaultOf format line f.kind ⊎ (f.kind ≡ no_memory))
 
 -- One call of next while the reader reads. Silent lines come first, then:
 abbrev pub Reads : LineState → Answer → LineState → Type 0
@@ -91,8 +92,8 @@ Reads old (Ok (Some quad)) new = (ls : List (List ℕ)) × (line : List ℕ) × 
 -- or a fault: of the line, of the reader or of memory before the line was wholly read, or of memory for its statement
 Reads old (Err f) new = (ls : List (List ℕ)) × AreSilent old.format ls × (f.line ≡ old.number + length ls) × (new.state ≡ Failed) × (new.number ≡ f.line) ×
     (((line : List ℕ) × (ended : Bool) × FaultOf old.format line f.kind × Taken old (ls ++ line ∷ []) new ended)
-    ⊎ ((((f.kind ≡ Read) ⊎ (f.kind ≡ NoMemory)) × FailsBehind old ls new)
-    ⊎ ((line : List ℕ) × (ended : Bool) × (f.kind ≡ NoMemory) × Taken old (ls ++ line ∷ []) new ended)))
+    ⊎ ((((f.kind ≡ Read) ⊎ (f.kind ≡ no_memory)) × FailsBehind old ls new)
+    ⊎ ((line : List ℕ) × (ended : Bool) × (f.kind ≡ no_memory) × Taken old (ls ++ line ∷ []) new ended)))
 
 -- One line, or the end, is taken while the reader reads.
 abbrev pub OneLine : LineState → Answer → LineState → Type 0
@@ -121,7 +122,7 @@ Agrees (Ok (Some quad) ∷ answers) quads ending = (more : List Quad) × (quads 
 Agrees (Ok None ∷ answers) quads ending = (quads ≡ []) × (ending ≡ None) × AllByRecursion (λ a. a ≡ Ok None) answers
 Agrees (Err f ∷ answers) quads ending =
     AllByRecursion (λ a. a ≡ Err (fault f.line FailedKind)) answers
-    × (((quads ≡ []) × (ending ≡ Some f)) ⊎ ((f.kind ≡ Read) ⊎ (f.kind ≡ NoMemory)))
+    × (((quads ≡ []) × (ending ≡ Some f)) ⊎ ((f.kind ≡ Read) ⊎ (f.kind ≡ no_memory)))
 
 -- a reader before its first call, with so many read calls
 abbrev pub starting : LineFormat → Option (List ℕ) → ℕ → LineState
@@ -142,7 +143,7 @@ HasRead format text quads s =
 
 -- a fault where these quads were answered: that of the document, or one of the reader or of memory at a line whose forerunners say them
 abbrev pub StopsAt : LineFormat → List ℕ → List Quad → LineFault → Type 0
-StopsAt format text quads f = IsDocument format text quads (Some f) ⊎ (((f.kind ≡ Read) ⊎ (f.kind ≡ NoMemory)) × ((behind : List (List ℕ)) × ReadsFront format text f.line quads behind))
+StopsAt format text quads f = IsDocument format text quads (Some f) ⊎ (((f.kind ≡ Read) ⊎ (f.kind ≡ no_memory)) × ((behind : List (List ℕ)) × ReadsFront format text f.line quads behind))
 
 -- the law call by call: before the first one nothing was read,
 abbrev pub StartsWithNothing : Type 0

@@ -80,17 +80,13 @@ fn take_part<R: Read + Drop>(
     let rest = held.split_at(feed).1;
     match memchr2(b'\n', b'\r', rest) {
         Some(i) => {
-            if line.extend_from_slice(rest.split_at(i).0).is_err() {
-                return Err(FaultKind::NoMemory);
-            }
+            line.extend_from_slice(rest.split_at(i).0)?;
             *behind_return = rest[i] == b'\r';
             pieces.advance(feed + i + 1);
             Ok(true)
         }
         None => {
-            if line.extend_from_slice(rest).is_err() {
-                return Err(FaultKind::NoMemory);
-            }
+            line.extend_from_slice(rest)?;
             *behind_return = false;
             pieces.advance(len);
             Ok(false)

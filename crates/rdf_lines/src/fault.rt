@@ -1,6 +1,6 @@
 //! Why a line could not be read.
 ghost use Rattle.std.specs.Prelude.{◌≡◌, codes};
-ghost use Rattle.rdf_lines.specs.FaultName.{fault_name};
+ghost use Rattle.rdf_lines.specs.FaultName.{fault_name, no_memory};
 ghost use Rattle.rdf_lines.specs.declared.fault.FaultKind.TheVariants.{NoMemory as NoMemoryKind};
 
 use rdf_terms::NoMemory;
@@ -24,7 +24,7 @@ pub enum FaultKind {
     Read,
     /// Memory was wanting.
     #[error("NoMemory")]
-    NoMemory,
+    NoMemory(NoMemory),
     /// The reader has answered a fault before.
     #[error("Failed")]
     Failed,
@@ -50,7 +50,7 @@ impl FaultKind {
             FaultKind::Syntax => "Syntax",
             FaultKind::Relative => "Relative",
             FaultKind::Read => "Read",
-            FaultKind::NoMemory => "NoMemory",
+            FaultKind::NoMemory(refusal) => refusal.name(),
             FaultKind::Failed => "Failed",
         }
     }
@@ -66,25 +66,25 @@ impl LineFault {
 }
 
 impl From<NoMemory> for FaultKind {
-    ghost from_gives = { λ _ e. e ≡ NoMemoryKind };
+    ghost from_gives = { λ refusal e. e ≡ NoMemoryKind refusal };
 
-    fn from(_e: NoMemory) -> FaultKind {
-        FaultKind::NoMemory
+    fn from(refusal: NoMemory) -> FaultKind {
+        FaultKind::NoMemory(refusal)
     }
 }
 
 impl From<AllocError> for FaultKind {
-    ghost from_gives = { λ _ e. e ≡ NoMemoryKind };
+    ghost from_gives = { λ _ e. e ≡ no_memory };
 
-    fn from(_e: AllocError) -> FaultKind {
-        FaultKind::NoMemory
+    fn from(e: AllocError) -> FaultKind {
+        FaultKind::NoMemory(NoMemory::from(e))
     }
 }
 
 impl<T: Drop> From<AllocFailed<T>> for FaultKind {
-    ghost from_gives = { λ _ e. e ≡ NoMemoryKind };
+    ghost from_gives = { λ _ e. e ≡ no_memory };
 
-    fn from(_e: AllocFailed<T>) -> FaultKind {
-        FaultKind::NoMemory
+    fn from(e: AllocFailed<T>) -> FaultKind {
+        FaultKind::NoMemory(NoMemory::from(e))
     }
 }

@@ -52,14 +52,15 @@ pub fn read_lines(alloc: Global, format: LineFormat, bytes: &[u8]) -> Result<Vec
         let number = progress.number;
         match progress.line(alloc, format, line) {
             Ok(None) => {}
-            Ok(Some(quad)) => {
-                if quads.push(quad).is_err() {
+            Ok(Some(quad)) => match quads.push(quad) {
+                Ok(()) => {}
+                Err(refused) => {
                     return Err(LineFault {
                         line: number,
-                        kind: FaultKind::NoMemory,
+                        kind: FaultKind::from(refused),
                     });
                 }
-            }
+            },
             Err(fault) => return Err(fault),
         }
         rest = after;

@@ -37,7 +37,7 @@ impl Progress {
                     self.number += 1;
                     Ok(Some(quad))
                 }
-                Err(_) => Err(self.fault(FaultKind::NoMemory)),
+                Err(refusal) => Err(self.fault(FaultKind::NoMemory(refusal))),
             },
             Err(kind) => Err(self.fault(kind)),
         }

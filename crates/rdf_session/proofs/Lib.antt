@@ -9,3 +9,4 @@ mod OneReplyLemmas
 mod RefusalLemmas
 mod StandingLemmas
 mod UndoRedoLemmas
+mod UpdateLemmas

@@ -1,6 +1,6 @@
 -- An undo and a redo, or the other way.
 use Rattle.std.proofs.Common.{◌≡◌, ℕ, ◌+◌, ◌-◌, ◌<◌, sym, ap, ◌∙◌, arith}
-use Rattle.rdf_session.specs.Session.{Session, Changed, Step, at_place, counts_between, now}
+use Rattle.rdf_session.specs.Session.{Session, at_place, counts_between, now}
 use Rattle.rdf_session.specs.UndoRedo.{UndoThenRedo, RedoThenUndo}
 use Rattle.rdf_session.specs.declared.fault.Counts.{Counts}
 

@@ -1,4 +1,4 @@
--- What only private functions speak of: what a keeper holds, and how a load is read and staged.
+-- What only private functions speak of: what a keeper holds, and how a request is read and staged.
 pub mod Kept
 pub mod Marks
 pub mod Staging

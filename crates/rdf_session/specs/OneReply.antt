@@ -1,20 +1,24 @@
 -- A command has one reply, and leads to one session.
 use Rattle.std.specs.Prelude.{◌≡◌, ◌≢◌, ◌⊎◌, true}
-use Rattle.rdf_turtle.specs.DocumentLaws.{has_free_line}
-use Rattle.rdf_session.specs.Request.{Load}
+use Rattle.rdf_turtle.specs.DocumentLaws as turtle
+use Rattle.sparql_syntax.specs.UpdateLaws as update
+use Rattle.rdf_session.specs.Request.{Load, Update}
 use Rattle.rdf_session.specs.Session.{Session, Command, Reply, Do, Refused, Step}
 use Rattle.rdf_session.specs.declared.fault.KeeperFault.{KeeperFault}
-use Rattle.rdf_session.specs.declared.fault.KeeperFault.TheVariants.{NoMemory, Turtle as InTurtle}
+use Rattle.rdf_session.specs.declared.fault.KeeperFault.TheVariants.{NoMemory, Turtle as InTurtle, Syntax as InUpdate}
 use Rattle.rdf_session.specs.declared.format.Format.TheVariants.{Turtle}
 
--- The command may be refused by the fault, and its line is then the reader's own choice: that of some faults of Turtle.
+-- The command may be refused by the fault, and its line is then the reader's own choice: that of some faults of Turtle
+-- and of updates.
 abbrev pub HasFreeLine : Command → KeeperFault → Type 0
-HasFreeLine (Do (Load Turtle text)) (InTurtle fault) = has_free_line fault.kind ≡ true
+HasFreeLine (Do (Load Turtle text)) (InTurtle fault) = turtle.has_free_line fault.kind ≡ true
+HasFreeLine (Do (Update text)) (InUpdate fault) = update.has_free_line fault.kind ≡ true
 HasFreeLine command fault = ⊥
 
 -- the same fault, but for its line
 abbrev pub SameButLine : KeeperFault → KeeperFault → Type 0
 SameButLine (InTurtle fault) (InTurtle other) = fault.kind ≡ other.kind
+SameButLine (InUpdate fault) (InUpdate other) = fault.kind ≡ other.kind
 SameButLine fault other = fault ≡ other
 
 -- one fault, but for its line, which is the reader's own choice

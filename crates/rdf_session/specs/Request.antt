@@ -1,5 +1,5 @@
 -- Requests, and what they make of a state: a dataset (RDF 1.1 Concepts, section 4) with a counter of blank nodes.
-use Rattle.std.specs.Prelude.{◌≡◌, ℕ, ◌+◌, ◌<◌, ◌≤◌, List, [], ◌∷◌, max, Option}
+use Rattle.std.specs.Prelude.{◌≡◌, ℕ, ◌+◌, ◌<◌, ◌≤◌, List, [], ◌∷◌, max, Option, Ok, Err}
 use Rattle.rdf_terms.specs.Quad.{QuadParts}
 use Rattle.rdf_terms.specs.declared.quad.GraphName.{GraphName}
 use Rattle.rdf_terms.specs.declared.quad.GraphName.TheVariants.{Default, Named}
@@ -7,14 +7,19 @@ use Rattle.rdf_terms.specs.declared.term.Term.{Term}
 use Rattle.rdf_terms.specs.declared.term.Term.TheVariants.{Blank}
 use Rattle.rdf_dataset.specs.State.{State, last_number}
 use Rattle.rdf_dataset.specs.Insertion.{with_data}
+use Rattle.sparql_eval.specs.Operations.{steps}
+use Rattle.sparql_syntax.specs.Update as update
+use Rattle.sparql_trees.specs.declared.operation.Request.{Request as UpdateRequest}
 use Rattle.rdf_session.specs.Documents.{IsDocument, IsFaulty}
 use Rattle.rdf_session.specs.declared.fault.KeeperFault.{KeeperFault}
-use Rattle.rdf_session.specs.declared.fault.KeeperFault.TheVariants.{BlankNumbers}
+use Rattle.rdf_session.specs.declared.fault.KeeperFault.TheVariants.{BlankNumbers, Syntax, Apply}
 use Rattle.rdf_session.specs.declared.format.Format.{Format}
 
 pub data Request : Type 0 where
   -- the document of a text comes in
   Load : Format → List ℕ → Request
+  -- the operations of a text act (SPARQL 1.1 Update, section 3)
+  Update : List ℕ → Request
 
 -- ---- the blank nodes of a document, whose labels mean nothing outside it (RDF 1.1 N-Quads, section 2.4; RDF 1.1 Turtle, section 2.6)
 
@@ -44,9 +49,17 @@ loaded s qs = with_data s qs (blank_limit qs)
 abbrev pub Makes : Option (List ℕ) → Request → State → State → Type 0
 Makes base (Load format text) s t =
     (quads : List QuadParts) × IsDocument format base text quads × (s.next + blank_limit quads ≤ last_number) × (t ≡ loaded s quads)
+Makes base (Update text) s t =
+    (request : UpdateRequest) × update.IsUpdate base text request × (steps s request.operations ≡ Ok t)
 
 abbrev pub IsRefused : Option (List ℕ) → Request → State → KeeperFault → Type 0
 -- its blank nodes would bring the counter past the last number
 IsRefused base (Load format text) s BlankNumbers = (quads : List QuadParts) × IsDocument format base text quads × (last_number < s.next + blank_limit quads)
 -- the text is no document
 IsRefused base (Load format text) s fault = IsFaulty format base text fault
+-- the text is no request
+IsRefused base (Update text) s (Syntax fault) = update.IsFaulty base text fault
+-- one of its operations is refused
+IsRefused base (Update text) s (Apply fault) =
+    (request : UpdateRequest) × update.IsUpdate base text request × (steps s request.operations ≡ Err fault)
+IsRefused base (Update text) s _ = ⊥

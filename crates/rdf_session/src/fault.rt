@@ -6,6 +6,8 @@ ghost use Rattle.rdf_session.specs.declared.fault.KeeperFault.TheVariants.{NoMem
 use rdf_lines::LineFault;
 use rdf_terms::NoMemory as NoMemoryFault;
 use rdf_turtle::TurtleFault;
+use sparql_eval::ApplyFault;
+use sparql_syntax::SyntaxFault;
 use std::alloc::{AllocError, AllocFailed};
 use thiserror::Error;
 
@@ -42,6 +44,12 @@ pub enum KeeperFault {
     /// A loaded text is no document of Turtle.
     #[error("line {}: {}", .0.line, .0.name())]
     Turtle(TurtleFault),
+    /// The text of an update is no request.
+    #[error("line {}: {}", .0.line, .0.name())]
+    Syntax(SyntaxFault),
+    /// An operation of an update is refused.
+    #[error("{0}")]
+    Apply(ApplyFault),
 }
 
 impl KeeperFault {
@@ -60,6 +68,8 @@ impl KeeperFault {
             KeeperFault::BlankNumbers => "BlankNumbers",
             KeeperFault::Line(fault) => fault.name(),
             KeeperFault::Turtle(fault) => fault.name(),
+            KeeperFault::Syntax(fault) => fault.name(),
+            KeeperFault::Apply(fault) => fault.name(),
         }
     }
 
@@ -70,6 +80,7 @@ impl KeeperFault {
         match self {
             KeeperFault::Line(fault) => Some(fault.line),
             KeeperFault::Turtle(fault) => Some(fault.line),
+            KeeperFault::Syntax(fault) => Some(fault.line),
             KeeperFault::NothingToUndo
             | KeeperFault::NothingToRedo
             | KeeperFault::NoSuchMark
@@ -77,7 +88,8 @@ impl KeeperFault {
             | KeeperFault::BadCommand
             | KeeperFault::NoEnd
             | KeeperFault::NoMemory
-            | KeeperFault::BlankNumbers => None,
+            | KeeperFault::BlankNumbers
+            | KeeperFault::Apply(_) => None,
         }
     }
 }

@@ -8,7 +8,7 @@ ghost use Rattle.rdf_session.specs.Inside.Kept.{AreNets, states_after};
 ghost use Rattle.rdf_session.specs.Session.{nets_between};
 ghost use Rattle.rdf_dataset.specs.Sorted.{ListsSorted};
 ghost use Rattle.rdf_session.specs.Listing.{ListsQuads};
-ghost use Rattle.rdf_session.specs.Request.{Load};
+ghost use Rattle.rdf_session.specs.Request.{Load, Update};
 ghost use Rattle.rdf_session.specs.Session.{Commit, Do, Done, Mark, Redo, Rollback, Session, Step, Undo, accepted, all_states, counts_between, fresh, now, reply_of, reply_of_mark};
 ghost use Rattle.rdf_session.specs.declared.fault.KeeperFault.TheVariants.{NoMemory};
 
@@ -17,6 +17,7 @@ use crate::format::Format;
 use crate::listing::write_lines;
 use crate::load::{read, stage};
 use crate::marks::Marks;
+use crate::update::{read_request, stage_request};
 use rdf_dataset::{Dataset, Net, Source};
 use rdf_terms::{Iri, NoMemory as NoMemoryFault, Term};
 use std::alloc::Global;
@@ -82,6 +83,20 @@ impl Keeper {
     {
         let quads = read(self.alloc, format, text, self.base_iri.as_ref())?;
         let net = stage(self.alloc, &self.dataset, quads)?;
+        self.accept(net)
+    }
+
+    /// Applies a request of SPARQL 1.1 Update, its references against the session's base: its operations act in their order. Counts are of
+    /// the quads that all of them together added and removed.
+    ///
+    /// # Errors
+    /// `Syntax` where the text is no request, then `Apply` at the first operation that is refused; `NoMemory`; the session is
+    /// then as it was, whatever operations come before.
+    pub fn update(&mut self, text: &[u8]) -> Result<Counts, KeeperFault>
+        ensures { Step self.old (Do (Update text.now)) (reply_of result) self.new }
+    {
+        let request = read_request(self.alloc, text, self.base_iri.as_ref())?;
+        let net = stage_request(self.alloc, &self.dataset, &request)?;
         self.accept(net)
     }
 

@@ -45,4 +45,5 @@ pub fn one_reply()
 {
     rdf_lines::each_text_is_one_document();
     rdf_turtle::one_meaning();
+    sparql_syntax::one_request();
 }

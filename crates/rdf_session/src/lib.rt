@@ -1,4 +1,4 @@
-//! The session of an RDF dataset: what loads do to it, undo, redo, marks, rollback and commit, and the laws of these.
+//! The session of an RDF dataset: what loads and updates do to it, undo, redo, marks, rollback and commit, and the laws of these.
 #![tactic(auto)]
 
 mod fault;
@@ -8,6 +8,7 @@ mod law;
 mod listing;
 mod load;
 mod marks;
+mod update;
 
 pub use fault::{Counts, KeeperFault};
 pub use format::Format;

@@ -1,16 +1,19 @@
 //! The refusals of this crate.
 ghost use Rattle.std.specs.Prelude.{◌≡◌, codes};
-ghost use Rattle.rdf_terms.specs.Names.{iri_fault_name};
+ghost use Rattle.rdf_terms.specs.Names.{iri_fault_name, no_memory};
 ghost use Rattle.rdf_terms.specs.declared.fault.NoMemory.{NoMemory};
 ghost use Rattle.rdf_terms.specs.declared.fault.IriFault.TheVariants as fault;
 
 use std::alloc::{AllocError, AllocFailed};
 use thiserror::Error;
 
-/// A growth was refused for want of memory. What the call was lent is as it was before.
+/// A growth was refused for want of memory. What the call was lent is as it was before. One is made
+/// of the allocator's refusal alone.
 #[derive(Clone, Copy, Debug, PartialEq, Eq, Error)]
 #[error("no memory")]
-pub struct NoMemory;
+pub struct NoMemory {
+    cause: AllocError,
+}
 
 impl NoMemory {
     /// The word that is printed for the refusal.
@@ -22,14 +25,16 @@ impl NoMemory {
 }
 
 impl From<AllocError> for NoMemory {
-    fn from(_e: AllocError) -> NoMemory {
-        NoMemory
+    fn from(e: AllocError) -> NoMemory {
+        NoMemory { cause: e }
     }
 }
 
 impl<T: Drop> From<AllocFailed<T>> for NoMemory {
-    fn from(_e: AllocFailed<T>) -> NoMemory {
-        NoMemory
+    fn from(e: AllocFailed<T>) -> NoMemory {
+        NoMemory {
+            cause: AllocError::from(e),
+        }
     }
 }
 
@@ -44,7 +49,7 @@ pub enum IriFault {
     BadCharacter,
     /// A growth was refused.
     #[error("no memory")]
-    NoMemory,
+    NoMemory(NoMemory),
 }
 
 impl IriFault {
@@ -55,23 +60,23 @@ impl IriFault {
         match self {
             IriFault::Relative => "Relative",
             IriFault::BadCharacter => "BadCharacter",
-            IriFault::NoMemory => "NoMemory",
+            IriFault::NoMemory(fault) => fault.name(),
         }
     }
 }
 
 impl From<NoMemory> for IriFault {
-    ghost from_gives = { λ _ e. e ≡ fault.NoMemory };
+    ghost from_gives = { λ x e. e ≡ fault.NoMemory x };
 
-    fn from(_e: NoMemory) -> IriFault {
-        IriFault::NoMemory
+    fn from(e: NoMemory) -> IriFault {
+        IriFault::NoMemory(e)
     }
 }
 
 impl From<AllocError> for IriFault {
-    ghost from_gives = { λ _ e. e ≡ fault.NoMemory };
+    ghost from_gives = { λ _ e. e ≡ no_memory };
 
-    fn from(_e: AllocError) -> IriFault {
-        IriFault::NoMemory
+    fn from(e: AllocError) -> IriFault {
+        IriFault::NoMemory(NoMemory::from(e))
     }
 }

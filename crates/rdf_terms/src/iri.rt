@@ -3,6 +3,7 @@ ghost use Rattle.std.specs.Prelude.{◌≡◌, ◌↔◌, ◌&&◌, true, false,
 ghost use Rattle.std.specs.List.{list_all};
 ghost use Rattle.rdf_terms.specs.Iri.{has_scheme, has_forbidden, is_forbidden, is_scheme, is_scheme_byte, is_iri};
 ghost use Rattle.rdf_terms.specs.Literal.{lang_string, xsd_string};
+ghost use Rattle.rdf_terms.specs.Names.{no_memory};
 
 use crate::cuts::cut;
 use crate::fault::{IriFault, NoMemory};
@@ -56,7 +57,7 @@ impl Iri {
         ensures sound { IfOk result (λ _. IsTrue (is_iri text)) }
         ensures relative { IsErrOf result IriFault.Relative ↔ (has_scheme text ≡ false) }
         ensures bad_character { IsErrOf result IriFault.BadCharacter ↔ IsTrue (has_scheme text && has_forbidden text) }
-        ensures memory { IsErrOf result IriFault.NoMemory → ⊥ }
+        ensures memory { IsErrOf result no_memory → ⊥ }
     {
         check(text.as_str())?;
         Ok(Iri { text })
@@ -136,7 +137,7 @@ fn check(text: &str) -> Result<(), IriFault>
     ensures sound { IfOk result (λ _. IsTrue (is_iri text.now)) }
     ensures relative { IsErrOf result IriFault.Relative ↔ (has_scheme text.now ≡ false) }
     ensures bad_character { IsErrOf result IriFault.BadCharacter ↔ IsTrue (has_scheme text.now && has_forbidden text.now) }
-    ensures memory { IsErrOf result IriFault.NoMemory → ⊥ }
+    ensures memory { IsErrOf result no_memory → ⊥ }
 {
     if !has_scheme(text.as_bytes()) {
         return Err(IriFault::Relative);

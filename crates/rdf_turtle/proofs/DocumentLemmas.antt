@@ -25,6 +25,7 @@ use Rattle.rdf_turtle.specs.Stops.{Explains}
 use Rattle.rdf_tokens.specs.Tokens.{Says}
 use Rattle.rdf_turtle.proofs.GrammarWhole.{document_unique}
 use Rattle.rdf_tokens.proofs.CallerLemmas.{one_token_list, stands_once}
+use Rattle.rdf_turtle.specs.FaultName.{no_memory}
 
 -- ---- a text has one list of tokens, and one of lexemes
 
@@ -116,7 +117,7 @@ not_both base text quads fault.TooDeep line h f = not_shallow text f.0 f.1 f.3 f
 not_both base text quads fault.Syntax line h f = no_tree text f.0 f.1 f.2 f.4 (h.0, h.1)
 not_both base text quads fault.UnknownPrefix line h f = no_answer base text quads f.0 fault.UnknownPrefix h f.1 f.2
 not_both base text quads fault.Relative line h f = no_answer base text quads f.0 fault.Relative h f.1 f.2
-not_both base text quads fault.NoMemory line h f = f
+not_both base text quads (fault.NoMemory _) line h f = f
 
 pub never_both : NeverBoth
 never_both base text quads f h k = not_both base text quads f.kind f.line h k
@@ -173,50 +174,50 @@ same_kind base text fault.NotUtf8 fault.TooDeep m n h i = absurd (h.0 i.4.utf8)
 same_kind base text fault.NotUtf8 fault.Syntax m n h i = absurd (h.0 i.2.utf8)
 same_kind base text fault.NotUtf8 fault.UnknownPrefix m n h i = absurd (h.0 i.1.list.utf8)
 same_kind base text fault.NotUtf8 fault.Relative m n h i = absurd (h.0 i.1.list.utf8)
-same_kind base text fault.NotUtf8 fault.NoMemory m n h i = absurd i
+same_kind base text fault.NotUtf8 (fault.NoMemory _) m n h i = absurd i
 same_kind base text fault.Token fault.NotUtf8 m n h i = absurd (i.0 h.0)
 same_kind base text fault.Token fault.Token m n h i = (refl, λ f. h.1.2 ∙ ap (line_of text) (err_same h.1.0 i.1.0 (one_token_list (chars text) (Err h.1.0) (Err i.1.0) h.1.1 i.1.1)) ∙ sym i.1.2)
 same_kind base text fault.Token fault.TooDeep m n h i = absurd (no_token text h.1.0 h.1.1 (i.0, i.1, i.4))
 same_kind base text fault.Token fault.Syntax m n h i = absurd (no_token text h.1.0 h.1.1 (i.0, i.1, i.2))
 same_kind base text fault.Token fault.UnknownPrefix m n h i = absurd (no_token text h.1.0 h.1.1 (listed_tree text (i.0, i.1)))
 same_kind base text fault.Token fault.Relative m n h i = absurd (no_token text h.1.0 h.1.1 (listed_tree text (i.0, i.1)))
-same_kind base text fault.Token fault.NoMemory m n h i = absurd i
+same_kind base text fault.Token (fault.NoMemory _) m n h i = absurd i
 same_kind base text fault.TooDeep fault.NotUtf8 m n h i = absurd (i.0 h.4.utf8)
 same_kind base text fault.TooDeep fault.Token m n h i = absurd (no_token text i.1.0 i.1.1 (h.0, h.1, h.4))
 same_kind base text fault.TooDeep fault.TooDeep m n h i = (refl, λ f. h.7 ∙ ap (λ (t : Token). line_of text t.start) (same_opener text h.0 i.0 h.1 i.1 h.2 i.2 h.3 i.3 h.4 i.4 h.5 i.5 h.6 i.6) ∙ sym i.7)
 same_kind base text fault.TooDeep fault.Syntax m n h i = absurd (not_shallow text h.0 h.1 h.3 h.4 h.5 (i.0, i.1, i.2, i.3))
 same_kind base text fault.TooDeep fault.UnknownPrefix m n h i = absurd (not_shallow text h.0 h.1 h.3 h.4 h.5 (shallow_tree text (i.0, i.1)))
 same_kind base text fault.TooDeep fault.Relative m n h i = absurd (not_shallow text h.0 h.1 h.3 h.4 h.5 (shallow_tree text (i.0, i.1)))
-same_kind base text fault.TooDeep fault.NoMemory m n h i = absurd i
+same_kind base text fault.TooDeep (fault.NoMemory _) m n h i = absurd i
 same_kind base text fault.Syntax fault.NotUtf8 m n h i = absurd (i.0 h.2.utf8)
 same_kind base text fault.Syntax fault.Token m n h i = absurd (no_token text i.1.0 i.1.1 (h.0, h.1, h.2))
 same_kind base text fault.Syntax fault.TooDeep m n h i = absurd (not_shallow text i.0 i.1 i.3 i.4 i.5 (h.0, h.1, h.2, h.3))
 same_kind base text fault.Syntax fault.Syntax m n h i = free fault.Syntax m n refl
 same_kind base text fault.Syntax fault.UnknownPrefix m n h i = absurd (no_tree text h.0 h.1 h.2 h.4 (i.0, i.1))
 same_kind base text fault.Syntax fault.Relative m n h i = absurd (no_tree text h.0 h.1 h.2 h.4 (i.0, i.1))
-same_kind base text fault.Syntax fault.NoMemory m n h i = absurd i
+same_kind base text fault.Syntax (fault.NoMemory _) m n h i = absurd i
 same_kind base text fault.UnknownPrefix fault.NotUtf8 m n h i = absurd (i.0 h.1.list.utf8)
 same_kind base text fault.UnknownPrefix fault.Token m n h i = absurd (no_token text i.1.0 i.1.1 (listed_tree text (h.0, h.1)))
 same_kind base text fault.UnknownPrefix fault.TooDeep m n h i = absurd (not_shallow text i.0 i.1 i.3 i.4 i.5 (shallow_tree text (h.0, h.1)))
 same_kind base text fault.UnknownPrefix fault.Syntax m n h i = absurd (no_tree text i.0 i.1 i.2 i.4 (h.0, h.1))
 same_kind base text fault.UnknownPrefix fault.UnknownPrefix m n h i = free fault.UnknownPrefix m n refl
 same_kind base text fault.UnknownPrefix fault.Relative m n h i = absurd (other_kind (clash base text h.0 i.0 fault.UnknownPrefix fault.Relative h.1 i.1 h.2 i.2))
-same_kind base text fault.UnknownPrefix fault.NoMemory m n h i = absurd i
+same_kind base text fault.UnknownPrefix (fault.NoMemory _) m n h i = absurd i
 same_kind base text fault.Relative fault.NotUtf8 m n h i = absurd (i.0 h.1.list.utf8)
 same_kind base text fault.Relative fault.Token m n h i = absurd (no_token text i.1.0 i.1.1 (listed_tree text (h.0, h.1)))
 same_kind base text fault.Relative fault.TooDeep m n h i = absurd (not_shallow text i.0 i.1 i.3 i.4 i.5 (shallow_tree text (h.0, h.1)))
 same_kind base text fault.Relative fault.Syntax m n h i = absurd (no_tree text i.0 i.1 i.2 i.4 (h.0, h.1))
 same_kind base text fault.Relative fault.UnknownPrefix m n h i = absurd (other_kind (clash base text i.0 h.0 fault.UnknownPrefix fault.Relative i.1 h.1 i.2 h.2))
 same_kind base text fault.Relative fault.Relative m n h i = free fault.Relative m n refl
-same_kind base text fault.Relative fault.NoMemory m n h i = absurd i
-same_kind base text fault.NoMemory k m n h i = absurd h
+same_kind base text fault.Relative (fault.NoMemory _) m n h i = absurd i
+same_kind base text (fault.NoMemory _) k m n h i = absurd h
 
 pub one_fault : OneFault
 one_fault base text a b h k = same_kind base text a.kind b.kind a.line b.line h k
 
 -- ---- what a reader answers
 
-memory_tells : (base : Option (List ℕ)) (text : List ℕ) (f : TurtleFault) → f.kind ≡ fault.NoMemory → f.line ≡ 0 → TellsFault base text f f.kind
+memory_tells : (base : Option (List ℕ)) (text : List ℕ) (f : TurtleFault) → f.kind ≡ no_memory → f.line ≡ 0 → TellsFault base text f f.kind
 memory_tells base text f e l = subst (λ (k : TurtleFaultKind). TellsFault base text f k) (sym e) l
 
 tells_at : (base : Option (List ℕ)) (text : List ℕ) (f : TurtleFault) (k : TurtleFaultKind) → FaultIs base text k f.line → IsFaulty base text f → TellsFault base text f k
@@ -226,7 +227,7 @@ tells_at base text f fault.TooDeep h i = i
 tells_at base text f fault.Syntax h i = i
 tells_at base text f fault.UnknownPrefix h i = i
 tells_at base text f fault.Relative h i = i
-tells_at base text f fault.NoMemory h i = absurd h
+tells_at base text f (fault.NoMemory _) h i = absurd h
 
 fault_tells : (base : Option (List ℕ)) (text : List ℕ) (f : TurtleFault) (k : TurtleFaultKind) → f.kind ≡ k → FaultIs base text k f.line → TellsFault base text f f.kind
 fault_tells base text f k e h =
@@ -249,19 +250,19 @@ not_deep e = cc
 -- the parser's fault is the text's
 stop_is : (base : Option (List ℕ)) (text : List ℕ) (ts : List Token) (ls : List Lexeme) (k : TurtleFaultKind) (place start line : ℕ) → HasTokens text ts ls
     → (IsTooDeep ls → k ≡ fault.TooDeep) → Explains ls k place → ((token : Token) → slice_get ts place ≡ Some token → start ≡ token.start)
-    → k ≢ fault.NoMemory → line ≡ line_of text start → FaultIs base text k line
+    → k ≢ no_memory → line ≡ line_of text start → FaultIs base text k line
 stop_is base text ts ls fault.TooDeep place start line h deep why at some l =
     let found = got ts place (subst (λ (n : ℕ). place < n) (same_lengths (chars text) ts ls h.pieces) why.within) in
     (ts, ls, found.0, place, h, why, found.1, l ∙ ap (line_of text) (at found.0 found.1))
 stop_is base text ts ls fault.Syntax place start line h deep why at some l = (ts, ls, h, λ d. not_deep (deep d), why)
-stop_is base text ts ls fault.NoMemory place start line h deep why at some l = absurd (some refl)
+stop_is base text ts ls (fault.NoMemory _) place start line h deep why at some l = absurd (some refl)
 stop_is base text ts ls fault.NotUtf8 place start line h deep why at some l = absurd why
 stop_is base text ts ls fault.Token place start line h deep why at some l = absurd why
 stop_is base text ts ls fault.UnknownPrefix place start line h deep why at some l = absurd why
 stop_is base text ts ls fault.Relative place start line h deep why at some l = absurd why
 
-same_or_not : (k : TurtleFaultKind) → (k ≡ fault.NoMemory) ⊎ (k ≢ fault.NoMemory)
-same_or_not fault.NoMemory = inl refl
+same_or_not : (k : TurtleFaultKind) → (k ≡ no_memory) ⊎ (k ≢ no_memory)
+same_or_not (fault.NoMemory _) = inl refl
 same_or_not fault.NotUtf8 = inr (λ e. cc)
 same_or_not fault.Token = inr (λ e. cc)
 same_or_not fault.TooDeep = inr (λ e. cc)
@@ -271,7 +272,7 @@ same_or_not fault.Relative = inr (λ e. cc)
 
 pub stop_tells : (base : Option (List ℕ)) (text : List ℕ) (ts : List Token) (ls : List Lexeme) (k : TurtleFaultKind) (place start : ℕ) (f : TurtleFault) → HasTokens text ts ls
     → (IsTooDeep ls → k ≡ fault.TooDeep) → Explains ls k place → ((token : Token) → slice_get ts place ≡ Some token → start ≡ token.start)
-    → f.kind ≡ k → (k ≢ fault.NoMemory → f.line ≡ line_of text start) → (k ≡ fault.NoMemory → f.line ≡ 0) → TellsFault base text f f.kind
+    → f.kind ≡ k → (k ≢ no_memory → f.line ≡ line_of text start) → (k ≡ no_memory → f.line ≡ 0) → TellsFault base text f f.kind
 stop_tells base text ts ls k place start f h deep why at e l none = elim (same_or_not k) [
   | inl m ↦ memory_tells base text f (e ∙ m) (none m)
   | inr n ↦ fault_tells base text f k e (stop_is base text ts ls k place start f.line h deep why at n (l n))

@@ -13,7 +13,7 @@ never tokens place e = cc
 
 pub no_list : (text : List ℕ) (kind : TurtleFaultKind) (line : ℕ) → IsFault text kind line → kind ≡ fault.Token → (tokens : List Token) → ¬ Says (chars text) (Ok tokens)
 no_list text fault.Token line h e tokens says = never tokens h.0 (one_token_list (chars text) (Ok tokens) (Err h.0) says h.1)
-no_list text fault.NoMemory line h e tokens says = absurd cc
+no_list text (fault.NoMemory _) line h e tokens says = absurd cc
 no_list text fault.NotUtf8 line h e tokens says = h
 no_list text fault.TooDeep line h e tokens says = h
 no_list text fault.Syntax line h e tokens says = h

@@ -52,12 +52,12 @@ FaultIs base text fault.Syntax line =
 FaultIs base text fault.UnknownPrefix line = (tree : List Statement) × HasTree text tree × (answer base tree ≡ Err fault.UnknownPrefix)
 -- a reference without a base
 FaultIs base text fault.Relative line = (tree : List Statement) × HasTree text tree × (answer base tree ≡ Err fault.Relative)
-FaultIs base text fault.NoMemory line = ⊥
+FaultIs base text (fault.NoMemory _) line = ⊥
 
 abbrev pub IsFaulty : Option (List ℕ) → List ℕ → TurtleFault → Type 0
 IsFaulty base text f = FaultIs base text f.kind f.line
 
 -- A fault that a reader answers, by its kind: the text's, or want of memory, which tells nothing of the text.
 abbrev pub TellsFault : Option (List ℕ) → List ℕ → TurtleFault → TurtleFaultKind → Type 0
-TellsFault base text f fault.NoMemory = f.line ≡ 0
+TellsFault base text f (fault.NoMemory _) = f.line ≡ 0
 TellsFault base text f kind = IsFaulty base text f

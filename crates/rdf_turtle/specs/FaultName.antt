@@ -1,5 +1,6 @@
--- The printed words of faults.
+-- The printed words of faults, and the one fault of memory that is wanting.
 use Rattle.std.specs.Prelude.{ℕ, List, codes}
+use Rattle.rdf_terms.specs.Names.{refused}
 use Rattle.rdf_turtle.specs.declared.fault.TurtleFaultKind.{TurtleFaultKind}
 use Rattle.rdf_turtle.specs.declared.fault.TurtleFaultKind.TheVariants.{NotUtf8, Token, TooDeep, Syntax, UnknownPrefix, Relative, NoMemory}
 
@@ -10,4 +11,7 @@ fault_name TooDeep = codes "TooDeep"
 fault_name Syntax = codes "Syntax"
 fault_name UnknownPrefix = codes "UnknownPrefix"
 fault_name Relative = codes "Relative"
-fault_name NoMemory = codes "NoMemory"
+fault_name (NoMemory _) = codes "NoMemory"
+
+abbrev pub no_memory : TurtleFaultKind
+no_memory = NoMemory refused

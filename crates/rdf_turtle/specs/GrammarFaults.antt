@@ -6,4 +6,4 @@ use Rattle.rdf_turtle.specs.declared.fault.TurtleFaultKind.TheVariants.{Syntax, 
 
 abbrev pub kind_of : GrammarFault → TurtleFaultKind
 kind_of grammar.Syntax = Syntax
-kind_of (grammar.NoMemory refusal) = NoMemory
+kind_of (grammar.NoMemory refusal) = NoMemory refusal

@@ -27,6 +27,6 @@ IsFaultOf answer (Relative start) = answer ≡ Err kind.Relative
 
 -- the fault of a document for that of a name, at the line where the name stands
 abbrev pub IsNameFault : List ℕ → PrologueFault → TurtleFault → Type 0
-IsNameFault text (NoMemory e) f = (f.kind ≡ kind.NoMemory) × (f.line ≡ 0)
+IsNameFault text (NoMemory e) f = (f.kind ≡ kind.NoMemory e) × (f.line ≡ 0)
 IsNameFault text (UnknownPrefix start) f = (f.kind ≡ kind.UnknownPrefix) × (f.line ≡ line_of text start)
 IsNameFault text (Relative start) f = (f.kind ≡ kind.Relative) × (f.line ≡ line_of text start)

@@ -11,5 +11,5 @@ use Rattle.rdf_turtle.specs.Grammar.{IsDocument}
 abbrev pub Explains : Lexemes → TurtleFaultKind → ℕ → Type 0
 Explains ts TooDeep place = IsTooDeepAt ts place
 Explains ts Syntax place = (document : List Statement) → IsDocument ts document → ⊥
-Explains ts NoMemory place = Unit {0}
+Explains ts (NoMemory _) place = Unit {0}
 Explains ts _ place = ⊥

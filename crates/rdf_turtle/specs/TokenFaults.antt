@@ -12,7 +12,7 @@ use Rattle.rdf_turtle.specs.declared.fault.TurtleFaultKind.TheVariants as fault
 -- A Token fault has the line of the first place where no token begins, and want of memory has line 0; there is no other fault.
 abbrev pub IsFault : List ℕ → TurtleFaultKind → ℕ → Type 0
 IsFault text fault.Token line = (place : ℕ) × Says (chars text) (Err place) × (line ≡ line_of text place)
-IsFault text fault.NoMemory line = line ≡ 0
+IsFault text (fault.NoMemory _) line = line ≡ 0
 IsFault text _ line = ⊥
 
 abbrev pub IsTokenFault : List ℕ → TurtleFault → Type 0
@@ -21,4 +21,4 @@ IsTokenFault text f = IsFault text f.kind f.line
 -- the fault of a text, at a line and no byte
 abbrev pub turtle_fault : List ℕ → TokenFault → TurtleFault
 turtle_fault text (NoToken place) = record { line = line_of text place; kind = fault.Token }
-turtle_fault text (NoMemory why) = record { line = 0; kind = fault.NoMemory }
+turtle_fault text (NoMemory why) = record { line = 0; kind = fault.NoMemory why }

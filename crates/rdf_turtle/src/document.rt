@@ -2,10 +2,10 @@
 ghost use Rattle.std.specs.Prelude.{◌≡◌, ◌≢◌, ℕ, List, length, Option, Some, None, IfSome, MatchResult, slice_get};
 ghost use Rattle.std.specs.Option.{option_copied};
 ghost use Rattle.std.specs.Str.{IsUtf8};
-ghost use Rattle.rdf_turtle.specs.declared.fault.TurtleFaultKind.TheVariants.{NoMemory as NoMemoryKind};
 ghost use Rattle.rdf_tokens.specs.declared.token.Token.{Token as Held};
 ghost use Rattle.rdf_turtle.specs.Bases.{RelativeLacksABase};
 ghost use Rattle.rdf_turtle.specs.Document.{HasTokens, HasTree, IsDocument, TellsFault};
+ghost use Rattle.rdf_turtle.specs.FaultName.{no_memory};
 ghost use Rattle.rdf_turtle.specs.Kept.{IsNameFault};
 ghost use Rattle.rdf_turtle.specs.DocumentLaws.{SomeMeaning, OneDocument, NeverBoth, OneFault};
 ghost use Rattle.rdf_tokens.specs.Lines.{line_of};
@@ -25,11 +25,11 @@ use std::alloc::Global;
 // The fault of this kind, at the line of that byte; want of memory has no line.
 fn fault_at(text: &[u8], kind: TurtleFaultKind, place: usize) -> TurtleFault
     ensures kind { result.kind ≡ kind }
-    ensures line { kind ≢ NoMemoryKind → result.line ≡ line_of text.now place }
-    ensures no_line { kind ≡ NoMemoryKind → result.line ≡ 0 }
+    ensures line { kind ≢ no_memory → result.line ≡ line_of text.now place }
+    ensures no_line { kind ≡ no_memory → result.line ≡ 0 }
 {
     let line = match kind {
-        TurtleFaultKind::NoMemory => 0,
+        TurtleFaultKind::NoMemory(_) => 0,
         _ => line_at(text, place),
     };
     TurtleFault { line, kind }
@@ -44,7 +44,9 @@ fn name_fault(text: &[u8], fault: PrologueFault) -> TurtleFault
             fault_at(text, TurtleFaultKind::UnknownPrefix, start)
         }
         PrologueFault::Relative(start) => fault_at(text, TurtleFaultKind::Relative, start),
-        PrologueFault::NoMemory(_) => fault_at(text, TurtleFaultKind::NoMemory, 0),
+        PrologueFault::NoMemory(refusal) => {
+            fault_at(text, TurtleFaultKind::NoMemory(refusal), 0)
+        }
     }
 }
 
@@ -67,8 +69,12 @@ fn read_tree<'a>(alloc: Global, text: &'a str) -> Result<Items<Statement<'a>>, T
         (λ fault. (base : Option (List ℕ)) → TellsFault base text.now fault fault.kind) }
 {
     let tokens = tokens(alloc, text)?;
-    let Ok(lexemes) = lexemes(alloc, text, tokens.as_slice()) else {
-        return Err(fault_at(text.as_bytes(), TurtleFaultKind::NoMemory, 0));
+    let lexemes = match lexemes(alloc, text, tokens.as_slice()) {
+        Ok(lexemes) => lexemes,
+        Err(refusal) => {
+            let kind = TurtleFaultKind::NoMemory(refusal);
+            return Err(fault_at(text.as_bytes(), kind, 0));
+        }
     };
     let tree = match parse_document(alloc, lexemes.as_slice()) {
         Ok(tree) => tree,

@@ -1,6 +1,6 @@
 //! Why a text is not read.
 ghost use Rattle.std.specs.Prelude.{◌≡◌};
-ghost use Rattle.rdf_turtle.specs.FaultName.{fault_name};
+ghost use Rattle.rdf_turtle.specs.FaultName.{fault_name, no_memory};
 ghost use Rattle.rdf_turtle.specs.GrammarFaults.{kind_of};
 ghost use Rattle.rdf_turtle.specs.declared.fault.TurtleFaultKind.TheVariants.{NoMemory as NoMemoryKind};
 
@@ -32,7 +32,7 @@ pub enum TurtleFaultKind {
     Relative,
     /// Memory was wanting.
     #[error("NoMemory")]
-    NoMemory,
+    NoMemory(NoMemory),
 }
 
 /// A fault, and the number of the line that has it: the first line is line 1, and want of memory
@@ -58,7 +58,7 @@ impl TurtleFaultKind {
             TurtleFaultKind::Syntax => "Syntax",
             TurtleFaultKind::UnknownPrefix => "UnknownPrefix",
             TurtleFaultKind::Relative => "Relative",
-            TurtleFaultKind::NoMemory => "NoMemory",
+            TurtleFaultKind::NoMemory(refusal) => refusal.name(),
         }
     }
 }
@@ -78,31 +78,31 @@ impl From<GrammarFault> for TurtleFaultKind {
     fn from(fault: GrammarFault) -> TurtleFaultKind {
         match fault {
             GrammarFault::Syntax => TurtleFaultKind::Syntax,
-            GrammarFault::NoMemory(_) => TurtleFaultKind::NoMemory,
+            GrammarFault::NoMemory(refusal) => TurtleFaultKind::NoMemory(refusal),
         }
     }
 }
 
 impl From<NoMemory> for TurtleFaultKind {
-    ghost from_gives = { λ _ e. e ≡ NoMemoryKind };
+    ghost from_gives = { λ refusal e. e ≡ NoMemoryKind refusal };
 
-    fn from(_e: NoMemory) -> TurtleFaultKind {
-        TurtleFaultKind::NoMemory
+    fn from(refusal: NoMemory) -> TurtleFaultKind {
+        TurtleFaultKind::NoMemory(refusal)
     }
 }
 
 impl From<AllocError> for TurtleFaultKind {
-    ghost from_gives = { λ _ e. e ≡ NoMemoryKind };
+    ghost from_gives = { λ _ e. e ≡ no_memory };
 
-    fn from(_e: AllocError) -> TurtleFaultKind {
-        TurtleFaultKind::NoMemory
+    fn from(e: AllocError) -> TurtleFaultKind {
+        TurtleFaultKind::NoMemory(NoMemory::from(e))
     }
 }
 
 impl<T: Drop> From<AllocFailed<T>> for TurtleFaultKind {
-    ghost from_gives = { λ _ e. e ≡ NoMemoryKind };
+    ghost from_gives = { λ _ e. e ≡ no_memory };
 
-    fn from(_e: AllocFailed<T>) -> TurtleFaultKind {
-        TurtleFaultKind::NoMemory
+    fn from(e: AllocFailed<T>) -> TurtleFaultKind {
+        TurtleFaultKind::NoMemory(NoMemory::from(e))
     }
 }

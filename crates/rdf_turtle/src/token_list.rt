@@ -19,9 +19,9 @@ fn turtle_fault(text: &str, fault: TokenFault) -> TurtleFault
             line: line_at(text.as_bytes(), place),
             kind: TurtleFaultKind::Token,
         },
-        TokenFault::NoMemory(_) => TurtleFault {
+        TokenFault::NoMemory(refusal) => TurtleFault {
             line: 0,
-            kind: TurtleFaultKind::NoMemory,
+            kind: TurtleFaultKind::NoMemory(refusal),
         },
     }
 }

@@ -1,10 +1,9 @@
 -- Where memory never lacks, each command has one answer, and a script one output, but for the lines that are a reader's own choice.
-use Rattle.std.proofs.Common.{◌≡◌, ◌≢◌, ◌⊎◌, inl, inr, ℕ, Bool, true, false, ◌&&◌, ◌||◌, List, [], ◌∷◌, ◌++◌, map, length, refl, sym, ap, ◌∙◌, subst}
+use Rattle.std.proofs.Common.{◌≡◌, ◌≢◌, inl, inr, ℕ, Bool, true, false, ◌&&◌, ◌||◌, List, [], ◌∷◌, ◌++◌, map, length, refl, sym, ap, ◌∙◌, subst}
 use mathlib.Core.Bool.{true≢false}
 use Rattle.std.specs.Prelude.{codes}
 use Rattle.rdf_lines.specs.QuadText.{quad_text}
 use Rattle.std.specs.List.{concat}
-use Rattle.rdf_terms.specs.Order.{term_cmp, quad_cmp}
 use Rattle.rdf_terms.specs.OrderLaws.{term_cmp_total, term_cmp-IsAntisymmetric, quad_cmp_total, quad_cmp-IsAntisymmetric}
 use Rattle.rdf_dataset.specs.State.{net_between}
 use Rattle.rdf_session.specs.OneReply.{IsFull, OneReply, SameReply}

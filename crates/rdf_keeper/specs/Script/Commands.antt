@@ -2,7 +2,7 @@
 use Rattle.std.specs.Prelude.{ℕ, Bool, false, List, [], ◌∷◌, ◌++◌, nat_eq, codes, if◌then◌else◌, Option, Some, None, unwrap_or}
 use Rattle.std.specs.Str.{bytes_eq}
 use Rattle.rdf_keeper.specs.Script.Lines.{bare}
-use Rattle.rdf_session.specs.Request.{Load}
+use Rattle.rdf_session.specs.Request.{Load, Update}
 use Rattle.rdf_session.specs.Session as session
 use Rattle.rdf_keeper.specs.Script.LineWords.{words, is_name}
 use Rattle.rdf_session.specs.declared.format.Format.{Format}
@@ -88,10 +88,10 @@ line_of_words (word ∷ rest) =
     if bytes_eq word (codes "%update") then opens UpdateBody else
     if bytes_eq word (codes "%query") then opens QueryBody else asks (asked word rest)
 
--- a body that has ended: updates and queries aren't there yet
+-- a body that has ended: queries aren't there yet
 abbrev pub body_asks : Body → List ℕ → Asked
 body_asks (LoadBody format) text = act (session.Do (Load format text))
-body_asks UpdateBody text = bad
+body_asks UpdateBody text = act (session.Do (Update text))
 body_asks QueryBody text = bad
 body_asks UnknownBody text = bad
 

@@ -136,6 +136,7 @@ pub(crate) fn serve(alloc: Global, keeper: &mut Keeper, command: Command<'_>) ->
 {
     match command {
         Command::Load(format, text) => without_payload(alloc, keeper.load(format, text)),
+        Command::Update(text) => without_payload(alloc, keeper.update(text)),
         Command::Undo => without_payload(alloc, keeper.undo()),
         Command::Redo => without_payload(alloc, keeper.redo()),
         Command::Mark(name) => marked(alloc, keeper.mark(name)),

@@ -23,6 +23,7 @@ pub enum Listing {
 #[derive(Clone, Copy)]
 pub(crate) enum Command<'a> {
     Load(Format, &'a [u8]),
+    Update(&'a [u8]),
     Undo,
     Redo,
     Mark(&'a [u8]),

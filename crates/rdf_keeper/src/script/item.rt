@@ -32,13 +32,14 @@ fn is_end(line: &[u8]) -> bool
     without_end(line) == b"%end".as_slice()
 }
 
-// What a body that has ended asks for. Updates and queries aren't there yet.
+// What a body that has ended asks for. Queries aren't there yet.
 fn body_asks(body: Body, text: &[u8]) -> Command<'_>
     ensures { asked_of result ≡ body_asks body text.now }
 {
     match body {
         Body::Load(format) => Command::Load(format, text),
-        Body::Update | Body::Query | Body::Unknown => Command::Bad,
+        Body::Update => Command::Update(text),
+        Body::Query | Body::Unknown => Command::Bad,
     }
 }
 

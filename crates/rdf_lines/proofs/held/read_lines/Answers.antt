@@ -1,8 +1,6 @@
-use Rattle.std.proofs.Common.{◌≡◌, refl, sym, ◌∙◌, subst, arith, Option, Ok, ◌+◌}
+use Rattle.std.proofs.Common.{◌≡◌, refl, sym, ◌∙◌, subst, arith, rules, Option, Ok, ◌+◌}
 use Rattle.rdf_terms.specs.declared.quad.Quad.{Quad}
-use Rattle.rdf_lines.specs.declared.fault.FaultKind.TheVariants.{NoMemory}
 use Rattle.rdf_lines.specs.Reader.{ReadsLine}
-use Rattle.rdf_lines.proofs.PieceLemmas.{kept_ok}
 use Rattle.rdf_lines.proofs.HeldLemmas.{past_silence, past_statement, at_fault, at_line, at_end, is_nil}
 use Rattle.rdf_lines.proofs.held.read_lines.Goals as goal
 
@@ -28,7 +26,7 @@ loop-rest-preserved c =
     let line = c.first_line.result.0.now in
     let read = subst (λ (a : Option Quad). ReadsLine c.args.format line now.progress.number now.progress.labels (Ok a) p.number p.labels) c.in-Ok-Some.field-0-is c.in-Ok-Some.ensures in (
       past_statement c.args.format c.args.bytes.now now.quads.items _ c.in-Ok-Some.quad now.progress.number p.number now.progress.labels p.labels now.rest.now line c.first_line.result.1.now now.invariant.0 c.first_line.ensures.lines read
-          (kept_ok c.push.result _ _ _ (sym c.is_err.ensures.value ∙ c.if-is_err.false) c.push.ensures.items),
+          (search rules),
       (let a : p.number ≡ now.progress.number + 1 = read.4 in omega (arith, a, now.invariant.1, c.first_line.ensures.falls)),
     )
 
@@ -37,7 +35,7 @@ returns c =
     let now = c.loop-rest in
     at_end c.args.format c.args.bytes.now now.quads.items now.progress.number now.progress.labels now.rest.now now.invariant.0 (is_nil now.rest.now (sym c.is_empty.ensures ∙ c.loop-rest-test.false))
 
-pub returns-then-is_err : goal.returns-then-is_err
-returns-then-is_err c =
+pub returns-in-Err-push : goal.returns-in-Err-push
+returns-in-Err-push c =
     let now = c.loop-rest in
-    at_line c.args.format c.args.bytes.now now.quads.items now.progress.number now.progress.labels now.rest.now c.first_line.result.0.now c.first_line.result.1.now (record { line = now.progress.number; kind = NoMemory }) now.invariant.0 c.first_line.ensures.lines refl refl
+    at_line c.args.format c.args.bytes.now now.quads.items now.progress.number now.progress.labels now.rest.now c.first_line.result.0.now c.first_line.result.1.now (record { line = now.progress.number; kind = c.from.result }) now.invariant.0 c.first_line.ensures.lines refl c.from.ensures

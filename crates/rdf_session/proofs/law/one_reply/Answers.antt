@@ -8,4 +8,7 @@ returns c =
       document = c.one_meaning.ensures.document;
       never_both = c.one_meaning.ensures.never_both;
       fault = c.one_meaning.ensures.fault;
+      request = c.one_request.ensures.request;
+      request_or_fault = c.one_request.ensures.never_both;
+      request_fault = c.one_request.ensures.fault;
     })
