@@ -1,31 +1,27 @@
 -- Where no more than so many brackets are open at once, no triples nest deeper.
-use Rattle.std.proofs.Common.{◌≡◌, ℕ, zero, suc, ◌+◌, ◌-◌, ◌≤◌, List, [], ◌∷◌, refl, ◌∙◌, ap, arith, true, false}
+use Rattle.std.proofs.Common.{◌≡◌, ℕ, zero, suc, ◌+◌, ◌-◌, ◌≤◌, [], ◌∷◌, refl, ◌∙◌, ap, arith}
 use Rattle.std.specs.Prelude.{option_to_list}
-use Rattle.rdf_grammar.specs.declared.tree.Name.TheVariants.{Full}
-use Rattle.rdf_grammar.specs.declared.tree.Literal.TheVariants as l
-use Rattle.rdf_grammar.specs.Terminals.{Piece}
 use Rattle.rdf_grammar.specs.Nesting.{open_behind}
 use Rattle.rdf_grammar.specs.Derivations as grammar
 use Rattle.rdf_grammar.specs.Derivations.{Then, Star}
-use Rattle.rdf_grammar.proofs.Nests.{Keeps, then_keeps, pure_keeps, or_keeps, the_keeps, value_keeps, map_keeps, behind_keeps, word_keeps, leaf_keeps, maybe_keeps, star_keeps, one_keeps, Below, after}
+use Rattle.rdf_grammar.proofs.Nests.{Keeps, then_keeps, pure_keeps, or_keeps, the_keeps, map_keeps, behind_keeps, word_keeps, leaf_keeps, maybe_keeps, star_keeps, one_keeps, Below, after}
+use Rattle.rdf_grammar.proofs.ProductionNests as shared
 use Rattle.sparql_grammar.specs.declared.terminal.Terminal.{Terminal}
 use Rattle.sparql_grammar.specs.declared.terminal.Terminal.TheVariants as terminal
 use Rattle.sparql_grammar.specs.declared.tree.Node.{Node}
 use Rattle.sparql_grammar.specs.declared.tree.Node.TheVariants as n
-use Rattle.sparql_grammar.specs.declared.tree.Property.{Property}
-use Rattle.sparql_grammar.specs.declared.tree.Triples.{Triples}
 use Rattle.sparql_grammar.specs.declared.tree.VarOrIri.TheVariants as i
 use Rattle.sparql_grammar.specs.declared.tree.Verb.TheVariants as v
 use Rattle.sparql_grammar.specs.Lexemes.{Lexemes, Derives}
-use Rattle.sparql_grammar.specs.Terminals.{bracket}
-use Rattle.sparql_grammar.specs.WordReading.{prefixed}
+use Rattle.sparql_grammar.specs.Terminals.{bracket, word}
 use Rattle.sparql_grammar.specs.Reading as read
-use Rattle.sparql_grammar.specs.WordGrammar.{Iri, Suffix, RDFLiteral, NumericLiteral, BooleanLiteral, ALiteral}
+use Rattle.sparql_grammar.specs.WordGrammar.{Iri, ALiteral}
 use Rattle.sparql_grammar.specs.Grammar as g
+use Rattle.sparql_grammar.proofs.GrammarWords.{plain}
 
 module _ (limit b : ℕ) where
   pub iri_keeps : Keeps bracket limit b Iri Iri
-  iri_keeps = or_keeps bracket limit b _ _ _ _ (leaf_keeps bracket limit b Full terminal.Iri refl) (leaf_keeps bracket limit b prefixed terminal.Pname refl)
+  iri_keeps = shared.iri_keeps word bracket plain limit b
 
   pub var_or_iri_keeps : Keeps bracket limit b g.AVarOrIri g.AVarOrIri
   var_or_iri_keeps = or_keeps bracket limit b _ _ _ _ (leaf_keeps bracket limit b i.Variable terminal.Variable refl) (map_keeps bracket limit b i.Name _ _ iri_keeps)
@@ -34,22 +30,8 @@ module _ (limit b : ℕ) where
   verb_keeps = or_keeps bracket limit b _ _ _ _ (leaf_keeps bracket limit b v.Variable terminal.Variable refl)
       (or_keeps bracket limit b _ _ _ _ (map_keeps bracket limit b v.Name _ _ iri_keeps) (word_keeps bracket limit b terminal.A v.Type refl))
 
-  suffix_keeps : (form : Piece) → Keeps bracket limit b (Suffix form) (Suffix form)
-  suffix_keeps form = or_keeps bracket limit b _ _ _ _ (leaf_keeps bracket limit b (l.Tagged form) terminal.AtWord refl)
-      (or_keeps bracket limit b _ _ _ _ (behind_keeps bracket limit b terminal.Caret _ _ refl (map_keeps bracket limit b (l.Typed form) _ _ iri_keeps)) (pure_keeps bracket limit b (l.Plain form)))
-
-  text_keeps : Keeps bracket limit b RDFLiteral RDFLiteral
-  text_keeps = then_keeps bracket limit b _ _ _ _ (value_keeps bracket limit b terminal.Text refl) suffix_keeps
-
-  number_keeps : Keeps bracket limit b NumericLiteral NumericLiteral
-  number_keeps = or_keeps bracket limit b _ _ _ _ (leaf_keeps bracket limit b l.Integer terminal.Integer refl)
-      (or_keeps bracket limit b _ _ _ _ (leaf_keeps bracket limit b l.Decimal terminal.Decimal refl) (leaf_keeps bracket limit b l.Double terminal.Double refl))
-
-  boolean_keeps : Keeps bracket limit b BooleanLiteral BooleanLiteral
-  boolean_keeps = or_keeps bracket limit b _ _ _ _ (word_keeps bracket limit b terminal.True (l.Boolean true) refl) (word_keeps bracket limit b terminal.False (l.Boolean false) refl)
-
   literal_keeps : Keeps bracket limit b ALiteral ALiteral
-  literal_keeps = or_keeps bracket limit b _ _ _ _ text_keeps (or_keeps bracket limit b _ _ _ _ number_keeps boolean_keeps)
+  literal_keeps = shared.literal_keeps word bracket plain limit b
 
   -- lists of nodes with as many brackets open as before them
   module _ (P Q : Derives Node) (p : Keeps bracket limit b P Q) where

@@ -1,10 +1,10 @@
 -- Triples are read just as they are derived.
-use Rattle.std.proofs.Common.{◌≡◌, ℕ, suc, ◌<◌, ◌≤◌, Bool, true, false, ◌&&◌, not, cond, List, [], ◌∷◌, length, Option, Some, None, refl, sym, ◌∙◌, ap, arith, inl, inr, ◌⊎◌}
+use Rattle.std.proofs.Common.{◌≡◌, ℕ, suc, ◌<◌, ◌≤◌, Bool, true, false, ◌&&◌, not, cond, List, [], ◌∷◌, length, Option, Some, None, refl, sym, ◌∙◌, ap, arith, inl, inr}
 use Rattle.std.proofs.lemmas.Bool.{and_parts, and_from}
 use Rattle.rdf_grammar.specs.Steps as steps
 use Rattle.rdf_grammar.specs.Readings as reading
 use Rattle.rdf_grammar.specs.Readings.{next}
-use Rattle.rdf_grammar.specs.Terminals.{Piece, next_terminal}
+use Rattle.rdf_grammar.specs.Terminals.{next_terminal}
 use Rattle.rdf_grammar.specs.Derivations as grammar
 use Rattle.rdf_grammar.specs.Derivations.{Then, Star, stop, more}
 use Rattle.rdf_grammar.proofs.Decides.{always, Decides, then_decides, pure_decides, repeat_decides}
@@ -13,7 +13,6 @@ use Rattle.rdf_grammar.proofs.Combinators.{one_decides, also, maybe_decides}
 use Rattle.sparql_grammar.specs.declared.terminal.Terminal.{Terminal}
 use Rattle.sparql_grammar.specs.declared.terminal.Terminal.TheVariants as terminal
 use Rattle.sparql_grammar.specs.declared.tree.Node.{Node}
-use Rattle.sparql_grammar.specs.declared.tree.Node.TheVariants as n
 use Rattle.sparql_grammar.specs.declared.tree.Property.{Property}
 use Rattle.sparql_grammar.specs.declared.tree.Triples.{Triples}
 use Rattle.sparql_grammar.specs.Lexemes as lexemes
@@ -23,7 +22,7 @@ use Rattle.sparql_grammar.specs.Proper.{is_filled, stands_alone}
 use Rattle.sparql_grammar.specs.Reading as read
 use Rattle.sparql_grammar.specs.Grammar as g
 use Rattle.sparql_grammar.proofs.GrammarWords.{after_node}
-use Rattle.sparql_grammar.proofs.GrammarNodes.{closes_list, ends_list, list_node, seen_passes, IsNodeRule, node_rule, graph_node_rule, property_list_not_empty_decides, property_list_decides, not_empty_behind, list_behind}
+use Rattle.sparql_grammar.proofs.GrammarNodes.{closes_list, ends_list, seen_passes, IsNodeRule, node_rule, property_list_not_empty_decides, property_list_decides, not_empty_behind, list_behind}
 use Rattle.sparql_grammar.proofs.Trees.{alone_variable, alone_name, alone_literal, alone_label, alone_blank, alone_collection}
 
 -- ---- which subjects stand alone

@@ -1,160 +1,138 @@
--- Names and literals are read just as they are derived.
-use Rattle.std.proofs.Common.{◌≡◌, ◌<◌, ◌≤◌, Bool, true, false, length, Option, Some, refl, ap, arith, inl, inr, ◌⊎◌}
+-- What SPARQL's terminals are in names and literals, which are read just as they are derived.
+use Rattle.std.proofs.Common.{◌≡◌, ◌<◌, Bool, true, [], ◌∷◌, length, Option, Some, refl, ap, inl, inr, ◌⊎◌}
+use Rattle.std.specs.Option.{option_and_then}
+use Rattle.rdf_grammar.specs.declared.bracket.Bracket.TheVariants.{Neither}
+use Rattle.rdf_grammar.specs.declared.tree.Name.{Name}
+use Rattle.rdf_grammar.specs.declared.tree.Literal.{Literal}
+use Rattle.rdf_grammar.specs.declared.word.Word.{Word}
+use Rattle.rdf_grammar.specs.declared.word.Word.TheVariants as w
+use Rattle.rdf_grammar.specs.Derivations as grammar
+use Rattle.rdf_grammar.specs.Derivations.{◌>>◌}
+use Rattle.rdf_grammar.specs.ProductionReadings as readings
+use Rattle.rdf_grammar.specs.ProductionReadings.{ends_literal}
+use Rattle.rdf_grammar.specs.Productions as productions
+use Rattle.rdf_grammar.specs.Terminals.{Piece, next_terminal}
+use Rattle.rdf_grammar.specs.Words.{next_word}
+use Rattle.rdf_grammar.proofs.Decides.{always, Decides}
+use Rattle.rdf_grammar.proofs.Productions as shared
 use Rattle.sparql_grammar.specs.declared.terminal.Terminal.{Terminal}
 use Rattle.sparql_grammar.specs.declared.terminal.Terminal.TheVariants as terminal
-use Rattle.rdf_grammar.specs.declared.tree.Name.{Name}
-use Rattle.rdf_grammar.specs.declared.tree.Name.TheVariants.{Full}
-use Rattle.rdf_grammar.specs.declared.tree.Literal.{Literal}
-use Rattle.rdf_grammar.specs.declared.tree.Literal.TheVariants as l
-use Rattle.rdf_grammar.specs.Steps as steps
-use Rattle.rdf_grammar.specs.Terminals as front
-use Rattle.rdf_grammar.specs.Terminals.{Piece, next_terminal}
-use Rattle.rdf_grammar.specs.Derivations as grammar
-use Rattle.rdf_grammar.proofs.Decides.{always, Decides, some_pair}
-use Rattle.rdf_grammar.proofs.Terminals.{the_decides, value_decides, the_terminal, value_terminal, any_the, word_sound, word_complete, word_strict}
-use Rattle.rdf_grammar.proofs.Combinators.{seq, last}
-use Rattle.sparql_grammar.specs.Lexemes as lexemes
-use Rattle.sparql_grammar.specs.Lexemes.{Lexemes, Test}
-use Rattle.sparql_grammar.specs.Terminals.{same_terminal, apart}
+use Rattle.sparql_grammar.specs.Lexemes.{Lexemes, Derives, Test}
+use Rattle.sparql_grammar.specs.Terminals.{word, bracket}
 use Rattle.sparql_grammar.specs.WordReading as read
 use Rattle.sparql_grammar.specs.WordGrammar as g
 
+-- only this terminal is the word
+abbrev pub IsJust : Word → Terminal → Type 0
+IsJust w k = (j : Terminal) → word j ≡ Some w → j ≡ k
+
+pub is_iri : IsJust w.Iri terminal.Iri
+is_iri terminal.Iri h = refl
+is_iri _ h = absurd (cc)
+
+pub is_pname : IsJust w.Pname terminal.Pname
+is_pname terminal.Pname h = refl
+is_pname _ h = absurd (cc)
+
+pub is_text : IsJust w.Text terminal.Text
+is_text terminal.Text h = refl
+is_text _ h = absurd (cc)
+
+pub is_tag : IsJust w.Tag terminal.AtWord
+is_tag terminal.AtWord h = refl
+is_tag _ h = absurd (cc)
+
+pub is_caret : IsJust w.Caret terminal.Caret
+is_caret terminal.Caret h = refl
+is_caret _ h = absurd (cc)
+
+pub is_integer : IsJust w.Integer terminal.Integer
+is_integer terminal.Integer h = refl
+is_integer _ h = absurd (cc)
+
+pub is_decimal : IsJust w.Decimal terminal.Decimal
+is_decimal terminal.Decimal h = refl
+is_decimal _ h = absurd (cc)
+
+pub is_double : IsJust w.Double terminal.Double
+is_double terminal.Double h = refl
+is_double _ h = absurd (cc)
+
+pub is_true : IsJust w.True terminal.True
+is_true terminal.True h = refl
+is_true _ h = absurd (cc)
+
+pub is_false : IsJust w.False terminal.False
+is_false terminal.False h = refl
+is_false _ h = absurd (cc)
+
+-- a lexeme of the word is one of that terminal
+
+the_is : (w : Word) (k : Terminal) → IsJust w k → (ts : Lexemes) (u : Unit {0}) (us : Lexemes) → productions.the word w ts u us → grammar.the k ts u us
+the_is w k is ts u us d = (d.0, is d.0.terminal d.1, d.2)
+
+pub value_is : (w : Word) (k : Terminal) → IsJust w k → (ts : Lexemes) (v : Piece) (us : Lexemes) → productions.value word w ts v us → grammar.value k ts v us
+value_is w k is ts v us d = (d.0, is d.0.terminal d.1, d.2, d.3)
+
+pub behind_is : {A : Type 0} (w : Word) (k : Terminal) (P : Derives A) → IsJust w k → (ts : Lexemes) (x : A) (us : Lexemes) → (productions.the word w >> P) ts x us → (grammar.the k >> P) ts x us
+behind_is w k P is ts x us d = record { first = d.first; mid = d.mid; reads = the_is w k is ts d.first d.mid d.reads; goes = d.goes }
+
+next_is : (w : Word) (k : Terminal) → IsJust w k → (ts : Lexemes) → next_word word ts ≡ Some w → next_terminal ts ≡ Some k
+next_is w k is [] h = absurd (cc)
+next_is w k is (t ∷ ts) h = ap Some (is t.terminal h)
+
+-- no bracket is one
+pub plain : (k : Terminal) (w : Word) → word k ≡ Some w → bracket k ≡ Neither
+plain terminal.OpenBracket w h = absurd (cc)
+plain terminal.CloseBracket w h = absurd (cc)
+plain terminal.Open w h = absurd (cc)
+plain terminal.Close w h = absurd (cc)
+plain terminal.OpenBrace w h = absurd (cc)
+plain terminal.CloseBrace w h = absurd (cc)
+plain _ w h = refl
+
 -- ---- iri
 
-full : Decides (steps.◌<$>◌ Full (lexemes.value terminal.Iri)) (grammar.◌<$>◌ Full (grammar.value terminal.Iri)) always
-full = last Full _ _ always (value_decides same_terminal apart terminal.Iri)
-
-prefixed : Decides (steps.◌<$>◌ read.prefixed (lexemes.value terminal.Pname)) (grammar.◌<$>◌ read.prefixed (grammar.value terminal.Pname)) always
-prefixed = last read.prefixed _ _ always (value_decides same_terminal apart terminal.Pname)
-
-iri_sound : (k : Option Terminal) (ts : Lexemes) (x : Name) (us : Lexemes) → read.iri_by k ts ≡ Some (x, us) → g.Iri ts x us
-iri_sound (Some terminal.Iri) ts x us h = inl (full.sound ts x us h)
-iri_sound (Some terminal.Pname) ts x us h = inr (prefixed.sound ts x us h)
-iri_sound _ ts x us h = absurd (cc)
-
-iri_complete : (ts : Lexemes) (x : Name) (us : Lexemes) → g.Iri ts x us → read.iri_by (next_terminal ts) ts ≡ Some (x, us)
-iri_complete ts x us (inl h) = rw (value_terminal terminal.Iri ts h.mid h.first h.reads) (full.complete ts x us h refl)
-iri_complete ts x us (inr h) = rw (value_terminal terminal.Pname ts h.mid h.first h.reads) (prefixed.complete ts x us h refl)
+either_terminal : (ts : Lexemes) → (next_word word ts ≡ Some w.Iri) ⊎ (next_word word ts ≡ Some w.Pname) → (next_terminal ts ≡ Some terminal.Iri) ⊎ (next_terminal ts ≡ Some terminal.Pname)
+either_terminal ts (inl q) = inl (next_is w.Iri terminal.Iri is_iri ts q)
+either_terminal ts (inr q) = inr (next_is w.Pname terminal.Pname is_pname ts q)
 
 pub iri_terminal : (ts : Lexemes) (x : Name) (us : Lexemes) → g.Iri ts x us → (next_terminal ts ≡ Some terminal.Iri) ⊎ (next_terminal ts ≡ Some terminal.Pname)
-iri_terminal ts x us (inl h) = inl (value_terminal terminal.Iri ts h.mid h.first h.reads)
-iri_terminal ts x us (inr h) = inr (value_terminal terminal.Pname ts h.mid h.first h.reads)
+iri_terminal ts x us h = either_terminal ts (shared.iri_begins word ts x us h)
+
+either_passes : (test : Option Terminal → Bool) → test (Some terminal.Iri) ≡ true → test (Some terminal.Pname) ≡ true
+    → (k : Option Terminal) → (k ≡ Some terminal.Iri) ⊎ (k ≡ Some terminal.Pname) → test k ≡ true
+either_passes test a b k (inl q) = rw q a
+either_passes test a b k (inr q) = rw q b
 
 -- what names begin with passes the tests that both its terminals pass
 pub iri_passes : (test : Option Terminal → Bool) → test (Some terminal.Iri) ≡ true → test (Some terminal.Pname) ≡ true
     → (ts : Lexemes) (x : Name) (us : Lexemes) → g.Iri ts x us → test (next_terminal ts) ≡ true
-iri_passes test a b ts x us (inl h) = rw (value_terminal terminal.Iri ts h.mid h.first h.reads) a
-iri_passes test a b ts x us (inr h) = rw (value_terminal terminal.Pname ts h.mid h.first h.reads) b
+iri_passes test a b ts x us h = either_passes test a b (next_terminal ts) (iri_terminal ts x us h)
 
 pub iri_strict : (ts : Lexemes) (x : Name) (us : Lexemes) → g.Iri ts x us → length us < length ts
-iri_strict ts x us (inl h) = omega (arith, ap length h.reads.3, ap length h.goes.1)
-iri_strict ts x us (inr h) = omega (arith, ap length h.reads.3, ap length h.goes.1)
+iri_strict = shared.iri_strict word
 
 pub iri_decides : Decides read.iri g.Iri always
-unfolding read.iri
-iri_decides = record {
-  sound = λ ts x us h. iri_sound (next_terminal ts) ts x us h;
-  complete = λ ts x us h _. iri_complete ts x us h;
-  shorter = λ ts x us h. let e = iri_strict ts x us h in omega arith;
-}
+iri_decides = shared.iri_decides word
 
 -- ---- literals, behind which stands no tag and no "^^"
 
 abbrev pub ends_node : Option Terminal → Bool
-ends_node (Some terminal.AtWord) = false
-ends_node (Some terminal.Caret) = false
-ends_node _ = true
+ends_node k = ends_literal (option_and_then word k)
 
 abbrev pub after_node : Test
 after_node us = ends_node (next_terminal us)
 
-module _ (form : Piece) where
-  tagged : Decides (steps.◌<$>◌ (l.Tagged form) (lexemes.value terminal.AtWord)) (grammar.◌<$>◌ (l.Tagged form) (grammar.value terminal.AtWord)) always
-  tagged = last (l.Tagged form) _ _ always (value_decides same_terminal apart terminal.AtWord)
-
-  typed : Decides (steps.◌>>◌ (lexemes.the terminal.Caret) (steps.◌<$>◌ (l.Typed form) read.iri)) (grammar.◌>>◌ (grammar.the terminal.Caret) (grammar.◌<$>◌ (l.Typed form) g.Iri)) always
-  typed = seq _ _ _ _ always (the_decides same_terminal apart terminal.Caret) (λ _. last (l.Typed form) _ _ always iri_decides)
-
-  suffix_sound : (k : Option Terminal) (ts : Lexemes) (x : Literal) (us : Lexemes) → next_terminal ts ≡ k → read.suffix_by form k ts ≡ Some (x, us) → g.Suffix form ts x us
-  suffix_sound (Some terminal.AtWord) ts x us q h = inl (tagged.sound ts x us h)
-  suffix_sound (Some terminal.Caret) ts x us q h = inr (inl (typed.sound ts x us (rw (any_the same_terminal apart terminal.Caret ts q) at h)))
-  suffix_sound _ ts x us q h = inr (inr (some_pair (l.Plain form) x ts us h))
-
-  plain_at : (k : Option Terminal) → ends_node k ≡ true → read.suffix_by form k ≡ steps.pure (l.Plain form)
-  plain_at (Some terminal.AtWord) h = absurd (cc)
-  plain_at (Some terminal.Caret) h = absurd (cc)
-  plain_at _ h = refl
-
-  suffix_complete : (ts : Lexemes) (x : Literal) (us : Lexemes) → g.Suffix form ts x us → after_node us ≡ true → read.suffix_by form (next_terminal ts) ts ≡ Some (x, us)
-  suffix_complete ts x us (inl h) e = rw (value_terminal terminal.AtWord ts h.mid h.first h.reads) (tagged.complete ts x us h refl)
-  suffix_complete ts x us (inr (inl h)) e = let q = the_terminal terminal.Caret ts h.mid h.first h.reads in rw q (rw (any_the same_terminal apart terminal.Caret ts q) (typed.complete ts x us h refl))
-  suffix_complete ts x us (inr (inr h)) e = rw (h.1, plain_at (next_terminal us) e, h.0) refl
-
-  suffix_shorter : (ts : Lexemes) (x : Literal) (us : Lexemes) → g.Suffix form ts x us → length us ≤ length ts
-  suffix_shorter ts x us (inl h) = tagged.shorter ts x us h
-  suffix_shorter ts x us (inr (inl h)) = typed.shorter ts x us h
-  suffix_shorter ts x us (inr (inr h)) = omega (arith, ap length h.1)
-
-  suffix_decides : Decides (steps.◌>>=◌ front.peek (read.suffix_by form)) (g.Suffix form) after_node
-  suffix_decides = record {
-    sound = λ ts x us h. suffix_sound (next_terminal ts) ts x us refl h;
-    complete = suffix_complete;
-    shorter = suffix_shorter;
-  }
-
-text_decides : Decides read.text g.RDFLiteral after_node
-unfolding read.text
-text_decides = seq _ _ _ _ after_node (value_decides same_terminal apart terminal.Text) suffix_decides
-
-number : (f : Piece → Literal) (k : Terminal) → Decides (steps.◌<$>◌ f (lexemes.value k)) (grammar.◌<$>◌ f (grammar.value k)) always
-number f k = last f _ _ always (value_decides same_terminal apart k)
-
-literal_sound : (k : Option Terminal) (ts : Lexemes) (x : Literal) (us : Lexemes) → next_terminal ts ≡ k → read.literal_by k ts ≡ Some (x, us) → g.ALiteral ts x us
-literal_sound (Some terminal.Integer) ts x us q h = inr (inl (inl ((number l.Integer terminal.Integer).sound ts x us h)))
-literal_sound (Some terminal.Decimal) ts x us q h = inr (inl (inr (inl ((number l.Decimal terminal.Decimal).sound ts x us h))))
-literal_sound (Some terminal.Double) ts x us q h = inr (inl (inr (inr ((number l.Double terminal.Double).sound ts x us h))))
-literal_sound (Some terminal.True) ts x us q h = inr (inr (inl (word_sound same_terminal apart terminal.True (l.Boolean true) x ts us q h)))
-literal_sound (Some terminal.False) ts x us q h = inr (inr (inr (word_sound same_terminal apart terminal.False (l.Boolean false) x ts us q h)))
-literal_sound _ ts x us q h = inl (text_decides.sound ts x us h)
-
-literal_complete : (ts : Lexemes) (x : Literal) (us : Lexemes) → g.ALiteral ts x us → after_node us ≡ true → read.literal_by (next_terminal ts) ts ≡ Some (x, us)
-literal_complete ts x us (inl h) e = rw (value_terminal terminal.Text ts h.mid h.first h.reads) (text_decides.complete ts x us h e)
-literal_complete ts x us (inr (inl (inl h))) e = rw (value_terminal terminal.Integer ts h.mid h.first h.reads) ((number l.Integer terminal.Integer).complete ts x us h refl)
-literal_complete ts x us (inr (inl (inr (inl h)))) e = rw (value_terminal terminal.Decimal ts h.mid h.first h.reads) ((number l.Decimal terminal.Decimal).complete ts x us h refl)
-literal_complete ts x us (inr (inl (inr (inr h)))) e = rw (value_terminal terminal.Double ts h.mid h.first h.reads) ((number l.Double terminal.Double).complete ts x us h refl)
-literal_complete ts x us (inr (inr (inl h))) e = let q = the_terminal terminal.True ts h.mid h.first h.reads in rw q (word_complete same_terminal apart terminal.True (l.Boolean true) x ts us q h)
-literal_complete ts x us (inr (inr (inr h))) e = let q = the_terminal terminal.False ts h.mid h.first h.reads in rw q (word_complete same_terminal apart terminal.False (l.Boolean false) x ts us q h)
-
 pub literal_strict : (ts : Lexemes) (x : Literal) (us : Lexemes) → g.ALiteral ts x us → length us < length ts
-literal_strict ts x us (inl h) = let e = suffix_shorter h.first h.mid x us h.goes in omega (arith, ap length h.reads.3)
-literal_strict ts x us (inr (inl (inl h))) = omega (arith, ap length h.reads.3, ap length h.goes.1)
-literal_strict ts x us (inr (inl (inr (inl h)))) = omega (arith, ap length h.reads.3, ap length h.goes.1)
-literal_strict ts x us (inr (inl (inr (inr h)))) = omega (arith, ap length h.reads.3, ap length h.goes.1)
-literal_strict ts x us (inr (inr (inl h))) = word_strict terminal.True _ x ts us h
-literal_strict ts x us (inr (inr (inr h))) = word_strict terminal.False _ x ts us h
+literal_strict = shared.literal_strict word
 
 -- the terminals that begin a literal
 abbrev pub begins_literal : Option Terminal → Bool
-begins_literal (Some terminal.Text) = true
-begins_literal (Some terminal.Integer) = true
-begins_literal (Some terminal.Decimal) = true
-begins_literal (Some terminal.Double) = true
-begins_literal (Some terminal.True) = true
-begins_literal (Some terminal.False) = true
-begins_literal _ = false
+begins_literal k = readings.begins_literal (option_and_then word k)
 
 pub literal_begins : (ts : Lexemes) (x : Literal) (us : Lexemes) → g.ALiteral ts x us → begins_literal (next_terminal ts) ≡ true
-literal_begins ts x us (inl h) = rw (value_terminal terminal.Text ts h.mid h.first h.reads) refl
-literal_begins ts x us (inr (inl (inl h))) = rw (value_terminal terminal.Integer ts h.mid h.first h.reads) refl
-literal_begins ts x us (inr (inl (inr (inl h)))) = rw (value_terminal terminal.Decimal ts h.mid h.first h.reads) refl
-literal_begins ts x us (inr (inl (inr (inr h)))) = rw (value_terminal terminal.Double ts h.mid h.first h.reads) refl
-literal_begins ts x us (inr (inr (inl h))) = rw (the_terminal terminal.True ts h.mid h.first h.reads) refl
-literal_begins ts x us (inr (inr (inr h))) = rw (the_terminal terminal.False ts h.mid h.first h.reads) refl
+literal_begins = shared.literal_begins word
 
 pub literal_decides : Decides read.literal g.ALiteral after_node
-unfolding read.literal
-literal_decides = record {
-  sound = λ ts x us h. literal_sound (next_terminal ts) ts x us refl h;
-  complete = literal_complete;
-  shorter = λ ts x us h. let e = literal_strict ts x us h in omega arith;
-}
+literal_decides = shared.literal_decides word

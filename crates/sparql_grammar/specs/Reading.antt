@@ -14,7 +14,7 @@ use Rattle.sparql_grammar.specs.declared.tree.Triples.{Triples}
 use Rattle.rdf_grammar.specs.Readings.{any, one, optional, repeat, next}
 use Rattle.rdf_grammar.specs.Steps.{◌>>=◌, ◌>>◌, ◌<$>◌, pure, none}
 use Rattle.rdf_grammar.specs.Terminals.{peek, next_terminal}
-use Rattle.sparql_grammar.specs.Lexemes.{Lexemes, Reading, Test, sees, the, value}
+use Rattle.sparql_grammar.specs.Lexemes.{Reading, Test, sees, the, value}
 use Rattle.sparql_grammar.specs.Proper.{stands_alone}
 use Rattle.sparql_grammar.specs.WordReading.{iri, literal}
 

@@ -1,5 +1,5 @@
 -- The terminals of SPARQL's grammar (SPARQL 1.1 Query, section 19.8).
-use Rattle.std.specs.Prelude.{ℕ, Bool, if◌then◌else◌, List, codes, map, refl}
+use Rattle.std.specs.Prelude.{ℕ, Bool, if◌then◌else◌, List, Option, Some, None, codes, map, refl}
 use Rattle.std.specs.Char.{to_ascii_lowercase}
 use Rattle.std.specs.Str.{bytes_eq, encode_utf8_all}
 use denote.Enum.Bare.{sameb, same_true, true_same}
@@ -7,6 +7,8 @@ use Rattle.rdf_tokens.specs.declared.token.Kind.{Kind}
 use Rattle.rdf_tokens.specs.declared.token.Kind.TheVariants as kind
 use Rattle.rdf_grammar.specs.declared.bracket.Bracket.{Bracket}
 use Rattle.rdf_grammar.specs.declared.bracket.Bracket.TheVariants as turn
+use Rattle.rdf_grammar.specs.declared.word.Word.{Word}
+use Rattle.rdf_grammar.specs.declared.word.Word.TheVariants as w
 use Rattle.rdf_grammar.specs.Terminals.{TellsApart}
 use Rattle.sparql_grammar.specs.contracts.terminal.Terminal.{the_type}
 use Rattle.sparql_grammar.specs.declared.terminal.Terminal.{Terminal}
@@ -112,3 +114,18 @@ bracket terminal.CloseBracket = turn.Closes
 bracket terminal.Close = turn.Closes
 bracket terminal.CloseBrace = turn.Closes
 bracket _ = turn.Neither
+
+-- ---- what it is in IRIs and literals
+
+abbrev pub word : Terminal → Option Word
+word terminal.Iri = Some w.Iri
+word terminal.Pname = Some w.Pname
+word terminal.Text = Some w.Text
+word terminal.AtWord = Some w.Tag
+word terminal.Caret = Some w.Caret
+word terminal.Integer = Some w.Integer
+word terminal.Decimal = Some w.Decimal
+word terminal.Double = Some w.Double
+word terminal.True = Some w.True
+word terminal.False = Some w.False
+word _ = None

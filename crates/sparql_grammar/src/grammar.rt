@@ -9,8 +9,7 @@ ghost use Rattle.sparql_grammar.specs.Reading as spec;
 use crate::lexeme::Parser;
 use crate::terminal::Terminal;
 use crate::tree::{Node, Property, Triples, VarOrIri, Verb};
-use crate::words::{iri, literal};
-use rdf_grammar::GrammarFault;
+use rdf_grammar::{GrammarFault, iri, literal};
 use rdf_terms::Items;
 
 /// A variable or a name (107: VarOrIri).

@@ -11,7 +11,6 @@ mod stop;
 mod terminal;
 mod tree;
 mod update;
-mod words;
 
 pub use laws::{lexemes_have_forms, one_request_tree, requests_are_proper};
 pub use lexeme::Lexeme;

@@ -10,8 +10,7 @@ use crate::grammar::{begins_node, triples_template, var_or_iri};
 use crate::lexeme::Parser;
 use crate::terminal::Terminal;
 use crate::tree::{Block, GraphOrDefault, GraphRefAll, Name, Operation, Part, Triples};
-use crate::words::iri;
-use rdf_grammar::{GrammarFault, MAX_OPEN};
+use rdf_grammar::{GrammarFault, MAX_OPEN, iri};
 use rdf_terms::Items;
 
 #[tactic(auto, unfolding(crate::specs::OperationReading::graph_ref))]

@@ -4,7 +4,7 @@ ghost use Rattle.std.specs.Char.{to_ascii_lowercase};
 ghost use Rattle.std.specs.Str.{bytes_eq};
 ghost use Rattle.sparql_grammar.specs.Terminals as spec;
 
-use rdf_grammar::Bracket;
+use rdf_grammar::{Bracket, Word, Words};
 use rdf_tokens::Kind;
 
 /// A terminal of SPARQL's grammar (SPARQL 1.1 Query, section 19.8). Keywords are read in any case.
@@ -210,6 +210,54 @@ fn bracket(terminal: Terminal) -> Bracket
     }
 }
 
+// What it is in IRIs and literals.
+fn word(terminal: Terminal) -> Option<Word>
+    ensures { result ≡ spec.word terminal }
+{
+    match terminal {
+        Terminal::Iri => Some(Word::Iri),
+        Terminal::Pname => Some(Word::Pname),
+        Terminal::Text => Some(Word::Text),
+        Terminal::AtWord => Some(Word::Tag),
+        Terminal::Caret => Some(Word::Caret),
+        Terminal::Integer => Some(Word::Integer),
+        Terminal::Decimal => Some(Word::Decimal),
+        Terminal::Double => Some(Word::Double),
+        Terminal::True => Some(Word::True),
+        Terminal::False => Some(Word::False),
+        Terminal::BlankLabel
+        | Terminal::Variable
+        | Terminal::A
+        | Terminal::Prefix
+        | Terminal::Base
+        | Terminal::Insert
+        | Terminal::Delete
+        | Terminal::Data
+        | Terminal::Create
+        | Terminal::Clear
+        | Terminal::Drop
+        | Terminal::Copy
+        | Terminal::Move
+        | Terminal::Add
+        | Terminal::Silent
+        | Terminal::Graph
+        | Terminal::Default
+        | Terminal::Named
+        | Terminal::All
+        | Terminal::To
+        | Terminal::OpenBracket
+        | Terminal::CloseBracket
+        | Terminal::Open
+        | Terminal::Close
+        | Terminal::OpenBrace
+        | Terminal::CloseBrace
+        | Terminal::Dot
+        | Terminal::Semicolon
+        | Terminal::Comma
+        | Terminal::Other => None,
+    }
+}
+
 impl rdf_grammar::Terminal for Terminal {
     ghost of = { spec.terminal_by };
 
@@ -230,4 +278,12 @@ impl rdf_grammar::Terminal for Terminal {
     }
 
     ghost tells_apart = { spec.apart };
+}
+
+impl Words for Terminal {
+    ghost word = { spec.word };
+
+    fn word(self) -> Option<Word> {
+        word(self)
+    }
 }
