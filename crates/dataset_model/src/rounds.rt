@@ -85,7 +85,8 @@ fn changed(trial: &mut Trial, dataset: &Dataset, model: &mut Model) -> Option<Ne
 }
 
 fn joined(lower: &Net, upper: &Net) -> Option<Net>
-    ensures { (s t : State) → lower.now ≡ net_between s t → Begins upper.now t → IfSome result (λ both. Begins both s) }
+    ensures { (s t : State) → lower.now ≡ net_between s t → Begins upper.now t →
+        IfSome result (λ both. Begins both s) }
 {
     match lower.then(upper) {
         Ok(both) => Some(both),

@@ -29,9 +29,17 @@ impl Model for Dataset {
 
     ghost coded = { state_code };
 
-    ghost view = { λ d. record { quads = set.from_list d.quads; names = set.from_list d.names; next = d.next } };
+    ghost view = { λ d. record {
+      quads = set.from_list d.quads;
+      names = set.from_list d.names;
+      next = d.next;
+    } };
 
-    ghost invariant = { λ d. IsSound (record { quads = set.from_list d.quads; names = set.from_list d.names; next = d.next }) };
+    ghost invariant = { λ d. IsSound (record {
+      quads = set.from_list d.quads;
+      names = set.from_list d.names;
+      next = d.next;
+    }) };
 }
 
 impl Dataset {
@@ -100,7 +108,8 @@ impl Dataset {
         ensures ok { OnOk result ((s : State) → net.now ≡ net_between s self.old → self.new ≡ s) }
         ensures begins { OnOk result (Begins net.now self.new) }
         ensures err { OnErr result (self.new ≡ self.old) }
-        ensures free { net.now.removed ≡ set.empty → net.now.names_removed ≡ set.empty → IsOk result }
+        ensures free { net.now.removed ≡ set.empty → net.now.names_removed ≡ set.empty →
+            IsOk result }
     {
         self.is_sound();
         self.go_to(
@@ -128,8 +137,11 @@ impl Dataset {
         names_removed: &Sorted<Term>,
         next: u64,
     ) -> Result<(), NoMemory>
-        requires { (t : State) × IsSound t × Leads self.old t added.now removed.now names_added.now names_removed.now next }
-        ensures ok { OnOk result ((t : State) → Leads self.old t added.now removed.now names_added.now names_removed.now next → self.new ≡ t) }
+        requires { (t : State) × IsSound t
+            × Leads self.old t added.now removed.now names_added.now names_removed.now next }
+        ensures ok { OnOk result ((t : State) →
+            Leads self.old t added.now removed.now names_added.now names_removed.now next →
+            self.new ≡ t) }
         ensures err { OnErr result (self.new ≡ self.old) }
         ensures free { added.now ≡ [] → names_added.now ≡ [] → IsOk result }
     {

@@ -39,7 +39,9 @@ impl<T: Item> Delta<T> {
 
     /// From the first set of this to the second of the next.
     pub(crate) fn then(&self, next: &Delta<T>) -> Result<Delta<T>, NoMemory>
-        ensures { IfOk result (λ both. (s t u : set.FinSet T.order) → IsDelta s t self.now.added self.now.removed → IsDelta t u next.now.added next.now.removed →
+        ensures { IfOk result (λ both. (s t u : set.FinSet T.order) →
+            IsDelta s t self.now.added self.now.removed →
+            IsDelta t u next.now.added next.now.removed →
             IsDelta s u both.added both.removed) }
     {
         let added = both_without(&self.added, &next.removed, &next.added, &self.removed)?;
@@ -56,7 +58,8 @@ fn both_without<T: Item>(
     nor: &Sorted<T>,
 ) -> Result<Sorted<T>, NoMemory>
     ensures { IfOk result (λ both. set.from_list {R = T.order} both ≡
-        set.union (set.difference (set.from_list first.now) (set.from_list but.now)) (set.difference (set.from_list second.now) (set.from_list nor.now))) }
+        set.union (set.difference (set.from_list first.now) (set.from_list but.now))
+        (set.difference (set.from_list second.now) (set.from_list nor.now))) }
 {
     let mut both = first.copy()?;
     both.subtract(but);

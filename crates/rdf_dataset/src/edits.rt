@@ -74,22 +74,26 @@ impl Edits {
 
     /// Whether the quad is there at the end.
     pub(crate) fn has_quad(&self, beneath: bool, quad: &Quad) -> bool
-        ensures { (s t : State) → self.now ≡ net_between s t → beneath ≡ set.contains s.quads quad.now → result ≡ set.contains t.quads quad.now }
+        ensures { (s t : State) → self.now ≡ net_between s t →
+            beneath ≡ set.contains s.quads quad.now → result ≡ set.contains t.quads quad.now }
     {
         self.quads.contains(beneath, quad)
     }
 
     /// Whether the name is there at the end.
     pub(crate) fn has_name(&self, beneath: bool, name: &Term) -> bool
-        ensures { (s t : State) → self.now ≡ net_between s t → beneath ≡ set.contains s.names name.now → result ≡ set.contains t.names name.now }
+        ensures { (s t : State) → self.now ≡ net_between s t →
+            beneath ≡ set.contains s.names name.now → result ≡ set.contains t.names name.now }
     {
         self.names.contains(beneath, name)
     }
 
     pub(crate) fn add_name(&mut self, beneath: bool, name: Term) -> Result<bool, NoMemory>
-        ensures ok { OnOk result ((s t : State) → self.old ≡ net_between s t → beneath ≡ set.contains s.names name →
+        ensures ok { OnOk result ((s t : State) → self.old ≡ net_between s t →
+            beneath ≡ set.contains s.names name →
             self.new ≡ net_between s (with_name t name)) }
-        ensures new { IfOk result (λ new. (s t : State) → self.old ≡ net_between s t → beneath ≡ set.contains s.names name →
+        ensures new { IfOk result (λ new. (s t : State) → self.old ≡ net_between s t →
+            beneath ≡ set.contains s.names name →
             new ≡ not (set.contains t.names name)) }
         ensures err { OnErr result (self.new ≡ self.old) }
     {
@@ -97,9 +101,11 @@ impl Edits {
     }
 
     pub(crate) fn drop_name(&mut self, beneath: bool, name: &Term) -> Result<bool, NoMemory>
-        ensures ok { OnOk result ((s t : State) → self.old ≡ net_between s t → beneath ≡ set.contains s.names name.now →
+        ensures ok { OnOk result ((s t : State) → self.old ≡ net_between s t →
+            beneath ≡ set.contains s.names name.now →
             self.new ≡ net_between s (without_name t name.now)) }
-        ensures was { IfOk result (λ was. (s t : State) → self.old ≡ net_between s t → beneath ≡ set.contains s.names name.now →
+        ensures was { IfOk result (λ was. (s t : State) → self.old ≡ net_between s t →
+            beneath ≡ set.contains s.names name.now →
             was ≡ set.contains t.names name.now) }
         ensures err { OnErr result (self.new ≡ self.old) }
     {
@@ -107,9 +113,11 @@ impl Edits {
     }
 
     pub(crate) fn remove(&mut self, beneath: bool, quad: &Quad) -> Result<bool, NoMemory>
-        ensures ok { OnOk result ((s t : State) → self.old ≡ net_between s t → beneath ≡ set.contains s.quads quad.now →
+        ensures ok { OnOk result ((s t : State) → self.old ≡ net_between s t →
+            beneath ≡ set.contains s.quads quad.now →
             self.new ≡ net_between s (without_quad t quad.now)) }
-        ensures was { IfOk result (λ was. (s t : State) → self.old ≡ net_between s t → beneath ≡ set.contains s.quads quad.now →
+        ensures was { IfOk result (λ was. (s t : State) → self.old ≡ net_between s t →
+            beneath ≡ set.contains s.quads quad.now →
             was ≡ set.contains t.quads quad.now) }
         ensures err { OnErr result (self.new ≡ self.old) }
     {
@@ -123,9 +131,11 @@ impl Edits {
         named: bool,
         quad: Quad,
     ) -> Result<bool, NoMemory>
-        ensures ok { OnOk result ((s t : State) → self.old ≡ net_between s t → beneath ≡ set.contains s.quads quad → IsKnownGraph s.names named quad.graph →
+        ensures ok { OnOk result ((s t : State) → self.old ≡ net_between s t →
+            beneath ≡ set.contains s.quads quad → IsKnownGraph s.names named quad.graph →
             self.new ≡ net_between s (with_quad t quad)) }
-        ensures new { IfOk result (λ new. (s t : State) → self.old ≡ net_between s t → beneath ≡ set.contains s.quads quad →
+        ensures new { IfOk result (λ new. (s t : State) → self.old ≡ net_between s t →
+            beneath ≡ set.contains s.quads quad →
             new ≡ not (set.contains t.quads quad)) }
         ensures err { OnErr result (self.new ≡ self.old) }
     {
@@ -151,7 +161,8 @@ impl Edits {
 
     /// Makes a listing of the names at the beginning one of those at the end.
     pub(crate) fn amend_names(&self, found: &mut Vec<Term>) -> Result<(), NoMemory>
-        ensures ok { OnOk result ((s t : State) → self.now ≡ net_between s t → ListsOnce s.names found.old.items → ListsOnce t.names found.new.items) }
+        ensures ok { OnOk result ((s t : State) → self.now ≡ net_between s t →
+            ListsOnce s.names found.old.items → ListsOnce t.names found.new.items) }
     {
         found.retain(|name| !self.names.removed.contains(name));
         self.names.added.append_copies(found)
@@ -168,9 +179,12 @@ impl Edits {
         object: Option<&Term>,
     ) -> Result<usize, NoMemory>
         ensures ok { OnOk result ((s t : State) → self.now ≡ net_between s t →
-            ListsOnce (set.retain s.quads (matches graph.now (option_copied subject.entry) (option_copied predicate.entry) (option_copied object.entry))) found.old.items →
-            ListsOnce (set.retain t.quads (matches graph.now (option_copied subject.entry) (option_copied predicate.entry) (option_copied object.entry))) found.new.items) }
-        ensures looked { IfOk result (λ looked. length found.new.items ≤ length found.old.items + looked) }
+            ListsOnce (set.retain s.quads (matches graph.now (option_copied subject.entry)
+            (option_copied predicate.entry) (option_copied object.entry))) found.old.items →
+            ListsOnce (set.retain t.quads (matches graph.now (option_copied subject.entry)
+            (option_copied predicate.entry) (option_copied object.entry))) found.new.items) }
+        ensures looked { IfOk result
+            (λ looked. length found.new.items ≤ length found.old.items + looked) }
     {
         found.retain(|quad| !self.quads.removed.contains(quad));
         let added = &self.quads.added;
@@ -181,7 +195,8 @@ impl Edits {
 
 // Makes the tree what it was before the name went in, which was new or not.
 fn take_back(names: &mut Tree<Term>, added: bool, name: &Term)
-    ensures { (before : Names) → set.from_list {R = term_cmp} names.old ≡ set.insert before name.now → added ≡ not (set.contains before name.now) →
+    ensures { (before : Names) → set.from_list {R = term_cmp} names.old
+        ≡ set.insert before name.now → added ≡ not (set.contains before name.now) →
         set.from_list {R = term_cmp} names.new ≡ before }
 {
     if added {

@@ -32,7 +32,8 @@ fn is_match(
     predicate: Option<&Term>,
     object: Option<&Term>,
 ) -> bool
-    ensures { result ≡ matches graph.now (option_copied subject.entry) (option_copied predicate.entry) (option_copied object.entry) quad.now }
+    ensures { result ≡ matches graph.now (option_copied subject.entry)
+        (option_copied predicate.entry) (option_copied object.entry) quad.now }
 {
     is_same_graph(graph, quad.graph())
         && fits(subject, quad.subject())
@@ -49,7 +50,9 @@ pub(crate) fn append_matching(
     predicate: Option<&Term>,
     object: Option<&Term>,
 ) -> Result<(), NoMemory>
-    ensures ok { OnOk result (out.new.items ≡ out.old.items ++ filter (matches graph.now (option_copied subject.entry) (option_copied predicate.entry) (option_copied object.entry)) quads.now) }
+    ensures ok { OnOk result (out.new.items
+        ≡ out.old.items ++ filter (matches graph.now (option_copied subject.entry)
+        (option_copied predicate.entry) (option_copied object.entry)) quads.now) }
     ensures err { OnErr result (out.new.items ≡ out.old.items) }
 {
     let before = out.len();
@@ -73,7 +76,9 @@ pub(crate) fn append_matching_of(
     predicate: Option<&Term>,
     object: Option<&Term>,
 ) -> Result<(), NoMemory>
-    ensures ok { OnOk result (out.new.items ≡ out.old.items ++ filter (matches graph.now (option_copied subject.entry) (option_copied predicate.entry) (option_copied object.entry)) quads.now) }
+    ensures ok { OnOk result (out.new.items
+        ≡ out.old.items ++ filter (matches graph.now (option_copied subject.entry)
+        (option_copied predicate.entry) (option_copied object.entry)) quads.now) }
     ensures sorted { IsStrictlySortedBy quad_cmp quads.now }
     ensures err { OnErr result (out.new.items ≡ out.old.items) }
 {

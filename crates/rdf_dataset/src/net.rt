@@ -115,7 +115,8 @@ impl Net {
     /// # Errors
     /// [`NoMemory`] where memory is wanting.
     pub fn then(&self, next: &Net) -> Result<Net, NoMemory>
-        ensures { IfOk result (λ both. (s t u : State) → self.now ≡ net_between s t → next.now ≡ net_between t u → both ≡ net_between s u) }
+        ensures { IfOk result (λ both. (s t u : State) → self.now ≡ net_between s t →
+            next.now ≡ net_between t u → both ≡ net_between s u) }
     {
         Ok(Net {
             quads: self.quads.then(&next.quads)?,

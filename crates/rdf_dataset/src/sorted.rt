@@ -79,7 +79,8 @@ impl<T: Item> Sorted<T> {
 
     /// Takes the other's items out.
     pub(crate) fn subtract(&mut self, gone: &Sorted<T>)
-        ensures { set.from_list {R = T.order} self.new ≡ set.difference (set.from_list self.old) (set.from_list gone.now) }
+        ensures { set.from_list {R = T.order} self.new
+            ≡ set.difference (set.from_list self.old) (set.from_list gone.now) }
     {
         let kept = keep_others(&mut self.items, gone.as_slice());
         self.items.truncate(kept);
@@ -96,7 +97,8 @@ impl<T: Item> Sorted<T> {
 
     /// Adds the other's items, or changes nothing.
     pub(crate) fn unite(&mut self, more: &Sorted<T>) -> Result<(), NoMemory>
-        ensures ok { OnOk result (set.from_list {R = T.order} self.new ≡ set.union (set.from_list self.old) (set.from_list more.now)) }
+        ensures ok { OnOk result (set.from_list {R = T.order} self.new
+            ≡ set.union (set.from_list self.old) (set.from_list more.now)) }
         ensures err { OnErr result (self.new ≡ self.old) }
         ensures free { more.now ≡ [] → IsOk result }
     {
@@ -151,7 +153,8 @@ fn merge_into<T: Item>(items: &mut Vec<T>, more: Vec<T>) -> Result<(), NoMemory>
     requires items { IsStrictlySortedBy T.order items.old.items }
     requires more { IsStrictlySortedBy T.order more.items }
     ensures sorted { IsStrictlySortedBy T.order items.new.items }
-    ensures ok { OnOk result (set.from_list {R = T.order} items.new.items ≡ set.union (set.from_list items.old.items) (set.from_list more.items)) }
+    ensures ok { OnOk result (set.from_list {R = T.order} items.new.items
+        ≡ set.union (set.from_list items.old.items) (set.from_list more.items)) }
     ensures err { OnErr result (items.new.items ≡ items.old.items) }
 {
     let mut more = more;
@@ -190,7 +193,8 @@ fn pop_greatest<T: Item>(items: &mut Vec<T>, more: &mut Vec<T>) -> Option<T>
 fn keep_others<T: Item>(items: &mut Vec<T>, others: &[T]) -> usize
     requires items { IsStrictlySortedBy T.order items.old.items }
     requires others { IsStrictlySortedBy T.order others.now }
-    ensures { take result items.new.items ≡ filter (λ x. not (set.contains (set.from_list {R = T.order} others.now) x)) items.old.items }
+    ensures { take result items.new.items ≡ filter
+        (λ x. not (set.contains (set.from_list {R = T.order} others.now) x)) items.old.items }
 {
     let mut kept = 0;
     let mut passed = 0;
@@ -213,7 +217,8 @@ fn find_from<T: Item>(items: &[T], from: usize, item: &T) -> Result<usize, usize
     requires inside { from ≤ length items.now }
     requires before { AllByRecursion (λ y. T.order y item.now ≡ Less) (take from items.now) }
     ensures found { IfOk result (IsFoundAt T.order items.now item.now) }
-    ensures less { IfOk result (λ place. AllByRecursion (λ y. T.order y item.now ≡ Less) (take place items.now)) }
+    ensures less { IfOk result (λ place. AllByRecursion
+        (λ y. T.order y item.now ≡ Less) (take place items.now)) }
     ensures absent { IfErr result (IsGapAt T.order items.now item.now) }
 {
     let mut place = from;

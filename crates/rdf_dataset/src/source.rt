@@ -29,7 +29,8 @@ pub trait Source {
     /// # Errors
     /// [`NoMemory`] where memory is wanting: nothing is appended then.
     fn names(&self, out: &mut Vec<Term>) -> Result<(), NoMemory>
-        ensures ok { OnOk result (AppendsOnce (contents self.now).names out.old.items out.new.items) }
+        ensures ok { OnOk result (AppendsOnce
+            (contents self.now).names out.old.items out.new.items) }
         ensures err { OnErr result (out.new.items ≡ out.old.items) };
 
     /// Appends each quad of the graph that has the terms of the bound places once, in any order, and
@@ -46,8 +47,10 @@ pub trait Source {
         out: &mut Vec<Quad>,
     ) -> Result<usize, NoMemory>
         ensures found { OnOk result (AppendsOnce
-            (set.retain (contents self.now).quads (matches graph.now (option_copied subject.entry) (option_copied predicate.entry) (option_copied object.entry)))
+            (set.retain (contents self.now).quads (matches graph.now (option_copied subject.entry)
+            (option_copied predicate.entry) (option_copied object.entry)))
             out.old.items out.new.items) }
-        ensures looked { IfOk result (λ looked. length out.new.items ≤ length out.old.items + looked) }
+        ensures looked { IfOk result
+            (λ looked. length out.new.items ≤ length out.old.items + looked) }
         ensures err { OnErr result (out.new.items ≡ out.old.items) };
 }

@@ -33,9 +33,13 @@ impl<'a, D: Source> Model for Staged<'a, D> {
 
     ghost coded = { staging_code };
 
-    ghost view = { λ s. record { under = D.contents s.under.now; now = applied s.edits (D.contents s.under.now) } };
+    ghost view = { λ s. record {
+      under = D.contents s.under.now;
+      now = applied s.edits (D.contents s.under.now);
+    } };
 
-    ghost invariant = { λ s. (s.edits ≡ net_between (D.contents s.under.now) (applied s.edits (D.contents s.under.now)))
+    ghost invariant = { λ s. (s.edits
+        ≡ net_between (D.contents s.under.now) (applied s.edits (D.contents s.under.now)))
         × IsSound (applied s.edits (D.contents s.under.now)) };
 }
 
@@ -137,7 +141,8 @@ impl<'a, D: Source> Staged<'a, D> {
     pub fn take_blanks(&mut self, count: u64) -> Option<u64>
         ensures { MatchOption result
             ((last_number < self.old.now.next + count) × (self.new ≡ self.old))
-            (λ first. (self.old.now.next + count ≤ last_number) × (first ≡ self.old.now.next) × (self.new ≡ staged self.old (with_blanks self.old.now count))) }
+            (λ first. (self.old.now.next + count ≤ last_number) × (first ≡ self.old.now.next)
+            × (self.new ≡ staged self.old (with_blanks self.old.now count))) }
     {
         let first = self.edits.after;
         if first > LAST_NUMBER || count > LAST_NUMBER - first {

@@ -48,8 +48,10 @@ impl<T: Item> Tree<T> {
 
     /// Adds the item, and answers whether it is new.
     pub(crate) fn insert(&mut self, item: T) -> Result<bool, NoMemory>
-        ensures ok { OnOk result (set.from_list {R = T.order} self.new ≡ set.insert (set.from_list self.old) item) }
-        ensures new { IfOk result (λ new. new ≡ not (set.contains (set.from_list {R = T.order} self.old) item)) }
+        ensures ok { OnOk result (set.from_list {R = T.order} self.new
+            ≡ set.insert (set.from_list self.old) item) }
+        ensures new { IfOk result (λ new. new ≡ not (set.contains
+            (set.from_list {R = T.order} self.old) item)) }
         ensures err { OnErr result (self.new ≡ self.old) }
     {
         Ok(self.items.insert(item)?)
@@ -57,7 +59,8 @@ impl<T: Item> Tree<T> {
 
     /// Takes the item out, and answers whether it was there.
     pub(crate) fn remove(&mut self, item: &T) -> bool
-        ensures items { set.from_list {R = T.order} self.new ≡ set.remove (set.from_list self.old) item.now }
+        ensures items { set.from_list {R = T.order} self.new
+            ≡ set.remove (set.from_list self.old) item.now }
         ensures was { result ≡ set.contains (set.from_list {R = T.order} self.old) item.now }
     {
         self.items.remove(item)

@@ -30,7 +30,8 @@ impl<T: Item> TreeDelta<T> {
 
     /// Whether the second set has the item.
     pub(crate) fn contains(&self, beneath: bool, item: &T) -> bool
-        ensures { (s t : set.FinSet T.order) → IsDelta s t self.now.added self.now.removed → beneath ≡ set.contains s item.now → result ≡ set.contains t item.now }
+        ensures { (s t : set.FinSet T.order) → IsDelta s t self.now.added self.now.removed →
+            beneath ≡ set.contains s item.now → result ≡ set.contains t item.now }
     {
         if beneath {
             !self.removed.contains(item)
@@ -41,9 +42,11 @@ impl<T: Item> TreeDelta<T> {
 
     /// Puts an item into the second set.
     pub(crate) fn insert(&mut self, beneath: bool, item: T) -> Result<bool, NoMemory>
-        ensures ok { OnOk result ((s t : set.FinSet T.order) → IsDelta s t self.old.added self.old.removed → beneath ≡ set.contains s item →
+        ensures ok { OnOk result ((s t : set.FinSet T.order) →
+            IsDelta s t self.old.added self.old.removed → beneath ≡ set.contains s item →
             IsDelta s (set.insert t item) self.new.added self.new.removed) }
-        ensures new { IfOk result (λ new. (s t : set.FinSet T.order) → IsDelta s t self.old.added self.old.removed → beneath ≡ set.contains s item →
+        ensures new { IfOk result (λ new. (s t : set.FinSet T.order) →
+            IsDelta s t self.old.added self.old.removed → beneath ≡ set.contains s item →
             new ≡ not (set.contains t item)) }
         ensures err { OnErr result (self.new ≡ self.old) }
     {
@@ -56,9 +59,11 @@ impl<T: Item> TreeDelta<T> {
 
     /// Takes an item out of the second set.
     pub(crate) fn remove(&mut self, beneath: bool, item: &T) -> Result<bool, NoMemory>
-        ensures ok { OnOk result ((s t : set.FinSet T.order) → IsDelta s t self.old.added self.old.removed → beneath ≡ set.contains s item.now →
+        ensures ok { OnOk result ((s t : set.FinSet T.order) →
+            IsDelta s t self.old.added self.old.removed → beneath ≡ set.contains s item.now →
             IsDelta s (set.remove t item.now) self.new.added self.new.removed) }
-        ensures was { IfOk result (λ was. (s t : set.FinSet T.order) → IsDelta s t self.old.added self.old.removed → beneath ≡ set.contains s item.now →
+        ensures was { IfOk result (λ was. (s t : set.FinSet T.order) →
+            IsDelta s t self.old.added self.old.removed → beneath ≡ set.contains s item.now →
             was ≡ set.contains t item.now) }
         ensures err { OnErr result (self.new ≡ self.old) }
     {

@@ -80,7 +80,8 @@ impl<'a> Names<'a> {
 
     // The IRI of a name that is kept.
     fn kept(&self, front: &Iri, local: &Slice<'a>) -> Result<Option<Iri>, NoMemory>
-        ensures { IfOk result (λ kept. IfSome kept (λ iri. iri ≡ front.now ++ values.local_value local.now)) }
+        ensures { IfOk result (λ kept. IfSome kept
+            (λ iri. iri ≡ front.now ++ values.local_value local.now)) }
     {
         match self.places.get(place_of(local.as_str())) {
             Some(Some(name)) => {

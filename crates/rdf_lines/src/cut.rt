@@ -51,7 +51,8 @@ pub struct Place {
 
 /// Where the first line lies that the piece has whole, with its end; `None` where it has none.
 pub fn whole_line(piece: &[u8], behind_return: bool) -> Option<Place>
-    ensures { MatchOption result (HasNoLine behind_return piece.now) (HasLine behind_return piece.now) }
+    ensures { MatchOption result (HasNoLine behind_return piece.now)
+        (HasLine behind_return piece.now) }
 {
     let start = feed_len(piece, behind_return);
     let rest = piece.split_at(start).1;
@@ -72,7 +73,8 @@ fn take_part<R: Read + Drop>(
     line: &mut Vec<u8>,
 ) -> Result<bool, FaultKind>
     requires { 0 < length pieces.old.held }
-    ensures { TakesPart pieces.old behind_return.old line.old.items result pieces.new behind_return.new line.new.items }
+    ensures { TakesPart pieces.old behind_return.old line.old.items result
+        pieces.new behind_return.new line.new.items }
 {
     let held = pieces.held();
     let len = held.len();
@@ -100,7 +102,8 @@ pub fn next_line<R: Read + Drop>(
     behind_return: &mut bool,
     line: &mut Vec<u8>,
 ) -> Result<Cut, FaultKind>
-    ensures line { TakesLine (ahead pieces.old) behind_return.old result line.new.items (ahead pieces.new) behind_return.new }
+    ensures line { TakesLine (ahead pieces.old) behind_return.old result line.new.items
+        (ahead pieces.new) behind_return.new }
     ensures room { Spends result (room pieces.old) (room pieces.new) }
 {
     line.clear();

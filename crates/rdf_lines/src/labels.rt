@@ -34,14 +34,16 @@ impl Labels {
 
     // The label's number.
     fn number(&mut self, label: Text) -> Result<u64, NoMemory>
-        ensures { IfOk result (λ n. (self.new ≡ noted self.old label) × (n ≡ number_of self.new label)) }
+        ensures { IfOk result (λ n. (self.new ≡ noted self.old label)
+            × (n ≡ number_of self.new label)) }
     {
         let (index, _) = self.set.insert_full(label)?;
         Ok(index as u64)
     }
 
     fn node(&mut self, node: Node) -> Result<Term, NoMemory>
-        ensures { IfOk result (λ t. (self.new ≡ all_noted self.old (labels_in node)) × (t ≡ term_in self.new node)) }
+        ensures { IfOk result (λ t. (self.new ≡ all_noted self.old (labels_in node))
+            × (t ≡ term_in self.new node)) }
     {
         match node {
             Node::Label(label) => Ok(Term::Blank(self.number(label)?)),
@@ -50,7 +52,8 @@ impl Labels {
     }
 
     fn object(&mut self, object: Object) -> Result<Term, NoMemory>
-        ensures { IfOk result (λ t. (self.new ≡ all_noted self.old (labels_in_object object)) × (t ≡ object_in self.new object)) }
+        ensures { IfOk result (λ t. (self.new ≡ all_noted self.old (labels_in_object object))
+            × (t ≡ object_in self.new object)) }
     {
         match object {
             Object::Node(node) => self.node(node),
@@ -59,7 +62,8 @@ impl Labels {
     }
 
     fn graph(&mut self, graph: Option<Node>) -> Result<GraphName, NoMemory>
-        ensures { IfOk result (λ g. (self.new ≡ all_noted self.old (labels_in_graph graph)) × (g ≡ graph_in self.new graph)) }
+        ensures { IfOk result (λ g. (self.new ≡ all_noted self.old (labels_in_graph graph))
+            × (g ≡ graph_in self.new graph)) }
     {
         match graph {
             None => Ok(GraphName::Default),
@@ -69,7 +73,8 @@ impl Labels {
 
     /// The statement with numbers for labels.
     pub fn quad(&mut self, statement: Statement) -> Result<Quad, NoMemory>
-        ensures { IfOk result (λ q. (self.new ≡ all_noted self.old (labels_of statement)) × (q ≡ quad_in self.new statement)) }
+        ensures { IfOk result (λ q. (self.new ≡ all_noted self.old (labels_of statement))
+            × (q ≡ quad_in self.new statement)) }
     {
         let Statement {
             subject,

@@ -28,16 +28,25 @@ impl<R: Read + Drop> Model for Pieces<R> {
 
     ghost Value = { Held };
 
-    ghost view = { λ p. record { held = slice_range p.buffer.items p.start p.end; beyond = R.remaining p.reader; calls = p.calls } };
+    ghost view = { λ p. record {
+      held = slice_range p.buffer.items p.start p.end;
+      beyond = R.remaining p.reader;
+      calls = p.calls;
+    } };
 
-    ghost invariant = { λ p. (p.start ≤ p.end) × (p.end ≤ vec_len p.buffer) × (vec_len p.buffer ≡ 65536) × (p.calls ≤ 2 ^ 40) };
+    ghost invariant = { λ p. (p.start ≤ p.end) × (p.end ≤ vec_len p.buffer)
+        × (vec_len p.buffer ≡ 65536) × (p.calls ≤ 2 ^ 40) };
 }
 
 impl<R: Read + Drop> Pieces<R> {
     /// The pieces of `reader`, which reads at most `calls` times.
     pub fn new(alloc: Global, reader: R, calls: u64) -> Result<Self, NoMemory>
         requires { calls ≤ 2 ^ 40 }
-        ensures { IfOk result (λ p. p ≡ record { held = []; beyond = R.remaining reader; calls = calls }) }
+        ensures { IfOk result (λ p. p ≡ record {
+          held = [];
+          beyond = R.remaining reader;
+          calls = calls;
+        }) }
     {
         Ok(Pieces {
             reader,

@@ -25,7 +25,8 @@ impl Progress {
         line: &[u8],
     ) -> Result<Option<Quad>, LineFault>
         requires { self.old.number + 1 < 2 ^ 64 }
-        ensures { ReadsLine format line.now self.old.number self.old.labels result self.new.number self.new.labels }
+        ensures { ReadsLine format line.now self.old.number self.old.labels result
+            self.new.number self.new.labels }
     {
         match read_line(alloc, format, line) {
             Ok(None) => {

@@ -62,7 +62,8 @@ fn append_graph(alloc: Global, graph: &GraphName, out: &mut Vec<u8>) -> Result<(
 /// # Errors
 /// [`NoMemory`] where memory is wanting; the vector is then as it was.
 pub fn write_sorted(alloc: Global, quads: &[Quad], out: &mut Vec<u8>) -> Result<(), NoMemory>
-    ensures ok { OnOk result ((text : List ℕ) × IsSortedText quads.now text × (out.new.items ≡ out.old.items ++ text)) }
+    ensures ok { OnOk result ((text : List ℕ) × IsSortedText quads.now text
+        × (out.new.items ≡ out.old.items ++ text)) }
     ensures err { OnErr result (out.new.items ≡ out.old.items) }
 {
     let start = out.len();
@@ -74,7 +75,8 @@ pub fn write_sorted(alloc: Global, quads: &[Quad], out: &mut Vec<u8>) -> Result<
 }
 
 fn append_sorted(alloc: Global, quads: &[Quad], out: &mut Vec<u8>) -> Result<(), NoMemory>
-    ensures ok { OnOk result ((text : List ℕ) × IsSortedText quads.now text × (out.new.items ≡ out.old.items ++ text)) }
+    ensures ok { OnOk result ((text : List ℕ) × IsSortedText quads.now text
+        × (out.new.items ≡ out.old.items ++ text)) }
     ensures kept { take (length out.old.items) out.new.items ≡ out.old.items }
 {
     let mut sorted = references(alloc, quads)?;

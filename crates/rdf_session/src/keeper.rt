@@ -43,9 +43,11 @@ impl Model for Keeper {
 
     ghost coded = { session_code };
 
-    ghost view = { λ k. session_from k.base_iri (base_of k.dataset k.entries.items k.cursor) k.entries.items k.cursor k.marks };
+    ghost view = { λ k. session_from k.base_iri
+        (base_of k.dataset k.entries.items k.cursor) k.entries.items k.cursor k.marks };
 
-    ghost invariant = { λ k. IsKept (base_of k.dataset k.entries.items k.cursor) k.dataset k.entries.items k.cursor k.marks };
+    ghost invariant = { λ k. IsKept
+        (base_of k.dataset k.entries.items k.cursor) k.dataset k.entries.items k.cursor k.marks };
 }
 
 impl Keeper {

@@ -21,7 +21,8 @@ pub fn standing_requests()
     ensures now { (base_iri : Option (List ℕ)) (state : State)
         (events : List (Command × Reply)) (session : Session) →
         Run (fresh base_iri state) events session →
-        MakesAll base_iri (take session.states.cursor (requests_of nothing events).items) session.base (now session) }
+        MakesAll base_iri (take session.states.cursor
+        (requests_of nothing events).items) session.base (now session) }
 {}
 
 /// After any commands with any replies the cursor and each mark lie in the list of states. Where the cursor lies there: an undo

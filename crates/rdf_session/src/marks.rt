@@ -61,7 +61,8 @@ fn drop_past(labels: &mut Vec<Label>, place: usize)
 // Puts the name at the place, and nowhere else.
 fn put_label(labels: &mut Vec<Label>, name: &[u8], place: usize) -> Result<(), AllocError>
     ensures ok { OnOk result (map mark_of labels.new.items ≡
-        filter (λ m. not (is_named name.now m)) (map mark_of labels.old.items) ++ (name.now, place) ∷ []) }
+        filter (λ m. not (is_named name.now m)) (map mark_of labels.old.items) ++
+        (name.now, place) ∷ []) }
     ensures err { OnErr result (labels.new.items ≡ labels.old.items) }
 {
     let alloc = *labels.allocator();

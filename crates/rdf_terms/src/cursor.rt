@@ -49,14 +49,16 @@ impl<'a> Cursor<'a> {
 
     /// The next character.
     pub fn peek(&self) -> Option<char>
-        ensures { MatchOption result (self.now ≡ []) (λ c. (others : List ℕ) × (self.now ≡ c ∷ others)) }
+        ensures { MatchOption result (self.now ≡ []) (λ c. (others : List ℕ)
+            × (self.now ≡ c ∷ others)) }
     {
         self.rest.chars().next()
     }
 
     /// Takes the next character.
     pub fn bump(&mut self) -> Option<char>
-        ensures { MatchOption result ((self.old ≡ []) × (self.new ≡ [])) (λ c. self.old ≡ c ∷ self.new) }
+        ensures { MatchOption result ((self.old ≡ [])
+            × (self.new ≡ [])) (λ c. self.old ≡ c ∷ self.new) }
     {
         let mut chars = self.rest.chars();
         let first = chars.next();

@@ -40,7 +40,8 @@ impl Iri {
         ensures value { IfOk result (λ iri. iri ≡ text.now) }
         ensures sound { IfOk result (λ _. IsTrue (is_iri text.now)) }
         ensures relative { IsErrOf result IriFault.Relative ↔ (has_scheme text.now ≡ false) }
-        ensures bad_character { IsErrOf result IriFault.BadCharacter ↔ IsTrue (has_scheme text.now && has_forbidden text.now) }
+        ensures bad_character { IsErrOf result IriFault.BadCharacter ↔ IsTrue
+            (has_scheme text.now && has_forbidden text.now) }
     {
         check(text)?;
         Ok(Iri {
@@ -56,7 +57,8 @@ impl Iri {
         ensures value { IfOk result (λ iri. iri ≡ text) }
         ensures sound { IfOk result (λ _. IsTrue (is_iri text)) }
         ensures relative { IsErrOf result IriFault.Relative ↔ (has_scheme text ≡ false) }
-        ensures bad_character { IsErrOf result IriFault.BadCharacter ↔ IsTrue (has_scheme text && has_forbidden text) }
+        ensures bad_character { IsErrOf result IriFault.BadCharacter ↔ IsTrue
+            (has_scheme text && has_forbidden text) }
         ensures memory { IsErrOf result no_memory → ⊥ }
     {
         check(text.as_str())?;
@@ -136,7 +138,8 @@ impl Iri {
 fn check(text: &str) -> Result<(), IriFault>
     ensures sound { IfOk result (λ _. IsTrue (is_iri text.now)) }
     ensures relative { IsErrOf result IriFault.Relative ↔ (has_scheme text.now ≡ false) }
-    ensures bad_character { IsErrOf result IriFault.BadCharacter ↔ IsTrue (has_scheme text.now && has_forbidden text.now) }
+    ensures bad_character { IsErrOf result IriFault.BadCharacter ↔ IsTrue
+        (has_scheme text.now && has_forbidden text.now) }
     ensures memory { IsErrOf result no_memory → ⊥ }
 {
     if !has_scheme(text.as_bytes()) {

@@ -27,7 +27,11 @@ impl Model for Literal {
 
     ghost view = { λ l. record { lexical = l.lexical; datatype = l.datatype; tag = l.tag } };
 
-    ghost invariant = { λ l. IsTrue (is_literal (record { lexical = l.lexical; datatype = l.datatype; tag = l.tag })) };
+    ghost invariant = { λ l. IsTrue (is_literal (record {
+      lexical = l.lexical;
+      datatype = l.datatype;
+      tag = l.tag;
+    })) };
 
     ghost inverse = { λ l. record { lexical = l.lexical; datatype = l.datatype; tag = l.tag } };
 }
@@ -38,7 +42,11 @@ impl Literal {
     /// # Errors
     /// [`NoMemory`] where memory is wanting.
     pub fn new(alloc: Global, lexical: &str, datatype: Iri) -> Result<Literal, NoMemory>
-        ensures { IfOk result (λ l. l ≡ record { lexical = lexical.now; datatype = datatype; tag = None }) }
+        ensures { IfOk result (λ l. l ≡ record {
+          lexical = lexical.now;
+          datatype = datatype;
+          tag = None;
+        }) }
     {
         Ok(Literal::from_text(Text::new(alloc, lexical)?, datatype))
     }
@@ -64,7 +72,8 @@ impl Literal {
     /// # Errors
     /// [`NoMemory`] where memory is wanting.
     pub fn tagged(alloc: Global, lexical: &str, tag: &str) -> Result<Option<Literal>, NoMemory>
-        ensures { IfOk result (λ l. l ≡ (if is_tag tag.now then Some (tagged lexical.now tag.now) else None)) }
+        ensures { IfOk result (λ l. l ≡ (if is_tag tag.now then Some
+            (tagged lexical.now tag.now) else None)) }
     {
         if !is_tag(tag) {
             return Ok(None);
@@ -81,7 +90,8 @@ impl Literal {
         lexical: Text,
         tag: &str,
     ) -> Result<Option<Literal>, NoMemory>
-        ensures { IfOk result (λ l. l ≡ (if is_tag tag.now then Some (tagged lexical tag.now) else None)) }
+        ensures { IfOk result (λ l. l ≡ (if is_tag tag.now then Some
+            (tagged lexical tag.now) else None)) }
     {
         if !is_tag(tag) {
             return Ok(None);

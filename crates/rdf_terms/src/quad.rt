@@ -35,11 +35,26 @@ impl Model for Quad {
 
     ghost Value = { QuadParts };
 
-    ghost view = { λ q. record { graph = q.graph; subject = q.subject; predicate = q.predicate; object = q.object } };
+    ghost view = { λ q. record {
+      graph = q.graph;
+      subject = q.subject;
+      predicate = q.predicate;
+      object = q.object;
+    } };
 
-    ghost invariant = { λ q. IsTrue (is_quad (record { graph = q.graph; subject = q.subject; predicate = q.predicate; object = q.object })) };
+    ghost invariant = { λ q. IsTrue (is_quad (record {
+      graph = q.graph;
+      subject = q.subject;
+      predicate = q.predicate;
+      object = q.object;
+    })) };
 
-    ghost inverse = { λ q. record { graph = q.graph; subject = q.subject; predicate = q.predicate; object = q.object } };
+    ghost inverse = { λ q. record {
+      graph = q.graph;
+      subject = q.subject;
+      predicate = q.predicate;
+      object = q.object;
+    } };
 }
 
 impl GraphName {
@@ -62,7 +77,12 @@ impl Quad {
     /// and the graph's name are IRIs or blank nodes, the predicate is an IRI, the object any term.
     /// It takes no memory.
     pub fn new(graph: GraphName, subject: Term, predicate: Term, object: Term) -> Option<Quad>
-        ensures { let parts : QuadParts = record { graph = graph; subject = subject; predicate = predicate; object = object } in
+        ensures { let parts : QuadParts = record {
+          graph = graph;
+          subject = subject;
+          predicate = predicate;
+          object = object;
+        } in
             result ≡ (if has_right_kinds parts then Some parts else None) }
     {
         if !may_stand(&graph, &subject, &predicate) {
@@ -138,7 +158,12 @@ impl Quad {
 
 // Whether these may be the graph, the subject and the predicate of a quad.
 fn may_stand(graph: &GraphName, subject: &Term, predicate: &Term) -> bool
-    ensures { (object : Term) → result ≡ has_right_kinds (record { graph = graph.now; subject = subject.now; predicate = predicate.now; object = object }) }
+    ensures { (object : Term) → result ≡ has_right_kinds (record {
+      graph = graph.now;
+      subject = subject.now;
+      predicate = predicate.now;
+      object = object;
+    }) }
 {
     let named = match graph {
         GraphName::Named(Term::Literal(_)) => false,

@@ -103,5 +103,6 @@ pub fn iris_are_read()
 /// What is read as a string between quotes is one, and one is read, whatever follows it.
 pub fn strings_are_read()
     ensures sound { (quote : ℕ) → quote ≢ 92 → IsSoundReader (IsQuoted quote) (quoted_at quote) }
-    ensures complete { (quote : ℕ) → quote ≢ 92 → IsCompleteReader (IsQuoted quote) (quoted_at quote) }
+    ensures complete { (quote : ℕ) → quote ≢ 92 →
+        IsCompleteReader (IsQuoted quote) (quoted_at quote) }
 {}

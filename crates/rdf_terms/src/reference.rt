@@ -24,7 +24,12 @@ impl<'a> Model for Reference<'a> {
 
     ghost Value = { Components };
 
-    ghost view = { λ r. record { authority = option_copied r.authority; path = r.path.now; query = option_copied r.query; fragment = option_copied r.fragment } };
+    ghost view = { λ r. record {
+      authority = option_copied r.authority;
+      path = r.path.now;
+      query = option_copied r.query;
+      fragment = option_copied r.fragment;
+    } };
 }
 
 impl<'a> Reference<'a> {
@@ -76,7 +81,8 @@ fn split_authority(rest: &[u8]) -> (&[u8], &[u8])
 
 // Appends the component with its mark before it, if it is present.
 fn push_marked(mark: &[u8], part: Option<&[u8]>, out: &mut Vec<u8>) -> Result<(), NoMemory>
-    ensures { OnOk result (out.new.items ≡ out.old.items ++ marked mark.now (option_copied part.entry)) }
+    ensures { OnOk result (out.new.items
+        ≡ out.old.items ++ marked mark.now (option_copied part.entry)) }
 {
     if let Some(text) = part {
         out.extend_from_slice(mark)?;

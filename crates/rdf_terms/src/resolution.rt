@@ -25,8 +25,10 @@ use std::alloc::Global;
 pub fn resolve(alloc: Global, base: Option<&Iri>, reference: &str) -> Result<Iri, IriFault>
     ensures value { IfOk result (λ iri. Means (option_copied base.entry) reference.now iri) }
     ensures sound { IfOk result (λ iri. IsTrue (is_iri iri)) }
-    ensures relative { IsErrOf result IriFault.Relative ↔ LacksBase (option_copied base.entry) reference.now }
-    ensures bad_character { IsErrOf result IriFault.BadCharacter ↔ (IsTrue (has_forbidden reference.now) × ¬ LacksBase (option_copied base.entry) reference.now) }
+    ensures relative { IsErrOf result IriFault.Relative ↔ LacksBase
+        (option_copied base.entry) reference.now }
+    ensures bad_character { IsErrOf result IriFault.BadCharacter ↔ (IsTrue
+        (has_forbidden reference.now) × ¬ LacksBase (option_copied base.entry) reference.now) }
 {
     let bytes = reference.as_bytes();
     if has_scheme(bytes) {

@@ -30,7 +30,8 @@ impl<'a> Cursor<'a> {
     ) -> Option<Cursor<'a>>
         requires first { F.IsAlwaysCallable first }
         requires passes { G.IsAlwaysCallable passes }
-        ensures { (one class : ℕ → Bool) → IsTest (F.post first) one → IsTest (G.post passes) class → result ≡ some_of one class self.now }
+        ensures { (one class : ℕ → Bool) → IsTest (F.post first) one →
+            IsTest (G.post passes) class → result ≡ some_of one class self.now }
     {
         let mut rest = self.fork();
         if first(rest.bump()?) {

@@ -97,7 +97,8 @@ fn append_byte(b: u8, out: &mut Vec<u8>) -> Result<(), NoMemory>
 }
 
 fn append_suffix(literal: &Literal, out: &mut Vec<u8>) -> Result<(), NoMemory>
-    ensures ok { OnOk result (out.new.items ≡ out.old.items ++ suffix_text literal.now.datatype literal.now.tag) }
+    ensures ok { OnOk result (out.new.items
+        ≡ out.old.items ++ suffix_text literal.now.datatype literal.now.tag) }
     ensures kept { take (length out.old.items) out.new.items ≡ out.old.items }
 {
     match literal.tag() {

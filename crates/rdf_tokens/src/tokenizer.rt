@@ -65,7 +65,8 @@ fn token<'a>(cursor: &Cursor<'a>, nameless: &mut usize) -> Option<(Kind, Cursor<
 
 /// Whether nothing follows.
 fn is_end(cursor: &Cursor<'_>) -> bool
-    ensures { MatchBool result (cursor.now ≡ []) ((c : ℕ) × (others : List ℕ) × (cursor.now ≡ c ∷ others)) }
+    ensures { MatchBool result (cursor.now ≡ []) ((c : ℕ) × (others : List ℕ)
+        × (cursor.now ≡ c ∷ others)) }
 {
     match cursor.peek() {
         Some(_) => false,

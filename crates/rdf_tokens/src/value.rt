@@ -62,7 +62,8 @@ fn has_forbidden(text: &[u8]) -> bool
 fn enclosed(text: &str, first: char, last: char) -> Option<&str>
     requires first { first < 128 }
     requires last { last < 128 }
-    ensures { MatchOption result (spec.enclosed first last (chars text.now) ≡ None) (λ b. spec.enclosed first last (chars text.now) ≡ Some (chars b.now)) }
+    ensures { MatchOption result (spec.enclosed first last (chars text.now) ≡ None)
+        (λ b. spec.enclosed first last (chars text.now) ≡ Some (chars b.now)) }
 {
     text.strip_prefix(first)?.strip_suffix(last)
 }
@@ -71,7 +72,8 @@ fn enclosed(text: &str, first: char, last: char) -> Option<&str>
 #[tactic(auto, unfolding(crate::specs::Values::enclosed_thrice))]
 fn enclosed_thrice(text: &str, quote: char) -> Option<&str>
     requires { quote < 128 }
-    ensures { MatchOption result (spec.enclosed_thrice quote (chars text.now) ≡ None) (λ b. spec.enclosed_thrice quote (chars text.now) ≡ Some (chars b.now)) }
+    ensures { MatchOption result (spec.enclosed_thrice quote (chars text.now) ≡ None)
+        (λ b. spec.enclosed_thrice quote (chars text.now) ≡ Some (chars b.now)) }
 {
     let once = enclosed(text, quote, quote)?;
     let twice = enclosed(once, quote, quote)?;
@@ -82,7 +84,8 @@ fn enclosed_thrice(text: &str, quote: char) -> Option<&str>
 #[tactic(auto, unfolding(crate::specs::Values::quoted_body))]
 fn quoted_body(text: &str, quote: char) -> Option<&str>
     requires { quote < 128 }
-    ensures { MatchOption result (spec.quoted_body quote (chars text.now) ≡ None) (λ b. spec.quoted_body quote (chars text.now) ≡ Some (chars b.now)) }
+    ensures { MatchOption result (spec.quoted_body quote (chars text.now) ≡ None)
+        (λ b. spec.quoted_body quote (chars text.now) ≡ Some (chars b.now)) }
 {
     match enclosed_thrice(text, quote) {
         Some(body) => Some(body),
@@ -92,7 +95,8 @@ fn quoted_body(text: &str, quote: char) -> Option<&str>
 
 #[tactic(auto, unfolding(crate::specs::Values::text_body))]
 fn text_body(text: &str) -> Option<&str>
-    ensures { MatchOption result (spec.text_body (chars text.now) ≡ None) (λ b. spec.text_body (chars text.now) ≡ Some (chars b.now)) }
+    ensures { MatchOption result (spec.text_body (chars text.now) ≡ None)
+        (λ b. spec.text_body (chars text.now) ≡ Some (chars b.now)) }
 {
     match quoted_body(text, '"') {
         Some(body) => Some(body),

@@ -152,7 +152,8 @@ pub fn optional_predicate_object_list<'a>(
     parser: &mut Parser<'_, 'a>,
     depth: usize,
 ) -> Result<Items<Property<'a>>, GrammarFault>
-    ensures reads { Reads (spec.optional_predicate_object_list (spec.node depth) parser.old) result parser.new }
+    ensures reads { Reads (spec.optional_predicate_object_list
+        (spec.node depth) parser.old) result parser.new }
     ensures shorter { OnOk result (length parser.new ≤ length parser.old) }
 {
     if !begins_verb(parser.peek()) {
@@ -167,7 +168,8 @@ pub fn predicate_object_list<'a>(
     parser: &mut Parser<'_, 'a>,
     depth: usize,
 ) -> Result<Items<Property<'a>>, GrammarFault>
-    ensures reads { Reads (spec.predicate_object_list (spec.node depth) parser.old) result parser.new }
+    ensures reads { Reads (spec.predicate_object_list
+        (spec.node depth) parser.old) result parser.new }
     ensures shorter { OnOk result (length parser.new < length parser.old) }
 {
     let mut all = Items::new(parser.alloc());

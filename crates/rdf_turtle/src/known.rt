@@ -53,7 +53,8 @@ fn unknown_node<'a>(declared: &IndexSet<Key<'a>>, node: &Node<'a>) -> Option<usi
 
 #[cycle(known)]
 fn unknown_nodes<'a>(declared: &IndexSet<Key<'a>>, nodes: &[Node<'a>]) -> Option<usize>
-    ensures { is_none result ≡ list_all spec.holds (map (spec.known_node declared.now.keys) nodes.now) }
+    ensures { is_none result ≡ list_all spec.holds (map
+        (spec.known_node declared.now.keys) nodes.now) }
 {
     for node in nodes {
         if let Some(start) = unknown_node(declared, node) {
@@ -78,7 +79,8 @@ fn unknown_properties<'a>(
     declared: &IndexSet<Key<'a>>,
     properties: &[Property<'a>],
 ) -> Option<usize>
-    ensures { is_none result ≡ list_all spec.holds (map (spec.known_property declared.now.keys) properties.now) }
+    ensures { is_none result ≡ list_all spec.holds (map
+        (spec.known_property declared.now.keys) properties.now) }
 {
     for property in properties {
         if let Some(start) = unknown_property(declared, property) {
@@ -112,7 +114,8 @@ pub(crate) fn declare<'a>(
     declared: &mut IndexSet<Key<'a>>,
     statement: &Statement<'a>,
 ) -> Result<(), NoMemory>
-    ensures { OnOk result (declared.new.keys ≡ spec.declared_behind declared.old.keys statement.now) }
+    ensures { OnOk result (declared.new.keys
+        ≡ spec.declared_behind declared.old.keys statement.now) }
 {
     if let Statement::Prefix(prefix, _) = statement {
         declared.insert(Key::of(prefix))?;

@@ -214,7 +214,8 @@ impl<'a> Scope<'a> {
         requires filled { IsTrue (proper.is_filled nodes.now) }
         requires subject { is_literal_term subject.now ≡ false }
         requires room { HasRoom 0 self.old }
-        ensures gives { let says = spec.objects subject.now predicate.now (map spec.meaning nodes.now) in
+        ensures gives { let says = spec.objects subject.now predicate.now
+            (map spec.meaning nodes.now) in
             Gives (says self.old) result self.new }
         ensures prologue { self.new.prologue ≡ self.old.prologue }
         ensures room { OnOk result (TakesAtMost 0 self.old self.new) }

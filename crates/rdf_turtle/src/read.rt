@@ -34,7 +34,8 @@ pub(crate) fn parse_document<'a>(
 ) -> Result<Items<Statement<'a>>, Stop>
     // What is read is derived from the lexemes, and nothing else is.
     ensures found { IfOk result (λ document. IsDocument lexemes.now document) }
-    ensures only { (document : List Tree) → IsDocument lexemes.now document → IfOk result (λ found. found ≡ document) }
+    ensures only { (document : List Tree) → IsDocument lexemes.now document →
+        IfOk result (λ found. found ≡ document) }
 
     ensures too_deep { IsTooDeep lexemes.now → IsErrAnd result (λ stop. stop.kind ≡ TooDeep) }
     ensures fault { IfErr result (λ stop. Explains lexemes.now stop.kind stop.place) }

@@ -31,7 +31,11 @@ impl<'a> Model for Scope<'a> {
 
     ghost Value = { State };
 
-    ghost view = { λ s. record { prologue = s.prologue; numbering = s.numbering; quads = s.quads.items } };
+    ghost view = { λ s. record {
+      prologue = s.prologue;
+      numbering = s.numbering;
+      quads = s.quads.items;
+    } };
 }
 
 impl<'a> Scope<'a> {

@@ -36,7 +36,8 @@ fn predicate_object_list_behind<'a>(
     parser: &mut Parser<'_, 'a>,
     inside: &[Property<'a>],
 ) -> Result<Items<Property<'a>>, GrammarFault>
-    ensures reads { Reads (spec.predicate_object_list_behind (spec.node 101) inside.now parser.old) result parser.new }
+    ensures reads { Reads (spec.predicate_object_list_behind
+        (spec.node 101) inside.now parser.old) result parser.new }
     ensures shorter { OnOk result (length parser.new ≤ length parser.old) }
 {
     match inside {
@@ -47,7 +48,8 @@ fn predicate_object_list_behind<'a>(
 
 #[tactic(auto, unfolding(crate::specs::Reading::about_blank))]
 fn about_blank<'a>(parser: &mut Parser<'_, 'a>) -> Result<Statement<'a>, GrammarFault>
-    ensures reads { Reads (spec.about_blank (spec.node 100) (spec.node 101) parser.old) result parser.new }
+    ensures reads { Reads (spec.about_blank (spec.node 100)
+        (spec.node 101) parser.old) result parser.new }
     ensures shorter { OnOk result (length parser.new < length parser.old) }
 {
     let inside = bracketed(parser, MAX_OPEN)?;
@@ -57,7 +59,8 @@ fn about_blank<'a>(parser: &mut Parser<'_, 'a>) -> Result<Statement<'a>, Grammar
 
 #[tactic(auto, unfolding(crate::specs::Reading::about_subject))]
 fn about_subject<'a>(parser: &mut Parser<'_, 'a>) -> Result<Statement<'a>, GrammarFault>
-    ensures reads { Reads (spec.about_subject (spec.node 100) (spec.node 101) parser.old) result parser.new }
+    ensures reads { Reads (spec.about_subject (spec.node 100)
+        (spec.node 101) parser.old) result parser.new }
     ensures shorter { OnOk result (length parser.new < length parser.old) }
 {
     let subject = subject(parser, MAX_OPEN)?;
@@ -67,7 +70,8 @@ fn about_subject<'a>(parser: &mut Parser<'_, 'a>) -> Result<Statement<'a>, Gramm
 
 #[tactic(auto, unfolding(crate::specs::Reading::triples))]
 fn triples<'a>(parser: &mut Parser<'_, 'a>) -> Result<Statement<'a>, GrammarFault>
-    ensures reads { Reads (spec.triples (spec.node 100) (spec.node 101) parser.old) result parser.new }
+    ensures reads { Reads (spec.triples (spec.node 100)
+        (spec.node 101) parser.old) result parser.new }
     ensures shorter { OnOk result (length parser.new < length parser.old) }
 {
     match parser.peek() {
@@ -79,7 +83,8 @@ fn triples<'a>(parser: &mut Parser<'_, 'a>) -> Result<Statement<'a>, GrammarFaul
 /// The next statement.
 #[tactic(auto, unfolding(crate::specs::Reading::statement, rdf_grammar::specs::Readings::any))]
 pub fn statement<'a>(parser: &mut Parser<'_, 'a>) -> Result<Statement<'a>, GrammarFault>
-    ensures reads { Reads (spec.statement (spec.node 100) (spec.node 101) parser.old) result parser.new }
+    ensures reads { Reads (spec.statement (spec.node 100)
+        (spec.node 101) parser.old) result parser.new }
     ensures shorter { OnOk result (length parser.new < length parser.old) }
 {
     match parser.peek() {

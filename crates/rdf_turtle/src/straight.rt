@@ -31,7 +31,8 @@ fn turn<'a>(
     requires formed { AllByRecursion Formed parser.old }
     requires known { declared.old.keys ≡ prologue.declared scope.old.prologue }
     requires room { HasRoom 1 scope.old }
-    ensures { OnTrue result (Turn parser.old parser.new scope.old scope.new declared.old.keys declared.new.keys) }
+    ensures { OnTrue result
+        (Turn parser.old parser.new scope.old scope.new declared.old.keys declared.new.keys) }
 {
     let Ok(statement) = statement(parser) else {
         return false;
@@ -57,7 +58,8 @@ pub(crate) fn straight_triples(
     lexemes: &[Lexeme<'_>],
 ) -> Option<Vec<Quad>>
     requires { AllByRecursion Formed lexemes.now }
-    ensures { IfSome result (λ quads. (tree : List Tree) × ¬ (IsTooDeep lexemes.now) × IsDocument lexemes.now tree
+    ensures { IfSome result (λ quads. (tree : List Tree) × ¬ (IsTooDeep lexemes.now)
+        × IsDocument lexemes.now tree
         × (answer (option_copied base.entry) tree ≡ Ok quads.items)) }
 {
     if let Some(_) = too_deep(lexemes) {

@@ -64,7 +64,8 @@ fn at_word_terminal(text: &str) -> Terminal
 
 // Whether the text is this word, in any case.
 fn is_word(text: &str, word: &str) -> bool
-    ensures { result ≡ bytes_eq (map to_ascii_lowercase text.now) (map to_ascii_lowercase word.now) }
+    ensures { result ≡ bytes_eq (map to_ascii_lowercase text.now)
+        (map to_ascii_lowercase word.now) }
 {
     text.eq_ignore_ascii_case(word)
 }

@@ -35,7 +35,8 @@ fn turtle_fault(text: &str, fault: TokenFault) -> TurtleFault
 pub fn tokens(alloc: Global, text: &str) -> Result<Vec<Token>, TurtleFault>
     ensures said { IfOk result (λ list. Says (chars text.now) (Ok list.items)) }
     ensures fault { IfErr result (λ e. IsTokenFault text.now e) }
-    ensures none { IfErr result (λ e. e.kind ≡ faults.Token → (list : List Held) → ¬ Says (chars text.now) (Ok list)) }
+    ensures none { IfErr result (λ e. e.kind ≡ faults.Token → (list : List Held) →
+        ¬ Says (chars text.now) (Ok list)) }
 {
     match rdf_tokens::tokens(alloc, text) {
         Ok(list) => Ok(list),

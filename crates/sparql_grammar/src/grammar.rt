@@ -164,7 +164,8 @@ fn property_list_not_empty<'a>(
     parser: &mut Parser<'_, 'a>,
     depth: usize,
 ) -> Result<Items<Property<'a>>, GrammarFault>
-    ensures reads { Reads (spec.property_list_not_empty (spec.node depth) parser.old) result parser.new }
+    ensures reads { Reads (spec.property_list_not_empty
+        (spec.node depth) parser.old) result parser.new }
     ensures shorter { OnOk result (length parser.new < length parser.old) }
 {
     let mut all = Items::new(parser.alloc());
@@ -224,7 +225,8 @@ fn properties_of<'a>(
     subject: &Node<'a>,
     depth: usize,
 ) -> Result<Items<Property<'a>>, GrammarFault>
-    ensures reads { Reads (spec.properties_of (spec.node depth) subject.now parser.old) result parser.new }
+    ensures reads { Reads (spec.properties_of
+        (spec.node depth) subject.now parser.old) result parser.new }
     ensures shorter { OnOk result (length parser.new ≤ length parser.old) }
 {
     if stands_alone(subject) {

@@ -61,7 +61,8 @@ pub enum Terminal {
 
 // Whether the text is this word, in any case.
 pub(crate) fn is_word(text: &str, word: &str) -> bool
-    ensures { result ≡ bytes_eq (map to_ascii_lowercase text.now) (map to_ascii_lowercase word.now) }
+    ensures { result ≡ bytes_eq (map to_ascii_lowercase text.now)
+        (map to_ascii_lowercase word.now) }
 {
     text.eq_ignore_ascii_case(word)
 }

@@ -139,7 +139,8 @@ fn unknown_block<'a>(declared: &IndexSet<Key<'a>>, block: &Block<'a>) -> Option<
 }
 
 fn unknown_blocks<'a>(declared: &IndexSet<Key<'a>>, blocks: &[Block<'a>]) -> Option<usize>
-    ensures { is_none result ≡ list_all holds (map (spec.known_block declared.now.keys) blocks.now) }
+    ensures { is_none result ≡ list_all holds (map
+        (spec.known_block declared.now.keys) blocks.now) }
 {
     for block in blocks {
         if let Some(start) = unknown_block(declared, block) {

@@ -321,7 +321,8 @@ impl<'a> Scope<'a> {
         requires proper { IsTrue (list_all holds (map proper.proper_node nodes.now)) }
         requires filled { IsTrue (proper.is_filled nodes.now) }
         requires room { HasRoom 0 self.old }
-        ensures gives { let says = spec.objects subject.now predicate.now (map spec.meaning nodes.now) in
+        ensures gives { let says = spec.objects subject.now predicate.now
+            (map spec.meaning nodes.now) in
             Gives (says self.old) result self.new }
         ensures prologue { self.new.prologue ≡ self.old.prologue }
         ensures room { OnOk result (TakesAtMost 0 self.old self.new) }
@@ -399,7 +400,8 @@ impl<'a> Scope<'a> {
         requires known_properties { let knows = known.known_property (declared self.old.prologue) in
             IsTrue (list_all holds (map knows properties.now)) }
         requires proper { IsTrue (proper.proper_node node.now) }
-        requires proper_properties { IsTrue (list_all holds (map proper.proper_property properties.now)) }
+        requires proper_properties { IsTrue (list_all holds
+            (map proper.proper_property properties.now)) }
         requires room { HasRoom 1 self.old }
         ensures gives { let says = spec.subject_with node.now properties.now in
             Gives (says self.old) result self.new }

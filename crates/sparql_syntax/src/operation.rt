@@ -46,7 +46,8 @@ fn add<'a>(drafts: &mut Items<Draft<'a>>, draft: Option<Draft<'a>>) -> Result<()
 
 impl<'a> Scope<'a> {
     fn graph_ref_all(&mut self, graphs: &WrittenGraphs<'a>) -> Result<GraphRefAll, PrologueFault>
-        requires known { IsTrue (known.known_graph_ref_all (declared self.old.prologue) graphs.now) }
+        requires known { IsTrue (known.known_graph_ref_all
+            (declared self.old.prologue) graphs.now) }
         requires proper { IsTrue (proper.proper_graph_ref_all graphs.now) }
         ensures tells { Tells (spec.graph_ref_all graphs.now self.old.prologue) result }
         ensures prologue { self.new.prologue ≡ self.old.prologue }

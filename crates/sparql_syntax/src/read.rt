@@ -60,7 +60,8 @@ fn name_fault(text: &[u8], fault: PrologueFault) -> SyntaxFault
 
 // The byte where the token of that number starts, or the end of the text.
 fn start_of(text: &str, tokens: &[Token], number: usize) -> usize
-    ensures found { (token : Held) → slice_get tokens.now number ≡ Some token → result ≡ token.start }
+    ensures found { (token : Held) → slice_get tokens.now number ≡ Some token →
+        result ≡ token.start }
     ensures end { slice_get tokens.now number ≡ None → result ≡ length text.now }
 {
     match tokens.get(number) {
