@@ -115,10 +115,7 @@ fn unknown_triples<'a>(declared: &IndexSet<Key<'a>>, triples: &Triples<'a>) -> O
     unknown_properties(declared, triples.properties.as_slice())
 }
 
-fn unknown_graph<'a>(
-    declared: &IndexSet<Key<'a>>,
-    graph: &Option<VarOrIri<'a>>,
-) -> Option<usize>
+fn unknown_graph<'a>(declared: &IndexSet<Key<'a>>, graph: &Option<VarOrIri<'a>>) -> Option<usize>
     ensures { is_none result ≡ spec.known_graph declared.now.keys graph.now }
 {
     match graph {
@@ -186,10 +183,7 @@ fn unknown_places<'a>(
 
 // Where the first name of an operation stands whose prefix isn't one of these.
 #[tactic(auto, unfolding(crate::specs::Known::known_operation))]
-fn unknown_operation<'a>(
-    declared: &IndexSet<Key<'a>>,
-    operation: &Operation<'a>,
-) -> Option<usize>
+fn unknown_operation<'a>(declared: &IndexSet<Key<'a>>, operation: &Operation<'a>) -> Option<usize>
     ensures { is_none result ≡ spec.known_operation declared.now.keys operation.now }
 {
     match operation {

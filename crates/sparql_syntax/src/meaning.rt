@@ -399,8 +399,7 @@ impl<'a> Scope<'a> {
         requires known_properties { let knows = known.known_property (declared self.old.prologue) in
             IsTrue (list_all holds (map knows properties.now)) }
         requires proper { IsTrue (proper.proper_node node.now) }
-        requires proper_properties {
-            IsTrue (list_all holds (map proper.proper_property properties.now)) }
+        requires proper_properties { IsTrue (list_all holds (map proper.proper_property properties.now)) }
         requires room { HasRoom 1 self.old }
         ensures gives { let says = spec.subject_with node.now properties.now in
             Gives (says self.old) result self.new }

@@ -38,12 +38,12 @@ impl<'a> Model for Scope<'a> {
     ghost Value = { State };
 
     ghost view = { λ s. record {
-        prologue = s.prologue;
-        graph = s.graph;
-        numbering = s.numbering;
-        patterns = s.patterns.items;
-        graphs = s.graphs;
-        labels = s.labels;
+      prologue = s.prologue;
+      graph = s.graph;
+      numbering = s.numbering;
+      patterns = s.patterns.items;
+      graphs = s.graphs;
+      labels = s.labels;
     } };
 }
 
@@ -231,9 +231,7 @@ impl<'a> Scope<'a> {
     pub(crate) fn rdf_nil(&self) -> Result<VarOrTerm<'a>, NoMemory>
         ensures { IfOk result (λ list. list ≡ meaning.nil) }
     {
-        Ok(VarOrTerm::Term(Term::Iri(
-            self.vocabulary.rdf_nil().copy()?,
-        )))
+        Ok(VarOrTerm::Term(Term::Iri(self.vocabulary.rdf_nil().copy()?)))
     }
 
     /// The IRI of a name.
