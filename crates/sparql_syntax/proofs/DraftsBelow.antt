@@ -4,7 +4,7 @@ use Rattle.std.specs.Prelude.{Result, Ok, Err, ok_or}
 use Rattle.std.proofs.lemmas.Option.{same_Some}
 use Rattle.std.proofs.lemmas.List.Elements.{Contains-append_left, Contains-append_right}
 use Rattle.std.specs.List.{flat_map, AllByRecursion}
-use Rattle.std.specs.Option.{option_map, option_and_then}
+use Rattle.std.specs.Option.{option_map}
 use Rattle.rdf_terms.specs.Literal.{LiteralParts, is_tag}
 use Rattle.rdf_terms.specs.declared.term.Term.{Term}
 use Rattle.rdf_terms.specs.declared.term.Term.TheVariants as t
@@ -21,7 +21,7 @@ use Rattle.sparql_grammar.specs.Proper.{is_filled, stands_alone, stands_alone_of
 use Rattle.sparql_grammar.specs.declared.tree.Block.{Block}
 use Rattle.sparql_grammar.specs.declared.tree.Node.{Node}
 use Rattle.sparql_grammar.specs.declared.tree.Node.TheOpen.{Node-F, Property-F}
-use Rattle.sparql_grammar.specs.declared.tree.Node.TheFolds.{fold-Node, fold-Property, fold-roll-Node, fold-roll-Property, map-Node, map-Property, ind-Node, ind-Property}
+use Rattle.sparql_grammar.specs.declared.tree.Node.TheFolds.{fold-Property, fold-roll-Node, fold-roll-Property, map-Node, map-Property, ind-Node, ind-Property}
 use Rattle.sparql_grammar.specs.declared.tree.Node.TheViews.{roll-Node, roll-Property}
 use Rattle.sparql_grammar.specs.declared.tree.Operation.{Operation}
 use Rattle.sparql_grammar.specs.declared.tree.Operation.TheVariants as o
@@ -47,7 +47,7 @@ use Rattle.sparql_syntax.specs.declared.draft.VarOrTerm.TheVariants as x
 use Rattle.sparql_syntax.specs.declared.fault.SyntaxFaultKind.{SyntaxFaultKind}
 use Rattle.sparql_syntax.specs.declared.fault.SyntaxFaultKind.TheVariants.{Relative, UnknownPrefix}
 use Rattle.sparql_syntax.specs.State.{State, Does, start, quads, told, fresh, in_default, in_graph, says}
-use Rattle.sparql_syntax.specs.Meaning.{Meaning, Says, iri, verb, var_or_iri, literal, object, objects, first, rest, nil, next_cell, behind, list_term, list_inside, node_of, property_of, meaning, property, properties, subject_with, triples, graph, block, quads_in, operation, part, listed, drafts, drafts_behind, drafts_of, answer}
+use Rattle.sparql_syntax.specs.Meaning.{Meaning, Says, iri, verb, var_or_iri, literal, object, objects, first, rest, nil, next_cell, behind, list_term, list_inside, node_of, property_of, meaning, property, subject_with, triples, graph, block, quads_in, operation, part, listed, drafts, drafts_behind, drafts_of}
 use Rattle.sparql_syntax.proofs.BlankSteps.{then_parts, node, Numbered, IsBelow, Said, wider, also, below_on, says_numbered, TermKeeps, fresh_keeps, labelled_keeps, Stays, stays_keeps}
 
 -- ---- leaves

@@ -49,7 +49,7 @@ use Rattle.sparql_syntax.specs.declared.draft.VarOrTerm.TheVariants as x
 use Rattle.sparql_syntax.specs.declared.fault.SyntaxFaultKind.{SyntaxFaultKind}
 use Rattle.sparql_syntax.specs.declared.fault.SyntaxFaultKind.TheVariants.{UnknownPrefix, Relative}
 use Rattle.sparql_syntax.specs.Known.{declares_first}
-use Rattle.sparql_syntax.specs.State.{State, Does, start, quads, told, fresh, labelled, in_default, in_graph, says}
+use Rattle.sparql_syntax.specs.State.{Does, start, quads, told, fresh, labelled, in_default, in_graph, says}
 
 -- ---- IRIs and literals
 

@@ -1,4 +1,4 @@
-use Rattle.std.proofs.Common.{◌≡◌, ◌+◌, ◌≤◌, length, map, drop, IsTrue}
+use Rattle.std.proofs.Common.{◌≡◌, map, drop, IsTrue}
 use Rattle.std.specs.List.{list_all}
 use Rattle.sparql_syntax.specs.Known.{known_node, known_property}
 use Rattle.sparql_syntax.specs.Meaning as spec

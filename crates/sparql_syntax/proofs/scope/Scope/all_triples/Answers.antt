@@ -1,7 +1,6 @@
 use Rattle.std.proofs.Common.{◌≡◌, ◌∙◌, sym, subst, true, map, drop, ◌+◌}
 use Rattle.std.specs.List.{list_all}
 use Rattle.rdf_grammar.specs.Prologue.{Prologue, declared}
-use Rattle.rdf_grammar.specs.Steps.{Step}
 use Rattle.sparql_grammar.specs.Proper.{holds, proper_triples}
 use Rattle.sparql_syntax.specs.Known.{known_triples}
 use Rattle.sparql_syntax.specs.Meaning as spec
