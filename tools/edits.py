@@ -12,6 +12,12 @@ WAITS = "its goals wait for a callee's proof"
 Function = collections.namedtuple("Function", "file first opens last names alone key")
 
 
+def is_whole(lines):
+    """Whether each bracket that these lines open is closed: a `;` inside a record of a clause ends no declaration."""
+    text = "".join(lines)
+    return text.count("{") == text.count("}")
+
+
 def functions_of(crate, file, text):
     """The functions of a file in rt fmt's layout, their lines from 0. `names` are patterns of what a check calls them, most exact first."""
     lines, module, found = text.split("\n"), "::".join([crate, *(it for it in file[4:-3].split("/") if it not in ("lib", "mod"))]), []
@@ -24,7 +30,7 @@ def functions_of(crate, file, text):
             first -= 1
         if not line.endswith("}"):
             ends = re.compile(rf"{indent}(\S.*)?(\{{|\}})$")
-            opens = next(n for n in range(at, len(lines)) if ends.match(lines[n]) or lines[n].endswith(";"))
+            opens = next(n for n in range(at, len(lines)) if ends.match(lines[n]) or lines[n].endswith(";") and is_whole(lines[at : n + 1]))
         if lines[opens].endswith(";"):
             continue
         last = opens if lines[opens].endswith("}") else lines.index(f"{indent}}}", opens)

@@ -54,7 +54,7 @@ fn begun(alloc: Global) -> Option<Keeper> {
 // that is still as before.
 fn survives(alloc: Global, keeper: &mut Keeper) -> Option<Counts> {
     let answer = keeper.update(UPDATE);
-    if answer != Err(KeeperFault::NoMemory) {
+    if !matches!(answer, Err(KeeperFault::NoMemory(_))) {
         return answer.ok();
     }
     if is_before(alloc, keeper) {
@@ -75,7 +75,7 @@ enum Command {
 // A command that is made again where it was refused.
 fn twice(keeper: &mut Keeper, command: Command) -> Option<Counts> {
     match done(keeper, command) {
-        Err(KeeperFault::NoMemory) => done(keeper, command).ok(),
+        Err(KeeperFault::NoMemory(_)) => done(keeper, command).ok(),
         answer => answer.ok(),
     }
 }
@@ -85,7 +85,7 @@ fn done(keeper: &mut Keeper, command: Command) -> Result<Counts, KeeperFault> {
         Command::Load(text) => keeper.load(Format::NQuads, text),
         Command::Mark(name) => match keeper.mark(name) {
             Ok(()) => Ok(counts(0, 0)),
-            Err(_) => Err(KeeperFault::NoMemory),
+            Err(refused) => Err(KeeperFault::from(refused)),
         },
         Command::Undo => keeper.undo(),
         Command::Redo => keeper.redo(),
