@@ -17,7 +17,7 @@ use rdf_grammar::PrologueFault;
 use rdf_terms::{Literal, NoMemory, Term, Text};
 use rdf_tokens::{Slice, tag_value, text_value};
 use sparql_grammar::{
-    Block, Literal as Written, Node, Property, Triples, VarOrIri as WrittenName, Verb,
+    Block, Literal as Written, Name, Node, Property, Triples, VarOrIri as WrittenName, Verb,
 };
 use std::alloc::Global;
 
@@ -38,8 +38,16 @@ fn as_written(alloc: Global, slice: &Slice<'_>) -> Result<Text, NoMemory>
     Text::new(alloc, slice.as_str())
 }
 
-// Where a literal starts; a boolean doesn't tell.
-fn start_of(literal: &Written<'_>) -> Option<usize> {
+// The functions below say where something starts, as the lines of faults want it; a boolean and `a`
+// don't tell.
+
+fn start_of_name(name: &Name<'_>) -> usize {
+    match name {
+        Name::Full(text) | Name::Prefixed(text, _) => text.start(),
+    }
+}
+
+fn start_of_literal(literal: &Written<'_>) -> Option<usize> {
     match literal {
         Written::Plain(text)
         | Written::Tagged(text, _)
@@ -48,6 +56,36 @@ fn start_of(literal: &Written<'_>) -> Option<usize> {
         | Written::Decimal(text)
         | Written::Double(text) => Some(text.start()),
         Written::Boolean(_) => None,
+    }
+}
+
+fn start_of_node(node: &Node<'_>) -> Option<usize> {
+    match node {
+        Node::Variable(text)
+        | Node::Label(text)
+        | Node::Blank(text, _)
+        | Node::Collection(text, _) => Some(text.start()),
+        Node::Name(name) => Some(start_of_name(name)),
+        Node::Literal(literal) => start_of_literal(literal),
+    }
+}
+
+fn start_of_property(property: &Property<'_>) -> Option<usize> {
+    match &property.verb {
+        Verb::Variable(text) => Some(text.start()),
+        Verb::Name(name) => Some(start_of_name(name)),
+        Verb::Type => match property.objects.as_slice() {
+            [] => None,
+            [object, ..] => start_of_node(object),
+        },
+    }
+}
+
+fn start_of_triples(triples: &Triples<'_>) -> Option<usize> {
+    let subject = start_of_node(&triples.subject);
+    match triples.properties.as_slice() {
+        [] => subject,
+        [property, ..] => subject.or(start_of_property(property)),
     }
 }
 
@@ -377,15 +415,15 @@ impl<'a> Scope<'a> {
         Ok(())
     }
 
-    // Makes room for a subject, and marks one that is a literal.
-    fn prepare(&mut self, subject: &Node<'a>) -> Result<(), NoMemory>
+    // Makes room for triples, and marks a subject that is a literal.
+    fn prepare(&mut self, triples: &Triples<'a>) -> Result<(), NoMemory>
         requires { IsPaired self.old }
         ensures same { self.new ≡ self.old }
         ensures room { OnOk result (HasRoom 1 self.new) }
     {
         self.reserve()?;
-        if let Node::Literal(literal) = subject {
-            self.mark_literal(start_of(literal).unwrap_or(0));
+        if let Node::Literal(_) = &triples.subject {
+            self.mark_literal(start_of_triples(triples).unwrap_or(0));
         }
         Ok(())
     }
@@ -426,7 +464,7 @@ impl<'a> Scope<'a> {
         ensures prologue { self.new.prologue ≡ self.old.prologue }
         ensures room { OnOk result (IsPaired self.new) }
     {
-        self.prepare(&triples.subject)?;
+        self.prepare(triples)?;
         self.subject_with(&triples.subject, triples.properties.as_slice())
     }
 
