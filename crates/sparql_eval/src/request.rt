@@ -9,23 +9,23 @@ use rdf_dataset::{Source, Staged};
 use sparql_trees::{Operation, Request};
 use std::alloc::Global;
 
-fn act<D: Source>(
+fn act<S: Source>(
     alloc: Global,
     operation: &Operation,
-    view: &mut Staged<'_, D>,
+    staged: &mut Staged<'_, S>,
 ) -> Result<(), ApplyFault>
-    ensures leads { OnOk result (step view.old.now operation.now ≡ Ok view.new.now) }
-    ensures refused { IfErr result (λ fault. Tells (step view.old.now operation.now) fault) }
-    ensures beneath { view.new.under ≡ view.old.under }
+    ensures leads { OnOk result (step staged.old.now operation.now ≡ Ok staged.new.now) }
+    ensures refused { IfErr result (λ fault. Tells (step staged.old.now operation.now) fault) }
+    ensures beneath { staged.new.under ≡ staged.old.under }
 {
-    if let Some(fault) = obstacle(operation, view)? {
+    if let Some(fault) = obstacle(operation, staged)? {
         return if is_silent(operation) {
             Ok(())
         } else {
             Err(fault)
         };
     }
-    Ok(perform(alloc, operation, view)?)
+    Ok(perform(alloc, operation, staged)?)
 }
 
 /// Lets the operations of a request act on a staged view in their order.
@@ -36,18 +36,18 @@ fn act<D: Source>(
 /// or not, [`ApplyFault::BlankNumbers`] where the blank nodes of its data would bring the counter
 /// past 10^18. [`ApplyFault::NoMemory`] where memory is wanting. The view is to be given up then;
 /// what lies beneath is as it was.
-pub fn apply<D: Source>(
+pub fn apply<S: Source>(
     alloc: Global,
     request: &Request,
-    view: &mut Staged<'_, D>,
+    staged: &mut Staged<'_, S>,
 ) -> Result<(), ApplyFault>
-    ensures leads { OnOk result (steps view.old.now request.now.operations ≡ Ok view.new.now) }
+    ensures leads { OnOk result (steps staged.old.now request.now.operations ≡ Ok staged.new.now) }
     ensures refused { IfErr result
-        (λ fault. Tells (steps view.old.now request.now.operations) fault) }
-    ensures beneath { view.new.under ≡ view.old.under }
+        (λ fault. Tells (steps staged.old.now request.now.operations) fault) }
+    ensures beneath { staged.new.under ≡ staged.old.under }
 {
     for operation in request.operations.as_slice() {
-        act(alloc, operation, view)?;
+        act(alloc, operation, staged)?;
     }
     Ok(())
 }

@@ -4,6 +4,6 @@ use Rattle.sparql_eval.proofs.request.apply.Given as goal
 
 abbrev pub invariant-loop-operation : goal.invariant-loop-operation
 invariant-loop-operation g l = record {
-  beneath : l.view.under ≡ l.fn.view.under;
-  left : steps l.view.now (drop l.operation-index l.operation-items) ≡ steps l.fn.view.now l.request.operations;
+  beneath : l.staged.under ≡ l.fn.staged.under;
+  left : steps l.staged.now (drop l.operation-index l.operation-items) ≡ steps l.fn.staged.now l.request.operations;
 }
