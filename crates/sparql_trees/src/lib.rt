@@ -1,8 +1,13 @@
-//! Updates of SPARQL 1.1 as trees, whose terms are resolved (SPARQL 1.1 Update, section 3).
+//! Queries and updates of SPARQL 1.1 as trees, whose terms are resolved (SPARQL 1.1 Query, sections 5
+//! and 16; SPARQL 1.1 Update, section 3).
 #![tactic(auto)]
 
 mod data;
 mod operation;
+mod pattern;
+mod query;
 
 pub use data::{Data, GroundData};
 pub use operation::{GraphOrDefault, GraphRefAll, Operation, Request};
+pub use pattern::{BasicGraphPattern, Member, Pattern, TriplePattern, VarOrIri, VarOrTerm};
+pub use query::{Query, Select};
