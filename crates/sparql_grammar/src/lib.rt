@@ -18,7 +18,7 @@ pub use outside::first_outside;
 pub use stop::{Stop, StopKind};
 pub use terminal::Terminal;
 pub use tree::{
-    Block, GraphOrDefault, GraphRefAll, Literal, Name, Node, Operation, Part, Property, Triples,
-    VarOrIri, Verb,
+    Block, Columns, Declaration, GraphOrDefault, GraphRefAll, Group, Literal, Member, Name, Node,
+    Operation, Part, Property, Query, QueryForm, Triples, VarOrIri, Verb,
 };
 pub use update::parse_update;

@@ -116,3 +116,63 @@ pub enum Part<'a> {
     Base(Slice<'a>),
     Operation(Operation<'a>),
 }
+
+/// A declaration of a prologue (4: Prologue).
+#[derive(Drop)]
+pub enum Declaration<'a> {
+    /// The prefix without its colon, and the reference.
+    Prefix(Slice<'a>, Slice<'a>),
+    /// The reference.
+    Base(Slice<'a>),
+}
+
+/// A group graph pattern (53: GroupGraphPattern).
+#[cycle(group)]
+#[derive(Drop)]
+pub struct Group<'a> {
+    /// What stands between the braces, in the order of the text.
+    pub members: Items<Member<'a>>,
+}
+
+/// A member of a group (54: GroupGraphPatternSub).
+#[cycle(group)]
+#[derive(Drop)]
+pub enum Member<'a> {
+    /// Triples that stand together (55: TriplesBlock).
+    Triples(Items<Triples<'a>>),
+    /// Groups with UNION between them, or one group alone (67: GroupOrUnionGraphPattern).
+    Union(Items<Group<'a>>),
+    /// 57: OptionalGraphPattern.
+    Optional(Group<'a>),
+    /// 58: GraphGraphPattern.
+    Graph(VarOrIri<'a>, Group<'a>),
+}
+
+/// What SELECT names (9: SelectClause).
+#[derive(Drop)]
+pub enum Columns<'a> {
+    /// `*`.
+    All,
+    /// Each with its `?` or `$`.
+    Variables(Items<Slice<'a>>),
+}
+
+/// A query behind its prologue (2: Query).
+#[derive(Drop)]
+pub enum QueryForm<'a> {
+    /// 7: SelectQuery.
+    Select {
+        distinct: bool,
+        columns: Columns<'a>,
+        group: Group<'a>,
+    },
+    /// 12: AskQuery.
+    Ask(Group<'a>),
+}
+
+/// A query (2: Query).
+#[derive(Drop)]
+pub struct Query<'a> {
+    pub prologue: Items<Declaration<'a>>,
+    pub form: QueryForm<'a>,
+}
