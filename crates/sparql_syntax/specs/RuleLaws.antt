@@ -3,7 +3,7 @@ use Rattle.std.specs.Prelude.{◌≡◌, Bool, true, List, is_some, Ok}
 use Rattle.std.specs.List.{list_all}
 use Rattle.sparql_syntax.specs.declared.draft.Draft.{Draft}
 use Rattle.sparql_syntax.specs.declared.draft.Draft.TheVariants as draft
-use Rattle.sparql_syntax.specs.declared.draft.QuadPattern.{QuadPattern}
+use Rattle.sparql_drafts.specs.declared.draft.QuadPattern.{QuadPattern}
 use Rattle.sparql_syntax.specs.Rules.{quad_of, judged}
 use Rattle.sparql_trees.specs.declared.operation.Operation.{Operation}
 

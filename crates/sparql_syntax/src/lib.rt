@@ -6,12 +6,10 @@ mod draft;
 mod fault;
 mod known;
 mod laws;
-mod meaning;
 mod operation;
 mod read;
 mod request;
 mod rules;
-mod scope;
 
 pub use fault::{SyntaxFault, SyntaxFaultKind};
 pub use laws::{data_are_quads, one_request};
