@@ -11,8 +11,12 @@ use Rattle.sparql_grammar.specs.GroupReading.{group_with}
 use Rattle.sparql_grammar.specs.Lexemes.{Derives}
 use Rattle.sparql_grammar.specs.OperationGrammar.{Perhaps}
 
--- Block is the grammar of TriplesBlock (55), which is TriplesTemplate where no path stands, and Group' that of the groups inside
-module _ (Block : Derives (List Triples)) (Group' : Derives Group) where
+-- TriplesBlock?, which is TriplesTemplate? (52) where no path stands: 55: TriplesBlock = TriplesSameSubjectPath ( "." TriplesBlock? )?
+abbrev pub MaybeBlock : Derives (List Triples) → Derives (Option Member)
+MaybeBlock Block = maybe (m.Triples <$> Block)
+
+-- Group' is the grammar of the groups inside
+module _ (Group' : Derives Group) where
   -- 67: GroupOrUnionGraphPattern = GroupGraphPattern ( "UNION" GroupGraphPattern )*
   abbrev pub GroupOrUnionGraphPattern : Derives Member
   GroupOrUnionGraphPattern = do
@@ -37,22 +41,20 @@ module _ (Block : Derives (List Triples)) (Group' : Derives Group) where
   abbrev pub GraphPatternNotTriples : Derives Member
   GraphPatternNotTriples = GroupOrUnionGraphPattern ∣ OptionalGraphPattern ∣ GraphGraphPattern
 
-  -- TriplesBlock?
-  abbrev pub MaybeBlock : Derives (Option Member)
-  MaybeBlock = maybe (m.Triples <$> Block)
-
+-- Block is the grammar of TriplesBlock, and Group' that of the groups inside
+module _ (Block : Derives (List Triples)) (Group' : Derives Group) where
   -- GraphPatternNotTriples "."? TriplesBlock?
   abbrev pub PatternAndBlock : Derives (List Member)
   PatternAndBlock = do
-    pattern ← GraphPatternNotTriples
+    pattern ← GraphPatternNotTriples Group'
     Perhaps terminal.Dot
-    block ← MaybeBlock
+    block ← MaybeBlock Block
     pure (pattern ∷ option_to_list block)
 
   -- 54: GroupGraphPatternSub = TriplesBlock? ( GraphPatternNotTriples "."? TriplesBlock? )*
   abbrev pub GroupGraphPatternSub : Derives (List Member)
   GroupGraphPatternSub = do
-    first ← MaybeBlock
+    first ← MaybeBlock Block
     others ← Star PatternAndBlock
     pure (option_to_list first ++ others)
 

@@ -27,14 +27,12 @@ begins_pattern _ = false
 abbrev pub sees_pattern : Test
 sees_pattern ts = begins_pattern (next_terminal ts)
 
--- block is the rule for TriplesBlock
-module _ (block : Reading (List Triples)) where
-  -- TriplesBlock?
-  unfoldable pub maybe_block : Reading (Option Member)
-  maybe_block = optional sees_node (m.Triples <$> block)
+-- TriplesBlock?
+unfoldable pub maybe_block : Reading (List Triples) → Reading (Option Member)
+maybe_block block = optional sees_node (m.Triples <$> block)
 
 -- group is the rule for the groups inside
-module _ (block : Reading (List Triples)) (group : Reading Group) where
+module _ (group : Reading Group) where
   -- GroupOrUnionGraphPattern = GroupGraphPattern ( "UNION" GroupGraphPattern )*
   unfoldable pub group_or_union : Reading Member
   group_or_union = do
@@ -59,10 +57,12 @@ module _ (block : Reading (List Triples)) (group : Reading Group) where
   unfoldable pub pattern : Reading Member
   pattern = peek >>= pattern_by
 
+-- block is the rule for TriplesBlock, and group that for the groups inside
+module _ (block : Reading (List Triples)) (group : Reading Group) where
   -- GraphPatternNotTriples "."? TriplesBlock?
   unfoldable pub pattern_and_block : Reading (List Member)
   pattern_and_block = do
-    pattern ← pattern
+    pattern ← pattern group
     perhaps terminal.Dot
     triples ← maybe_block block
     pure (pattern ∷ option_to_list triples)

@@ -1,6 +1,7 @@
 -- Queries as they are written (SPARQL 1.1 Query, section 19.8, by the numbers of its rules), with no look at the next lexeme.
-use Rattle.std.specs.Prelude.{ℕ, Bool, List, [], ◌∷◌}
-use Rattle.rdf_grammar.specs.Derivations.{◌>>=◌, ◌>>◌, ◌<$>◌, ◌∣◌, pure, the, value, one, Star}
+use Rattle.std.specs.Prelude.{ℕ, suc, Bool, List, [], ◌∷◌}
+use Rattle.rdf_grammar.specs.Derivations.{◌>>=◌, ◌>>◌, ◌<$>◌, ◌∣◌, pure, the, one, Star}
+use Rattle.rdf_grammar.specs.Terminals.{Piece}
 use Rattle.sparql_grammar.specs.declared.terminal.Terminal.TheVariants as terminal
 use Rattle.sparql_grammar.specs.declared.tree.Columns.{Columns}
 use Rattle.sparql_grammar.specs.declared.tree.Columns.TheVariants as c
@@ -16,15 +17,15 @@ use Rattle.sparql_grammar.specs.PrologueGrammar.{Prologue}
 use Rattle.sparql_grammar.specs.QueryReading.{query_with}
 
 -- Var+
-abbrev pub Vars : Derives Columns
+abbrev pub Vars : Derives (List Piece)
 Vars = do
   first ← Var
   others ← Star (one Var)
-  pure (c.Variables (first ∷ others))
+  pure (first ∷ others)
 
 -- Var+ | "*"
 abbrev pub AColumns : Derives Columns
-AColumns = Vars ∣ (the terminal.Star >> pure c.All)
+AColumns = (c.Variables <$> Vars) ∣ (the terminal.Star >> pure c.All)
 
 module _ (Group' : Derives Group) where
   -- 17: WhereClause = "WHERE"? GroupGraphPattern
@@ -56,4 +57,4 @@ module _ (Group' : Derives Group) where
 
 -- All of the lexemes are this query. Its brackets may nest as deep as they do.
 abbrev pub IsQuery : Lexemes → Query → Type 0
-IsQuery ts query = (depth : ℕ) × AQuery (Groups_at (TriplesTemplate (Nodes_at depth)) depth) ts query []
+IsQuery ts query = (depth : ℕ) × AQuery (Groups_at (TriplesTemplate (Nodes_at depth)) (suc depth)) ts query []

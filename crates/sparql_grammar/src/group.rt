@@ -36,7 +36,7 @@ fn push_some<'a>(
     members: &mut Items<Member<'a>>,
     member: Option<Member<'a>>,
 ) -> Result<(), NoMemory>
-    ensures { OnOk result (members.new ≡ members.old ++ option_to_list member) }
+    ensures { OnOk result (members.new ≡ members.old ++ option_to_list member.entry) }
 {
     if let Some(member) = member {
         members.push(member)?;
@@ -97,8 +97,7 @@ fn members<'a>(
 #[cycle(group)]
 #[tactic(auto, unfolding(crate::specs::GroupReading::pattern, rdf_grammar::specs::Readings::any))]
 fn pattern<'a>(parser: &mut Parser<'_, 'a>, depth: usize) -> Result<Member<'a>, GrammarFault>
-    ensures reads { Reads
-        (spec.pattern in_data (spec.group in_data depth) parser.old) result parser.new }
+    ensures reads { Reads (spec.pattern (spec.group in_data depth) parser.old) result parser.new }
     ensures shorter { OnOk result (length parser.new < length parser.old) }
 {
     match parser.peek() {
@@ -121,7 +120,7 @@ fn graph_pattern<'a>(
     depth: usize,
 ) -> Result<Member<'a>, GrammarFault>
     ensures reads { Reads
-        (spec.graph_pattern in_data (spec.group in_data depth) parser.old) result parser.new }
+        (spec.graph_pattern (spec.group in_data depth) parser.old) result parser.new }
     ensures shorter { OnOk result (length parser.new < length parser.old) }
 {
     let graph = var_or_iri(parser)?;
@@ -135,7 +134,7 @@ fn group_or_union<'a>(
     depth: usize,
 ) -> Result<Member<'a>, GrammarFault>
     ensures reads { Reads
-        (spec.group_or_union in_data (spec.group in_data depth) parser.old) result parser.new }
+        (spec.group_or_union (spec.group in_data depth) parser.old) result parser.new }
     ensures shorter { OnOk result (length parser.new < length parser.old) }
 {
     let mut groups = Items::new(parser.alloc());
