@@ -114,7 +114,7 @@ good_collection : (bracket : Piece) (xs : List Node) → AllByRecursion (Passes 
 good_collection bracket xs h = by-Collection proper_node_of proper_property_of bracket xs ∙ all_pass proper_node xs h
 
 -- a list with a member
-abbrev Some_pass : {A : Type 0} → (A → Bool) → List A → Type 0
+abbrev pub Some_pass : {A : Type 0} → (A → Bool) → List A → Type 0
 Some_pass test xs = AllByRecursion (Passes test) xs × (is_filled xs ≡ true)
 
 good_property : (verb : Verb) (objects : List Node) → proper_verb verb ≡ true → Some_pass proper_node objects → proper_property (read.property_with verb objects) ≡ true
