@@ -97,7 +97,10 @@ fn both<'a>(
 
 // The draft of an operation.
 #[tactic(auto, unfolding(crate::specs::Meaning::operation, crate::specs::Known::known_operation, sparql_grammar::specs::Proper::proper_operation))]
-fn operation_draft<'a>(scope: &mut Scope<'a>, operation: &Written<'a>) -> Result<Draft<'a>, PrologueFault>
+fn operation_draft<'a>(
+    scope: &mut Scope<'a>,
+    operation: &Written<'a>,
+) -> Result<Draft<'a>, PrologueFault>
     requires known { IsTrue (known.known_operation (declared scope.old.prologue) operation.now) }
     requires proper { IsTrue (proper.proper_operation operation.now) }
     ensures tells { Tells (spec.operation operation.now scope.old.prologue) result }
@@ -152,7 +155,10 @@ fn operation_draft<'a>(scope: &mut Scope<'a>, operation: &Written<'a>) -> Result
 
 // The draft of a part: an operation has one, and a declaration is in force from here on.
 #[tactic(auto, unfolding(crate::specs::Meaning::part))]
-fn part_draft<'a>(scope: &mut Scope<'a>, part: &Part<'a>) -> Result<Option<Draft<'a>>, PrologueFault>
+fn part_draft<'a>(
+    scope: &mut Scope<'a>,
+    part: &Part<'a>,
+) -> Result<Option<Draft<'a>>, PrologueFault>
     requires known { IsTrue (known.known_part (declared scope.old.prologue) part.now) }
     requires proper { IsTrue (proper.proper_part part.now) }
     ensures gives { Gives (spec.part part.now scope.old.prologue) result scope.new.prologue }
