@@ -2,7 +2,7 @@
 use Rattle.std.proofs.Common.{◌≡◌, ◌<◌, inl, inr, ℕ, List, Option, Some, Result, Ok, Err, IsTrue, MatchResult, map, refl, sym, ap, subst, ◌∙◌}
 use Rattle.std.specs.List.{list_all, slice_get}
 use Rattle.std.specs.Str.{chars, IsUtf8}
-use Rattle.rdf_grammar.proofs.TextLemmas.{deep_at, got, same_lengths, some_lexemes}
+use Rattle.rdf_grammar.proofs.TextLemmas.{got, same_lengths, some_lexemes}
 use Rattle.rdf_grammar.specs.declared.prologue.PrologueFault.{PrologueFault}
 use Rattle.rdf_grammar.specs.declared.prologue.PrologueFault.TheVariants as name
 use Rattle.rdf_terms.specs.declared.fault.NoMemory.{NoMemory}

@@ -1,5 +1,5 @@
 -- Each text says something: it is a request, or it has a fault.
-use Rattle.std.proofs.Common.{◌≡◌, ◌<◌, ◌⊎◌, inl, inr, ℕ, Bool, true, false, cond, List, [], map, Option, Some, Result, Ok, Err, refl, sym, ap, subst, ◌∙◌, true≢false}
+use Rattle.std.proofs.Common.{◌≡◌, ◌<◌, ◌⊎◌, inl, inr, ℕ, Bool, true, false, cond, List, [], map, Option, Result, Ok, Err, refl, sym, ap, subst, ◌∙◌, true≢false}
 use Rattle.std.proofs.lemmas.Bool.{cases_Bool}
 use Rattle.std.proofs.lemmas.Str.{IsUtf8-from_is_utf8, is_utf8-from_IsUtf8}
 use Rattle.std.specs.List.{list_any}
@@ -11,7 +11,6 @@ use Rattle.rdf_tokens.specs.Tokens.{Says}
 use Rattle.rdf_tokens.proofs.CallerLemmas.{some_token_list, tokens_have_forms}
 use Rattle.sparql_grammar.specs.declared.tree.Part.{Part}
 use Rattle.sparql_grammar.specs.Lexemes.{Lexemes}
-use Rattle.sparql_grammar.specs.Nesting.{IsTooDeep}
 use Rattle.sparql_grammar.specs.Profile.{AreInside}
 use Rattle.sparql_grammar.specs.Terminals.{terminal_by, bracket}
 use Rattle.sparql_syntax.specs.declared.draft.Draft.{Draft}

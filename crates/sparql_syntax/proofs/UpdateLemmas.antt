@@ -6,10 +6,9 @@ use Rattle.std.specs.Str.{chars, IsUtf8}
 use Rattle.rdf_grammar.proofs.TextLemmas as text_lemmas
 use Rattle.rdf_tokens.specs.declared.token.Token.{Token}
 use Rattle.rdf_tokens.specs.Lines.{line_of}
-use Rattle.rdf_tokens.specs.Tokens.{Says}
 use Rattle.rdf_tokens.proofs.CallerLemmas.{one_token_list}
 use Rattle.sparql_grammar.specs.declared.tree.Part.{Part}
-use Rattle.sparql_grammar.specs.Lexemes.{Lexeme, Lexemes, AreLexemes}
+use Rattle.sparql_grammar.specs.Lexemes.{Lexeme, AreLexemes}
 use Rattle.sparql_grammar.specs.Nesting.{IsTooDeep, IsTooDeepAt}
 use Rattle.sparql_grammar.specs.OperationGrammar.{IsRequest}
 use Rattle.sparql_grammar.specs.Profile.{AreInside, IsFirstOutside}
