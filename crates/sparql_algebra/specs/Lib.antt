@@ -1,0 +1,6 @@
+pub mod Mapping
+pub mod Listing
+pub mod Algebra
+pub mod Solutions
+pub mod Bags
+pub mod Order
