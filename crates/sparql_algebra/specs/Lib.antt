@@ -4,3 +4,4 @@ pub mod Algebra
 pub mod Solutions
 pub mod Bags
 pub mod Order
+pub mod Results
