@@ -1,0 +1,5 @@
+pub mod Sums
+pub mod TruthLemmas
+pub mod CountLemmas
+pub mod TermLemmas
+pub mod BagLemmas
