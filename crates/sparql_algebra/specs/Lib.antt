@@ -4,4 +4,5 @@ pub mod Algebra
 pub mod Solutions
 pub mod Bags
 pub mod Order
+pub mod Counts
 pub mod Results
