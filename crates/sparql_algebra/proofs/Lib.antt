@@ -5,3 +5,4 @@ pub mod TermLemmas
 pub mod BagLemmas
 pub mod Regroup
 pub mod UniverseLemmas
+pub mod AssignmentLemmas
