@@ -6,3 +6,6 @@ pub mod BagLemmas
 pub mod Regroup
 pub mod UniverseLemmas
 pub mod AssignmentLemmas
+pub mod SetLemmas
+pub mod ListingLemmas
+pub mod IndependenceLemmas
