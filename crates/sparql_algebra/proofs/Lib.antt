@@ -9,3 +9,7 @@ pub mod AssignmentLemmas
 pub mod SetLemmas
 pub mod ListingLemmas
 pub mod IndependenceLemmas
+pub mod OrderLemmas
+pub mod SortedLemmas
+pub mod TranslationLemmas
+pub mod LengthLemmas
