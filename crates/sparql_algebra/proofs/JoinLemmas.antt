@@ -197,20 +197,28 @@ binds_none (suc n) [] = refl
 binds_none (suc n) (None ∷ w) = binds_none n w
 binds_none (suc n) (Some t ∷ w) = and_false (has_length n w)
 
-only_empty : (variables : Variables) (quads : List QuadParts) → SameBag (assignments variables quads empty_group) (replicate (length variables) None ∷ [])
+counted_alone : (w m : Mapping) → count_by (same_mapping w) (m ∷ []) ≡ one (same_mapping w m)
+counted_alone w m =
+    let counted : count_by (same_mapping w) (m ∷ []) ≡ one (same_mapping w m) + 0 = sum_by-cons (λ x. cond (same_mapping w x) 1 0) m [] in
+    omega (arith, counted)
+
+only_empty : (variables : Variables) (quads : List QuadParts) → SameBag (assignments variables quads empty_group) (empty_mapping variables ∷ [])
 only_empty variables quads =
-    sums_from_counts same_mapping same_mapping_is same_mapping_own (assignments variables quads empty_group) (replicate (length variables) None ∷ [])
-    (λ w. let more : length variables + 0 ≡ length variables = omega arith in
-    let counted : count_by (same_mapping w) (replicate (length variables) None ∷ []) ≡ one (same_mapping w (replicate (length variables) None)) + 0 =
-    sum_by-cons _ (replicate (length variables) None) [] in
-    assignments_count variables quads empty_group w
-    ∙ ap (λ n. one (has_length n w && binds_exactly (λ _. false) w)) more
-    ∙ ap one (binds_none (length variables) w)
-    ∙ omega (arith, counted))
+    sums_from_counts same_mapping same_mapping_is same_mapping_own (assignments variables quads empty_group) (empty_mapping variables ∷ []) counts
+  where
+    more : length variables + 0 ≡ length variables
+    more = omega arith
+
+    counts : (w : Mapping) → count_by (same_mapping w) (assignments variables quads empty_group) ≡ count_by (same_mapping w) (empty_mapping variables ∷ [])
+    counts w =
+        assignments_count variables quads empty_group w
+        ∙ ap (λ n. one (has_length n w && binds_exactly (λ _. false) w)) more
+        ∙ ap one (binds_none (length variables) w)
+        ∙ sym (counted_alone w (empty_mapping variables))
 
 pub empty_solutions : (variables : Variables) (quads : List QuadParts) → SameBag (basic_solutions variables quads empty_group) (empty_mapping variables ∷ [])
 empty_solutions variables quads f =
-    SameBag-map (take (length variables)) (assignments variables quads empty_group) (replicate (length variables) None ∷ []) (only_empty variables quads) f
+    SameBag-map (take (length variables)) (assignments variables quads empty_group) (empty_mapping variables ∷ []) (only_empty variables quads) f
     ∙ ap (λ (m : Mapping). sum_by f (m ∷ [])) (take-replicate (length variables) (length variables) None (omega arith))
 
 compatible_empty : (n : ℕ) (a : Mapping) → compatible (replicate n None) a ≡ true
