@@ -98,7 +98,7 @@ unfolding Keeps
 query_within depth d ts query below h =
     let all : suc depth - 0 ≡ suc depth = omega arith in
     let groups : Keeps bracket (suc depth) 0 (AGroup d) (AGroup depth) =
-        rw all at (groups_keep (suc depth) (TriplesTemplate (Nodes_at d)) (TriplesTemplate (Nodes_at depth)) (block_keeps depth d) (suc d) 0) in
+    rw all at (groups_keep (suc depth) (TriplesTemplate (Nodes_at d)) (TriplesTemplate (Nodes_at depth)) (block_keeps depth d) (suc d) 0) in
     (query_keeps (suc depth) (AGroup d) (AGroup depth) groups ts query [] h (record { at = below })).0
 
 -- ---- all of the lexemes
