@@ -11,7 +11,7 @@ use Rattle.sparql_grammar.specs.declared.tree.Triples.{Triples}
 use Rattle.sparql_grammar.specs.Grammar.{Nodes_at, TriplesTemplate}
 use Rattle.sparql_grammar.specs.GroupGrammar as g
 use Rattle.sparql_grammar.specs.GroupReading as read
-use Rattle.sparql_grammar.specs.Lexemes.{Lexemes, Derives}
+use Rattle.sparql_grammar.specs.Lexemes.{Derives}
 use Rattle.sparql_grammar.specs.Terminals.{bracket}
 use Rattle.sparql_grammar.proofs.GrammarNests.{var_or_iri_keeps, triples_keep}
 use Rattle.sparql_grammar.proofs.OperationNests.{perhaps_keeps}

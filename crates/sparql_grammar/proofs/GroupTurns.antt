@@ -1,5 +1,5 @@
 -- A turn of the loop over the members of a group.
-use Rattle.std.proofs.Common.{◌≡◌, ◌<◌, Bool, true, cond, List, [], ◌∷◌, ◌++◌, length, Option, Some, None, refl, sym, ◌∙◌, ap, arith, append_assoc}
+use Rattle.std.proofs.Common.{◌≡◌, ◌<◌, Bool, true, cond, List, [], ◌∷◌, ◌++◌, length, Option, Some, None, refl, arith, append_assoc}
 use Rattle.std.specs.Prelude.{option_to_list}
 use Rattle.rdf_grammar.specs.Readings.{next}
 use Rattle.sparql_grammar.specs.declared.terminal.Terminal.TheVariants as terminal

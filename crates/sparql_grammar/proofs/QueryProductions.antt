@@ -1,5 +1,5 @@
 -- Queries are read just as they are derived.
-use Rattle.std.proofs.Common.{◌≡◌, ◌<◌, ◌≤◌, Bool, true, false, not, List, [], ◌∷◌, length, Option, Some, None, refl, sym, ◌∙◌, ap, arith, inl, inr, ◌⊎◌}
+use Rattle.std.proofs.Common.{◌≡◌, ◌<◌, ◌≤◌, Bool, true, false, not, List, [], ◌∷◌, length, Option, Some, refl, sym, ◌∙◌, ap, arith, inl, inr, ◌⊎◌}
 use Rattle.rdf_grammar.specs.Steps as steps
 use Rattle.rdf_grammar.specs.Readings as reading
 use Rattle.rdf_grammar.specs.Terminals.{Piece, next_terminal}
@@ -201,5 +201,14 @@ module _ (group : Reading Group) (Group' : Derives Group) (r : IsGroupRule group
   pub whole_of : (ts : Lexemes) (x : Query) (us : Lexemes) → us ≡ [] → g.AQuery Group' ts x us → Whole ts x us
   whole_of ts x us e h =
       let form = h.goes in
-      record { first = h.first; mid = h.mid; reads = h.reads; goes = record { first = form.first; mid = form.mid; reads = form.reads;
-      goes = record { first = tt; mid = us; reads = (form.goes.1, e); goes = (form.goes.0, refl) } } }
+      record {
+        first = h.first;
+        mid = h.mid;
+        reads = h.reads;
+        goes = record {
+          first = form.first;
+          mid = form.mid;
+          reads = form.reads;
+          goes = record { first = tt; mid = us; reads = (form.goes.1, e); goes = (form.goes.0, refl) };
+        };
+      }

@@ -1,10 +1,8 @@
 -- Queries that are derived of formed lexemes are proper.
-use Rattle.std.proofs.Common.{◌≡◌, ◌∙◌, ap, refl, sym, ℕ, zero, suc, Bool, true, List, [], ◌∷◌, ◌++◌, map, Option, Some, None}
+use Rattle.std.proofs.Common.{◌≡◌, ◌∙◌, ap, refl, sym, ℕ, zero, suc, true, List, [], ◌∷◌, ◌++◌, map, Option, Some, None}
 use Rattle.std.proofs.lemmas.Bool.{and_from}
 use Rattle.std.specs.Prelude.{option_to_list}
 use Rattle.std.specs.List.{list_all, AllByRecursion}
-use Rattle.rdf_grammar.specs.Derivations as grammar
-use Rattle.rdf_grammar.specs.Terminals.{Piece}
 use Rattle.rdf_grammar.proofs.LexemeLemmas.{lexemes_have_forms}
 use Rattle.sparql_grammar.specs.declared.terminal.Terminal.TheVariants as terminal
 use Rattle.sparql_grammar.specs.declared.tree.Columns.TheVariants as c
@@ -19,7 +17,7 @@ use Rattle.sparql_grammar.specs.declared.tree.VarOrIri.{VarOrIri}
 use Rattle.sparql_grammar.specs.Grammar.{Nodes_at, TriplesTemplate}
 use Rattle.sparql_grammar.specs.GroupGrammar as groups
 use Rattle.sparql_grammar.specs.GroupReading.{group_with}
-use Rattle.sparql_grammar.specs.Lexemes.{Lexemes, Derives}
+use Rattle.sparql_grammar.specs.Lexemes.{Derives}
 use Rattle.sparql_grammar.specs.Proper.{holds, is_filled, proper_triples, proper_var_or_iri, proper_group_of, proper_member_of, proper_group, proper_member, proper_columns, proper_form, proper_query}
 use Rattle.sparql_grammar.specs.QueryGrammar as g
 use Rattle.sparql_grammar.specs.QueryLaws.{QueriesAreProper}

@@ -1,5 +1,5 @@
 -- All of the lexemes are a query.
-use Rattle.std.proofs.Common.{◌≡◌, ℕ, suc, ◌+◌, ◌-◌, ◌≤◌, ◌<◌, true, List, [], ◌∷◌, take, length, Option, Some, None, refl, ap, sym, ◌∙◌, arith}
+use Rattle.std.proofs.Common.{◌≡◌, ℕ, suc, ◌-◌, ◌≤◌, true, [], ◌∷◌, take, length, Option, Some, refl, ap, sym, ◌∙◌, arith}
 use Rattle.rdf_grammar.specs.declared.fault.GrammarFault.{GrammarFault}
 use Rattle.rdf_grammar.specs.declared.fault.GrammarFault.TheVariants.{Syntax, NoMemory}
 use Rattle.rdf_grammar.specs.Readings.{Fails}
@@ -15,7 +15,6 @@ use Rattle.sparql_grammar.specs.declared.tree.Columns.TheVariants as c
 use Rattle.sparql_grammar.specs.declared.tree.Group.{Group}
 use Rattle.sparql_grammar.specs.declared.tree.Query.{Query}
 use Rattle.sparql_grammar.specs.declared.tree.QueryForm.TheVariants as form
-use Rattle.sparql_grammar.specs.declared.tree.Triples.{Triples}
 use Rattle.sparql_grammar.specs.Grammar.{Nodes_at, TriplesTemplate}
 use Rattle.sparql_grammar.specs.GroupGrammar.{Groups_at}
 use Rattle.sparql_grammar.specs.GroupReading.{group}
@@ -99,7 +98,7 @@ unfolding Keeps
 query_within depth d ts query below h =
     let all : suc depth - 0 ≡ suc depth = omega arith in
     let groups : Keeps bracket (suc depth) 0 (AGroup d) (AGroup depth) =
-        rw all at (groups_keep (suc depth) (TriplesTemplate (Nodes_at d)) (TriplesTemplate (Nodes_at depth)) (block_keeps depth d) (suc d) 0) in
+    rw all at (groups_keep (suc depth) (TriplesTemplate (Nodes_at d)) (TriplesTemplate (Nodes_at depth)) (block_keeps depth d) (suc d) 0) in
     (query_keeps (suc depth) (AGroup d) (AGroup depth) groups ts query [] h (record { at = below })).0
 
 -- ---- all of the lexemes

@@ -1,6 +1,6 @@
 -- Groups (SPARQL 1.1 Query, section 19.8), a definition for each production. Where a production has alternatives the next lexeme
 -- chooses.
-use Rattle.std.specs.Prelude.{ℕ, zero, suc, Bool, true, false, List, [], ◌∷◌, ◌++◌, Option, Some, option_to_list}
+use Rattle.std.specs.Prelude.{ℕ, zero, suc, Bool, true, false, List, ◌∷◌, ◌++◌, Option, Some, option_to_list}
 use Rattle.rdf_grammar.specs.Steps.{◌>>=◌, ◌>>◌, ◌<$>◌, pure, none}
 use Rattle.rdf_grammar.specs.Terminals.{peek, next_terminal}
 use Rattle.rdf_grammar.specs.Readings.{any, one, optional, repeat}

@@ -1,5 +1,5 @@
 -- Queries as they are written (SPARQL 1.1 Query, section 19.8, by the numbers of its rules), with no look at the next lexeme.
-use Rattle.std.specs.Prelude.{ℕ, suc, Bool, List, [], ◌∷◌}
+use Rattle.std.specs.Prelude.{ℕ, suc, List, [], ◌∷◌}
 use Rattle.rdf_grammar.specs.Derivations.{◌>>=◌, ◌>>◌, ◌<$>◌, ◌∣◌, pure, the, one, Star}
 use Rattle.rdf_grammar.specs.Terminals.{Piece}
 use Rattle.sparql_grammar.specs.declared.terminal.Terminal.TheVariants as terminal

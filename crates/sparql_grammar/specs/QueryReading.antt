@@ -1,6 +1,6 @@
 -- Queries (SPARQL 1.1 Query, section 19.8), a definition for each production. Where a production has alternatives the next lexeme
 -- chooses.
-use Rattle.std.specs.Prelude.{ℕ, Bool, List, ◌∷◌, Option, Some}
+use Rattle.std.specs.Prelude.{List, ◌∷◌, Option, Some}
 use Rattle.rdf_grammar.specs.Steps.{◌>>=◌, ◌>>◌, ◌<$>◌, pure, none}
 use Rattle.rdf_grammar.specs.Terminals.{Piece, peek}
 use Rattle.rdf_grammar.specs.Readings.{any, choose, is_more, one, repeat}

@@ -76,10 +76,7 @@ fn group_graph_pattern<'a>(
 
 #[cycle(group)]
 #[tactic(auto, unfolding(crate::specs::GroupReading::members))]
-fn members<'a>(
-    parser: &mut Parser<'_, 'a>,
-    depth: usize,
-) -> Result<Items<Member<'a>>, GrammarFault>
+fn members<'a>(parser: &mut Parser<'_, 'a>, depth: usize) -> Result<Items<Member<'a>>, GrammarFault>
     ensures reads { Reads
         (spec.members in_data (spec.group in_data depth) parser.old) result parser.new }
     ensures shorter { OnOk result (length parser.new ≤ length parser.old) }
@@ -115,10 +112,7 @@ fn pattern<'a>(parser: &mut Parser<'_, 'a>, depth: usize) -> Result<Member<'a>, 
 
 #[cycle(group)]
 #[tactic(auto, unfolding(crate::specs::GroupReading::graph_pattern))]
-fn graph_pattern<'a>(
-    parser: &mut Parser<'_, 'a>,
-    depth: usize,
-) -> Result<Member<'a>, GrammarFault>
+fn graph_pattern<'a>(parser: &mut Parser<'_, 'a>, depth: usize) -> Result<Member<'a>, GrammarFault>
     ensures reads { Reads
         (spec.graph_pattern (spec.group in_data depth) parser.old) result parser.new }
     ensures shorter { OnOk result (length parser.new < length parser.old) }
@@ -129,10 +123,7 @@ fn graph_pattern<'a>(
 
 #[cycle(group)]
 #[tactic(auto, unfolding(crate::specs::GroupReading::group_or_union))]
-fn group_or_union<'a>(
-    parser: &mut Parser<'_, 'a>,
-    depth: usize,
-) -> Result<Member<'a>, GrammarFault>
+fn group_or_union<'a>(parser: &mut Parser<'_, 'a>, depth: usize) -> Result<Member<'a>, GrammarFault>
     ensures reads { Reads
         (spec.group_or_union (spec.group in_data depth) parser.old) result parser.new }
     ensures shorter { OnOk result (length parser.new < length parser.old) }
