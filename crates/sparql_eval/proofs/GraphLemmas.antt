@@ -16,7 +16,7 @@ use Rattle.rdf_dataset.specs.Sorted.{AppendsOnce}
 use Rattle.rdf_dataset.specs.State.{Names, State, IsEmptyGraph, IsNamed, IsSound, with_graph}
 use Rattle.sparql_eval.specs.Graphs.{is_default, is_meant, quads_in, same_graph, without_graph}
 use Rattle.sparql_eval.specs.Operations.{added, cleared, copied, dropped}
-use Rattle.sparql_eval.specs.Staging.{emptied, gone, graphs_emptied, one_emptied}
+use Rattle.sparql_eval.specs.Inside.Staging.{emptied, gone, graphs_emptied, one_emptied}
 use Rattle.sparql_eval.specs.declared.graphs.Names.{Names as Kept}
 use Rattle.sparql_eval.specs.declared.graphs.Names.TheVariants as kept
 use Rattle.sparql_eval.proofs.SetLemmas.{and_second, contains-kept, difference-more, difference-nothing, front_nothing, kept_alike, kept_all, kept_twice, tie_itself, tie_same, tie_sym}

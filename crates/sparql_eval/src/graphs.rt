@@ -4,7 +4,7 @@ ghost use Rattle.rdf_terms.specs.Below.{IsGraphBelow};
 ghost use Rattle.rdf_terms.specs.Quad.{may_name_graph};
 ghost use Rattle.sparql_eval.specs.Graphs.{graph_of, same_graph};
 ghost use Rattle.sparql_eval.specs.Operations.{copied, onto};
-ghost use Rattle.sparql_eval.specs.Staging.{gone, graphs_emptied, one_emptied, transferred};
+ghost use Rattle.sparql_eval.specs.Inside.Staging.{gone, graphs_emptied, one_emptied, transferred};
 ghost use Rattle.sparql_trees.specs.declared.operation.GraphRefAll.TheVariants.{Named as each_named};
 
 use crate::quads::{add_graph, empty_graph, is_sound};
@@ -56,6 +56,7 @@ pub(crate) enum Names {
     Go,
 }
 
+// Empties a graph; its name stays or goes.
 fn empty_one<D: Source>(
     alloc: Global,
     graph: &GraphName,
@@ -71,6 +72,7 @@ fn empty_one<D: Source>(
     }
 }
 
+// Empties each named graph.
 fn empty_named<D: Source>(
     alloc: Global,
     names: Names,
@@ -129,7 +131,7 @@ fn replace_graph<D: Source>(
     add_graph(alloc, from, to, view)
 }
 
-/// What is done with the triples of one graph and another.
+/// What is brought from one graph into another.
 #[derive(Clone, Copy)]
 pub(crate) enum Transfer {
     /// COPY: the second graph has the triples of the first and no others.

@@ -1,4 +1,4 @@
--- Graphs that are emptied, and triples that come from one into another, which only private clauses cite.
+-- Graphs that are emptied, and triples that come from one into another.
 use Rattle.rdf_terms.specs.declared.quad.GraphName.{GraphName}
 use Rattle.rdf_dataset.specs.State.{State}
 use Rattle.sparql_eval.specs.Graphs.{without_graph, without_name_of}
