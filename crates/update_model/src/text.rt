@@ -82,7 +82,8 @@ fn place(text: &mut String, word: &str, place: Place) -> Result<(), NoMemory> {
 
 fn data(text: &mut String, words: &str, facts: &[Fact], number: u64) -> Result<(), NoMemory> {
     text.push_str(words)?;
-    text.push_str(" {")?;
+    // a block without triples brings no graph
+    text.push_str(" { GRAPH <a:none> { }")?;
     let mut graph = Graph::Default;
     for fact in facts {
         if fact.graph != graph {
