@@ -16,7 +16,7 @@ use Rattle.rdf_dataset.specs.Sorted.{AppendsOnce}
 use Rattle.rdf_dataset.specs.State.{Names, State, IsEmptyGraph, IsNamed, IsSound, with_graph}
 use Rattle.sparql_eval.specs.Graphs.{is_default, is_meant, quads_in, same_graph, without_graph}
 use Rattle.sparql_eval.specs.Operations.{added, cleared, copied, dropped}
-use Rattle.sparql_eval.specs.Staging.{emptied, gone, graphs_emptied, one_emptied}
+use Rattle.sparql_eval.specs.Inside.Staging.{emptied, gone, graphs_emptied, one_emptied}
 use Rattle.sparql_eval.specs.declared.graphs.Names.{Names as Kept}
 use Rattle.sparql_eval.specs.declared.graphs.Names.TheVariants as kept
 use Rattle.sparql_eval.proofs.SetLemmas.{and_second, contains-kept, difference-more, difference-nothing, front_nothing, kept_alike, kept_all, kept_twice, tie_itself, tie_same, tie_sym}
@@ -58,10 +58,15 @@ each_emptied kept s (n ∷ ns) = each_emptied kept (one_emptied kept s (Named n)
 abbrev emptied_each : State → List Term → State
 emptied_each = each_emptied kept.Stay
 
-emptied_each-quads : (s : State) (ns : List Term) → (emptied_each s ns).quads ≡ retain s.quads (λ q. not (list_any (names_it q.graph) ns))
-emptied_each-quads s [] = sym (kept_all quad_cmp_total quad_cmp-IsAntisymmetric s.quads (λ q. true) (λ q. refl))
-emptied_each-quads s (n ∷ ns) =
-    emptied_each-quads (emptied s (Named n)) ns
+one_emptied-quads : (k : Kept) (s : State) (g : GraphName) → (one_emptied k s g).quads ≡ without_graph s.quads g
+one_emptied-quads kept.Stay s g = refl
+one_emptied-quads kept.Go s g = refl
+
+each_emptied-quads : (k : Kept) (s : State) (ns : List Term) → (each_emptied k s ns).quads ≡ retain s.quads (λ q. not (list_any (names_it q.graph) ns))
+each_emptied-quads k s [] = sym (kept_all quad_cmp_total quad_cmp-IsAntisymmetric s.quads (λ q. true) (λ q. refl))
+each_emptied-quads k s (n ∷ ns) =
+    each_emptied-quads k (one_emptied k s (Named n)) ns
+    ∙ ap (λ z. retain z (λ q. not (list_any (names_it q.graph) ns))) (one_emptied-quads k s (Named n))
     ∙ kept_twice quad_cmp_total quad_cmp-IsAntisymmetric s.quads (λ q. not (same_graph (Named n) q.graph)) (λ q. not (list_any (names_it q.graph) ns)) (λ q. not (names_it q.graph n || list_any (names_it q.graph) ns))
     (λ q. not_either (same_graph (Named n) q.graph) (list_any (names_it q.graph) ns))
   where
@@ -93,7 +98,7 @@ names_found names old found none l = ap from_list (front_nothing old found l.fou
 all_emptied : (s : State) (old found rest : List Term) → IsSound s → old ≡ [] → AppendsOnce s.names old found → rest ≡ found → emptied_each s rest ≡ cleared s some.Named
 all_emptied s old found rest sound none l e =
     ap (emptied_each s) e
-    ∙ same_state (emptied_each s found) (cleared s some.Named) (emptied_each-quads s found ∙ quads_listed s found sound (names_found s.names old found none l)) (emptied_each-names s found) (emptied_each-next s found)
+    ∙ same_state (emptied_each s found) (cleared s some.Named) (each_emptied-quads kept.Stay s found ∙ quads_listed s found sound (names_found s.names old found none l)) (emptied_each-names s found) (emptied_each-next s found)
 
 -- the default graph
 pub default_cleared : (s : State) → emptied s Default ≡ cleared s some.Default
@@ -122,17 +127,6 @@ emptied_is_empty s g q h same =
 abbrev gone_each : State → List Term → State
 gone_each = each_emptied kept.Go
 
-gone_each-quads : (s : State) (ns : List Term) → (gone_each s ns).quads ≡ retain s.quads (λ q. not (list_any (names_it q.graph) ns))
-gone_each-quads s [] = sym (kept_all quad_cmp_total quad_cmp-IsAntisymmetric s.quads (λ q. true) (λ q. refl))
-gone_each-quads s (n ∷ ns) =
-    gone_each-quads (gone s (Named n)) ns
-    ∙ kept_twice quad_cmp_total quad_cmp-IsAntisymmetric s.quads (λ q. not (same_graph (Named n) q.graph)) (λ q. not (list_any (names_it q.graph) ns)) (λ q. not (names_it q.graph n || list_any (names_it q.graph) ns))
-    (λ q. not_either (same_graph (Named n) q.graph) (list_any (names_it q.graph) ns))
-  where
-    not_either : (a b : Bool) → (not a && not b) ≡ not (a || b)
-    not_either true b = refl
-    not_either false b = refl
-
 gone_each-names : (s : State) (ns : List Term) → (gone_each s ns).names ≡ difference s.names (from_list ns)
 gone_each-names s [] = sym (difference-nothing term_cmp_total term_cmp-IsAntisymmetric s.names)
 gone_each-names s (n ∷ ns) = gone_each-names (gone s (Named n)) ns ∙ difference-more term_cmp_total term_cmp-IsAntisymmetric s.names n ns
@@ -156,7 +150,7 @@ all_gone : (s : State) (old found rest : List Term) → IsSound s → old ≡ []
 all_gone s old found rest sound none l e =
     let all = names_found s.names old found none l in
     ap (gone_each s) e
-    ∙ same_state (gone_each s found) (dropped s some.Named) (gone_each-quads s found ∙ quads_listed s found sound all) (gone_each-names s found ∙ no_name_left s.names found all) (gone_each-next s found)
+    ∙ same_state (gone_each s found) (dropped s some.Named) (each_emptied-quads kept.Go s found ∙ quads_listed s found sound all) (gone_each-names s found ∙ no_name_left s.names found all) (gone_each-next s found)
 
 -- one named graph
 pub one_gone : (s : State) (n : Term) → gone s (Named n) ≡ record { quads = without_graph s.quads (Named n); names = retain s.names (λ m. not (same_graph (Named n) (Named m))); next = s.next }

@@ -19,7 +19,7 @@ use Rattle.rdf_dataset.specs.State.{Names, Quads, State, IsSound, matches, with_
 use Rattle.rdf_dataset.proofs.InsertionLemmas.{with_all-more, with_all-nothing}
 use Rattle.sparql_eval.specs.Graphs.{quad_in, quads_in, quads_of, same_graph}
 use Rattle.sparql_eval.specs.Operations.{added, without_all}
-use Rattle.sparql_eval.specs.Staging.{emptied}
+use Rattle.sparql_eval.specs.Inside.Staging.{emptied}
 use Rattle.sparql_eval.proofs.SetLemmas.{and_first, and_second, and_true, any_item, contains-kept, difference-kept, difference-more, difference-nothing, each_item, front_nothing, next_of, or_false}
 
 -- ---- quads go

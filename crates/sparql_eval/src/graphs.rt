@@ -3,8 +3,8 @@ ghost use Rattle.std.specs.Prelude.{◌≡◌, ℕ, false, IfOk, IsTrue, OnOk};
 ghost use Rattle.rdf_terms.specs.Below.{IsGraphBelow};
 ghost use Rattle.rdf_terms.specs.Quad.{may_name_graph};
 ghost use Rattle.sparql_eval.specs.Graphs.{graph_of, same_graph};
-ghost use Rattle.sparql_eval.specs.Operations.{added, copied, moved, onto};
-ghost use Rattle.sparql_eval.specs.Staging.{gone, graphs_emptied, one_emptied};
+ghost use Rattle.sparql_eval.specs.Operations.{copied, onto};
+ghost use Rattle.sparql_eval.specs.Inside.Staging.{gone, graphs_emptied, one_emptied, transferred};
 ghost use Rattle.sparql_trees.specs.declared.operation.GraphRefAll.TheVariants.{Named as each_named};
 
 use crate::quads::{add_graph, empty_graph, is_sound};
@@ -56,6 +56,7 @@ pub(crate) enum Names {
     Go,
 }
 
+// Empties a graph; its name stays or goes.
 fn empty_one<D: Source>(
     alloc: Global,
     graph: &GraphName,
@@ -71,6 +72,7 @@ fn empty_one<D: Source>(
     }
 }
 
+// Empties each named graph.
 fn empty_named<D: Source>(
     alloc: Global,
     names: Names,
@@ -129,34 +131,27 @@ fn replace_graph<D: Source>(
     add_graph(alloc, from, to, view)
 }
 
-/// COPY: the second graph has the triples of the first and no others.
-pub(crate) fn copy<D: Source>(
-    alloc: Global,
-    from: &GraphOrDefault,
-    to: &GraphOrDefault,
-    view: &mut Staged<'_, D>,
-) -> Result<(), NoMemory>
-    ensures ok { let g = graph_of from.now in let h = graph_of to.now in let s = view.old.now in
-        OnOk result (view.new.now ≡ onto g h s (copied s g h)) }
-    ensures beneath { view.new.under ≡ view.old.under }
-{
-    let from = name_of(from)?;
-    let to = name_of(to)?;
-    if is_same_graph(&from, &to) {
-        return Ok(());
-    }
-    replace_graph(alloc, &from, &to, view)
+/// What is brought from one graph into another.
+#[derive(Clone, Copy)]
+pub(crate) enum Transfer {
+    /// COPY: the second graph has the triples of the first and no others.
+    Copy,
+    /// MOVE: as COPY, and the first graph goes.
+    Move,
+    /// ADD: the second graph has the triples of the first beside its own.
+    Add,
 }
 
-/// MOVE: as COPY, and the first graph goes.
-pub(crate) fn move_graph<D: Source>(
+/// COPY, MOVE and ADD. A graph onto itself changes nothing.
+pub(crate) fn transfer_graph<D: Source>(
     alloc: Global,
+    kind: Transfer,
     from: &GraphOrDefault,
     to: &GraphOrDefault,
     view: &mut Staged<'_, D>,
 ) -> Result<(), NoMemory>
     ensures ok { let g = graph_of from.now in let h = graph_of to.now in let s = view.old.now in
-        OnOk result (view.new.now ≡ onto g h s (moved s g h)) }
+        OnOk result (view.new.now ≡ onto g h s (transferred kind s g h)) }
     ensures beneath { view.new.under ≡ view.old.under }
 {
     let from = name_of(from)?;
@@ -164,25 +159,12 @@ pub(crate) fn move_graph<D: Source>(
     if is_same_graph(&from, &to) {
         return Ok(());
     }
-    replace_graph(alloc, &from, &to, view)?;
-    drop_graph(alloc, &from, view)
-}
-
-/// ADD: the second graph has the triples of the first beside its own.
-pub(crate) fn add<D: Source>(
-    alloc: Global,
-    from: &GraphOrDefault,
-    to: &GraphOrDefault,
-    view: &mut Staged<'_, D>,
-) -> Result<(), NoMemory>
-    ensures ok { let g = graph_of from.now in let h = graph_of to.now in let s = view.old.now in
-        OnOk result (view.new.now ≡ onto g h s (added s g h)) }
-    ensures beneath { view.new.under ≡ view.old.under }
-{
-    let from = name_of(from)?;
-    let to = name_of(to)?;
-    if is_same_graph(&from, &to) {
-        return Ok(());
+    match kind {
+        Transfer::Copy => replace_graph(alloc, &from, &to, view),
+        Transfer::Move => {
+            replace_graph(alloc, &from, &to, view)?;
+            drop_graph(alloc, &from, view)
+        }
+        Transfer::Add => add_graph(alloc, &from, &to, view),
     }
-    add_graph(alloc, &from, &to, view)
 }

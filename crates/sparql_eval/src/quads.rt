@@ -5,7 +5,7 @@ ghost use Rattle.rdf_terms.specs.Quad.{is_graph, may_name_graph};
 ghost use Rattle.rdf_dataset.specs.State.{IsSound};
 ghost use Rattle.sparql_eval.specs.Graphs.{quad_in};
 ghost use Rattle.sparql_eval.specs.Operations.{added, without_all};
-ghost use Rattle.sparql_eval.specs.Staging.{emptied};
+ghost use Rattle.sparql_eval.specs.Inside.Staging.{emptied};
 
 use rdf_dataset::{Source, Staged};
 use rdf_terms::{GraphName, NoMemory, Quad};

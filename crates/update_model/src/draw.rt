@@ -67,39 +67,27 @@ impl Draw {
         })
     }
 
-    // A blank node has the next place of the data, or an earlier one.
     fn insert_data(&mut self, alloc: Global) -> Option<Action> {
-        let mut facts = Vec::new(alloc);
-        let mut blanks = 0u64;
-        for _ in 0..self.number() % 6 {
-            let graph = self.place().graph();
-            let subject = self.node_or_blank(&mut blanks);
-            let predicate = self.predicate();
-            let object = match self.number() % 3 {
-                0 => Node::Text("x"),
-                _ => self.node_or_blank(&mut blanks),
-            };
-            facts
-                .push(Fact {
-                    graph,
-                    subject,
-                    predicate,
-                    object,
-                })
-                .ok()?;
-        }
+        let (facts, blanks) = self.facts(alloc, true)?;
         Some(Action::InsertData { facts, blanks })
     }
 
     fn delete_data(&mut self, alloc: Global) -> Option<Action> {
+        let (facts, _) = self.facts(alloc, false)?;
+        Some(Action::DeleteData { facts })
+    }
+
+    // A few quads, perhaps with blank nodes, and how many.
+    fn facts(&mut self, alloc: Global, has_blanks: bool) -> Option<(Vec<Fact>, u64)> {
         let mut facts = Vec::new(alloc);
-        for _ in 0..self.number() % 8 {
+        let mut blanks = 0u64;
+        for _ in 0..self.number() % 7 {
             let graph = self.place().graph();
-            let subject = self.node();
+            let subject = self.node_or_blank(has_blanks, &mut blanks);
             let predicate = self.predicate();
             let object = match self.number() % 3 {
                 0 => Node::Text("x"),
-                _ => self.node(),
+                _ => self.node_or_blank(has_blanks, &mut blanks),
             };
             facts
                 .push(Fact {
@@ -110,12 +98,13 @@ impl Draw {
                 })
                 .ok()?;
         }
-        Some(Action::DeleteData { facts })
+        Some((facts, blanks))
     }
 
-    fn node_or_blank(&mut self, blanks: &mut u64) -> Node {
+    // A blank node has the next place of the data, or an earlier one.
+    fn node_or_blank(&mut self, has_blanks: bool, blanks: &mut u64) -> Node {
         match self.number() % 8 {
-            0 => {
+            0 if has_blanks => {
                 let place = *blanks;
                 *blanks = place.saturating_add(1);
                 Node::Blank(place)

@@ -1,7 +1,7 @@
 use Rattle.std.proofs.Common.{subst, sym}
 use Rattle.rdf_dataset.specs.State.{State, IsEmptyGraph}
 use Rattle.rdf_terms.specs.declared.quad.GraphName.TheVariants.{Named}
-use Rattle.sparql_eval.specs.Staging.{emptied}
+use Rattle.sparql_eval.specs.Inside.Staging.{emptied}
 use Rattle.sparql_eval.proofs.GraphLemmas.{emptied_is_empty}
 use Rattle.sparql_eval.proofs.graphs.drop_graph.Goals as goal
 

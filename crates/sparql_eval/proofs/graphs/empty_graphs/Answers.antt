@@ -1,7 +1,7 @@
 use Rattle.std.proofs.Common.{List, ℕ, ◌∙◌, ap, sym}
 use Rattle.rdf_terms.specs.declared.quad.GraphName.TheVariants.{Named}
 use Rattle.rdf_terms.specs.declared.term.Term.TheVariants.{Iri}
-use Rattle.sparql_eval.specs.Staging.{graphs_emptied, one_emptied}
+use Rattle.sparql_eval.specs.Inside.Staging.{graphs_emptied, one_emptied}
 use Rattle.sparql_eval.proofs.GraphLemmas.{both_emptied, default_emptied, graph_emptied}
 use Rattle.sparql_eval.proofs.ResultLemmas.{on_ok}
 use Rattle.sparql_eval.proofs.graphs.empty_graphs.Goals as goal

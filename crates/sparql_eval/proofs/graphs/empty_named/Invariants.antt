@@ -1,6 +1,6 @@
 use Rattle.std.proofs.Common.{◌≡◌, length}
 use Rattle.std.specs.Vec.Iter.{into_iter_items, into_iter_len}
-use Rattle.sparql_eval.specs.Staging.{graphs_emptied}
+use Rattle.sparql_eval.specs.Inside.Staging.{graphs_emptied}
 use Rattle.sparql_eval.proofs.GraphLemmas.{each_emptied}
 use Rattle.sparql_eval.proofs.graphs.empty_named.Given as goal
 use Rattle.sparql_trees.specs.declared.operation.GraphRefAll.TheVariants as some

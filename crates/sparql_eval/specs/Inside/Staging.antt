@@ -1,10 +1,12 @@
--- Graphs that are emptied, which only private clauses cite.
+-- Graphs that are emptied, and triples that come from one into another.
 use Rattle.rdf_terms.specs.declared.quad.GraphName.{GraphName}
 use Rattle.rdf_dataset.specs.State.{State}
 use Rattle.sparql_eval.specs.Graphs.{without_graph, without_name_of}
-use Rattle.sparql_eval.specs.Operations.{cleared, dropped}
+use Rattle.sparql_eval.specs.Operations.{added, cleared, copied, dropped, moved}
 use Rattle.sparql_eval.specs.declared.graphs.Names.{Names}
 use Rattle.sparql_eval.specs.declared.graphs.Names.TheVariants.{Stay, Go}
+use Rattle.sparql_eval.specs.declared.graphs.Transfer.{Transfer}
+use Rattle.sparql_eval.specs.declared.graphs.Transfer.TheVariants.{Copy, Move, Add}
 use Rattle.sparql_trees.specs.declared.operation.GraphRefAll.{GraphRefAll}
 
 -- a graph is emptied
@@ -24,3 +26,9 @@ one_emptied Go s g = gone s g
 abbrev pub graphs_emptied : Names → State → GraphRefAll → State
 graphs_emptied Stay s graphs = cleared s graphs
 graphs_emptied Go s graphs = dropped s graphs
+
+-- COPY, MOVE or ADD of one graph to another
+abbrev pub transferred : Transfer → State → GraphName → GraphName → State
+transferred Copy s g h = copied s g h
+transferred Move s g h = moved s g h
+transferred Add s g h = added s g h
