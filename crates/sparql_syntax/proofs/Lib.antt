@@ -5,5 +5,6 @@ mod ReadLemmas
 mod RequestLemmas
 mod RuleLawLemmas
 mod RuleLemmas
+mod SharedLabels
 mod UpdateCases
 mod UpdateLemmas

@@ -6,12 +6,14 @@ use std::alloc::Global;
 
 const LAST_NUMBER: u64 = 1_000_000_000_000_000_000;
 
-/// The quads and the graph names, each once, and the number of the next blank node.
+/// The quads and the graph names, each once, the number of the next blank node, and how many operations
+/// have acted.
 #[derive(Drop)]
 pub struct Model {
     facts: Vec<Fact>,
     names: Vec<Node>,
     next: u64,
+    acted: u64,
 }
 
 impl Model {
@@ -20,6 +22,7 @@ impl Model {
             facts: Vec::new(alloc),
             names: Vec::new(alloc),
             next,
+            acted: 0,
         }
     }
 
@@ -28,6 +31,7 @@ impl Model {
             facts: self.facts.as_slice().to_vec(alloc).ok()?,
             names: self.names.as_slice().to_vec(alloc).ok()?,
             next: self.next,
+            acted: self.acted,
         })
     }
 
@@ -43,10 +47,15 @@ impl Model {
         self.next
     }
 
+    pub fn acted(&self) -> u64 {
+        self.acted
+    }
+
     /// Lets the operations act in order, up to the first that is refused. The model is to be given up then.
     pub fn act(&mut self, alloc: Global, actions: &[Action]) -> Result<(), ApplyFault> {
         for action in actions {
             self.act_once(alloc, action)?;
+            self.acted = self.acted.saturating_add(1);
         }
         Ok(())
     }

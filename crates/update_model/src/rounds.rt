@@ -81,7 +81,8 @@ impl Trial {
         match net_of(self.alloc, &request, &self.dataset) {
             Ok(net) => answer.is_ok() && self.accepted(net, after),
             Err(fault) => {
-                self.tally.refused(fault);
+                self.tally
+                    .refused(fault, after.acted() > self.model.acted());
                 answer == Err(fault) && agree(self.alloc, &self.dataset, &self.model)
             }
         }

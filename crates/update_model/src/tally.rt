@@ -2,8 +2,8 @@
 use sparql_eval::ApplyFault;
 use std::fmt;
 
-/// How many requests agreed, and of these how many were refused, and why, or taken back; and the
-/// first that didn't agree, as SPARQL.
+/// How many requests agreed, and of these how many were refused, and why, and whether behind another
+/// operation, or taken back; and the first that didn't agree, as SPARQL.
 #[derive(Drop)]
 pub struct Tally {
     pub agreed: u32,
@@ -11,6 +11,7 @@ pub struct Tally {
     missing_graph: u32,
     graph_exists: u32,
     blank_numbers: u32,
+    behind_another: u32,
     disagrees: Option<String>,
 }
 
@@ -22,6 +23,7 @@ impl Tally {
             missing_graph: 0,
             graph_exists: 0,
             blank_numbers: 0,
+            behind_another: 0,
             disagrees: None,
         }
     }
@@ -31,8 +33,11 @@ impl Tally {
         self.disagrees = text;
     }
 
-    /// Counts a refusal.
-    pub fn refused(&mut self, fault: ApplyFault) {
+    /// Counts a refusal, perhaps of an operation behind another one, whose work is lost.
+    pub fn refused(&mut self, fault: ApplyFault, is_behind_another: bool) {
+        if is_behind_another {
+            self.behind_another = self.behind_another.saturating_add(1);
+        }
         match fault {
             ApplyFault::MissingGraph => self.missing_graph = self.missing_graph.saturating_add(1),
             ApplyFault::GraphExists => self.graph_exists = self.graph_exists.saturating_add(1),
@@ -46,8 +51,13 @@ impl fmt::Display for Tally {
     fn fmt<W: fmt::Write>(&self, f: &mut fmt::Formatter<W>) -> fmt::Result {
         write!(
             f,
-            "{} requests agree: {} MissingGraph, {} GraphExists, {} BlankNumbers, {} taken back",
-            self.agreed, self.missing_graph, self.graph_exists, self.blank_numbers, self.taken_back
+            "{} requests agree: {} MissingGraph, {} GraphExists, {} BlankNumbers",
+            self.agreed, self.missing_graph, self.graph_exists, self.blank_numbers
+        )?;
+        write!(
+            f,
+            ", of these {} behind another operation; {} taken back",
+            self.behind_another, self.taken_back
         )?;
         match &self.disagrees {
             Some(text) => write!(f, "; this one doesn't: {text}"),

@@ -66,15 +66,16 @@ fn transfer(
     to: Place,
 ) -> Result<(), NoMemory> {
     word(text, name, silent)?;
-    place(text, from)?;
+    place(text, "", from)?;
     text.push_str(" TO")?;
-    place(text, to)
+    place(text, "GRAPH ", to)
 }
 
-fn place(text: &mut String, place: Place) -> Result<(), NoMemory> {
+// GRAPH may stand before a name, or not.
+fn place(text: &mut String, word: &str, place: Place) -> Result<(), NoMemory> {
     match place {
         Place::Default => text.push_str(" DEFAULT")?,
-        Place::Graph(name) => write!(text, " <{name}>")?,
+        Place::Graph(name) => write!(text, " {word}<{name}>")?,
     }
     Ok(())
 }
@@ -82,22 +83,34 @@ fn place(text: &mut String, place: Place) -> Result<(), NoMemory> {
 fn data(text: &mut String, words: &str, facts: &[Fact], number: u64) -> Result<(), NoMemory> {
     text.push_str(words)?;
     text.push_str(" {")?;
+    let mut graph = Graph::Default;
     for fact in facts {
-        match fact.graph {
-            Graph::Default => {
-                triple(text, fact, number)?;
-                text.push_str(" .")?;
-            }
-            Graph::Named(name) => {
-                text.push_str(" GRAPH")?;
-                node(text, name, number)?;
-                text.push_str(" {")?;
-                triple(text, fact, number)?;
-                text.push_str(" }")?;
-            }
+        if fact.graph != graph {
+            end_block(text, graph)?;
+            graph = fact.graph;
+            begin_block(text, graph, number)?;
         }
+        triple(text, fact, number)?;
+        text.push_str(" .")?;
     }
+    end_block(text, graph)?;
     text.push_str(" }")?;
+    Ok(())
+}
+
+fn begin_block(text: &mut String, graph: Graph, number: u64) -> Result<(), NoMemory> {
+    if let Graph::Named(name) = graph {
+        text.push_str(" GRAPH")?;
+        node(text, name, number)?;
+        text.push_str(" {")?;
+    }
+    Ok(())
+}
+
+fn end_block(text: &mut String, graph: Graph) -> Result<(), NoMemory> {
+    if graph != Graph::Default {
+        text.push_str(" }")?;
+    }
     Ok(())
 }
 

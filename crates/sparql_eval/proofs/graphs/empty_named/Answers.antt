@@ -1,7 +1,7 @@
 use Rattle.std.proofs.Common.{◌≡◌, rules, length}
 use Rattle.std.specs.Vec.Iter.{into_iter_items, into_iter_len}
-use Rattle.sparql_eval.proofs.GraphLemmas.{all_emptied}
-use Rattle.sparql_eval.proofs.graphs.clear_named.Goals as goal
+use Rattle.sparql_eval.proofs.GraphLemmas.{named_emptied}
+use Rattle.sparql_eval.proofs.graphs.empty_named.Goals as goal
 
 pub loop-name-init : goal.loop-name-init
 loop-name-init g c =
@@ -11,6 +11,6 @@ loop-name-init g c =
       steps = tt;
       ends = tt;
       beneath = search rules;
-      left = all_emptied c.args.view.now.now c.new-names.result.items c.names.new.out.items _ c.is_sound.ensures c.new-names.ensures.items c.in_ok-names.ensures.ok all;
+      left = named_emptied c.args.names c.args.view.now.now c.new-named.result.items c.names.new.out.items _ c.is_sound.ensures c.new-named.ensures.items c.in_ok-names.ensures.ok all;
       count = count;
     }
