@@ -1,5 +1,5 @@
 -- What holds of every dataset, pattern and query.
-use Rattle.std.specs.Prelude.{◌≡◌, ℕ, Bool, List, Some, count_by}
+use Rattle.std.specs.Prelude.{◌≡◌, Bool, List, Some, count_by}
 use Rattle.std.specs.List.{list_any}
 use Rattle.std.specs.FinSet as set
 use Rattle.rdf_terms.specs.declared.term.Term.{Term}
