@@ -1,5 +1,5 @@
 -- There is one result of each query.
-use Rattle.std.proofs.Common.{◌≡◌, Bool, true, false, cond, List, [], ◌∷◌, refl, sym, ap, ◌∙◌, arith}
+use Rattle.std.proofs.Common.{◌≡◌, ℕ, ◌+◌, ◌<◌, Bool, true, false, cond, List, [], ◌∷◌, refl, sym, ap, ◌∙◌, arith}
 use Rattle.std.specs.List.{count_by}
 use Rattle.std.proofs.lemmas.List.Sums.{sum_by-cons}
 use Rattle.rdf_terms.specs.declared.quad.GraphName.{GraphName}
@@ -10,10 +10,12 @@ use Rattle.sparql_trees.specs.declared.pattern.Pattern.{Pattern}
 use Rattle.sparql_trees.specs.declared.query.Select.{Select}
 use Rattle.sparql_algebra.specs.Algebra.{translation}
 use Rattle.sparql_algebra.specs.Bags.{SameBag}
-use Rattle.sparql_algebra.specs.Laws.{SomeSolutions, SolutionsAgree, SomeSelection, OneSelection, SomeAnswer, OneAnswer}
+use Rattle.sparql_algebra.specs.Laws.{SomeSolutions, SolutionsAgree, SomeSelection, OneSelection, SomeAnswer, OneAnswer, AnswerTellsSolutions}
 use Rattle.sparql_algebra.specs.Listing.{Listing, Lists}
 use Rattle.sparql_algebra.specs.Mapping.{Mapping, same_mapping}
 use Rattle.sparql_algebra.specs.Results.{pattern_solutions, projected, projections, times_selected, is_some_solution}
+use Rattle.sparql_algebra.proofs.Sums.{one}
+use Rattle.sparql_algebra.proofs.TermLemmas.{same_mapping_own}
 use Rattle.sparql_algebra.proofs.BagLemmas.{SameBag-map}
 use Rattle.sparql_algebra.proofs.IndependenceLemmas.{listings_same}
 use Rattle.sparql_algebra.proofs.ListingLemmas.{listing_of, there_is_a_listing}
@@ -85,3 +87,18 @@ some_answer P s = (
 
 pub one_answer : OneAnswer
 one_answer P s x y h k = h (listing_of s) (there_is_a_listing s) ∙ sym (k (listing_of s) (there_is_a_listing s))
+
+some_counted : (xs : List Mapping) → is_some_solution xs ≡ true → (m : Mapping) × (0 < count_by (same_mapping m) xs)
+some_counted [] h = cc
+some_counted (x ∷ xs) h =
+    let c : count_by (same_mapping x) (x ∷ xs) ≡ one (same_mapping x x) + count_by (same_mapping x) xs = sum_by-cons _ x xs in
+    let z : one (same_mapping x x) ≡ 1 = ap one (same_mapping_own x) in
+    (x, omega (arith, c, z))
+
+counted_some : (xs : List Mapping) (m : Mapping) → 0 < count_by (same_mapping m) xs → is_some_solution xs ≡ true
+counted_some [] m h = absurd (omega arith)
+counted_some (x ∷ xs) m h = refl
+
+pub answer_tells_solutions : AnswerTellsSolutions
+answer_tells_solutions P s answer h d k =
+    (λ e. some_counted (pattern_solutions P Default d) (sym (h d k) ∙ e), λ e. h d k ∙ counted_some (pattern_solutions P Default d) e.0 e.1)
