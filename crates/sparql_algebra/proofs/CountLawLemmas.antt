@@ -1,22 +1,28 @@
 -- What the operators make of counts.
-use Rattle.std.proofs.Common.{◌≡◌, ℕ, ◌+◌, ◌≤◌, Bool, true, false, cond, ◌&&◌, List, [], ◌∷◌, ◌++◌, length, take, map, filter, refl, sym, ap, ◌∙◌, arith, nat_eq}
-use Rattle.std.specs.List.{sum_by, count_by, flat_map}
+use Rattle.std.proofs.Common.{◌≡◌, ℕ, ◌+◌, ◌≤◌, Bool, true, false, cond, ◌&&◌, List, [], ◌∷◌, Option, Some, None, length, take, filter, refl, sym, ap, ◌∙◌, arith, nat_eq}
+use Rattle.std.specs.List.{sum_by, count_by, list_all}
 use Rattle.std.proofs.lemmas.Bool.{eqb-true, eq-eqb}
 use Rattle.std.proofs.lemmas.List.Sums.{sum_by-cons}
 use Rattle.rdf_terms.specs.Quad.{QuadParts}
 use Rattle.rdf_terms.specs.declared.term.Term.{Term}
+use Rattle.rdf_terms.specs.declared.quad.GraphName.{GraphName}
 use Rattle.rdf_terms.specs.declared.quad.GraphName.TheVariants.{Named}
+use Rattle.rdf_dataset.specs.Sorted.{ListsOnce}
+use Rattle.rdf_dataset.specs.State.{State}
 use Rattle.sparql_trees.specs.declared.pattern.BasicGraphPattern.{BasicGraphPattern}
+use Rattle.sparql_trees.specs.declared.pattern.TriplePattern.{TriplePattern}
 use Rattle.sparql_algebra.specs.Bags.{SameBag}
 use Rattle.sparql_algebra.specs.Counts.{always, ListsCounted, pairs_count, begins_pair, widens, VariableLaw}
-use Rattle.sparql_algebra.specs.Listing.{Listing}
+use Rattle.sparql_algebra.specs.Laws.{held, instance_held, AssignmentsCountOnce}
+use Rattle.sparql_algebra.specs.Listing.{Listing, graph_quads}
 use Rattle.sparql_algebra.specs.Mapping.{Variables, Mapping, same_mapping, single}
-use Rattle.sparql_algebra.specs.Solutions.{solves, assignments, basic_solutions, joins, left_joins, solutions}
+use Rattle.sparql_algebra.specs.Solutions.{var_or_term, term_at, holds, instance_lies, occurs, binds_exactly, solves, assignments, basic_solutions, joins, left_joins, solutions}
 use Rattle.sparql_algebra.proofs.Sums.{one, sum_by-cong, sum_by-filter, sum_by-map, sum_by-flat_map, sums_from_counts}
 use Rattle.sparql_algebra.proofs.TruthLemmas.{both_true, cond_one}
 use Rattle.sparql_algebra.proofs.TermLemmas.{same_mapping_is, same_mapping_own}
 use Rattle.sparql_algebra.proofs.UniverseLemmas.{has_length}
 use Rattle.sparql_algebra.proofs.AssignmentLemmas.{assignments_count}
+use Rattle.sparql_algebra.proofs.ListingLemmas.{triple_listed}
 use Rattle.sparql_algebra.proofs.LengthLemmas.{length_from, length_to}
 use Rattle.sparql_algebra.proofs.Regroup.{times, left_join_law, filter_law, single_law, each_once, each_once_lists}
 
@@ -50,6 +56,29 @@ module _ (variables : Variables) (quads : List QuadParts) (b : BasicGraphPattern
       ∙ sym (sum_by-filter (λ _. 1) fits (assignments variables quads b))
       ∙ same (λ _. 1)
       ∙ length_sum W
+
+-- in the state's own words
+
+module _ (s : State) (g : GraphName) (quads : List QuadParts) (h : ListsOnce (graph_quads s g) quads) where
+  held_is : (a b c : Option Term) → holds quads a b c ≡ held s g a b c
+  held_is (Some a) (Some b) (Some c) = triple_listed s g quads h a b c
+  held_is (Some a) (Some b) None = refl
+  held_is (Some a) None c = refl
+  held_is None b c = refl
+
+  all_held : (variables : Variables) (w : Mapping) (ps : List TriplePattern) → list_all (instance_lies variables quads w) ps ≡ list_all (instance_held s g variables w) ps
+  all_held variables w [] = refl
+  all_held variables w (p ∷ ps) =
+      ap (λ z. z && list_all (instance_lies variables quads w) ps)
+      (held_is (term_at variables w p.subject) (term_at variables w (var_or_term p.predicate)) (term_at variables w p.object))
+      ∙ ap (λ z. instance_held s g variables w p && z) (all_held variables w ps)
+
+pub assignments_count_once : AssignmentsCountOnce
+assignments_count_once s d h variables g b m W counted =
+    basic_law variables (d.quads g) b m W
+    (λ w. counted w
+    ∙ ap (λ z. one (same_mapping m (take (length variables) w) && (nat_eq (length w) (length variables + b.hidden) && (z && binds_exactly (occurs variables b.triples) w))))
+    (sym (all_held s g (d.quads g) (h.quads g) variables w b.triples)))
 
 -- ---- graphs
 

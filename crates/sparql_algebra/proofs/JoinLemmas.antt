@@ -1,13 +1,13 @@
 -- Join is commutative and associative, and the empty pattern is its unit.
-use Rattle.std.proofs.Common.{◌≡◌, ℕ, zero, suc, ◌+◌, ◌≤◌, Bool, true, false, cond, ◌&&◌, List, [], ◌∷◌, ◌++◌, map, filter, Option, Some, None, refl, sym, ap, ◌∙◌, arith, length, take, replicate}
-use Rattle.std.specs.List.{sum_by, count_by, flat_map, list_all}
-use Rattle.std.proofs.lemmas.List.Sums.{sum_by-cons, sum_by-append}
+use Rattle.std.proofs.Common.{◌≡◌, ℕ, zero, suc, ◌+◌, Bool, true, false, cond, ◌&&◌, List, [], ◌∷◌, filter, Option, Some, None, refl, sym, ap, ◌∙◌, arith, length, take, replicate}
+use Rattle.std.specs.List.{sum_by, count_by, list_all}
+use Rattle.std.proofs.lemmas.List.Sums.{sum_by-cons}
 use Rattle.std.proofs.lemmas.List.{take-replicate}
 use Rattle.rdf_terms.specs.Quad.{QuadParts}
 use Rattle.rdf_terms.specs.declared.term.Term.{Term}
 use Rattle.sparql_trees.specs.declared.pattern.BasicGraphPattern.{BasicGraphPattern}
 use Rattle.sparql_algebra.specs.Bags.{SameBag}
-use Rattle.sparql_algebra.specs.Mapping.{Variables, Mapping, same_term, same_value, same_mapping, empty_mapping, agrees, first_of, compatible, merge}
+use Rattle.sparql_algebra.specs.Mapping.{Variables, Mapping, same_term, same_mapping, empty_mapping, agrees, first_of, compatible, merge}
 use Rattle.sparql_algebra.specs.Solutions.{binds_exactly, assignments, basic_solutions, merges, joins}
 use Rattle.sparql_algebra.proofs.Sums.{one, sum_by-cong, sum_by-filter, sum_by-map, sum_by-flat_map, sums_from_counts}
 use Rattle.sparql_algebra.proofs.TruthLemmas.{and_true, and_false, and_left, and_right, and_four, both_true, cond_both}
@@ -16,7 +16,7 @@ use Rattle.sparql_algebra.proofs.CountLemmas.{sum_zero}
 use Rattle.sparql_algebra.proofs.Regroup.{sum_plus}
 use Rattle.sparql_algebra.proofs.UniverseLemmas.{has_length}
 use Rattle.sparql_algebra.proofs.AssignmentLemmas.{assignments_count}
-use Rattle.sparql_algebra.proofs.BagLemmas.{SameBag-trans, SameBag-map}
+use Rattle.sparql_algebra.proofs.BagLemmas.{SameBag-map}
 
 -- ---- sums
 
@@ -236,5 +236,8 @@ pub empty_joins : (variables : Variables) (A : List Mapping) → list_all (has_l
 empty_joins variables A h f =
     sum_joins f (empty_mapping variables ∷ []) A
     ∙ sum_by-cons (λ a. sum_by (λ b. cond (compatible a b) (f (merge a b)) 0) A) (empty_mapping variables) []
-    ∙ omega (arith, sum_where (has_length (length variables)) (λ b. cond (compatible (empty_mapping variables) b) (f (merge (empty_mapping variables) b)) 0) f
-    (λ b k. ap (λ z. cond z (f (merge (empty_mapping variables) b)) 0) (compatible_empty (length variables) b) ∙ ap f (merge_empty (length variables) b k)) A h)
+    ∙ omega (
+      arith,
+      sum_where (has_length (length variables)) (λ b. cond (compatible (empty_mapping variables) b) (f (merge (empty_mapping variables) b)) 0) f
+          (λ b k. ap (λ z. cond z (f (merge (empty_mapping variables) b)) 0) (compatible_empty (length variables) b) ∙ ap f (merge_empty (length variables) b k)) A h,
+    )

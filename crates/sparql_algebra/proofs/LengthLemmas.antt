@@ -1,18 +1,16 @@
 -- Each solution has a place for each variable.
-use Rattle.std.proofs.Common.{◌≡◌, ℕ, zero, suc, ◌+◌, ◌≤◌, Bool, true, false, cond, ◌&&◌, List, [], ◌∷◌, ◌++◌, map, filter, Option, Some, None, refl, sym, ap, ◌∙◌, arith, length, take, replicate}
+use Rattle.std.proofs.Common.{◌≡◌, ℕ, zero, suc, ◌+◌, Bool, true, false, cond, ◌&&◌, List, [], ◌∷◌, ◌++◌, map, filter, Option, Some, None, refl, ap, ◌∙◌, arith, length, take}
 use Rattle.std.specs.List.{flat_map, list_any, list_all}
 use Rattle.std.proofs.lemmas.List.{length-replicate, length-set, length-take-le}
-use Rattle.rdf_terms.specs.Quad.{QuadParts}
 use Rattle.rdf_terms.specs.declared.term.Term.{Term}
 use Rattle.rdf_terms.specs.declared.term.Term.TheVariants as t
 use Rattle.rdf_terms.specs.declared.quad.GraphName.{GraphName}
 use Rattle.rdf_terms.specs.declared.quad.GraphName.TheVariants.{Named}
-use Rattle.sparql_trees.specs.declared.pattern.BasicGraphPattern.{BasicGraphPattern}
 use Rattle.sparql_trees.specs.declared.pattern.VarOrIri.TheVariants as v
 use Rattle.sparql_algebra.specs.Algebra.{Algebra, basic, join, left_join, union, graph}
 use Rattle.sparql_algebra.specs.Listing.{Listing}
 use Rattle.sparql_algebra.specs.Mapping.{Variables, Mapping, same_term, column, set_in, empty_mapping, single, compatible, merge}
-use Rattle.sparql_algebra.specs.Solutions.{solves, terms_of, all_mappings, assignments, basic_solutions, merges, joins, or_alone, left_joins, solutions}
+use Rattle.sparql_algebra.specs.Solutions.{solves, terms_of, all_mappings, assignments, merges, joins, or_alone, left_joins, solutions}
 use Rattle.sparql_algebra.proofs.TruthLemmas.{and_left, and_right}
 use Rattle.sparql_algebra.proofs.UniverseLemmas.{has_length, longer}
 

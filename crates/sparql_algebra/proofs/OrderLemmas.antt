@@ -1,8 +1,8 @@
 -- The order of mappings is total, and only equal mappings tie.
-use Rattle.std.proofs.Common.{◌≡◌, Option, Some, None, ap, sym, refl, Bool, true, false}
+use Rattle.std.proofs.Common.{◌≡◌, Some, None, ap, refl, Bool, false}
 use Rattle.std.specs.FinSet.{IsAntisymmetric, slice_cmp-IsAntisymmetric}
 use Rattle.std.specs.Option.{option_cmp}
-use Rattle.std.specs.Ordering.{is_lt, is_eq, ordering_reverse}
+use Rattle.std.specs.Ordering.{is_lt, ordering_reverse}
 use Rattle.std.specs.Cmp.{IsTotalOrder, IsStrictWeakOrder}
 use Rattle.std.specs.Cmp.Lexicographic.{lists_total, options_total}
 use Rattle.std.specs.declared.cmp.Ordering.{Ordering}

@@ -1,6 +1,6 @@
 -- There is one result of each query.
-use Rattle.std.proofs.Common.{◌≡◌, ℕ, zero, suc, ◌+◌, ◌<◌, Bool, true, false, cond, List, [], ◌∷◌, map, refl, sym, ap, ◌∙◌, arith}
-use Rattle.std.specs.List.{sum_by, count_by}
+use Rattle.std.proofs.Common.{◌≡◌, ℕ, ◌+◌, ◌<◌, Bool, true, false, cond, List, [], ◌∷◌, refl, sym, ap, ◌∙◌, arith}
+use Rattle.std.specs.List.{count_by}
 use Rattle.std.proofs.lemmas.List.Sums.{sum_by-cons}
 use Rattle.rdf_terms.specs.declared.quad.GraphName.{GraphName}
 use Rattle.rdf_terms.specs.declared.quad.GraphName.TheVariants.{Default}
@@ -9,11 +9,13 @@ use Rattle.sparql_trees.specs.Visible.{visible}
 use Rattle.sparql_trees.specs.declared.pattern.Pattern.{Pattern}
 use Rattle.sparql_trees.specs.declared.query.Select.{Select}
 use Rattle.sparql_algebra.specs.Algebra.{translation}
-use Rattle.sparql_algebra.specs.Bags.{SameBag, once_if_any}
-use Rattle.sparql_algebra.specs.Laws.{SomeSolutions, SolutionsAgree, SomeSelection, OneSelection, SomeAnswer, OneAnswer}
+use Rattle.sparql_algebra.specs.Bags.{SameBag}
+use Rattle.sparql_algebra.specs.Laws.{SomeSolutions, SolutionsAgree, SomeSelection, OneSelection, SomeAnswer, OneAnswer, AnswerTellsSolutions}
 use Rattle.sparql_algebra.specs.Listing.{Listing, Lists}
 use Rattle.sparql_algebra.specs.Mapping.{Mapping, same_mapping}
-use Rattle.sparql_algebra.specs.Results.{Solves, IsSelection, HasSolution, pattern_solutions, projected, projections, times_selected, is_some_solution}
+use Rattle.sparql_algebra.specs.Results.{pattern_solutions, projected, projections, times_selected, is_some_solution}
+use Rattle.sparql_algebra.proofs.Sums.{one}
+use Rattle.sparql_algebra.proofs.TermLemmas.{same_mapping_own}
 use Rattle.sparql_algebra.proofs.BagLemmas.{SameBag-map}
 use Rattle.sparql_algebra.proofs.IndependenceLemmas.{listings_same}
 use Rattle.sparql_algebra.proofs.ListingLemmas.{listing_of, there_is_a_listing}
@@ -24,14 +26,16 @@ pub pattern_same : (P : Pattern) (g : GraphName) (s : State) (d e : Listing) →
 pattern_same P g s d e h k = listings_same s d e h k (visible P) g (translation P)
 
 pub some_solutions : SomeSolutions
-some_solutions P g s =
-    (pattern_solutions P g (listing_of s),
-    record { variables_are = refl; counted = λ d h m. pattern_same P g s (listing_of s) d (there_is_a_listing s) h (λ x. cond (same_mapping m x) 1 0) })
+some_solutions P g s = (
+  pattern_solutions P g (listing_of s),
+  record { variables_are = refl; counted = λ d h m. pattern_same P g s (listing_of s) d (there_is_a_listing s) h (λ x. cond (same_mapping m x) 1 0) },
+)
 
 pub solutions_agree : SolutionsAgree
-solutions_agree P g s us vs xs ys h k =
-    (h.variables_are ∙ sym k.variables_are,
-    λ m. h.counted (listing_of s) (there_is_a_listing s) m ∙ sym (k.counted (listing_of s) (there_is_a_listing s) m))
+solutions_agree P g s us vs xs ys h k = (
+  h.variables_are ∙ sym k.variables_are,
+  λ m. h.counted (listing_of s) (there_is_a_listing s) m ∙ sym (k.counted (listing_of s) (there_is_a_listing s) m),
+)
 
 -- ---- SELECT
 
@@ -51,15 +55,16 @@ selected_counts false xs m = refl
 
 pub some_selection : SomeSelection
 some_selection q s =
-    let xs : List Mapping = projections q (listing_of s) in
-    (sort (selected q.distinct xs),
-    record {
-      sorted = sort_sorted (selected q.distinct xs);
-      counted = λ d h m.
-      sort_same (selected q.distinct xs) (λ x. cond (same_mapping m x) 1 0)
-      ∙ selected_counts q.distinct xs m
-      ∙ ap (times_selected q.distinct) (projections_same q s (listing_of s) d (there_is_a_listing s) h (λ x. cond (same_mapping m x) 1 0));
-    })
+    let xs : List Mapping = projections q (listing_of s) in (
+      sort (selected q.distinct xs),
+      record {
+        sorted = sort_sorted (selected q.distinct xs);
+        counted = λ d h m.
+            sort_same (selected q.distinct xs) (λ x. cond (same_mapping m x) 1 0)
+            ∙ selected_counts q.distinct xs m
+            ∙ ap (times_selected q.distinct) (projections_same q s (listing_of s) d (there_is_a_listing s) h (λ x. cond (same_mapping m x) 1 0));
+      },
+    )
 
 pub one_selection : OneSelection
 one_selection q s xs ys h k =
@@ -75,9 +80,25 @@ some_same (x ∷ xs) [] h = absurd (omega (arith, h (λ _. 1), sum_by-cons (λ (
 some_same (x ∷ xs) (y ∷ ys) h = refl
 
 pub some_answer : SomeAnswer
-some_answer P s =
-    (is_some_solution (pattern_solutions P Default (listing_of s)),
-    λ d h. some_same (pattern_solutions P Default (listing_of s)) (pattern_solutions P Default d) (pattern_same P Default s (listing_of s) d (there_is_a_listing s) h))
+some_answer P s = (
+  is_some_solution (pattern_solutions P Default (listing_of s)),
+  λ d h. some_same (pattern_solutions P Default (listing_of s)) (pattern_solutions P Default d) (pattern_same P Default s (listing_of s) d (there_is_a_listing s) h),
+)
 
 pub one_answer : OneAnswer
 one_answer P s x y h k = h (listing_of s) (there_is_a_listing s) ∙ sym (k (listing_of s) (there_is_a_listing s))
+
+some_counted : (xs : List Mapping) → is_some_solution xs ≡ true → (m : Mapping) × (0 < count_by (same_mapping m) xs)
+some_counted [] h = cc
+some_counted (x ∷ xs) h =
+    let c : count_by (same_mapping x) (x ∷ xs) ≡ one (same_mapping x x) + count_by (same_mapping x) xs = sum_by-cons _ x xs in
+    let z : one (same_mapping x x) ≡ 1 = ap one (same_mapping_own x) in
+    (x, omega (arith, c, z))
+
+counted_some : (xs : List Mapping) (m : Mapping) → 0 < count_by (same_mapping m) xs → is_some_solution xs ≡ true
+counted_some [] m h = absurd (omega arith)
+counted_some (x ∷ xs) m h = refl
+
+pub answer_tells_solutions : AnswerTellsSolutions
+answer_tells_solutions P s answer h d k =
+    (λ e. some_counted (pattern_solutions P Default d) (sym (h d k) ∙ e), λ e. h d k ∙ counted_some (pattern_solutions P Default d) e.0 e.1)

@@ -1,7 +1,7 @@
 -- There is one sorted list with given counts.
-use Rattle.std.proofs.Common.{◌≡◌, ℕ, zero, suc, ◌+◌, ◌<◌, ◌≤◌, Bool, true, false, cond, not, ◌&&◌, ◌||◌, List, [], ◌∷◌, length, get_or, refl, sym, ap, ◌∙◌, arith, subst}
-use Rattle.std.specs.List.{sum_by, count_by, list_any, list_all}
-use Rattle.std.specs.List.Sorted.{IsSorted, IsSortedBy}
+use Rattle.std.proofs.Common.{◌≡◌, ℕ, zero, suc, ◌+◌, ◌<◌, ◌≤◌, Bool, true, false, cond, not, ◌&&◌, List, [], ◌∷◌, length, get_or, refl, sym, ap, ◌∙◌, arith, subst}
+use Rattle.std.specs.List.{sum_by, count_by, list_all}
+use Rattle.std.specs.List.Sorted.{IsSorted}
 use Rattle.std.proofs.lemmas.List.Sums.{sum_by-cons}
 use Rattle.std.proofs.lemmas.List.Sorted.{sorted_far}
 use Rattle.sparql_algebra.specs.Mapping.{Mapping, same_mapping}
@@ -10,7 +10,6 @@ use Rattle.sparql_algebra.specs.Bags.{SameBag}
 use Rattle.sparql_algebra.proofs.Sums.{one}
 use Rattle.sparql_algebra.proofs.TruthLemmas.{and_left, and_right}
 use Rattle.sparql_algebra.proofs.TermLemmas.{same_mapping_is, same_mapping_own}
-use Rattle.sparql_algebra.proofs.CountLemmas.{none_counted}
 use Rattle.sparql_algebra.proofs.OrderLemmas.{less, mapping_ranks, neither_less}
 
 -- x isn't greater than any of these
@@ -46,9 +45,10 @@ Far xs = (i j : ℕ) → i ≤ j → j < length xs → less (get_or xs j []) (ge
 
 rises_far : (xs : List Mapping) → Far xs → Rises xs
 rises_far [] h = tt
-rises_far (x ∷ xs) h =
-    (all_from_places (λ y. not (less y x)) xs (λ k l. not_false (less (get_or xs k []) x) (h zero (suc k) (omega arith) (omega arith))),
-    rises_far xs (λ i j a b. h (suc i) (suc j) (omega arith) (omega arith)))
+rises_far (x ∷ xs) h = (
+  all_from_places (λ y. not (less y x)) xs (λ k l. not_false (less (get_or xs k []) x) (h zero (suc k) (omega arith) (omega arith))),
+  rises_far xs (λ i j a b. h (suc i) (suc j) (omega arith) (omega arith)),
+)
 
 pub rises_from : (xs : List Mapping) → IsSorted mapping_cmp xs → Rises xs
 rises_from xs h = rises_far xs (λ i j a b. sorted_far less mapping_ranks xs h i j [] a b)

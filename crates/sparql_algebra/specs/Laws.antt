@@ -1,18 +1,21 @@
 -- What holds of every dataset, pattern and query.
-use Rattle.std.specs.Prelude.{◌≡◌, ℕ, Bool, List, Some, count_by}
-use Rattle.std.specs.List.{list_any}
+use Rattle.std.specs.Prelude.{◌≡◌, ◌↔◌, ℕ, ◌+◌, ◌<◌, Bool, true, false, ◌&&◌, cond, List, length, take, Option, Some, None, count_by, nat_eq}
+use Rattle.std.specs.List.{list_any, list_all}
 use Rattle.std.specs.FinSet as set
 use Rattle.rdf_terms.specs.declared.term.Term.{Term}
 use Rattle.rdf_terms.specs.declared.quad.GraphName.{GraphName}
+use Rattle.rdf_terms.specs.declared.quad.GraphName.TheVariants.{Default}
 use Rattle.rdf_dataset.specs.State.{State}
 use Rattle.sparql_trees.specs.Visible.{visible}
+use Rattle.sparql_trees.specs.declared.pattern.BasicGraphPattern.{BasicGraphPattern}
 use Rattle.sparql_trees.specs.declared.pattern.Pattern.{Pattern}
+use Rattle.sparql_trees.specs.declared.pattern.TriplePattern.{TriplePattern}
 use Rattle.sparql_trees.specs.declared.query.Select.{Select}
-use Rattle.sparql_algebra.specs.Algebra.{Algebra}
+use Rattle.sparql_algebra.specs.Algebra.{Algebra, basic, translation}
 use Rattle.sparql_algebra.specs.Listing.{Listing, Lists}
 use Rattle.sparql_algebra.specs.Mapping.{Variables, Mapping, same_term, same_mapping}
 use Rattle.sparql_algebra.specs.Results.{Solves, IsSelection, HasSolution}
-use Rattle.sparql_algebra.specs.Solutions.{holds, count}
+use Rattle.sparql_algebra.specs.Solutions.{var_or_term, term_at, holds, occurs, binds_exactly, count}
 
 -- ---- listings
 
@@ -34,6 +37,31 @@ TriplesAreHeld = (s : State) (d : Listing) → Lists s d → (g : GraphName) (a 
 abbrev pub NamesAreHeld : Type 0
 NamesAreHeld = (s : State) (d : Listing) → Lists s d → (n : Term) → list_any (same_term n) d.names ≡ set.contains s.names n
 
+abbrev pub held : State → GraphName → Option Term → Option Term → Option Term → Bool
+held s g (Some a) (Some b) (Some c) = set.contains s.quads (record { graph = g; subject = a; predicate = b; object = c })
+held s g (Some a) (Some b) None = false
+held s g (Some a) None c = false
+held s g None b c = false
+
+-- the instance of a triple pattern is a triple of the graph
+abbrev pub instance_held : State → GraphName → Variables → Mapping → TriplePattern → Bool
+instance_held s g variables w t = held s g (term_at variables w t.subject) (term_at variables w (var_or_term t.predicate)) (term_at variables w t.object)
+
+-- An assignment of exactly the variables of the pattern widens the mapping of the visible ones to the hidden ones, and under it every
+-- instance is a triple of the graph.
+abbrev pub is_assignment : State → GraphName → Variables → BasicGraphPattern → Mapping → Mapping → Bool
+is_assignment s g variables b m w =
+    same_mapping m (take (length variables) w)
+    && (nat_eq (length w) (length variables + b.hidden)
+    && (list_all (instance_held s g variables w) b.triples && binds_exactly (occurs variables b.triples) w))
+
+-- a basic graph pattern counts a mapping once for each such assignment
+abbrev pub AssignmentsCountOnce : Type 0
+AssignmentsCountOnce = (s : State) (d : Listing) → Lists s d →
+    (variables : Variables) (g : GraphName) (b : BasicGraphPattern) (m : Mapping) (W : List Mapping) →
+    ((w : Mapping) → count_by (same_mapping w) W ≡ cond (is_assignment s g variables b m w) 1 0) →
+    count variables d g (basic b) m ≡ length W
+
 -- ---- results
 
 abbrev pub SomeSolutions : Type 0
@@ -52,6 +80,11 @@ OneSelection = (q : Select) (s : State) (xs ys : List Mapping) → IsSelection q
 
 abbrev pub SomeAnswer : Type 0
 SomeAnswer = (P : Pattern) (s : State) → (answer : Bool) × HasSolution P s answer
+
+-- it is true where some mapping is counted
+abbrev pub AnswerTellsSolutions : Type 0
+AnswerTellsSolutions = (P : Pattern) (s : State) (answer : Bool) → HasSolution P s answer → (d : Listing) → Lists s d →
+    (answer ≡ true) ↔ ((m : Mapping) × (0 < count (visible P) d Default (translation P) m))
 
 abbrev pub OneAnswer : Type 0
 OneAnswer = (P : Pattern) (s : State) (x y : Bool) → HasSolution P s x → HasSolution P s y → x ≡ y

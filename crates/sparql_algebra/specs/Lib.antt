@@ -1,6 +1,7 @@
 pub mod Algebra
 pub mod Bags
 pub mod Counts
+pub mod Examples
 pub mod Laws
 pub mod Listing
 pub mod Mapping

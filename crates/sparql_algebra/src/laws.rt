@@ -1,5 +1,5 @@
 //! What holds of the algebra of patterns, and of the results of queries.
-ghost use Rattle.sparql_algebra.specs.Laws.{SomeListing, ListingsAgree, TriplesAreHeld, NamesAreHeld, SomeSolutions, SolutionsAgree, SomeSelection, OneSelection, SomeAnswer, OneAnswer};
+ghost use Rattle.sparql_algebra.specs.Laws.{SomeListing, ListingsAgree, TriplesAreHeld, NamesAreHeld, AssignmentsCountOnce, SomeSolutions, SolutionsAgree, SomeSelection, OneSelection, SomeAnswer, OneAnswer, AnswerTellsSolutions};
 ghost use Rattle.sparql_algebra.specs.Counts as counts;
 ghost use Rattle.sparql_algebra.specs.Listing.{Listing};
 ghost use Rattle.sparql_algebra.specs.Mapping.{Variables};
@@ -28,12 +28,15 @@ pub fn operators_keep_their_laws()
 {}
 
 /// The graphs of every state can be listed, and the counts don't depend on how: a triple lies in a
-/// graph where the state holds its quad, and a graph is there where the state has its name.
+/// graph where the state holds its quad, a graph is there where the state has its name, and a basic
+/// graph pattern counts a mapping once for each assignment of its hidden variables under which
+/// every instance is a triple of the graph.
 pub fn counts_depend_on_the_state()
     ensures listing { SomeListing }
     ensures agree { ListingsAgree }
     ensures triples { TriplesAreHeld }
     ensures names { NamesAreHeld }
+    ensures assignments { AssignmentsCountOnce }
 {}
 
 /// Each pattern has solutions in each graph, and any two lists of them hold each mapping as often.
@@ -48,8 +51,9 @@ pub fn one_selection()
     ensures one { OneSelection }
 {}
 
-/// Each ASK has one answer.
+/// Each ASK has one answer: whether some mapping is counted.
 pub fn one_answer()
     ensures some { SomeAnswer }
     ensures one { OneAnswer }
+    ensures tells { AnswerTellsSolutions }
 {}

@@ -1,4 +1,4 @@
-use Rattle.sparql_algebra.proofs.ResultLemmas.{some_answer, one_answer}
+use Rattle.sparql_algebra.proofs.ResultLemmas.{some_answer, one_answer, answer_tells_solutions}
 use Rattle.sparql_algebra.proofs.laws.one_answer.Goals as goal
 
 pub returns-clause-some : goal.returns-clause-some
@@ -6,3 +6,6 @@ returns-clause-some c = some_answer
 
 pub returns-clause-one : goal.returns-clause-one
 returns-clause-one c = one_answer
+
+pub returns-clause-tells : goal.returns-clause-tells
+returns-clause-tells c = answer_tells_solutions

@@ -24,8 +24,11 @@ returns-clause-empty_is_unit c vs d g A m =
 
 pub returns-clause-union_commutes : goal.returns-clause-union_commutes
 returns-clause-union_commutes c vs d g A B m =
-    omega (arith, sum_by-append (λ x. cond (same_mapping m x) 1 0) (solutions vs d g A) (solutions vs d g B),
-    sum_by-append (λ x. cond (same_mapping m x) 1 0) (solutions vs d g B) (solutions vs d g A))
+    omega (
+      arith,
+      sum_by-append (λ x. cond (same_mapping m x) 1 0) (solutions vs d g A) (solutions vs d g B),
+      sum_by-append (λ x. cond (same_mapping m x) 1 0) (solutions vs d g B) (solutions vs d g A),
+    )
 
 pub returns-clause-lonely_stay : goal.returns-clause-lonely_stay
 returns-clause-lonely_stay c vs d g A B V lv m h = lonely_stay (solutions vs d g A) (solutions vs d g B) V lv m h
