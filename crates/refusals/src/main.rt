@@ -4,6 +4,8 @@
 //!
 //! For each byte of its input the program first takes memory and gives it back. So `tools/fail-alloc`
 //! has always the same allocation refused, and chooses by the input which one of the library's that is.
+//! At its end the program takes memory until that is refused, and says how often it was given: all of
+//! 1024 times where the refused allocation was one of the library's.
 #![tactic(auto)]
 
 mod conversions;
@@ -28,9 +30,22 @@ fn main(rt: HostRuntime) -> io::Result<()> {
     println!(rt; "{}", sessions::outcome(alloc))?;
     println!(rt; "{}", updates::outcome(alloc))?;
     println!(rt; "{}", script::outcome(alloc))?;
-    println!(rt; "{}", conversions::outcome(alloc))
+    println!(rt; "{}", conversions::outcome(alloc))?;
+    println!(rt; "then memory is given {} times", given(alloc))
 }
 
 fn take_and_give_back(alloc: Global) {
     let _ = Vec::<u8>::with_capacity(alloc, 1);
+}
+
+// How often memory is given before it is refused, at most 1024 times.
+fn given(alloc: Global) -> u64 {
+    let mut times = 0u64;
+    for _ in 0..1024 {
+        if Vec::<u8>::with_capacity(alloc, 1).is_err() {
+            return times;
+        }
+        times = times.saturating_add(1);
+    }
+    times
 }
