@@ -62,6 +62,11 @@ AssignmentsCountOnce = (s : State) (d : Listing) → Lists s d →
     ((w : Mapping) → count_by (same_mapping w) W ≡ cond (is_assignment s g variables b m w) 1 0) →
     count variables d g (basic b) m ≡ length W
 
+-- and there is a list of them, each once
+abbrev pub AssignmentsListed : Type 0
+AssignmentsListed = (s : State) (g : GraphName) (variables : Variables) (b : BasicGraphPattern) (m : Mapping) →
+    (W : List Mapping) × ((w : Mapping) → count_by (same_mapping w) W ≡ cond (is_assignment s g variables b m w) 1 0)
+
 -- ---- results
 
 abbrev pub SomeSolutions : Type 0
