@@ -84,9 +84,10 @@ assignments_count_once s d h variables g b m W counted =
 
 pub assignments_listed : AssignmentsListed
 assignments_listed s g variables b m =
-    let quads : List QuadParts = (listing_of s).quads g in
-    (filter (λ w. same_mapping m (take (length variables) w)) (assignments variables quads b),
-    λ w. fitting_counts variables quads b m w ∙ ap one (widens_is s g quads ((there_is_a_listing s).quads g) variables b m w))
+    let quads : List QuadParts = (listing_of s).quads g in (
+      filter (λ w. same_mapping m (take (length variables) w)) (assignments variables quads b),
+      λ w. fitting_counts variables quads b m w ∙ ap one (widens_is s g quads ((there_is_a_listing s).quads g) variables b m w),
+    )
 
 -- ---- graphs
 
