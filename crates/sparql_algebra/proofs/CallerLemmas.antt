@@ -13,5 +13,6 @@ pub use Rattle.sparql_algebra.proofs.OrderLemmas.{mapping_cmp-IsAntisymmetric, m
 pub use Rattle.sparql_algebra.proofs.SortedLemmas.{sort_sorted, sort_same, one_sorted}
 pub use Rattle.sparql_algebra.proofs.TranslationLemmas.{element-Basic, element-Union, element-Optional, element-Graph, translation-members}
 pub use Rattle.sparql_algebra.proofs.JoinLemmas.{joins_commute, joins_associate, empty_solutions, empty_joins}
+pub use Rattle.sparql_algebra.proofs.GrowthLemmas.{merges_grow}
 pub use Rattle.sparql_algebra.proofs.Regroup.{each_once, each_once_lists}
 pub use Rattle.sparql_algebra.proofs.ResultLemmas.{pattern_same, projections_same, selected, selected_counts, some_same, one_selection, one_answer}

@@ -13,7 +13,7 @@ use Rattle.sparql_trees.specs.declared.pattern.BasicGraphPattern.{BasicGraphPatt
 use Rattle.sparql_trees.specs.declared.pattern.TriplePattern.{TriplePattern}
 use Rattle.sparql_algebra.specs.Bags.{SameBag}
 use Rattle.sparql_algebra.specs.Counts.{always, ListsCounted, pairs_count, begins_pair, widens, VariableLaw}
-use Rattle.sparql_algebra.specs.Laws.{held, instance_held, AssignmentsCountOnce}
+use Rattle.sparql_algebra.specs.Laws.{held, instance_held, is_assignment, AssignmentsCountOnce, AssignmentsListed}
 use Rattle.sparql_algebra.specs.Listing.{Listing, graph_quads}
 use Rattle.sparql_algebra.specs.Mapping.{Variables, Mapping, same_mapping, single}
 use Rattle.sparql_algebra.specs.Solutions.{var_or_term, term_at, holds, instance_lies, occurs, binds_exactly, solves, assignments, basic_solutions, joins, left_joins, solutions}
@@ -22,7 +22,7 @@ use Rattle.sparql_algebra.proofs.TruthLemmas.{both_true, cond_one}
 use Rattle.sparql_algebra.proofs.TermLemmas.{same_mapping_is, same_mapping_own}
 use Rattle.sparql_algebra.proofs.UniverseLemmas.{has_length}
 use Rattle.sparql_algebra.proofs.AssignmentLemmas.{assignments_count}
-use Rattle.sparql_algebra.proofs.ListingLemmas.{triple_listed}
+use Rattle.sparql_algebra.proofs.ListingLemmas.{listing_of, there_is_a_listing, triple_listed}
 use Rattle.sparql_algebra.proofs.LengthLemmas.{length_from, length_to}
 use Rattle.sparql_algebra.proofs.Regroup.{times, left_join_law, filter_law, single_law, each_once, each_once_lists}
 
@@ -73,12 +73,21 @@ module _ (s : State) (g : GraphName) (quads : List QuadParts) (h : ListsOnce (gr
       (held_is (term_at variables w p.subject) (term_at variables w (var_or_term p.predicate)) (term_at variables w p.object))
       ∙ ap (λ z. instance_held s g variables w p && z) (all_held variables w ps)
 
+  widens_is : (variables : Variables) (b : BasicGraphPattern) (m w : Mapping) → widens variables quads b m w ≡ is_assignment s g variables b m w
+  widens_is variables b m w =
+      ap (λ z. same_mapping m (take (length variables) w) && (nat_eq (length w) (length variables + b.hidden) && (z && binds_exactly (occurs variables b.triples) w)))
+      (all_held variables w b.triples)
+
 pub assignments_count_once : AssignmentsCountOnce
 assignments_count_once s d h variables g b m W counted =
-    basic_law variables (d.quads g) b m W
-    (λ w. counted w
-    ∙ ap (λ z. one (same_mapping m (take (length variables) w) && (nat_eq (length w) (length variables + b.hidden) && (z && binds_exactly (occurs variables b.triples) w))))
-    (sym (all_held s g (d.quads g) (h.quads g) variables w b.triples)))
+    basic_law variables (d.quads g) b m W (λ w. counted w ∙ ap one (sym (widens_is s g (d.quads g) (h.quads g) variables b m w)))
+
+pub assignments_listed : AssignmentsListed
+assignments_listed s g variables b m =
+    let quads : List QuadParts = (listing_of s).quads g in (
+      filter (λ w. same_mapping m (take (length variables) w)) (assignments variables quads b),
+      λ w. fitting_counts variables quads b m w ∙ ap one (widens_is s g quads ((there_is_a_listing s).quads g) variables b m w),
+    )
 
 -- ---- graphs
 

@@ -65,7 +65,7 @@ all_pushed : (n : ℕ) (m : Mapping) (T : List Term) → has_length n m ≡ true
 all_pushed n m [] h = refl
 all_pushed n m (t ∷ T) h = ap (λ b. b && list_all (has_length (suc n)) (map (λ t. Some t ∷ m) T)) h ∙ all_pushed n m T h
 
-all_lengths : (n : ℕ) (T : List Term) → list_all (has_length n) (all_mappings n T) ≡ true
+pub all_lengths : (n : ℕ) (T : List Term) → list_all (has_length n) (all_mappings n T) ≡ true
 all_lengths zero T = refl
 all_lengths (suc n) T =
     all_flat_map (has_length n) (has_length (suc n)) (longer T)

@@ -1,19 +1,20 @@
-pub mod AssignmentLemmas
-pub mod BagLemmas
+mod AssignmentLemmas
+mod BagLemmas
 pub mod CallerLemmas
-pub mod CountLawLemmas
-pub mod CountLemmas
-pub mod IndependenceLemmas
-pub mod JoinLemmas
-pub mod LengthLemmas
-pub mod ListingLemmas
-pub mod OrderLemmas
-pub mod Regroup
-pub mod ResultLemmas
-pub mod SetLemmas
-pub mod SortedLemmas
-pub mod Sums
-pub mod TermLemmas
-pub mod TranslationLemmas
-pub mod TruthLemmas
-pub mod UniverseLemmas
+mod CountLawLemmas
+mod CountLemmas
+mod GrowthLemmas
+mod IndependenceLemmas
+mod JoinLemmas
+mod LengthLemmas
+mod ListingLemmas
+mod OrderLemmas
+mod Regroup
+mod ResultLemmas
+mod SetLemmas
+mod SortedLemmas
+mod Sums
+mod TermLemmas
+mod TranslationLemmas
+mod TruthLemmas
+mod UniverseLemmas

@@ -1,5 +1,5 @@
 -- What holds of every dataset, pattern and query.
-use Rattle.std.specs.Prelude.{◌≡◌, ◌↔◌, ℕ, ◌+◌, ◌<◌, Bool, true, false, ◌&&◌, cond, List, length, take, Option, Some, None, count_by, nat_eq}
+use Rattle.std.specs.Prelude.{◌≡◌, ◌↔◌, ◌+◌, ◌<◌, Bool, true, false, ◌&&◌, cond, List, length, take, Option, Some, None, count_by, nat_eq}
 use Rattle.std.specs.List.{list_any, list_all}
 use Rattle.std.specs.FinSet as set
 use Rattle.rdf_terms.specs.declared.term.Term.{Term}
@@ -61,6 +61,11 @@ AssignmentsCountOnce = (s : State) (d : Listing) → Lists s d →
     (variables : Variables) (g : GraphName) (b : BasicGraphPattern) (m : Mapping) (W : List Mapping) →
     ((w : Mapping) → count_by (same_mapping w) W ≡ cond (is_assignment s g variables b m w) 1 0) →
     count variables d g (basic b) m ≡ length W
+
+-- and there is a list of them, each once
+abbrev pub AssignmentsListed : Type 0
+AssignmentsListed = (s : State) (g : GraphName) (variables : Variables) (b : BasicGraphPattern) (m : Mapping) →
+    (W : List Mapping) × ((w : Mapping) → count_by (same_mapping w) W ≡ cond (is_assignment s g variables b m w) 1 0)
 
 -- ---- results
 

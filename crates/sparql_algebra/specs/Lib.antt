@@ -2,6 +2,7 @@ pub mod Algebra
 pub mod Bags
 pub mod Counts
 pub mod Examples
+pub mod Growth
 pub mod Laws
 pub mod Listing
 pub mod Mapping

@@ -1,6 +1,7 @@
 //! What holds of the algebra of patterns, and of the results of queries.
-ghost use Rattle.sparql_algebra.specs.Laws.{SomeListing, ListingsAgree, TriplesAreHeld, NamesAreHeld, AssignmentsCountOnce, SomeSolutions, SolutionsAgree, SomeSelection, OneSelection, SomeAnswer, OneAnswer, AnswerTellsSolutions};
+ghost use Rattle.sparql_algebra.specs.Laws.{SomeListing, ListingsAgree, TriplesAreHeld, NamesAreHeld, AssignmentsCountOnce, AssignmentsListed, SomeSolutions, SolutionsAgree, SomeSelection, OneSelection, SomeAnswer, OneAnswer, AnswerTellsSolutions};
 ghost use Rattle.sparql_algebra.specs.Counts as counts;
+ghost use Rattle.sparql_algebra.specs.Growth.{MergesGrow};
 ghost use Rattle.sparql_algebra.specs.Listing.{Listing};
 ghost use Rattle.sparql_algebra.specs.Mapping.{Variables};
 
@@ -37,6 +38,7 @@ pub fn counts_depend_on_the_state()
     ensures triples { TriplesAreHeld }
     ensures names { NamesAreHeld }
     ensures assignments { AssignmentsCountOnce }
+    ensures assignments_listed { AssignmentsListed }
 {}
 
 /// Each pattern has solutions in each graph, and any two lists of them hold each mapping as often.
@@ -56,4 +58,10 @@ pub fn one_answer()
     ensures some { SomeAnswer }
     ensures one { OneAnswer }
     ensures tells { AnswerTellsSolutions }
+{}
+
+/// With the values of a left solution put in, the assignments of a basic graph pattern grow from it
+/// by the pattern's columns: these are its merges with the compatible assignments, each once.
+pub fn merges_grow()
+    ensures { MergesGrow }
 {}

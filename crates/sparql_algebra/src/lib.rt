@@ -8,6 +8,6 @@ mod laws;
 
 pub use examples::the_standards_examples_hold;
 pub use laws::{
-    counts_are_the_algebra, counts_depend_on_the_state, one_answer, one_selection,
+    counts_are_the_algebra, counts_depend_on_the_state, merges_grow, one_answer, one_selection,
     operators_keep_their_laws, solutions_agree,
 };

@@ -1,7 +1,7 @@
 use Rattle.std.proofs.Common.{◌≡◌, [], ◌∷◌, refl, ap, ◌∙◌}
 use Rattle.sparql_trees.specs.declared.pattern.BasicGraphPattern.{BasicGraphPattern}
 use Rattle.sparql_trees.specs.declared.pattern.Member.TheVariants as m
-use Rattle.sparql_algebra.specs.Algebra.{Algebra, Element, joined, join, union, left_join, empty_pattern, extended, group_of, union_of, translation, element}
+use Rattle.sparql_algebra.specs.Algebra.{Element, join, union, left_join, empty_pattern, group_of, translation}
 use Rattle.sparql_algebra.specs.Examples.{first, second, group, in_group}
 use Rattle.sparql_algebra.proofs.TranslationLemmas.{element-Basic, element-Union, element-Optional, translation-members}
 use Rattle.sparql_algebra.proofs.examples.the_standards_examples_hold.Goals as goal

@@ -1,6 +1,6 @@
 use Rattle.std.proofs.Common.{cond}
 use Rattle.sparql_algebra.specs.Mapping.{same_mapping}
-use Rattle.sparql_algebra.proofs.CountLawLemmas.{assignments_count_once}
+use Rattle.sparql_algebra.proofs.CountLawLemmas.{assignments_count_once, assignments_listed}
 use Rattle.sparql_algebra.proofs.IndependenceLemmas.{listings_same}
 use Rattle.sparql_algebra.proofs.ListingLemmas.{listing_of, there_is_a_listing, triple_listed, name_listed}
 use Rattle.sparql_algebra.proofs.laws.counts_depend_on_the_state.Goals as goal
@@ -19,3 +19,6 @@ returns-clause-names c s d h n = name_listed s d.names h.names n
 
 pub returns-clause-assignments : goal.returns-clause-assignments
 returns-clause-assignments c = assignments_count_once
+
+pub returns-clause-assignments_listed : goal.returns-clause-assignments_listed
+returns-clause-assignments_listed c = assignments_listed
