@@ -4,7 +4,8 @@ ghost use Rattle.std.specs.Prelude.{◌≡◌, ◌≤◌, ◌+◌, length, optio
 ghost use Rattle.std.specs.FinSet as set;
 ghost use Rattle.rdf_dataset.specs.Sorted.{ListsOnce};
 ghost use Rattle.rdf_terms.specs.Order.{term_cmp};
-ghost use Rattle.rdf_dataset.specs.State.{State, Names, IsKnownGraph, matches, net_between, with_quad, without_quad, with_name, without_name};
+ghost use Rattle.rdf_dataset.specs.Delta.{IsDelta};
+ghost use Rattle.rdf_dataset.specs.State.{State, Names, Quads, IsKnownGraph, matches, net_between, with_quad, without_quad, with_name, without_name};
 
 use crate::listing::append_matching_of;
 use crate::net::Net;
@@ -124,7 +125,6 @@ impl Edits {
         self.quads.remove(beneath, quad)
     }
 
-    // The growths that can be refused come first; one that was made is taken back where the next is refused.
     pub(crate) fn insert(
         &mut self,
         beneath: bool,
@@ -148,15 +148,9 @@ impl Edits {
             self.names.removed.remove(&name);
             return Ok(new);
         }
-        let again = name.copy()?;
-        let added = self.names.added.insert(name)?;
-        match self.quads.insert(beneath, quad) {
-            Ok(new) => Ok(new),
-            Err(refused) => {
-                take_back(&mut self.names.added, added, &again);
-                Err(refused)
-            }
-        }
+        let names = &mut self.names.added;
+        let added = insert_with_name(names, &mut self.quads, beneath, name, quad)?;
+        Ok(added)
     }
 
     /// Makes a listing of the names at the beginning one of those at the end.
@@ -190,6 +184,37 @@ impl Edits {
         let added = &self.quads.added;
         append_matching_of(found, added, graph, subject, predicate, object)?;
         Ok(added.len())
+    }
+}
+
+// Puts the name and the quad in, or neither: the name is taken back where the quad is refused.
+fn insert_with_name(
+    names: &mut Tree<Term>,
+    quads: &mut TreeDelta<Quad>,
+    beneath: bool,
+    name: Term,
+    quad: Quad,
+) -> Result<bool, NoMemory>
+    ensures names { OnOk result (set.from_list {R = term_cmp} names.new
+        ≡ set.insert (set.from_list names.old) name) }
+    ensures ok { OnOk result ((s t : Quads) →
+        IsDelta s t quads.old.added quads.old.removed → beneath ≡ set.contains s quad →
+        IsDelta s (set.insert t quad) quads.new.added quads.new.removed) }
+    ensures new { IfOk result (λ new. (s t : Quads) →
+        IsDelta s t quads.old.added quads.old.removed → beneath ≡ set.contains s quad →
+        new ≡ not (set.contains t quad)) }
+    ensures err_names { OnErr result
+        (set.from_list {R = term_cmp} names.new ≡ set.from_list names.old) }
+    ensures err_quads { OnErr result (quads.new ≡ quads.old) }
+{
+    let again = name.copy()?;
+    let added = names.insert(name)?;
+    match quads.insert(beneath, quad) {
+        Ok(new) => Ok(new),
+        Err(refused) => {
+            take_back(names, added, &again);
+            Err(refused)
+        }
     }
 }
 
