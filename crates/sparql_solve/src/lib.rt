@@ -1,0 +1,8 @@
+//! The solutions of patterns (SPARQL 1.1 Query, section 18).
+#![tactic(auto)]
+
+mod matching;
+mod place;
+mod rows;
+
+pub use rows::Row;
