@@ -6,8 +6,10 @@ mod data;
 mod operation;
 mod pattern;
 mod query;
+mod visible;
 
 pub use data::{Data, GroundData};
 pub use operation::{GraphOrDefault, GraphRefAll, Operation, Request};
 pub use pattern::{BasicGraphPattern, Member, Pattern, TriplePattern, VarOrIri, VarOrTerm};
 pub use query::{Query, Select};
+pub use visible::visible_variables;
