@@ -6,7 +6,8 @@ use Rattle.rdf_terms.specs.declared.term.Term.{Term}
 use Rattle.sparql_trees.specs.declared.pattern.TriplePattern.{TriplePattern}
 use Rattle.sparql_trees.specs.declared.pattern.VarOrTerm.{VarOrTerm}
 use Rattle.sparql_trees.specs.declared.pattern.VarOrTerm.TheVariants as x
-use Rattle.sparql_solve.specs.Mapping.{Mapping, same_term, column, var_or_term}
+use Rattle.sparql_algebra.specs.Mapping.{Variables, Mapping, same_term, column}
+use Rattle.sparql_algebra.specs.Solutions.{var_or_term}
 use Rattle.sparql_solve.specs.declared.place.Place.{Place}
 use Rattle.sparql_solve.specs.declared.place.Place.TheVariants.{Fixed, Column, Nowhere}
 use Rattle.sparql_solve.specs.declared.place.Places.{Places}
@@ -16,12 +17,12 @@ place_by None = Nowhere
 place_by (Some c) = Column c
 
 -- where a variable, a hidden variable or a term gets its value, the variables standing in this order before the hidden ones
-abbrev pub place_of : List (List ℕ) → VarOrTerm → Place
+abbrev pub place_of : Variables → VarOrTerm → Place
 place_of vs (x.Variable name) = place_by (column vs name)
 place_of vs (x.Hidden number) = Column (length vs + number)
 place_of vs (x.Term t) = Fixed t
 
-abbrev pub places_of : List (List ℕ) → TriplePattern → Places
+abbrev pub places_of : Variables → TriplePattern → Places
 places_of vs p = record {
   subject = place_of vs p.subject;
   predicate = place_of vs (var_or_term p.predicate);
@@ -62,5 +63,5 @@ matches_of quads p m = filter_map (matched p m) quads
 abbrev pub stepped : List QuadParts → List Mapping → Places → List Mapping
 stepped quads ms p = flat_map (matches_of quads p) ms
 
-abbrev pub matching : List (List ℕ) → List QuadParts → List TriplePattern → List Mapping → List Mapping
+abbrev pub matching : Variables → List QuadParts → List TriplePattern → List Mapping → List Mapping
 matching vs quads ps ms = fold (λ ns p. stepped quads ns (places_of vs p)) ms ps

@@ -1,6 +1,9 @@
 //! Where the places of a triple pattern get their terms.
 ghost use Rattle.std.specs.Prelude.{◌≡◌, ◌+◌, length, IfOk};
-ghost use Rattle.sparql_solve.specs.Mapping.{column, var_or_term, same_text};
+ghost use Rattle.rdf_terms.specs.Order.{text_cmp};
+ghost use Rattle.std.specs.Ordering.{eq_by_cmp};
+ghost use Rattle.sparql_algebra.specs.Mapping.{column};
+ghost use Rattle.sparql_algebra.specs.Solutions.{var_or_term};
 ghost use Rattle.sparql_solve.specs.Matching.{place_of, places_of};
 ghost use Rattle.sparql_trees.specs.declared.pattern.VarOrTerm.TheVariants.{Variable};
 
@@ -27,7 +30,7 @@ pub struct Places {
 }
 
 fn is_same_text(a: &Text, b: &Text) -> bool
-    ensures { result ≡ same_text a.now b.now }
+    ensures { result ≡ eq_by_cmp text_cmp a.now b.now }
 {
     a.cmp(b).is_eq()
 }
@@ -36,12 +39,9 @@ fn is_same_text(a: &Text, b: &Text) -> bool
 pub(crate) fn column(variables: &[Text], name: &Text) -> Option<usize>
     ensures { result ≡ column variables.now name.now }
 {
-    for (index, variable) in variables.iter().enumerate() {
-        if is_same_text(variable, name) {
-            return Some(index);
-        }
-    }
-    None
+    variables
+        .iter()
+        .position(|variable| is_same_text(name, variable))
 }
 
 fn place_of_variable(variables: &[Text], name: &Text) -> Place

@@ -1,6 +1,7 @@
 //! Rows: mappings over the columns of a pattern (SPARQL 1.1 Query, section 18.1.4).
 ghost use Rattle.std.specs.Prelude.{◌≡◌, ◌+◌, ◌<◌, length, is_some, slice_get, slice_set, Some, IfOk, replicate, None, take, if◌then◌else◌, nat_lt};
-ghost use Rattle.sparql_solve.specs.Mapping.{agrees, first_of, compatible, merge, mapping_cmp, same_term, single};
+ghost use Rattle.sparql_algebra.specs.Mapping.{agrees, first_of, compatible, merge, same_term, single};
+ghost use Rattle.sparql_algebra.specs.Order.{mapping_cmp};
 ghost use Rattle.sparql_solve.specs.Matching.{assigned, vacant};
 
 use crate::place::{Place, column};
@@ -75,12 +76,10 @@ impl Row {
     pub(crate) fn merged(&self, alloc: Global, other: &Row) -> Result<Row, NoMemory>
         ensures { IfOk result (λ row. row ≡ merge self.now other.now) }
     {
-        let values = self
-            .values
-            .iter()
-            .zip(&other.values)
-            .map(|(x, y)| first_of(x, y))
-            .try_collect(alloc)?;
+        let mut values = Vec::new(alloc);
+        for (x, y) in self.values.iter().zip(&other.values) {
+            values.push(first_of(x, y)?)?;
+        }
         Ok(Row { values })
     }
 
