@@ -5,3 +5,7 @@ pub mod TermLemmas
 pub mod BagLemmas
 pub mod Regroup
 pub mod UniverseLemmas
+pub mod AssignmentLemmas
+pub mod SetLemmas
+pub mod ListingLemmas
+pub mod IndependenceLemmas

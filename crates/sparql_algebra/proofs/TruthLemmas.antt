@@ -1,5 +1,5 @@
 -- Truth values.
-use Rattle.std.proofs.Common.{◌≡◌, ℕ, Bool, true, false, cond, ◌&&◌, ◌||◌, refl, ap, ◌∙◌}
+use Rattle.std.proofs.Common.{◌≡◌, ℕ, Bool, true, false, cond, ◌&&◌, ◌||◌, refl, sym, ap, ◌∙◌}
 use Rattle.sparql_algebra.proofs.Sums.{one}
 
 pub and_false : (b : Bool) → (b && false) ≡ false
@@ -49,3 +49,17 @@ or_cases false b h p q = q h
 pub cond_one : (a b : Bool) → cond a (one b) 0 ≡ one (a && b)
 cond_one true b = refl
 cond_one false b = refl
+
+pub both_true : (a b : Bool) → (a ≡ true → b ≡ true) → (b ≡ true → a ≡ true) → a ≡ b
+both_true true b f g = sym (f refl)
+both_true false true f g = g refl
+both_true false false f g = refl
+
+pub and_four : (q r s k : Bool) → ((q && r) && (s && k)) ≡ ((q && s) && (r && k))
+and_four false r s k = refl
+and_four true r true k = refl
+and_four true r false k = and_false r
+
+pub cond_both : {X : Type 0} (a b : Bool) (x y : X) → cond a (cond b x y) y ≡ cond (a && b) x y
+cond_both true b x y = refl
+cond_both false b x y = refl
