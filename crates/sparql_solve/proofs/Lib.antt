@@ -1,3 +1,5 @@
 pub mod RowLemmas
 pub mod GrowthLemmas
 pub mod MatchingLemmas
+pub mod BasicLemmas
+pub mod StepLemmas

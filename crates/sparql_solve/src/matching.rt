@@ -1,12 +1,15 @@
 //! Basic graph patterns: the rows under which every instance lies in the graph
 //! (SPARQL 1.1 Query, section 18.3.1).
 ghost use Rattle.std.specs.Prelude.{◌≡◌, IfOk, map, take, replicate, None, ◌∷◌, []};
+ghost use Rattle.sparql_algebra.specs.Solutions.{basic_solutions};
 ghost use Rattle.sparql_solve.specs.Matching.{matched, matches_of, stepped, matching};
+ghost use Rattle.sparql_solve.specs.Steps.{Gives};
 
 use crate::place::{Places, places_of};
 use crate::rows::Row;
-use rdf_terms::{NoMemory, Quad, Text};
-use sparql_trees::TriplePattern;
+use rdf_dataset::Source;
+use rdf_terms::{GraphName, NoMemory, Quad, Text};
+use sparql_trees::{BasicGraphPattern, TriplePattern};
 use std::alloc::Global;
 
 fn matched_row(
@@ -91,4 +94,24 @@ pub(crate) fn cut_rows(
         out.push(row.cut(columns))?;
     }
     Ok(out)
+}
+
+/// The solutions of a basic graph pattern in a graph: the part of the visible variables of each row
+/// under which all instances lie there.
+pub(crate) fn basic_rows<S: Source>(
+    alloc: Global,
+    variables: &[Text],
+    graph: &GraphName,
+    source: &S,
+    basic: &BasicGraphPattern,
+) -> Result<Vec<Row>, NoMemory>
+    ensures { IfOk result (λ out. Gives (S.contents source.now) out.items
+        (λ d. basic_solutions variables.now (d.quads graph.now) basic.now)) }
+{
+    let mut quads = Vec::new(alloc);
+    source.matches(graph, None, None, None, &mut quads)?;
+    let mut start = Vec::new(alloc);
+    start.push(Row::empty(alloc, variables.len(), basic.hidden)?)?;
+    let rows = matching_rows(alloc, variables, start, basic.triples.as_slice(), quads.as_slice())?;
+    cut_rows(alloc, rows, variables.len())
 }

@@ -9,4 +9,4 @@ pub returns : goal.returns
 returns c =
     zip_done first_of c.loop-x.values.items (merge c.args.self.now c.args.other.now) (iter_rest (zip_first c.loop-x.x-iterator))
     (iter_rest (zip_second c.loop-x.x-iterator)) c.loop-x.invariant
-    (either_empty_from_Zip c.loop-x.x-iterator c.next.new.self c.next.result c.in-None.is c.next.ensures.goes)
+    (either_empty_from_Zip c.loop-x.x-iterator c.next.new.self c.next.result c.in-None.is c.next.ensures.steps)
