@@ -65,7 +65,7 @@ module _ (vs : Variables) (g h : List QuadParts) (same : (s p o : Term) → list
   solves_same ps w = ap (λ b. b && binds_exactly (occurs vs ps) w) (lies_same w ps)
 
 module _ (vs : Variables) (s : State) (graph : GraphName) (b : BasicGraphPattern) where
-  basic_bag : (found quads : List QuadParts) → ListsOnce (graph_quads s graph) found → ListsOnce (graph_quads s graph) quads →
+  pub basic_bag : (found quads : List QuadParts) → ListsOnce (graph_quads s graph) found → ListsOnce (graph_quads s graph) quads →
       SameBag (map (take (length vs)) (matching vs found b.triples (replicate (length vs + b.hidden) None ∷ []))) (basic_solutions vs quads b)
   basic_bag found quads f q =
       let n = length vs + b.hidden in

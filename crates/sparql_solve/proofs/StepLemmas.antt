@@ -15,10 +15,11 @@ use Rattle.sparql_trees.specs.declared.pattern.Member.TheOpen.{Member-F, Pattern
 use Rattle.sparql_trees.specs.declared.pattern.Member.TheFolds.{fold-roll-Member, fold-roll-Pattern}
 use Rattle.sparql_trees.specs.declared.pattern.Pattern.{Pattern}
 use Rattle.sparql_trees.specs.declared.pattern.VarOrIri.{VarOrIri}
+use Rattle.sparql_trees.specs.declared.pattern.VarOrIri.TheVariants as v
 use Rattle.sparql_algebra.specs.Algebra.{Algebra, empty_pattern, union, graph, Element, joined, optional, extended, element, element_in, group_in, group_of, translation, union_of}
 use Rattle.sparql_algebra.specs.Bags.{SameBag}
 use Rattle.sparql_algebra.specs.Listing.{Listing, Lists}
-use Rattle.sparql_algebra.specs.Mapping.{Variables, Mapping, same_term}
+use Rattle.sparql_algebra.specs.Mapping.{Variables, Mapping, same_term, single}
 use Rattle.sparql_algebra.specs.Solutions.{joins, left_joins, merges, or_alone, solutions}
 use Rattle.sparql_algebra.proofs.BagLemmas.{SameBag-refl, SameBag-joins, SameBag-left_joins, SameBag-flat_map}
 use Rattle.sparql_algebra.proofs.ListingLemmas.{names_same}
@@ -57,9 +58,9 @@ SameBag-all_joins A C B D h k =
 
 -- ---- the empty pattern
 
-take_own : (n : ℕ) → take n (replicate n (None {A = Term})) ≡ replicate n None
-take_own zero = refl
-take_own (suc n) = ap (λ l. None ∷ l) (take_own n)
+take_own : (x : Option Term) (n : ℕ) → take n (replicate n x) ≡ replicate n x
+take_own x zero = refl
+take_own x (suc n) = ap (λ l. x ∷ l) (take_own x n)
 
 no_more : (n : ℕ) → n + 0 ≡ n
 no_more n = omega arith
@@ -68,7 +69,7 @@ module _ (vs : Variables) (s : State) (g : GraphName) where
   pub unit_gives : (rows : List Mapping) → rows ≡ replicate (length vs) None ∷ [] → Gives s rows (λ d. solutions vs d g empty_pattern)
   unit_gives rows e d l =
       let start : take (length vs) (replicate (length vs + 0) None) ≡ replicate (length vs) None =
-      ap (λ k. take (length vs) (replicate k None)) (no_more (length vs)) ∙ take_own (length vs) in
+      ap (λ k. take (length vs) (replicate k None)) (no_more (length vs)) ∙ take_own None (length vs) in
       subst (λ xs. SameBag xs (solutions vs d g empty_pattern)) (ap (λ (x : Mapping). x ∷ []) start ∙ sym e)
       (basic_bag vs s g (record { triples = []; hidden = 0 }) (d.quads g) (d.quads g) (l.quads g) (l.quads g))
 
@@ -98,6 +99,17 @@ module _ (vs : Variables) (s : State) (g : GraphName) where
       subst P (sym more) (subst R (sym (extended_push empty_pattern (take i ms) x))
       (subst Q (sym is) (after_one d (group_of (map element (take i ms))) (element x) rows right (h d l) (r d l))))
 
+  pub group_gives : (p : Pattern) (ms : List Member) (out : List Mapping) → ms ≡ p.members → Gives s out (λ d. solutions vs d g (group_of (map element ms))) →
+      Gives s out (λ d. solutions vs d g (translation p))
+  group_gives p ms out e h d l =
+      subst (λ A. SameBag out (solutions vs d g A)) (sym (translation-is p))
+      (subst (λ (xs : List Member). SameBag out (solutions vs d g (group_of (map element xs)))) e (h d l))
+
+  pub graph_gives : (x : List ℕ) (p : Pattern) (out : List Mapping) → Gives s out (λ d. over_names vs d x (translation p) d.names) →
+      Gives s out (λ d. element_solutions vs d g (element (m.Graph (v.Variable x) p)))
+  graph_gives x p out h d l =
+      subst (λ k. SameBag out (element_solutions vs d g k)) (sym (element-Graph (v.Variable x) p)) (h d l)
+
   -- ---- UNION
 
   union_is : (d : Listing) (A : Algebra) (ps : List Pattern) → solutions vs d g (fold union A (map translation ps)) ≡ solutions vs d g A ++ over_groups vs d g ps
@@ -108,7 +120,7 @@ module _ (vs : Variables) (s : State) (g : GraphName) where
   pub union_gives : (ps : List Pattern) (out : List Mapping) (b : Bool) → b ≡ nat_eq (length ps) 0 → b ≡ false → Gives s out (λ d. over_groups vs d g ps) →
       Gives s out (λ d. solutions vs d g (union_of (map translation ps)))
   union_gives [] out b e n h = cc
-  union_gives (p ∷ ps) out b e n h d l f = h d l f ∙ ap (sum_by f) (sym (union_is d (translation p) ps))
+  union_gives (p ∷ ps) out b e n h = λ d l f. h d l f ∙ ap (sum_by f) (sym (union_is d (translation p) ps))
 
   pub union_none : (ps : List Pattern) (out : List Mapping) (b : Bool) → b ≡ nat_eq (length ps) 0 → b ≡ true → out ≡ replicate (length vs) None ∷ [] →
       Gives s out (λ d. solutions vs d g (union_of (map translation ps)))
@@ -145,13 +157,12 @@ module _ (vs : Variables) (s : State) where
       subst (λ xs. SameBag xs (joins (solutions vs d (Named n) A) one)) (sym (e ∙ ap (λ xs. joins xs one) el))
       (SameBag-joins rows (solutions vs d (Named n) A) one one r (SameBag-refl one))
 
-  pub all_names_give : (v : List ℕ) (A : Algebra) (found : List Term) (out : List Mapping) → ListsOnce s.names found →
-      Gives s out (λ d. over_names vs d v A found) → Gives s out (λ d. over_names vs d v A d.names)
-  all_names_give v A found out once h d l f =
-      h d l f ∙ over_same d l f
-    where
-      over_same : (d : Listing) → Lists s d → SameBag (over_names vs d v A found) (over_names vs d v A d.names)
-      over_same d l = SameBag-flat_map _ _ found d.names (names_same s found d.names once l.names) (λ n. SameBag-refl _)
+  pub all_names_give : (x : List ℕ) (A : Algebra) (found given : List Term) (out : List Mapping) → ListsOnce s.names found → given ≡ found →
+      Gives s out (λ d. over_names vs d x A given) → Gives s out (λ d. over_names vs d x A d.names)
+  all_names_give x A found given out once e h d l f =
+      let F : Term → List Mapping = λ n. joins (solutions vs d (Named n) A) (single vs x n ∷ []) in
+      h d l f ∙ ap (λ (ns : List Term). sum_by f (flat_map F ns)) e
+      ∙ SameBag-flat_map F F found d.names (names_same s found d.names once l.names) (λ n. SameBag-refl (F n)) f
 
   pub there_gives : (A : Algebra) (n : Term) (g : GraphName) (out : List Mapping) (b : Bool) →
       ((d : Listing) → Lists s d → b ≡ list_any (same_term n) d.names) → b ≡ true → g ≡ Named n → Gives s out (λ d. solutions vs d g A) →
