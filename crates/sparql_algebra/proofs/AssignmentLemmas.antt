@@ -1,6 +1,6 @@
 -- The assignments that solve a basic graph pattern.
-use Rattle.std.proofs.Common.{◌≡◌, ℕ, ◌+◌, zero, suc, Bool, true, false, cond, ◌&&◌, ◌||◌, List, [], ◌∷◌, filter, length, Option, Some, None, refl, sym, ap, ◌∙◌, is_some, ◌⊎◌, inl, inr, nat_eq, subst}
-use Rattle.std.specs.List.{sum_by, count_by, flat_map, list_any, list_all}
+use Rattle.std.proofs.Common.{◌≡◌, ℕ, ◌+◌, zero, suc, Bool, true, false, cond, ◌&&◌, ◌||◌, List, [], ◌∷◌, filter, length, Option, Some, None, refl, sym, ap, ◌∙◌, is_some, ◌⊎◌, inl, inr}
+use Rattle.std.specs.List.{count_by, flat_map, list_any, list_all}
 use Rattle.std.proofs.lemmas.Bool.{eqb-true}
 use Rattle.rdf_terms.specs.Quad.{QuadParts}
 use Rattle.rdf_terms.specs.declared.term.Term.{Term}
@@ -9,9 +9,9 @@ use Rattle.sparql_trees.specs.declared.pattern.TriplePattern.{TriplePattern}
 use Rattle.sparql_trees.specs.declared.pattern.VarOrTerm.{VarOrTerm}
 use Rattle.sparql_trees.specs.declared.pattern.VarOrTerm.TheVariants.{Variable, Hidden, Term as Fixed}
 use Rattle.sparql_algebra.specs.Mapping.{Variables, Mapping, same_term, same_mapping, column, value_at, value_in}
-use Rattle.sparql_algebra.specs.Solutions.{var_or_term, column_at, term_at, is_triple, holds, instance_lies, is_at, is_column, occurs, same_bool, binds_exactly, solves, distinct, terms_of, all_mappings, assignments}
+use Rattle.sparql_algebra.specs.Solutions.{var_or_term, term_at, is_triple, holds, instance_lies, is_at, is_column, occurs, same_bool, binds_exactly, solves, terms_of, all_mappings, assignments}
 use Rattle.sparql_algebra.proofs.Sums.{one, sum_by-cong, sum_by-filter}
-use Rattle.sparql_algebra.proofs.TruthLemmas.{and_false, and_swap, and_left, and_right, and_true, or_left, or_right, or_cases, cond_one}
+use Rattle.sparql_algebra.proofs.TruthLemmas.{and_false, and_left, and_right, and_true, or_left, or_right, or_cases, cond_one}
 use Rattle.sparql_algebra.proofs.TermLemmas.{same_term_is, same_term_own, same_mapping_is}
 use Rattle.sparql_algebra.proofs.CountLemmas.{sum_of_tests}
 use Rattle.sparql_algebra.proofs.UniverseLemmas.{has_length, within, mappings_count, any_distinct, distinct_once}

@@ -1,6 +1,6 @@
 -- The solutions don't depend on the order in which the graphs are listed.
 use Rattle.std.proofs.Common.{◌≡◌, ℕ, zero, suc, ◌+◌, ◌<◌, Bool, true, false, cond, ◌&&◌, ◌||◌, List, [], ◌∷◌, length, Option, Some, None, refl, sym, ap, ◌∙◌, arith, take}
-use Rattle.std.specs.List.{sum_by, count_by, list_any, list_all}
+use Rattle.std.specs.List.{count_by, list_any, list_all}
 use Rattle.std.proofs.lemmas.List.Sums.{sum_by-cons}
 use Rattle.rdf_terms.specs.Quad.{QuadParts}
 use Rattle.rdf_terms.specs.declared.term.Term.{Term}
@@ -15,7 +15,7 @@ use Rattle.sparql_algebra.specs.Algebra.{Algebra, basic, join, left_join, union,
 use Rattle.sparql_algebra.specs.Bags.{SameBag}
 use Rattle.sparql_algebra.specs.Listing.{Listing, Lists}
 use Rattle.sparql_algebra.specs.Mapping.{Variables, Mapping, same_term, same_mapping, single}
-use Rattle.sparql_algebra.specs.Solutions.{var_or_term, term_at, is_triple, holds, instance_lies, occurs, binds_exactly, solves, assignments, basic_solutions, joins, solutions}
+use Rattle.sparql_algebra.specs.Solutions.{var_or_term, term_at, is_triple, holds, instance_lies, occurs, binds_exactly, assignments, basic_solutions, joins, solutions}
 use Rattle.sparql_algebra.proofs.Sums.{one, sums_from_counts}
 use Rattle.sparql_algebra.proofs.TermLemmas.{same_mapping_is, same_mapping_own}
 use Rattle.sparql_algebra.proofs.BagLemmas.{SameBag-refl, SameBag-map, SameBag-append, SameBag-flat_map, SameBag-joins, SameBag-left_joins}

@@ -1,12 +1,10 @@
 -- Listings of a dataset: there is one, and what lies in a graph is what the state holds.
-use Rattle.std.proofs.Common.{◌≡◌, ℕ, Bool, true, false, cond, ◌&&◌, List, Option, None, refl, sym, ap, ◌∙◌}
-use Rattle.std.specs.Ordering.{eq_by_cmp, is_eq}
-use Rattle.std.specs.declared.cmp.Ordering.TheVariants.{Equal}
-use Rattle.std.specs.List.{sum_by, count_by, list_any}
-use Rattle.std.specs.FinSet as set
+use Rattle.std.proofs.Common.{◌≡◌, true, cond, ◌&&◌, List, None, sym, ap, ◌∙◌}
+use Rattle.std.specs.Ordering.{eq_by_cmp}
+use Rattle.std.specs.List.{count_by, list_any}
 use Rattle.std.specs.FinSet.{contains, contains-retain}
 use Rattle.rdf_terms.specs.Quad.{QuadParts}
-use Rattle.rdf_terms.specs.Order.{term_cmp, graph_cmp, quad_cmp}
+use Rattle.rdf_terms.specs.Order.{graph_cmp, quad_cmp}
 use Rattle.rdf_terms.specs.OrderLaws.{term_cmp_total, term_cmp-IsAntisymmetric, graph_cmp_total, graph_cmp-IsAntisymmetric, quad_cmp_total, quad_cmp-IsAntisymmetric}
 use Rattle.rdf_terms.specs.declared.term.Term.{Term}
 use Rattle.rdf_terms.specs.declared.quad.GraphName.{GraphName}

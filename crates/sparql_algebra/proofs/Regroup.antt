@@ -4,8 +4,10 @@ use Rattle.std.specs.List.{sum_by, count_by, list_any}
 use Rattle.std.proofs.lemmas.List.Sums.{sum_by-cons}
 use Rattle.sparql_algebra.specs.Mapping.{Mapping, same_mapping, compatible, merge}
 use Rattle.sparql_algebra.specs.Solutions.{merges, joins, left_joins, or_alone}
-use Rattle.sparql_algebra.specs.Counts.{always, ListsCounted, one_if_above_zero, is_pair, pairs_count, begins_pair}
+use Rattle.sparql_algebra.specs.Counts.{always, ListsCounted, is_pair, pairs_count, begins_pair}
+use Rattle.sparql_algebra.specs.Bags.{once_if_any}
 use Rattle.sparql_algebra.proofs.Sums.{one, sum_by-cong, sum_by-filter, sum_by-map, sum_by-flat_map}
+use Rattle.sparql_algebra.proofs.TruthLemmas.{both_true}
 use Rattle.sparql_algebra.proofs.TermLemmas.{same_mapping_is, same_mapping_own}
 use Rattle.sparql_algebra.proofs.CountLemmas.{sum_zero, sum_of_tests, none_counted}
 
@@ -77,11 +79,11 @@ regroup f (x ∷ xs) U h =
         let c : times (x ∷ xs) u * f u ≡ (0 + times xs u) * f u = ap (λ n. n * f u) (times_cons u x xs ∙ ap (λ n. n + times xs u) z) in
         omega (arith, c)
 
-above : (n c : ℕ) → c ≡ one_if_above_zero n → 0 < n → c ≡ 1
+above : (n c : ℕ) → c ≡ once_if_any n → 0 < n → c ≡ 1
 above zero c e h = absurd (omega arith)
 above (suc n) c e h = e
 
-below : (n c : ℕ) → c ≡ one_if_above_zero n → 0 < c → 0 < n
+below : (n c : ℕ) → c ≡ once_if_any n → 0 < c → 0 < n
 below zero c e h = absurd (omega arith)
 below (suc n) c e h = omega arith
 
@@ -139,11 +141,6 @@ any_moves p (x ∷ xs) V h t = by_test (p x) refl t (any_moves p xs V (λ m k. h
     by_test : (q : Bool) → p x ≡ q → (q || list_any p xs) ≡ true → (list_any p xs ≡ true → list_any p V ≡ true) → list_any p V ≡ true
     by_test true e r k = any_at p x V (h x (omega (arith, times_own x xs))) e
     by_test false e r k = k r
-
-both_true : (a b : Bool) → (a ≡ true → b ≡ true) → (b ≡ true → a ≡ true) → a ≡ b
-both_true true b f g = sym (f refl)
-both_true false true f g = g refl
-both_true false false f g = refl
 
 any_listed : (p : Mapping → Bool) (xs V : List Mapping) → ListsCounted V (times xs) → list_any p xs ≡ list_any p V
 any_listed p xs V l =
@@ -218,7 +215,7 @@ abbrev pub each_once : List Mapping → List Mapping
 each_once [] = []
 each_once (x ∷ xs) = cond (list_any (same_mapping x) xs) (each_once xs) (x ∷ each_once xs)
 
-counted_once : (n : ℕ) → 0 < n → one_if_above_zero n ≡ 1
+counted_once : (n : ℕ) → 0 < n → once_if_any n ≡ 1
 counted_once zero h = absurd (omega arith)
 counted_once (suc n) h = refl
 
@@ -237,33 +234,33 @@ each_once_lists (x ∷ xs) m = by_test (list_any (same_mapping x) xs) (same_mapp
             by_head true e h k = let z : one (same_mapping m y) ≡ 1 = ap one e in omega (arith, z, times_cons m y ys)
             by_head false e h k = omega (arith, k h, times_cons m y ys)
 
-    by_test : (l b : Bool) → list_any (same_mapping x) xs ≡ l → same_mapping m x ≡ b → times (each_once xs) m ≡ one_if_above_zero (times xs m) →
-        times (cond l (each_once xs) (x ∷ each_once xs)) m ≡ one_if_above_zero (times (x ∷ xs) m)
+    by_test : (l b : Bool) → list_any (same_mapping x) xs ≡ l → same_mapping m x ≡ b → times (each_once xs) m ≡ once_if_any (times xs m) →
+        times (cond l (each_once xs) (x ∷ each_once xs)) m ≡ once_if_any (times (x ∷ xs) m)
     by_test true true el eb r =
         let more : 0 < times xs m = there eb el in
         r ∙ counted_once (times xs m) more ∙ sym (counted_once (times (x ∷ xs) m) (omega (arith, more, times_cons m x xs)))
     by_test true false el eb r =
         let z : one (same_mapping m x) ≡ 0 = ap one eb in
         let e : times (x ∷ xs) m ≡ times xs m = omega (arith, z, times_cons m x xs) in
-        r ∙ ap one_if_above_zero (sym e)
+        r ∙ ap once_if_any (sym e)
     by_test false true el eb r =
         let absent : times xs m ≡ 0 = none_counted (same_mapping m) xs (ap (λ (q : Mapping). list_any (same_mapping q) xs) (same_mapping_is m x eb) ∙ el) in
         let z : one (same_mapping m x) ≡ 1 = ap one eb in
         let e : times (x ∷ xs) m ≡ 1 = omega (arith, z, absent, times_cons m x xs) in
-        let f : times (each_once xs) m ≡ 0 = r ∙ ap one_if_above_zero absent in
+        let f : times (each_once xs) m ≡ 0 = r ∙ ap once_if_any absent in
         let k : times (x ∷ each_once xs) m ≡ 1 = omega (arith, z, f, times_cons m x (each_once xs)) in
-        k ∙ sym (ap one_if_above_zero e)
+        k ∙ sym (ap once_if_any e)
     by_test false false el eb r =
         let z : one (same_mapping m x) ≡ 0 = ap one eb in
         let e : times (x ∷ xs) m ≡ times xs m = omega (arith, z, times_cons m x xs) in
         let k : times (x ∷ each_once xs) m ≡ times (each_once xs) m = omega (arith, z, times_cons m x (each_once xs)) in
-        k ∙ r ∙ ap one_if_above_zero (sym e)
+        k ∙ r ∙ ap once_if_any (sym e)
 
 -- one mapping
 pub single_lists : (s : Mapping) → ListsCounted (s ∷ []) (times (s ∷ []))
 single_lists s m = by_test (same_mapping m s)
   where
-    by_test : (b : Bool) → 0 + one b ≡ one_if_above_zero (0 + one b)
+    by_test : (b : Bool) → 0 + one b ≡ once_if_any (0 + one b)
     by_test true = refl
     by_test false = refl
 

@@ -83,8 +83,13 @@ module _ {K : Type 0} {R : K → K → Ordering} (o : IsTotalOrder R) (apart : I
   pub sum_on : (f g : K → ℕ) (xs : List K) → ((x : K) → has xs x ≡ true → f x ≡ g x) → sum_by f xs ≡ sum_by g xs
   sum_on f g [] h = refl
   sum_on f g (x ∷ xs) h =
-      omega (arith, sum_by-cons f x xs, sum_by-cons g x xs, h x (or_left (eq_by_cmp R x x) _ (own x)),
-      sum_on f g xs (λ y e. h y (or_right (eq_by_cmp R y x) _ e)))
+      omega (
+        arith,
+        sum_by-cons f x xs,
+        sum_by-cons g x xs,
+        h x (or_left (eq_by_cmp R x x) _ (own x)),
+        sum_on f g xs (λ y e. h y (or_right (eq_by_cmp R y x) _ e)),
+      )
 
   -- ---- there is such a list
 

@@ -1,5 +1,5 @@
 -- The algebra by counts: what each operator makes of the counts of its parts (SPARQL 1.1 Query, section 18.5).
-use Rattle.std.specs.Prelude.{◌≡◌, ℕ, zero, suc, ◌+◌, ◌*◌, ◌≤◌, Bool, true, false, ◌&&◌, cond, List, [], ◌∷◌, count_by, length, take, nat_eq}
+use Rattle.std.specs.Prelude.{◌≡◌, ℕ, ◌+◌, ◌*◌, ◌≤◌, Bool, true, false, ◌&&◌, cond, List, [], ◌∷◌, count_by, length, take, nat_eq}
 use Rattle.std.specs.List.{sum_by, list_any}
 use Rattle.rdf_terms.specs.Quad.{QuadParts}
 use Rattle.rdf_terms.specs.declared.term.Term.{Term}
@@ -9,17 +9,14 @@ use Rattle.rdf_terms.specs.declared.quad.GraphName.TheVariants.{Named}
 use Rattle.sparql_trees.specs.declared.pattern.BasicGraphPattern.{BasicGraphPattern}
 use Rattle.sparql_trees.specs.declared.pattern.VarOrIri.TheVariants as v
 use Rattle.sparql_algebra.specs.Algebra.{Algebra, basic, join, left_join, union, graph, empty_pattern}
+use Rattle.sparql_algebra.specs.Bags.{once_if_any}
 use Rattle.sparql_algebra.specs.Listing.{Listing}
 use Rattle.sparql_algebra.specs.Mapping.{Variables, Mapping, same_term, same_mapping, compatible, merge, single}
 use Rattle.sparql_algebra.specs.Solutions.{count, solves}
 
-abbrev pub one_if_above_zero : ℕ → ℕ
-one_if_above_zero zero = 0
-one_if_above_zero (suc n) = 1
-
 -- a finite list of the mappings that are counted above 0, each once
 abbrev pub ListsCounted : List Mapping → (Mapping → ℕ) → Type 0
-ListsCounted U N = (m : Mapping) → count_by (same_mapping m) U ≡ one_if_above_zero (N m)
+ListsCounted U N = (m : Mapping) → count_by (same_mapping m) U ≡ once_if_any (N m)
 
 -- the two are compatible, their merge is this mapping, and the test is true of it
 abbrev pub is_pair : (Mapping → Bool) → Mapping → Mapping → Mapping → Bool

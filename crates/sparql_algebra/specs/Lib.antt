@@ -1,8 +1,9 @@
-pub mod Mapping
-pub mod Listing
 pub mod Algebra
-pub mod Solutions
 pub mod Bags
-pub mod Order
 pub mod Counts
+pub mod Laws
+pub mod Listing
+pub mod Mapping
+pub mod Order
 pub mod Results
+pub mod Solutions

@@ -1,5 +1,5 @@
 -- What a pattern is evaluated over: the graphs of a dataset as lists (SPARQL 1.1 Query, section 18.1.2).
-use Rattle.std.specs.Prelude.{List, Option, None}
+use Rattle.std.specs.Prelude.{List, None}
 use Rattle.std.specs.FinSet as set
 use Rattle.rdf_terms.specs.Quad.{QuadParts}
 use Rattle.rdf_terms.specs.declared.term.Term.{Term}

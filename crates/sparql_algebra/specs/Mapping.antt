@@ -1,6 +1,5 @@
 -- Solution mappings (SPARQL 1.1 Query, sections 18.1.3 and 18.3).
-use Rattle.std.specs.Prelude.{ℕ, Bool, true, false, ◌&&◌, List, [], ◌∷◌, length, Option, Some, None, map, replicate, position, zip, slice_index_or, slice_set, nat_eq}
-use Rattle.std.specs.Cmp.Lexicographic.{pointwise}
+use Rattle.std.specs.Prelude.{ℕ, Bool, true, false, ◌&&◌, List, [], ◌∷◌, length, Option, Some, None, map, replicate, position, zip, slice_index_or, slice_set}
 use Rattle.std.specs.List.{list_all}
 use Rattle.std.specs.Ordering.{eq_by_cmp}
 use Rattle.rdf_terms.specs.Order.{term_cmp, text_cmp}

@@ -1,5 +1,5 @@
 -- The results of queries (SPARQL 1.1 Query, sections 16.1, 16.3 and 18.2.5).
-use Rattle.std.specs.Prelude.{◌≡◌, ℕ, zero, suc, Bool, true, false, List, [], ◌∷◌, map, count_by, IsSorted, if◌then◌else◌}
+use Rattle.std.specs.Prelude.{◌≡◌, ℕ, Bool, true, false, List, [], ◌∷◌, map, count_by, IsSorted, if◌then◌else◌}
 use Rattle.rdf_terms.specs.declared.quad.GraphName.{GraphName}
 use Rattle.rdf_terms.specs.declared.quad.GraphName.TheVariants.{Default}
 use Rattle.rdf_dataset.specs.State.{State}
@@ -7,6 +7,7 @@ use Rattle.sparql_trees.specs.Visible.{visible}
 use Rattle.sparql_trees.specs.declared.pattern.Pattern.{Pattern}
 use Rattle.sparql_trees.specs.declared.query.Select.{Select}
 use Rattle.sparql_algebra.specs.Algebra.{translation}
+use Rattle.sparql_algebra.specs.Bags.{once_if_any}
 use Rattle.sparql_algebra.specs.Listing.{Listing, Lists}
 use Rattle.sparql_algebra.specs.Mapping.{Variables, Mapping, same_mapping, value_of}
 use Rattle.sparql_algebra.specs.Order.{mapping_cmp}
@@ -31,10 +32,6 @@ projected variables columns m = map (value_of variables m) columns
 -- the columns of each solution, in the default graph
 abbrev pub projections : Select → Listing → List Mapping
 projections q d = map (projected (visible q.pattern) q.columns) (pattern_solutions q.pattern Default d)
-
-abbrev pub once_if_any : ℕ → ℕ
-once_if_any zero = 0
-once_if_any (suc n) = 1
 
 -- under DISTINCT once
 abbrev pub times_selected : Bool → ℕ → ℕ
