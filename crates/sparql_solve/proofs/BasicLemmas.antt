@@ -12,13 +12,7 @@ use Rattle.sparql_algebra.specs.Mapping.{Variables, Mapping, same_mapping}
 use Rattle.sparql_algebra.specs.Listing.{Listing, Lists, graph_quads}
 use Rattle.sparql_algebra.specs.Bags.{SameBag}
 use Rattle.sparql_algebra.specs.Solutions.{var_or_term, term_at, occurs, is_triple, holds, instance_lies, binds_exactly, same_bool, solves, assignments, basic_solutions}
-use Rattle.sparql_algebra.proofs.Sums.{one, sums_from_counts}
-use Rattle.sparql_algebra.proofs.TruthLemmas.{and_swap}
-use Rattle.sparql_algebra.proofs.TermLemmas.{same_mapping_is, same_mapping_own}
-use Rattle.sparql_algebra.proofs.BagLemmas.{SameBag-map}
-use Rattle.sparql_algebra.proofs.UniverseLemmas.{has_length}
-use Rattle.sparql_algebra.proofs.AssignmentLemmas.{assignments_count}
-use Rattle.sparql_algebra.proofs.ListingLemmas.{triple_listed, triple_once}
+use Rattle.sparql_algebra.proofs.CallerLemmas.{one, sums_from_counts, and_swap, same_mapping_is, same_mapping_own, SameBag-map, has_length, assignments_count, triple_listed, triple_once}
 use Rattle.sparql_solve.specs.Matching.{matching}
 use Rattle.sparql_solve.specs.Steps.{Gives}
 use Rattle.sparql_solve.proofs.GrowthLemmas.{grows}

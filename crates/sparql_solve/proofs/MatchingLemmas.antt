@@ -7,9 +7,7 @@ use Rattle.rdf_terms.specs.declared.term.Term.{Term}
 use Rattle.sparql_trees.specs.declared.pattern.TriplePattern.{TriplePattern}
 use Rattle.sparql_algebra.specs.Mapping.{Variables, Mapping, same_term, same_value, same_mapping}
 use Rattle.sparql_algebra.specs.Solutions.{var_or_term, term_at, occurs, is_triple, holds, instance_lies}
-use Rattle.sparql_algebra.proofs.Sums.{one, sum_by-cong, sum_by-flat_map}
-use Rattle.sparql_algebra.proofs.TruthLemmas.{and_false, and_swap, and_assoc}
-use Rattle.sparql_algebra.proofs.CountLemmas.{sum_zero, sum_of_tests, at_most_once}
+use Rattle.sparql_algebra.proofs.CallerLemmas.{one, sum_by-cong, sum_by-flat_map, and_false, and_swap, and_assoc, sum_zero, sum_of_tests, at_most_once}
 use Rattle.sparql_solve.specs.Matching.{places_of, matched, matches_of, stepped, matching}
 use Rattle.sparql_solve.proofs.GrowthLemmas.{opt, opt_and, grows, is_term, is_instance, in_pattern, matched_grows}
 

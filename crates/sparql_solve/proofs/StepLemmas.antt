@@ -21,8 +21,7 @@ use Rattle.sparql_algebra.specs.Bags.{SameBag}
 use Rattle.sparql_algebra.specs.Listing.{Listing, Lists}
 use Rattle.sparql_algebra.specs.Mapping.{Variables, Mapping, same_term, single}
 use Rattle.sparql_algebra.specs.Solutions.{joins, left_joins, merges, or_alone, solutions}
-use Rattle.sparql_algebra.proofs.BagLemmas.{SameBag-refl, SameBag-joins, SameBag-left_joins, SameBag-flat_map}
-use Rattle.sparql_algebra.proofs.ListingLemmas.{names_same}
+use Rattle.sparql_algebra.proofs.CallerLemmas.{SameBag-refl, SameBag-joins, SameBag-left_joins, SameBag-flat_map, names_same}
 use Rattle.sparql_solve.specs.Steps.{Gives, GivesMore, all_joins, rows_after, element_solutions, over_names, over_groups}
 use Rattle.sparql_solve.proofs.BasicLemmas.{basic_bag}
 
@@ -105,10 +104,10 @@ module _ (vs : Variables) (s : State) (g : GraphName) where
       subst (λ A. SameBag out (solutions vs d g A)) (sym (translation-is p))
       (subst (λ (xs : List Member). SameBag out (solutions vs d g (group_of (map element xs)))) e (h d l))
 
-  pub graph_gives : (x : List ℕ) (p : Pattern) (out : List Mapping) → Gives s out (λ d. over_names vs d x (translation p) d.names) →
-      Gives s out (λ d. element_solutions vs d g (element (m.Graph (v.Variable x) p)))
-  graph_gives x p out h d l =
-      subst (λ k. SameBag out (element_solutions vs d g k)) (sym (element-Graph (v.Variable x) p)) (h d l)
+  pub graph_gives : (member : Member) (name : VarOrIri) (p : Pattern) (out : List Mapping) → member ≡ m.Graph name p →
+      ((active : GraphName) → Gives s out (λ d. solutions vs d active (graph name (translation p)))) → Gives s out (λ d. element_solutions vs d g (element member))
+  graph_gives member name p out em h d l =
+      subst (λ k. SameBag out (element_solutions vs d g k)) (sym (ap element em ∙ element-Graph name p)) (h g d l)
 
   -- ---- UNION
 

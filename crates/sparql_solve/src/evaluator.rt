@@ -2,8 +2,9 @@
 ghost use Rattle.std.specs.Prelude.{◌≡◌, ◌++◌, ◌∷◌, [], IfOk, OnOk, map, replicate, length, None, cond};
 ghost use Rattle.std.specs.List.{list_any};
 ghost use Rattle.rdf_terms.specs.declared.quad.GraphName.TheVariants.{Named};
+ghost use Rattle.rdf_terms.specs.declared.quad.GraphName.{GraphName};
 ghost use Rattle.rdf_dataset.specs.Sorted.{ListsOnce};
-ghost use Rattle.sparql_algebra.specs.Algebra.{element, group_of, translation, union_of};
+ghost use Rattle.sparql_algebra.specs.Algebra.{element, graph, group_of, translation, union_of};
 ghost use Rattle.sparql_algebra.specs.Listing.{Listing, Lists};
 ghost use Rattle.sparql_algebra.specs.Mapping.{same_term, single};
 ghost use Rattle.sparql_algebra.specs.Solutions.{joins, solutions};
@@ -208,6 +209,28 @@ fn all_graph_rows<S: Source>(
     each_graph_rows(alloc, variables, variable, &names, source, pattern)
 }
 
+// The solutions of GRAPH, whichever graph is the active one.
+#[cycle(evaluate)]
+fn graph_rows<S: Source>(
+    alloc: Global,
+    variables: &[Text],
+    name: &VarOrIri,
+    source: &S,
+    pattern: &Pattern,
+) -> Result<Vec<Row>, NoMemory>
+    ensures { IfOk result (λ out. (active : GraphName) → Gives (S.contents source.now) out.items
+        (λ d. solutions variables.now d active (graph name.now (translation pattern.now)))) }
+{
+    match name {
+        VarOrIri::Iri(iri) => {
+            named_graph_rows(alloc, variables, Term::Iri(iri.copy()?), source, pattern)
+        }
+        VarOrIri::Variable(variable) => {
+            all_graph_rows(alloc, variables, variable, source, pattern)
+        }
+    }
+}
+
 // The solutions of a member alone.
 #[cycle(evaluate)]
 fn member_rows<S: Source>(
@@ -224,12 +247,6 @@ fn member_rows<S: Source>(
         Member::Basic(basic) => basic_rows(alloc, variables, graph, source, basic),
         Member::Union(groups) => union_rows(alloc, variables, graph, source, groups.as_slice()),
         Member::Optional(pattern) => group_rows(alloc, variables, graph, source, pattern),
-        Member::Graph(VarOrIri::Iri(iri), pattern) => {
-            let name = Term::Iri(iri.copy()?);
-            named_graph_rows(alloc, variables, name, source, pattern)
-        }
-        Member::Graph(VarOrIri::Variable(variable), pattern) => {
-            all_graph_rows(alloc, variables, variable, source, pattern)
-        }
+        Member::Graph(name, pattern) => graph_rows(alloc, variables, name, source, pattern),
     }
 }

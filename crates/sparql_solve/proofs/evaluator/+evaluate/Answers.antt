@@ -4,7 +4,7 @@ use Rattle.rdf_terms.specs.declared.quad.GraphName.TheVariants.{Named}
 use Rattle.sparql_algebra.specs.Algebra.{translation}
 use Rattle.sparql_algebra.specs.Mapping.{single}
 use Rattle.sparql_algebra.specs.Solutions.{joins, solutions}
-use Rattle.sparql_solve.proofs.StepLemmas.{unit_gives, members_more, more_gives, union_gives, union_none, joined_gives, all_names_give, group_gives, graph_gives}
+use Rattle.sparql_solve.proofs.StepLemmas.{unit_gives, members_more, more_gives, union_gives, union_none, joined_gives, all_names_give, group_gives}
 use Rattle.sparql_solve.proofs.evaluator.+evaluate.Goals as goal
 
 pub member_list_rows-loop-member-init : goal.member_list_rows-loop-member-init
@@ -59,5 +59,3 @@ union_rows-returns g t c =
     c.is_empty.result c.is_empty.ensures c.if-is_empty.false h)
     c.group_list_rows.ensures
 
-pub member_rows-returns-in-Graph-Variable-default : goal.member_rows-returns-in-Graph-Variable-default
-member_rows-returns-in-Graph-Variable-default g t c = ?

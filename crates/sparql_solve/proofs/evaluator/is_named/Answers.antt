@@ -1,5 +1,5 @@
 use Rattle.std.proofs.Common.{◌∙◌, sym}
-use Rattle.sparql_algebra.proofs.ListingLemmas.{name_listed}
+use Rattle.sparql_algebra.proofs.CallerLemmas.{name_listed}
 use Rattle.sparql_solve.proofs.evaluator.is_named.Goals as goal
 
 pub returns : goal.returns
