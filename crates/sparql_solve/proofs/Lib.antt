@@ -3,3 +3,5 @@ pub mod GrowthLemmas
 pub mod MatchingLemmas
 pub mod BasicLemmas
 pub mod StepLemmas
+pub mod DistinctLemmas
+pub mod ResultLemmas

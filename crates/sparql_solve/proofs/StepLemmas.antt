@@ -174,3 +174,8 @@ module _ (vs : Variables) (s : State) where
       b ≡ false → out ≡ [] → Gives s out (λ d. cond (list_any (same_term n) d.names) (solutions vs d (Named n) A) [])
   absent_gives A n out b there e none d l =
       subst (λ t. SameBag out (cond t (solutions vs d (Named n) A) [])) (sym e ∙ there d l) (subst (λ xs. SameBag xs []) (sym none) (SameBag-refl []))
+
+  pub variable_gives : (name : VarOrIri) (x : List ℕ) (p : Pattern) (out : List Mapping) → name ≡ v.Variable x →
+      Gives s out (λ d. over_names vs d x (translation p) d.names) → (active : GraphName) → Gives s out (λ d. solutions vs d active (graph name (translation p)))
+  variable_gives name x p out en h active d l =
+      subst (λ (n : VarOrIri). SameBag out (solutions vs d active (graph n (translation p)))) (sym en) (h d l)

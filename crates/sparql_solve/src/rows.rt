@@ -1,6 +1,6 @@
 //! Rows: mappings over the columns of a pattern (SPARQL 1.1 Query, section 18.1.4).
-ghost use Rattle.std.specs.Prelude.{◌≡◌, ◌+◌, ◌<◌, length, is_some, slice_get, slice_set, Some, IfOk, replicate, None, take, if◌then◌else◌, nat_lt};
-ghost use Rattle.sparql_algebra.specs.Mapping.{agrees, first_of, compatible, merge, same_term, single};
+ghost use Rattle.std.specs.Prelude.{◌≡◌, ◌+◌, ◌<◌, length, is_some, slice_get, slice_set, Some, IfOk, replicate, None, take, if◌then◌else◌, nat_lt, map};
+ghost use Rattle.sparql_algebra.specs.Mapping.{agrees, first_of, compatible, merge, same_term, single, value_at, value_in};
 ghost use Rattle.sparql_algebra.specs.Order.{mapping_cmp};
 ghost use Rattle.sparql_solve.specs.Matching.{assigned, vacant};
 
@@ -214,6 +214,41 @@ impl Row {
     {
         self.values.truncate(columns);
         self
+    }
+
+    // A copy of what stands at the column.
+    fn value_at(&self, column: usize) -> Result<Option<Term>, NoMemory>
+        ensures { IfOk result (λ value. value ≡ value_at self.now column) }
+    {
+        if column < self.values.len() {
+            copy_value(&self.values[column])
+        } else {
+            Ok(None)
+        }
+    }
+
+    fn value_in(&self, column: Option<usize>) -> Result<Option<Term>, NoMemory>
+        ensures { IfOk result (λ value. value ≡ value_in self.now column) }
+    {
+        match column {
+            Some(column) => self.value_at(column),
+            None => Ok(None),
+        }
+    }
+
+    /// The row of these columns; one that isn't there is unbound.
+    pub(crate) fn projected(
+        &self,
+        alloc: Global,
+        columns: &[Option<usize>],
+    ) -> Result<Row, NoMemory>
+        ensures { IfOk result (λ row. row ≡ map (value_in self.now) columns.now) }
+    {
+        let mut values = Vec::new(alloc);
+        for column in columns {
+            values.push(self.value_in(*column)?)?;
+        }
+        Ok(Row { values })
     }
 
     /// By the values from the left, unbound first.

@@ -4,7 +4,7 @@ use Rattle.rdf_terms.specs.declared.quad.GraphName.TheVariants.{Named}
 use Rattle.sparql_algebra.specs.Algebra.{translation}
 use Rattle.sparql_algebra.specs.Mapping.{single}
 use Rattle.sparql_algebra.specs.Solutions.{joins, solutions}
-use Rattle.sparql_solve.proofs.StepLemmas.{unit_gives, members_more, more_gives, union_gives, union_none, joined_gives, all_names_give, group_gives}
+use Rattle.sparql_solve.proofs.StepLemmas.{unit_gives, members_more, more_gives, union_gives, union_none, joined_gives, all_names_give, group_gives, variable_gives}
 use Rattle.sparql_solve.proofs.evaluator.+evaluate.Goals as goal
 
 pub member_list_rows-loop-member-init : goal.member_list_rows-loop-member-init
@@ -59,3 +59,10 @@ union_rows-returns g t c =
     c.is_empty.result c.is_empty.ensures c.if-is_empty.false h)
     c.group_list_rows.ensures
 
+
+pub graph_rows-returns-in-Variable : goal.graph_rows-returns-in-Variable
+graph_rows-returns-in-Variable g t c =
+    IfOk-weaker c.all_graph_rows.result _ _
+    (λ out h. variable_gives c.args.variables.now (g.S.Source.contents c.args.source.now) c.args.name.now c.in-Variable.variable c.args.pattern.now out.items
+    c.in-Variable.is h)
+    c.all_graph_rows.ensures
