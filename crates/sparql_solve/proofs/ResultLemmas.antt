@@ -1,5 +1,6 @@
 -- Results of queries from the rows of the evaluator.
 use Rattle.std.proofs.Common.{◌≡◌, ℕ, Bool, true, false, not, cond, List, [], ◌∷◌, map, Option, refl, sym, ap, ◌∙◌, subst, length, nat_eq}
+use Rattle.std.proofs.Math.Dec.{eqb-suc-zero}
 use Rattle.std.specs.List.{sum_by, count_by}
 use Rattle.std.specs.List.Sorted.{IsSorted}
 use Rattle.rdf_terms.specs.declared.quad.GraphName.{GraphName}
@@ -63,8 +64,9 @@ selected q s vs given names found held rows out columns cs h eg en ec es eh er s
 
 some_is : (xs : List Mapping) → not (nat_eq (length xs) 0) ≡ is_some_solution xs
 some_is [] = refl
-some_is (x ∷ xs) = refl
+some_is (x ∷ xs) = ap not (eqb-suc-zero (length xs))
 
-pub answered : (P : Pattern) (s : State) (vs : Variables) (rows : List Mapping) (empty : Bool) → Solves P Default s vs rows → empty ≡ nat_eq (length rows) 0 →
-    HasSolution P s (not empty)
-answered P s vs rows empty h e d l = ap not e ∙ some_is rows ∙ some_same rows (pattern_solutions P Default d) (solved_bag P Default s vs rows h d l)
+pub answered : (P : Pattern) (s : State) (vs : Variables) (given rows : List Mapping) (empty : Bool) → Solves P Default s vs rows → given ≡ rows →
+    empty ≡ nat_eq (length given) 0 → HasSolution P s (not empty)
+answered P s vs given rows empty h eg e d l =
+    ap not e ∙ some_is given ∙ ap is_some_solution eg ∙ some_same rows (pattern_solutions P Default d) (solved_bag P Default s vs rows h d l)

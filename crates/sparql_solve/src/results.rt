@@ -96,5 +96,5 @@ pub fn ask<S: Source>(alloc: Global, pattern: &Pattern, source: &S) -> Result<bo
     ensures { IfOk result (λ answer. HasSolution pattern.now (S.contents source.now) answer) }
 {
     let found = solve(alloc, pattern, &GraphName::Default, source)?;
-    Ok(!found.rows.is_empty())
+    Ok(!found.rows.as_slice().is_empty())
 }
