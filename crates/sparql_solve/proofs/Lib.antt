@@ -1,0 +1,7 @@
+pub mod RowLemmas
+pub mod GrowthLemmas
+pub mod MatchingLemmas
+pub mod BasicLemmas
+pub mod StepLemmas
+pub mod DistinctLemmas
+pub mod ResultLemmas

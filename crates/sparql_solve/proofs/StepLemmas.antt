@@ -1,0 +1,181 @@
+-- The steps of the evaluator against the solutions of the group so far.
+use Rattle.std.proofs.Common.{◌≡◌, ℕ, ◌+◌, ◌<◌, zero, suc, Bool, true, false, cond, List, [], ◌∷◌, ◌++◌, map, filter, Option, None, refl, sym, ap, ◌∙◌, subst, length, take, drop, replicate, get_or, append_assoc, append-nil, arith, nat_eq}
+use Rattle.std.specs.List.{fold, flat_map, sum_by, list_any}
+use Rattle.std.proofs.lemmas.Bool.{eqb-true}
+use Rattle.std.proofs.lemmas.List.{take_more, drop_more}
+use Rattle.std.proofs.lemmas.List.Sums.{sum_by-append}
+use Rattle.rdf_terms.specs.declared.term.Term.{Term}
+use Rattle.rdf_terms.specs.declared.quad.GraphName.{GraphName}
+use Rattle.rdf_terms.specs.declared.quad.GraphName.TheVariants.{Named}
+use Rattle.rdf_dataset.specs.State.{State}
+use Rattle.rdf_dataset.specs.Sorted.{ListsOnce, AppendsOnce}
+use Rattle.sparql_trees.specs.declared.pattern.Member.{Member}
+use Rattle.sparql_trees.specs.declared.pattern.Member.TheVariants as m
+use Rattle.sparql_trees.specs.declared.pattern.Member.TheOpen.{Member-F, Pattern-F}
+use Rattle.sparql_trees.specs.declared.pattern.Member.TheFolds.{fold-roll-Member, fold-roll-Pattern}
+use Rattle.sparql_trees.specs.declared.pattern.Pattern.{Pattern}
+use Rattle.sparql_trees.specs.declared.pattern.VarOrIri.{VarOrIri}
+use Rattle.sparql_trees.specs.declared.pattern.VarOrIri.TheVariants as v
+use Rattle.sparql_algebra.specs.Algebra.{Algebra, empty_pattern, union, graph, Element, joined, optional, extended, element, element_in, group_in, group_of, translation, union_of}
+use Rattle.sparql_algebra.specs.Bags.{SameBag}
+use Rattle.sparql_algebra.specs.Listing.{Listing, Lists}
+use Rattle.sparql_algebra.specs.Mapping.{Variables, Mapping, same_term, single}
+use Rattle.sparql_algebra.specs.Solutions.{joins, left_joins, merges, or_alone, solutions}
+use Rattle.sparql_algebra.proofs.CallerLemmas.{SameBag-refl, SameBag-joins, SameBag-left_joins, SameBag-flat_map, names_same}
+use Rattle.sparql_solve.specs.Steps.{Gives, GivesMore, all_joins, rows_after, element_solutions, over_names, over_groups}
+use Rattle.sparql_solve.proofs.BasicLemmas.{basic_bag}
+
+-- ---- members by what they are
+
+pub translation-is : (p : Pattern) → translation p ≡ group_of (map element p.members)
+translation-is p = fold-roll-Pattern Element Algebra element_in group_in (record { members = p.members })
+
+pub element-Union : (ps : List Pattern) → element (m.Union ps) ≡ joined (union_of (map translation ps))
+element-Union ps = ap element (sym (m.rolls-Union ps)) ∙ fold-roll-Member Element Algebra element_in group_in (Member-F.Union ps)
+
+pub element-Optional : (p : Pattern) → element (m.Optional p) ≡ optional (translation p)
+element-Optional p = ap element (sym (m.rolls-Optional p)) ∙ fold-roll-Member Element Algebra element_in group_in (Member-F.Optional p)
+
+pub element-Graph : (x : VarOrIri) (p : Pattern) → element (m.Graph x p) ≡ joined (graph x (translation p))
+element-Graph x p = ap element (sym (m.rolls-Graph x p)) ∙ fold-roll-Member Element Algebra element_in group_in (Member-F.Graph x p)
+
+-- ---- LeftJoin
+
+filter_always : (xs : List Mapping) → filter (λ (_ : Mapping). true) xs ≡ xs
+filter_always [] = refl
+filter_always (x ∷ xs) = ap (λ l. x ∷ l) (filter_always xs)
+
+all_joins_is : (A B : List Mapping) → all_joins A B ≡ left_joins A B (λ _. true)
+all_joins_is [] B = refl
+all_joins_is (a ∷ A) B =
+    ap (λ l. or_alone a l ++ all_joins A B) (sym (filter_always (merges B a)))
+    ∙ ap (λ l. or_alone a (filter (λ _. true) (merges B a)) ++ l) (all_joins_is A B)
+
+pub SameBag-all_joins : (A C B D : List Mapping) → SameBag A C → SameBag B D → SameBag (all_joins A B) (left_joins C D (λ _. true))
+SameBag-all_joins A C B D h k =
+    subst (λ l. SameBag l (left_joins C D (λ _. true))) (sym (all_joins_is A B)) (SameBag-left_joins (λ _. true) A C B D h k)
+
+-- ---- the empty pattern
+
+take_own : (x : Option Term) (n : ℕ) → take n (replicate n x) ≡ replicate n x
+take_own x zero = refl
+take_own x (suc n) = ap (λ l. x ∷ l) (take_own x n)
+
+no_more : (n : ℕ) → n + 0 ≡ n
+no_more n = omega arith
+
+module _ (vs : Variables) (s : State) (g : GraphName) where
+  pub unit_gives : (rows : List Mapping) → rows ≡ replicate (length vs) None ∷ [] → Gives s rows (λ d. solutions vs d g empty_pattern)
+  unit_gives rows e d l =
+      let start : take (length vs) (replicate (length vs + 0) None) ≡ replicate (length vs) None =
+      ap (λ k. take (length vs) (replicate k None)) (no_more (length vs)) ∙ take_own None (length vs) in
+      subst (λ xs. SameBag xs (solutions vs d g empty_pattern)) (ap (λ (x : Mapping). x ∷ []) start ∙ sym e)
+      (basic_bag vs s g (record { triples = []; hidden = 0 }) (d.quads g) (d.quads g) (l.quads g) (l.quads g))
+
+  -- ---- the members of a group
+
+  extended_push : (G : Algebra) (xs : List Member) (x : Member) →
+      fold extended G (map element (xs ++ x ∷ [])) ≡ extended (fold extended G (map element xs)) (element x)
+  extended_push G [] x = refl
+  extended_push G (y ∷ xs) x = extended_push (extended G (element y)) xs x
+
+  after_one : (d : Listing) (G : Algebra) (k : Element) (rows right : List Mapping) → SameBag rows (solutions vs d g G) →
+      SameBag right (element_solutions vs d g k) → SameBag (rows_after rows right k) (solutions vs d g (extended G k))
+  after_one d G (joined A) rows right h r = SameBag-joins rows (solutions vs d g G) right (solutions vs d g A) h r
+  after_one d G (optional A) rows right h r = SameBag-all_joins rows (solutions vs d g G) right (solutions vs d g A) h r
+
+  pub members_more : (ms : List Member) (i : ℕ) (x : Member) (rows right left other out : List Mapping) → i < length ms → x ≡ get_or ms i x →
+      Gives s rows (λ d. solutions vs d g (group_of (map element (take i ms)))) → Gives s right (λ d. element_solutions vs d g (element x)) →
+      left ≡ rows → other ≡ right → out ≡ rows_after left other (element x) →
+      Gives s out (λ d. solutions vs d g (group_of (map element (take (i + 1) ms))))
+  members_more ms i x rows right left other out lt here h r el eo e d l =
+      let more : take (i + 1) ms ≡ take i ms ++ x ∷ [] = take_more ms i x lt ∙ ap (λ (y : Member). take i ms ++ y ∷ []) (sym here) in
+      let is : out ≡ rows_after rows right (element x) =
+      e ∙ ap (λ xs. rows_after xs other (element x)) el ∙ ap (λ xs. rows_after rows xs (element x)) eo in
+      let P : List Member → Type 0 = λ ps. SameBag out (solutions vs d g (group_of (map element ps))) in
+      let R : Algebra → Type 0 = λ A. SameBag out (solutions vs d g A) in
+      let Q : List Mapping → Type 0 = λ o. SameBag o (solutions vs d g (extended (group_of (map element (take i ms))) (element x))) in
+      subst P (sym more) (subst R (sym (extended_push empty_pattern (take i ms) x))
+      (subst Q (sym is) (after_one d (group_of (map element (take i ms))) (element x) rows right (h d l) (r d l))))
+
+  pub group_gives : (p : Pattern) (ms : List Member) (out : List Mapping) → ms ≡ p.members → Gives s out (λ d. solutions vs d g (group_of (map element ms))) →
+      Gives s out (λ d. solutions vs d g (translation p))
+  group_gives p ms out e h d l =
+      subst (λ A. SameBag out (solutions vs d g A)) (sym (translation-is p))
+      (subst (λ (xs : List Member). SameBag out (solutions vs d g (group_of (map element xs)))) e (h d l))
+
+  pub graph_gives : (member : Member) (name : VarOrIri) (p : Pattern) (out : List Mapping) → member ≡ m.Graph name p →
+      ((active : GraphName) → Gives s out (λ d. solutions vs d active (graph name (translation p)))) → Gives s out (λ d. element_solutions vs d g (element member))
+  graph_gives member name p out em h d l =
+      subst (λ k. SameBag out (element_solutions vs d g k)) (sym (ap element em ∙ element-Graph name p)) (h g d l)
+
+  -- ---- UNION
+
+  union_is : (d : Listing) (A : Algebra) (ps : List Pattern) → solutions vs d g (fold union A (map translation ps)) ≡ solutions vs d g A ++ over_groups vs d g ps
+  union_is d A [] = sym (append-nil (solutions vs d g A))
+  union_is d A (p ∷ ps) =
+      union_is d (union A (translation p)) ps ∙ append_assoc (solutions vs d g A) (solutions vs d g (translation p)) (over_groups vs d g ps)
+
+  pub union_gives : (ps : List Pattern) (out : List Mapping) (b : Bool) → b ≡ nat_eq (length ps) 0 → b ≡ false → Gives s out (λ d. over_groups vs d g ps) →
+      Gives s out (λ d. solutions vs d g (union_of (map translation ps)))
+  union_gives [] out b e n h = cc
+  union_gives (p ∷ ps) out b e n h = λ d l f. h d l f ∙ ap (sum_by f) (sym (union_is d (translation p) ps))
+
+  pub union_none : (ps : List Pattern) (out : List Mapping) (b : Bool) → b ≡ nat_eq (length ps) 0 → b ≡ true → out ≡ replicate (length vs) None ∷ [] →
+      Gives s out (λ d. solutions vs d g (union_of (map translation ps)))
+  union_none [] out b e n h = unit_gives out h
+  union_none (p ∷ ps) out b e n h = absurd (omega (arith, eqb-true (length (p ∷ ps)) 0 (sym e ∙ n)))
+
+-- ---- lists that come one after another
+
+module _ {X : Type 0} (s : State) (F : Listing → X → List Mapping) where
+  pub more_gives : (xs : List X) (i : ℕ) (x : X) (out rows after : List Mapping) → i < length xs → x ≡ get_or xs i x →
+      GivesMore s out (λ d. flat_map (F d) (drop i xs)) (λ d. flat_map (F d) xs) → Gives s rows (λ d. F d x) → after ≡ out ++ rows →
+      GivesMore s after (λ d. flat_map (F d) (drop (i + 1) xs)) (λ d. flat_map (F d) xs)
+  more_gives xs i x out rows after lt here h r e d l f =
+      let rest = flat_map (F d) (drop (i + 1) xs) in
+      let left = flat_map (F d) (drop i xs) in
+      let next : drop i xs ≡ x ∷ drop (i + 1) xs = drop_more xs i x lt ∙ ap (λ (y : X). y ∷ drop (i + 1) xs) (sym here) in
+      let split : sum_by f left ≡ sum_by f (F d x ++ rest) = ap (λ (ys : List X). sum_by f (flat_map (F d) ys)) next in
+      let j : sum_by f rows ≡ sum_by f (F d x) = r d l f in
+      let e1 : sum_by f (after ++ rest) ≡ sum_by f after + sum_by f rest = sum_by-append f after rest in
+      let e2 : sum_by f after ≡ sum_by f (out ++ rows) = ap (sum_by f) e in
+      let e3 : sum_by f (out ++ rows) ≡ sum_by f out + sum_by f rows = sum_by-append f out rows in
+      let e5 : sum_by f (F d x ++ rest) ≡ sum_by f (F d x) + sum_by f rest = sum_by-append f (F d x) rest in
+      let e6 : sum_by f (out ++ left) ≡ sum_by f out + sum_by f left = sum_by-append f out left in
+      let e7 : sum_by f (out ++ left) ≡ sum_by f (flat_map (F d) xs) = h d l f in
+      omega (arith, j, split, e1, e2, e3, e5, e6, e7)
+
+-- ---- GRAPH
+
+module _ (vs : Variables) (s : State) where
+  pub joined_gives : (A : Algebra) (g : GraphName) (n : Term) (one rows found left : List Mapping) → g ≡ Named n →
+      Gives s rows (λ d. solutions vs d g A) → left ≡ rows → found ≡ joins left one → Gives s found (λ d. joins (solutions vs d (Named n) A) one)
+  joined_gives A g n one rows found left eg h el e d l =
+      let r : SameBag rows (solutions vs d (Named n) A) = subst (λ k. SameBag rows (solutions vs d k A)) eg (h d l) in
+      subst (λ xs. SameBag xs (joins (solutions vs d (Named n) A) one)) (sym (e ∙ ap (λ xs. joins xs one) el))
+      (SameBag-joins rows (solutions vs d (Named n) A) one one r (SameBag-refl one))
+
+  pub all_names_give : (x : List ℕ) (A : Algebra) (found given : List Term) (out : List Mapping) → ListsOnce s.names found → given ≡ found →
+      Gives s out (λ d. over_names vs d x A given) → Gives s out (λ d. over_names vs d x A d.names)
+  all_names_give x A found given out once e h d l f =
+      let F : Term → List Mapping = λ n. joins (solutions vs d (Named n) A) (single vs x n ∷ []) in
+      h d l f ∙ ap (λ (ns : List Term). sum_by f (flat_map F ns)) e
+      ∙ SameBag-flat_map F F found d.names (names_same s found d.names once l.names) (λ n. SameBag-refl (F n)) f
+
+  pub there_gives : (A : Algebra) (n : Term) (g : GraphName) (out : List Mapping) (b : Bool) →
+      ((d : Listing) → Lists s d → b ≡ list_any (same_term n) d.names) → b ≡ true → g ≡ Named n → Gives s out (λ d. solutions vs d g A) →
+      Gives s out (λ d. cond (list_any (same_term n) d.names) (solutions vs d (Named n) A) [])
+  there_gives A n g out b there e eg h d l =
+      subst (λ t. SameBag out (cond t (solutions vs d (Named n) A) [])) (sym e ∙ there d l)
+      (subst (λ k. SameBag out (solutions vs d k A)) eg (h d l))
+
+  pub absent_gives : (A : Algebra) (n : Term) (out : List Mapping) (b : Bool) → ((d : Listing) → Lists s d → b ≡ list_any (same_term n) d.names) →
+      b ≡ false → out ≡ [] → Gives s out (λ d. cond (list_any (same_term n) d.names) (solutions vs d (Named n) A) [])
+  absent_gives A n out b there e none d l =
+      subst (λ t. SameBag out (cond t (solutions vs d (Named n) A) [])) (sym e ∙ there d l) (subst (λ xs. SameBag xs []) (sym none) (SameBag-refl []))
+
+  pub variable_gives : (name : VarOrIri) (x : List ℕ) (p : Pattern) (out : List Mapping) → name ≡ v.Variable x →
+      Gives s out (λ d. over_names vs d x (translation p) d.names) → (active : GraphName) → Gives s out (λ d. solutions vs d active (graph name (translation p)))
+  variable_gives name x p out en h active d l =
+      subst (λ (n : VarOrIri). SameBag out (solutions vs d active (graph n (translation p)))) (sym en) (h d l)

@@ -1,0 +1,15 @@
+use Rattle.sparql_solve.proofs.DistinctLemmas.{kept_sorted, ordered_once, ordered_all}
+use Rattle.sparql_solve.proofs.order.ordered.Goals as goal
+
+pub returns-then-distinct : goal.returns-then-distinct
+returns-then-distinct c = record {
+  sorted = kept_sorted c.sort_rows.new.rows.items c.without_repeats.result.items c.in_ok-sort_rows.ensures.sorted c.without_repeats.ensures;
+  counted = ordered_once c.args.rows.items c.sort_rows.new.rows.items c.without_repeats.result.items c.args.distinct c.in_ok-sort_rows.ensures.permutation
+      c.in_ok-sort_rows.ensures.sorted c.without_repeats.ensures c.if-distinct.true;
+}
+
+pub returns : goal.returns
+returns c = record {
+  sorted = c.in_ok-sort_rows.ensures.sorted;
+  counted = ordered_all c.args.rows.items c.sort_rows.new.rows.items c.args.distinct c.in_ok-sort_rows.ensures.permutation c.if-distinct.false;
+}

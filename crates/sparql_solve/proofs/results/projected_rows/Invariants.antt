@@ -1,0 +1,7 @@
+use Rattle.std.proofs.Common.{◌≡◌, ◌++◌, drop, map}
+use Rattle.sparql_algebra.specs.Mapping.{Mapping, value_in}
+use Rattle.sparql_solve.proofs.results.projected_rows.Given as goal
+
+abbrev pub invariant-loop-row : goal.invariant-loop-row
+invariant-loop-row l =
+    l.out.items ++ map (λ (m : Mapping). map (value_in m) l.columns) (drop l.row-index l.rows) ≡ map (λ (m : Mapping). map (value_in m) l.columns) l.rows

@@ -1,0 +1,67 @@
+-- How the plain evaluator matches a basic graph pattern: one triple pattern after another.
+use Rattle.std.specs.Prelude.{ℕ, ◌+◌, cond, List, length, Option, Some, None, slice_get, slice_set, option_and_then}
+use Rattle.std.specs.List.{fold, filter_map, flat_map}
+use Rattle.rdf_terms.specs.Quad.{QuadParts}
+use Rattle.rdf_terms.specs.declared.term.Term.{Term}
+use Rattle.sparql_trees.specs.declared.pattern.TriplePattern.{TriplePattern}
+use Rattle.sparql_trees.specs.declared.pattern.VarOrTerm.{VarOrTerm}
+use Rattle.sparql_trees.specs.declared.pattern.VarOrTerm.TheVariants as x
+use Rattle.sparql_algebra.specs.Mapping.{Variables, Mapping, same_term, column}
+use Rattle.sparql_algebra.specs.Solutions.{var_or_term}
+use Rattle.sparql_solve.specs.declared.place.Place.{Place}
+use Rattle.sparql_solve.specs.declared.place.Place.TheVariants.{Fixed, Column, Nowhere}
+use Rattle.sparql_solve.specs.declared.place.Places.{Places}
+
+abbrev pub place_by : Option ℕ → Place
+place_by None = Nowhere
+place_by (Some c) = Column c
+
+-- where a variable, a hidden variable or a term gets its value, the variables standing in this order before the hidden ones
+abbrev pub place_of : Variables → VarOrTerm → Place
+place_of vs (x.Variable name) = place_by (column vs name)
+place_of vs (x.Hidden number) = Column (length vs + number)
+place_of vs (x.Term t) = Fixed t
+
+abbrev pub places_of : Variables → TriplePattern → Places
+places_of vs p = record {
+  subject = place_of vs p.subject;
+  predicate = place_of vs (var_or_term p.predicate);
+  object = place_of vs p.object;
+}
+
+abbrev pub assigned_at : Mapping → ℕ → Term → Option (Option Term) → Option Mapping
+assigned_at m c u (Some (Some t)) = cond (same_term t u) (Some m) None
+assigned_at m c u (Some None) = Some (slice_set m c (Some u))
+assigned_at m c u None = None
+
+abbrev pub vacant_at : ℕ → Option (Option Term) → Option ℕ
+vacant_at c (Some (Some t)) = None
+vacant_at c (Some None) = Some c
+vacant_at c None = None
+
+-- the column of the place, where it has nothing
+abbrev pub vacant : Mapping → Place → Option ℕ
+vacant m (Fixed t) = None
+vacant m (Column c) = vacant_at c (slice_get m c)
+vacant m Nowhere = None
+
+-- the mapping with this term at the place, where no other one stands there
+abbrev pub assigned : Mapping → Place → Term → Option Mapping
+assigned m (Fixed t) u = cond (same_term t u) (Some m) None
+assigned m (Column c) u = assigned_at m c u (slice_get m c)
+assigned m Nowhere u = None
+
+-- the mapping with what a triple pattern binds, where it has this triple as its instance
+abbrev pub matched : Places → Mapping → QuadParts → Option Mapping
+matched p m q =
+    option_and_then (λ k. option_and_then (λ l. assigned l p.object q.object) (assigned k p.subject q.subject))
+    (assigned m p.predicate q.predicate)
+
+abbrev pub matches_of : List QuadParts → Places → Mapping → List Mapping
+matches_of quads p m = filter_map (matched p m) quads
+
+abbrev pub stepped : List QuadParts → List Mapping → Places → List Mapping
+stepped quads ms p = flat_map (matches_of quads p) ms
+
+abbrev pub matching : Variables → List QuadParts → List TriplePattern → List Mapping → List Mapping
+matching vs quads ps ms = fold (λ ns p. stepped quads ns (places_of vs p)) ms ps

@@ -1,0 +1,252 @@
+//! The plain evaluator: whole lists of rows, joined pair by pair (SPARQL 1.1 Query, section 18.6).
+ghost use Rattle.std.specs.Prelude.{◌≡◌, ◌++◌, ◌∷◌, [], IfOk, OnOk, map, replicate, length, None, cond};
+ghost use Rattle.std.specs.List.{list_any};
+ghost use Rattle.rdf_terms.specs.declared.quad.GraphName.TheVariants.{Named};
+ghost use Rattle.rdf_terms.specs.declared.quad.GraphName.{GraphName};
+ghost use Rattle.rdf_dataset.specs.Sorted.{ListsOnce};
+ghost use Rattle.sparql_algebra.specs.Algebra.{element, graph, group_of, translation, union_of};
+ghost use Rattle.sparql_algebra.specs.Listing.{Listing, Lists};
+ghost use Rattle.sparql_algebra.specs.Mapping.{same_term, single};
+ghost use Rattle.sparql_algebra.specs.Solutions.{joins, solutions};
+ghost use Rattle.sparql_solve.specs.Steps.{Gives, rows_after, element_solutions, over_names, over_groups};
+
+use crate::joins::{join, left_join};
+use crate::matching::basic_rows;
+use crate::rows::Row;
+use rdf_dataset::Source;
+use rdf_terms::{GraphName, NoMemory, Term, Text};
+use sparql_trees::{Member, Pattern, VarOrIri};
+use std::alloc::Global;
+
+// The solution of the empty pattern: the row that binds nothing.
+fn unit_rows(alloc: Global, variables: &[Text]) -> Result<Vec<Row>, NoMemory>
+    ensures { IfOk result (λ out. out.items ≡ replicate (length variables.now) None ∷ []) }
+{
+    let mut rows = Vec::new(alloc);
+    rows.push(Row::empty(alloc, variables.len(), 0)?)?;
+    Ok(rows)
+}
+
+// The names of the graphs.
+fn graph_names<S: Source>(alloc: Global, source: &S) -> Result<Vec<Term>, NoMemory>
+    ensures { IfOk result
+        (λ names. ListsOnce (S.contents source.now).names names.items) }
+{
+    let mut names = Vec::new(alloc);
+    source.names(&mut names)?;
+    Ok(names)
+}
+
+// The rows after a member of the group, whose own rows are the right ones.
+fn rows_after(
+    alloc: Global,
+    rows: &[Row],
+    right: &[Row],
+    member: &Member,
+) -> Result<Vec<Row>, NoMemory>
+    ensures { IfOk result (λ out. out.items ≡ rows_after rows.now right.now (element member.now)) }
+{
+    match member {
+        Member::Optional(_) => left_join(alloc, rows, right),
+        _ => join(alloc, rows, right),
+    }
+}
+
+// Adds the rows joined with the one that binds a variable to a name.
+fn push_bound_rows(
+    alloc: Global,
+    rows: &[Row],
+    variables: &[Text],
+    variable: &Text,
+    name: &Term,
+    out: &mut Vec<Row>,
+) -> Result<(), NoMemory>
+    ensures { OnOk result (out.new.items ≡ out.old.items ++ joins rows.now
+        (single variables.now variable.now name.now ∷ [])) }
+{
+    let bound = [Row::single(alloc, variables, variable, name)?];
+    let mut found = join(alloc, rows, &bound)?;
+    out.append(&mut found)?;
+    Ok(())
+}
+
+// Whether a graph has the name.
+fn is_named<S: Source>(source: &S, name: &Term) -> bool
+    ensures { (d : Listing) → Lists (S.contents source.now) d →
+        result ≡ list_any (same_term name.now) d.names }
+{
+    source.has_name(name)
+}
+
+/// The solutions of a group in a graph.
+#[cycle(evaluate)]
+pub(crate) fn group_rows<S: Source>(
+    alloc: Global,
+    variables: &[Text],
+    graph: &GraphName,
+    source: &S,
+    pattern: &Pattern,
+) -> Result<Vec<Row>, NoMemory>
+    ensures { IfOk result (λ out. Gives (S.contents source.now) out.items
+        (λ d. solutions variables.now d graph.now (translation pattern.now))) }
+{
+    member_list_rows(alloc, variables, graph, source, pattern.members.as_slice())
+}
+
+// The solutions of the members, from left to right.
+#[cycle(evaluate)]
+fn member_list_rows<S: Source>(
+    alloc: Global,
+    variables: &[Text],
+    graph: &GraphName,
+    source: &S,
+    members: &[Member],
+) -> Result<Vec<Row>, NoMemory>
+    ensures { IfOk result (λ out. Gives (S.contents source.now) out.items
+        (λ d. solutions variables.now d graph.now (group_of (map element members.now)))) }
+{
+    let mut rows = unit_rows(alloc, variables)?;
+    for member in members {
+        let right = member_rows(alloc, variables, graph, source, member)?;
+        rows = rows_after(alloc, &rows, &right, member)?;
+    }
+    Ok(rows)
+}
+
+// The solutions of each group, one after another.
+#[cycle(evaluate)]
+fn group_list_rows<S: Source>(
+    alloc: Global,
+    variables: &[Text],
+    graph: &GraphName,
+    source: &S,
+    groups: &[Pattern],
+) -> Result<Vec<Row>, NoMemory>
+    ensures { IfOk result (λ out. Gives (S.contents source.now) out.items
+        (λ d. over_groups variables.now d graph.now groups.now)) }
+{
+    let mut out = Vec::new(alloc);
+    for group in groups {
+        let mut found = group_rows(alloc, variables, graph, source, group)?;
+        out.append(&mut found)?;
+    }
+    Ok(out)
+}
+
+// The solutions of groups with UNION between them, or of one alone.
+#[cycle(evaluate)]
+fn union_rows<S: Source>(
+    alloc: Global,
+    variables: &[Text],
+    graph: &GraphName,
+    source: &S,
+    groups: &[Pattern],
+) -> Result<Vec<Row>, NoMemory>
+    ensures { IfOk result (λ out. Gives (S.contents source.now) out.items
+        (λ d. solutions variables.now d graph.now (union_of (map translation groups.now)))) }
+{
+    if groups.is_empty() {
+        return unit_rows(alloc, variables);
+    }
+    group_list_rows(alloc, variables, graph, source, groups)
+}
+
+// The solutions of GRAPH with an IRI: none where no graph has that name.
+#[cycle(evaluate)]
+fn named_graph_rows<S: Source>(
+    alloc: Global,
+    variables: &[Text],
+    name: Term,
+    source: &S,
+    pattern: &Pattern,
+) -> Result<Vec<Row>, NoMemory>
+    ensures { IfOk result (λ out. Gives (S.contents source.now) out.items
+        (λ d. cond (list_any (same_term name) d.names)
+        (solutions variables.now d (Named name) (translation pattern.now)) [])) }
+{
+    if !is_named(source, &name) {
+        return Ok(Vec::new(alloc));
+    }
+    let graph = GraphName::Named(name);
+    group_rows(alloc, variables, &graph, source, pattern)
+}
+
+// The solutions in the graphs of these names, the variable bound to the name.
+#[cycle(evaluate)]
+fn each_graph_rows<S: Source>(
+    alloc: Global,
+    variables: &[Text],
+    variable: &Text,
+    names: &[Term],
+    source: &S,
+    pattern: &Pattern,
+) -> Result<Vec<Row>, NoMemory>
+    ensures { IfOk result (λ out. Gives (S.contents source.now) out.items
+        (λ d. over_names variables.now d variable.now (translation pattern.now) names.now)) }
+{
+    let mut out = Vec::new(alloc);
+    for name in names {
+        let graph = GraphName::Named(name.copy()?);
+        let rows = group_rows(alloc, variables, &graph, source, pattern)?;
+        push_bound_rows(alloc, &rows, variables, variable, name, &mut out)?;
+    }
+    Ok(out)
+}
+
+// The solutions of GRAPH with a variable: those in all named graphs.
+#[cycle(evaluate)]
+fn all_graph_rows<S: Source>(
+    alloc: Global,
+    variables: &[Text],
+    variable: &Text,
+    source: &S,
+    pattern: &Pattern,
+) -> Result<Vec<Row>, NoMemory>
+    ensures { IfOk result (λ out. Gives (S.contents source.now) out.items
+        (λ d. over_names variables.now d variable.now (translation pattern.now) d.names)) }
+{
+    let names = graph_names(alloc, source)?;
+    each_graph_rows(alloc, variables, variable, &names, source, pattern)
+}
+
+// The solutions of GRAPH, whichever graph is the active one.
+#[cycle(evaluate)]
+fn graph_rows<S: Source>(
+    alloc: Global,
+    variables: &[Text],
+    name: &VarOrIri,
+    source: &S,
+    pattern: &Pattern,
+) -> Result<Vec<Row>, NoMemory>
+    ensures { IfOk result (λ out. (active : GraphName) → Gives (S.contents source.now) out.items
+        (λ d. solutions variables.now d active (graph name.now (translation pattern.now)))) }
+{
+    match name {
+        VarOrIri::Iri(iri) => {
+            named_graph_rows(alloc, variables, Term::Iri(iri.copy()?), source, pattern)
+        }
+        VarOrIri::Variable(variable) => {
+            all_graph_rows(alloc, variables, variable, source, pattern)
+        }
+    }
+}
+
+// The solutions of a member alone.
+#[cycle(evaluate)]
+fn member_rows<S: Source>(
+    alloc: Global,
+    variables: &[Text],
+    graph: &GraphName,
+    source: &S,
+    member: &Member,
+) -> Result<Vec<Row>, NoMemory>
+    ensures { IfOk result (λ out. Gives (S.contents source.now) out.items
+        (λ d. element_solutions variables.now d graph.now (element member.now))) }
+{
+    match member {
+        Member::Basic(basic) => basic_rows(alloc, variables, graph, source, basic),
+        Member::Union(groups) => union_rows(alloc, variables, graph, source, groups.as_slice()),
+        Member::Optional(pattern) => group_rows(alloc, variables, graph, source, pattern),
+        Member::Graph(name, pattern) => graph_rows(alloc, variables, name, source, pattern),
+    }
+}

@@ -1,0 +1,14 @@
+//! The solutions of patterns over a dataset, and the results of queries (SPARQL 1.1 Query, sections
+//! 16 and 18).
+#![tactic(auto)]
+
+mod evaluator;
+mod joins;
+mod matching;
+mod order;
+mod place;
+mod rows;
+mod results;
+
+pub use rows::Row;
+pub use results::{Solutions, ask, select, solve};

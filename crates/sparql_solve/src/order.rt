@@ -1,0 +1,39 @@
+//! Rows in order, and each once.
+ghost use Rattle.std.specs.Prelude.{◌≡◌, IfOk, OnOk, IsPermutation, IsSorted, count_by};
+ghost use Rattle.std.specs.List.{dedup};
+ghost use Rattle.std.specs.Ordering.{eq_by_cmp};
+ghost use Rattle.sparql_algebra.specs.Mapping.{Mapping, same_mapping};
+ghost use Rattle.sparql_algebra.specs.Order.{mapping_cmp};
+ghost use Rattle.sparql_algebra.specs.Results.{times_selected};
+
+use crate::rows::Row;
+use rdf_terms::NoMemory;
+
+fn sort_rows(rows: &mut Vec<Row>) -> Result<(), NoMemory>
+    ensures permutation { OnOk result (IsPermutation rows.old.items rows.new.items) }
+    ensures sorted { OnOk result (IsSorted mapping_cmp rows.new.items) }
+{
+    rows.sort_by(|left, right| left.compare(right))?;
+    Ok(())
+}
+
+// Rows that are the same as the one before them are left out.
+fn without_repeats(mut rows: Vec<Row>) -> Vec<Row>
+    ensures { result.items ≡ dedup (eq_by_cmp mapping_cmp) rows.items }
+{
+    rows.dedup_by(|row, before| row.compare(before).is_eq());
+    rows
+}
+
+/// The rows sorted by their values from the left, unbound first; under DISTINCT each once.
+pub(crate) fn ordered(mut rows: Vec<Row>, distinct: bool) -> Result<Vec<Row>, NoMemory>
+    ensures sorted { IfOk result (λ out. IsSorted mapping_cmp out.items) }
+    ensures counted { IfOk result (λ out. (m : Mapping) → count_by (same_mapping m) out.items
+        ≡ times_selected distinct (count_by (same_mapping m) rows.items)) }
+{
+    sort_rows(&mut rows)?;
+    if distinct {
+        return Ok(without_repeats(rows));
+    }
+    Ok(rows)
+}

@@ -1,0 +1,260 @@
+//! Rows: mappings over the columns of a pattern (SPARQL 1.1 Query, section 18.1.4).
+ghost use Rattle.std.specs.Prelude.{◌≡◌, ◌+◌, ◌<◌, length, is_some, slice_get, slice_set, Some, IfOk, replicate, None, take, if◌then◌else◌, nat_lt, map};
+ghost use Rattle.sparql_algebra.specs.Mapping.{agrees, first_of, compatible, merge, same_term, single, value_at, value_in};
+ghost use Rattle.sparql_algebra.specs.Order.{mapping_cmp};
+ghost use Rattle.sparql_solve.specs.Matching.{assigned, vacant};
+
+use crate::place::{Place, column};
+use rdf_terms::{NoMemory, Term, Text};
+use std::alloc::Global;
+use std::cmp::Ordering;
+use std::marker::Model;
+
+/// A mapping: at each variable's column its term, or nothing.
+#[derive(Drop)]
+pub struct Row {
+    values: Vec<Option<Term>>,
+}
+
+impl Model for Row {
+    ghost use Rattle.std.specs.Prelude.{List, Option};
+    ghost use Rattle.rdf_terms.specs.declared.term.Term.{Term};
+
+    ghost Value = { List (Option Term) };
+
+    ghost view = { λ r. r.values.items };
+}
+
+fn is_same(a: &Term, b: &Term) -> bool
+    ensures { result ≡ same_term a.now b.now }
+{
+    a.cmp(b).is_eq()
+}
+
+// Whether two values aren't two different terms.
+fn agree(x: &Option<Term>, y: &Option<Term>) -> bool
+    ensures { result ≡ agrees (x.now, y.now) }
+{
+    match (x, y) {
+        (Some(s), Some(t)) => is_same(s, t),
+        _ => true,
+    }
+}
+
+fn copy_value(value: &Option<Term>) -> Result<Option<Term>, NoMemory>
+    ensures { IfOk result (λ copy. copy ≡ value.now) }
+{
+    Ok(match value {
+        Some(term) => Some(term.copy()?),
+        None => None,
+    })
+}
+
+fn first_of(x: &Option<Term>, y: &Option<Term>) -> Result<Option<Term>, NoMemory>
+    ensures { IfOk result (λ value. value ≡ first_of (x.now, y.now)) }
+{
+    copy_value(if x.is_some() { x } else { y })
+}
+
+impl Row {
+    /// Its values in the order of the columns.
+    pub fn values(&self) -> &[Option<Term>]
+        ensures { result.now ≡ self.now }
+    {
+        self.values.as_slice()
+    }
+
+    pub(crate) fn is_compatible(&self, other: &Row) -> bool
+        ensures { result ≡ compatible self.now other.now }
+    {
+        self.values
+            .iter()
+            .zip(&other.values)
+            .all(|(x, y)| agree(x, y))
+    }
+
+    pub(crate) fn merged(&self, alloc: Global, other: &Row) -> Result<Row, NoMemory>
+        ensures { IfOk result (λ row. row ≡ merge self.now other.now) }
+    {
+        let mut values = Vec::new(alloc);
+        for (x, y) in self.values.iter().zip(&other.values) {
+            values.push(first_of(x, y)?)?;
+        }
+        Ok(Row { values })
+    }
+
+    pub(crate) fn copy(&self, alloc: Global) -> Result<Row, NoMemory>
+        ensures { IfOk result (λ row. row ≡ self.now) }
+    {
+        let mut values = Vec::new(alloc);
+        for value in &self.values {
+            values.push(copy_value(value)?)?;
+        }
+        Ok(Row { values })
+    }
+
+    /// The row of so many columns, with nothing in each.
+    pub(crate) fn empty(alloc: Global, visible: usize, hidden: u64) -> Result<Row, NoMemory>
+        ensures { IfOk result (λ row. row ≡ replicate (visible + hidden) None) }
+    {
+        let mut values = Vec::new(alloc);
+        for _column in 0..visible as u128 + u128::from(hidden) {
+            values.push(None)?;
+        }
+        Ok(Row { values })
+    }
+
+    /// The row that binds one variable alone to a term; nothing where it has no column.
+    pub(crate) fn single(
+        alloc: Global,
+        variables: &[Text],
+        name: &Text,
+        term: &Term,
+    ) -> Result<Row, NoMemory>
+        ensures { IfOk result (λ row. row ≡ single variables.now name.now term.now) }
+    {
+        let row = Row::empty(alloc, variables.len(), 0)?;
+        Ok(match column(variables, name) {
+            Some(column) => row.with(column, term.copy()?),
+            None => row,
+        })
+    }
+
+    // The row with the term at the column, if it has that.
+    fn with(mut self, column: usize, term: Term) -> Row
+        ensures { result ≡ slice_set self column (Some term) }
+    {
+        if let Some(value) = self.values.get_mut(column) {
+            let _ = value.replace(term);
+        }
+        self
+    }
+
+    // The place of a column in the row.
+    fn index(&self, column: u128) -> Option<usize>
+        ensures { result ≡ (if nat_lt column (length self.now) then Some column else None) }
+    {
+        if column < self.values.len() as u128 {
+            Some(column as usize)
+        } else {
+            None
+        }
+    }
+
+    // The column of the place, where it has nothing.
+    fn vacant(&self, place: &Place) -> Option<usize>
+        ensures { result ≡ vacant self.now place.now }
+    {
+        let Place::Column(column) = place else {
+            return None;
+        };
+        let index = self.index(*column)?;
+        if self.values[index].is_none() {
+            Some(index)
+        } else {
+            None
+        }
+    }
+
+    // Whether the place may have the term: it has it, or nothing.
+    fn admits(&self, place: &Place, term: &Term) -> bool
+        ensures { result ≡ is_some (assigned self.now place.now term.now) }
+    {
+        match place {
+            Place::Fixed(fixed) => is_same(fixed, term),
+            Place::Column(column) => match self.index(*column) {
+                Some(index) => match &self.values[index] {
+                    Some(held) => is_same(held, term),
+                    None => true,
+                },
+                None => false,
+            },
+            Place::Nowhere => false,
+        }
+    }
+
+    /// The row with the term at the place; nothing where another term stands there, or the place
+    /// has no column.
+    pub(crate) fn assigned(
+        mut self,
+        place: &Place,
+        term: &Term,
+    ) -> Result<Option<Row>, NoMemory>
+        ensures { IfOk result (λ row. row ≡ assigned self place.now term.now) }
+    {
+        Ok(match self.vacant(place) {
+            Some(column) => Some(self.with(column, term.copy()?)),
+            None => if self.admits(place, term) {
+                Some(self)
+            } else {
+                None
+            },
+        })
+    }
+
+    /// A copy of the row with the term at the place; nothing as with `assigned`.
+    pub(crate) fn grown(
+        &self,
+        alloc: Global,
+        place: &Place,
+        term: &Term,
+    ) -> Result<Option<Row>, NoMemory>
+        ensures { IfOk result (λ row. row ≡ assigned self.now place.now term.now) }
+    {
+        if self.admits(place, term) {
+            self.copy(alloc)?.assigned(place, term)
+        } else {
+            Ok(None)
+        }
+    }
+
+    /// The first columns alone.
+    pub(crate) fn cut(mut self, columns: usize) -> Row
+        ensures { result ≡ take columns self }
+    {
+        self.values.truncate(columns);
+        self
+    }
+
+    // A copy of what stands at the column.
+    fn value_at(&self, column: usize) -> Result<Option<Term>, NoMemory>
+        ensures { IfOk result (λ value. value ≡ value_at self.now column) }
+    {
+        if column < self.values.len() {
+            copy_value(&self.values[column])
+        } else {
+            Ok(None)
+        }
+    }
+
+    fn value_in(&self, column: Option<usize>) -> Result<Option<Term>, NoMemory>
+        ensures { IfOk result (λ value. value ≡ value_in self.now column) }
+    {
+        match column {
+            Some(column) => self.value_at(column),
+            None => Ok(None),
+        }
+    }
+
+    /// The row of these columns; one that isn't there is unbound.
+    pub(crate) fn projected(
+        &self,
+        alloc: Global,
+        columns: &[Option<usize>],
+    ) -> Result<Row, NoMemory>
+        ensures { IfOk result (λ row. row ≡ map (value_in self.now) columns.now) }
+    {
+        let mut values = Vec::new(alloc);
+        for column in columns {
+            values.push(self.value_in(*column)?)?;
+        }
+        Ok(Row { values })
+    }
+
+    /// By the values from the left, unbound first.
+    pub(crate) fn compare(&self, other: &Row) -> Ordering
+        ensures { result ≡ mapping_cmp self.now other.now }
+    {
+        self.values.cmp(&other.values)
+    }
+}
