@@ -4,10 +4,11 @@ ghost use Rattle.rdf_terms.specs.Below.{IsQuadBelow};
 
 use rdf_dataset::{Dataset, Staged};
 use rdf_terms::{GraphName, Iri, Items, Literal, Quad, Term, Text};
-use sparql_eval::apply;
-use sparql_solve::{ask, select, solve};
-use sparql_trees::{BasicGraphPattern, Data, Member, Operation, Pattern, Request, Select};
-use sparql_trees::{TriplePattern, VarOrIri, VarOrTerm};
+use sparql_eval::{apply, ask, select, solve};
+use sparql_trees::{
+    BasicGraphPattern, Data, Member, Operation, Pattern, Request, Select, TriplePattern, VarOrIri,
+    VarOrTerm,
+};
 use std::alloc::Global;
 
 fn iri(alloc: Global, text: &str) -> Option<Iri> {
@@ -63,7 +64,10 @@ fn facts(alloc: Global, predicate: &str, hidden: bool) -> Option<Pattern> {
         })
         .ok()?;
     let hidden = if hidden { 1 } else { 0 };
-    group(alloc, Some(Member::Basic(BasicGraphPattern { triples, hidden })))
+    group(
+        alloc,
+        Some(Member::Basic(BasicGraphPattern { triples, hidden })),
+    )
 }
 
 fn group(alloc: Global, member: Option<Member>) -> Option<Pattern> {
