@@ -1,4 +1,5 @@
-//! What requests of SPARQL 1.1 Update do to a dataset (SPARQL 1.1 Update, sections 3 and 4).
+//! What requests of SPARQL 1.1 Update do to a dataset (SPARQL 1.1 Update, sections 3 and 4), and what
+//! queries find there (SPARQL 1.1 Query, sections 16 and 18).
 #![tactic(auto)]
 
 mod fault;
@@ -14,3 +15,4 @@ pub use laws::{
     silent_changes_nothing,
 };
 pub use request::apply;
+pub use sparql_solve::{Row, Solutions, ask, select, solve};

@@ -1,5 +1,5 @@
 -- The rows of a basic graph pattern are its solutions.
-use Rattle.std.proofs.Common.{◌≡◌, ℕ, ◌+◌, ◌≤◌, zero, suc, Bool, true, false, cond, ◌&&◌, List, [], ◌∷◌, ◌++◌, map, Option, Some, None, refl, sym, ap, ◌∙◌, arith, is_some, replicate, take, length, subst}
+use Rattle.std.proofs.Common.{◌≡◌, ℕ, ◌+◌, ◌≤◌, zero, suc, Bool, true, false, ◌&&◌, List, [], ◌∷◌, ◌++◌, map, Option, Some, None, refl, sym, ap, ◌∙◌, arith, is_some, replicate, take, length, subst}
 use Rattle.std.specs.List.{count_by, list_any, list_all}
 use Rattle.rdf_terms.specs.Quad.{QuadParts}
 use Rattle.rdf_terms.specs.declared.term.Term.{Term}
@@ -9,7 +9,7 @@ use Rattle.rdf_dataset.specs.Sorted.{ListsOnce, AppendsOnce}
 use Rattle.sparql_trees.specs.declared.pattern.TriplePattern.{TriplePattern}
 use Rattle.sparql_trees.specs.declared.pattern.BasicGraphPattern.{BasicGraphPattern}
 use Rattle.sparql_algebra.specs.Mapping.{Variables, Mapping, same_mapping}
-use Rattle.sparql_algebra.specs.Listing.{Listing, Lists, graph_quads}
+use Rattle.sparql_algebra.specs.Listing.{graph_quads}
 use Rattle.sparql_algebra.specs.Bags.{SameBag}
 use Rattle.sparql_algebra.specs.Solutions.{var_or_term, term_at, occurs, is_triple, holds, instance_lies, binds_exactly, same_bool, solves, assignments, basic_solutions}
 use Rattle.sparql_algebra.proofs.CallerLemmas.{one, sums_from_counts, and_swap, same_mapping_is, same_mapping_own, SameBag-map, has_length, assignments_count, triple_listed, triple_once}

@@ -1,7 +1,7 @@
 -- Sorted rows of which each stands once.
 use Rattle.std.proofs.Common.{◌≡◌, ℕ, zero, suc, ◌+◌, ◌<◌, ◌≤◌, Bool, true, false, cond, not, ◌&&◌, List, [], ◌∷◌, length, get_or, refl, sym, ap, ◌∙◌, arith, subst}
 use mathlib.Core.Bool.{true≢false}
-use Rattle.std.specs.List.{sum_by, count_by, list_all, dedup, dedup_from}
+use Rattle.std.specs.List.{count_by, list_all, dedup, dedup_from}
 use Rattle.std.specs.List.Sorted.{IsSorted, IsPermutation}
 use Rattle.std.specs.Ordering.{is_lt, is_eq, eq_by_cmp}
 use Rattle.std.specs.Cmp.{Equal-is, tied_itself}
@@ -11,7 +11,7 @@ use Rattle.sparql_algebra.specs.Bags.{once_if_any}
 use Rattle.sparql_algebra.specs.Mapping.{Mapping, same_mapping}
 use Rattle.sparql_algebra.specs.Order.{mapping_cmp}
 use Rattle.sparql_algebra.specs.Results.{times_selected}
-use Rattle.sparql_algebra.proofs.CallerLemmas.{one, and_left, and_right, same_mapping_is, same_mapping_own, mapping_total, mapping_ranks, neither_less, mapping_cmp-IsAntisymmetric}
+use Rattle.sparql_algebra.proofs.CallerLemmas.{one, and_left, and_right, same_mapping_is, mapping_total, mapping_ranks, neither_less, mapping_cmp-IsAntisymmetric}
 
 abbrev less : Mapping → Mapping → Bool
 less a b = is_lt (mapping_cmp a b)

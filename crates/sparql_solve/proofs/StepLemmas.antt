@@ -8,10 +8,10 @@ use Rattle.rdf_terms.specs.declared.term.Term.{Term}
 use Rattle.rdf_terms.specs.declared.quad.GraphName.{GraphName}
 use Rattle.rdf_terms.specs.declared.quad.GraphName.TheVariants.{Named}
 use Rattle.rdf_dataset.specs.State.{State}
-use Rattle.rdf_dataset.specs.Sorted.{ListsOnce, AppendsOnce}
+use Rattle.rdf_dataset.specs.Sorted.{ListsOnce}
 use Rattle.sparql_trees.specs.declared.pattern.Member.{Member}
 use Rattle.sparql_trees.specs.declared.pattern.Member.TheVariants as m
-use Rattle.sparql_trees.specs.declared.pattern.Member.TheOpen.{Member-F, Pattern-F}
+use Rattle.sparql_trees.specs.declared.pattern.Member.TheOpen.{Member-F}
 use Rattle.sparql_trees.specs.declared.pattern.Member.TheFolds.{fold-roll-Member, fold-roll-Pattern}
 use Rattle.sparql_trees.specs.declared.pattern.Pattern.{Pattern}
 use Rattle.sparql_trees.specs.declared.pattern.VarOrIri.{VarOrIri}

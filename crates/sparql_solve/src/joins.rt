@@ -43,11 +43,7 @@ fn or_alone(alloc: Global, row: &Row, mut merged: Vec<Row>) -> Result<Vec<Row>, 
 }
 
 /// LeftJoin: the merges of all compatible pairs, and each left row that has none.
-pub(crate) fn left_join(
-    alloc: Global,
-    left: &[Row],
-    right: &[Row],
-) -> Result<Vec<Row>, NoMemory>
+pub(crate) fn left_join(alloc: Global, left: &[Row], right: &[Row]) -> Result<Vec<Row>, NoMemory>
     ensures { IfOk result (λ out. out.items ≡ all_joins left.now right.now) }
 {
     let mut out = Vec::new(alloc);

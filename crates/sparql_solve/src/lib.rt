@@ -7,8 +7,8 @@ mod joins;
 mod matching;
 mod order;
 mod place;
-mod rows;
 mod results;
+mod rows;
 
-pub use rows::Row;
 pub use results::{Solutions, ask, select, solve};
+pub use rows::Row;

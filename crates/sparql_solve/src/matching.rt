@@ -46,12 +46,7 @@ fn matches_of_row(
     Ok(out)
 }
 
-fn step(
-    alloc: Global,
-    rows: &[Row],
-    places: &Places,
-    quads: &[Quad],
-) -> Result<Vec<Row>, NoMemory>
+fn step(alloc: Global, rows: &[Row], places: &Places, quads: &[Quad]) -> Result<Vec<Row>, NoMemory>
     ensures { IfOk result (λ out. out.items ≡ stepped quads.now rows.now places.now) }
 {
     let mut out = Vec::new(alloc);
@@ -82,11 +77,7 @@ pub(crate) fn matching_rows(
 }
 
 /// The first columns of each row.
-pub(crate) fn cut_rows(
-    alloc: Global,
-    rows: Vec<Row>,
-    columns: usize,
-) -> Result<Vec<Row>, NoMemory>
+pub(crate) fn cut_rows(alloc: Global, rows: Vec<Row>, columns: usize) -> Result<Vec<Row>, NoMemory>
     ensures { IfOk result (λ out. out.items ≡ map (take columns) rows.items) }
 {
     let mut out = Vec::new(alloc);
@@ -112,6 +103,12 @@ pub(crate) fn basic_rows<S: Source>(
     source.matches(graph, None, None, None, &mut quads)?;
     let mut start = Vec::new(alloc);
     start.push(Row::empty(alloc, variables.len(), basic.hidden)?)?;
-    let rows = matching_rows(alloc, variables, start, basic.triples.as_slice(), quads.as_slice())?;
+    let rows = matching_rows(
+        alloc,
+        variables,
+        start,
+        basic.triples.as_slice(),
+        quads.as_slice(),
+    )?;
     cut_rows(alloc, rows, variables.len())
 }

@@ -75,11 +75,7 @@ fn projected_rows(
 ///
 /// # Errors
 /// [`NoMemory`] where memory is wanting.
-pub fn select<S: Source>(
-    alloc: Global,
-    query: &Select,
-    source: &S,
-) -> Result<Vec<Row>, NoMemory>
+pub fn select<S: Source>(alloc: Global, query: &Select, source: &S) -> Result<Vec<Row>, NoMemory>
     ensures { IfOk result (λ rows. IsSelection query.now (S.contents source.now) rows.items) }
 {
     let found = solve(alloc, &query.pattern, &GraphName::Default, source)?;

@@ -175,11 +175,7 @@ impl Row {
 
     /// The row with the term at the place; nothing where another term stands there, or the place
     /// has no column.
-    pub(crate) fn assigned(
-        mut self,
-        place: &Place,
-        term: &Term,
-    ) -> Result<Option<Row>, NoMemory>
+    pub(crate) fn assigned(mut self, place: &Place, term: &Term) -> Result<Option<Row>, NoMemory>
         ensures { IfOk result (λ row. row ≡ assigned self place.now term.now) }
     {
         Ok(match self.vacant(place) {

@@ -1,4 +1,4 @@
-use Rattle.std.proofs.Common.{[], ◌∷◌, ap, refl, rules}
+use Rattle.std.proofs.Common.{[], ◌∷◌, ap, refl}
 use Rattle.std.proofs.lemmas.Result.{IfOk-weaker}
 use Rattle.rdf_terms.specs.declared.quad.GraphName.TheVariants.{Named}
 use Rattle.sparql_algebra.specs.Algebra.{translation}
@@ -58,7 +58,6 @@ union_rows-returns g t c =
     (λ out h. union_gives c.args.variables.now (g.S.Source.contents c.args.source.now) c.args.graph.now c.args.groups.now out.items
     c.is_empty.result c.is_empty.ensures c.if-is_empty.false h)
     c.group_list_rows.ensures
-
 
 pub graph_rows-returns-in-Variable : goal.graph_rows-returns-in-Variable
 graph_rows-returns-in-Variable g t c =

@@ -1,4 +1,4 @@
-use Rattle.std.proofs.Common.{◌++◌, map, take, drop}
+use Rattle.std.proofs.Common.{map, take, drop}
 use Rattle.sparql_algebra.specs.Algebra.{element, group_of, translation}
 use Rattle.sparql_algebra.specs.Solutions.{solutions}
 use Rattle.sparql_solve.specs.Steps.{Gives, GivesMore, over_names, over_groups}

@@ -1,6 +1,5 @@
 use Rattle.std.proofs.Common.{rules, ◌≡◌}
 use Rattle.std.specs.Ordering.{is_lt}
-use Rattle.std.proofs.lemmas.Result.{on_ok_weaker}
 use Rattle.std.proofs.lemmas.List.Sorted.{answers_always}
 use Rattle.sparql_algebra.specs.Mapping.{Mapping}
 use Rattle.sparql_algebra.specs.Order.{mapping_cmp}
