@@ -1,0 +1,11 @@
+//! The text of a query's results (SPARQL 1.1 Query Results CSV and TSV Formats, section 4).
+#![tactic(auto)]
+
+mod boolean;
+mod field;
+mod header;
+mod row;
+
+pub use boolean::boolean_text;
+pub use header::write_header;
+pub use row::write_row;
