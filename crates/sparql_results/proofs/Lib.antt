@@ -1,1 +1,3 @@
-pub mod KeptLemmas
+mod FieldLemmas
+mod KeptLemmas
+mod RowLemmas

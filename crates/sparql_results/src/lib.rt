@@ -4,8 +4,10 @@
 mod boolean;
 mod field;
 mod header;
+mod law;
 mod row;
 
 pub use boolean::boolean_text;
 pub use header::write_header;
+pub use law::rows_differ;
 pub use row::write_row;
