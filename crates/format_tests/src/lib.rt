@@ -1,9 +1,11 @@
-//! Tests that call the readers of lines and of tokens as a host does. It has no code of its own.
+//! Tests that call the readers of lines and of tokens, and the writer of results, as a host does. It has no code of its own.
 #![tactic(auto)]
 
 #[cfg(test)]
 mod documents;
 #[cfg(test)]
 mod lines;
+#[cfg(test)]
+mod results;
 #[cfg(test)]
 mod tokens;

@@ -51,6 +51,11 @@ abbrev pub load_of : Option Format → Body
 load_of (Some format) = LoadBody format
 load_of None = UnknownBody
 
+-- the body behind a line of one word
+abbrev pub alone : Body → List (List ℕ) → Body
+alone body [] = body
+alone body (word ∷ words) = UnknownBody
+
 -- a command of one word
 abbrev pub plain : List ℕ → Asked
 plain word =
@@ -85,8 +90,8 @@ line_of_words [] = skipped
 line_of_words (word ∷ rest) =
     if is_comment word then skipped else
     if bytes_eq word (codes "%load") then opens (load_of (format_of rest)) else
-    if bytes_eq word (codes "%update") then opens UpdateBody else
-    if bytes_eq word (codes "%query") then opens QueryBody else asks (asked word rest)
+    if bytes_eq word (codes "%update") then opens (alone UpdateBody rest) else
+    if bytes_eq word (codes "%query") then opens (alone QueryBody rest) else asks (asked word rest)
 
 -- a body that has ended: queries aren't there yet
 abbrev pub body_asks : Body → List ℕ → Asked

@@ -1,0 +1,3 @@
+mod FieldLemmas
+mod KeptLemmas
+mod RowLemmas

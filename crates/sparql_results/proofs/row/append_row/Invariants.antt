@@ -1,0 +1,7 @@
+use Rattle.std.proofs.Common.{◌≡◌, ◌++◌, codes, take}
+use Rattle.std.specs.List.{flat_map}
+use Rattle.sparql_results.specs.ResultsText.{field_text}
+use Rattle.sparql_results.proofs.row.append_row.Given as goal
+
+abbrev pub invariant-loop-value : goal.invariant-loop-value
+invariant-loop-value l = l.out.items ≡ l.initial.out.items ++ flat_map (λ value. codes "\t" ++ field_text value) (take l.value-index l.others)

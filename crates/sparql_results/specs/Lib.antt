@@ -1,0 +1,2 @@
+pub mod ResultsText
+pub mod RowLaws
