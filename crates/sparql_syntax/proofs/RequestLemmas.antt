@@ -1,5 +1,5 @@
 -- What the grammar says of lexemes, and what a tree answers.
-use Rattle.std.proofs.Common.{◌≡◌, ◌⊎◌, inl, inr, ℕ, Bool, true, false, cond, ok_or, List, [], ◌∷◌, Option, Some, None, Result, Ok, Err, refl, sym, ap, ◌∙◌}
+use Rattle.std.proofs.Common.{◌≡◌, ◌⊎◌, inl, inr, ℕ, Bool, true, false, cond, ok_or, List, [], ◌∷◌, Option, Some, None, Result, Ok, Err, refl, sym, ◌∙◌}
 use Rattle.std.specs.List.{AllByRecursion}
 use Rattle.rdf_grammar.proofs.Decides.{some_pair}
 use Rattle.rdf_grammar.specs.declared.fault.GrammarFault.TheVariants.{Syntax}

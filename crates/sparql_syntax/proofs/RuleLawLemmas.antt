@@ -1,5 +1,5 @@
 -- In a request that keeps to the static rules each pattern of data is a quad.
-use Rattle.std.proofs.Common.{◌≡◌, ℕ, Bool, true, false, cond, ◌||◌, ◌&&◌, List, [], ◌∷◌, map, Option, Some, None, Result, Ok, Err, is_some, refl}
+use Rattle.std.proofs.Common.{◌≡◌, Bool, true, false, cond, ◌||◌, ◌&&◌, List, [], ◌∷◌, map, Option, Some, None, Result, Ok, Err, is_some, refl}
 use Rattle.std.specs.List.{list_all, list_any}
 use Rattle.rdf_terms.specs.declared.term.Term.TheVariants as term
 use Rattle.sparql_syntax.specs.declared.draft.Draft.{Draft}
@@ -12,7 +12,7 @@ use Rattle.sparql_syntax.specs.declared.draft.VarOrTerm.TheVariants as place
 use Rattle.sparql_syntax.specs.declared.fault.SyntaxFaultKind.{SyntaxFaultKind}
 use Rattle.sparql_syntax.specs.declared.fault.SyntaxFaultKind.TheVariants as fault
 use Rattle.sparql_syntax.specs.RuleLaws.{are_quads, has_quads, PatternsAreQuads}
-use Rattle.sparql_syntax.specs.Rules.{is_variable, is_variable_place, is_variable_graph, has_variable, is_literal, quads_have_variable, has_variable_in_data, has_literal_subject, has_blank_in_delete, reuses_label, graph_of, term_of, predicate_of, quad_by, quad_of, operation_of, judged}
+use Rattle.sparql_syntax.specs.Rules.{is_variable, is_variable_place, is_variable_graph, has_variable, is_literal, has_variable_in_data, has_literal_subject, has_blank_in_delete, reuses_label, graph_of, term_of, predicate_of, quad_by, quad_of, operation_of}
 use Rattle.sparql_trees.specs.declared.operation.Operation.{Operation}
 
 no_first : (a b : Bool) → (a || b) ≡ false → a ≡ false

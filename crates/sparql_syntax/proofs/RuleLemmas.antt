@@ -1,7 +1,7 @@
 -- What data that keep to the rules are.
-use Rattle.std.proofs.Common.{◌≡◌, ◌==◌, ℕ, Bool, true, false, cond, not, ◌||◌, List, [], ◌∷◌, map, Option, Some, None, Result, Ok, Err, refl, sym, subst, ap, ◌∙◌, arith}
+use Rattle.std.proofs.Common.{◌≡◌, ◌==◌, ℕ, Bool, true, false, cond, not, List, [], ◌∷◌, Option, Some, None, Result, Ok, Err, refl, subst, arith}
 use Rattle.std.proofs.lemmas.Bool.Decides.{nat_tests}
-use Rattle.std.specs.List.{AllByRecursion, list_any, filter_map, cons_option}
+use Rattle.std.specs.List.{list_any, filter_map, cons_option}
 use Rattle.rdf_terms.specs.Below.{IsQuadBelow, AreBelow}
 use Rattle.rdf_terms.specs.Quad.{QuadParts, has_right_kinds}
 use Rattle.rdf_terms.specs.declared.quad.GraphName.{GraphName}
@@ -10,7 +10,6 @@ use Rattle.rdf_terms.specs.declared.term.Term.{Term}
 use Rattle.rdf_terms.specs.declared.term.Term.TheVariants as term
 use Rattle.sparql_syntax.specs.declared.draft.Draft.{Draft}
 use Rattle.sparql_syntax.specs.declared.draft.QuadPattern.{QuadPattern}
-use Rattle.sparql_syntax.specs.declared.draft.Quads.{Quads}
 use Rattle.sparql_syntax.specs.declared.draft.VarOrIri.{VarOrIri}
 use Rattle.sparql_syntax.specs.declared.draft.VarOrIri.TheVariants as name
 use Rattle.sparql_syntax.specs.declared.draft.VarOrTerm.{VarOrTerm}
@@ -18,7 +17,7 @@ use Rattle.sparql_syntax.specs.declared.draft.VarOrTerm.TheVariants as place
 use Rattle.sparql_syntax.specs.declared.fault.SyntaxFaultKind.{SyntaxFaultKind}
 use Rattle.sparql_syntax.specs.declared.fault.SyntaxFaultKind.TheVariants as fault
 use Rattle.sparql_syntax.specs.Drafts.{IsPlaceBelow, IsPatternBelow, ArePatternsBelow}
-use Rattle.sparql_syntax.specs.Rules.{has_blank_in_delete, has_variable_in_data, has_literal_subject, reuses_label, graph_of, term_of, predicate_of, quad_by, quad_of, operation_of, judged}
+use Rattle.sparql_syntax.specs.Rules.{has_blank_in_delete, graph_of, term_of, predicate_of, quad_by, quad_of, judged}
 use Rattle.sparql_trees.specs.declared.operation.Operation.{Operation}
 
 some_or_none : (b : Bool) (x y : QuadParts) → cond b (Some x) None ≡ Some y → x ≡ y

@@ -4,6 +4,7 @@ pub mod FaultName
 pub mod Kept
 pub mod Known
 pub mod Meaning
+pub mod Phases
 pub mod Room
 pub mod RuleLaws
 pub mod Rules

@@ -20,7 +20,6 @@ use Rattle.sparql_syntax.specs.declared.draft.VarOrTerm.{VarOrTerm}
 use Rattle.sparql_syntax.specs.declared.draft.VarOrTerm.TheVariants as place
 use Rattle.sparql_syntax.specs.declared.fault.SyntaxFaultKind.{SyntaxFaultKind}
 use Rattle.sparql_syntax.specs.declared.fault.SyntaxFaultKind.TheVariants.{BlankInDelete, VariableInData, LiteralSubject, BlankReused}
-use Rattle.sparql_trees.specs.Data.{DataParts}
 use Rattle.sparql_trees.specs.declared.operation.Operation.{Operation}
 use Rattle.sparql_trees.specs.declared.operation.Operation.TheVariants as operation
 

@@ -12,6 +12,7 @@ mod read;
 mod request;
 mod rules;
 mod scope;
+mod text;
 
 pub use fault::{SyntaxFault, SyntaxFaultKind};
 pub use laws::{data_are_quads, one_request};
