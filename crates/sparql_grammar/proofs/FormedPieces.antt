@@ -14,7 +14,7 @@ use Rattle.sparql_grammar.specs.declared.terminal.Terminal.{Terminal}
 use Rattle.sparql_grammar.specs.declared.terminal.Terminal.TheVariants as terminal
 use Rattle.sparql_grammar.specs.Formed.{Formed, AllFormed}
 use Rattle.sparql_grammar.specs.Lexemes.{Lexeme, Lexemes, AreLexemes}
-use Rattle.sparql_grammar.specs.Terminals.{is_word, place_terminal, graph_terminal, keyword_terminal, word_terminal, bracket_terminal, symbol_terminal, terminal_of}
+use Rattle.sparql_grammar.specs.Terminals.{is_word, query_terminal, place_terminal, graph_terminal, keyword_terminal, word_terminal, bracket_terminal, symbol_terminal, terminal_of}
 
 -- ---- lexemes of a text
 
@@ -51,10 +51,15 @@ neither_way : (b : Bool) (x y : Terminal) → is_either x ≡ false → is_eithe
 neither_way true x y h k = h
 neither_way false x y h k = k
 
+never_query : (text : List ℕ) → is_either (query_terminal text) ≡ false
+never_query text =
+    neither_way (is_word (codes "select") text) _ _ refl (neither_way (is_word (codes "distinct") text) _ _ refl (neither_way (is_word (codes "ask") text) _ _ refl
+    (neither_way (is_word (codes "where") text) _ _ refl (neither_way (is_word (codes "union") text) _ _ refl (neither_way (is_word (codes "optional") text) _ _ refl refl)))))
+
 never_place : (text : List ℕ) → is_either (place_terminal text) ≡ false
 never_place text =
     neither_way (is_word (codes "silent") text) _ _ refl (neither_way (is_word (codes "graph") text) _ _ refl (neither_way (is_word (codes "default") text) _ _ refl
-    (neither_way (is_word (codes "named") text) _ _ refl (neither_way (is_word (codes "all") text) _ _ refl (neither_way (is_word (codes "to") text) _ _ refl refl)))))
+    (neither_way (is_word (codes "named") text) _ _ refl (neither_way (is_word (codes "all") text) _ _ refl (neither_way (is_word (codes "to") text) _ _ refl (never_query text))))))
 
 never_graph : (text : List ℕ) → is_either (graph_terminal text) ≡ false
 never_graph text =
@@ -78,7 +83,7 @@ never_bracket text =
 never_symbol : (text : List ℕ) → is_either (symbol_terminal text) ≡ false
 never_symbol text =
     neither_way (bytes_eq text (codes ".")) _ _ refl (neither_way (bytes_eq text (codes ";")) _ _ refl (neither_way (bytes_eq text (codes ",")) _ _ refl
-    (neither_way (bytes_eq text (codes "^^")) _ _ refl (never_bracket text))))
+    (neither_way (bytes_eq text (codes "^^")) _ _ refl (neither_way (bytes_eq text (codes "*")) _ _ refl (never_bracket text)))))
 
 clash : {A : Type 0} (b : Bool) → b ≡ true → b ≡ false → A
 clash b e f = absurd (true≢false (sym e ∙ f))

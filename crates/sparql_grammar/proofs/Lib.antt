@@ -5,6 +5,7 @@ pub mod GrammarNodes
 pub mod GrammarProper
 pub mod GrammarTriples
 pub mod GrammarWords
+pub mod Keywords
 pub mod OperationData
 pub mod OperationNests
 pub mod OperationParts
@@ -13,5 +14,6 @@ pub mod OperationProper
 pub mod OperationTurns
 pub mod OperationWhole
 pub mod ProfileTokens
+pub mod PrologueProductions
 pub mod Trees
 pub mod Turns

@@ -3,7 +3,7 @@ use Rattle.std.proofs.Common.{◌≡◌, ℕ, suc, ◌+◌, ◌-◌, ◌≤◌, 
 use Rattle.std.specs.Prelude.{is_some}
 use Rattle.rdf_grammar.specs.Derivations as grammar
 use Rattle.rdf_grammar.specs.Derivations.{Star}
-use Rattle.rdf_grammar.proofs.Nests.{Keeps, then_keeps, pure_keeps, or_keeps, the_keeps, value_keeps, namespace_keeps, map_keeps, behind_keeps, word_keeps, leaf_keeps, maybe_keeps, star_keeps, one_keeps, enclosed}
+use Rattle.rdf_grammar.proofs.Nests.{Keeps, then_keeps, pure_keeps, or_keeps, the_keeps, map_keeps, behind_keeps, word_keeps, maybe_keeps, star_keeps, one_keeps, enclosed}
 use Rattle.sparql_grammar.specs.declared.terminal.Terminal.{Terminal}
 use Rattle.sparql_grammar.specs.declared.terminal.Terminal.TheVariants as terminal
 use Rattle.sparql_grammar.specs.declared.tree.Block.{Block}
@@ -25,6 +25,7 @@ use Rattle.sparql_grammar.specs.Reading.{all_of}
 use Rattle.sparql_grammar.specs.Terminals.{bracket}
 use Rattle.sparql_grammar.proofs.GrammarNests.{iri_keeps, var_or_iri_keeps, triples_keep}
 use Rattle.sparql_grammar.proofs.OperationParts.{Ended, APart}
+use Rattle.sparql_grammar.proofs.PrologueProductions.{declaration_keeps}
 
 -- what stands where so many brackets are open
 module _ (limit b : ℕ) where
@@ -33,13 +34,6 @@ module _ (limit b : ℕ) where
 
   silent_keeps : Keeps bracket limit b (g.Perhaps terminal.Silent) (g.Perhaps terminal.Silent)
   silent_keeps = perhaps_keeps terminal.Silent (the_keeps bracket limit b terminal.Silent refl)
-
-  base_keeps : Keeps bracket limit b g.BaseDecl g.BaseDecl
-  base_keeps = behind_keeps bracket limit b terminal.Base _ _ refl (leaf_keeps bracket limit b part.Base terminal.Iri refl)
-
-  prefix_keeps : Keeps bracket limit b g.PrefixDecl g.PrefixDecl
-  prefix_keeps = behind_keeps bracket limit b terminal.Prefix _ _ refl (then_keeps bracket limit b _ _ _ _ (namespace_keeps bracket limit b terminal.Pname refl)
-      (λ prefix. then_keeps bracket limit b _ _ _ _ (value_keeps bracket limit b terminal.Iri refl) (λ reference. pure_keeps bracket limit b (part.Prefix prefix reference))))
 
   graph_ref_keeps : Keeps bracket limit b g.GraphRef g.GraphRef
   graph_ref_keeps = behind_keeps bracket limit b terminal.Graph _ _ refl (iri_keeps limit b)
@@ -117,7 +111,7 @@ module _ (limit b : ℕ) (P Q I J : Derives (List Triples)) (p : Keeps bracket l
 
   part_keeps : Keeps bracket limit b (APart (g.Update1 P I)) (APart (g.Update1 Q J))
   part_keeps =
-      or_keeps bracket limit b _ _ _ _ (or_keeps bracket limit b _ _ _ _ (base_keeps limit b) (prefix_keeps limit b))
+      or_keeps bracket limit b _ _ _ _ (map_keeps bracket limit b part.Declaration _ _ (declaration_keeps limit b))
       (then_keeps bracket limit b _ _ _ _ operation_keeps (λ operation. then_keeps bracket limit b _ _ _ _ (end_keeps limit b) (λ _. pure_keeps bracket limit b (part.Operation operation))))
 
   pub parts_keep : Keeps bracket limit b (Star (grammar.one (APart (g.Update1 P I)))) (Star (grammar.one (APart (g.Update1 Q J))))

@@ -1,16 +1,18 @@
 -- The parts of a request are read just as they are derived.
-use Rattle.std.proofs.Common.{◌≡◌, ◌<◌, ◌≤◌, Bool, true, false, List, [], ◌∷◌, ◌++◌, length, Option, Some, refl, sym, ◌∙◌, ap, arith, inl, inr, append_assoc}
+use Rattle.std.proofs.Common.{◌≡◌, ◌<◌, ◌≤◌, Bool, true, false, List, [], ◌∷◌, ◌++◌, length, map, Option, Some, refl, sym, ◌∙◌, ap, arith, inl, inr, append_assoc}
+use Rattle.std.proofs.lemmas.List.{map-append}
 use Rattle.rdf_grammar.specs.Steps as steps
 use Rattle.rdf_grammar.specs.Readings as reading
 use Rattle.rdf_grammar.specs.Readings.{any, is_more}
 use Rattle.rdf_grammar.specs.Terminals.{next_terminal}
 use Rattle.rdf_grammar.specs.Derivations as grammar
 use Rattle.rdf_grammar.specs.Derivations.{Then, Star, stop, more}
-use Rattle.rdf_grammar.proofs.Combinators.{one_decides, seq}
+use Rattle.rdf_grammar.proofs.Combinators.{one_decides, seq, last, choose_decides}
 use Rattle.rdf_grammar.proofs.Decides.{always, Decides, some_pair, pure_decides, repeat_decides}
-use Rattle.rdf_grammar.proofs.Terminals.{the_decides, after_terminal, the_terminal, any_the}
+use Rattle.rdf_grammar.proofs.Terminals.{the_decides}
 use Rattle.sparql_grammar.specs.declared.terminal.Terminal.{Terminal}
 use Rattle.sparql_grammar.specs.declared.terminal.Terminal.TheVariants as terminal
+use Rattle.sparql_grammar.specs.declared.tree.Declaration.{Declaration}
 use Rattle.sparql_grammar.specs.declared.tree.Operation.{Operation}
 use Rattle.sparql_grammar.specs.declared.tree.Operation.TheVariants as o
 use Rattle.sparql_grammar.specs.declared.tree.Part.{Part}
@@ -21,7 +23,11 @@ use Rattle.sparql_grammar.specs.Lexemes.{Lexeme, Lexemes, Reading, Outcome, sees
 use Rattle.sparql_grammar.specs.OperationGrammar as g
 use Rattle.sparql_grammar.specs.OperationReading as read
 use Rattle.sparql_grammar.specs.Terminals.{same_terminal, apart}
-use Rattle.sparql_grammar.proofs.OperationProductions.{prefix_decides, base_decides, create_decides, on_graphs_decides, between_decides}
+use Rattle.sparql_grammar.specs.PrologueGrammar.{Prologue}
+use Rattle.sparql_grammar.specs.PrologueReading.{begins_declaration, declaration, sees_declaration}
+use Rattle.sparql_grammar.proofs.Keywords.{keyword_sound, keyword_complete, keyword_terminal, keyword_strict}
+use Rattle.sparql_grammar.proofs.PrologueProductions.{ADeclaration, declaration_begins, declaration_decides, declaration_strict}
+use Rattle.sparql_grammar.proofs.OperationProductions.{create_decides, on_graphs_decides, between_decides}
 use Rattle.sparql_grammar.proofs.OperationData.{IsTemplateRule, DataRest, data_decides}
 
 -- ---- the end of an operation: ";" or no more lexemes
@@ -51,22 +57,6 @@ end_shorter ts x us (inr d) = omega (arith, ap length d.0)
 
 end_decides : Decides read_end Ended always
 end_decides = record { sound = end_sound; complete = λ ts x us h _. end_complete ts x us h; shorter = end_shorter }
-
--- ---- a keyword, and what it begins
-
-keyword_sound : {A : Type 0} (k : Terminal) (r : Reading A) (R : Derives A) → Decides r R always → (ts : Lexemes) (x : A) (us : Lexemes) → next_terminal ts ≡ Some k
-    → steps.◌>>◌ any r ts ≡ Some (x, us) → grammar.◌>>◌ (grammar.the k) R ts x us
-keyword_sound k r R d ts x us q h = (after_terminal same_terminal apart k r R always d).sound ts x us (rw (any_the same_terminal apart k ts q) at h)
-
-keyword_complete : {A : Type 0} (k : Terminal) (r : Reading A) (R : Derives A) → Decides r R always → (ts : Lexemes) (x : A) (us : Lexemes) → next_terminal ts ≡ Some k
-    → grammar.◌>>◌ (grammar.the k) R ts x us → steps.◌>>◌ any r ts ≡ Some (x, us)
-keyword_complete k r R d ts x us q h = rw (any_the same_terminal apart k ts q) ((after_terminal same_terminal apart k r R always d).complete ts x us h refl)
-
-keyword_terminal : {A : Type 0} (k : Terminal) (R : Derives A) (ts : Lexemes) (x : A) (us : Lexemes) → grammar.◌>>◌ (grammar.the k) R ts x us → next_terminal ts ≡ Some k
-keyword_terminal k R ts x us h = the_terminal k ts h.mid h.first h.reads
-
-keyword_strict : {A : Type 0} (k : Terminal) (r : Reading A) (R : Derives A) → Decides r R always → (ts : Lexemes) (x : A) (us : Lexemes) → grammar.◌>>◌ (grammar.the k) R ts x us → length us < length ts
-keyword_strict k r R d ts x us h = let a = d.shorter h.mid x us h.goes in omega (arith, ap length h.reads.2)
 
 -- ---- operations
 
@@ -108,11 +98,6 @@ module _ (template inner : Reading (List Triples)) (Template Inner : Derives (Li
   operation_strict ts x us (inr (inr (inr (inr (inr (inr (inl h))))))) = keyword_strict terminal.Insert _ _ insert ts x us h
   operation_strict ts x us (inr (inr (inr (inr (inr (inr (inr h))))))) = keyword_strict terminal.Delete _ _ delete ts x us h
 
-  abbrev begins_declaration : Option Terminal → Bool
-  begins_declaration (Some terminal.Prefix) = true
-  begins_declaration (Some terminal.Base) = true
-  begins_declaration _ = false
-
   operation_begins : (ts : Lexemes) (x : Operation) (us : Lexemes) → g.Update1 Template Inner ts x us → begins_declaration (next_terminal ts) ≡ false
   operation_begins ts x us (inl h) = rw (keyword_terminal terminal.Clear _ ts x us h) refl
   operation_begins ts x us (inr (inl h)) = rw (keyword_terminal terminal.Drop _ ts x us h) refl
@@ -136,15 +121,8 @@ module _ (template inner : Reading (List Triples)) (Template Inner : Derives (Li
 abbrev pub EndedOperation : Derives Operation → Derives Part
 EndedOperation Op = grammar.◌>>=◌ Op (λ operation. grammar.◌>>=◌ Ended (λ _. grammar.pure (p.Operation operation)))
 
-abbrev pub Declaration : Derives Part
-Declaration = grammar.◌∣◌ g.BaseDecl g.PrefixDecl
-
 abbrev pub APart : Derives Operation → Derives Part
-APart Op = grammar.◌∣◌ Declaration (EndedOperation Op)
-
-declaration_strict : (ts : Lexemes) (x : Part) (us : Lexemes) → Declaration ts x us → length us < length ts
-declaration_strict ts x us (inl h) = keyword_strict terminal.Base _ _ base_decides ts x us h
-declaration_strict ts x us (inr h) = keyword_strict terminal.Prefix _ _ prefix_decides ts x us h
+APart Op = grammar.◌∣◌ (grammar.◌<$>◌ p.Declaration ADeclaration) (EndedOperation Op)
 
 module _ (template inner : Reading (List Triples)) (Template Inner : Derives (List Triples)) (r : IsTemplateRule template Template) (i : IsTemplateRule inner Inner) where
   abbrev Op : Derives Operation
@@ -154,35 +132,21 @@ module _ (template inner : Reading (List Triples)) (Template Inner : Derives (Li
   unfolding read.ended_operation
   ended_operation_decides = seq _ _ _ _ always (operation_decides template inner Template Inner r i) (λ operation. seq _ _ _ _ always end_decides (λ _. pure_decides (p.Operation operation) always))
 
-  part_sound : (k : Option Terminal) (ts : Lexemes) (x : Part) (us : Lexemes) → next_terminal ts ≡ k → read.part_by template inner k ts ≡ Some (x, us) → APart (g.Update1 Template Inner) ts x us
-  part_sound (Some terminal.Prefix) ts x us q h = inl (inr (keyword_sound terminal.Prefix _ _ prefix_decides ts x us q h))
-  part_sound (Some terminal.Base) ts x us q h = inl (inl (keyword_sound terminal.Base _ _ base_decides ts x us q h))
-  part_sound _ ts x us q h = inr (ended_operation_decides.sound ts x us h)
+  declared_decides : Decides (steps.◌<$>◌ p.Declaration declaration) (grammar.◌<$>◌ p.Declaration ADeclaration) always
+  declared_decides = last p.Declaration _ _ always declaration_decides
 
-  by_operation : (k : Option Terminal) → begins_declaration template inner Template Inner r i k ≡ false → read.part_by template inner k ≡ read.ended_operation template inner
-  by_operation (Some terminal.Prefix) h = absurd (cc)
-  by_operation (Some terminal.Base) h = absurd (cc)
-  by_operation _ h = refl
-
-  part_complete : (ts : Lexemes) (x : Part) (us : Lexemes) → APart (g.Update1 Template Inner) ts x us → read.part_by template inner (next_terminal ts) ts ≡ Some (x, us)
-  part_complete ts x us (inl (inl h)) = let q = keyword_terminal terminal.Base _ ts x us h in rw q (keyword_complete terminal.Base _ _ base_decides ts x us q h)
-  part_complete ts x us (inl (inr h)) = let q = keyword_terminal terminal.Prefix _ ts x us h in rw q (keyword_complete terminal.Prefix _ _ prefix_decides ts x us q h)
-  part_complete ts x us (inr h) = rw (by_operation (next_terminal ts) (operation_begins template inner Template Inner r i ts h.first h.mid h.reads)) (ended_operation_decides.complete ts x us h refl)
+  part_decides : Decides (read.part template inner) (APart (g.Update1 Template Inner)) always
+  unfolding read.part
+  part_decides = choose_decides sees_declaration _ _ _ _ always declared_decides ended_operation_decides
+      (λ ts x us h _. declaration_begins ts h.first h.mid h.reads)
+      (λ ts x us h _. operation_begins template inner Template Inner r i ts h.first h.mid h.reads)
 
   part_strict : (ts : Lexemes) (x : Part) (us : Lexemes) → APart (g.Update1 Template Inner) ts x us → length us < length ts
-  part_strict ts x us (inl h) = declaration_strict ts x us h
+  part_strict ts x us (inl h) = let a = declaration_strict ts h.first h.mid h.reads in omega (arith, ap length h.goes.1)
   part_strict ts x us (inr h) =
       let a = operation_strict template inner Template Inner r i ts h.first h.mid h.reads in
       let b = end_shorter h.mid h.goes.first h.goes.mid h.goes.reads in
       omega (arith, ap length h.goes.goes.1)
-
-  part_decides : Decides (read.part template inner) (APart (g.Update1 Template Inner)) always
-  unfolding read.part
-  part_decides = record {
-    sound = λ ts x us h. part_sound (next_terminal ts) ts x us refl h;
-    complete = λ ts x us h _. part_complete ts x us h;
-    shorter = λ ts x us h. let e = part_strict ts x us h in omega arith;
-  }
 
   -- ---- all of the parts
 
@@ -221,9 +185,21 @@ module _ (Op : Derives Operation) (strict : (ts : Lexemes) (x : Operation) (us :
   behind ts mid us xs ys stop t = t
   behind ts mid us xs ys (more {mid = m} {x = x} {xs = zs} q s) t = rw (append_assoc x zs ys) (more q (behind m mid us zs ys s t))
 
-  declared_parts : (ts us : Lexemes) (xs : List Part) → g.Prologue ts xs us → Star (grammar.one (APart Op)) ts xs us
+  declared_part : (ts mid : Lexemes) (x : Declaration) → ADeclaration ts x mid → grammar.one (APart Op) ts (p.Declaration x ∷ []) mid
+  declared_part ts mid x d = record {
+    first = p.Declaration x;
+    mid = mid;
+    reads = inl (record { first = x; mid = mid; reads = d; goes = (refl, refl) });
+    goes = (refl, refl);
+  }
+
+  -- the list of one declaration
+  one_declared : (ts mid : Lexemes) (xs : List Declaration) → grammar.one ADeclaration ts xs mid → grammar.one (APart Op) ts (map p.Declaration xs) mid
+  one_declared ts mid xs q = rw (← q.goes.0, ← q.goes.1) (declared_part ts q.mid q.first q.reads)
+
+  declared_parts : (ts us : Lexemes) (xs : List Declaration) → Prologue ts xs us → Star (grammar.one (APart Op)) ts (map p.Declaration xs) us
   declared_parts ts us xs stop = stop
-  declared_parts ts us xs (more {mid = m} {x = x} {xs = zs} q s) = more (record { first = q.first; mid = q.mid; reads = inl q.reads; goes = q.goes }) (declared_parts m us zs s)
+  declared_parts ts us xs (more {mid = m} {x = x} {xs = zs} q s) = rw (map-append p.Declaration x zs) (more (one_declared ts m x q) (declared_parts m us zs s))
 
   operation_part : (ts mid us : Lexemes) (x : Operation) → Op ts x mid → Ended mid tt us → grammar.one (APart Op) ts (p.Operation x ∷ []) us
   operation_part ts mid us x d e = record {
@@ -234,24 +210,24 @@ module _ (Op : Derives Operation) (strict : (ts : Lexemes) (x : Operation) (us :
   }
 
   pub parts_of : (ts us : Lexemes) (parts : List Part) → us ≡ [] → g.Update Op ts parts us → Star (grammar.one (APart Op)) ts parts us
-  parts_of ts us parts e (g.declared d) = declared_parts ts us parts d
-  parts_of ts us parts e (g.last {mid = mid} {parts = first} {operation = x} d q) =
-      behind ts mid us first (p.Operation x ∷ []) (declared_parts ts mid first d) (more (operation_part mid us us x q (inr (refl, e))) stop)
-  parts_of ts us parts e (g.more {mid = mid} {behind = end} {next = next} {parts = first} {others = others} {operation = x} d q c u) =
-      behind ts mid us first (p.Operation x ∷ others) (declared_parts ts mid first d) (more (operation_part mid end next x q (inl c)) (parts_of next us others e u))
+  parts_of ts us parts e (g.declared {prologue = first} d) = declared_parts ts us first d
+  parts_of ts us parts e (g.last {mid = mid} {prologue = first} {operation = x} d q) =
+      behind ts mid us (map p.Declaration first) (p.Operation x ∷ []) (declared_parts ts mid first d) (more (operation_part mid us us x q (inr (refl, e))) stop)
+  parts_of ts us parts e (g.more {mid = mid} {behind = end} {next = next} {prologue = first} {others = others} {operation = x} d q c u) =
+      behind ts mid us (map p.Declaration first) (p.Operation x ∷ others) (declared_parts ts mid first d) (more (operation_part mid end next x q (inl c)) (parts_of next us others e u))
 
   -- a declaration before an update
-  with_declaration : (ts mid us : Lexemes) (x : Part) (parts : List Part) → Declaration ts x mid → g.Update Op mid parts us → g.Update Op ts (x ∷ parts) us
-  with_declaration ts mid us x parts d (g.declared q) = g.declared (more (record { first = x; mid = mid; reads = d; goes = (refl, refl) }) q)
-  with_declaration ts mid us x parts d (g.last {parts = first} {operation = y} q a) = g.last {parts = x ∷ first} {operation = y} (more (record { first = x; mid = mid; reads = d; goes = (refl, refl) }) q) a
-  with_declaration ts mid us x parts d (g.more {parts = first} {others = others} {operation = y} q a c u) =
-      g.more {parts = x ∷ first} {others = others} {operation = y} (more (record { first = x; mid = mid; reads = d; goes = (refl, refl) }) q) a c u
+  with_declaration : (ts mid us : Lexemes) (x : Declaration) (parts : List Part) → ADeclaration ts x mid → g.Update Op mid parts us → g.Update Op ts (p.Declaration x ∷ parts) us
+  with_declaration ts mid us x parts d (g.declared {prologue = first} q) = g.declared {prologue = x ∷ first} (more (record { first = x; mid = mid; reads = d; goes = (refl, refl) }) q)
+  with_declaration ts mid us x parts d (g.last {prologue = first} {operation = y} q a) = g.last {prologue = x ∷ first} {operation = y} (more (record { first = x; mid = mid; reads = d; goes = (refl, refl) }) q) a
+  with_declaration ts mid us x parts d (g.more {prologue = first} {others = others} {operation = y} q a c u) =
+      g.more {prologue = x ∷ first} {others = others} {operation = y} (more (record { first = x; mid = mid; reads = d; goes = (refl, refl) }) q) a c u
 
   part_shrinks : (ts : Lexemes) (x : List Part) (us : Lexemes) → grammar.one (APart Op) ts x us → length us < length ts
   part_shrinks ts x us h = at h.reads
     where
       at : APart Op ts h.first h.mid → length us < length ts
-      at (inl d) = let a = declaration_strict ts h.first h.mid d in omega (arith, ap length h.goes.1)
+      at (inl d) = let a = declaration_strict ts d.first d.mid d.reads in omega (arith, ap length d.goes.1, ap length h.goes.1)
       at (inr d) =
           let a = strict ts d.first d.mid d.reads in
           let b = end_shorter d.mid d.goes.first d.goes.mid d.goes.reads in
@@ -262,18 +238,18 @@ module _ (Op : Derives Operation) (strict : (ts : Lexemes) (x : Operation) (us :
   none_left ts us parts e (more {mid = m} {x = x} q s) = absurd (let a = part_shrinks ts x m q in omega (arith, ap length e))
 
   one_more : (ts mid us : Lexemes) (x : Part) (others : List Part) → APart Op ts x mid → us ≡ [] → Star (grammar.one (APart Op)) mid others us → g.Update Op mid others us → g.Update Op ts (x ∷ others) us
-  one_more ts mid us x others (inl d) e s u = with_declaration ts mid us x others d u
+  one_more ts mid us x others (inl d) e s u = rw (← d.goes.0) (with_declaration ts mid us d.first others (rw d.goes.1 at d.reads) u)
   one_more ts mid us x others (inr d) e s u = at d.goes.reads
     where
       pair : (p.Operation d.first ≡ x) × (d.goes.mid ≡ mid)
       pair = d.goes.goes
 
       at : Ended d.mid d.goes.first d.goes.mid → g.Update Op ts (x ∷ others) us
-      at (inl c) = rw (← pair.0) (g.more {parts = []} {others = others} {operation = d.first} stop d.reads (rw pair.1 at c) u)
+      at (inl c) = rw (← pair.0) (g.more {prologue = []} {others = others} {operation = d.first} stop d.reads (rw pair.1 at c) u)
       at (inr c) =
           let gone : mid ≡ [] = sym pair.1 ∙ c.1 in
           let none = none_left mid us others gone s in
-          rw (← pair.0, none) (g.last {parts = []} {operation = d.first} stop (rw (c.0 ∙ c.1 ∙ sym e) at d.reads))
+          rw (← pair.0, none) (g.last {prologue = []} {operation = d.first} stop (rw (c.0 ∙ c.1 ∙ sym e) at d.reads))
 
   pub update_of : (ts us : Lexemes) (parts : List Part) → us ≡ [] → Star (grammar.one (APart Op)) ts parts us → g.Update Op ts parts us
   update_of ts us parts e stop = g.declared stop

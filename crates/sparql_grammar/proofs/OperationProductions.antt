@@ -1,4 +1,4 @@
--- Declarations and operations on graphs are read just as they are derived.
+-- Operations on graphs are read just as they are derived.
 use Rattle.std.proofs.Common.{◌≡◌, ◌≤◌, Bool, true, false, length, Option, Some, None, refl, arith, inl, inr, ◌⊎◌}
 use Rattle.std.specs.Prelude.{is_some}
 use Rattle.rdf_grammar.specs.declared.tree.Name.{Name}
@@ -11,7 +11,7 @@ use Rattle.rdf_grammar.specs.Derivations as grammar
 use Rattle.rdf_grammar.specs.Derivations.{Then}
 use Rattle.rdf_grammar.proofs.Combinators.{seq, last, maybe_decides}
 use Rattle.rdf_grammar.proofs.Decides.{always, Decides, then_decides, pure_decides}
-use Rattle.rdf_grammar.proofs.Terminals.{the_decides, value_decides, namespace_decides, after_terminal, the_terminal, terminal_seen, unseen, word_sound, word_complete, word_strict}
+use Rattle.rdf_grammar.proofs.Terminals.{the_decides, after_terminal, the_terminal, terminal_seen, unseen, word_sound, word_complete, word_strict}
 use Rattle.sparql_grammar.specs.declared.terminal.Terminal.{Terminal}
 use Rattle.sparql_grammar.specs.declared.terminal.Terminal.TheVariants as terminal
 use Rattle.sparql_grammar.specs.declared.tree.GraphOrDefault.{GraphOrDefault}
@@ -20,8 +20,6 @@ use Rattle.sparql_grammar.specs.declared.tree.GraphRefAll.{GraphRefAll}
 use Rattle.sparql_grammar.specs.declared.tree.GraphRefAll.TheVariants as graphs
 use Rattle.sparql_grammar.specs.declared.tree.Operation.{Operation}
 use Rattle.sparql_grammar.specs.declared.tree.Operation.TheVariants as o
-use Rattle.sparql_grammar.specs.declared.tree.Part.{Part}
-use Rattle.sparql_grammar.specs.declared.tree.Part.TheVariants as p
 use Rattle.sparql_grammar.specs.Lexemes as lexemes
 use Rattle.sparql_grammar.specs.Lexemes.{Lexemes, Reading, sees, Derives, Test}
 use Rattle.sparql_grammar.specs.OperationGrammar as g
@@ -61,19 +59,6 @@ module _ (k : Terminal) where
       at : (found : Option (Unit {0})) → grammar.maybe (grammar.the k) ts found h.mid → (next_terminal ts ≡ Some k) ⊎ (ts ≡ us)
       at None d = inr (rw d h.goes.1)
       at (Some u) d = inl (the_terminal k ts h.mid u d)
-
--- ---- declarations
-
-abbrev pub PrefixRest : Derives Part
-PrefixRest = grammar.◌>>=◌ (grammar.namespace terminal.Pname) (λ prefix. grammar.◌>>=◌ (grammar.value terminal.Iri) (λ reference. grammar.pure (p.Prefix prefix reference)))
-
-pub prefix_decides : Decides read.prefix PrefixRest always
-unfolding read.prefix
-prefix_decides = seq _ _ _ _ always (namespace_decides same_terminal apart terminal.Pname) (λ prefix. seq _ _ _ _ always (value_decides same_terminal apart terminal.Iri) (λ reference. pure_decides (p.Prefix prefix reference) always))
-
-pub base_decides : Decides read.base (grammar.◌<$>◌ p.Base (grammar.value terminal.Iri)) always
-unfolding read.base
-base_decides = last p.Base _ _ always (value_decides same_terminal apart terminal.Iri)
 
 -- ---- graphs
 

@@ -30,23 +30,15 @@ use Rattle.sparql_grammar.specs.Reading.{all_of}
 use Rattle.sparql_grammar.specs.RequestLaws.{RequestsAreProper}
 use Rattle.sparql_grammar.specs.Terminals.{terminal_by}
 use Rattle.sparql_grammar.proofs.FormedPieces.{lexemes_formed}
-use Rattle.sparql_grammar.proofs.Gives.{Gives, Any, IsGoodOption, then_gives, pure_gives, or_gives, the_gives, value_gives, namespace_gives, map_gives, behind_gives, closed_gives, maybe_gives, star_gives, one_gives}
+use Rattle.sparql_grammar.proofs.Gives.{Gives, Any, IsGoodOption, then_gives, pure_gives, or_gives, the_gives, map_gives, behind_gives, closed_gives, maybe_gives, star_gives, one_gives}
 use Rattle.sparql_grammar.proofs.GrammarProper.{Passes, all_pass, iri_gives, var_or_iri_gives, triples_give}
 use Rattle.sparql_grammar.proofs.OperationNests.{PartsAt}
 use Rattle.sparql_grammar.proofs.OperationParts.{Ended, EndedOperation, APart}
 use Rattle.sparql_grammar.proofs.OperationWhole.{parts_are}
+use Rattle.sparql_grammar.proofs.PrologueProductions.{declaration_gives}
 
 perhaps_gives : (k : Terminal) → Gives (g.Perhaps k) Any
 perhaps_gives k = map_gives is_some _ (IsGoodOption Any) Any (maybe_gives _ Any (the_gives k)) (λ a h. tt)
-
--- ---- declarations, which are proper
-
-base_gives : Gives g.BaseDecl (Passes proper_part)
-base_gives = behind_gives terminal.Base _ (Passes proper_part) (map_gives part.Base _ _ (Passes proper_part) (value_gives terminal.Iri) (λ a h. refl))
-
-prefix_gives : Gives g.PrefixDecl (Passes proper_part)
-prefix_gives = behind_gives terminal.Prefix _ (Passes proper_part) (then_gives _ _ Any (Passes proper_part) (namespace_gives terminal.Pname)
-    (λ prefix _. map_gives (part.Prefix prefix) _ _ (Passes proper_part) (value_gives terminal.Iri) (λ a h. refl)))
 
 -- ---- operations on graphs
 
@@ -146,7 +138,7 @@ module _ (Template Inner : Derives (List Triples)) (p : Gives Template (AllByRec
       (λ operation h. then_gives _ _ Any (Passes proper_part) end_gives (λ _ _. pure_gives (part.Operation operation) (Passes proper_part) h))
 
   part_gives : Gives (APart (g.Update1 Template Inner)) (Passes proper_part)
-  part_gives = or_gives _ _ (Passes proper_part) (or_gives _ _ (Passes proper_part) base_gives prefix_gives) ended_operation_gives
+  part_gives = or_gives _ _ (Passes proper_part) (map_gives part.Declaration _ Any (Passes proper_part) declaration_gives (λ a h. refl)) ended_operation_gives
 
   parts_give : Gives (Star (grammar.one (APart (g.Update1 Template Inner)))) (AllByRecursion (Passes proper_part))
   parts_give = star_gives _ (Passes proper_part) (one_gives _ (Passes proper_part) part_gives)

@@ -5,6 +5,8 @@ pub mod Nesting
 pub mod OperationGrammar
 pub mod OperationReading
 pub mod Profile
+pub mod PrologueGrammar
+pub mod PrologueReading
 pub mod Proper
 pub mod Reading
 pub mod RequestLaws

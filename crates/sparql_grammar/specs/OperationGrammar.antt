@@ -1,10 +1,11 @@
 -- Requests as they are written (SPARQL 1.1 Query, section 19.8, by the numbers of its rules), with no look at the next lexeme.
-use Rattle.std.specs.Prelude.{ℕ, suc, Bool, List, [], ◌∷◌, ◌++◌, Some, None, is_some}
-use Rattle.rdf_grammar.specs.Derivations.{◌>>=◌, ◌>>◌, ◌<$>◌, ◌∣◌, pure, the, value, namespace, one, maybe, Star}
+use Rattle.std.specs.Prelude.{ℕ, suc, Bool, List, [], ◌∷◌, ◌++◌, map, Some, None, is_some}
+use Rattle.rdf_grammar.specs.Derivations.{◌>>=◌, ◌>>◌, ◌<$>◌, ◌∣◌, pure, the, maybe, Star}
 use Rattle.rdf_grammar.specs.declared.tree.Name.{Name}
 use Rattle.sparql_grammar.specs.declared.terminal.Terminal.{Terminal}
 use Rattle.sparql_grammar.specs.declared.terminal.Terminal.TheVariants as terminal
 use Rattle.sparql_grammar.specs.declared.tree.Block.{Block}
+use Rattle.sparql_grammar.specs.declared.tree.Declaration.{Declaration}
 use Rattle.sparql_grammar.specs.declared.tree.GraphOrDefault.{GraphOrDefault}
 use Rattle.sparql_grammar.specs.declared.tree.GraphOrDefault.TheVariants as place
 use Rattle.sparql_grammar.specs.declared.tree.GraphRefAll.{GraphRefAll}
@@ -17,26 +18,9 @@ use Rattle.sparql_grammar.specs.declared.tree.Triples.{Triples}
 use Rattle.sparql_grammar.specs.Lexemes.{Lexemes, Derives}
 use Rattle.sparql_grammar.specs.Grammar.{AVarOrIri, Nodes_at, TriplesTemplate}
 use Rattle.sparql_grammar.specs.OperationReading.{block}
+use Rattle.sparql_grammar.specs.PrologueGrammar.{Prologue}
 use Rattle.sparql_grammar.specs.Reading.{all_of}
 use Rattle.sparql_grammar.specs.WordGrammar.{Iri}
-
--- ---- declarations
-
--- 5: BaseDecl = "BASE" IRIREF
-abbrev pub BaseDecl : Derives Part
-BaseDecl = the terminal.Base >> p.Base <$> value terminal.Iri
-
--- 6: PrefixDecl = "PREFIX" PNAME_NS IRIREF
-abbrev pub PrefixDecl : Derives Part
-PrefixDecl = do
-  the terminal.Prefix
-  prefix ← namespace terminal.Pname
-  reference ← value terminal.Iri
-  pure (p.Prefix prefix reference)
-
--- 4: Prologue = ( BaseDecl | PrefixDecl )*
-abbrev pub Prologue : Derives (List Part)
-Prologue = Star (one (BaseDecl ∣ PrefixDecl))
 
 -- ---- operations on graphs
 
@@ -148,12 +132,12 @@ module _ (template inner : Derives (List Triples)) where
 
 -- 29: Update = Prologue ( Update1 ( ";" Update )? )?
 pub data Update (Operation' : Derives Operation) : Lexemes → List Part → Lexemes → Type 0 where
-  declared : {ts us : Lexemes} {parts : List Part} → Prologue ts parts us → Update Operation' ts parts us
-  last : {ts mid us : Lexemes} {parts : List Part} {operation : Operation}
-      → Prologue ts parts mid → Operation' mid operation us → Update Operation' ts (parts ++ p.Operation operation ∷ []) us
-  more : {ts mid behind next us : Lexemes} {parts others : List Part} {operation : Operation}
-      → Prologue ts parts mid → Operation' mid operation behind → the terminal.Semicolon behind tt next → Update Operation' next others us
-      → Update Operation' ts (parts ++ p.Operation operation ∷ others) us
+  declared : {ts us : Lexemes} {prologue : List Declaration} → Prologue ts prologue us → Update Operation' ts (map p.Declaration prologue) us
+  last : {ts mid us : Lexemes} {prologue : List Declaration} {operation : Operation}
+      → Prologue ts prologue mid → Operation' mid operation us → Update Operation' ts (map p.Declaration prologue ++ p.Operation operation ∷ []) us
+  more : {ts mid behind next us : Lexemes} {prologue : List Declaration} {others : List Part} {operation : Operation}
+      → Prologue ts prologue mid → Operation' mid operation behind → the terminal.Semicolon behind tt next → Update Operation' next others us
+      → Update Operation' ts (map p.Declaration prologue ++ p.Operation operation ∷ others) us
 
 -- All of the lexemes are this request. Its brackets may nest as deep as they do.
 abbrev pub IsRequest : Lexemes → List Part → Type 0

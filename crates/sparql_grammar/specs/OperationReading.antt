@@ -18,7 +18,8 @@ use Rattle.sparql_grammar.specs.declared.tree.Part.{Part}
 use Rattle.sparql_grammar.specs.declared.tree.Part.TheVariants as p
 use Rattle.sparql_grammar.specs.declared.tree.Triples.{Triples}
 use Rattle.sparql_grammar.specs.declared.tree.VarOrIri.{VarOrIri}
-use Rattle.sparql_grammar.specs.Lexemes.{Reading, sees, the, value, namespace}
+use Rattle.sparql_grammar.specs.Lexemes.{Reading, sees, the}
+use Rattle.sparql_grammar.specs.PrologueReading.{declaration, sees_declaration}
 use Rattle.sparql_grammar.specs.Reading.{all_of, node, sees_node, triples_template, var_or_iri}
 use Rattle.sparql_grammar.specs.WordReading.{iri}
 
@@ -75,19 +76,6 @@ between operation = do
   the terminal.To
   to ← graph_or_default
   pure (operation silent from to)
-
--- ---- declarations
-
--- PNAME_NS IRIREF
-unfoldable pub prefix : Reading Part
-prefix = do
-  prefix ← namespace terminal.Pname
-  reference ← value terminal.Iri
-  pure (p.Prefix prefix reference)
-
--- IRIREF
-unfoldable pub base : Reading Part
-base = p.Base <$> value terminal.Iri
 
 -- ---- data
 
@@ -164,13 +152,8 @@ module _ (template inner : Reading (List Triples)) where
     pure (p.Operation operation)
 
   -- BaseDecl | PrefixDecl | Update1 ( ";" | the end )
-  abbrev pub part_by : Option Terminal → Reading Part
-  part_by (Some terminal.Prefix) = any >> prefix
-  part_by (Some terminal.Base) = any >> base
-  part_by _ = ended_operation
-
   unfoldable pub part : Reading Part
-  part = peek >>= part_by
+  part = choose sees_declaration (p.Declaration <$> declaration) ended_operation
 
   -- Update, up to the last lexeme
   unfoldable pub update : Reading (List Part)

@@ -22,7 +22,18 @@ without_case text = map to_ascii_lowercase text
 abbrev pub is_word : List ℕ → List ℕ → Bool
 is_word word text = bytes_eq (without_case text) word
 
--- words in any case: where an operation acts
+-- words in any case: those of queries
+abbrev pub query_terminal : List ℕ → Terminal
+query_terminal text =
+    if is_word (codes "select") text then terminal.Select
+    else if is_word (codes "distinct") text then terminal.Distinct
+    else if is_word (codes "ask") text then terminal.Ask
+    else if is_word (codes "where") text then terminal.Where
+    else if is_word (codes "union") text then terminal.Union
+    else if is_word (codes "optional") text then terminal.Optional
+    else terminal.Other
+
+-- where an operation acts
 abbrev pub place_terminal : List ℕ → Terminal
 place_terminal text =
     if is_word (codes "silent") text then terminal.Silent
@@ -31,7 +42,7 @@ place_terminal text =
     else if is_word (codes "named") text then terminal.Named
     else if is_word (codes "all") text then terminal.All
     else if is_word (codes "to") text then terminal.To
-    else terminal.Other
+    else query_terminal text
 
 -- what is done to graphs
 abbrev pub graph_terminal : List ℕ → Terminal
@@ -76,6 +87,7 @@ symbol_terminal text =
     else if bytes_eq text (codes ";") then terminal.Semicolon
     else if bytes_eq text (codes ",") then terminal.Comma
     else if bytes_eq text (codes "^^") then terminal.Caret
+    else if bytes_eq text (codes "*") then terminal.Star
     else bracket_terminal text
 
 abbrev pub terminal_by : Kind → List ℕ → Terminal

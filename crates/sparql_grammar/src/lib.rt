@@ -7,6 +7,7 @@ mod laws;
 mod lexeme;
 mod operations;
 mod outside;
+mod prologue;
 mod stop;
 mod terminal;
 mod tree;

@@ -1,4 +1,4 @@
-//! The operations of a request and its declarations (SPARQL 1.1 Query, section 19.8).
+//! The operations of a request (SPARQL 1.1 Query, section 19.8).
 
 ghost use Rattle.std.specs.Prelude.{◌≡◌, ◌≤◌, ◌<◌, length, [], OnOk};
 ghost use Rattle.rdf_grammar.specs.Readings.{Reads};
@@ -8,6 +8,7 @@ ghost use Rattle.sparql_grammar.specs.declared.tree.Operation.TheVariants as ope
 
 use crate::grammar::{begins_node, triples_template, var_or_iri};
 use crate::lexeme::Parser;
+use crate::prologue::{begins_declaration, declaration};
 use crate::terminal::Terminal;
 use crate::tree::{Block, GraphOrDefault, GraphRefAll, Name, Operation, Part, Triples};
 use rdf_grammar::{GrammarFault, MAX_OPEN, iri};
@@ -125,24 +126,6 @@ fn add<'a>(parser: &mut Parser<'_, 'a>) -> Result<Operation<'a>, GrammarFault>
     parser.expect(Terminal::To)?;
     let to = graph_or_default(parser)?;
     Ok(Operation::Add { silent, from, to })
-}
-
-#[tactic(auto, unfolding(crate::specs::OperationReading::prefix))]
-fn prefix<'a>(parser: &mut Parser<'_, 'a>) -> Result<Part<'a>, GrammarFault>
-    ensures reads { Reads (spec.prefix parser.old) result parser.new }
-    ensures shorter { OnOk result (length parser.new < length parser.old) }
-{
-    let prefix = parser.namespace(Terminal::Pname)?;
-    let reference = parser.value(Terminal::Iri)?;
-    Ok(Part::Prefix(prefix, reference))
-}
-
-#[tactic(auto, unfolding(crate::specs::OperationReading::base))]
-fn base<'a>(parser: &mut Parser<'_, 'a>) -> Result<Part<'a>, GrammarFault>
-    ensures reads { Reads (spec.base parser.old) result parser.new }
-    ensures shorter { OnOk result (length parser.new < length parser.old) }
-{
-    Ok(Part::Base(parser.value(Terminal::Iri)?))
 }
 
 #[tactic(auto, unfolding(crate::specs::OperationReading::triples))]
@@ -290,22 +273,15 @@ fn ended_operation<'a>(parser: &mut Parser<'_, 'a>) -> Result<Part<'a>, GrammarF
     Ok(Part::Operation(operation))
 }
 
-#[tactic(auto, unfolding(crate::specs::OperationReading::part, rdf_grammar::specs::Readings::any))]
+#[tactic(auto, unfolding(crate::specs::OperationReading::part))]
 fn part<'a>(parser: &mut Parser<'_, 'a>) -> Result<Part<'a>, GrammarFault>
     ensures reads { Reads (spec.part spec.in_data spec.in_graph parser.old) result parser.new }
     ensures shorter { OnOk result (length parser.new < length parser.old) }
 {
-    match parser.peek() {
-        Some(Terminal::Prefix) => {
-            parser.pass();
-            prefix(parser)
-        }
-        Some(Terminal::Base) => {
-            parser.pass();
-            base(parser)
-        }
-        _ => ended_operation(parser),
+    if begins_declaration(parser.peek()) {
+        return Ok(Part::Declaration(declaration(parser)?));
     }
+    ended_operation(parser)
 }
 
 /// The parts of a request up to the last lexeme (29: Update).

@@ -42,6 +42,12 @@ pub enum Terminal {
     Named,
     All,
     To,
+    Select,
+    Distinct,
+    Ask,
+    Where,
+    Union,
+    Optional,
     /// `^^`
     Caret,
     OpenBracket,
@@ -55,6 +61,8 @@ pub enum Terminal {
     Dot,
     Semicolon,
     Comma,
+    /// `*`
+    Star,
     /// What the grammar has no use for: another word, an operator.
     Other,
 }
@@ -65,6 +73,26 @@ pub(crate) fn is_word(text: &str, word: &str) -> bool
         (map to_ascii_lowercase word.now) }
 {
     text.eq_ignore_ascii_case(word)
+}
+
+fn query_terminal(text: &str) -> Terminal
+    ensures { result ≡ spec.query_terminal text.now }
+{
+    if is_word(text, "select") {
+        Terminal::Select
+    } else if is_word(text, "distinct") {
+        Terminal::Distinct
+    } else if is_word(text, "ask") {
+        Terminal::Ask
+    } else if is_word(text, "where") {
+        Terminal::Where
+    } else if is_word(text, "union") {
+        Terminal::Union
+    } else if is_word(text, "optional") {
+        Terminal::Optional
+    } else {
+        Terminal::Other
+    }
 }
 
 fn place_terminal(text: &str) -> Terminal
@@ -83,7 +111,7 @@ fn place_terminal(text: &str) -> Terminal
     } else if is_word(text, "to") {
         Terminal::To
     } else {
-        Terminal::Other
+        query_terminal(text)
     }
 }
 
@@ -170,6 +198,8 @@ fn symbol_terminal(text: &str) -> Terminal
         Terminal::Comma
     } else if text == "^^" {
         Terminal::Caret
+    } else if text == "*" {
+        Terminal::Star
     } else {
         bracket_terminal(text)
     }
@@ -246,6 +276,12 @@ fn word(terminal: Terminal) -> Option<Word>
         | Terminal::Named
         | Terminal::All
         | Terminal::To
+        | Terminal::Select
+        | Terminal::Distinct
+        | Terminal::Ask
+        | Terminal::Where
+        | Terminal::Union
+        | Terminal::Optional
         | Terminal::OpenBracket
         | Terminal::CloseBracket
         | Terminal::Open
@@ -255,6 +291,7 @@ fn word(terminal: Terminal) -> Option<Word>
         | Terminal::Dot
         | Terminal::Semicolon
         | Terminal::Comma
+        | Terminal::Star
         | Terminal::Other => None,
     }
 }

@@ -109,14 +109,6 @@ pub enum Operation<'a> {
     },
 }
 
-/// A part of a request (29: Update): a declaration of its prologues, or an operation.
-#[derive(Drop)]
-pub enum Part<'a> {
-    Prefix(Slice<'a>, Slice<'a>),
-    Base(Slice<'a>),
-    Operation(Operation<'a>),
-}
-
 /// A declaration of a prologue (4: Prologue).
 #[derive(Drop)]
 pub enum Declaration<'a> {
@@ -124,6 +116,13 @@ pub enum Declaration<'a> {
     Prefix(Slice<'a>, Slice<'a>),
     /// The reference.
     Base(Slice<'a>),
+}
+
+/// A part of a request (29: Update): a declaration of its prologues, or an operation.
+#[derive(Drop)]
+pub enum Part<'a> {
+    Declaration(Declaration<'a>),
+    Operation(Operation<'a>),
 }
 
 /// A group graph pattern (53: GroupGraphPattern).

@@ -1,0 +1,463 @@
+-- The blank nodes that data says are those that were numbered.
+use Rattle.std.proofs.Common.{◌≡◌, ◌∙◌, ◌⊎◌, ◌≤◌, ◌<◌, ap, refl, sym, subst, inl, inr, ℕ, Bool, true, false, ◌||◌, if◌then◌else◌, List, [], ◌∷◌, map, length, Option, Some, None, Contains, arith}
+use Rattle.std.proofs.lemmas.Option.{same_Some}
+use Rattle.std.proofs.lemmas.List.Elements.{Contains-append_left, Contains-append_right}
+use Rattle.std.specs.List.{flat_map, AllByRecursion}
+use Rattle.std.specs.Option.{option_map}
+use Rattle.rdf_terms.specs.Literal.{LiteralParts, is_tag}
+use Rattle.rdf_terms.specs.declared.term.Term.{Term}
+use Rattle.rdf_terms.specs.declared.term.Term.TheVariants as t
+use Rattle.rdf_terms.specs.Vocabulary.{rdf_nil}
+use Rattle.rdf_tokens.specs.Values.{text_value, tag_value}
+use Rattle.rdf_grammar.specs.Prologue.{Prologue, iri_of}
+use Rattle.rdf_grammar.specs.Steps.{Outcome, each, and_then}
+use Rattle.rdf_grammar.specs.declared.tree.Literal.{Literal}
+use Rattle.rdf_grammar.specs.declared.tree.Literal.TheVariants as l
+use Rattle.rdf_grammar.specs.declared.tree.Name.{Name}
+use Rattle.sparql_grammar.specs.Proper.{is_filled, stands_alone, stands_alone_of}
+use Rattle.sparql_grammar.specs.declared.tree.Block.{Block}
+use Rattle.sparql_grammar.specs.declared.tree.Node.{Node}
+use Rattle.sparql_grammar.specs.declared.tree.Node.TheOpen.{Node-F, Property-F}
+use Rattle.sparql_grammar.specs.declared.tree.Node.TheFolds.{fold-Property, fold-roll-Node, fold-roll-Property, map-Node, map-Property, ind-Node, ind-Property}
+use Rattle.sparql_grammar.specs.declared.tree.Node.TheViews.{roll-Node, roll-Property}
+use Rattle.sparql_grammar.specs.declared.tree.Property.{Property}
+use Rattle.sparql_grammar.specs.declared.tree.Triples.{Triples}
+use Rattle.sparql_grammar.specs.declared.tree.VarOrIri as written
+use Rattle.sparql_grammar.specs.declared.tree.VarOrIri.TheVariants as n
+use Rattle.sparql_grammar.specs.declared.tree.Verb.{Verb}
+use Rattle.sparql_grammar.specs.declared.tree.Verb.TheVariants as v
+use Rattle.sparql_drafts.specs.Blanks.{place_blanks, pattern_blanks, IsNumbered, DataAreNumbered, PatternsAreNumbered}
+use Rattle.sparql_drafts.specs.Drafts.{IsPlaceBelow, ArePatternsBelow}
+use Rattle.sparql_drafts.specs.declared.draft.QuadPattern.{QuadPattern}
+use Rattle.sparql_drafts.specs.declared.draft.Quads.{Quads}
+use Rattle.sparql_drafts.specs.declared.draft.VarOrIri.{VarOrIri}
+use Rattle.sparql_drafts.specs.declared.draft.VarOrIri.TheVariants as i
+use Rattle.sparql_drafts.specs.declared.draft.VarOrTerm.{VarOrTerm}
+use Rattle.sparql_drafts.specs.declared.draft.VarOrTerm.TheVariants as x
+use Rattle.sparql_drafts.specs.State.{State, Does, start, quads, told, fresh, in_default, in_graph, says}
+use Rattle.sparql_drafts.specs.Meaning.{Meaning, Says, iri, verb, var_or_iri, literal, object, objects, first, rest, nil, next_cell, behind, list_term, list_inside, node_of, property_of, meaning, property, subject_with, triples, graph, block, quads_in, pattern_in}
+use Rattle.sparql_drafts.proofs.BlankSteps.{then_parts, node, Numbered, IsBelow, Said, wider, also, below_on, says_numbered, TermKeeps, fresh_keeps, labelled_keeps, Stays, stays_keeps}
+
+-- ---- leaves
+
+told_same : {A : Type 0} (f : Prologue → Option A) (s u : State) (a : A) → told f s ≡ Some (a, u) → s ≡ u
+told_same {A = A} f s u a e = by (f s.prologue) e
+  where
+    by : (o : Option A) → option_map {U = A × State} (λ x. (x, s)) o ≡ Some (a, u) → s ≡ u
+    by None e = absurd (cc e)
+    by (Some x) e = ap (λ p. p.1) (same_Some _ _ e)
+
+iri_same : (name : Name) (s u : State) (a : List ℕ) → iri name s ≡ Some (a, u) → s ≡ u
+unfolding iri
+iri_same name s u a e = told_same (iri_of name) s u a e
+
+-- a step behind an IRI
+behind_iri_same : {A : Type 0} (name : Name) (f : List ℕ → A) (s u : State) (a : A) → and_then (iri name s) (λ i z. Some (f i, z)) ≡ Some (a, u) → s ≡ u
+behind_iri_same name f s u a e =
+    let p = then_parts (iri name s) _ (a, u) e in
+    iri_same name s p.1 p.0 p.2 ∙ ap (λ q. q.1) (same_Some _ _ p.3)
+
+verb_same : (word : Verb) (s u : State) (a : VarOrIri) → verb word s ≡ Some (a, u) → s ≡ u
+unfolding verb
+verb_same (v.Variable name) s u a e = ap (λ p. p.1) (same_Some _ _ e)
+verb_same (v.Name name) s u a e = behind_iri_same name (λ z. i.Iri z) s u a e
+verb_same v.Type s u a e = ap (λ p. p.1) (same_Some _ _ e)
+
+var_or_iri_same : (word : written.VarOrIri) (s u : State) (a : VarOrIri) → var_or_iri word s ≡ Some (a, u) → s ≡ u
+unfolding var_or_iri
+var_or_iri_same (n.Variable name) s u a e = ap (λ p. p.1) (same_Some _ _ e)
+var_or_iri_same (n.Name name) s u a e = behind_iri_same name (λ z. i.Iri z) s u a e
+
+-- a term that is no blank node
+apart : (a b : VarOrTerm) → a ≡ b → ((k : ℕ) → a ≡ node k → ⊥) → (k : ℕ) → b ≡ node k → ⊥
+apart a b e h = λ k z. h k (e ∙ z)
+
+iri_apart : (a : List ℕ) (k : ℕ) → x.Term (t.Iri a) ≡ node k → ⊥
+iri_apart a k e = cc
+
+variable_apart : (a : List ℕ) (k : ℕ) → x.Variable a ≡ node k → ⊥
+variable_apart a k e = cc
+
+literal_apart : (a : LiteralParts) (k : ℕ) → x.Term (t.Literal a) ≡ node k → ⊥
+literal_apart a k e = cc
+
+pure_stays : (a : VarOrTerm) → ((k : ℕ) → a ≡ node k → ⊥) → Stays (λ s. Some (a, s))
+pure_stays a h s u b e =
+    let same = same_Some _ _ e in (ap (λ q. q.1) same, apart a b (ap (λ q. q.0) same) h)
+
+name_stays : (name : Name) → Stays (λ s. and_then (iri name s) (λ a u. Some (x.Term (t.Iri a), u)))
+name_stays name s u b e =
+    let p = then_parts (iri name s) _ (b, u) e in
+    let same = same_Some _ _ p.3 in (
+      iri_same name s p.1 p.0 p.2 ∙ ap (λ q. q.1) same,
+      apart (x.Term (t.Iri p.0)) b (ap (λ q. q.0) same) (iri_apart p.0),
+    )
+
+-- a step that gives a literal and leaves the state
+abbrev Writes : Does Term → Type 0
+Writes f = (s u : State) (a : Term) → f s ≡ Some (a, u) → (s ≡ u) × ((k : ℕ) → a ≡ t.Blank k → ⊥)
+
+not_blank : (a b : Term) → a ≡ b → ((k : ℕ) → a ≡ t.Blank k → ⊥) → (k : ℕ) → b ≡ t.Blank k → ⊥
+not_blank a b e h = λ k z. h k (e ∙ z)
+
+no_blank : (a : LiteralParts) (k : ℕ) → t.Literal a ≡ t.Blank k → ⊥
+no_blank a k e = cc
+
+written_is : (a : LiteralParts) → Writes (λ s. Some (t.Literal a, s))
+written_is a s u b e = let same = same_Some _ _ e in (ap (λ q. q.1) same, not_blank (t.Literal a) b (ap (λ q. q.0) same) (no_blank a))
+
+tagged_is : (b : Bool) (a : LiteralParts) → Writes (if b then (λ s. Some (t.Literal a, s)) else (λ s. None))
+tagged_is true a = written_is a
+tagged_is false a = λ s u b e. absurd (cc e)
+
+typed_is : (text : List ℕ) (name : Name) → Writes (λ s. and_then (iri name s) (λ a u. Some (t.Literal (record { lexical = text; datatype = a; tag = None }), u)))
+typed_is text name s u b e =
+    let p = then_parts (iri name s) _ (b, u) e in
+    let same = same_Some _ _ p.3 in (
+      iri_same name s p.1 p.0 p.2 ∙ ap (λ q. q.1) same,
+      not_blank (t.Literal (record { lexical = text; datatype = p.0; tag = None })) b (ap (λ q. q.0) same) (no_blank _),
+    )
+
+literal_is : (word : Literal) → Writes (literal word)
+unfolding literal
+literal_is (l.Plain text) = written_is _
+literal_is (l.Tagged text tag) = tagged_is (is_tag (tag_value tag)) _
+literal_is (l.Typed text name) = typed_is (text_value text) name
+literal_is (l.Integer text) = written_is _
+literal_is (l.Decimal text) = written_is _
+literal_is (l.Double text) = written_is _
+literal_is (l.Boolean value) = written_is _
+
+term_inside : (a b : Term) → x.Term a ≡ x.Term b → a ≡ b
+term_inside a b e = cc
+
+literal_stays : (word : Literal) → Stays (λ s. and_then (literal word s) (λ a u. Some (x.Term a, u)))
+literal_stays word s u b e =
+    let p = then_parts (literal word s) _ (b, u) e in
+    let same = same_Some _ _ p.3 in
+    let is = literal_is word s p.1 p.0 p.2 in (
+      is.0 ∙ ap (λ q. q.1) same,
+      apart (x.Term p.0) b (ap (λ q. q.0) same) (λ k z. is.1 k (term_inside p.0 (t.Blank k) z)),
+    )
+
+-- ---- nodes and properties
+
+-- patterns are said; nothing is left pending that wasn't
+abbrev Keeps : Does (Unit {0}) → State → Type 0
+Keeps f s = (pending : List VarOrTerm) (u : State) → Numbered pending s → f s ≡ Some (tt, u) → Numbered pending u × (s.numbering.next ≤ u.numbering.next)
+
+abbrev InsideKeeps : (VarOrTerm → Does (Unit {0})) → Type 0
+InsideKeeps f = (a : VarOrTerm) (s : State) → IsBelow a s → Keeps (f a) s
+
+-- and the subject stands in one
+abbrev Uses : (VarOrTerm → Does (Unit {0})) → Type 0
+Uses f = (a : VarOrTerm) (pending : List VarOrTerm) (s u : State) → IsBelow a s → Numbered (a ∷ pending) s → f a s ≡ Some (tt, u) → Numbered pending u × (s.numbering.next ≤ u.numbering.next)
+
+record Good (m : Meaning) : Type 0 where
+  term : TermKeeps m.term
+  inside : InsideKeeps m.inside
+
+nothing_keeps : InsideKeeps (λ _ s. Some (tt, s))
+nothing_keeps a s b pending u h e =
+    let same : s ≡ u = ap (λ p. p.1) (same_Some _ _ e) in (subst (Numbered pending) same h, (let z : s.numbering.next ≡ u.numbering.next = ap (λ (y : State). y.numbering.next) same in omega (arith, z)))
+
+uses_keeps : (f : VarOrTerm → Does (Unit {0})) → Uses f → InsideKeeps f
+uses_keeps f h a s b pending u numbered e = h a pending s u b (also a pending s numbered) e
+
+-- one step, then another
+then_keeps : (f g : VarOrTerm → Does (Unit {0})) → InsideKeeps f → InsideKeeps g → InsideKeeps (λ a s. and_then (f a s) (λ _. g a))
+then_keeps f g hf hg a s b pending u numbered e =
+    let p = then_parts (f a s) _ (tt, u) e in
+    let one = hf a s b pending p.1 numbered p.2 in
+    let more = hg a p.1 (below_on a s p.1 one.1 b) pending u one.0 p.3 in
+    (more.0, (let y : s.numbering.next ≤ p.1.numbering.next = one.1 in let z : p.1.numbering.next ≤ u.numbering.next = more.1 in omega (arith, y, z)))
+
+then_uses : (f g : VarOrTerm → Does (Unit {0})) → Uses f → InsideKeeps g → Uses (λ a s. and_then (f a s) (λ _. g a))
+then_uses f g hf hg a pending s u b numbered e =
+    let p = then_parts (f a s) _ (tt, u) e in
+    let one = hf a pending s p.1 b numbered p.2 in
+    let more = hg a p.1 (below_on a s p.1 one.1 b) pending u one.0 p.3 in
+    (more.0, (let y : s.numbering.next ≤ p.1.numbering.next = one.1 in let z : p.1.numbering.next ≤ u.numbering.next = more.1 in omega (arith, y, z)))
+
+object_uses : (predicate : VarOrIri) (m : Meaning) → Good m → Uses (λ a. object a predicate m)
+unfolding object
+object_uses predicate m g a pending s u b numbered e =
+    let p = then_parts (m.term s) _ (tt, u) e in
+    let o = g.term (a ∷ pending) s p.1 p.0 numbered p.2 in
+    let q = then_parts (says a predicate p.0 p.1) _ (tt, u) p.3 in
+    let said = says_numbered a p.0 predicate pending p.1 q.1 o.0 (below_on a s p.1 o.1 b) o.2 q.2 in
+    let far : p.1.numbering.next ≤ q.1.numbering.next = omega (arith, said.1) in
+    let r = g.inside p.0 q.1 (below_on p.0 p.1 q.1 far o.2) pending u said.0 q.3 in
+    (r.0, (let y : s.numbering.next ≤ p.1.numbering.next = o.1 in let z : q.1.numbering.next ≤ u.numbering.next = r.1 in omega (arith, y, far, z)))
+
+objects_keep : (predicate : VarOrIri) (ms : List Meaning) → AllByRecursion Good ms → InsideKeeps (λ a. each (object a predicate) ms)
+objects_keep predicate [] all = nothing_keeps
+objects_keep predicate (m ∷ ms) all =
+    then_keeps (λ a. object a predicate m) (λ a. each (object a predicate) ms) (uses_keeps (λ a. object a predicate m) (object_uses predicate m all.0)) (objects_keep predicate ms all.1)
+
+objects_use : (predicate : VarOrIri) (ms : List Meaning) → AllByRecursion Good ms → Uses (λ a. objects a predicate ms)
+objects_use predicate [] all = λ a pending s u b numbered e. absurd (cc e)
+objects_use predicate (m ∷ ms) all = then_uses (λ a. object a predicate m) (λ a. each (object a predicate) ms) (object_uses predicate m all.0) (objects_keep predicate ms all.1)
+
+property_uses : (word : Verb) (ms : List Meaning) → AllByRecursion Good ms → Uses (λ a s. and_then (verb word s) (λ predicate. objects a predicate ms))
+property_uses word ms all a pending s u b numbered e =
+    let p = then_parts (verb word s) _ (tt, u) e in
+    let same : p.1 ≡ s = sym (verb_same word s p.1 p.0 p.2) in
+    let h : objects a p.0 ms s ≡ Some (tt, u) = subst (λ (z : State). objects a p.0 ms z ≡ Some (tt, u)) same p.3 in
+    objects_use p.0 ms all a pending s u b numbered h
+
+properties_keep : (ps : List Says) → AllByRecursion Uses ps → InsideKeeps (λ a. each (λ p. p a) ps)
+properties_keep [] all = nothing_keeps
+properties_keep (f ∷ ps) all = then_keeps f (λ a. each (λ p. p a) ps) (uses_keeps f all.0) (properties_keep ps all.1)
+
+properties_use : (f : Says) (ps : List Says) → AllByRecursion Uses (f ∷ ps) → Uses (λ a. each (λ p. p a) (f ∷ ps))
+properties_use f ps all = then_uses f (λ a. each (λ p. p a) ps) all.0 (properties_keep ps all.1)
+
+-- ---- lists
+
+next_cell_keeps : (m : Meaning) → Good m → (a next : VarOrTerm) (pending : List VarOrTerm) (s u : State) → IsBelow a s → Numbered pending s → next_cell a m s ≡ Some (next, u)
+    → Numbered pending u × (s.numbering.next ≤ u.numbering.next) × IsBelow next u
+next_cell_keeps m good a next pending s u b numbered e =
+    let p = then_parts (fresh s) _ (next, u) e in
+    let new = fresh_keeps pending s p.1 p.0 numbered p.2 in
+    let q = then_parts (says a rest p.0 p.1) _ (next, u) p.3 in
+    let open_ones = wider (p.0 ∷ pending) (p.0 ∷ a ∷ pending) p.1 (λ k z. elim z [ inl here ↦ inl here | inr there ↦ inr (inr there) ]) new.0 in
+    let said = says_numbered a p.0 rest pending p.1 q.1 open_ones (below_on a s p.1 new.1 b) new.2 q.2 in
+    let near : p.1.numbering.next ≤ q.1.numbering.next = omega (arith, said.1) in
+    let r = then_parts (object p.0 first m q.1) _ (next, u) q.3 in
+    let one = uses_keeps (λ y. object y first m) (object_uses first m good) p.0 q.1 (below_on p.0 p.1 q.1 near new.2) pending r.1 said.0 r.2 in
+    let far : p.1.numbering.next ≤ r.1.numbering.next = (let y : q.1.numbering.next ≤ r.1.numbering.next = one.1 in omega (arith, near, y)) in
+    let is_next : p.0 ≡ next = ap (λ z. z.0) (same_Some _ _ r.3) in
+    let is_u : r.1 ≡ u = ap (λ z. z.1) (same_Some _ _ r.3) in (
+      subst (Numbered pending) is_u one.0,
+      (let y : s.numbering.next ≤ p.1.numbering.next = new.1 in let z : r.1.numbering.next ≡ u.numbering.next = ap (λ (v : State). v.numbering.next) is_u in omega (arith, y, far, z)),
+      subst (λ (v : VarOrTerm). IsBelow v u) is_next (subst (IsBelow p.0) is_u (below_on p.0 p.1 r.1 far new.2)),
+    )
+
+behind_keeps : (ms : List Meaning) → AllByRecursion Good ms → InsideKeeps (λ a. behind a ms)
+behind_keeps [] all a s b pending u numbered e =
+    let r = says_numbered a nil rest pending s u (also nil (a ∷ pending) s (also a pending s numbered)) b (λ k z. absurd (iri_apart rdf_nil k z)) e in
+    (r.0, (let y : u.numbering.next ≡ s.numbering.next = r.1 in omega (arith, y)))
+behind_keeps (m ∷ ms) all a s b pending u numbered e =
+    let p = then_parts (next_cell a m s) _ (tt, u) e in
+    let one = next_cell_keeps m all.0 a p.0 pending s p.1 b numbered p.2 in
+    let more = behind_keeps ms all.1 p.0 p.1 one.2 pending u one.0 p.3 in
+    (more.0, (let y : s.numbering.next ≤ p.1.numbering.next = one.1 in let z : p.1.numbering.next ≤ u.numbering.next = more.1 in omega (arith, y, z)))
+
+list_term_keeps : (ms : List Meaning) → TermKeeps (list_term ms)
+list_term_keeps [] = stays_keeps _ (pure_stays nil (iri_apart rdf_nil))
+list_term_keeps (m ∷ ms) = fresh_keeps
+
+list_uses : (m : Meaning) (ms : List Meaning) → AllByRecursion Good (m ∷ ms) → Uses (list_inside (m ∷ ms))
+list_uses m ms all = then_uses (λ a. object a first m) (λ a. behind a ms) (object_uses first m all.0) (behind_keeps ms all.1)
+
+list_keeps : (ms : List Meaning) → AllByRecursion Good ms → InsideKeeps (list_inside ms)
+list_keeps [] all = nothing_keeps
+list_keeps (m ∷ ms) all = uses_keeps (list_inside (m ∷ ms)) (list_uses m ms all)
+
+-- ---- trees
+
+only_good : (f : Does VarOrTerm) → TermKeeps f → Good (record { term = f; inside = λ _ s. Some (tt, s) })
+only_good f h = record { term = h; inside = nothing_keeps }
+
+-- and a node that stands alone uses itself
+record IsGood (d : Node) : Type 0 where
+  good : Good (meaning d)
+  alone : stands_alone d ≡ true → Uses (meaning d).inside
+
+abbrev GoodNode : Type 0
+GoodNode = (d : Node) × IsGood d
+
+abbrev GoodProperty : Type 0
+GoodProperty = (d : Property) × Uses (property d)
+
+all_nodes : (ds : List GoodNode) → AllByRecursion Good (map meaning (map (λ e. e.0) ds))
+all_nodes [] = tt
+all_nodes (d ∷ ds) = (d.1.good, all_nodes ds)
+
+all_properties : (ds : List GoodProperty) → AllByRecursion Uses (map property (map (λ e. e.0) ds))
+all_properties [] = tt
+all_properties (d ∷ ds) = (d.1, all_properties ds)
+
+abbrev plain : Node-F GoodNode GoodProperty → Node-F Node Property
+plain y = map-Node GoodNode GoodProperty Node Property (λ e. e.0) (λ e. e.0) y
+
+abbrev said_by : Node-F GoodNode GoodProperty → Meaning
+said_by y = node_of (map-Node Node Property Meaning Says meaning property (plain y))
+
+abbrev alone_by : Node-F GoodNode GoodProperty → Bool
+alone_by y = stands_alone_of (map-Node Node Property Bool Bool stands_alone (fold-Property Bool Bool stands_alone_of (λ _. true)) (plain y))
+
+good_node : (y : Node-F GoodNode GoodProperty) → Good (said_by y)
+good_node (Node-F.Variable name) = only_good _ (stays_keeps _ (pure_stays (x.Variable name) (variable_apart name)))
+good_node (Node-F.Name name) = only_good _ (stays_keeps _ (name_stays name))
+good_node (Node-F.Literal word) = only_good _ (stays_keeps _ (literal_stays word))
+good_node (Node-F.Label label) = only_good _ (labelled_keeps label)
+good_node (Node-F.Blank bracket ps) = record { term = fresh_keeps; inside = properties_keep _ (all_properties ps) }
+good_node (Node-F.Collection bracket ms) = record { term = list_term_keeps _; inside = list_keeps _ (all_nodes ms) }
+
+good_alone : (y : Node-F GoodNode GoodProperty) → alone_by y ≡ true → Uses (said_by y).inside
+good_alone (Node-F.Variable name) e = absurd (cc e)
+good_alone (Node-F.Name name) e = absurd (cc e)
+good_alone (Node-F.Literal word) e = absurd (cc e)
+good_alone (Node-F.Label label) e = absurd (cc e)
+good_alone (Node-F.Blank bracket []) e = absurd (cc e)
+good_alone (Node-F.Blank bracket (p ∷ ps)) e = properties_use _ _ (all_properties (p ∷ ps))
+good_alone (Node-F.Collection bracket []) e = absurd (cc e)
+good_alone (Node-F.Collection bracket (m ∷ ms)) e = list_uses _ _ (all_nodes (m ∷ ms))
+
+good_property : (y : Property-F GoodNode GoodProperty) → Uses (property_of (map-Property Node Property Meaning Says meaning property (map-Property GoodNode GoodProperty Node Property (λ e. e.0) (λ e. e.0) y)))
+good_property y = property_uses y.verb _ (all_nodes y.objects)
+
+rolled_good : (y : Node-F GoodNode GoodProperty) → IsGood (roll-Node (plain y))
+rolled_good y =
+    let is : meaning (roll-Node (plain y)) ≡ said_by y = fold-roll-Node Meaning Says node_of property_of (plain y) in
+    let alone_is : stands_alone (roll-Node (plain y)) ≡ alone_by y = fold-roll-Node Bool Bool stands_alone_of (λ _. true) (plain y) in
+    record {
+      good = subst Good (sym is) (good_node y);
+      alone = λ e. subst (λ (m : Meaning). Uses m.inside) (sym is) (good_alone y (sym alone_is ∙ e));
+    }
+
+abbrev NodeStep : Type 0
+NodeStep = (z : Node-F Node Property) (y : Node-F GoodNode GoodProperty) → map-Node GoodNode GoodProperty Node Property (λ e. e.0) (λ e. e.0) y ≡ z → IsGood (roll-Node z)
+
+node_step : NodeStep
+node_step z y is = subst (λ a. IsGood (roll-Node a)) is (rolled_good y)
+
+abbrev PropertyStep : Type 0
+PropertyStep = (z : Property-F Node Property) (y : Property-F GoodNode GoodProperty) → map-Property GoodNode GoodProperty Node Property (λ e. e.0) (λ e. e.0) y ≡ z → Uses (property (roll-Property z))
+
+property_step : PropertyStep
+property_step z y is = subst (λ a. Uses (property (roll-Property a))) is (subst Uses (sym (fold-roll-Property Meaning Says node_of property_of (map-Property GoodNode GoodProperty Node Property (λ e. e.0) (λ e. e.0) y))) (good_property y))
+
+nodes_good : (d : Node) → IsGood d
+nodes_good = ind-Node IsGood (λ d. Uses (property d)) node_step property_step
+
+properties_good : (d : Property) → Uses (property d)
+properties_good = ind-Property IsGood (λ d. Uses (property d)) node_step property_step
+
+all_good : (ps : List Property) → AllByRecursion Uses (map property ps)
+all_good [] = tt
+all_good (p ∷ ps) = (properties_good p, all_good ps)
+
+-- ---- data
+
+abbrev Closed : Does (Unit {0}) → Type 0
+Closed f = (s u : State) → Numbered [] s → f s ≡ Some (tt, u) → Numbered [] u
+
+each_closed : (fs : List (Does (Unit {0}))) → AllByRecursion Closed fs → Closed (each (λ f. f) fs)
+each_closed [] all s u h e = subst (Numbered []) (ap (λ p. p.1) (same_Some _ _ e)) h
+each_closed (f ∷ fs) all s u h e =
+    let p = then_parts (f s) _ (tt, u) e in
+    each_closed fs all.1 p.1 u (all.0 s p.1 h p.2) p.3
+
+-- of the subject or of its properties one uses it
+subject_closed : (d : Node) (ps : List Property) → (stands_alone d ≡ true) ⊎ (is_filled ps ≡ true) → Closed (subject_with d ps)
+subject_closed d ps (inl alone) s u h e =
+    let p = then_parts ((meaning d).term s) _ (tt, u) e in
+    let o = (nodes_good d).good.term [] s p.1 p.0 h p.2 in
+    let q = then_parts ((meaning d).inside p.0 p.1) _ (tt, u) p.3 in
+    let r = (nodes_good d).alone alone p.0 [] p.1 q.1 o.2 o.0 q.2 in
+    (properties_keep (map property ps) (all_good ps) p.0 q.1 (below_on p.0 p.1 q.1 r.1 o.2) [] u r.0 q.3).0
+subject_closed d [] (inr none) s u h e = absurd (cc none)
+subject_closed d (w ∷ ws) (inr there) s u h e =
+    let p = then_parts ((meaning d).term s) _ (tt, u) e in
+    let o = (nodes_good d).good.term [] s p.1 p.0 h p.2 in
+    let q = then_parts ((meaning d).inside p.0 p.1) _ (tt, u) p.3 in
+    let r = (nodes_good d).good.inside p.0 p.1 o.2 (p.0 ∷ []) q.1 o.0 q.2 in
+    (properties_use _ _ (all_good (w ∷ ws)) p.0 [] q.1 u (below_on p.0 p.1 q.1 r.1 o.2) r.0 q.3).0
+
+either : (a b : Bool) → (a || b) ≡ true → (a ≡ true) ⊎ (b ≡ true)
+either true b e = inl refl
+either false b e = inr e
+
+triples_closed : (ts : Triples) → Closed (triples ts)
+unfolding triples
+triples_closed ts = by (stands_alone ts.subject || is_filled ts.properties) refl
+  where
+    by : (b : Bool) → (stands_alone ts.subject || is_filled ts.properties) ≡ b
+        → Closed (if◌then◌else◌ {A = Does (Unit {0})} b (subject_with ts.subject ts.properties) (λ z. None))
+    by true h = subject_closed ts.subject ts.properties (either (stands_alone ts.subject) (is_filled ts.properties) h)
+    by false h = λ s u numbered e. absurd (cc e)
+
+same_numbers : (s u : State) → Numbered [] s → s.numbering ≡ u.numbering → s.patterns ≡ u.patterns → Numbered [] u
+same_numbers s u h numbering patterns = record {
+  covered = λ k l. elim (h.covered k (subst (λ z. k < z.next) (sym numbering) l)) [ inl y ↦ inl (subst (λ (z : List QuadPattern). Said z k) patterns y) | inr y ↦ inr y ];
+  below = λ k y. subst (λ z. k < z.next) numbering (h.below k (subst (λ (z : List QuadPattern). Said z k) (sym patterns) y));
+  labels = subst (λ z. AllByRecursion (λ e. e.1 < z.next) z.labels) numbering h.labels;
+}
+
+default_closed : Closed in_default
+unfolding in_default
+default_closed s u h e = let same = ap (λ p. p.1) (same_Some _ _ e) in same_numbers s u h (ap (λ (z : State). z.numbering) same) (ap (λ (z : State). z.patterns) same)
+
+graph_is_closed : (name : VarOrIri) → Closed (in_graph name)
+unfolding in_graph
+graph_is_closed name s u h e = let same = ap (λ p. p.1) (same_Some _ _ e) in same_numbers s u h (ap (λ (z : State). z.numbering) same) (ap (λ (z : State). z.patterns) same)
+
+graph_closed : (name : Option written.VarOrIri) → Closed (graph name)
+graph_closed None s u h e = default_closed s u h e
+graph_closed (Some name) s u h e =
+    let p = then_parts (var_or_iri name s) _ (tt, u) e in
+    graph_is_closed p.0 p.1 u (subst (Numbered []) (var_or_iri_same name s p.1 p.0 p.2) h) p.3
+
+all_triples : (ts : List Triples) → AllByRecursion Closed (map triples ts)
+all_triples [] = tt
+all_triples (t ∷ ts) = (triples_closed t, all_triples ts)
+
+block_closed : (b : Block) → Closed (block b)
+block_closed b s u h e =
+    let p = then_parts (graph b.graph s) _ (tt, u) e in
+    each_closed (map triples b.triples) (all_triples b.triples) p.1 u (graph_closed b.graph s p.1 h p.2) p.3
+
+all_blocks : (bs : List Block) → AllByRecursion Closed (map block bs)
+all_blocks [] = tt
+all_blocks (b ∷ bs) = (block_closed b, all_blocks bs)
+
+start_numbered : (p : Prologue) → Numbered [] (start p)
+start_numbered p = record {
+  covered = λ k l. absurd (let z : k < 0 = l in omega (arith, z));
+  below = λ k h. absurd (let z : h.0 < 0 = h.1 in omega (arith, z));
+  labels = tt;
+}
+
+numbered_quads : (s : State) → Numbered [] s → IsNumbered (quads s)
+numbered_quads s h = λ k. ((λ l. elim (h.covered k l) [ inl said ↦ said | inr none ↦ absurd none ]), (λ said. h.below k said))
+
+all_numbered : (fs : List (Does (Unit {0}))) (p : Prologue) (q : Quads) → AllByRecursion Closed fs → option_map (λ z. quads z.1) (each (λ f. f) fs (start p)) ≡ Some q → IsNumbered q
+all_numbered fs p q closed e = by (each (λ f. f) fs (start p)) refl e
+  where
+    by : (r : Outcome State (Unit {0})) → each (λ f. f) fs (start p) ≡ r → option_map (λ z. quads z.1) r ≡ Some q → IsNumbered q
+    by None d e = absurd (cc e)
+    by (Some z) d e = subst IsNumbered (same_Some _ _ e) (numbered_quads z.1 (each_closed fs closed (start p) z.1 (start_numbered p) d))
+
+pub data_numbered : DataAreNumbered
+unfolding quads_in
+data_numbered bs p q e = all_numbered (map block bs) p q (all_blocks bs) e
+
+pub pattern_numbered : PatternsAreNumbered
+unfolding pattern_in
+pattern_numbered ts p q e = all_numbered (map triples ts) p q (all_triples ts) e
+
+-- ---- below their count
+
+place_below : (limit : ℕ) (a : VarOrTerm) → ((k : ℕ) → Contains (place_blanks a) k → k < limit) → IsPlaceBelow limit a
+place_below limit (x.Variable name) h = tt
+place_below limit (x.Term (t.Blank k)) h = h k (0, (let z : 0 < length (k ∷ []) = omega arith in z), refl)
+place_below limit (x.Term (t.Iri a)) h = search
+place_below limit (x.Term (t.Literal a)) h = search
+
+patterns_below : (limit : ℕ) (qs : List QuadPattern) → ((k : ℕ) → Contains (flat_map pattern_blanks qs) k → k < limit) → ArePatternsBelow limit qs
+patterns_below limit [] h = tt
+patterns_below limit (q ∷ qs) h =
+    let here = λ (k : ℕ) (c : Contains (pattern_blanks q) k). h k (Contains-append_left (pattern_blanks q) (flat_map pattern_blanks qs) k c) in (
+      (
+        place_below limit q.subject (λ k c. here k (Contains-append_left (place_blanks q.subject) (place_blanks q.object) k c)),
+        place_below limit q.object (λ k c. here k (Contains-append_right (place_blanks q.subject) (place_blanks q.object) k c)),
+      ),
+      patterns_below limit qs (λ k c. h k (Contains-append_right (pattern_blanks q) (flat_map pattern_blanks qs) k c)),
+    )
+
+-- the patterns of data have blank numbers below their count
+pub numbered_below : (q : Quads) → IsNumbered q → ArePatternsBelow q.blanks q.patterns
+numbered_below q h = patterns_below q.blanks q.patterns (λ k c. (h k).1 c)

@@ -1,0 +1,5 @@
+pub mod BlankSteps
+pub mod DraftsBelow
+pub mod ScopeLabels
+pub mod ScopeLoops
+pub mod ScopeSteps

@@ -1,0 +1,16 @@
+//! What the text of a SPARQL request says before its static rules are asked: names with their IRIs,
+//! triples, and blank nodes numbered by their places (SPARQL 1.1 Query, sections 4.1 and 4.2).
+#![tactic(auto)]
+
+mod draft;
+mod known;
+mod laws;
+mod meaning;
+mod scope;
+
+pub use draft::{Place, QuadPattern, Quads, VarOrIri, VarOrTerm};
+pub use known::{
+    declare_prefix, unknown_all_triples, unknown_blocks, unknown_name, unknown_var_or_iri,
+};
+pub use laws::blank_numbers_are_below;
+pub use scope::Scope;

@@ -1,0 +1,567 @@
+//! What triples say.
+ghost use Rattle.std.specs.Prelude.{◌≡◌, true, drop, length, IfOk, OnOk, IsTrue, map};
+ghost use Rattle.std.specs.List.{list_all};
+ghost use Rattle.std.specs.Str.{encode_utf8_all};
+ghost use Rattle.rdf_grammar.specs.Prologue.{declared};
+ghost use Rattle.rdf_grammar.specs.Steps.{each};
+ghost use Rattle.sparql_grammar.specs.Proper as proper;
+ghost use Rattle.sparql_grammar.specs.Proper.{holds};
+ghost use Rattle.sparql_drafts.specs.Kept.{Gives, Tells};
+ghost use Rattle.sparql_drafts.specs.Known as known;
+ghost use Rattle.sparql_drafts.specs.Meaning as spec;
+ghost use Rattle.sparql_drafts.specs.Room.{HasRoom, TakesAtMost, SaysAtLeast, IsPaired};
+
+use crate::draft::{Quads, VarOrIri, VarOrTerm};
+use crate::scope::Scope;
+use rdf_grammar::PrologueFault;
+use rdf_terms::{Literal, NoMemory, Term, Text};
+use rdf_tokens::{Slice, tag_value, text_value};
+use sparql_grammar::{
+    Block, Literal as Written, Name, Node, Property, Triples, VarOrIri as WrittenName, Verb,
+};
+use std::alloc::Global;
+
+fn boolean_text(alloc: Global, value: bool) -> Result<Text, NoMemory>
+    ensures { IfOk result (λ text. text ≡ spec.boolean_text value) }
+{
+    if value {
+        Text::new(alloc, "true")
+    } else {
+        Text::new(alloc, "false")
+    }
+}
+
+// The text as it is written.
+fn as_written(alloc: Global, slice: &Slice<'_>) -> Result<Text, NoMemory>
+    ensures { IfOk result (λ text. text ≡ encode_utf8_all slice.now) }
+{
+    Text::new(alloc, slice.as_str())
+}
+
+// The functions below say where something starts, as the lines of faults want it; a boolean and `a`
+// don't tell.
+
+fn start_of_name(name: &Name<'_>) -> usize {
+    match name {
+        Name::Full(text) | Name::Prefixed(text, _) => text.start(),
+    }
+}
+
+fn start_of_literal(literal: &Written<'_>) -> Option<usize> {
+    match literal {
+        Written::Plain(text)
+        | Written::Tagged(text, _)
+        | Written::Typed(text, _)
+        | Written::Integer(text)
+        | Written::Decimal(text)
+        | Written::Double(text) => Some(text.start()),
+        Written::Boolean(_) => None,
+    }
+}
+
+fn start_of_node(node: &Node<'_>) -> Option<usize> {
+    match node {
+        Node::Variable(text)
+        | Node::Label(text)
+        | Node::Blank(text, _)
+        | Node::Collection(text, _) => Some(text.start()),
+        Node::Name(name) => Some(start_of_name(name)),
+        Node::Literal(literal) => start_of_literal(literal),
+    }
+}
+
+fn start_of_property(property: &Property<'_>) -> Option<usize> {
+    match &property.verb {
+        Verb::Variable(text) => Some(text.start()),
+        Verb::Name(name) => Some(start_of_name(name)),
+        Verb::Type => match property.objects.as_slice() {
+            [] => None,
+            [object, ..] => start_of_node(object),
+        },
+    }
+}
+
+fn start_of_triples(triples: &Triples<'_>) -> Option<usize> {
+    let subject = start_of_node(&triples.subject);
+    match triples.properties.as_slice() {
+        [] => subject,
+        [property, ..] => subject.or(start_of_property(property)),
+    }
+}
+
+impl<'a> Scope<'a> {
+    #[tactic(auto, unfolding(crate::specs::Meaning::verb))]
+    fn verb(&mut self, verb: &Verb<'a>) -> Result<VarOrIri<'a>, PrologueFault>
+        requires known { IsTrue (known.known_verb (declared self.old.prologue) verb.now) }
+        requires proper { IsTrue (proper.proper_verb verb.now) }
+        ensures gives { Gives (spec.verb verb.now self.old) result self.new }
+        ensures same { self.new ≡ self.old }
+    {
+        match verb {
+            Verb::Variable(name) => {
+                self.mark_variable(name.start());
+                Ok(VarOrIri::Variable(name.fork()))
+            }
+            Verb::Name(name) => Ok(VarOrIri::Iri(self.iri(name)?)),
+            Verb::Type => Ok(VarOrIri::Iri(self.vocabulary.rdf_type().copy()?)),
+        }
+    }
+
+    /// The variable, or the IRI of the name, that is written (SPARQL 1.1 Query, section 4.1).
+    ///
+    /// # Errors
+    /// [`PrologueFault::Relative`] where it is a relative reference and there is no base;
+    /// [`PrologueFault::NoMemory`] where memory is wanting.
+    #[tactic(auto, unfolding(crate::specs::Meaning::var_or_iri))]
+    pub fn var_or_iri(&mut self, name: &WrittenName<'a>) -> Result<VarOrIri<'a>, PrologueFault>
+        requires known { IsTrue (known.known_var_or_iri (declared self.old.prologue) name.now) }
+        requires proper { IsTrue (proper.proper_var_or_iri name.now) }
+        ensures gives { Gives (spec.var_or_iri name.now self.old) result self.new }
+        ensures same { self.new ≡ self.old }
+    {
+        match name {
+            WrittenName::Variable(name) => {
+                self.mark_variable(name.start());
+                Ok(VarOrIri::Variable(name.fork()))
+            }
+            WrittenName::Name(name) => Ok(VarOrIri::Iri(self.iri(name)?)),
+        }
+    }
+
+    #[tactic(auto, unfolding(crate::specs::Meaning::literal))]
+    fn literal(&mut self, literal: &Written<'a>) -> Result<Term, PrologueFault>
+        requires known { IsTrue (known.known_literal (declared self.old.prologue) literal.now) }
+        requires proper { IsTrue (proper.proper_literal literal.now) }
+        ensures gives { Gives (spec.literal literal.now self.old) result self.new }
+        ensures same { self.new ≡ self.old }
+    {
+        let word = &self.vocabulary;
+        let (text, datatype) = match literal {
+            Written::Plain(text) => (text_value(self.alloc, text)?, word.xsd_string().copy()?),
+            Written::Tagged(text, tag) => {
+                let text = text_value(self.alloc, text)?;
+                let tagged = Literal::tagged_from_text(self.alloc, text, tag_value(tag))?;
+                let Some(tagged) = tagged else { unreachable!() };
+                return Ok(Term::Literal(tagged));
+            }
+            Written::Typed(text, name) => {
+                let datatype = self.iri(name)?;
+                (text_value(self.alloc, text)?, datatype)
+            }
+            Written::Integer(text) => (as_written(self.alloc, text)?, word.xsd_integer().copy()?),
+            Written::Decimal(text) => (as_written(self.alloc, text)?, word.xsd_decimal().copy()?),
+            Written::Double(text) => (as_written(self.alloc, text)?, word.xsd_double().copy()?),
+            Written::Boolean(value) => {
+                (
+                    boolean_text(self.alloc, *value)?,
+                    word.xsd_boolean().copy()?,
+                )
+            }
+        };
+        Ok(Term::Literal(Literal::from_text(text, datatype)))
+    }
+
+    // What a node stands for.
+    fn term(&mut self, node: &Node<'a>) -> Result<VarOrTerm<'a>, PrologueFault>
+        requires known { IsTrue (known.known_node (declared self.old.prologue) node.now) }
+        requires proper { IsTrue (proper.proper_node node.now) }
+        requires room { HasRoom 0 self.old }
+        ensures gives { Gives ((spec.meaning node.now).term self.old) result self.new }
+        ensures prologue { self.new.prologue ≡ self.old.prologue }
+        ensures room { TakesAtMost 1 self.old self.new }
+        ensures says { SaysAtLeast 0 self.old self.new }
+    {
+        match node {
+            Node::Variable(name) => {
+                self.mark_variable(name.start());
+                Ok(VarOrTerm::Variable(name.fork()))
+            }
+            Node::Name(name) => Ok(VarOrTerm::Term(Term::Iri(self.iri(name)?))),
+            Node::Literal(literal) => Ok(VarOrTerm::Term(self.literal(literal)?)),
+            Node::Label(label) => {
+                self.mark_blank(label.start());
+                Ok(self.labelled(label)?)
+            }
+            Node::Blank(bracket, _) => {
+                self.mark_blank(bracket.start());
+                Ok(self.fresh())
+            }
+            Node::Collection(bracket, items) => match items.as_slice() {
+                [] => Ok(self.rdf_nil()?),
+                [_, ..] => {
+                    self.mark_blank(bracket.start());
+                    Ok(self.fresh())
+                }
+            },
+        }
+    }
+
+    // The triples inside a node.
+    #[cycle(inside)]
+    #[tactic(auto, using(crate::proofs::ScopeLoops::filled_count, crate::proofs::ScopeLoops::rest_all))]
+    fn inside(&mut self, node: &Node<'a>, term: &VarOrTerm<'a>) -> Result<(), PrologueFault>
+        requires known { IsTrue (known.known_node (declared self.old.prologue) node.now) }
+        requires proper { IsTrue (proper.proper_node node.now) }
+        requires room { HasRoom 0 self.old }
+        ensures gives { Gives ((spec.meaning node.now).inside term.now self.old) result self.new }
+        ensures prologue { self.new.prologue ≡ self.old.prologue }
+        ensures room { OnOk result (TakesAtMost 0 self.old self.new) }
+        ensures says { OnOk result (SaysAtLeast 0 self.old self.new) }
+        ensures alone { proper.stands_alone node.now ≡ true
+            → OnOk result (SaysAtLeast 1 self.old self.new) }
+    {
+        match node {
+            Node::Blank(_, properties) => self.properties(term, properties.as_slice()),
+            Node::Collection(_, items) => self.elements(term, items.as_slice()),
+            Node::Variable(_) | Node::Name(_) | Node::Literal(_) | Node::Label(_) => Ok(()),
+        }
+    }
+
+    // The triple itself, then those inside the object.
+    #[cycle(inside)]
+    #[tactic(auto, unfolding(crate::specs::Meaning::object))]
+    fn object(
+        &mut self,
+        subject: &VarOrTerm<'a>,
+        predicate: &VarOrIri<'a>,
+        node: &Node<'a>,
+    ) -> Result<(), PrologueFault>
+        requires known { IsTrue (known.known_node (declared self.old.prologue) node.now) }
+        requires proper { IsTrue (proper.proper_node node.now) }
+        requires room { HasRoom 0 self.old }
+        ensures gives { let says = spec.object subject.now predicate.now (spec.meaning node.now) in
+            Gives (says self.old) result self.new }
+        ensures prologue { self.new.prologue ≡ self.old.prologue }
+        ensures room { OnOk result (TakesAtMost 0 self.old self.new) }
+        ensures says { OnOk result (SaysAtLeast 1 self.old self.new) }
+    {
+        let object = self.term(node)?;
+        match node {
+            Node::Variable(_) | Node::Name(_) | Node::Literal(_) | Node::Label(_) => {
+                Ok(self.says(subject, predicate, object)?)
+            }
+            Node::Blank(_, _) | Node::Collection(_, _) => {
+                let said = object.copy()?;
+                self.says(subject, predicate, said)?;
+                self.inside(node, &object)
+            }
+        }
+    }
+
+    // The cell behind one, and what is inside its element.
+    #[cycle(inside)]
+    fn next_cell(
+        &mut self,
+        cell: &VarOrTerm<'a>,
+        item: &Node<'a>,
+    ) -> Result<VarOrTerm<'a>, PrologueFault>
+        requires known { IsTrue (known.known_node (declared self.old.prologue) item.now) }
+        requires proper { IsTrue (proper.proper_node item.now) }
+        requires room { HasRoom 0 self.old }
+        ensures gives { let step = spec.next_cell cell.now (spec.meaning item.now) in
+            Gives (step self.old) result self.new }
+        ensures prologue { self.new.prologue ≡ self.old.prologue }
+        ensures room { OnOk result (TakesAtMost 0 self.old self.new) }
+        ensures says { OnOk result (SaysAtLeast 1 self.old self.new) }
+    {
+        let first = self.rdf_first()?;
+        let rest = self.rdf_rest()?;
+        let next = self.fresh();
+        let said = next.copy()?;
+        self.says(cell, &rest, said)?;
+        self.object(&next, &first, item)?;
+        Ok(next)
+    }
+
+    // The cells behind one, and what is inside their elements.
+    #[cycle(inside)]
+    fn behind(&mut self, cell: &VarOrTerm<'a>, items: &[Node<'a>]) -> Result<(), PrologueFault>
+        requires known { let knows = known.known_node (declared self.old.prologue) in
+            IsTrue (list_all holds (map knows items.now)) }
+        requires proper { IsTrue (list_all holds (map proper.proper_node items.now)) }
+        requires room { HasRoom 0 self.old }
+        ensures gives { let says = spec.behind cell.now (map spec.meaning items.now) in
+            Gives (says self.old) result self.new }
+        ensures prologue { self.new.prologue ≡ self.old.prologue }
+        ensures room { OnOk result (TakesAtMost 0 self.old self.new) }
+        ensures says { OnOk result (SaysAtLeast (length items.now) self.old self.new) }
+    {
+        let mut cell = cell.copy()?;
+        for item in items {
+            let next = self.next_cell(&cell, item)?;
+            cell = next;
+        }
+        let rest = self.rdf_rest()?;
+        let nil = self.rdf_nil()?;
+        Ok(self.says(&cell, &rest, nil)?)
+    }
+
+    // The element of a cell, and what is inside it.
+    #[cycle(inside)]
+    fn element(&mut self, cell: &VarOrTerm<'a>, item: &Node<'a>) -> Result<(), PrologueFault>
+        requires known { IsTrue (known.known_node (declared self.old.prologue) item.now) }
+        requires proper { IsTrue (proper.proper_node item.now) }
+        requires room { HasRoom 0 self.old }
+        ensures gives { let says = spec.object cell.now spec.first (spec.meaning item.now) in
+            Gives (says self.old) result self.new }
+        ensures prologue { self.new.prologue ≡ self.old.prologue }
+        ensures room { OnOk result (TakesAtMost 0 self.old self.new) }
+        ensures says { OnOk result (SaysAtLeast 1 self.old self.new) }
+    {
+        let first = self.rdf_first()?;
+        self.object(cell, &first, item)
+    }
+
+    // The element of a list's first cell, and what is inside it.
+    #[cycle(inside)]
+    fn first_element(&mut self, cell: &VarOrTerm<'a>, item: &Node<'a>) -> Result<(), PrologueFault>
+        requires known { IsTrue (known.known_node (declared self.old.prologue) item.now) }
+        requires proper { IsTrue (proper.proper_node item.now) }
+        requires room { HasRoom 0 self.old }
+        ensures gives { let says = spec.object cell.now spec.first (spec.meaning item.now) in
+            Gives (says self.old) result self.new }
+        ensures prologue { self.new.prologue ≡ self.old.prologue }
+        ensures room { OnOk result (TakesAtMost 0 self.old self.new) }
+        ensures says { OnOk result (SaysAtLeast 1 self.old self.new) }
+    {
+        self.element(cell, item)
+    }
+
+    // The triples of a list, from its first cell on.
+    #[cycle(inside)]
+    fn elements(&mut self, cell: &VarOrTerm<'a>, items: &[Node<'a>]) -> Result<(), PrologueFault>
+        requires known { let knows = known.known_node (declared self.old.prologue) in
+            IsTrue (list_all holds (map knows items.now)) }
+        requires known_rest { let knows = known.known_node (declared self.old.prologue) in
+            IsTrue (list_all holds (map knows (drop 1 items.now))) }
+        requires proper { IsTrue (list_all holds (map proper.proper_node items.now)) }
+        requires proper_rest { IsTrue (list_all holds (map proper.proper_node (drop 1 items.now))) }
+        requires room { HasRoom 0 self.old }
+        ensures gives { let says = spec.list_inside (map spec.meaning items.now) cell.now in
+            Gives (says self.old) result self.new }
+        ensures prologue { self.new.prologue ≡ self.old.prologue }
+        ensures room { OnOk result (TakesAtMost 0 self.old self.new) }
+        ensures says { OnOk result (SaysAtLeast (length items.now) self.old self.new) }
+    {
+        match items {
+            [] => Ok(()),
+            [first, rest @ ..] => {
+                self.first_element(cell, first)?;
+                self.behind(cell, rest)
+            }
+        }
+    }
+
+    #[cycle(inside)]
+    fn objects(
+        &mut self,
+        subject: &VarOrTerm<'a>,
+        predicate: &VarOrIri<'a>,
+        nodes: &[Node<'a>],
+    ) -> Result<(), PrologueFault>
+        requires known { let knows = known.known_node (declared self.old.prologue) in
+            IsTrue (list_all holds (map knows nodes.now)) }
+        requires proper { IsTrue (list_all holds (map proper.proper_node nodes.now)) }
+        requires filled { IsTrue (proper.is_filled nodes.now) }
+        requires room { HasRoom 0 self.old }
+        ensures gives { let says = spec.objects subject.now predicate.now
+            (map spec.meaning nodes.now) in
+            Gives (says self.old) result self.new }
+        ensures prologue { self.new.prologue ≡ self.old.prologue }
+        ensures room { OnOk result (TakesAtMost 0 self.old self.new) }
+        ensures says { OnOk result (SaysAtLeast (length nodes.now) self.old self.new) }
+    {
+        if nodes.is_empty() {
+            unreachable!();
+        }
+        for node in nodes {
+            self.object(subject, predicate, node)?;
+        }
+        Ok(())
+    }
+
+    #[cycle(inside)]
+    fn property(
+        &mut self,
+        subject: &VarOrTerm<'a>,
+        property: &Property<'a>,
+    ) -> Result<(), PrologueFault>
+        requires known { IsTrue (known.known_property (declared self.old.prologue) property.now) }
+        requires proper { IsTrue (proper.proper_property property.now) }
+        requires room { HasRoom 0 self.old }
+        ensures gives { Gives (spec.property property.now subject.now self.old) result self.new }
+        ensures prologue { self.new.prologue ≡ self.old.prologue }
+        ensures room { OnOk result (TakesAtMost 0 self.old self.new) }
+        ensures says { OnOk result (SaysAtLeast 1 self.old self.new) }
+    {
+        let predicate = self.verb(&property.verb)?;
+        self.objects(subject, &predicate, property.objects.as_slice())
+    }
+
+    #[cycle(inside)]
+    fn properties(
+        &mut self,
+        subject: &VarOrTerm<'a>,
+        properties: &[Property<'a>],
+    ) -> Result<(), PrologueFault>
+        requires known { let knows = known.known_property (declared self.old.prologue) in
+            IsTrue (list_all holds (map knows properties.now)) }
+        requires proper { IsTrue (list_all holds (map proper.proper_property properties.now)) }
+        requires room { HasRoom 0 self.old }
+        ensures gives { let says = spec.properties subject.now properties.now in
+            Gives (says self.old) result self.new }
+        ensures prologue { self.new.prologue ≡ self.old.prologue }
+        ensures room { OnOk result (TakesAtMost 0 self.old self.new) }
+        ensures says { OnOk result (SaysAtLeast (length properties.now) self.old self.new) }
+    {
+        for property in properties {
+            self.property(subject, property)?;
+        }
+        Ok(())
+    }
+
+    // Makes room for triples, and marks a subject that is a literal.
+    fn prepare(&mut self, triples: &Triples<'a>) -> Result<(), NoMemory>
+        requires { IsPaired self.old }
+        ensures same { self.new ≡ self.old }
+        ensures room { OnOk result (HasRoom 1 self.new) }
+    {
+        self.reserve()?;
+        if let Node::Literal(_) = &triples.subject {
+            self.mark_literal(start_of_triples(triples).unwrap_or(0));
+        }
+        Ok(())
+    }
+
+    // The triples inside a subject, then those of its properties.
+    fn subject_with(
+        &mut self,
+        node: &Node<'a>,
+        properties: &[Property<'a>],
+    ) -> Result<(), PrologueFault>
+        requires known { IsTrue (known.known_node (declared self.old.prologue) node.now) }
+        requires known_properties { let knows = known.known_property (declared self.old.prologue) in
+            IsTrue (list_all holds (map knows properties.now)) }
+        requires proper { IsTrue (proper.proper_node node.now) }
+        requires proper_properties { IsTrue (list_all holds
+            (map proper.proper_property properties.now)) }
+        requires room { HasRoom 1 self.old }
+        ensures gives { let says = spec.subject_with node.now properties.now in
+            Gives (says self.old) result self.new }
+        ensures prologue { self.new.prologue ≡ self.old.prologue }
+        ensures room { OnOk result (TakesAtMost 1 self.old self.new) }
+        ensures says { OnOk result (SaysAtLeast (length properties.now) self.old self.new) }
+        ensures alone { proper.stands_alone node.now ≡ true
+            → OnOk result (SaysAtLeast 1 self.old self.new) }
+    {
+        let subject = self.term(node)?;
+        self.inside(node, &subject)?;
+        self.properties(&subject, properties)
+    }
+
+    // The triples of a subject with its properties.
+    #[tactic(auto, unfolding(crate::specs::Meaning::triples))]
+    fn triples(&mut self, triples: &Triples<'a>) -> Result<(), PrologueFault>
+        requires known { IsTrue (known.known_triples (declared self.old.prologue) triples.now) }
+        requires proper { IsTrue (proper.proper_triples triples.now) }
+        requires room { IsPaired self.old }
+        ensures gives { Gives (spec.triples triples.now self.old) result self.new }
+        ensures prologue { self.new.prologue ≡ self.old.prologue }
+        ensures room { OnOk result (IsPaired self.new) }
+    {
+        self.prepare(triples)?;
+        self.subject_with(&triples.subject, triples.properties.as_slice())
+    }
+
+    // The graph in which the triples of a block stand.
+    fn graph(&mut self, graph: &Option<WrittenName<'a>>) -> Result<(), PrologueFault>
+        requires known { IsTrue (known.known_graph (declared self.old.prologue) graph.now) }
+        requires proper { IsTrue (proper.proper_graph graph.now) }
+        ensures gives { Gives (spec.graph graph.now self.old) result self.new }
+        ensures prologue { self.new.prologue ≡ self.old.prologue }
+        ensures number { self.new.numbering ≡ self.old.numbering }
+        ensures patterns { self.new.patterns ≡ self.old.patterns }
+    {
+        match graph {
+            None => {
+                self.in_default();
+                Ok(())
+            }
+            Some(name) => {
+                let name = self.var_or_iri(name)?;
+                Ok(self.in_graph(name)?)
+            }
+        }
+    }
+
+    fn all_triples(&mut self, all: &[Triples<'a>]) -> Result<(), PrologueFault>
+        requires known { let knows = known.known_triples (declared self.old.prologue) in
+            IsTrue (list_all holds (map knows all.now)) }
+        requires proper { IsTrue (list_all holds (map proper.proper_triples all.now)) }
+        requires room { IsPaired self.old }
+        ensures gives { let says = each (λ f. f) (map spec.triples all.now) in
+            Gives (says self.old) result self.new }
+        ensures prologue { self.new.prologue ≡ self.old.prologue }
+        ensures room { OnOk result (IsPaired self.new) }
+    {
+        for one in all {
+            self.triples(one)?;
+        }
+        Ok(())
+    }
+
+    fn block(&mut self, block: &Block<'a>) -> Result<(), PrologueFault>
+        requires known { IsTrue (known.known_block (declared self.old.prologue) block.now) }
+        requires proper { IsTrue (proper.proper_block block.now) }
+        requires room { IsPaired self.old }
+        ensures gives { Gives (spec.block block.now self.old) result self.new }
+        ensures prologue { self.new.prologue ≡ self.old.prologue }
+        ensures room { OnOk result (IsPaired self.new) }
+    {
+        self.graph(&block.graph)?;
+        self.all_triples(block.triples.as_slice())
+    }
+
+    /// The quads of an operation's data, whose blank nodes are numbered from 0 by their places in the
+    /// text, over all its blocks (SPARQL 1.1 Update, section 3.1.1).
+    ///
+    /// # Errors
+    /// [`PrologueFault::Relative`] at a relative reference where there is no base;
+    /// [`PrologueFault::NoMemory`] where memory is wanting.
+    #[tactic(auto, unfolding(crate::specs::Meaning::quads_in))]
+    pub fn data(&mut self, blocks: &[Block<'a>]) -> Result<Quads<'a>, PrologueFault>
+        requires known { let knows = known.known_block (declared self.old.prologue) in
+            IsTrue (list_all holds (map knows blocks.now)) }
+        requires proper { IsTrue (list_all holds (map proper.proper_block blocks.now)) }
+        ensures tells { Tells (spec.quads_in blocks.now self.old.prologue) result }
+        ensures prologue { self.new.prologue ≡ self.old.prologue }
+    {
+        self.begin();
+        for block in blocks {
+            self.block(block)?;
+        }
+        Ok(self.end())
+    }
+
+    /// The triples of a basic graph pattern, in no graph, whose blank nodes are numbered from 0 by
+    /// their places in the text (SPARQL 1.1 Query, sections 4.1.4 and 5.1).
+    ///
+    /// # Errors
+    /// [`PrologueFault::Relative`] at a relative reference where there is no base;
+    /// [`PrologueFault::NoMemory`] where memory is wanting.
+    #[tactic(auto, unfolding(crate::specs::Meaning::pattern_in))]
+    pub fn basic_graph_pattern(
+        &mut self,
+        triples: &[Triples<'a>],
+    ) -> Result<Quads<'a>, PrologueFault>
+        requires known { let knows = known.known_triples (declared self.old.prologue) in
+            IsTrue (list_all holds (map knows triples.now)) }
+        requires proper { IsTrue (list_all holds (map proper.proper_triples triples.now)) }
+        ensures tells { Tells (spec.pattern_in triples.now self.old.prologue) result }
+        ensures prologue { self.new.prologue ≡ self.old.prologue }
+    {
+        self.begin();
+        self.all_triples(triples)?;
+        Ok(self.end())
+    }
+}
