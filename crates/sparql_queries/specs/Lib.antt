@@ -1,0 +1,5 @@
+pub mod Collected
+pub mod Groups
+pub mod Known
+pub mod Proper
+pub mod Queries
