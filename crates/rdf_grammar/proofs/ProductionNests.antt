@@ -58,7 +58,7 @@ module _ {T : Type 0} (word : T → Option Word) (bracket : T → Bracket) (plai
   number_keeps = either _ _ (leaf_keeps l.Integer w.Integer) (either _ _ (leaf_keeps l.Decimal w.Decimal) (leaf_keeps l.Double w.Double))
 
   truth_keeps : Stays (g.BooleanLiteral word)
-  truth_keeps = either _ _ (behind_keeps w.True _ (pure_keeps bracket limit b (l.Boolean true))) (behind_keeps w.False _ (pure_keeps bracket limit b (l.Boolean false)))
+  truth_keeps = either _ _ (leaf_keeps (l.Boolean true) w.True) (leaf_keeps (l.Boolean false) w.False)
 
   pub literal_keeps : Stays (g.ALiteral word)
   literal_keeps = either _ _ text_keeps (either _ _ number_keeps truth_keeps)

@@ -1,5 +1,5 @@
 -- The productions that Turtle and SPARQL share are read just as they are derived.
-use Rattle.std.proofs.Common.{◌≡◌, ◌<◌, ◌≤◌, Bool, true, false, length, Option, Some, refl, ap, arith, inl, inr, ◌⊎◌}
+use Rattle.std.proofs.Common.{◌≡◌, ◌<◌, ◌≤◌, true, false, length, Option, Some, refl, ap, arith, inl, inr, ◌⊎◌}
 use Rattle.rdf_grammar.specs.declared.lexeme.Lexeme.{Lexeme}
 use Rattle.rdf_grammar.specs.declared.tree.Name.{Name}
 use Rattle.rdf_grammar.specs.declared.tree.Name.TheVariants.{Full}
@@ -93,15 +93,12 @@ module _ {T : Type 0} (word : T → Option Word) where
   unfolding read.text
   text_decides = seq _ _ _ _ after_literal (value_decides word w.Text) suffix_decides
 
-  truth : (b : Bool) → Decides {X = Lexeme T} (steps.pure (l.Boolean b)) (grammar.pure (l.Boolean b)) always
-  truth b = pure_decides (l.Boolean b) always
-
   literal_sound : (next : Option Word) (ts : Lexemes T) (x : Literal) (us : Lexemes T) → next_word word ts ≡ next → read.literal_by word next ts ≡ Some (x, us) → g.ALiteral word ts x us
   literal_sound (Some w.Integer) ts x us q h = inr (inl (inl ((leaf l.Integer w.Integer).sound ts x us h)))
   literal_sound (Some w.Decimal) ts x us q h = inr (inl (inr (inl ((leaf l.Decimal w.Decimal).sound ts x us h))))
   literal_sound (Some w.Double) ts x us q h = inr (inl (inr (inr ((leaf l.Double w.Double).sound ts x us h))))
-  literal_sound (Some w.True) ts x us q h = inr (inr (inl (behind_sound word w.True _ _ always (truth true) ts x us q h)))
-  literal_sound (Some w.False) ts x us q h = inr (inr (inr (behind_sound word w.False _ _ always (truth false) ts x us q h)))
+  literal_sound (Some w.True) ts x us q h = inr (inr (inl ((leaf (l.Boolean true) w.True).sound ts x us h)))
+  literal_sound (Some w.False) ts x us q h = inr (inr (inr ((leaf (l.Boolean false) w.False).sound ts x us h)))
   literal_sound _ ts x us q h = inl (text_decides.sound ts x us h)
 
   literal_complete : (ts : Lexemes T) (x : Literal) (us : Lexemes T) → g.ALiteral word ts x us → after_literal us ≡ true → read.literal_by word (next_word word ts) ts ≡ Some (x, us)
@@ -109,24 +106,24 @@ module _ {T : Type 0} (word : T → Option Word) where
   literal_complete ts x us (inr (inl (inl h))) e = rw (value_word word w.Integer ts h.mid h.first h.reads) ((leaf l.Integer w.Integer).complete ts x us h refl)
   literal_complete ts x us (inr (inl (inr (inl h)))) e = rw (value_word word w.Decimal ts h.mid h.first h.reads) ((leaf l.Decimal w.Decimal).complete ts x us h refl)
   literal_complete ts x us (inr (inl (inr (inr h)))) e = rw (value_word word w.Double ts h.mid h.first h.reads) ((leaf l.Double w.Double).complete ts x us h refl)
-  literal_complete ts x us (inr (inr (inl h))) e = rw (the_word word w.True ts h.mid h.first h.reads) (behind_complete word w.True _ _ always (truth true) ts x us h refl)
-  literal_complete ts x us (inr (inr (inr h))) e = rw (the_word word w.False ts h.mid h.first h.reads) (behind_complete word w.False _ _ always (truth false) ts x us h refl)
+  literal_complete ts x us (inr (inr (inl h))) e = rw (value_word word w.True ts h.mid h.first h.reads) ((leaf (l.Boolean true) w.True).complete ts x us h refl)
+  literal_complete ts x us (inr (inr (inr h))) e = rw (value_word word w.False ts h.mid h.first h.reads) ((leaf (l.Boolean false) w.False).complete ts x us h refl)
 
   pub literal_strict : (ts : Lexemes T) (x : Literal) (us : Lexemes T) → g.ALiteral word ts x us → length us < length ts
   literal_strict ts x us (inl h) = let e = suffix_shorter h.first h.mid x us h.goes in omega (arith, ap length h.reads.3)
   literal_strict ts x us (inr (inl (inl h))) = omega (arith, ap length h.reads.3, ap length h.goes.1)
   literal_strict ts x us (inr (inl (inr (inl h)))) = omega (arith, ap length h.reads.3, ap length h.goes.1)
   literal_strict ts x us (inr (inl (inr (inr h)))) = omega (arith, ap length h.reads.3, ap length h.goes.1)
-  literal_strict ts x us (inr (inr (inl h))) = behind_strict word w.True _ _ always (truth true) ts x us h
-  literal_strict ts x us (inr (inr (inr h))) = behind_strict word w.False _ _ always (truth false) ts x us h
+  literal_strict ts x us (inr (inr (inl h))) = omega (arith, ap length h.reads.3, ap length h.goes.1)
+  literal_strict ts x us (inr (inr (inr h))) = omega (arith, ap length h.reads.3, ap length h.goes.1)
 
   pub literal_begins : (ts : Lexemes T) (x : Literal) (us : Lexemes T) → g.ALiteral word ts x us → begins_literal (next_word word ts) ≡ true
   literal_begins ts x us (inl h) = rw (value_word word w.Text ts h.mid h.first h.reads) refl
   literal_begins ts x us (inr (inl (inl h))) = rw (value_word word w.Integer ts h.mid h.first h.reads) refl
   literal_begins ts x us (inr (inl (inr (inl h)))) = rw (value_word word w.Decimal ts h.mid h.first h.reads) refl
   literal_begins ts x us (inr (inl (inr (inr h)))) = rw (value_word word w.Double ts h.mid h.first h.reads) refl
-  literal_begins ts x us (inr (inr (inl h))) = rw (the_word word w.True ts h.mid h.first h.reads) refl
-  literal_begins ts x us (inr (inr (inr h))) = rw (the_word word w.False ts h.mid h.first h.reads) refl
+  literal_begins ts x us (inr (inr (inl h))) = rw (value_word word w.True ts h.mid h.first h.reads) refl
+  literal_begins ts x us (inr (inr (inr h))) = rw (value_word word w.False ts h.mid h.first h.reads) refl
 
   pub literal_decides : Decides (read.literal word) (g.ALiteral word) after_literal
   unfolding read.literal

@@ -58,8 +58,8 @@ module _ {T : Type 0} (word : T → Option Word) where
   literal_by (Some w.Integer) = l.Integer <$> value word w.Integer
   literal_by (Some w.Decimal) = l.Decimal <$> value word w.Decimal
   literal_by (Some w.Double) = l.Double <$> value word w.Double
-  literal_by (Some w.True) = any >> pure (l.Boolean true)
-  literal_by (Some w.False) = any >> pure (l.Boolean false)
+  literal_by (Some w.True) = l.Boolean true <$> value word w.True
+  literal_by (Some w.False) = l.Boolean false <$> value word w.False
   literal_by _ = text
 
   unfoldable pub literal : Reading (Lexeme T) Literal

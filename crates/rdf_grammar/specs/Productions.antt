@@ -49,7 +49,7 @@ module _ {T : Type 0} (word : T → Option Word) where
 
   -- BooleanLiteral = "true" | "false" (Turtle 133s, SPARQL 134)
   abbrev pub BooleanLiteral : Derives (Lexeme T) Literal
-  BooleanLiteral = (the w.True >> pure (l.Boolean true)) ∣ (the w.False >> pure (l.Boolean false))
+  BooleanLiteral = (l.Boolean true <$> value w.True) ∣ (l.Boolean false <$> value w.False)
 
   -- literal = RDFLiteral | NumericLiteral | BooleanLiteral (Turtle 13; in SPARQL parts of 109)
   abbrev pub ALiteral : Derives (Lexeme T) Literal

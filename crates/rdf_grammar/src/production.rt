@@ -54,7 +54,7 @@ fn text<'a, T: Words>(parser: &mut Parser<'_, 'a, T>) -> Result<Literal<'a>, Gra
 ///
 /// # Errors
 /// `Syntax` where none comes next.
-#[tactic(auto, unfolding(crate::specs::ProductionReadings::literal, crate::specs::Readings::any))]
+#[tactic(auto, unfolding(crate::specs::ProductionReadings::literal))]
 pub fn literal<'a, T: Words>(parser: &mut Parser<'_, 'a, T>) -> Result<Literal<'a>, GrammarFault>
     ensures reads { Reads (spec.literal T.word parser.old) result parser.new }
     ensures fault { IfErr result (λ e. e ≡ Syntax) }
@@ -64,14 +64,8 @@ pub fn literal<'a, T: Words>(parser: &mut Parser<'_, 'a, T>) -> Result<Literal<'
         Some(Word::Integer) => Ok(Literal::Integer(parser.word(Word::Integer)?)),
         Some(Word::Decimal) => Ok(Literal::Decimal(parser.word(Word::Decimal)?)),
         Some(Word::Double) => Ok(Literal::Double(parser.word(Word::Double)?)),
-        Some(Word::True) => {
-            parser.pass();
-            Ok(Literal::Boolean(true))
-        }
-        Some(Word::False) => {
-            parser.pass();
-            Ok(Literal::Boolean(false))
-        }
+        Some(Word::True) => Ok(Literal::Boolean(true, parser.word(Word::True)?)),
+        Some(Word::False) => Ok(Literal::Boolean(false, parser.word(Word::False)?)),
         _ => text(parser),
     }
 }

@@ -19,5 +19,6 @@ pub enum Literal<'a> {
     Integer(Slice<'a>),
     Decimal(Slice<'a>),
     Double(Slice<'a>),
-    Boolean(bool),
+    /// A truth value, and its word as written.
+    Boolean(bool, Slice<'a>),
 }

@@ -168,7 +168,7 @@ module _ (based : Bool) (declared : List (List ℕ)) where
   literal_goes (l.Integer text) form in_scope = pure_goes _ Any tt
   literal_goes (l.Decimal text) form in_scope = pure_goes _ Any tt
   literal_goes (l.Double text) form in_scope = pure_goes _ Any tt
-  literal_goes (l.Boolean value) form in_scope = pure_goes _ Any tt
+  literal_goes (l.Boolean value word) form in_scope = pure_goes _ Any tt
 
   -- ---- terms
 

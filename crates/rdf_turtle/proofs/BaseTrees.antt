@@ -104,7 +104,7 @@ literal_proper (l.Typed text name) form = name_proper name form
 literal_proper (l.Integer text) form = refl
 literal_proper (l.Decimal text) form = refl
 literal_proper (l.Double text) form = refl
-literal_proper (l.Boolean value) form = refl
+literal_proper (l.Boolean value word) form = refl
 
 nodes_proper : (xs : List Node) → AllByRecursion GoodNode xs → list_all holds (map proper_node xs) ≡ true
 nodes_proper [] all = refl
@@ -360,8 +360,8 @@ number_gives =
 
 truth_gives : Gives (productions.BooleanLiteral word) LiteralFormed
 truth_gives =
-    or_gives _ _ LiteralFormed (behind_word w.True terminal.True is_true _ LiteralFormed (pure_gives (l.Boolean true) LiteralFormed tt))
-    (behind_word w.False terminal.False is_false _ LiteralFormed (pure_gives (l.Boolean false) LiteralFormed tt))
+    or_gives _ _ LiteralFormed (map_gives (l.Boolean true) _ _ LiteralFormed (word_gives w.True terminal.True is_true) (λ a h. tt))
+    (map_gives (l.Boolean false) _ _ LiteralFormed (word_gives w.False terminal.False is_false) (λ a h. tt))
 
 literal_gives : Gives g.ALiteral LiteralFormed
 literal_gives = or_gives _ _ LiteralFormed text_gives (or_gives _ _ LiteralFormed number_gives truth_gives)

@@ -194,8 +194,8 @@ module _ (all : Lexemes) where
 
   truth_gives : Gives all (productions.BooleanLiteral word) GoodLiteral
   truth_gives =
-      or_gives _ _ GoodLiteral (behind_word w.True terminal.True is_true _ GoodLiteral (pure_gives (l.Boolean true) GoodLiteral tt))
-      (behind_word w.False terminal.False is_false _ GoodLiteral (pure_gives (l.Boolean false) GoodLiteral tt))
+      or_gives _ _ GoodLiteral (map_gives (l.Boolean true) _ _ GoodLiteral (word_gives w.True terminal.True is_true) (λ a h. tt))
+      (map_gives (l.Boolean false) _ _ GoodLiteral (word_gives w.False terminal.False is_false) (λ a h. tt))
 
   literal_gives : Gives all g.ALiteral GoodLiteral
   literal_gives = or_gives _ _ GoodLiteral text_gives (or_gives _ _ GoodLiteral number_gives truth_gives)

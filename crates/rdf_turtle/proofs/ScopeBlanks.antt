@@ -93,7 +93,7 @@ literal_stays (l.Typed text name) = typed_stays (text_value text) name
 literal_stays (l.Integer text) = written_stays _
 literal_stays (l.Decimal text) = written_stays _
 literal_stays (l.Double text) = written_stays _
-literal_stays (l.Boolean value) = written_stays _
+literal_stays (l.Boolean value word) = written_stays _
 
 nil_stays : Stays (λ s. Some (t.Iri rdf_nil, s))
 nil_stays s u x e =

@@ -65,7 +65,7 @@ literal_leaves (l.Typed form datatype) = leaf terminal.Text form ∷ name_leaves
 literal_leaves (l.Integer form) = leaf terminal.Integer form ∷ []
 literal_leaves (l.Decimal form) = leaf terminal.Decimal form ∷ []
 literal_leaves (l.Double form) = leaf terminal.Double form ∷ []
-literal_leaves (l.Boolean value) = []
+literal_leaves (l.Boolean value word) = []
 
 abbrev pub property_leaves_of : Property-F (List Leaf) (List Leaf) → List Leaf
 property_leaves_of p = verb_leaves p.verb ++ joined p.objects

@@ -85,7 +85,7 @@ impl<'a> Scope<'a> {
             Written::Integer(text) => (as_written(self.alloc, text)?, word.xsd_integer().copy()?),
             Written::Decimal(text) => (as_written(self.alloc, text)?, word.xsd_decimal().copy()?),
             Written::Double(text) => (as_written(self.alloc, text)?, word.xsd_double().copy()?),
-            Written::Boolean(value) => {
+            Written::Boolean(value, _) => {
                 (
                     boolean_text(self.alloc, *value)?,
                     word.xsd_boolean().copy()?,

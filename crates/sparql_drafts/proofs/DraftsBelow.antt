@@ -126,7 +126,7 @@ literal_is (l.Typed text name) = typed_is (text_value text) name
 literal_is (l.Integer text) = written_is _
 literal_is (l.Decimal text) = written_is _
 literal_is (l.Double text) = written_is _
-literal_is (l.Boolean value) = written_is _
+literal_is (l.Boolean value word) = written_is _
 
 term_inside : (a b : Term) → x.Term a ≡ x.Term b → a ≡ b
 term_inside a b e = cc

@@ -22,9 +22,6 @@ pub next_member : {A : Type 0} (f : A → Bool) (xs : List A) (i : ℕ) (x : A) 
     → (f x ≡ true) × (list_all holds (map f (drop (i + 1) xs)) ≡ true)
 next_member f xs i x l e h = let r = member f xs i x l e h in (r.0, rw add-one r.1)
 
-pub first_member : {A : Type 0} (f : A → Bool) (x : A) (xs : List A) → list_all holds (map f (x ∷ xs)) ≡ true → (f x ≡ true) × (list_all holds (map f xs) ≡ true)
-first_member f x xs h = and_parts (f x) (list_all holds (map f xs)) h
-
 pub filled_count : {A B : Type 0} (f : A → B) (xs : List A) → is_filled (map f xs) ≡ true → 1 ≤ length xs
 filled_count f [] h = absurd (true≢false (sym h))
 filled_count f (x ∷ xs) h = omega arith

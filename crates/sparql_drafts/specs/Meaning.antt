@@ -65,7 +65,7 @@ literal (l.Typed text name) = untagged (text_value text) <$> iri name
 literal (l.Integer text) = pure (untagged (encode_utf8_all text) xsd_integer)
 literal (l.Decimal text) = pure (untagged (encode_utf8_all text) xsd_decimal)
 literal (l.Double text) = pure (untagged (encode_utf8_all text) xsd_double)
-literal (l.Boolean value) = pure (untagged (boolean_text value) xsd_boolean)
+literal (l.Boolean value word) = pure (untagged (boolean_text value) xsd_boolean)
 
 -- ---- nodes
 

@@ -48,7 +48,7 @@ fn unknown_literal<'a>(declared: &IndexSet<Key<'a>>, literal: &Literal<'a>) -> O
         | Literal::Integer(_)
         | Literal::Decimal(_)
         | Literal::Double(_)
-        | Literal::Boolean(_) => None,
+        | Literal::Boolean(..) => None,
     }
 }
 

@@ -38,54 +38,16 @@ fn as_written(alloc: Global, slice: &Slice<'_>) -> Result<Text, NoMemory>
     Text::new(alloc, slice.as_str())
 }
 
-// The functions below say where something starts, as the lines of faults want it; a boolean and `a`
-// don't tell.
-
-fn start_of_name(name: &Name<'_>) -> usize {
-    match name {
-        Name::Full(text) | Name::Prefixed(text, _) => text.start(),
-    }
-}
-
-fn start_of_literal(literal: &Written<'_>) -> Option<usize> {
+// Where a literal starts.
+fn start_of_literal(literal: &Written<'_>) -> usize {
     match literal {
         Written::Plain(text)
         | Written::Tagged(text, _)
         | Written::Typed(text, _)
         | Written::Integer(text)
         | Written::Decimal(text)
-        | Written::Double(text) => Some(text.start()),
-        Written::Boolean(_) => None,
-    }
-}
-
-fn start_of_node(node: &Node<'_>) -> Option<usize> {
-    match node {
-        Node::Variable(text)
-        | Node::Label(text)
-        | Node::Blank(text, _)
-        | Node::Collection(text, _) => Some(text.start()),
-        Node::Name(name) => Some(start_of_name(name)),
-        Node::Literal(literal) => start_of_literal(literal),
-    }
-}
-
-fn start_of_property(property: &Property<'_>) -> Option<usize> {
-    match &property.verb {
-        Verb::Variable(text) => Some(text.start()),
-        Verb::Name(name) => Some(start_of_name(name)),
-        Verb::Type => match property.objects.as_slice() {
-            [] => None,
-            [object, ..] => start_of_node(object),
-        },
-    }
-}
-
-fn start_of_triples(triples: &Triples<'_>) -> Option<usize> {
-    let subject = start_of_node(&triples.subject);
-    match triples.properties.as_slice() {
-        [] => subject,
-        [property, ..] => subject.or(start_of_property(property)),
+        | Written::Double(text)
+        | Written::Boolean(_, text) => text.start(),
     }
 }
 
@@ -151,7 +113,7 @@ impl<'a> Scope<'a> {
             Written::Integer(text) => (as_written(self.alloc, text)?, word.xsd_integer().copy()?),
             Written::Decimal(text) => (as_written(self.alloc, text)?, word.xsd_decimal().copy()?),
             Written::Double(text) => (as_written(self.alloc, text)?, word.xsd_double().copy()?),
-            Written::Boolean(value) => {
+            Written::Boolean(value, _) => {
                 (
                     boolean_text(self.alloc, *value)?,
                     word.xsd_boolean().copy()?,
@@ -427,8 +389,8 @@ impl<'a> Scope<'a> {
         ensures room { OnOk result (HasRoom 1 self.new) }
     {
         self.reserve()?;
-        if let Node::Literal(_) = &triples.subject {
-            self.mark_literal(start_of_triples(triples).unwrap_or(0));
+        if let Node::Literal(literal) = &triples.subject {
+            self.mark_literal(start_of_literal(literal));
         }
         Ok(())
     }

@@ -1,5 +1,5 @@
 -- Graphs that are emptied, dropped, copied and moved.
-use Rattle.std.proofs.Common.{◌≡◌, Bool, true, false, ◌||◌, ◌&&◌, not, List, [], ◌∷◌, refl, sym, ap, ◌∙◌}
+use Rattle.std.proofs.Common.{◌≡◌, ℕ, Bool, true, false, ◌||◌, ◌&&◌, not, List, [], ◌∷◌, refl, sym, ap, ◌∙◌}
 use mathlib.Core.Bool.{true≢false}
 use Rattle.std.specs.FinSet as set
 use Rattle.std.specs.FinSet.{contains, contains-difference, contains-from_list, difference, from_list, remove, retain, same_set, union}
@@ -11,11 +11,14 @@ use Rattle.rdf_terms.specs.Quad.{QuadParts}
 use Rattle.rdf_terms.specs.declared.quad.GraphName.{GraphName}
 use Rattle.rdf_terms.specs.declared.quad.GraphName.TheVariants.{Default, Named}
 use Rattle.rdf_terms.specs.declared.term.Term.{Term}
+use Rattle.rdf_terms.specs.declared.term.Term.TheVariants.{Iri}
 use Rattle.rdf_dataset.specs.Sorted.{AppendsOnce}
 use Rattle.rdf_dataset.specs.State.{Names, State, IsEmptyGraph, IsNamed, IsSound, with_graph}
 use Rattle.sparql_eval.specs.Graphs.{is_default, is_meant, quads_in, same_graph, without_graph}
 use Rattle.sparql_eval.specs.Operations.{added, cleared, copied, dropped}
-use Rattle.sparql_eval.specs.Staging.{emptied, gone}
+use Rattle.sparql_eval.specs.Staging.{emptied, gone, graphs_emptied, one_emptied}
+use Rattle.sparql_eval.specs.declared.graphs.Names.{Names as Kept}
+use Rattle.sparql_eval.specs.declared.graphs.Names.TheVariants as kept
 use Rattle.sparql_eval.proofs.SetLemmas.{and_second, contains-kept, difference-more, difference-nothing, front_nothing, kept_alike, kept_all, kept_twice, tie_itself, tie_same, tie_sym}
 use Rattle.sparql_trees.specs.declared.operation.GraphRefAll.TheVariants as some
 
@@ -48,9 +51,12 @@ default_apart q = ap not (not_same_default q.graph)
 -- ---- graphs are emptied
 
 -- the graphs of the names are to be emptied
-abbrev pub emptied_each : State → List Term → State
-emptied_each s [] = s
-emptied_each s (n ∷ ns) = emptied_each (emptied s (Named n)) ns
+abbrev pub each_emptied : Kept → State → List Term → State
+each_emptied kept s [] = s
+each_emptied kept s (n ∷ ns) = each_emptied kept (one_emptied kept s (Named n)) ns
+
+abbrev emptied_each : State → List Term → State
+emptied_each = each_emptied kept.Stay
 
 emptied_each-quads : (s : State) (ns : List Term) → (emptied_each s ns).quads ≡ retain s.quads (λ q. not (list_any (names_it q.graph) ns))
 emptied_each-quads s [] = sym (kept_all quad_cmp_total quad_cmp-IsAntisymmetric s.quads (λ q. true) (λ q. refl))
@@ -84,16 +90,10 @@ quads_listed s ns sound e =
 names_found : (names : Names) (old found : List Term) → old ≡ [] → AppendsOnce names old found → from_list found ≡ names
 names_found names old found none l = ap from_list (front_nothing old found l.found none l.appended) ∙ l.each_once.all
 
-pub all_emptied : (s : State) (old found rest : List Term) → IsSound s → old ≡ [] → AppendsOnce s.names old found → rest ≡ found → emptied_each s rest ≡ cleared s some.Named
+all_emptied : (s : State) (old found rest : List Term) → IsSound s → old ≡ [] → AppendsOnce s.names old found → rest ≡ found → emptied_each s rest ≡ cleared s some.Named
 all_emptied s old found rest sound none l e =
     ap (emptied_each s) e
     ∙ same_state (emptied_each s found) (cleared s some.Named) (emptied_each-quads s found ∙ quads_listed s found sound (names_found s.names old found none l)) (emptied_each-names s found) (emptied_each-next s found)
-
-pub emptied_next : (s now new t : State) (n : Term) (rest more : List Term) → emptied_each now rest ≡ t → rest ≡ n ∷ more → new ≡ emptied now (Named n) → emptied_each new more ≡ t
-emptied_next s now new t n rest more a e h = ap (λ z. emptied_each z more) h ∙ ap (emptied_each now) (sym e) ∙ a
-
-pub emptied_last : (now t : State) (rest : List Term) → emptied_each now rest ≡ t → rest ≡ [] → now ≡ t
-emptied_last now t rest a e = ap (emptied_each now) (sym e) ∙ a
 
 -- the default graph
 pub default_cleared : (s : State) → emptied s Default ≡ cleared s some.Default
@@ -103,7 +103,7 @@ none_stays : (b : Bool) → (not b && not (not b)) ≡ false
 none_stays true = refl
 none_stays false = refl
 
-pub all_cleared : (s mid : State) → mid ≡ emptied s Default → cleared mid some.Named ≡ cleared s some.All
+all_cleared : (s mid : State) → mid ≡ emptied s Default → cleared mid some.Named ≡ cleared s some.All
 all_cleared s mid e =
     ap (λ t. cleared t some.Named) (e ∙ default_cleared s)
     ∙ (λ i. record {
@@ -119,9 +119,8 @@ emptied_is_empty s g q h same =
     let out = and_second (contains s.quads q) _ (sym (contains-kept quad_cmp_total quad_cmp-IsAntisymmetric s.quads (λ q. not (same_graph g q.graph)) q) ∙ h) in
     true≢false (sym out ∙ ap not (ap (same_graph g) same ∙ tie_itself graph_cmp_total graph_cmp-IsAntisymmetric g))
 
-abbrev pub gone_each : State → List Term → State
-gone_each s [] = s
-gone_each s (n ∷ ns) = gone_each (gone s (Named n)) ns
+abbrev gone_each : State → List Term → State
+gone_each = each_emptied kept.Go
 
 gone_each-quads : (s : State) (ns : List Term) → (gone_each s ns).quads ≡ retain s.quads (λ q. not (list_any (names_it q.graph) ns))
 gone_each-quads s [] = sym (kept_all quad_cmp_total quad_cmp-IsAntisymmetric s.quads (λ q. true) (λ q. refl))
@@ -153,17 +152,11 @@ no_name_left names ns e = same_set term_cmp_total term_cmp-IsAntisymmetric _ _ (
     out true = refl
     out false = refl
 
-pub all_gone : (s : State) (old found rest : List Term) → IsSound s → old ≡ [] → AppendsOnce s.names old found → rest ≡ found → gone_each s rest ≡ dropped s some.Named
+all_gone : (s : State) (old found rest : List Term) → IsSound s → old ≡ [] → AppendsOnce s.names old found → rest ≡ found → gone_each s rest ≡ dropped s some.Named
 all_gone s old found rest sound none l e =
     let all = names_found s.names old found none l in
     ap (gone_each s) e
     ∙ same_state (gone_each s found) (dropped s some.Named) (gone_each-quads s found ∙ quads_listed s found sound all) (gone_each-names s found ∙ no_name_left s.names found all) (gone_each-next s found)
-
-pub gone_next : (now new t : State) (n : Term) (rest more : List Term) → gone_each now rest ≡ t → rest ≡ n ∷ more → new ≡ gone now (Named n) → gone_each new more ≡ t
-gone_next now new t n rest more a e h = ap (λ z. gone_each z more) h ∙ ap (gone_each now) (sym e) ∙ a
-
-pub gone_last : (now t : State) (rest : List Term) → gone_each now rest ≡ t → rest ≡ [] → now ≡ t
-gone_last now t rest a e = ap (gone_each now) (sym e) ∙ a
 
 -- one named graph
 pub one_gone : (s : State) (n : Term) → gone s (Named n) ≡ record { quads = without_graph s.quads (Named n); names = retain s.names (λ m. not (same_graph (Named n) (Named m))); next = s.next }
@@ -190,7 +183,7 @@ default_gone s = λ i. record {
   next = s.next;
 }
 
-pub all_dropped : (s mid : State) → mid ≡ gone s Default → dropped mid some.Named ≡ dropped s some.All
+all_dropped : (s mid : State) → mid ≡ gone s Default → dropped mid some.Named ≡ dropped s some.All
 all_dropped s mid e =
     ap (λ t. dropped t some.Named) e
     ∙ (λ i. record {
@@ -199,6 +192,26 @@ all_dropped s mid e =
       names = retain s.names (λ n. false);
       next = s.next;
     })
+
+-- ---- either way
+
+-- each name is listed: all named graphs are emptied
+pub named_emptied : (k : Kept) (s : State) (old found rest : List Term) → IsSound s → old ≡ [] → AppendsOnce s.names old found → rest ≡ found → each_emptied k s rest ≡ graphs_emptied k s some.Named
+named_emptied kept.Stay = all_emptied
+named_emptied kept.Go = all_gone
+
+pub graph_emptied : (k : Kept) (s : State) (iri : List ℕ) → one_emptied k s (Named (Iri iri)) ≡ graphs_emptied k s (some.Graph iri)
+graph_emptied kept.Stay s iri = refl
+graph_emptied kept.Go s iri = one_gone s (Iri iri)
+
+pub default_emptied : (k : Kept) (s : State) → one_emptied k s Default ≡ graphs_emptied k s some.Default
+default_emptied kept.Stay s = default_cleared s
+default_emptied kept.Go s = default_gone s
+
+-- the default graph, and then the named ones
+pub both_emptied : (k : Kept) (s mid : State) → mid ≡ one_emptied k s Default → graphs_emptied k mid some.Named ≡ graphs_emptied k s some.All
+both_emptied kept.Stay = all_cleared
+both_emptied kept.Go = all_dropped
 
 -- ---- graphs are copied
 

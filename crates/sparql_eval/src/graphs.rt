@@ -3,8 +3,8 @@ ghost use Rattle.std.specs.Prelude.{◌≡◌, ℕ, false, IfOk, IsTrue, OnOk};
 ghost use Rattle.rdf_terms.specs.Below.{IsGraphBelow};
 ghost use Rattle.rdf_terms.specs.Quad.{may_name_graph};
 ghost use Rattle.sparql_eval.specs.Graphs.{graph_of, same_graph};
-ghost use Rattle.sparql_eval.specs.Operations.{added, cleared, copied, dropped, moved, onto};
-ghost use Rattle.sparql_eval.specs.Staging.{gone};
+ghost use Rattle.sparql_eval.specs.Operations.{added, copied, moved, onto};
+ghost use Rattle.sparql_eval.specs.Staging.{gone, graphs_emptied, one_emptied};
 ghost use Rattle.sparql_trees.specs.declared.operation.GraphRefAll.TheVariants.{Named as each_named};
 
 use crate::quads::{add_graph, empty_graph, is_sound};
@@ -31,42 +31,6 @@ fn is_same_graph(graph: &GraphName, other: &GraphName) -> bool
     graph.cmp(other).is_eq()
 }
 
-fn clear_named<D: Source>(alloc: Global, view: &mut Staged<'_, D>) -> Result<(), NoMemory>
-    ensures ok { OnOk result (view.new.now ≡ cleared view.old.now each_named) }
-    ensures beneath { view.new.under ≡ view.old.under }
-{
-    is_sound(view);
-    let mut names = Vec::new(alloc);
-    view.names(&mut names)?;
-    for name in names {
-        empty_graph(alloc, &GraphName::Named(name), view)?;
-    }
-    Ok(())
-}
-
-/// Empties the graphs. Their names stay.
-pub(crate) fn clear<D: Source>(
-    alloc: Global,
-    graphs: &GraphRefAll,
-    view: &mut Staged<'_, D>,
-) -> Result<(), NoMemory>
-    ensures ok { OnOk result (view.new.now ≡ cleared view.old.now graphs.now) }
-    ensures beneath { view.new.under ≡ view.old.under }
-{
-    match graphs {
-        GraphRefAll::Graph(iri) => {
-            let graph = GraphName::Named(Term::Iri(iri.copy()?));
-            empty_graph(alloc, &graph, view)
-        }
-        GraphRefAll::Default => empty_graph(alloc, &GraphName::Default, view),
-        GraphRefAll::Named => clear_named(alloc, view),
-        GraphRefAll::All => {
-            empty_graph(alloc, &GraphName::Default, view)?;
-            clear_named(alloc, view)
-        }
-    }
-}
-
 // Empties a graph and takes its name away, where it has one.
 fn drop_graph<D: Source>(
     alloc: Global,
@@ -83,38 +47,67 @@ fn drop_graph<D: Source>(
     Ok(())
 }
 
-fn drop_named<D: Source>(alloc: Global, view: &mut Staged<'_, D>) -> Result<(), NoMemory>
-    ensures ok { OnOk result (view.new.now ≡ dropped view.old.now each_named) }
+/// What becomes of the names of graphs that are emptied.
+#[derive(Clone, Copy)]
+pub(crate) enum Names {
+    /// CLEAR
+    Stay,
+    /// DROP
+    Go,
+}
+
+fn empty_one<D: Source>(
+    alloc: Global,
+    graph: &GraphName,
+    names: Names,
+    view: &mut Staged<'_, D>,
+) -> Result<(), NoMemory>
+    ensures ok { OnOk result (view.new.now ≡ one_emptied names view.old.now graph.now) }
+    ensures beneath { view.new.under ≡ view.old.under }
+{
+    match names {
+        Names::Stay => empty_graph(alloc, graph, view),
+        Names::Go => drop_graph(alloc, graph, view),
+    }
+}
+
+fn empty_named<D: Source>(
+    alloc: Global,
+    names: Names,
+    view: &mut Staged<'_, D>,
+) -> Result<(), NoMemory>
+    ensures ok { OnOk result (view.new.now ≡ graphs_emptied names view.old.now each_named) }
     ensures beneath { view.new.under ≡ view.old.under }
 {
     is_sound(view);
-    let mut names = Vec::new(alloc);
-    view.names(&mut names)?;
-    for name in names {
-        drop_graph(alloc, &GraphName::Named(name), view)?;
+    let mut named = Vec::new(alloc);
+    view.names(&mut named)?;
+    for name in named {
+        empty_one(alloc, &GraphName::Named(name), names, view)?;
     }
     Ok(())
 }
 
-/// Empties the graphs and takes their names away.
-pub(crate) fn drop_graphs<D: Source>(
+/// CLEAR, where the names stay, and DROP, where they go: empties the graphs.
+pub(crate) fn empty_graphs<D: Source>(
     alloc: Global,
     graphs: &GraphRefAll,
+    names: Names,
     view: &mut Staged<'_, D>,
 ) -> Result<(), NoMemory>
-    ensures ok { OnOk result (view.new.now ≡ dropped view.old.now graphs.now) }
+    ensures ok { OnOk result (view.new.now ≡ graphs_emptied names view.old.now graphs.now) }
     ensures beneath { view.new.under ≡ view.old.under }
 {
     match graphs {
         GraphRefAll::Graph(iri) => {
             let graph = GraphName::Named(Term::Iri(iri.copy()?));
-            drop_graph(alloc, &graph, view)
+            empty_one(alloc, &graph, names, view)
         }
-        GraphRefAll::Default => drop_graph(alloc, &GraphName::Default, view),
-        GraphRefAll::Named => drop_named(alloc, view),
+        GraphRefAll::Default => empty_one(alloc, &GraphName::Default, names, view),
+        GraphRefAll::Named => empty_named(alloc, names, view),
         GraphRefAll::All => {
-            drop_graph(alloc, &GraphName::Default, view)?;
-            drop_named(alloc, view)
+            empty_one(alloc, &GraphName::Default, names, view)?;
+            empty_named(alloc, names, view)
         }
     }
 }

@@ -8,7 +8,7 @@ ghost use Rattle.sparql_eval.specs.Graphs.{graph_of, is_there};
 ghost use Rattle.sparql_eval.specs.Operations.{after, is_silent, missing_of, obstacle, unless};
 
 use crate::fault::ApplyFault;
-use crate::graphs::{add, clear, copy, drop_graphs, move_graph};
+use crate::graphs::{Names, add, copy, empty_graphs, move_graph};
 use crate::quads::remove_all;
 use rdf_dataset::{Source, Staged};
 use rdf_terms::{Iri, NoMemory, Quad, Term};
@@ -139,8 +139,8 @@ pub(crate) fn perform<D: Source>(
         Operation::InsertData(data) => insert_data(alloc, data, view),
         Operation::DeleteData(data) => remove_all(data.quads(), view),
         Operation::Create { graph, .. } => create(graph, view),
-        Operation::Clear { graphs, .. } => clear(alloc, graphs, view),
-        Operation::Drop { graphs, .. } => drop_graphs(alloc, graphs, view),
+        Operation::Clear { graphs, .. } => empty_graphs(alloc, graphs, Names::Stay, view),
+        Operation::Drop { graphs, .. } => empty_graphs(alloc, graphs, Names::Go, view),
         Operation::Copy { from, to, .. } => copy(alloc, from, to, view),
         Operation::Move { from, to, .. } => move_graph(alloc, from, to, view),
         Operation::Add { from, to, .. } => add(alloc, from, to, view),

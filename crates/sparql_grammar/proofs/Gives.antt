@@ -73,7 +73,7 @@ unfolding Gives
 maybe_gives P Good p ts None us d w = (tt, rw (← d) w)
 maybe_gives P Good p ts (Some x) us d w = p ts x us d w
 
-good_joined : {A : Type 0} (Good : A → Type 0) (xs ys : List A) → AllByRecursion Good xs → AllByRecursion Good ys → AllByRecursion Good (xs ++ ys)
+pub good_joined : {A : Type 0} (Good : A → Type 0) (xs ys : List A) → AllByRecursion Good xs → AllByRecursion Good ys → AllByRecursion Good (xs ++ ys)
 good_joined Good [] ys a b = b
 good_joined Good (x ∷ xs) ys a b = (a.0, good_joined Good xs ys a.1 b)
 

@@ -87,8 +87,8 @@ number_gives = or_gives _ _ (Passes proper_literal) (map_gives l.Integer _ _ (Pa
     (map_gives l.Double _ _ (Passes proper_literal) (word_gives w.Double terminal.Double is_double) (λ a h. refl)))
 
 boolean_gives : Gives (productions.BooleanLiteral word) (Passes proper_literal)
-boolean_gives = or_gives _ _ (Passes proper_literal) (behind_word w.True terminal.True is_true _ (Passes proper_literal) (pure_gives (l.Boolean true) (Passes proper_literal) refl))
-    (behind_word w.False terminal.False is_false _ (Passes proper_literal) (pure_gives (l.Boolean false) (Passes proper_literal) refl))
+boolean_gives = or_gives _ _ (Passes proper_literal) (map_gives (l.Boolean true) _ _ (Passes proper_literal) (word_gives w.True terminal.True is_true) (λ a h. refl))
+    (map_gives (l.Boolean false) _ _ (Passes proper_literal) (word_gives w.False terminal.False is_false) (λ a h. refl))
 
 literal_gives : Gives words.ALiteral (Passes proper_literal)
 literal_gives = or_gives _ _ (Passes proper_literal) text_gives (or_gives _ _ (Passes proper_literal) number_gives boolean_gives)
@@ -114,7 +114,7 @@ good_collection : (bracket : Piece) (xs : List Node) → AllByRecursion (Passes 
 good_collection bracket xs h = by-Collection proper_node_of proper_property_of bracket xs ∙ all_pass proper_node xs h
 
 -- a list with a member
-abbrev Some_pass : {A : Type 0} → (A → Bool) → List A → Type 0
+abbrev pub Some_pass : {A : Type 0} → (A → Bool) → List A → Type 0
 Some_pass test xs = AllByRecursion (Passes test) xs × (is_filled xs ≡ true)
 
 good_property : (verb : Verb) (objects : List Node) → proper_verb verb ≡ true → Some_pass proper_node objects → proper_property (read.property_with verb objects) ≡ true

@@ -5,6 +5,9 @@ pub mod GrammarNodes
 pub mod GrammarProper
 pub mod GrammarTriples
 pub mod GrammarWords
+pub mod GroupNests
+pub mod GroupProductions
+pub mod GroupTurns
 pub mod Keywords
 pub mod OperationData
 pub mod OperationNests
@@ -15,5 +18,8 @@ pub mod OperationTurns
 pub mod OperationWhole
 pub mod ProfileTokens
 pub mod PrologueProductions
+pub mod QueryProductions
+pub mod QueryProper
+pub mod QueryWhole
 pub mod Trees
 pub mod Turns

@@ -35,14 +35,14 @@ closes_no_node (Some terminal.CloseBrace) h = refl
 closes_no_node (Some terminal.Graph) h = refl
 closes_no_node _ h = absurd (cc)
 
-abbrev no_dot : Option Terminal → Bool
+abbrev pub no_dot : Option Terminal → Bool
 no_dot (Some terminal.Dot) = false
 no_dot _ = true
 
-abbrev ends_dot : Test
+abbrev pub ends_dot : Test
 ends_dot us = no_dot (next_terminal us)
 
-node_no_dot : (k : Option Terminal) → begins_node k ≡ true → no_dot k ≡ true
+pub node_no_dot : (k : Option Terminal) → begins_node k ≡ true → no_dot k ≡ true
 node_no_dot (Some terminal.Dot) h = absurd (cc)
 node_no_dot _ h = refl
 

@@ -29,7 +29,7 @@ use Rattle.sparql_grammar.proofs.PrologueProductions.{declaration_keeps}
 
 -- what stands where so many brackets are open
 module _ (limit b : ℕ) where
-  perhaps_keeps : (k : Terminal) → Keeps bracket limit b (grammar.the k) (grammar.the k) → Keeps bracket limit b (g.Perhaps k) (g.Perhaps k)
+  pub perhaps_keeps : (k : Terminal) → Keeps bracket limit b (grammar.the k) (grammar.the k) → Keeps bracket limit b (g.Perhaps k) (g.Perhaps k)
   perhaps_keeps k p = map_keeps bracket limit b is_some _ _ (maybe_keeps bracket limit b _ _ p)
 
   silent_keeps : Keeps bracket limit b (g.Perhaps terminal.Silent) (g.Perhaps terminal.Silent)

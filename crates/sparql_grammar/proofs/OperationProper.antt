@@ -37,7 +37,7 @@ use Rattle.sparql_grammar.proofs.OperationParts.{Ended, EndedOperation, APart}
 use Rattle.sparql_grammar.proofs.OperationWhole.{parts_are}
 use Rattle.sparql_grammar.proofs.PrologueProductions.{declaration_gives}
 
-perhaps_gives : (k : Terminal) → Gives (g.Perhaps k) Any
+pub perhaps_gives : (k : Terminal) → Gives (g.Perhaps k) Any
 perhaps_gives k = map_gives is_some _ (IsGoodOption Any) Any (maybe_gives _ Any (the_gives k)) (λ a h. tt)
 
 -- ---- operations on graphs

@@ -76,7 +76,7 @@ request_read_at depth ts parts below d = request_complete depth ts parts (parts_
 low_or_high : (n : ℕ) → (n ≤ 100) ⊎ (100 < n)
 low_or_high n = grind arith
 
-never_high : (ts : Lexemes) → (IsTooDeep ts → ⊥) → (n : ℕ) → open_after 0 (take n ts) ≤ 100
+pub never_high : (ts : Lexemes) → (IsTooDeep ts → ⊥) → (n : ℕ) → open_after 0 (take n ts) ≤ 100
 never_high ts h n = elim (low_or_high (open_after 0 (take n ts))) [ inl low ↦ low | inr high ↦ absurd (h (n, high)) ]
 
 pub request_read : (ts : Lexemes) (parts : List Part) → (IsTooDeep ts → ⊥) → IsRequest ts parts → request 99 ts ≡ Some (parts, [])

@@ -1,6 +1,5 @@
 -- Prologues are read just as they are derived.
 use Rattle.std.proofs.Common.{◌≡◌, ℕ, ◌<◌, true, false, List, length, Option, Some, refl, ap, arith, inl, inr}
-use Rattle.rdf_grammar.specs.Steps as steps
 use Rattle.rdf_grammar.specs.Terminals.{next_terminal}
 use Rattle.rdf_grammar.specs.Derivations as grammar
 use Rattle.rdf_grammar.proofs.Combinators.{one_decides, seq, last}
@@ -15,7 +14,7 @@ use Rattle.sparql_grammar.specs.Lexemes.{Lexemes, Derives, Test}
 use Rattle.sparql_grammar.specs.PrologueGrammar.{BaseDecl, PrefixDecl, Prologue}
 use Rattle.sparql_grammar.specs.PrologueReading as read
 use Rattle.sparql_grammar.specs.Terminals.{same_terminal, apart, bracket}
-use Rattle.sparql_grammar.proofs.Gives.{Gives, Any, then_gives, pure_gives, or_gives, value_gives, namespace_gives, map_gives, behind_gives, star_gives, one_gives}
+use Rattle.sparql_grammar.proofs.Gives.{Gives, Any, then_gives, or_gives, value_gives, namespace_gives, map_gives, behind_gives}
 use Rattle.sparql_grammar.proofs.Keywords.{keyword_sound, keyword_complete, keyword_terminal, keyword_strict}
 
 -- ---- declarations

@@ -1,5 +1,7 @@
 pub mod Formed
 pub mod Grammar
+pub mod GroupGrammar
+pub mod GroupReading
 pub mod Lexemes
 pub mod Nesting
 pub mod OperationGrammar
@@ -8,6 +10,9 @@ pub mod Profile
 pub mod PrologueGrammar
 pub mod PrologueReading
 pub mod Proper
+pub mod QueryGrammar
+pub mod QueryLaws
+pub mod QueryReading
 pub mod Reading
 pub mod RequestLaws
 pub mod Stops

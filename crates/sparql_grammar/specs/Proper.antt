@@ -8,10 +8,16 @@ use Rattle.rdf_grammar.specs.Prologue.{is_proper}
 use Rattle.rdf_grammar.specs.declared.tree.Literal.{Literal}
 use Rattle.rdf_grammar.specs.declared.tree.Literal.TheVariants as l
 use Rattle.sparql_grammar.specs.declared.tree.Block.{Block}
+use Rattle.sparql_grammar.specs.declared.tree.Columns.{Columns}
+use Rattle.sparql_grammar.specs.declared.tree.Columns.TheVariants as c
 use Rattle.sparql_grammar.specs.declared.tree.GraphOrDefault.{GraphOrDefault}
 use Rattle.sparql_grammar.specs.declared.tree.GraphOrDefault.TheVariants as one
 use Rattle.sparql_grammar.specs.declared.tree.GraphRefAll.{GraphRefAll}
 use Rattle.sparql_grammar.specs.declared.tree.GraphRefAll.TheVariants as some
+use Rattle.sparql_grammar.specs.declared.tree.Group.{Group}
+use Rattle.sparql_grammar.specs.declared.tree.Member.{Member}
+use Rattle.sparql_grammar.specs.declared.tree.Member.TheOpen.{Group-F, Member-F}
+use Rattle.sparql_grammar.specs.declared.tree.Member.TheFolds.{fold-Group, fold-Member}
 use Rattle.sparql_grammar.specs.declared.tree.Node.{Node}
 use Rattle.sparql_grammar.specs.declared.tree.Node.TheOpen.{Node-F, Property-F}
 use Rattle.sparql_grammar.specs.declared.tree.Node.TheFolds.{fold-Node, fold-Property}
@@ -20,6 +26,9 @@ use Rattle.sparql_grammar.specs.declared.tree.Operation.TheVariants as o
 use Rattle.sparql_grammar.specs.declared.tree.Part.{Part}
 use Rattle.sparql_grammar.specs.declared.tree.Part.TheVariants as p
 use Rattle.sparql_grammar.specs.declared.tree.Property.{Property}
+use Rattle.sparql_grammar.specs.declared.tree.Query.{Query}
+use Rattle.sparql_grammar.specs.declared.tree.QueryForm.{QueryForm}
+use Rattle.sparql_grammar.specs.declared.tree.QueryForm.TheVariants as form
 use Rattle.sparql_grammar.specs.declared.tree.Triples.{Triples}
 use Rattle.sparql_grammar.specs.declared.tree.VarOrIri.{VarOrIri}
 use Rattle.sparql_grammar.specs.declared.tree.VarOrIri.TheVariants as place
@@ -107,3 +116,33 @@ proper_operation (o.Add silent from to) = proper_graph_or_default from && proper
 abbrev pub proper_part : Part → Bool
 proper_part (p.Operation operation) = proper_operation operation
 proper_part _ = true
+
+-- ---- groups and queries
+
+-- triples that stand together are one or more, and so are groups with UNION between them
+abbrev pub proper_member_of : Member-F Bool Bool → Bool
+proper_member_of (Member-F.Triples triples) = is_filled triples && list_all holds (map proper_triples triples)
+proper_member_of (Member-F.Union groups) = is_filled groups && list_all holds groups
+proper_member_of (Member-F.Optional group) = group
+proper_member_of (Member-F.Graph graph group) = proper_var_or_iri graph && group
+
+abbrev pub proper_group_of : Group-F Bool Bool → Bool
+proper_group_of g = list_all holds g.members
+
+abbrev pub proper_group : Group → Bool
+proper_group = fold-Group Bool Bool proper_member_of proper_group_of
+
+abbrev pub proper_member : Member → Bool
+proper_member = fold-Member Bool Bool proper_member_of proper_group_of
+
+-- SELECT names a variable, or all
+abbrev pub proper_columns : Columns → Bool
+proper_columns c.All = true
+proper_columns (c.Variables names) = is_filled names
+
+abbrev pub proper_form : QueryForm → Bool
+proper_form (form.Select distinct columns group) = proper_columns columns && proper_group group
+proper_form (form.Ask group) = proper_group group
+
+abbrev pub proper_query : Query → Bool
+proper_query q = proper_form q.form

@@ -1,5 +1,6 @@
-//! What holds of each request and its tree.
+//! What holds of each request, each query and their trees.
 ghost use Rattle.sparql_grammar.specs.Lexemes.{LexemesHaveForms};
+ghost use Rattle.sparql_grammar.specs.QueryLaws.{OneQuery, QueriesAreProper};
 ghost use Rattle.sparql_grammar.specs.RequestLaws.{OneRequest, RequestsAreProper};
 
 /// No lexemes are two requests (SPARQL 1.1 Query, section 19.8): the grammar has one tree at most
@@ -13,6 +14,19 @@ pub fn one_request_tree()
 /// inside.
 pub fn requests_are_proper()
     ensures { RequestsAreProper }
+{}
+
+/// No lexemes are two queries (SPARQL 1.1 Query, section 19.8): the grammar has one tree at most
+/// for them, however deep their brackets nest.
+pub fn one_query_tree()
+    ensures { OneQuery }
+{}
+
+/// A text's query is proper: prefixed names have local parts that may stand in an IRI, tags are
+/// tags, each verb has an object, each subject has properties, behind it or inside, and no list of
+/// triples, groups or columns is empty, in groups at any depth.
+pub fn queries_are_proper()
+    ensures { QueriesAreProper }
 {}
 
 /// The lexemes of a text have the forms of its tokens.

@@ -1,4 +1,4 @@
-//! Why lexemes are no request.
+//! Why lexemes are no request or no query.
 ghost use Rattle.std.specs.Prelude.{◌≡◌};
 ghost use Rattle.sparql_grammar.specs.Stops.{kind_of};
 ghost use Rattle.sparql_grammar.specs.declared.stop.StopKind.TheVariants as stop;
@@ -7,13 +7,13 @@ use rdf_grammar::GrammarFault;
 use rdf_terms::NoMemory;
 use thiserror::Error;
 
-/// Why lexemes are no request. Where both of the first two apply, they are `TooDeep`.
+/// Why lexemes are no request or no query. Where both of the first two apply, they are `TooDeep`.
 #[derive(Clone, Copy, Debug, Error, PartialEq, Eq)]
 pub enum StopKind {
     /// More than 100 brackets are open at once.
     #[error("TooDeep")]
     TooDeep,
-    /// The grammar has no such request.
+    /// The grammar has no such request or query.
     #[error("Syntax")]
     Syntax,
     /// Memory was wanting.
@@ -21,8 +21,8 @@ pub enum StopKind {
     NoMemory(NoMemory),
 }
 
-/// Why lexemes are not read, and at which of them: the first with which no request can begin, or
-/// their number where only more of them could make a request.
+/// Why lexemes are not read, and at which of them: the first with which none can begin, or
+/// their number where only more of them could make one.
 #[derive(Clone, Copy, Debug, PartialEq, Eq)]
 pub struct Stop {
     /// Why.

@@ -1,16 +1,13 @@
 pub mod AnswerLemmas
-pub mod BlankSteps
-pub mod DraftsBelow
 mod PhaseLemmas
+pub mod DraftsNumbered
 mod ProfileLemmas
 pub mod ReadLemmas
 mod RequestLemmas
 mod RuleLawLemmas
 mod RuleLemmas
 mod SayLemmas
-pub mod ScopeLabels
-pub mod ScopeLoops
-pub mod ScopeSteps
+mod SharedLabels
 mod TellLemmas
 mod UpdateCases
 mod UpdateLemmas

@@ -17,7 +17,8 @@ use Rattle.sparql_syntax.specs.declared.fault.SyntaxFaultKind.TheVariants as fau
 use Rattle.sparql_syntax.specs.Drafts.{IsDraftBelow}
 use Rattle.sparql_syntax.specs.Known.{declares_first}
 use Rattle.sparql_syntax.specs.Meaning.{answer, drafts_of}
-use Rattle.sparql_syntax.proofs.DraftsBelow.{blank_numbers_are_below, numbered_below}
+use Rattle.sparql_drafts.proofs.DraftsBelow.{numbered_below}
+use Rattle.sparql_syntax.proofs.DraftsNumbered.{blank_numbers_are_below}
 
 -- ---- lexemes that aren't too deep are a request, or none
 

@@ -4,11 +4,11 @@ use Rattle.std.specs.List.{list_all, list_any}
 use Rattle.rdf_terms.specs.declared.term.Term.TheVariants as term
 use Rattle.sparql_syntax.specs.declared.draft.Draft.{Draft}
 use Rattle.sparql_syntax.specs.declared.draft.Draft.TheVariants as draft
-use Rattle.sparql_syntax.specs.declared.draft.QuadPattern.{QuadPattern}
-use Rattle.sparql_syntax.specs.declared.draft.VarOrIri.{VarOrIri}
-use Rattle.sparql_syntax.specs.declared.draft.VarOrIri.TheVariants as name
-use Rattle.sparql_syntax.specs.declared.draft.VarOrTerm.{VarOrTerm}
-use Rattle.sparql_syntax.specs.declared.draft.VarOrTerm.TheVariants as place
+use Rattle.sparql_drafts.specs.declared.draft.QuadPattern.{QuadPattern}
+use Rattle.sparql_drafts.specs.declared.draft.VarOrIri.{VarOrIri}
+use Rattle.sparql_drafts.specs.declared.draft.VarOrIri.TheVariants as name
+use Rattle.sparql_drafts.specs.declared.draft.VarOrTerm.{VarOrTerm}
+use Rattle.sparql_drafts.specs.declared.draft.VarOrTerm.TheVariants as place
 use Rattle.sparql_syntax.specs.declared.fault.SyntaxFaultKind.{SyntaxFaultKind}
 use Rattle.sparql_syntax.specs.declared.fault.SyntaxFaultKind.TheVariants as fault
 use Rattle.sparql_syntax.specs.RuleLaws.{are_quads, has_quads, PatternsAreQuads}

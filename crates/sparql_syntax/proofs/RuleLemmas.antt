@@ -9,14 +9,14 @@ use Rattle.rdf_terms.specs.declared.quad.GraphName.TheVariants.{Default, Named}
 use Rattle.rdf_terms.specs.declared.term.Term.{Term}
 use Rattle.rdf_terms.specs.declared.term.Term.TheVariants as term
 use Rattle.sparql_syntax.specs.declared.draft.Draft.{Draft}
-use Rattle.sparql_syntax.specs.declared.draft.QuadPattern.{QuadPattern}
-use Rattle.sparql_syntax.specs.declared.draft.VarOrIri.{VarOrIri}
-use Rattle.sparql_syntax.specs.declared.draft.VarOrIri.TheVariants as name
-use Rattle.sparql_syntax.specs.declared.draft.VarOrTerm.{VarOrTerm}
-use Rattle.sparql_syntax.specs.declared.draft.VarOrTerm.TheVariants as place
+use Rattle.sparql_drafts.specs.declared.draft.QuadPattern.{QuadPattern}
+use Rattle.sparql_drafts.specs.declared.draft.VarOrIri.{VarOrIri}
+use Rattle.sparql_drafts.specs.declared.draft.VarOrIri.TheVariants as name
+use Rattle.sparql_drafts.specs.declared.draft.VarOrTerm.{VarOrTerm}
+use Rattle.sparql_drafts.specs.declared.draft.VarOrTerm.TheVariants as place
 use Rattle.sparql_syntax.specs.declared.fault.SyntaxFaultKind.{SyntaxFaultKind}
 use Rattle.sparql_syntax.specs.declared.fault.SyntaxFaultKind.TheVariants as fault
-use Rattle.sparql_syntax.specs.Drafts.{IsPlaceBelow, IsPatternBelow, ArePatternsBelow}
+use Rattle.sparql_drafts.specs.Drafts.{IsPlaceBelow, IsPatternBelow, ArePatternsBelow}
 use Rattle.sparql_syntax.specs.Rules.{has_blank_in_delete, graph_of, term_of, predicate_of, quad_by, quad_of, judged}
 use Rattle.sparql_trees.specs.declared.operation.Operation.{Operation}
 

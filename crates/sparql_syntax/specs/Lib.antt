@@ -5,10 +5,8 @@ pub mod Kept
 pub mod Known
 pub mod Meaning
 pub mod Phases
-pub mod Room
 pub mod RuleLaws
 pub mod Rules
-pub mod State
 pub mod Told
 pub mod Update
 pub mod UpdateLaws

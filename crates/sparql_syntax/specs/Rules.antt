@@ -12,12 +12,12 @@ use Rattle.rdf_terms.specs.declared.term.Term.TheVariants as term
 use Rattle.rdf_grammar.specs.Keys.{key_of, same_key}
 use Rattle.sparql_syntax.specs.declared.draft.Draft.{Draft}
 use Rattle.sparql_syntax.specs.declared.draft.Draft.TheVariants as draft
-use Rattle.sparql_syntax.specs.declared.draft.QuadPattern.{QuadPattern}
-use Rattle.sparql_syntax.specs.declared.draft.Quads.{Quads}
-use Rattle.sparql_syntax.specs.declared.draft.VarOrIri.{VarOrIri}
-use Rattle.sparql_syntax.specs.declared.draft.VarOrIri.TheVariants as name
-use Rattle.sparql_syntax.specs.declared.draft.VarOrTerm.{VarOrTerm}
-use Rattle.sparql_syntax.specs.declared.draft.VarOrTerm.TheVariants as place
+use Rattle.sparql_drafts.specs.declared.draft.QuadPattern.{QuadPattern}
+use Rattle.sparql_drafts.specs.declared.draft.Quads.{Quads}
+use Rattle.sparql_drafts.specs.declared.draft.VarOrIri.{VarOrIri}
+use Rattle.sparql_drafts.specs.declared.draft.VarOrIri.TheVariants as name
+use Rattle.sparql_drafts.specs.declared.draft.VarOrTerm.{VarOrTerm}
+use Rattle.sparql_drafts.specs.declared.draft.VarOrTerm.TheVariants as place
 use Rattle.sparql_syntax.specs.declared.fault.SyntaxFaultKind.{SyntaxFaultKind}
 use Rattle.sparql_syntax.specs.declared.fault.SyntaxFaultKind.TheVariants.{BlankInDelete, VariableInData, LiteralSubject, BlankReused}
 use Rattle.sparql_trees.specs.declared.operation.Operation.{Operation}

@@ -1,5 +1,5 @@
 //! What holds of each text.
-ghost use Rattle.sparql_syntax.specs.RuleLaws.{PatternsAreQuads};
+ghost use Rattle.sparql_syntax.specs.RuleLaws.{LabelsAreShared, PatternsAreQuads};
 ghost use Rattle.sparql_syntax.specs.UpdateLaws.{SomeMeaning, OneRequest, NeverBoth, OneFault};
 
 /// Each text is one request, or faulty, and never both.
@@ -13,4 +13,10 @@ pub fn one_request()
 /// Where the static rules are kept no quad of the data is lost.
 pub fn data_are_quads()
     ensures { PatternsAreQuads }
+{}
+
+/// A blank node label is reused where it stands in the data of two INSERT DATA operations, and nowhere
+/// else (SPARQL 1.1 Query, section 19.6).
+pub fn labels_are_shared()
+    ensures { LabelsAreShared }
 {}

@@ -6,16 +6,14 @@ mod draft;
 mod fault;
 mod known;
 mod laws;
-mod meaning;
 mod operation;
 mod read;
 mod request;
 mod rules;
-mod scope;
 mod text;
 
 pub use fault::{SyntaxFault, SyntaxFaultKind};
-pub use laws::{data_are_quads, one_request};
+pub use laws::{data_are_quads, labels_are_shared, one_request};
 pub use operation::blank_numbers_are_below;
 pub use read::read_update;
 pub use sparql_trees::{Data, GraphOrDefault, GraphRefAll, GroundData, Operation, Request};

@@ -2,22 +2,22 @@
 ghost use Rattle.std.specs.Prelude.{◌≡◌, ◌&&◌, ◌++◌, [], IfOk, OnOk, MatchResult, IsTrue, Ok, map};
 ghost use Rattle.std.specs.List.{list_all};
 ghost use Rattle.std.specs.Option.{option_copied, option_map};
-ghost use Rattle.rdf_grammar.specs.Keys.{key_of};
 ghost use Rattle.rdf_grammar.specs.Prologue as prologue;
-ghost use Rattle.rdf_grammar.specs.Prologue.{declared, is_proper, knows};
+ghost use Rattle.rdf_grammar.specs.Prologue.{declared};
 ghost use Rattle.sparql_grammar.specs.Proper as proper;
 ghost use Rattle.sparql_grammar.specs.Proper.{holds};
 ghost use Rattle.sparql_syntax.specs.Blanks.{BlankNumbersAreBelow};
-ghost use Rattle.sparql_syntax.specs.Kept.{Gives, Tells, IsFaultOf};
+ghost use Rattle.sparql_drafts.specs.Kept.{Gives, Tells};
+ghost use Rattle.sparql_syntax.specs.Kept.{IsFaultOf};
 ghost use Rattle.sparql_syntax.specs.Known as known;
 ghost use Rattle.sparql_syntax.specs.Known.{declared_behind, declares_first};
 ghost use Rattle.sparql_syntax.specs.Meaning as spec;
 
 use crate::draft::Draft;
 use crate::known::first_unknown;
-use crate::scope::Scope;
 use rdf_grammar::PrologueFault;
 use rdf_terms::{Iri, Items, NoMemory};
+use sparql_drafts::Scope;
 use sparql_grammar::{
     GraphOrDefault as WrittenPlace, GraphRefAll as WrittenGraphs, Operation as Written, Part,
 };
@@ -44,148 +44,153 @@ fn add<'a>(drafts: &mut Items<Draft<'a>>, draft: Option<Draft<'a>>) -> Result<()
     Ok(())
 }
 
-impl<'a> Scope<'a> {
-    fn graph_ref_all(&mut self, graphs: &WrittenGraphs<'a>) -> Result<GraphRefAll, PrologueFault>
-        requires known { IsTrue (known.known_graph_ref_all
-            (declared self.old.prologue) graphs.now) }
-        requires proper { IsTrue (proper.proper_graph_ref_all graphs.now) }
-        ensures tells { Tells (spec.graph_ref_all graphs.now self.old.prologue) result }
-        ensures prologue { self.new.prologue ≡ self.old.prologue }
-    {
-        match graphs {
-            WrittenGraphs::Graph(name) => Ok(GraphRefAll::Graph(self.iri(name)?)),
-            WrittenGraphs::Default => Ok(GraphRefAll::Default),
-            WrittenGraphs::Named => Ok(GraphRefAll::Named),
-            WrittenGraphs::All => Ok(GraphRefAll::All),
+fn graph_ref_all<'a>(
+    scope: &mut Scope<'a>,
+    graphs: &WrittenGraphs<'a>,
+) -> Result<GraphRefAll, PrologueFault>
+    requires known { IsTrue (known.known_graph_ref_all
+        (declared scope.old.prologue) graphs.now) }
+    requires proper { IsTrue (proper.proper_graph_ref_all graphs.now) }
+    ensures tells { Tells (spec.graph_ref_all graphs.now scope.old.prologue) result }
+    ensures prologue { scope.new.prologue ≡ scope.old.prologue }
+{
+    match graphs {
+        WrittenGraphs::Graph(name) => Ok(GraphRefAll::Graph(scope.iri(name)?)),
+        WrittenGraphs::Default => Ok(GraphRefAll::Default),
+        WrittenGraphs::Named => Ok(GraphRefAll::Named),
+        WrittenGraphs::All => Ok(GraphRefAll::All),
+    }
+}
+
+fn graph_or_default<'a>(
+    scope: &mut Scope<'a>,
+    place: &WrittenPlace<'a>,
+) -> Result<GraphOrDefault, PrologueFault>
+    requires known { let knows = known.known_graph_or_default (declared scope.old.prologue) in
+        IsTrue (knows place.now) }
+    requires proper { IsTrue (proper.proper_graph_or_default place.now) }
+    ensures tells { Tells (spec.graph_or_default place.now scope.old.prologue) result }
+    ensures prologue { scope.new.prologue ≡ scope.old.prologue }
+{
+    match place {
+        WrittenPlace::Default => Ok(GraphOrDefault::Default),
+        WrittenPlace::Graph(name) => Ok(GraphOrDefault::Graph(scope.iri(name)?)),
+    }
+}
+
+fn both<'a>(
+    scope: &mut Scope<'a>,
+    from: &WrittenPlace<'a>,
+    to: &WrittenPlace<'a>,
+) -> Result<(GraphOrDefault, GraphOrDefault), PrologueFault>
+    requires known { let knows = known.known_graph_or_default (declared scope.old.prologue) in
+        IsTrue (knows from.now && knows to.now) }
+    requires proper { let is_proper = proper.proper_graph_or_default in
+        IsTrue (is_proper from.now && is_proper to.now) }
+    ensures tells { Tells (spec.both from.now to.now scope.old.prologue) result }
+    ensures prologue { scope.new.prologue ≡ scope.old.prologue }
+{
+    let from = graph_or_default(scope, from)?;
+    let to = graph_or_default(scope, to)?;
+    Ok((from, to))
+}
+
+// The draft of an operation.
+#[tactic(auto, unfolding(crate::specs::Meaning::operation, crate::specs::Known::known_operation, sparql_grammar::specs::Proper::proper_operation))]
+fn operation_draft<'a>(
+    scope: &mut Scope<'a>,
+    operation: &Written<'a>,
+) -> Result<Draft<'a>, PrologueFault>
+    requires known { IsTrue (known.known_operation (declared scope.old.prologue) operation.now) }
+    requires proper { IsTrue (proper.proper_operation operation.now) }
+    ensures tells { Tells (spec.operation operation.now scope.old.prologue) result }
+    ensures prologue { scope.new.prologue ≡ scope.old.prologue }
+{
+    let other = match operation {
+        Written::InsertData(blocks) => {
+            return Ok(Draft::InsertData(scope.data(blocks.as_slice())?));
         }
-    }
-
-    fn graph_or_default(
-        &mut self,
-        place: &WrittenPlace<'a>,
-    ) -> Result<GraphOrDefault, PrologueFault>
-        requires known { let knows = known.known_graph_or_default (declared self.old.prologue) in
-            IsTrue (knows place.now) }
-        requires proper { IsTrue (proper.proper_graph_or_default place.now) }
-        ensures tells { Tells (spec.graph_or_default place.now self.old.prologue) result }
-        ensures prologue { self.new.prologue ≡ self.old.prologue }
-    {
-        match place {
-            WrittenPlace::Default => Ok(GraphOrDefault::Default),
-            WrittenPlace::Graph(name) => Ok(GraphOrDefault::Graph(self.iri(name)?)),
+        Written::DeleteData(blocks) => {
+            return Ok(Draft::DeleteData(scope.data(blocks.as_slice())?));
         }
-    }
-
-    fn both(
-        &mut self,
-        from: &WrittenPlace<'a>,
-        to: &WrittenPlace<'a>,
-    ) -> Result<(GraphOrDefault, GraphOrDefault), PrologueFault>
-        requires known { let knows = known.known_graph_or_default (declared self.old.prologue) in
-            IsTrue (knows from.now && knows to.now) }
-        requires proper { let is_proper = proper.proper_graph_or_default in
-            IsTrue (is_proper from.now && is_proper to.now) }
-        ensures tells { Tells (spec.both from.now to.now self.old.prologue) result }
-        ensures prologue { self.new.prologue ≡ self.old.prologue }
-    {
-        let from = self.graph_or_default(from)?;
-        let to = self.graph_or_default(to)?;
-        Ok((from, to))
-    }
-
-    // The draft of an operation.
-    #[tactic(auto, unfolding(crate::specs::Meaning::operation, crate::specs::Known::known_operation, sparql_grammar::specs::Proper::proper_operation))]
-    fn operation(&mut self, operation: &Written<'a>) -> Result<Draft<'a>, PrologueFault>
-        requires known { IsTrue (known.known_operation (declared self.old.prologue) operation.now) }
-        requires proper { IsTrue (proper.proper_operation operation.now) }
-        ensures tells { Tells (spec.operation operation.now self.old.prologue) result }
-        ensures prologue { self.new.prologue ≡ self.old.prologue }
-    {
-        let other = match operation {
-            Written::InsertData(blocks) => {
-                return Ok(Draft::InsertData(self.data(blocks.as_slice())?));
-            }
-            Written::DeleteData(blocks) => {
-                return Ok(Draft::DeleteData(self.data(blocks.as_slice())?));
-            }
-            Written::Create { silent, graph } => Operation::Create {
+        Written::Create { silent, graph } => Operation::Create {
+            silent: *silent,
+            graph: scope.iri(graph)?,
+        },
+        Written::Clear { silent, graphs } => Operation::Clear {
+            silent: *silent,
+            graphs: graph_ref_all(scope, graphs)?,
+        },
+        Written::Drop { silent, graphs } => Operation::Drop {
+            silent: *silent,
+            graphs: graph_ref_all(scope, graphs)?,
+        },
+        Written::Copy { silent, from, to } => {
+            let (from, to) = both(scope, from, to)?;
+            Operation::Copy {
                 silent: *silent,
-                graph: self.iri(graph)?,
-            },
-            Written::Clear { silent, graphs } => Operation::Clear {
-                silent: *silent,
-                graphs: self.graph_ref_all(graphs)?,
-            },
-            Written::Drop { silent, graphs } => Operation::Drop {
-                silent: *silent,
-                graphs: self.graph_ref_all(graphs)?,
-            },
-            Written::Copy { silent, from, to } => {
-                let (from, to) = self.both(from, to)?;
-                Operation::Copy {
-                    silent: *silent,
-                    from,
-                    to,
-                }
+                from,
+                to,
             }
-            Written::Move { silent, from, to } => {
-                let (from, to) = self.both(from, to)?;
-                Operation::Move {
-                    silent: *silent,
-                    from,
-                    to,
-                }
-            }
-            Written::Add { silent, from, to } => {
-                let (from, to) = self.both(from, to)?;
-                Operation::Add {
-                    silent: *silent,
-                    from,
-                    to,
-                }
-            }
-        };
-        Ok(Draft::Other(other))
-    }
-
-    // The draft of an operation; a declaration is in force from here on.
-    #[tactic(auto, using(rdf_grammar::proofs::PrologueKeys::declares_key), unfolding(crate::specs::Meaning::part, rdf_grammar::specs::Prologue::moves_base))]
-    fn part(&mut self, part: &Part<'a>) -> Result<Option<Draft<'a>>, PrologueFault>
-        requires known { IsTrue (known.known_part (declared self.old.prologue) part.now) }
-        requires proper { IsTrue (proper.proper_part part.now) }
-        ensures gives { Gives (spec.part part.now self.old.prologue) result self.new.prologue }
-        ensures declares { let before = declared self.old.prologue in
-            OnOk result (declared self.new.prologue ≡ declared_behind before part.now) }
-    {
-        match part {
-            Part::Prefix(prefix, reference) => {
-                let iri = self.resolved(reference)?;
-                self.prologue.declare(prefix, iri)?;
-                Ok(None)
-            }
-            Part::Base(reference) => {
-                let base = self.resolved(reference)?;
-                self.prologue.set_base(base);
-                Ok(None)
-            }
-            Part::Operation(operation) => Ok(Some(self.operation(operation)?)),
         }
-    }
-
-    // Each part's tree is let go when its draft is there.
-    fn drafts(&mut self, parts: Vec<Part<'a>>) -> Result<Items<Draft<'a>>, PrologueFault>
-        requires known { IsTrue (declares_first (declared self.old.prologue) parts.items) }
-        requires proper { IsTrue (list_all holds (map proper.proper_part parts.items)) }
-        ensures { let drafts = spec.drafts parts.entry.items self.old.prologue in
-            Tells (option_map (λ r. r.0) drafts) result }
-    {
-        let mut drafts = Items::new(self.alloc);
-        for part in parts {
-            let draft = self.part(&part)?;
-            add(&mut drafts, draft)?;
+        Written::Move { silent, from, to } => {
+            let (from, to) = both(scope, from, to)?;
+            Operation::Move {
+                silent: *silent,
+                from,
+                to,
+            }
         }
-        Ok(drafts)
+        Written::Add { silent, from, to } => {
+            let (from, to) = both(scope, from, to)?;
+            Operation::Add {
+                silent: *silent,
+                from,
+                to,
+            }
+        }
+    };
+    Ok(Draft::Other(other))
+}
+
+// The draft of a part: an operation has one, and a declaration is in force from here on.
+#[tactic(auto, unfolding(crate::specs::Meaning::part))]
+fn part_draft<'a>(
+    scope: &mut Scope<'a>,
+    part: &Part<'a>,
+) -> Result<Option<Draft<'a>>, PrologueFault>
+    requires known { IsTrue (known.known_part (declared scope.old.prologue) part.now) }
+    requires proper { IsTrue (proper.proper_part part.now) }
+    ensures gives { Gives (spec.part part.now scope.old.prologue) result scope.new.prologue }
+    ensures declares { let before = declared scope.old.prologue in
+        OnOk result (declared scope.new.prologue ≡ declared_behind before part.now) }
+{
+    match part {
+        Part::Declaration(declaration) => {
+            scope.declare(declaration)?;
+            Ok(None)
+        }
+        Part::Operation(operation) => Ok(Some(operation_draft(scope, operation)?)),
     }
+}
+
+// Each part's tree is let go when its draft is there.
+fn all_drafts<'a>(
+    alloc: Global,
+    scope: &mut Scope<'a>,
+    parts: Vec<Part<'a>>,
+) -> Result<Items<Draft<'a>>, PrologueFault>
+    requires known { IsTrue (declares_first (declared scope.old.prologue) parts.items) }
+    requires proper { IsTrue (list_all holds (map proper.proper_part parts.items)) }
+    ensures { let drafts = spec.drafts parts.entry.items scope.old.prologue in
+        Tells (option_map (λ r. r.0) drafts) result }
+{
+    let mut drafts = Items::new(alloc);
+    for part in parts {
+        let draft = part_draft(scope, &part)?;
+        add(&mut drafts, draft)?;
+    }
+    Ok(drafts)
 }
 
 /// The drafts of a request's operations in order: names have their IRIs, and blank nodes are numbered
@@ -209,7 +214,7 @@ pub(crate) fn drafts_of<'a>(
         return Err(PrologueFault::UnknownPrefix(start));
     }
     let mut scope = Scope::new(alloc, copied(base)?)?;
-    scope.drafts(parts)
+    all_drafts(alloc, &mut scope, parts)
 }
 
 /// The data of each operation has blank nodes of its own, whose numbers are just those below their

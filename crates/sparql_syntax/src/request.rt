@@ -1,11 +1,13 @@
 //! The operations of a request whose data keep to the rules.
 ghost use Rattle.std.specs.Prelude.{◌≡◌, map, None, Some, false, IfOk};
 ghost use Rattle.std.specs.List.{AllByRecursion, filter_map, list_any};
-ghost use Rattle.sparql_syntax.specs.Drafts.{ArePatternsBelow, IsDraftBelow};
+ghost use Rattle.sparql_drafts.specs.Drafts.{ArePatternsBelow};
+ghost use Rattle.sparql_syntax.specs.Drafts.{IsDraftBelow};
 ghost use Rattle.sparql_syntax.specs.Rules as spec;
 
-use crate::draft::{Draft, QuadPattern, Quads, VarOrIri, VarOrTerm};
+use crate::draft::Draft;
 use rdf_terms::{GraphName, Items, NoMemory, Quad, Term};
+use sparql_drafts::{QuadPattern, Quads, VarOrIri, VarOrTerm};
 use sparql_trees::{Data, GroundData, Operation};
 use std::alloc::Global;
 

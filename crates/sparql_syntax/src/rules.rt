@@ -4,12 +4,13 @@ ghost use Rattle.std.specs.Prelude.{◌≡◌, [], is_some, map, Ok, Err, IfOk, 
 ghost use Rattle.std.specs.List.{list_any};
 ghost use Rattle.sparql_syntax.specs.Rules as spec;
 
-use crate::draft::{Draft, QuadPattern, Quads, VarOrIri, VarOrTerm};
+use crate::draft::Draft;
 use crate::fault::SyntaxFaultKind;
 use indexmap::IndexSet;
 use rdf_grammar::Key;
 use rdf_terms::{NoMemory, Term};
 use rdf_tokens::Slice;
+use sparql_drafts::{QuadPattern, VarOrIri, VarOrTerm};
 use std::alloc::Global;
 
 /// A rule that is broken, and the byte of the text where it first is.

@@ -1,4 +1,4 @@
-use Rattle.sparql_syntax.proofs.DraftsBelow as lemma
+use Rattle.sparql_syntax.proofs.DraftsNumbered as lemma
 use Rattle.sparql_syntax.proofs.operation.blank_numbers_are_below.Goals as goal
 
 pub returns : goal.returns

@@ -1,7 +1,7 @@
 use Rattle.std.proofs.Common.{rules, ◌≡◌, ◌==◌, false, not, subst, sym}
 use Rattle.std.specs.List.{filter_map}
 use Rattle.rdf_terms.specs.Below.{AreBelow}
-use Rattle.sparql_syntax.specs.Drafts.{ArePatternsBelow}
+use Rattle.sparql_drafts.specs.Drafts.{ArePatternsBelow}
 use Rattle.sparql_syntax.specs.Rules.{quad_of}
 use Rattle.sparql_syntax.proofs.RuleLemmas.{quads_below, quads_ground}
 use Rattle.sparql_syntax.proofs.request.operation_of.Goals as goal

@@ -1,0 +1,83 @@
+-- There is one result of each query.
+use Rattle.std.proofs.Common.{◌≡◌, ℕ, zero, suc, ◌+◌, ◌<◌, Bool, true, false, cond, List, [], ◌∷◌, map, refl, sym, ap, ◌∙◌, arith}
+use Rattle.std.specs.List.{sum_by, count_by}
+use Rattle.std.proofs.lemmas.List.Sums.{sum_by-cons}
+use Rattle.rdf_terms.specs.declared.quad.GraphName.{GraphName}
+use Rattle.rdf_terms.specs.declared.quad.GraphName.TheVariants.{Default}
+use Rattle.rdf_dataset.specs.State.{State}
+use Rattle.sparql_trees.specs.Visible.{visible}
+use Rattle.sparql_trees.specs.declared.pattern.Pattern.{Pattern}
+use Rattle.sparql_trees.specs.declared.query.Select.{Select}
+use Rattle.sparql_algebra.specs.Algebra.{translation}
+use Rattle.sparql_algebra.specs.Bags.{SameBag, once_if_any}
+use Rattle.sparql_algebra.specs.Laws.{SomeSolutions, SolutionsAgree, SomeSelection, OneSelection, SomeAnswer, OneAnswer}
+use Rattle.sparql_algebra.specs.Listing.{Listing, Lists}
+use Rattle.sparql_algebra.specs.Mapping.{Mapping, same_mapping}
+use Rattle.sparql_algebra.specs.Results.{Solves, IsSelection, HasSolution, pattern_solutions, projected, projections, times_selected, is_some_solution}
+use Rattle.sparql_algebra.proofs.BagLemmas.{SameBag-map}
+use Rattle.sparql_algebra.proofs.IndependenceLemmas.{listings_same}
+use Rattle.sparql_algebra.proofs.ListingLemmas.{listing_of, there_is_a_listing}
+use Rattle.sparql_algebra.proofs.Regroup.{each_once, each_once_lists}
+use Rattle.sparql_algebra.proofs.SortedLemmas.{sort, sort_sorted, sort_same, one_sorted}
+
+pub pattern_same : (P : Pattern) (g : GraphName) (s : State) (d e : Listing) → Lists s d → Lists s e → SameBag (pattern_solutions P g d) (pattern_solutions P g e)
+pattern_same P g s d e h k = listings_same s d e h k (visible P) g (translation P)
+
+pub some_solutions : SomeSolutions
+some_solutions P g s =
+    (pattern_solutions P g (listing_of s),
+    record { variables_are = refl; counted = λ d h m. pattern_same P g s (listing_of s) d (there_is_a_listing s) h (λ x. cond (same_mapping m x) 1 0) })
+
+pub solutions_agree : SolutionsAgree
+solutions_agree P g s us vs xs ys h k =
+    (h.variables_are ∙ sym k.variables_are,
+    λ m. h.counted (listing_of s) (there_is_a_listing s) m ∙ sym (k.counted (listing_of s) (there_is_a_listing s) m))
+
+-- ---- SELECT
+
+pub projections_same : (q : Select) (s : State) (d e : Listing) → Lists s d → Lists s e → SameBag (projections q d) (projections q e)
+projections_same q s d e h k =
+    SameBag-map (projected (visible q.pattern) q.columns) (pattern_solutions q.pattern Default d) (pattern_solutions q.pattern Default e)
+    (pattern_same q.pattern Default s d e h k)
+
+abbrev pub selected : Bool → List Mapping → List Mapping
+selected true xs = each_once xs
+selected false xs = xs
+
+pub selected_counts : (distinct : Bool) (xs : List Mapping) (m : Mapping) →
+    count_by (same_mapping m) (selected distinct xs) ≡ times_selected distinct (count_by (same_mapping m) xs)
+selected_counts true xs m = each_once_lists xs m
+selected_counts false xs m = refl
+
+pub some_selection : SomeSelection
+some_selection q s =
+    let xs : List Mapping = projections q (listing_of s) in
+    (sort (selected q.distinct xs),
+    record {
+      sorted = sort_sorted (selected q.distinct xs);
+      counted = λ d h m.
+      sort_same (selected q.distinct xs) (λ x. cond (same_mapping m x) 1 0)
+      ∙ selected_counts q.distinct xs m
+      ∙ ap (times_selected q.distinct) (projections_same q s (listing_of s) d (there_is_a_listing s) h (λ x. cond (same_mapping m x) 1 0));
+    })
+
+pub one_selection : OneSelection
+one_selection q s xs ys h k =
+    one_sorted xs ys h.sorted k.sorted
+    (λ m. h.counted (listing_of s) (there_is_a_listing s) m ∙ sym (k.counted (listing_of s) (there_is_a_listing s) m))
+
+-- ---- ASK
+
+pub some_same : (xs ys : List Mapping) → SameBag xs ys → is_some_solution xs ≡ is_some_solution ys
+some_same [] [] h = refl
+some_same [] (y ∷ ys) h = absurd (omega (arith, h (λ _. 1), sum_by-cons (λ (_ : Mapping). 1) y ys))
+some_same (x ∷ xs) [] h = absurd (omega (arith, h (λ _. 1), sum_by-cons (λ (_ : Mapping). 1) x xs))
+some_same (x ∷ xs) (y ∷ ys) h = refl
+
+pub some_answer : SomeAnswer
+some_answer P s =
+    (is_some_solution (pattern_solutions P Default (listing_of s)),
+    λ d h. some_same (pattern_solutions P Default (listing_of s)) (pattern_solutions P Default d) (pattern_same P Default s (listing_of s) d (there_is_a_listing s) h))
+
+pub one_answer : OneAnswer
+one_answer P s x y h k = h (listing_of s) (there_is_a_listing s) ∙ sym (k (listing_of s) (there_is_a_listing s))

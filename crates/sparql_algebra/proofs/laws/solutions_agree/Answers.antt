@@ -1,0 +1,8 @@
+use Rattle.sparql_algebra.proofs.ResultLemmas.{some_solutions, solutions_agree}
+use Rattle.sparql_algebra.proofs.laws.solutions_agree.Goals as goal
+
+pub returns-clause-some : goal.returns-clause-some
+returns-clause-some c = some_solutions
+
+pub returns-clause-agree : goal.returns-clause-agree
+returns-clause-agree c = solutions_agree

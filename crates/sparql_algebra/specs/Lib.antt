@@ -1,0 +1,9 @@
+pub mod Algebra
+pub mod Bags
+pub mod Counts
+pub mod Laws
+pub mod Listing
+pub mod Mapping
+pub mod Order
+pub mod Results
+pub mod Solutions

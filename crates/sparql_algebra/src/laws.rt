@@ -1,0 +1,55 @@
+//! What holds of the algebra of patterns, and of the results of queries.
+ghost use Rattle.sparql_algebra.specs.Laws.{SomeListing, ListingsAgree, TriplesAreHeld, NamesAreHeld, SomeSolutions, SolutionsAgree, SomeSelection, OneSelection, SomeAnswer, OneAnswer};
+ghost use Rattle.sparql_algebra.specs.Counts as counts;
+ghost use Rattle.sparql_algebra.specs.Listing.{Listing};
+ghost use Rattle.sparql_algebra.specs.Mapping.{Variables};
+
+/// The counts of the algebra, operator by operator: sums over pairs of compatible mappings whose
+/// merge is the mapping (SPARQL 1.1 Query, sections 18.3.1 and 18.5). A basic graph pattern counts
+/// a mapping once for each assignment of its hidden variables.
+pub fn counts_are_the_algebra()
+    ensures basic { (vs : Variables) (d : Listing) → counts.BasicLaw vs d }
+    ensures join { (vs : Variables) (d : Listing) → counts.JoinLaw vs d }
+    ensures left_join { (vs : Variables) (d : Listing) → counts.LeftJoinLaw vs d }
+    ensures union { (vs : Variables) (d : Listing) → counts.UnionLaw vs d }
+    ensures named { (vs : Variables) (d : Listing) → counts.NamedLaw vs d }
+    ensures variable { (vs : Variables) (d : Listing) → counts.VariableLaw vs d }
+    ensures listed { (vs : Variables) (d : Listing) → counts.ListedLaw vs d }
+{}
+
+/// Join and Union are commutative, Join is associative, the empty pattern is Join's unit, and a
+/// mapping without a partner keeps its count under LeftJoin.
+pub fn operators_keep_their_laws()
+    ensures join_commutes { (vs : Variables) (d : Listing) → counts.JoinCommutes vs d }
+    ensures join_associates { (vs : Variables) (d : Listing) → counts.JoinAssociates vs d }
+    ensures empty_is_unit { (vs : Variables) (d : Listing) → counts.EmptyIsUnit vs d }
+    ensures union_commutes { (vs : Variables) (d : Listing) → counts.UnionCommutes vs d }
+    ensures lonely_stay { (vs : Variables) (d : Listing) → counts.LonelyStay vs d }
+{}
+
+/// The graphs of every state can be listed, and the counts don't depend on how: a triple lies in a
+/// graph where the state holds its quad, and a graph is there where the state has its name.
+pub fn counts_depend_on_the_state()
+    ensures listing { SomeListing }
+    ensures agree { ListingsAgree }
+    ensures triples { TriplesAreHeld }
+    ensures names { NamesAreHeld }
+{}
+
+/// Each pattern has solutions in each graph, and any two lists of them hold each mapping as often.
+pub fn solutions_agree()
+    ensures some { SomeSolutions }
+    ensures agree { SolutionsAgree }
+{}
+
+/// Each SELECT has one list of rows.
+pub fn one_selection()
+    ensures some { SomeSelection }
+    ensures one { OneSelection }
+{}
+
+/// Each ASK has one answer.
+pub fn one_answer()
+    ensures some { SomeAnswer }
+    ensures one { OneAnswer }
+{}

@@ -1,0 +1,11 @@
+//! The algebra of SPARQL's patterns: what a pattern's solutions are, how often each is counted, and
+//! what the results of queries are (SPARQL 1.1 Query, sections 16.1, 16.3 and 18). It holds
+//! definitions, and laws of them; an evaluator stands above it.
+#![tactic(auto)]
+
+mod laws;
+
+pub use laws::{
+    counts_are_the_algebra, counts_depend_on_the_state, one_answer, one_selection,
+    operators_keep_their_laws, solutions_agree,
+};

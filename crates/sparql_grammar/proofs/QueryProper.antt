@@ -1,0 +1,146 @@
+-- Queries that are derived of formed lexemes are proper.
+use Rattle.std.proofs.Common.{◌≡◌, ◌∙◌, ap, refl, sym, ℕ, zero, suc, true, List, [], ◌∷◌, ◌++◌, map, Option, Some, None}
+use Rattle.std.proofs.lemmas.Bool.{and_from}
+use Rattle.std.specs.Prelude.{option_to_list}
+use Rattle.std.specs.List.{list_all, AllByRecursion}
+use Rattle.rdf_grammar.proofs.LexemeLemmas.{lexemes_have_forms}
+use Rattle.sparql_grammar.specs.declared.terminal.Terminal.TheVariants as terminal
+use Rattle.sparql_grammar.specs.declared.tree.Columns.TheVariants as c
+use Rattle.sparql_grammar.specs.declared.tree.Group.{Group}
+use Rattle.sparql_grammar.specs.declared.tree.Member.{Member}
+use Rattle.sparql_grammar.specs.declared.tree.Member.TheVariants as m
+use Rattle.sparql_grammar.specs.declared.tree.Member.TheOpen.{Group-F, Member-F}
+use Rattle.sparql_grammar.specs.declared.tree.Member.TheFolds.{fold-Group, fold-Member, fold-roll-Group, fold-roll-Member}
+use Rattle.sparql_grammar.specs.declared.tree.QueryForm.TheVariants as form
+use Rattle.sparql_grammar.specs.declared.tree.Triples.{Triples}
+use Rattle.sparql_grammar.specs.declared.tree.VarOrIri.{VarOrIri}
+use Rattle.sparql_grammar.specs.Grammar.{Nodes_at, TriplesTemplate}
+use Rattle.sparql_grammar.specs.GroupGrammar as groups
+use Rattle.sparql_grammar.specs.GroupReading.{group_with}
+use Rattle.sparql_grammar.specs.Lexemes.{Derives}
+use Rattle.sparql_grammar.specs.Proper.{holds, is_filled, proper_triples, proper_var_or_iri, proper_group_of, proper_member_of, proper_group, proper_member, proper_columns, proper_form, proper_query}
+use Rattle.sparql_grammar.specs.QueryGrammar as g
+use Rattle.sparql_grammar.specs.QueryLaws.{QueriesAreProper}
+use Rattle.sparql_grammar.specs.QueryReading.{query_with}
+use Rattle.sparql_grammar.specs.Terminals.{terminal_by}
+use Rattle.sparql_grammar.proofs.FormedPieces.{lexemes_formed}
+use Rattle.sparql_grammar.proofs.Gives.{Gives, Any, IsGoodOption, IsOf, good_joined, then_gives, pure_gives, or_gives, also_gives, value_gives, map_gives, behind_gives, closed_gives, maybe_gives, star_gives, one_gives}
+use Rattle.sparql_grammar.proofs.GrammarProper.{Passes, Some_pass, all_pass, var_or_iri_gives, triples_give}
+use Rattle.sparql_grammar.proofs.OperationProper.{perhaps_gives}
+use Rattle.sparql_grammar.proofs.PrologueProductions.{declaration_gives}
+use Rattle.sparql_grammar.proofs.Trees.{filled_map}
+
+-- ---- members by what they are
+
+module _ {A B : Type 0} (f : Member-F A B → A) (h : Group-F A B → B) where
+  by-Triples : (triples : List Triples) → fold-Member A B f h (m.Triples triples) ≡ f (Member-F.Triples triples)
+  by-Triples triples = ap (fold-Member A B f h) (sym (m.rolls-Triples triples)) ∙ fold-roll-Member A B f h (Member-F.Triples triples)
+
+  by-Union : (xs : List Group) → fold-Member A B f h (m.Union xs) ≡ f (Member-F.Union (map (fold-Group A B f h) xs))
+  by-Union xs = ap (fold-Member A B f h) (sym (m.rolls-Union xs)) ∙ fold-roll-Member A B f h (Member-F.Union xs)
+
+  by-Optional : (x : Group) → fold-Member A B f h (m.Optional x) ≡ f (Member-F.Optional (fold-Group A B f h x))
+  by-Optional x = ap (fold-Member A B f h) (sym (m.rolls-Optional x)) ∙ fold-roll-Member A B f h (Member-F.Optional x)
+
+  by-Graph : (place : VarOrIri) (x : Group) → fold-Member A B f h (m.Graph place x) ≡ f (Member-F.Graph place (fold-Group A B f h x))
+  by-Graph place x = ap (fold-Member A B f h) (sym (m.rolls-Graph place x)) ∙ fold-roll-Member A B f h (Member-F.Graph place x)
+
+  by-members : (xs : List Member) → fold-Group A B f h (group_with xs) ≡ h (record { members = map (fold-Member A B f h) xs })
+  by-members xs = fold-roll-Group A B f h (record { members = xs })
+
+good_block : (triples : List Triples) → Some_pass proper_triples triples → proper_member (m.Triples triples) ≡ true
+good_block triples h = by-Triples proper_member_of proper_group_of triples ∙ and_from (is_filled triples) (list_all holds (map proper_triples triples)) h.1 (all_pass proper_triples triples h.0)
+
+good_union : (xs : List Group) → Some_pass proper_group xs → proper_member (m.Union xs) ≡ true
+good_union xs h = by-Union proper_member_of proper_group_of xs
+    ∙ and_from (is_filled (map proper_group xs)) (list_all holds (map proper_group xs)) (filled_map proper_group xs ∙ h.1) (all_pass proper_group xs h.0)
+
+good_optional : (x : Group) → proper_group x ≡ true → proper_member (m.Optional x) ≡ true
+good_optional x h = by-Optional proper_member_of proper_group_of x ∙ h
+
+good_graph : (place : VarOrIri) (x : Group) → proper_var_or_iri place ≡ true → proper_group x ≡ true → proper_member (m.Graph place x) ≡ true
+good_graph place x p h = by-Graph proper_member_of proper_group_of place x ∙ and_from (proper_var_or_iri place) (proper_group x) p h
+
+good_group : (xs : List Member) → AllByRecursion (Passes proper_member) xs → proper_group (group_with xs) ≡ true
+good_group xs h = by-members proper_member_of proper_group_of xs ∙ all_pass proper_member xs h
+
+some_member : (o : Option Member) → IsGoodOption (Passes proper_member) o → AllByRecursion (Passes proper_member) (option_to_list o)
+some_member None h = tt
+some_member (Some x) h = (h, tt)
+
+-- ---- groups, over grammars of triples and of the groups inside
+
+module _ (Block : Derives (List Triples)) (Group' : Derives Group) (p : Gives Block (Some_pass proper_triples)) (i : Gives Group' (Passes proper_group)) where
+  union_gives : Gives (groups.GroupOrUnionGraphPattern Group') (Passes proper_member)
+  union_gives = then_gives _ _ (Passes proper_group) (Passes proper_member) i (λ first h. then_gives _ _ (AllByRecursion (Passes proper_group)) (Passes proper_member)
+      (star_gives _ (Passes proper_group) (one_gives _ (Passes proper_group) (behind_gives terminal.Union Group' (Passes proper_group) i)))
+      (λ others hs. pure_gives (m.Union (first ∷ others)) (Passes proper_member) (good_union (first ∷ others) ((h, hs), refl))))
+
+  graph_gives : Gives (groups.GraphGraphPattern Group') (Passes proper_member)
+  graph_gives = behind_gives terminal.Graph _ (Passes proper_member) (then_gives _ _ (Passes proper_var_or_iri) (Passes proper_member) var_or_iri_gives
+      (λ place h. then_gives _ _ (Passes proper_group) (Passes proper_member) i (λ x k. pure_gives (m.Graph place x) (Passes proper_member) (good_graph place x h k))))
+
+  pattern_gives : Gives (groups.GraphPatternNotTriples Group') (Passes proper_member)
+  pattern_gives = or_gives _ _ (Passes proper_member) union_gives
+      (or_gives _ _ (Passes proper_member) (behind_gives terminal.Optional _ (Passes proper_member) (map_gives m.Optional _ (Passes proper_group) (Passes proper_member) i good_optional)) graph_gives)
+
+  maybe_block_gives : Gives (groups.MaybeBlock Block) (IsGoodOption (Passes proper_member))
+  maybe_block_gives = maybe_gives _ (Passes proper_member) (map_gives m.Triples _ (Some_pass proper_triples) (Passes proper_member) p good_block)
+
+  pattern_and_block_give : Gives (groups.PatternAndBlock Block Group') (AllByRecursion (Passes proper_member))
+  pattern_and_block_give = then_gives _ _ (Passes proper_member) (AllByRecursion (Passes proper_member)) pattern_gives
+      (λ pattern h. then_gives _ _ Any (AllByRecursion (Passes proper_member)) (perhaps_gives terminal.Dot)
+      (λ _ _. then_gives _ _ (IsGoodOption (Passes proper_member)) (AllByRecursion (Passes proper_member)) maybe_block_gives
+      (λ block k. pure_gives (pattern ∷ option_to_list block) (AllByRecursion (Passes proper_member)) (h, some_member block k))))
+
+  members_give : Gives (groups.GroupGraphPatternSub Block Group') (AllByRecursion (Passes proper_member))
+  members_give = then_gives _ _ (IsGoodOption (Passes proper_member)) (AllByRecursion (Passes proper_member)) maybe_block_gives
+      (λ first h. then_gives _ _ (AllByRecursion (Passes proper_member)) (AllByRecursion (Passes proper_member)) (star_gives _ (Passes proper_member) pattern_and_block_give)
+      (λ others k. pure_gives (option_to_list first ++ others) (AllByRecursion (Passes proper_member)) (good_joined (Passes proper_member) (option_to_list first) others (some_member first h) k)))
+
+  group_gives : Gives (groups.GroupGraphPattern Block Group') (Passes proper_group)
+  group_gives = behind_gives terminal.OpenBrace _ (Passes proper_group) (then_gives _ _ (AllByRecursion (Passes proper_member)) (Passes proper_group) members_give
+      (λ members all. closed_gives terminal.CloseBrace (group_with members) (Passes proper_group) (good_group members all)))
+
+groups_give : (Block : Derives (List Triples)) → Gives Block (Some_pass proper_triples) → (depth : ℕ) → Gives (groups.Groups_at Block depth) (Passes proper_group)
+unfolding Gives
+groups_give Block p zero ts x us d w = absurd d
+groups_give Block p (suc depth) ts x us d w = group_gives Block (groups.Groups_at Block depth) p (groups_give Block p depth) ts x us d w
+
+block_gives : (depth : ℕ) → Gives (TriplesTemplate (Nodes_at depth)) (Some_pass proper_triples)
+block_gives depth = also_gives _ (AllByRecursion (Passes proper_triples)) (Passes is_filled) (triples_give depth) (λ ts x us d. ap is_filled (sym d.goes.goes.goes.0))
+
+-- ---- queries
+
+variables_give : Gives g.Vars (Passes is_filled)
+variables_give = then_gives _ _ (IsOf terminal.Variable) (Passes is_filled) (value_gives terminal.Variable)
+    (λ first _. then_gives _ _ (AllByRecursion (IsOf terminal.Variable)) (Passes is_filled) (star_gives _ (IsOf terminal.Variable) (one_gives _ (IsOf terminal.Variable) (value_gives terminal.Variable)))
+    (λ others _. pure_gives (first ∷ others) (Passes is_filled) refl))
+
+columns_give : Gives g.AColumns (Passes proper_columns)
+columns_give = or_gives _ _ (Passes proper_columns) (map_gives c.Variables _ (Passes is_filled) (Passes proper_columns) variables_give (λ xs h. h))
+    (closed_gives terminal.Star c.All (Passes proper_columns) refl)
+
+module _ (Group' : Derives Group) (i : Gives Group' (Passes proper_group)) where
+  where_gives : Gives (g.WhereClause Group') (Passes proper_group)
+  where_gives = then_gives _ _ Any (Passes proper_group) (perhaps_gives terminal.Where) (λ _ _. i)
+
+  select_gives : Gives (g.SelectQuery Group') (Passes proper_form)
+  select_gives = behind_gives terminal.Select _ (Passes proper_form) (then_gives _ _ Any (Passes proper_form) (perhaps_gives terminal.Distinct)
+      (λ distinct _. then_gives _ _ (Passes proper_columns) (Passes proper_form) columns_give
+      (λ columns h. then_gives _ _ (Passes proper_group) (Passes proper_form) where_gives
+      (λ x k. pure_gives (form.Select distinct columns x) (Passes proper_form) (and_from (proper_columns columns) (proper_group x) h k)))))
+
+  ask_gives : Gives (g.AskQuery Group') (Passes proper_form)
+  ask_gives = behind_gives terminal.Ask _ (Passes proper_form) (map_gives form.Ask _ (Passes proper_group) (Passes proper_form) where_gives (λ x h. h))
+
+  query_gives : Gives (g.AQuery Group') (Passes proper_query)
+  query_gives = then_gives _ _ (AllByRecursion Any) (Passes proper_query) (star_gives _ Any (one_gives _ Any declaration_gives))
+      (λ prologue _. then_gives _ _ (Passes proper_form) (Passes proper_query) (or_gives _ _ (Passes proper_form) select_gives ask_gives)
+      (λ form h. pure_gives (query_with prologue form) (Passes proper_query) h))
+
+pub queries_proper : QueriesAreProper
+unfolding Gives
+queries_proper text from rest tokens ts query runs are d =
+    let formed = lexemes_formed text tokens ts are (lexemes_have_forms terminal_by text from rest tokens ts runs are) in
+    (query_gives (groups.Groups_at (TriplesTemplate (Nodes_at d.0)) (suc d.0)) (groups_give (TriplesTemplate (Nodes_at d.0)) (block_gives d.0) (suc d.0)) ts query [] d.1 formed).0

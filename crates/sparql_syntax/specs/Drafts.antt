@@ -1,0 +1,10 @@
+-- What the text of an operation says before its static rules are asked.
+use Rattle.sparql_drafts.specs.Drafts.{ArePatternsBelow}
+use Rattle.sparql_syntax.specs.declared.draft.Draft.{Draft}
+use Rattle.sparql_syntax.specs.declared.draft.Draft.TheVariants as draft
+
+-- the blank nodes of data have numbers below their count
+abbrev pub IsDraftBelow : Draft → Type 0
+IsDraftBelow (draft.InsertData quads) = ArePatternsBelow quads.blanks quads.patterns
+IsDraftBelow (draft.DeleteData quads) = ArePatternsBelow quads.blanks quads.patterns
+IsDraftBelow (draft.Other operation) = Unit {0}
