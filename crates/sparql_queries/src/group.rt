@@ -4,12 +4,11 @@ ghost use Rattle.std.specs.List.{list_all};
 ghost use Rattle.rdf_grammar.specs.Prologue.{declared};
 ghost use Rattle.sparql_drafts.specs.Kept.{Gives, Tells};
 ghost use Rattle.sparql_drafts.specs.Known as names;
-ghost use Rattle.sparql_grammar.specs.Proper as trees;
+ghost use Rattle.sparql_grammar.specs.Proper as proper;
 ghost use Rattle.sparql_grammar.specs.Proper.{holds};
 ghost use Rattle.sparql_queries.specs.Collected.{collected};
 ghost use Rattle.sparql_queries.specs.Groups as spec;
 ghost use Rattle.sparql_queries.specs.Known as known;
-ghost use Rattle.sparql_queries.specs.Proper as proper;
 
 use crate::basic::{triple_patterns, variable_name};
 use rdf_grammar::PrologueFault;
@@ -34,7 +33,7 @@ impl<'a> Groups<'a> {
     fn basic(&mut self, triples: &[Triples<'a>]) -> Result<BasicGraphPattern, PrologueFault>
         requires known { let knows = names.known_triples (declared self.old.scope.prologue) in
             IsTrue (list_all holds (map knows triples.now)) }
-        requires proper { IsTrue (list_all holds (map trees.proper_triples triples.now)) }
+        requires proper { IsTrue (list_all holds (map proper.proper_triples triples.now)) }
         ensures gives { let says = spec.basic self.old.scope.prologue triples.now in
             Gives (says self.old.labels) result self.new.labels }
         ensures prologue { self.new.scope.prologue ≡ self.old.scope.prologue }
@@ -53,7 +52,7 @@ impl<'a> Groups<'a> {
     fn named(&mut self, name: &WrittenName<'a>) -> Result<VarOrIri, PrologueFault>
         requires known { let knows = names.known_var_or_iri (declared self.old.scope.prologue) in
             IsTrue (knows name.now) }
-        requires proper { IsTrue (trees.proper_var_or_iri name.now) }
+        requires proper { IsTrue (proper.proper_var_or_iri name.now) }
         ensures gives { let says = spec.named self.old.scope.prologue name.now in
             Gives (says self.old.labels) result self.new.labels }
         ensures prologue { self.new.scope.prologue ≡ self.old.scope.prologue }

@@ -8,7 +8,7 @@ ghost use Rattle.sparql_drafts.specs.Kept.{Gives};
 ghost use Rattle.sparql_drafts.specs.Meaning.{declaration};
 ghost use Rattle.sparql_queries.specs.Groups.{variable_name as named};
 ghost use Rattle.sparql_queries.specs.Known as known;
-ghost use Rattle.sparql_queries.specs.Proper as proper;
+ghost use Rattle.sparql_grammar.specs.Proper as proper;
 ghost use Rattle.sparql_queries.specs.Queries as spec;
 
 use crate::basic::variable_name;
@@ -100,6 +100,38 @@ impl<'a> Groups<'a> {
     }
 }
 
+// What a query says whose prefixes are declared.
+#[tactic(auto, unfolding(crate::specs::Queries::query_in))]
+fn said_where_known<'a>(
+    alloc: Global,
+    base: Option<&Iri>,
+    query: &Written<'a>,
+) -> Result<Said<'a>, PrologueFault>
+    requires known { IsTrue (known.known_query query.now) }
+    requires proper { IsTrue (proper.proper_query query.now) }
+    ensures { MatchResult result
+        (λ said. IsTrue (known.known_query query.now)
+            × (spec.query_in (option_copied base.entry) query.now ≡ Some (said.query, said.labels)))
+        (λ fault. spec.IsFaultOf (option_copied base.entry) query.now fault) }
+{
+    let mut groups = Groups {
+        alloc,
+        scope: Scope::new(alloc, copied(base)?)?,
+        labels: Items::new(alloc),
+    };
+    match groups.declare(query.prologue.as_slice()) {
+        Ok(()) => {}
+        Err(fault) => return Err(fault),
+    }
+    match groups.form(&query.form) {
+        Err(fault) => Err(fault),
+        Ok(query) => Ok(Said {
+            query,
+            labels: groups.labels,
+        }),
+    }
+}
+
 /// What a query says: names have their IRIs, and the blank nodes of each basic graph pattern are
 /// hidden variables, numbered from 0 by their places in the text (SPARQL 1.1 Query, sections 4.1, 5
 /// and 16).
@@ -108,7 +140,6 @@ impl<'a> Groups<'a> {
 /// [`PrologueFault::UnknownPrefix`] where a prefix is used that isn't declared, at the first such
 /// name; else [`PrologueFault::Relative`] at the first relative reference without a base;
 /// [`PrologueFault::NoMemory`] where memory is wanting.
-#[tactic(auto, using(crate::proofs::QueryLemmas::declare_fails, crate::proofs::QueryLemmas::form_fails), unfolding(crate::specs::Queries::query_in))]
 pub fn said_by<'a>(
     alloc: Global,
     base: Option<&Iri>,
@@ -120,18 +151,8 @@ pub fn said_by<'a>(
             × (spec.query_in (option_copied base.entry) query.now ≡ Some (said.query, said.labels)))
         (λ fault. spec.IsFaultOf (option_copied base.entry) query.now fault) }
 {
-    if let Some(start) = first_unknown(alloc, query)? {
-        return Err(PrologueFault::UnknownPrefix(start));
+    match first_unknown(alloc, query)? {
+        Some(start) => Err(PrologueFault::UnknownPrefix(start)),
+        None => said_where_known(alloc, base, query),
     }
-    let mut groups = Groups {
-        alloc,
-        scope: Scope::new(alloc, copied(base)?)?,
-        labels: Items::new(alloc),
-    };
-    groups.declare(query.prologue.as_slice())?;
-    let query = groups.form(&query.form)?;
-    Ok(Said {
-        query,
-        labels: groups.labels,
-    })
 }

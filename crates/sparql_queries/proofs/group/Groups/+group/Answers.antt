@@ -5,7 +5,7 @@ use Rattle.sparql_drafts.specs.Kept.{Fails}
 use Rattle.sparql_queries.specs.Collected.{collected, collected_behind}
 use Rattle.sparql_queries.specs.Groups as spec
 use Rattle.sparql_queries.specs.Known as known
-use Rattle.sparql_queries.specs.Proper as proper
+use Rattle.sparql_grammar.specs.Proper as proper
 use Rattle.sparql_queries.proofs.GroupLemmas.{next_collected, next_fails, graph_said, graph_fails}
 use Rattle.sparql_trees.specs.declared.pattern.Member.{Member}
 use Rattle.sparql_trees.specs.declared.pattern.Pattern.{Pattern}

@@ -5,7 +5,7 @@ use Rattle.sparql_grammar.specs.Proper.{holds}
 use Rattle.sparql_queries.specs.Collected.{collected, collected_behind}
 use Rattle.sparql_queries.specs.Groups as spec
 use Rattle.sparql_queries.specs.Known as known
-use Rattle.sparql_queries.specs.Proper as proper
+use Rattle.sparql_grammar.specs.Proper as proper
 use Rattle.sparql_queries.proofs.group.Groups.+group.Given as goal
 
 abbrev pub invariant-groups-loop-group : goal.invariant-groups-loop-group
