@@ -1,7 +1,9 @@
 pub mod AnswerLemmas
-mod PhaseLemmas
 pub mod DraftsNumbered
+mod PhaseLemmas
 mod ProfileLemmas
+mod QueryCases
+pub mod QueryLemmas
 pub mod ReadLemmas
 mod RequestLemmas
 mod RuleLawLemmas

@@ -5,6 +5,9 @@ pub mod Kept
 pub mod Known
 pub mod Meaning
 pub mod Phases
+pub mod Query
+pub mod QueryLaws
+pub mod QueryTold
 pub mod RuleLaws
 pub mod Rules
 pub mod Told
