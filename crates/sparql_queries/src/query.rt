@@ -65,7 +65,7 @@ impl<'a> Groups<'a> {
             Gives (declares self.old.scope.prologue) result self.new.scope.prologue }
         ensures declared { let before = declared self.old.scope.prologue in
             OnOk result (declared self.new.scope.prologue
-                ≡ known.declared_by before declarations.now) }
+            ≡ known.declared_by before declarations.now) }
         ensures labels { self.new.labels ≡ self.old.labels }
     {
         for declaration in declarations {
@@ -111,7 +111,7 @@ fn said_where_known<'a>(
     requires proper { IsTrue (proper.proper_query query.now) }
     ensures { MatchResult result
         (λ said. IsTrue (known.known_query query.now)
-            × (spec.query_in (option_copied base.entry) query.now ≡ Some (said.query, said.labels)))
+        × (spec.query_in (option_copied base.entry) query.now ≡ Some (said.query, said.labels)))
         (λ fault. spec.IsFaultOf (option_copied base.entry) query.now fault) }
 {
     let mut groups = Groups {
@@ -148,7 +148,7 @@ pub fn said_by<'a>(
     requires { IsTrue (proper.proper_query query.now) }
     ensures { MatchResult result
         (λ said. IsTrue (known.known_query query.now)
-            × (spec.query_in (option_copied base.entry) query.now ≡ Some (said.query, said.labels)))
+        × (spec.query_in (option_copied base.entry) query.now ≡ Some (said.query, said.labels)))
         (λ fault. spec.IsFaultOf (option_copied base.entry) query.now fault) }
 {
     match first_unknown(alloc, query)? {

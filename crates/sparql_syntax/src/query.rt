@@ -49,10 +49,7 @@ fn read_tree<'a>(alloc: Global, text: &'a str) -> Result<Tree<'a>, SyntaxFault>
 }
 
 // Where a label stands in one of these lists that stood in one before it.
-fn first_repeated<'a>(
-    alloc: Global,
-    lists: &[Items<Slice<'a>>],
-) -> Result<Option<usize>, NoMemory>
+fn first_repeated<'a>(alloc: Global, lists: &[Items<Slice<'a>>]) -> Result<Option<usize>, NoMemory>
     ensures { IfOk result (λ start. is_some start ≡ spec.repeats_label [] lists.now) }
 {
     let mut known = IndexSet::new(alloc);

@@ -44,7 +44,7 @@ groups-returns-in_err-one-clause-gives t c =
     let same : c.loop-group.self.scope.prologue ≡ p = c.loop-group.invariant.prologue in
     let one : Fails (spec.group p x s) e = subst (λ (q : Prologue). Fails (spec.group q x s) e) same c.in_err-one.ensures.gives in
     let fails : Fails (collected (map (spec.group p) all) c.args.self.now.labels) e =
-        next_fails (spec.group p) all i x c.loop-group.made s (collected (map (spec.group p) all) c.args.self.now.labels) e c.loop-group.invariant.says c.loop-group-test.true c.group-item.is one in
+    next_fails (spec.group p) all i x c.loop-group.made s (collected (map (spec.group p) all) c.args.self.now.labels) e c.loop-group.invariant.says c.loop-group-test.true c.group-item.is one in
     search rules
 
 pub members-loop-member-preserved : goal.members-loop-member-preserved
@@ -80,7 +80,7 @@ members-returns-in_err-one-clause-gives t c =
     let same : c.loop-member.self.scope.prologue ≡ p = c.loop-member.invariant.prologue in
     let one : Fails (spec.member_in p x s) e = subst (λ (q : Prologue). Fails (spec.member_in q x s) e) same c.in_err-one.ensures.gives in
     let fails : Fails (collected (map (spec.member_in p) all) c.args.self.now.labels) e =
-        next_fails (spec.member_in p) all i x c.loop-member.made s (collected (map (spec.member_in p) all) c.args.self.now.labels) e c.loop-member.invariant.says c.loop-member-test.true c.member-item.is one in
+    next_fails (spec.member_in p) all i x c.loop-member.made s (collected (map (spec.member_in p) all) c.args.self.now.labels) e c.loop-member.invariant.says c.loop-member-test.true c.member-item.is one in
     search rules
 
 pub member-returns-in_ok-pattern-in-Graph-clause-gives : goal.member-returns-in_ok-pattern-in-Graph-clause-gives
@@ -95,7 +95,7 @@ member-returns-in_err-pattern-in-Graph-clause-gives t c =
     let p = c.args.self.now.scope.prologue in
     let e = c.in_err-pattern-in-Graph.field-0.0 in
     let fails : Fails (spec.member_in p c.args.member.now c.args.self.now.labels) e =
-        rw c.in-Graph.is
-        (graph_fails p c.named.new.self.scope.prologue c.in-Graph.name c.in-Graph.group c.args.self.now.labels c.named.new.self.labels c.in_ok-name-in-Graph.name e
-        c.named.ensures.prologue c.in_ok-name-in-Graph.ensures.gives c.in_err-pattern-in-Graph.ensures.gives) in
+    rw c.in-Graph.is
+    (graph_fails p c.named.new.self.scope.prologue c.in-Graph.name c.in-Graph.group c.args.self.now.labels c.named.new.self.labels c.in_ok-name-in-Graph.name e
+    c.named.ensures.prologue c.in_ok-name-in-Graph.ensures.gives c.in_err-pattern-in-Graph.ensures.gives) in
     search rules
