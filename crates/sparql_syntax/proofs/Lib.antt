@@ -1,10 +1,15 @@
 pub mod AnswerLemmas
 pub mod DraftsNumbered
+mod PhaseLemmas
 mod ProfileLemmas
-mod ReadLemmas
+mod QueryCases
+pub mod QueryLemmas
+pub mod ReadLemmas
 mod RequestLemmas
 mod RuleLawLemmas
 mod RuleLemmas
+mod SayLemmas
 mod SharedLabels
+mod TellLemmas
 mod UpdateCases
 mod UpdateLemmas

@@ -1,30 +1,20 @@
 -- Each text says something: it is a request, or it has a fault.
-use Rattle.std.proofs.Common.{◌≡◌, ◌<◌, ◌⊎◌, inl, inr, ℕ, Bool, true, false, cond, List, [], map, Option, Result, Ok, Err, refl, sym, ap, subst, ◌∙◌, true≢false}
-use Rattle.std.proofs.lemmas.Bool.{cases_Bool}
-use Rattle.std.proofs.lemmas.Str.{IsUtf8-from_is_utf8, is_utf8-from_IsUtf8}
+use Rattle.std.proofs.Common.{◌≡◌, ◌⊎◌, inl, inr, ℕ, Bool, true, false, cond, List, [], map, Option, Result, Ok, Err, refl, sym, ap, subst, ◌∙◌}
 use Rattle.std.specs.List.{list_any}
-use Rattle.std.specs.Str.{chars, IsUtf8, is_utf8}
-use Rattle.rdf_grammar.proofs.TextLemmas.{got, same_lengths, shallow_or_deep, some_lexemes, stops_somewhere}
-use Rattle.rdf_tokens.specs.declared.token.Token.{Token}
-use Rattle.rdf_tokens.specs.Lines.{line_of}
-use Rattle.rdf_tokens.specs.Tokens.{Says}
-use Rattle.rdf_tokens.proofs.CallerLemmas.{some_token_list, tokens_have_forms}
 use Rattle.sparql_grammar.specs.declared.tree.Part.{Part}
-use Rattle.sparql_grammar.specs.Lexemes.{Lexemes}
-use Rattle.sparql_grammar.specs.Profile.{AreInside}
-use Rattle.sparql_grammar.specs.Terminals.{terminal_by, bracket}
+use Rattle.sparql_grammar.specs.OperationGrammar.{IsRequest}
 use Rattle.sparql_syntax.specs.declared.draft.Draft.{Draft}
 use Rattle.sparql_syntax.specs.declared.fault.SyntaxFault.{SyntaxFault}
 use Rattle.sparql_syntax.specs.declared.fault.SyntaxFaultKind.{SyntaxFaultKind}
 use Rattle.sparql_syntax.specs.declared.fault.SyntaxFaultKind.TheVariants as fault
 use Rattle.sparql_syntax.specs.Rules.{judged, has_blank_in_delete, has_variable_in_data, has_literal_subject, reuses_label, operation_of}
 use Rattle.sparql_syntax.specs.Meaning.{answer}
-use Rattle.sparql_syntax.specs.Update.{HasTokens, HasTree, meaning, ruled, IsUpdate, IsRefused, FaultIs, IsFaulty}
+use Rattle.sparql_syntax.specs.Update.{meaning, ruled, IsUpdate, IsRefused, FaultIs, IsFaulty}
 use Rattle.sparql_syntax.specs.UpdateLaws.{SomeMeaning}
 use Rattle.sparql_trees.specs.declared.operation.Operation.{Operation}
 use Rattle.sparql_trees.specs.declared.operation.Request.{Request}
-use Rattle.sparql_syntax.proofs.ProfileLemmas.{inside_or_outside}
 use Rattle.sparql_syntax.proofs.RequestLemmas.{request_or_not, answer_kind}
+use Rattle.sparql_syntax.proofs.SayLemmas as language
 
 -- ---- why a tree has no operations
 
@@ -67,44 +57,9 @@ tree_kind base tree k e = ruled_kind base tree (answer base tree) k refl e
 
 -- ---- what a text says
 
-abbrev Meant : Option (List ℕ) → List ℕ → Type 0
-Meant base text = ((request : Request) × IsUpdate base text request) ⊎ ((f : SyntaxFault) × IsFaulty base text f)
-
-by_meaning : (base : Option (List ℕ)) (text : List ℕ) (tree : List Part) → HasTree text tree → (r : Result (List Operation) SyntaxFaultKind) → meaning base tree ≡ r → Meant base text
-by_meaning base text tree h (Ok operations) e = inl (record { operations = operations }, (tree, h, e))
-by_meaning base text tree h (Err k) e = inr (record { line = 0; kind = k }, tree_kind base tree k e base text (tree, h, e) 0)
-
-by_lexemes : (base : Option (List ℕ)) (text : List ℕ) (tokens : List Token) (lexemes : Lexemes) → HasTokens text tokens lexemes → AreInside (chars text) tokens → Meant base text
-by_lexemes base text tokens lexemes h inside = elim (shallow_or_deep bracket lexemes) [
-  | inr deep ↦ (
-      let opener = got tokens deep.0 (subst (λ (n : ℕ). deep.0 < n) (same_lengths terminal_by (chars text) tokens lexemes h.pieces) deep.1.within) in
-      inr (record { line = line_of text opener.0.start; kind = fault.TooDeep }, (tokens, lexemes, opener.0, deep.0, h, inside, deep.1, opener.1, refl)))
-  | inl shallow ↦ elim (request_or_not lexemes shallow) [
-    | inl found ↦ (
-        let tree : HasTree text found.0 = record { tokens = tokens; lexemes = lexemes; list = h; inside = inside; shallow = shallow; reads = found.1 } in
-        by_meaning base text found.0 tree (meaning base found.0) refl)
-    | inr none ↦ inr (record { line = 0; kind = fault.Syntax }, (tokens, lexemes, h, inside, shallow, none))
-  ]
-]
-
-by_tokens : (base : Option (List ℕ)) (text : List ℕ) → IsUtf8 text → (r : Result (List Token) ℕ) → Says (chars text) r → Meant base text
-by_tokens base text utf8 (Err place) says = inr (record { line = line_of text place; kind = fault.Token }, (utf8, (place, says, refl)))
-by_tokens base text utf8 (Ok tokens) says =
-    let forms = tokens_have_forms (chars text) tokens says in
-    let pieces = some_lexemes terminal_by (chars text) tokens forms in
-    let held : HasTokens text tokens pieces.0 = record { utf8 = utf8; list = says; pieces = pieces.1 } in
-    elim (inside_or_outside (chars text) tokens forms) [
-      | inl inside ↦ by_lexemes base text tokens pieces.0 held inside
-      | inr out ↦ inr (record { line = line_of text out.1.0.0.start; kind = fault.NotInProfile }, (tokens, pieces.0, out.1.0.0, out.0, held, out.1, out.1.0.1, refl))
-    ]
+request_said : (base : Option (List ℕ)) (text : List ℕ) → language.Meant IsRequest meaning request_or_not tree_kind base text → ((request : Request) × IsUpdate base text request) ⊎ ((f : SyntaxFault) × IsFaulty base text f)
+request_said base text (inl said) = inl (record { operations = said.0 }, said.1)
+request_said base text (inr f) = inr f
 
 pub some_meaning : SomeMeaning
-some_meaning base text = elim (cases_Bool (is_utf8 text)) [
-  | inl utf8 ↦ (
-      let list = some_token_list (chars text) in
-      by_tokens base text (IsUtf8-from_is_utf8 text utf8) list.0 list.1)
-  | inr other ↦ (
-      let not : ¬ (IsUtf8 text) = λ u. true≢false (sym (is_utf8-from_IsUtf8 text u) ∙ other) in
-      let front = stops_somewhere text not in
-      inr (record { line = line_of text front.0; kind = fault.NotUtf8 }, (not, (front.0, front.1, refl))))
-]
+some_meaning base text = request_said base text (language.some_meaning IsRequest meaning request_or_not tree_kind base text)

@@ -4,6 +4,10 @@ pub mod FaultName
 pub mod Kept
 pub mod Known
 pub mod Meaning
+pub mod Phases
+pub mod Query
+pub mod QueryLaws
+pub mod QueryTold
 pub mod RuleLaws
 pub mod Rules
 pub mod Told

@@ -1,6 +1,15 @@
 //! What holds of each text.
+ghost use Rattle.sparql_syntax.specs.QueryLaws as query;
 ghost use Rattle.sparql_syntax.specs.RuleLaws.{LabelsAreShared, PatternsAreQuads};
 ghost use Rattle.sparql_syntax.specs.UpdateLaws.{SomeMeaning, OneRequest, NeverBoth, OneFault};
+
+/// Each text is one query, or faulty, and never both.
+pub fn one_query()
+    ensures there { query.SomeMeaning }
+    ensures query { query.OneQuery }
+    ensures never_both { query.NeverBoth }
+    ensures fault { query.OneFault }
+{}
 
 /// Each text is one request, or faulty, and never both.
 pub fn one_request()

@@ -7,12 +7,15 @@ mod fault;
 mod known;
 mod laws;
 mod operation;
+mod query;
 mod read;
 mod request;
 mod rules;
+mod text;
 
 pub use fault::{SyntaxFault, SyntaxFaultKind};
-pub use laws::{data_are_quads, labels_are_shared, one_request};
+pub use laws::{data_are_quads, labels_are_shared, one_query, one_request};
 pub use operation::blank_numbers_are_below;
+pub use query::read_query;
 pub use read::read_update;
 pub use sparql_trees::{Data, GraphOrDefault, GraphRefAll, GroundData, Operation, Request};

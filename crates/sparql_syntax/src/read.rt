@@ -1,14 +1,12 @@
 //! Updates, from bytes to requests.
-ghost use Rattle.std.specs.Prelude.{◌≡◌, ℕ, List, length, Ok, Some, None, MatchResult, slice_get};
+ghost use Rattle.std.specs.Prelude.{◌≡◌, ℕ, List, Ok, MatchResult};
 ghost use Rattle.std.specs.List.{AllByRecursion};
 ghost use Rattle.std.specs.Option.{option_copied};
 ghost use Rattle.std.specs.Str.{chars, IsUtf8};
 ghost use Rattle.rdf_tokens.specs.Tokens.{Says};
-ghost use Rattle.rdf_tokens.specs.declared.token.Token.{Token as Held};
 ghost use Rattle.sparql_grammar.specs.Profile.{AreInside};
 ghost use Rattle.sparql_syntax.specs.Drafts.{IsDraftBelow};
 ghost use Rattle.sparql_syntax.specs.Rules.{judged};
-ghost use Rattle.sparql_syntax.specs.Told as spec;
 ghost use Rattle.sparql_syntax.specs.Told.{IsRuleFault, IsTold};
 ghost use Rattle.sparql_syntax.specs.Update.{HasTree, IsUpdate, TellsFault};
 
@@ -17,91 +15,13 @@ use crate::fault::{SyntaxFault, SyntaxFaultKind};
 use crate::operation::drafts_of;
 use crate::request::operations_of;
 use crate::rules::{Broken, first_broken};
-use rdf_grammar::{PrologueFault, lexemes};
+use crate::text::{check_profile, fault_at, name_fault, start_of, stop_fault, tokens_of};
+use rdf_grammar::lexemes;
 use rdf_terms::{Iri, Items};
-use rdf_tokens::{Token, TokenFault, line_at, tokens};
-use sparql_grammar::{Part, Stop, StopKind, first_outside, parse_update};
+use rdf_tokens::Token;
+use sparql_grammar::{Part, Stop, parse_update};
 use sparql_trees::Request;
 use std::alloc::Global;
-
-// The fault of this kind, at the line of that byte.
-fn fault_at(text: &[u8], kind: SyntaxFaultKind, start: usize) -> SyntaxFault
-    ensures { result ≡ spec.fault_at text.now kind start }
-{
-    SyntaxFault {
-        line: line_at(text, start),
-        kind,
-    }
-}
-
-// The fault of a text whose parser stopped at the token that starts at that byte.
-fn stop_fault(text: &[u8], kind: StopKind, start: usize) -> SyntaxFault
-    ensures { result ≡ spec.stop_fault text.now kind start }
-{
-    match kind {
-        StopKind::TooDeep => fault_at(text, SyntaxFaultKind::TooDeep, start),
-        StopKind::Syntax => fault_at(text, SyntaxFaultKind::Syntax, start),
-        StopKind::NoMemory(refused) => SyntaxFault::from(refused),
-    }
-}
-
-// The fault of a name, at the line where it stands.
-fn name_fault(text: &[u8], fault: PrologueFault) -> SyntaxFault
-    ensures { result ≡ spec.name_fault text.now fault }
-{
-    match fault {
-        PrologueFault::UnknownPrefix(start) => {
-            fault_at(text, SyntaxFaultKind::UnknownPrefix, start)
-        }
-        PrologueFault::Relative(start) => fault_at(text, SyntaxFaultKind::Relative, start),
-        PrologueFault::NoMemory(refused) => SyntaxFault::from(refused),
-    }
-}
-
-// The byte where the token of that number starts, or the end of the text.
-fn start_of(text: &str, tokens: &[Token], number: usize) -> usize
-    ensures found { (token : Held) → slice_get tokens.now number ≡ Some token →
-        result ≡ token.start }
-    ensures end { slice_get tokens.now number ≡ None → result ≡ length text.now }
-{
-    match tokens.get(number) {
-        Some(token) => token.start,
-        None => text.len(),
-    }
-}
-
-// The tokens of a text.
-fn tokens_of(alloc: Global, text: &str) -> Result<Vec<Token>, SyntaxFault>
-    requires { IsUtf8 text.now }
-    ensures { MatchResult result
-        (λ tokens. Says (chars text.now) (Ok tokens.items))
-        (λ fault. IsTold text.now fault) }
-{
-    match tokens(alloc, text) {
-        Ok(list) => Ok(list),
-        Err(TokenFault::NoToken(start)) => {
-            Err(fault_at(text.as_bytes(), SyntaxFaultKind::Token, start))
-        }
-        Err(TokenFault::NoMemory(refused)) => Err(SyntaxFault::from(refused)),
-    }
-}
-
-// Whether the profile has each word of a text.
-fn check_profile(text: &str, tokens: &[Token]) -> Result<(), SyntaxFault>
-    requires utf8 { IsUtf8 text.now }
-    requires list { Says (chars text.now) (Ok tokens.now) }
-    ensures { MatchResult result
-        (λ _. AreInside (chars text.now) tokens.now)
-        (λ fault. IsTold text.now fault) }
-{
-    match first_outside(text, tokens) {
-        None => Ok(()),
-        Some(place) => {
-            let start = start_of(text, tokens, place);
-            Err(fault_at(text.as_bytes(), SyntaxFaultKind::NotInProfile, start))
-        }
-    }
-}
 
 // The tree of a text with these tokens.
 fn tree_of<'a>(
@@ -125,6 +45,7 @@ fn tree_of<'a>(
 }
 
 // The tree of a text. Its tokens are let go when the tree stands.
+#[tactic(auto, using(crate::proofs::ReadLemmas::early_told))]
 fn read_tree<'a>(alloc: Global, text: &'a str) -> Result<Items<Part<'a>>, SyntaxFault>
     requires { IsUtf8 text.now }
     ensures { MatchResult result (λ tree. HasTree text.now tree) (λ fault. IsTold text.now fault) }

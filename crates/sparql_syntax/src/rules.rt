@@ -185,8 +185,8 @@ fn first_literal(drafts: &[Draft<'_>]) -> Option<usize>
     None
 }
 
-// Where the first of the labels starts that is known.
-fn first_known<'a>(known: &IndexSet<Key<'a>>, labels: &[Slice<'a>]) -> Option<usize>
+/// Where the first of the labels starts that is known.
+pub(crate) fn first_known<'a>(known: &IndexSet<Key<'a>>, labels: &[Slice<'a>]) -> Option<usize>
     ensures { is_some result ≡ list_any (spec.is_among known.now.keys) labels.now }
 {
     for label in labels {
@@ -197,8 +197,11 @@ fn first_known<'a>(known: &IndexSet<Key<'a>>, labels: &[Slice<'a>]) -> Option<us
     None
 }
 
-// From here on the labels are known.
-fn know<'a>(known: &mut IndexSet<Key<'a>>, labels: &[Slice<'a>]) -> Result<(), NoMemory>
+/// From here on the labels are known.
+///
+/// # Errors
+/// [`NoMemory`] where memory is wanting.
+pub(crate) fn know<'a>(known: &mut IndexSet<Key<'a>>, labels: &[Slice<'a>]) -> Result<(), NoMemory>
     ensures { OnOk result (known.new.keys ≡ spec.known_behind known.old.keys labels.now) }
 {
     for label in labels {

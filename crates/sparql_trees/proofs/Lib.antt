@@ -1,1 +1,2 @@
 pub mod VisibleLemmas
+mod VisibleOrder

@@ -12,4 +12,4 @@ pub use data::{Data, GroundData};
 pub use operation::{GraphOrDefault, GraphRefAll, Operation, Request};
 pub use pattern::{BasicGraphPattern, Member, Pattern, TriplePattern, VarOrIri, VarOrTerm};
 pub use query::{Query, Select};
-pub use visible::visible_variables;
+pub use visible::{one_list_of_visible_variables, visible_variables};

@@ -2,6 +2,7 @@
 ghost use Rattle.std.specs.Prelude.{◌≡◌, [], ◌∷◌, IfOk, OnOk, map};
 ghost use Rattle.std.specs.List.{flat_map};
 ghost use Rattle.sparql_trees.specs.Visible as spec;
+ghost use Rattle.sparql_trees.specs.VisibleLaws.{VisibleAreSorted, OneVisible};
 
 use crate::pattern::{Member, Pattern, TriplePattern, VarOrIri, VarOrTerm};
 use rdf_terms::{Items, NoMemory, Text};
@@ -117,3 +118,10 @@ pub fn visible_variables(alloc: Global, pattern: &Pattern) -> Result<Items<Text>
     }
     Ok(listed)
 }
+
+/// The visible variables are just the names that stand in the pattern, each once, in the order of
+/// their code points; there is one such list.
+pub fn one_list_of_visible_variables()
+    ensures sorted { VisibleAreSorted }
+    ensures one { OneVisible }
+{}

@@ -6,7 +6,7 @@ use Rattle.sparql_grammar.specs.Nesting.{IsTooDeep}
 use Rattle.sparql_grammar.specs.OperationGrammar.{IsRequest}
 use Rattle.sparql_grammar.specs.Stops.{Explains}
 use Rattle.sparql_grammar.specs.declared.stop.StopKind.TheVariants.{TooDeep}
-use Rattle.sparql_syntax.specs.Update.{HasTokens}
+use Rattle.sparql_syntax.specs.Phases.{HasTokens}
 use Rattle.sparql_syntax.proofs.ReadLemmas.{stop_told}
 use Rattle.sparql_syntax.proofs.read.tree_of.Goals as goal
 

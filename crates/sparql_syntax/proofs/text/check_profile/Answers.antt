@@ -2,8 +2,8 @@ use Rattle.std.proofs.Common.{rules, ◌≡◌, Some, slice_get}
 use Rattle.std.specs.Str.{chars}
 use Rattle.rdf_tokens.specs.declared.token.Token.{Token as Held}
 use Rattle.sparql_grammar.specs.Profile.{IsFirstOutside}
-use Rattle.sparql_syntax.proofs.ReadLemmas.{out_of_profile}
-use Rattle.sparql_syntax.proofs.read.check_profile.Goals as goal
+use Rattle.sparql_syntax.proofs.TellLemmas.{out_of_profile}
+use Rattle.sparql_syntax.proofs.text.check_profile.Goals as goal
 
 pub returns-in-Some : goal.returns-in-Some
 returns-in-Some c =

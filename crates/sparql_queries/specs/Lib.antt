@@ -1,0 +1,4 @@
+pub mod Collected
+pub mod Groups
+pub mod Known
+pub mod Queries

@@ -1,0 +1,158 @@
+//! What queries say.
+ghost use Rattle.std.specs.Prelude.{◌≡◌, false, Some, None, IfOk, OnOk, IsTrue, MatchResult, map};
+ghost use Rattle.std.specs.Option.{option_copied};
+ghost use Rattle.rdf_grammar.specs.Prologue as prologue;
+ghost use Rattle.rdf_grammar.specs.Prologue.{declared};
+ghost use Rattle.rdf_grammar.specs.Steps.{each};
+ghost use Rattle.sparql_drafts.specs.Kept.{Gives};
+ghost use Rattle.sparql_drafts.specs.Meaning.{declaration};
+ghost use Rattle.sparql_queries.specs.Groups.{variable_name as named};
+ghost use Rattle.sparql_queries.specs.Known as known;
+ghost use Rattle.sparql_grammar.specs.Proper as proper;
+ghost use Rattle.sparql_queries.specs.Queries as spec;
+
+use crate::basic::variable_name;
+use crate::group::Groups;
+use crate::known::first_unknown;
+use rdf_grammar::PrologueFault;
+use rdf_terms::{Iri, Items, NoMemory, Text};
+use rdf_tokens::Slice;
+use sparql_drafts::Scope;
+use sparql_grammar::{Columns, Declaration, Query as Written, QueryForm};
+use sparql_trees::{Pattern, Query, Select, visible_variables};
+use std::alloc::Global;
+
+/// A query, and the blank node labels of each of its basic graph patterns, in the order of the text.
+#[derive(Drop)]
+pub struct Said<'a> {
+    pub query: Query,
+    pub labels: Items<Items<Slice<'a>>>,
+}
+
+// An equal base.
+fn copied(base: Option<&Iri>) -> Result<Option<Iri>, NoMemory>
+    ensures { IfOk result (λ copy. copy ≡ option_copied base.entry) }
+{
+    match base {
+        Some(iri) => Ok(Some(iri.copy()?)),
+        None => Ok(None),
+    }
+}
+
+fn variable_names(alloc: Global, variables: &[Slice<'_>]) -> Result<Items<Text>, NoMemory>
+    ensures { IfOk result (λ names. names ≡ map named variables.now) }
+{
+    let mut names = Items::new(alloc);
+    for variable in variables {
+        names.push(variable_name(alloc, variable)?)?;
+    }
+    Ok(names)
+}
+
+fn columns(alloc: Global, columns: &Columns<'_>, pattern: &Pattern) -> Result<Items<Text>, NoMemory>
+    ensures { IfOk result (λ names. names ≡ spec.columns_of columns.now pattern.now) }
+{
+    match columns {
+        Columns::All => visible_variables(alloc, pattern),
+        Columns::Variables(variables) => variable_names(alloc, variables.as_slice()),
+    }
+}
+
+impl<'a> Groups<'a> {
+    // The declarations are in force from here on.
+    fn declare(&mut self, declarations: &[Declaration<'a>]) -> Result<(), PrologueFault>
+        ensures gives { let declares = each declaration declarations.now in
+            Gives (declares self.old.scope.prologue) result self.new.scope.prologue }
+        ensures declared { let before = declared self.old.scope.prologue in
+            OnOk result (declared self.new.scope.prologue
+            ≡ known.declared_by before declarations.now) }
+        ensures labels { self.new.labels ≡ self.old.labels }
+    {
+        for declaration in declarations {
+            self.scope.declare(declaration)?;
+        }
+        Ok(())
+    }
+
+    fn form(&mut self, form: &QueryForm<'a>) -> Result<Query, PrologueFault>
+        requires known { let knows = known.known_form (declared self.old.scope.prologue) in
+            IsTrue (knows form.now) }
+        requires proper { IsTrue (proper.proper_form form.now) }
+        ensures { let says = spec.form_in self.old.scope.prologue form.now in
+            Gives (says self.old.labels) result self.new.labels }
+    {
+        match form {
+            QueryForm::Ask(group) => Ok(Query::Ask(self.group(group)?)),
+            QueryForm::Select {
+                distinct,
+                columns: written,
+                group,
+            } => {
+                let pattern = self.group(group)?;
+                let columns = columns(self.alloc, written, &pattern)?;
+                Ok(Query::Select(Select {
+                    distinct: *distinct,
+                    columns,
+                    pattern,
+                }))
+            }
+        }
+    }
+}
+
+// What a query says whose prefixes are declared.
+#[tactic(auto, unfolding(crate::specs::Queries::query_in))]
+fn said_where_known<'a>(
+    alloc: Global,
+    base: Option<&Iri>,
+    query: &Written<'a>,
+) -> Result<Said<'a>, PrologueFault>
+    requires known { IsTrue (known.known_query query.now) }
+    requires proper { IsTrue (proper.proper_query query.now) }
+    ensures { MatchResult result
+        (λ said. IsTrue (known.known_query query.now)
+        × (spec.query_in (option_copied base.entry) query.now ≡ Some (said.query, said.labels)))
+        (λ fault. spec.IsFaultOf (option_copied base.entry) query.now fault) }
+{
+    let mut groups = Groups {
+        alloc,
+        scope: Scope::new(alloc, copied(base)?)?,
+        labels: Items::new(alloc),
+    };
+    match groups.declare(query.prologue.as_slice()) {
+        Ok(()) => {}
+        Err(fault) => return Err(fault),
+    }
+    match groups.form(&query.form) {
+        Err(fault) => Err(fault),
+        Ok(query) => Ok(Said {
+            query,
+            labels: groups.labels,
+        }),
+    }
+}
+
+/// What a query says: names have their IRIs, and the blank nodes of each basic graph pattern are
+/// hidden variables, numbered from 0 by their places in the text (SPARQL 1.1 Query, sections 4.1, 5
+/// and 16).
+///
+/// # Errors
+/// [`PrologueFault::UnknownPrefix`] where a prefix is used that isn't declared, at the first such
+/// name; else [`PrologueFault::Relative`] at the first relative reference without a base;
+/// [`PrologueFault::NoMemory`] where memory is wanting.
+pub fn said_by<'a>(
+    alloc: Global,
+    base: Option<&Iri>,
+    query: &Written<'a>,
+) -> Result<Said<'a>, PrologueFault>
+    requires { IsTrue (proper.proper_query query.now) }
+    ensures { MatchResult result
+        (λ said. IsTrue (known.known_query query.now)
+        × (spec.query_in (option_copied base.entry) query.now ≡ Some (said.query, said.labels)))
+        (λ fault. spec.IsFaultOf (option_copied base.entry) query.now fault) }
+{
+    match first_unknown(alloc, query)? {
+        Some(start) => Err(PrologueFault::UnknownPrefix(start)),
+        None => said_where_known(alloc, base, query),
+    }
+}

@@ -1,0 +1,71 @@
+-- What a reader of queries answers is what the text says.
+use Rattle.std.proofs.Common.{◌≡◌, ◌∙◌, inl, inr, ℕ, Bool, true, false, List, [], Option, Some, None, Result, Ok, Err, IsTrue, MatchResult, refl, ap}
+use Rattle.std.specs.Str.{chars}
+use Rattle.rdf_grammar.specs.declared.prologue.PrologueFault.{PrologueFault}
+use Rattle.rdf_grammar.specs.declared.prologue.PrologueFault.TheVariants as name
+use Rattle.rdf_tokens.specs.declared.token.Token.{Token}
+use Rattle.rdf_tokens.specs.Lines.{line_of}
+use Rattle.sparql_grammar.specs.declared.tree.Query as written
+use Rattle.sparql_grammar.specs.Lexemes.{Lexemes}
+use Rattle.sparql_grammar.specs.Nesting.{IsTooDeep}
+use Rattle.sparql_grammar.specs.QueryGrammar as grammar
+use Rattle.sparql_grammar.specs.Profile.{AreInside}
+use Rattle.sparql_grammar.specs.Proper.{proper_query}
+use Rattle.sparql_grammar.specs.Stops.{ExplainsQuery}
+use Rattle.sparql_grammar.proofs.QueryProper.{queries_proper}
+use Rattle.sparql_grammar.specs.declared.stop.StopKind.{StopKind}
+use Rattle.sparql_grammar.specs.declared.stop.StopKind.TheVariants as stop
+use Rattle.sparql_queries.specs.Groups.{Labels}
+use Rattle.sparql_queries.specs.Known.{known_query}
+use Rattle.sparql_queries.specs.Queries.{query_in, IsFaultOf}
+use Rattle.sparql_syntax.specs.declared.fault.SyntaxFault.{SyntaxFault}
+use Rattle.sparql_syntax.specs.declared.fault.SyntaxFaultKind.{SyntaxFaultKind}
+use Rattle.sparql_syntax.specs.declared.fault.SyntaxFaultKind.TheVariants as fault
+use Rattle.sparql_syntax.specs.Phases.{HasTokens, TellsEarly}
+use Rattle.sparql_syntax.specs.Query.{HasTree, IsQuery, TellsFault, FaultIs, IsRefused, meaning, ruled}
+use Rattle.sparql_syntax.specs.QueryTold.{IsTold, IsRuleFault}
+use Rattle.sparql_syntax.specs.Told.{stop_fault, name_fault}
+use Rattle.sparql_trees.specs.declared.query.Query.{Query}
+use Rattle.sparql_syntax.proofs.QueryCases.{tree_kind}
+use Rattle.sparql_syntax.proofs.TellLemmas as language
+use Rattle.sparql_syntax.proofs.TellLemmas.{IsAt}
+
+pub early_told : (text : List ℕ) (f : SyntaxFault) → TellsEarly text f f.kind → IsTold text f
+early_told text f h = language.early_told grammar.IsQuery meaning text f h
+
+-- the parser's fault is the text's
+pub stop_told : (text : List ℕ) (tokens : List Token) (lexemes : Lexemes) (k : StopKind) (place start : ℕ) (f : SyntaxFault) → HasTokens text tokens lexemes → AreInside (chars text) tokens
+    → (IsTooDeep lexemes → k ≡ stop.TooDeep) → ExplainsQuery lexemes k place → IsAt tokens place start → f ≡ stop_fault text k start → IsTold text f
+stop_told = language.stop_told grammar.IsQuery meaning ExplainsQuery (λ ls place h. h) (λ ls place h. h)
+
+pub tree_proper : (text : List ℕ) (tree : written.Query) → HasTree text tree → IsTrue (proper_query tree)
+tree_proper text tree h =
+    queries_proper (chars text) (chars text) h.list.list.0 h.tokens h.lexemes tree h.list.list.1 h.list.pieces h.reads
+
+-- ---- against a base
+
+unknown : (base : Option (List ℕ)) (tree : written.Query) → known_query tree ≡ false → meaning base tree ≡ Err fault.UnknownPrefix
+unknown base tree h = rw h refl
+
+known_means : (base : Option (List ℕ)) (tree : written.Query) (said : Option (Query × Labels)) → known_query tree ≡ true → query_in base tree ≡ said → meaning base tree ≡ ruled said
+known_means base tree said h k = rw (h, k) refl
+
+pub name_told : (base : Option (List ℕ)) (text : List ℕ) (tree : written.Query) (e : PrologueFault) (f : SyntaxFault) → HasTree text tree → IsFaultOf base tree e → f ≡ name_fault text e
+    → TellsFault base text f f.kind
+name_told base text tree (name.NoMemory refused) f h is named = language.memory_told grammar.IsQuery meaning base text f refused named
+name_told base text tree (name.UnknownPrefix start) f h is named =
+    language.told_at grammar.IsQuery meaning base text f fault.UnknownPrefix (line_of text start) named (tree, h, unknown base tree is)
+name_told base text tree (name.Relative start) f h is named =
+    language.told_at grammar.IsQuery meaning base text f fault.Relative (line_of text start) named (tree, h, known_means base tree None is.0 is.1)
+
+rule_told : (base : Option (List ℕ)) (text : List ℕ) (tree : written.Query) (said : Query × Labels) (f : SyntaxFault) → HasTree text tree → meaning base tree ≡ ruled (Some said)
+    → IsRuleFault (ruled (Some said)) f → TellsFault base text f f.kind
+rule_told base text tree said f h is (inr memory) = language.memory_told grammar.IsQuery meaning base text f memory.0 memory.1
+rule_told base text tree said f h is (inl e) =
+    language.told_at grammar.IsQuery meaning base text f f.kind f.line refl (tree_kind base tree f.kind (is ∙ e) base text (tree, h, is ∙ e) f.line)
+
+pub all_told : (base : Option (List ℕ)) (text : List ℕ) (tree : written.Query) (said : Query × Labels) (r : Result Query SyntaxFault) → HasTree text tree → known_query tree ≡ true
+    → query_in base tree ≡ Some said → MatchResult r (λ query. ruled (Some said) ≡ Ok query) (λ f. IsRuleFault (ruled (Some said)) f)
+    → MatchResult r (λ query. IsQuery base text query) (λ f. TellsFault base text f f.kind)
+all_told base text tree said (Ok query) h known is e = (tree, h, known_means base tree (Some said) known is ∙ e)
+all_told base text tree said (Err f) h known is e = rule_told base text tree said f h (known_means base tree (Some said) known is) e

@@ -1,0 +1,16 @@
+-- The faults that a reader of queries answers, by what its parts answer.
+use Rattle.std.specs.Prelude.{◌≡◌, ◌⊎◌, ℕ, List, Option, Result, Err}
+use Rattle.rdf_terms.specs.declared.fault.NoMemory.{NoMemory}
+use Rattle.sparql_syntax.specs.declared.fault.SyntaxFault.{SyntaxFault}
+use Rattle.sparql_syntax.specs.declared.fault.SyntaxFaultKind.{SyntaxFaultKind}
+use Rattle.sparql_syntax.specs.Query.{TellsFault}
+use Rattle.sparql_syntax.specs.Told.{wants_memory}
+use Rattle.sparql_trees.specs.declared.query.Query.{Query}
+
+-- the fault is told of the text, whatever the base is
+abbrev pub IsTold : List ℕ → SyntaxFault → Type 0
+IsTold text f = (base : Option (List ℕ)) → TellsFault base text f f.kind
+
+-- the answer is a fault of this kind, or memory was wanting
+abbrev pub IsRuleFault : Result Query SyntaxFaultKind → SyntaxFault → Type 0
+IsRuleFault answer f = (answer ≡ Err f.kind) ⊎ ((refused : NoMemory) × (f ≡ wants_memory refused))

@@ -1,0 +1,113 @@
+//! Queries, from bytes to trees.
+ghost use Rattle.std.specs.Prelude.{◌≡◌, [], Ok, Some, IfOk, MatchResult, is_some};
+ghost use Rattle.std.specs.Option.{option_copied};
+ghost use Rattle.std.specs.Str.{chars, IsUtf8};
+ghost use Rattle.rdf_tokens.specs.Tokens.{Says};
+ghost use Rattle.sparql_grammar.specs.Profile.{AreInside};
+ghost use Rattle.sparql_syntax.specs.Query as spec;
+ghost use Rattle.sparql_syntax.specs.Query.{HasTree, IsQuery, TellsFault};
+ghost use Rattle.sparql_syntax.specs.QueryTold.{IsRuleFault, IsTold};
+
+use crate::fault::{SyntaxFault, SyntaxFaultKind};
+use crate::rules::{first_known, know};
+use crate::text::{check_profile, fault_at, name_fault, start_of, stop_fault, tokens_of};
+use indexmap::IndexSet;
+use rdf_grammar::lexemes;
+use rdf_terms::{Iri, Items, NoMemory};
+use rdf_tokens::{Slice, Token};
+use sparql_grammar::{Query as Tree, Stop, parse_query};
+use sparql_queries::{Said, said_by};
+use sparql_trees::Query;
+use std::alloc::Global;
+
+// The tree of a text with these tokens.
+fn tree_of<'a>(alloc: Global, text: &'a str, tokens: &[Token]) -> Result<Tree<'a>, SyntaxFault>
+    requires utf8 { IsUtf8 text.now }
+    requires list { Says (chars text.now) (Ok tokens.now) }
+    requires inside { AreInside (chars text.now) tokens.now }
+    ensures { MatchResult result (λ tree. HasTree text.now tree) (λ fault. IsTold text.now fault) }
+{
+    let lexemes = lexemes(alloc, text, tokens)?;
+    match parse_query(alloc, lexemes.as_slice()) {
+        Ok(tree) => Ok(tree),
+        Err(Stop { kind, place }) => {
+            let start = start_of(text, tokens, place);
+            Err(stop_fault(text.as_bytes(), kind, start))
+        }
+    }
+}
+
+// The tree of a text. Its tokens are let go when the tree stands.
+#[tactic(auto, using(crate::proofs::QueryLemmas::early_told))]
+fn read_tree<'a>(alloc: Global, text: &'a str) -> Result<Tree<'a>, SyntaxFault>
+    requires { IsUtf8 text.now }
+    ensures { MatchResult result (λ tree. HasTree text.now tree) (λ fault. IsTold text.now fault) }
+{
+    let tokens = tokens_of(alloc, text)?;
+    check_profile(text, tokens.as_slice())?;
+    tree_of(alloc, text, tokens.as_slice())
+}
+
+// Where a label stands in one of these lists that stood in one before it.
+fn first_repeated<'a>(alloc: Global, lists: &[Items<Slice<'a>>]) -> Result<Option<usize>, NoMemory>
+    ensures { IfOk result (λ start. is_some start ≡ spec.repeats_label [] lists.now) }
+{
+    let mut known = IndexSet::new(alloc);
+    for labels in lists {
+        if let Some(start) = first_known(&known, labels.as_slice()) {
+            return Ok(Some(start));
+        }
+        know(&mut known, labels.as_slice())?;
+    }
+    Ok(None)
+}
+
+// The query that was said, where it keeps to the rule on labels.
+fn query_of(alloc: Global, text: &str, said: Said<'_>) -> Result<Query, SyntaxFault>
+    ensures { let answer = spec.ruled (Some (said.entry.query, said.entry.labels)) in
+        MatchResult result (λ query. answer ≡ Ok query) (λ fault. IsRuleFault answer fault) }
+{
+    if let Some(start) = first_repeated(alloc, said.labels.as_slice())? {
+        let kind = SyntaxFaultKind::BlankReused;
+        return Err(fault_at(text.as_bytes(), kind, start));
+    }
+    Ok(said.query)
+}
+
+// The query that a text is.
+fn read_text(alloc: Global, text: &str, base: Option<&Iri>) -> Result<Query, SyntaxFault>
+    requires { IsUtf8 text.now }
+    ensures { MatchResult result
+        (λ query. IsQuery (option_copied base.entry) text.now query)
+        (λ fault. TellsFault (option_copied base.entry) text.now fault fault.kind) }
+{
+    let tree = match read_tree(alloc, text) {
+        Ok(tree) => tree,
+        Err(fault) => return Err(fault),
+    };
+    let said = match said_by(alloc, base, &tree) {
+        Ok(said) => said,
+        Err(fault) => return Err(name_fault(text.as_bytes(), fault)),
+    };
+    query_of(alloc, text, said)
+}
+
+/// The query that a text is (SPARQL 1.1 Query, section 19.8). Names have their IRIs, and references
+/// are resolved against `base`, until the text declares another. The blank nodes of each basic graph
+/// pattern are hidden variables, numbered from 0 by their places in the text.
+///
+/// # Errors
+/// The first of these that applies, with the number of its line: [`SyntaxFaultKind::NotUtf8`],
+/// [`SyntaxFaultKind::Token`], [`SyntaxFaultKind::NotInProfile`], [`SyntaxFaultKind::TooDeep`],
+/// [`SyntaxFaultKind::Syntax`], [`SyntaxFaultKind::UnknownPrefix`], [`SyntaxFaultKind::Relative`],
+/// [`SyntaxFaultKind::BlankReused`]; and [`SyntaxFaultKind::NoMemory`] at any point, with line 0.
+pub fn read_query(alloc: Global, bytes: &[u8], base: Option<&Iri>) -> Result<Query, SyntaxFault>
+    ensures { MatchResult result
+        (λ query. IsQuery (option_copied base.entry) bytes.now query)
+        (λ fault. TellsFault (option_copied base.entry) bytes.now fault fault.kind) }
+{
+    match str::from_utf8(bytes) {
+        Ok(text) => read_text(alloc, text, base),
+        Err(fault) => Err(fault_at(bytes, SyntaxFaultKind::NotUtf8, fault.valid_up_to())),
+    }
+}
