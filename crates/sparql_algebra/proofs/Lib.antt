@@ -18,3 +18,4 @@ mod TermLemmas
 mod TranslationLemmas
 mod TruthLemmas
 mod UniverseLemmas
+mod VariableLemmas

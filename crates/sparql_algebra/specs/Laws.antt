@@ -1,12 +1,15 @@
 -- What holds of every dataset, pattern and query.
-use Rattle.std.specs.Prelude.{◌≡◌, ◌↔◌, ◌+◌, ◌<◌, Bool, true, false, ◌&&◌, cond, List, length, take, Option, Some, None, count_by, nat_eq}
+use Rattle.std.specs.Prelude.{◌≡◌, ◌↔◌, ℕ, ◌+◌, ◌<◌, Bool, true, false, ◌&&◌, cond, List, length, take, Option, Some, None, count_by, nat_eq}
 use Rattle.std.specs.List.{list_any, list_all}
+use Rattle.std.specs.List.Sorted.{IsStrictlySortedBy}
+use Rattle.std.specs.Ordering.{eq_by_cmp}
 use Rattle.std.specs.FinSet as set
+use Rattle.rdf_terms.specs.Order.{text_cmp}
 use Rattle.rdf_terms.specs.declared.term.Term.{Term}
 use Rattle.rdf_terms.specs.declared.quad.GraphName.{GraphName}
 use Rattle.rdf_terms.specs.declared.quad.GraphName.TheVariants.{Default}
 use Rattle.rdf_dataset.specs.State.{State}
-use Rattle.sparql_trees.specs.Visible.{visible}
+use Rattle.sparql_trees.specs.Visible.{names_in, visible}
 use Rattle.sparql_trees.specs.declared.pattern.BasicGraphPattern.{BasicGraphPattern}
 use Rattle.sparql_trees.specs.declared.pattern.Pattern.{Pattern}
 use Rattle.sparql_trees.specs.declared.pattern.TriplePattern.{TriplePattern}
@@ -68,6 +71,14 @@ AssignmentsListed = (s : State) (g : GraphName) (variables : Variables) (b : Bas
     (W : List Mapping) × ((w : Mapping) → count_by (same_mapping w) W ≡ cond (is_assignment s g variables b m w) 1 0)
 
 -- ---- results
+
+-- the variables of solutions stand in the order of their names, each once: those of the pattern's triple patterns and of its GRAPHs
+abbrev pub VariablesInOrder : Type 0
+VariablesInOrder = (P : Pattern) → IsStrictlySortedBy text_cmp (visible P)
+
+abbrev pub VariablesAreAll : Type 0
+VariablesAreAll = (P : Pattern) (name : List ℕ) →
+    list_any (eq_by_cmp text_cmp name) (visible P) ≡ list_any (eq_by_cmp text_cmp name) (names_in P)
 
 abbrev pub SomeSolutions : Type 0
 SomeSolutions = (P : Pattern) (g : GraphName) (s : State) → (rows : List Mapping) × Solves P g s (visible P) rows

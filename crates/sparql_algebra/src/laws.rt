@@ -1,5 +1,5 @@
 //! What holds of the algebra of patterns, and of the results of queries.
-ghost use Rattle.sparql_algebra.specs.Laws.{SomeListing, ListingsAgree, TriplesAreHeld, NamesAreHeld, AssignmentsCountOnce, AssignmentsListed, SomeSolutions, SolutionsAgree, SomeSelection, OneSelection, SomeAnswer, OneAnswer, AnswerTellsSolutions};
+ghost use Rattle.sparql_algebra.specs.Laws.{SomeListing, ListingsAgree, TriplesAreHeld, NamesAreHeld, AssignmentsCountOnce, AssignmentsListed, VariablesInOrder, VariablesAreAll, SomeSolutions, SolutionsAgree, SomeSelection, OneSelection, SomeAnswer, OneAnswer, AnswerTellsSolutions};
 ghost use Rattle.sparql_algebra.specs.Counts as counts;
 ghost use Rattle.sparql_algebra.specs.Growth.{MergesGrow};
 ghost use Rattle.sparql_algebra.specs.Listing.{Listing};
@@ -42,7 +42,11 @@ pub fn counts_depend_on_the_state()
 {}
 
 /// Each pattern has solutions in each graph, and any two lists of them hold each mapping as often.
+/// Their variables are those of the pattern's triple patterns and GRAPHs, in the order of their
+/// names, each once (SPARQL 1.1 Query, section 18.2.1).
 pub fn solutions_agree()
+    ensures order { VariablesInOrder }
+    ensures all { VariablesAreAll }
     ensures some { SomeSolutions }
     ensures agree { SolutionsAgree }
 {}
