@@ -1,7 +1,7 @@
 //! What the lines of a script ask for.
 ghost use Rattle.std.specs.Prelude.{◌≡◌, ◌∷◌, nat_eq, ◌&&◌, length, nat_le};
 ghost use Rattle.std.specs.List.{list_all};
-ghost use Rattle.rdf_keeper.specs.Script.Commands.{asked, is_comment, format_named, format_of, line_of_words, load_of, named, plain};
+ghost use Rattle.rdf_keeper.specs.Script.Commands.{alone, asked, is_comment, format_named, format_of, line_of_words, load_of, named, plain};
 ghost use Rattle.rdf_keeper.specs.Inside.Asks.{asked_of, line_of};
 ghost use Rattle.rdf_keeper.specs.Script.LineWords.{is_name, is_name_byte, words};
 
@@ -24,6 +24,7 @@ pub enum Listing {
 pub(crate) enum Command<'a> {
     Load(Format, &'a [u8]),
     Update(&'a [u8]),
+    Query(&'a [u8]),
     Undo,
     Redo,
     Mark(&'a [u8]),
@@ -45,7 +46,7 @@ pub enum Body {
     Update,
     /// A query.
     Query,
-    /// A document of no format that is known.
+    /// What no command takes: a document of no format that is known, or a body behind a word too many.
     Unknown,
 }
 
@@ -102,6 +103,16 @@ fn load_of(format: Option<Format>) -> Body
     match format {
         Some(format) => Body::Load(format),
         None => Body::Unknown,
+    }
+}
+
+// The body behind a line of one word, by the text behind that word.
+fn alone(body: Body, text: &[u8]) -> Body
+    ensures { result ≡ alone body (words text.now) }
+{
+    match next_word(text) {
+        None => body,
+        Some(_) => Body::Unknown,
     }
 }
 
@@ -184,9 +195,9 @@ pub(crate) fn read_line(line: &[u8]) -> Line<'_>
     } else if word == b"%load".as_slice() {
         Line::Opens(load_of(format_of(rest)))
     } else if word == b"%update".as_slice() {
-        Line::Opens(Body::Update)
+        Line::Opens(alone(Body::Update, rest))
     } else if word == b"%query".as_slice() {
-        Line::Opens(Body::Query)
+        Line::Opens(alone(Body::Query, rest))
     } else {
         Line::Asks(asked(word, rest))
     }
