@@ -2,10 +2,10 @@
 use Rattle.std.proofs.Common.{◌≡◌, ◌≢◌, ◌⊎◌, inl, inr, ℕ, Bool, true, false, List, length, Option, Result, Ok, Err, refl, sym, ap, ◌∙◌, subst}
 use Rattle.rdf_dataset.specs.State.{State}
 use Rattle.sparql_algebra.specs.Mapping.{Mapping}
+use Rattle.sparql_algebra.specs.Results.{IsSelection, HasSolution}
 use Rattle.sparql_results.specs.ResultsText.{boolean_text, selection_text}
-use Rattle.rdf_session.specs.StandIn as query
-use Rattle.rdf_session.specs.StandIn.{IsSelection, HasSolution}
-use Rattle.rdf_session.specs.StandInLaws as query_laws
+use Rattle.sparql_syntax.specs.Query as query
+use Rattle.sparql_syntax.specs.QueryLaws as query_laws
 use Rattle.sparql_syntax.specs.UpdateLaws.{has_free_line, SameFault}
 use Rattle.sparql_syntax.specs.declared.fault.SyntaxFault.{SyntaxFault}
 use Rattle.sparql_trees.specs.declared.pattern.Pattern.{Pattern}

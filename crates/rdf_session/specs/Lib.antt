@@ -10,7 +10,5 @@ pub mod OneReply
 pub mod Query
 pub mod Request
 pub mod Session
-pub mod StandIn
-pub mod StandInLaws
 pub mod Standing
 pub mod UndoRedo

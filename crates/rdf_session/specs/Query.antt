@@ -2,9 +2,9 @@
 use Rattle.std.specs.Prelude.{◌≡◌, ℕ, Bool, List, length, Result, Ok, Err}
 use Rattle.rdf_dataset.specs.State.{State}
 use Rattle.sparql_algebra.specs.Mapping.{Mapping}
+use Rattle.sparql_algebra.specs.Results.{IsSelection, HasSolution}
 use Rattle.sparql_results.specs.ResultsText.{boolean_text, selection_text}
-use Rattle.rdf_session.specs.StandIn as query
-use Rattle.rdf_session.specs.StandIn.{IsSelection, HasSolution}
+use Rattle.sparql_syntax.specs.Query as query
 use Rattle.sparql_trees.specs.declared.pattern.Pattern.{Pattern}
 use Rattle.sparql_trees.specs.declared.query.Query.{Query}
 use Rattle.sparql_trees.specs.declared.query.Query.TheVariants as form

@@ -50,9 +50,9 @@ pub fn one_reply()
     rdf_lines::each_text_is_one_document();
     rdf_turtle::one_meaning();
     sparql_syntax::one_request();
-    crate::stand_in::one_query();
-    crate::stand_in::one_selection();
-    crate::stand_in::one_answer();
+    sparql_syntax::one_query();
+    sparql_algebra::one_selection();
+    sparql_algebra::one_answer();
 }
 
 /// A load does what INSERT DATA of its document's quads does, and is refused for want of blank numbers just where that is.

@@ -9,7 +9,6 @@ mod listing;
 mod load;
 mod marks;
 mod query;
-mod stand_in;
 mod update;
 
 pub use fault::{Counts, KeeperFault};

@@ -2,16 +2,17 @@
 ghost use Rattle.std.specs.Prelude.{◌≡◌, ◌++◌, IfOk, MatchResult, OnOk};
 ghost use Rattle.std.specs.Option.{option_copied};
 ghost use Rattle.sparql_results.specs.ResultsText.{selection_text};
-ghost use Rattle.rdf_session.specs.StandIn.{IsQuery};
+ghost use Rattle.sparql_syntax.specs.Query.{IsQuery};
 ghost use Rattle.rdf_session.specs.Inside.Staging.{TellsQueryFault};
 ghost use Rattle.rdf_session.specs.Query.{AnswersQuery, IsOfRows, IsOfTruth};
 
 use crate::fault::KeeperFault;
-use crate::stand_in::{Row, ask, read_query, select};
 use crate::update::syntax_refusal;
 use rdf_dataset::Dataset;
 use rdf_terms::{Iri, Items, NoMemory, Text};
+use sparql_eval::{Row, ask, select};
 use sparql_results::{boolean_text, write_header, write_row};
+use sparql_syntax::read_query;
 use sparql_trees::{Pattern, Query, Select};
 use std::alloc::Global;
 

@@ -11,7 +11,7 @@ use Rattle.rdf_turtle.specs.declared.fault.TurtleFaultKind.TheVariants as kind
 use Rattle.sparql_eval.specs.Operations.{steps}
 use Rattle.sparql_eval.specs.declared.fault.ApplyFault.{ApplyFault}
 use Rattle.sparql_eval.specs.declared.fault.ApplyFault.TheVariants as obstacle
-use Rattle.rdf_session.specs.StandIn as query
+use Rattle.sparql_syntax.specs.Query as query
 use Rattle.sparql_syntax.specs.Update as update
 use Rattle.sparql_syntax.specs.declared.fault.SyntaxFault.{SyntaxFault}
 use Rattle.sparql_syntax.specs.declared.fault.SyntaxFaultKind.{SyntaxFaultKind}

@@ -20,6 +20,6 @@ returns-clause-queries c =
       query = c.one_query.ensures.query;
       never_both = c.one_query.ensures.never_both;
       fault = c.one_query.ensures.fault;
-      selection = c.one_selection.ensures;
-      answer = c.one_answer.ensures;
+      selection = c.one_selection.ensures.one;
+      answer = c.one_answer.ensures.one;
     })
