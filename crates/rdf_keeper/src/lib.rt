@@ -18,7 +18,7 @@ pub use law::{
 };
 pub use program::start;
 pub use rdf_session::{
-    Counts, Format, Keeper, KeeperFault, a_load_is_insert_data, one_reply, standing_requests,
-    undo_gives_back,
+    Answer, Counts, Format, Keeper, KeeperFault, a_load_is_insert_data, one_reply,
+    standing_requests, undo_gives_back,
 };
 pub use script::{Settings, Status, run};

@@ -6,6 +6,7 @@ mod ListingLemmas
 mod LoadLemmas
 mod MarkLemmas
 mod NetLemmas
+mod OneQueryLemmas
 mod OneReplyLemmas
 mod RefusalLemmas
 mod StandingLemmas

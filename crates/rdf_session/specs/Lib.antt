@@ -5,7 +5,9 @@ pub mod History
 pub mod Inside
 pub mod Listing
 pub mod LoadLaws
+pub mod OneQueryReply
 pub mod OneReply
+pub mod Query
 pub mod Request
 pub mod Session
 pub mod Standing

@@ -8,6 +8,7 @@ ghost use Rattle.rdf_session.specs.Inside.Kept.{AreNets, states_after};
 ghost use Rattle.rdf_session.specs.Session.{nets_between};
 ghost use Rattle.rdf_dataset.specs.Sorted.{ListsSorted};
 ghost use Rattle.rdf_session.specs.Listing.{ListsQuads};
+ghost use Rattle.rdf_session.specs.Query.{Replies};
 ghost use Rattle.rdf_session.specs.Request.{Load, Update};
 ghost use Rattle.rdf_session.specs.Session.{Commit, Do, Done, Mark, Redo, Rollback, Session, Step, Undo, accepted, all_states, counts_between, fresh, now, reply_of, reply_of_mark};
 ghost use Rattle.rdf_session.specs.Faults.{no_memory};
@@ -17,6 +18,7 @@ use crate::format::Format;
 use crate::listing::write_lines;
 use crate::load::{read, stage};
 use crate::marks::Marks;
+use crate::query::{Answer, evaluate, read_text};
 use crate::update::{read_request, stage_request};
 use rdf_dataset::{Dataset, Net, Source};
 use rdf_terms::{Iri, NoMemory as NoMemoryFault, Term};
@@ -100,6 +102,17 @@ impl Keeper {
         let request = read_request(self.alloc, text, self.base_iri.as_ref())?;
         let net = stage_request(self.alloc, &self.dataset, &request)?;
         self.accept(net)
+    }
+
+    /// What a query of SPARQL 1.1 answers of the state now, its references against the session's base. It changes nothing.
+    ///
+    /// # Errors
+    /// `Syntax` where the text is no query; `NoMemory`.
+    pub fn query(&self, text: &[u8]) -> Result<Answer, KeeperFault>
+        ensures { Replies self.now text.now result }
+    {
+        let query = read_text(self.alloc, text, self.base_iri.as_ref())?;
+        Ok(evaluate(self.alloc, &query, &self.dataset)?)
     }
 
     // Takes the net of an accepted request. All growths come before the first change.

@@ -7,6 +7,7 @@ ghost use Rattle.rdf_session.specs.Session.{Session, Command, Reply, fresh, now}
 ghost use Rattle.rdf_session.specs.Standing.{Run, Follows, requests_of, MakesAll};
 ghost use Rattle.rdf_session.specs.GivesBack.{RunsAreWhole, UndoGivesBack, RedoGivesAgain, RollbackGivesBack, RefusalsLeave};
 ghost use Rattle.rdf_session.specs.LoadLaws.{LoadInserts, LoadIsRefusedAlike};
+ghost use Rattle.rdf_session.specs.OneQueryReply.{OneQueryReply};
 ghost use Rattle.rdf_session.specs.OneReply.{OneReply};
 ghost use Rattle.rdf_session.specs.UndoRedo.{UndoThenRedo, RedoThenUndo};
 
@@ -41,13 +42,17 @@ pub fn undo_gives_back()
 {}
 
 /// Where no reply is that memory is wanting, a command has one reply, but for a line of a fault that is the reader's own
-/// choice; and it leads to one session.
+/// choice; and it leads to one session. So has a query.
 pub fn one_reply()
-    ensures { OneReply }
+    ensures commands { OneReply }
+    ensures queries { OneQueryReply }
 {
     rdf_lines::each_text_is_one_document();
     rdf_turtle::one_meaning();
     sparql_syntax::one_request();
+    sparql_syntax::one_query();
+    sparql_algebra::one_selection();
+    sparql_algebra::one_answer();
 }
 
 /// A load does what INSERT DATA of its document's quads does, and is refused for want of blank numbers just where that is.

@@ -8,9 +8,11 @@ mod law;
 mod listing;
 mod load;
 mod marks;
+mod query;
 mod update;
 
 pub use fault::{Counts, KeeperFault};
 pub use format::Format;
 pub use keeper::Keeper;
 pub use law::{a_load_is_insert_data, one_reply, standing_requests, undo_gives_back};
+pub use query::Answer;

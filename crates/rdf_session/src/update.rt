@@ -12,7 +12,8 @@ use sparql_syntax::{SyntaxFault, SyntaxFaultKind, read_update};
 use sparql_trees::Request;
 use std::alloc::Global;
 
-fn syntax_refusal(fault: SyntaxFault) -> KeeperFault
+/// The refusal that a fault of syntax is.
+pub(crate) fn syntax_refusal(fault: SyntaxFault) -> KeeperFault
     ensures { result ≡ syntax_refusal fault fault.kind }
 {
     match fault.kind {

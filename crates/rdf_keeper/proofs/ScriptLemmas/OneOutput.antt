@@ -1,16 +1,19 @@
 -- Where memory never lacks, each command has one answer, and a script one output, but for the lines that are a reader's own choice.
-use Rattle.std.proofs.Common.{◌≡◌, ◌≢◌, inl, inr, ℕ, Bool, true, false, ◌&&◌, ◌||◌, List, [], ◌∷◌, ◌++◌, map, length, refl, sym, ap, ◌∙◌, subst}
+use Rattle.std.proofs.Common.{◌≡◌, ◌≢◌, ◌⊎◌, inl, inr, ℕ, Bool, true, false, ◌&&◌, ◌||◌, List, [], ◌∷◌, ◌++◌, map, length, refl, sym, ap, ◌∙◌, subst, Result, Ok, Err}
 use mathlib.Core.Bool.{true≢false}
-use Rattle.std.specs.Prelude.{codes}
+use Rattle.std.specs.Prelude.{codes, is_err}
 use Rattle.rdf_lines.specs.QuadText.{quad_text}
 use Rattle.std.specs.List.{concat}
 use Rattle.rdf_terms.specs.OrderLaws.{term_cmp_total, term_cmp-IsAntisymmetric, quad_cmp_total, quad_cmp-IsAntisymmetric}
 use Rattle.rdf_dataset.specs.State.{net_between}
+use Rattle.rdf_session.specs.OneQueryReply.{DifferInFreeLine, OneQueryReply}
 use Rattle.rdf_session.specs.OneReply.{IsFull, OneReply, SameReply}
 use Rattle.rdf_session.specs.Session.{Session, Command, Reply, Refused as RefusedReply, now}
 use Rattle.rdf_session.specs.Faults.{no_memory as no_memory_fault}
-use Rattle.rdf_keeper.specs.Script.Answers.{count_line, is_refused, reply_line}
-use Rattle.rdf_keeper.specs.Script.Commands.{Asked, act, bad, show, unended}
+use Rattle.rdf_session.specs.declared.fault.KeeperFault.{KeeperFault}
+use Rattle.rdf_session.specs.declared.query.Answer.{Answer}
+use Rattle.rdf_keeper.specs.Script.Answers.{AnswersQuery, count_line, is_refused, query_text, reply_line}
+use Rattle.rdf_keeper.specs.Script.Commands.{Asked, act, ask, bad, show, unended}
 use Rattle.rdf_keeper.specs.Script.Listing.{Shows, name_line}
 use Rattle.rdf_keeper.specs.Script.OneOutput.{FirmAnswers, FullAnswers, IsWhole, OneOutput, OneText, SameAnswer, SameAnswers}
 use Rattle.rdf_keeper.specs.Script.Runs.{Runs, final}
@@ -54,11 +57,27 @@ same_reply c t u text other refused otherwise r q (inr (x, y, p, p', free)) same
   same,
 )
 
-module _ (one : OneReply) where
+full_query : (r : Result Answer KeeperFault) (text : List ℕ) → text ≡ query_text r → text ≢ reply_line (RefusedReply no_memory_fault) → r ≢ Err no_memory_fault
+full_query r text e n f = n (e ∙ ap query_text f)
+
+same_query : (query : List ℕ) (s t u : Session) (text other : List ℕ) (refused otherwise : Bool) (a : AnswersQuery s query text refused) (b : AnswersQuery s query other otherwise) → (a.reply ≡ b.reply) ⊎ DifferInFreeLine a.reply b.reply → t ≡ u → Alike (ask query) text refused t other otherwise u
+same_query query s t u text other refused otherwise a b (inl e) same =
+    (inl (a.bytes ∙ ap query_text e ∙ sym b.bytes), a.refuses ∙ ap is_err e ∙ sym b.refuses, same)
+same_query query s t u text other refused otherwise a b (inr d) same = (
+  inr (d.fault, d.another, (d.free, a.bytes ∙ ap query_text d.refused), (d.free_too, b.bytes ∙ ap query_text d.refused_too), d.same),
+  a.refuses ∙ ap is_err d.refused ∙ sym (b.refuses ∙ ap is_err d.refused_too),
+  same,
+)
+
+module _ (one : OneReply) (one_query : OneQueryReply) where
   one_answer : (c : Asked) (s t u : Session) (text other : List ℕ) (refused otherwise : Bool) → FullAnswers c s text refused t → FullAnswers c s other otherwise u → Alike c text refused t other otherwise u
   one_answer (act c) s t u text other refused otherwise a b =
       let same = one s t u c a.0.0 b.0.0 a.0.1 (full_reply a.0.0 text a.0.2 a.1) b.0.1 (full_reply b.0.0 other b.0.2 b.1) in
       same_reply c t u text other refused otherwise a.0.0 b.0.0 same.0 same.1 a.0.2 a.0.3 b.0.2 b.0.3
+  one_answer (ask query) s t u text other refused otherwise a b =
+      let x = a.0.1 in let y = b.0.1 in
+      let same = one_query s query x.reply y.reply x.replies (full_query x.reply text x.bytes a.1) y.replies (full_query y.reply other y.bytes b.1) in
+      same_query query s t u text other refused otherwise x y same (a.0.0 ∙ sym b.0.0)
   one_answer (show listing) s t u text other refused otherwise a b =
       elim (a.0.1) [
         | inr p ↦ absurd (a.1 p.0)
@@ -140,12 +159,12 @@ no_answers : (cs : List Asked) → SameAnswers cs [] []
 no_answers [] = tt
 no_answers (c ∷ cs) = tt
 
-pub one_output : OneReply → OneOutput
-one_output one stop cs s t u answers others status otherwise a w b v =
-    one_run FullAnswers SameAnswer SameAnswers (one_answer one) no_answers (λ c cs text other texts others same rest. (same, rest))
+pub one_output : OneReply → OneQueryReply → OneOutput
+one_output one one_query stop cs s t u answers others status otherwise a w b v =
+    one_run FullAnswers SameAnswer SameAnswers (one_answer one one_query) no_answers (λ c cs text other texts others same rest. (same, rest))
     stop false false cs s s t u answers others status otherwise refl refl a w b v
 
-pub one_text : OneReply → OneText
-one_text one stop cs s t u answers others status otherwise a w b v =
-    one_run FirmAnswers (λ c text other. text ≡ other) (λ cs texts others. texts ≡ others) (firm_answer one) (λ cs. refl) (λ c cs text other texts others e f. λ i. e i ∷ f i)
+pub one_text : OneReply → OneQueryReply → OneText
+one_text one one_query stop cs s t u answers others status otherwise a w b v =
+    one_run FirmAnswers (λ c text other. text ≡ other) (λ cs texts others. texts ≡ others) (firm_answer one one_query) (λ cs. refl) (λ c cs text other texts others e f. λ i. e i ∷ f i)
     stop false false cs s s t u answers others status otherwise refl refl a w b v

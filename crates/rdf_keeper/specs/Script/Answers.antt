@@ -1,11 +1,14 @@
 -- The answers to commands, as bytes.
-use Rattle.std.specs.Prelude.{◌≡◌, ◌⊎◌, ℕ, Bool, true, false, List, [], ◌∷◌, ◌++◌, codes, decimal, length, Option, Some, None}
+use Rattle.std.specs.Prelude.{◌≡◌, ◌⊎◌, ℕ, Bool, true, false, List, [], ◌∷◌, ◌++◌, codes, decimal, length, Option, Some, None, Result, Ok, Err, is_err}
 use Rattle.std.specs.List.{concat}
-use Rattle.rdf_keeper.specs.Script.Commands.{Asked, act, show, bad, unended}
+use Rattle.rdf_keeper.specs.Script.Commands.{Asked, act, ask, show, bad, unended}
 use Rattle.rdf_session.specs.Faults.{line_of, name_of, no_memory}
 use Rattle.rdf_keeper.specs.Script.Listing.{Shows}
+use Rattle.rdf_session.specs.Query.{Replies}
 use Rattle.rdf_session.specs.Session.{Session, Step, Reply, Changed, Done, Refused}
+use Rattle.rdf_session.specs.declared.fault.KeeperFault.{KeeperFault}
 use Rattle.rdf_session.specs.declared.fault.KeeperFault.TheVariants.{BadCommand, NoEnd}
+use Rattle.rdf_session.specs.declared.query.Answer.{Answer}
 
 -- the number of a line
 abbrev pub line_text : ℕ → List ℕ
@@ -31,9 +34,22 @@ is_refused (Refused fault) = true
 is_refused (Changed counts) = false
 is_refused Done = false
 
+-- the bytes of a reply to a query: its payload, and how many rows there are, or its refusal
+abbrev pub query_text : Result Answer KeeperFault → List ℕ
+query_text (Ok answer) = answer.payload ++ count_line answer.rows
+query_text (Err fault) = reply_line (Refused fault)
+
+-- the bytes answer the query at the session, and whether they refuse it
+pub record AnswersQuery (s : Session) (query text : List ℕ) (refused : Bool) : Type 0 where
+  pub reply : Result Answer KeeperFault
+  pub replies : Replies s query reply
+  pub bytes : text ≡ query_text reply
+  pub refuses : refused ≡ is_err reply
+
 -- the bytes of an answer, whether it is a refusal, and the session after it
 abbrev pub Answers : Asked → Session → List ℕ → Bool → Session → Type 0
 Answers (act c) s text refused t = (reply : Reply) × Step s c reply t × (text ≡ reply_line reply) × (refused ≡ is_refused reply)
+Answers (ask query) s text refused t = (t ≡ s) × AnswersQuery s query text refused
 Answers (show listing) s text refused t =
     (t ≡ s) × (((lines : List (List ℕ)) × Shows listing s lines × (text ≡ concat lines ++ count_line (length lines)) × (refused ≡ false))
     ⊎ ((text ≡ reply_line (Refused no_memory)) × (refused ≡ true)))

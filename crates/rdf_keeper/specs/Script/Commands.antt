@@ -15,6 +15,8 @@ use Rattle.rdf_keeper.specs.declared.script.command.Listing.TheVariants.{Changes
 pub data Asked : Type 0 where
   -- a step of the session
   act : session.Command → Asked
+  -- a query, by its text
+  ask : List ℕ → Asked
   -- a listing of the session
   show : Listing → Asked
   -- no command
@@ -93,11 +95,11 @@ line_of_words (word ∷ rest) =
     if bytes_eq word (codes "%update") then opens (alone UpdateBody rest) else
     if bytes_eq word (codes "%query") then opens (alone QueryBody rest) else asks (asked word rest)
 
--- a body that has ended: queries aren't there yet
+-- a body that has ended
 abbrev pub body_asks : Body → List ℕ → Asked
 body_asks (LoadBody format) text = act (session.Do (Load format text))
 body_asks UpdateBody text = act (session.Do (Update text))
-body_asks QueryBody text = bad
+body_asks QueryBody text = ask text
 body_asks UnknownBody text = bad
 
 abbrev pub is_end : List ℕ → Bool

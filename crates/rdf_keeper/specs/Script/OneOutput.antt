@@ -2,8 +2,9 @@
 use Rattle.std.specs.Prelude.{◌≡◌, ◌≢◌, ◌⊎◌, ℕ, Bool, true, false, List, [], ◌∷◌, Option, Some, None}
 use Rattle.std.specs.List.{AllByRecursion}
 use Rattle.rdf_keeper.specs.Script.Answers.{Answers, reply_line}
-use Rattle.rdf_keeper.specs.Script.Commands.{Asked, act, bad, commands, show, unended}
+use Rattle.rdf_keeper.specs.Script.Commands.{Asked, act, ask, bad, commands, show, unended}
 use Rattle.rdf_keeper.specs.Script.Lines.{raw_lines}
+use Rattle.rdf_session.specs.OneQueryReply.{IsFreeFault}
 use Rattle.rdf_session.specs.OneReply.{HasFreeLine, SameButLine}
 use Rattle.rdf_keeper.specs.Script.Runs.{Runs, RunsOver}
 use Rattle.rdf_session.specs.Session.{Session, Refused as RefusedReply}
@@ -25,6 +26,7 @@ IsWhole _ = ⊥
 -- The answer refuses the command by this fault, whose line is the reader's own choice.
 abbrev pub IsFree : Asked → KeeperFault → List ℕ → Type 0
 IsFree (act command) fault text = HasFreeLine command fault × (text ≡ reply_line (RefusedReply fault))
+IsFree (ask query) fault text = IsFreeFault fault × (text ≡ reply_line (RefusedReply fault))
 IsFree (show listing) fault text = ⊥
 IsFree bad fault text = ⊥
 IsFree unended fault text = ⊥

@@ -19,6 +19,7 @@ Commands:
   %load nquads       load the lines up to %end, a document of N-Quads;
                      also %load ntriples and %load turtle
   %update            apply the lines up to %end, an update in SPARQL
+  %query             answer the lines up to %end, a query in SPARQL
   %print             print the quads
   %graphs            print the names of the graphs
   %undo, %redo       take back the last change, or make it again

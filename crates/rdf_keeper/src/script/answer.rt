@@ -1,7 +1,7 @@
 //! The answers to commands.
-ghost use Rattle.std.specs.Prelude.{◌≡◌, ◌++◌, ◌+◌, ◌≤◌, ◌∷◌, [], ℕ, List, length, IfOk, Ok, Err};
+ghost use Rattle.std.specs.Prelude.{◌≡◌, ◌++◌, ◌+◌, ◌≤◌, ◌∷◌, [], ℕ, List, length, IfOk, Ok, Err, is_err};
 ghost use Rattle.std.specs.List.{concat};
-ghost use Rattle.rdf_keeper.specs.Script.Answers.{Answers, count_line, is_refused, reply_line};
+ghost use Rattle.rdf_keeper.specs.Script.Answers.{Answers, count_line, is_refused, query_text, reply_line};
 ghost use Rattle.rdf_keeper.specs.Inside.Asks.{asked_of};
 ghost use Rattle.rdf_keeper.specs.Script.Listing.{Shows};
 ghost use Rattle.rdf_session.specs.Session.{Reply, reply_of, reply_of_mark, Done as DoneReply};
@@ -11,7 +11,7 @@ use crate::script::listing::{append_change, append_names};
 use crate::short_line::{append, append_place};
 use arrayvec::ArrayVec;
 use itoa::Buffer;
-use rdf_session::{Counts, Keeper, KeeperFault};
+use rdf_session::{Answer as QueryAnswer, Counts, Keeper, KeeperFault};
 use rdf_terms::NoMemory;
 use std::alloc::Global;
 
@@ -93,6 +93,20 @@ fn marked(alloc: Global, reply: Result<(), NoMemory>) -> Answer
     }
 }
 
+fn answered(alloc: Global, reply: Result<QueryAnswer, KeeperFault>) -> Answer
+    ensures bytes { result.payload.items ++ result.line.items ≡ query_text reply }
+    ensures refused { result.refused ≡ is_err reply }
+{
+    match reply {
+        Ok(answer) => Answer {
+            payload: answer.payload.into_vec(),
+            line: count_line(answer.rows),
+            refused: false,
+        },
+        Err(fault) => without_payload(alloc, Err(fault)),
+    }
+}
+
 // Appends the lines of what the session shows, and answers how many there are.
 fn append_listing(
     alloc: Global,
@@ -137,6 +151,7 @@ pub(crate) fn serve(alloc: Global, keeper: &mut Keeper, command: Command<'_>) ->
     match command {
         Command::Load(format, text) => without_payload(alloc, keeper.load(format, text)),
         Command::Update(text) => without_payload(alloc, keeper.update(text)),
+        Command::Query(text) => answered(alloc, keeper.query(text)),
         Command::Undo => without_payload(alloc, keeper.undo()),
         Command::Redo => without_payload(alloc, keeper.redo()),
         Command::Mark(name) => marked(alloc, keeper.mark(name)),

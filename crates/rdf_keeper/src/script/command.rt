@@ -24,6 +24,7 @@ pub enum Listing {
 pub(crate) enum Command<'a> {
     Load(Format, &'a [u8]),
     Update(&'a [u8]),
+    Query(&'a [u8]),
     Undo,
     Redo,
     Mark(&'a [u8]),

@@ -32,14 +32,15 @@ fn is_end(line: &[u8]) -> bool
     without_end(line) == b"%end".as_slice()
 }
 
-// What a body that has ended asks for. Queries aren't there yet.
+// What a body that has ended asks for.
 fn body_asks(body: Body, text: &[u8]) -> Command<'_>
     ensures { asked_of result ≡ body_asks body text.now }
 {
     match body {
         Body::Load(format) => Command::Load(format, text),
         Body::Update => Command::Update(text),
-        Body::Query | Body::Unknown => Command::Bad,
+        Body::Query => Command::Query(text),
+        Body::Unknown => Command::Bad,
     }
 }
 

@@ -11,6 +11,7 @@ use Rattle.rdf_turtle.specs.declared.fault.TurtleFaultKind.TheVariants as kind
 use Rattle.sparql_eval.specs.Operations.{steps}
 use Rattle.sparql_eval.specs.declared.fault.ApplyFault.{ApplyFault}
 use Rattle.sparql_eval.specs.declared.fault.ApplyFault.TheVariants as obstacle
+use Rattle.sparql_syntax.specs.Query as query
 use Rattle.sparql_syntax.specs.Update as update
 use Rattle.sparql_syntax.specs.declared.fault.SyntaxFault.{SyntaxFault}
 use Rattle.sparql_syntax.specs.declared.fault.SyntaxFaultKind.{SyntaxFaultKind}
@@ -64,7 +65,13 @@ TellsSyntaxFault base text (NoMemory _) = Unit {0}
 TellsSyntaxFault base text (Syntax fault) = update.IsFaulty base text fault
 TellsSyntaxFault base text _ = ⊥
 
--- the refusal that a fault of its syntax is, by its kind
+-- and that of a text of a query
+abbrev pub TellsQueryFault : Option (List ℕ) → List ℕ → KeeperFault → Type 0
+TellsQueryFault base text (NoMemory _) = Unit {0}
+TellsQueryFault base text (Syntax fault) = query.IsFaulty base text fault
+TellsQueryFault base text _ = ⊥
+
+-- the refusal that a fault of syntax is, by its kind
 abbrev pub syntax_refusal : SyntaxFault → SyntaxFaultKind → KeeperFault
 syntax_refusal fault syntax.NotUtf8 = Syntax fault
 syntax_refusal fault syntax.Token = Syntax fault
