@@ -18,7 +18,7 @@ fn sort_rows(rows: &mut Vec<Row>) -> Result<(), NoMemory>
 }
 
 // Rows that are the same as the one before them are left out.
-fn without_repeats(mut rows: Vec<Row>) -> Vec<Row>
+fn distinct_rows(mut rows: Vec<Row>) -> Vec<Row>
     ensures { result.items ≡ dedup (eq_by_cmp mapping_cmp) rows.items }
 {
     rows.dedup_by(|row, before| row.compare(before).is_eq());
@@ -33,7 +33,7 @@ pub(crate) fn ordered(mut rows: Vec<Row>, distinct: bool) -> Result<Vec<Row>, No
 {
     sort_rows(&mut rows)?;
     if distinct {
-        return Ok(without_repeats(rows));
+        return Ok(distinct_rows(rows));
     }
     Ok(rows)
 }

@@ -3,9 +3,9 @@ use Rattle.sparql_solve.proofs.order.ordered.Goals as goal
 
 pub returns-then-distinct : goal.returns-then-distinct
 returns-then-distinct c = record {
-  sorted = kept_sorted c.sort_rows.new.rows.items c.without_repeats.result.items c.in_ok-sort_rows.ensures.sorted c.without_repeats.ensures;
-  counted = ordered_once c.args.rows.items c.sort_rows.new.rows.items c.without_repeats.result.items c.args.distinct c.in_ok-sort_rows.ensures.permutation
-      c.in_ok-sort_rows.ensures.sorted c.without_repeats.ensures c.if-distinct.true;
+  sorted = kept_sorted c.sort_rows.new.rows.items c.distinct_rows.result.items c.in_ok-sort_rows.ensures.sorted c.distinct_rows.ensures;
+  counted = ordered_once c.args.rows.items c.sort_rows.new.rows.items c.distinct_rows.result.items c.args.distinct c.in_ok-sort_rows.ensures.permutation
+      c.in_ok-sort_rows.ensures.sorted c.distinct_rows.ensures c.if-distinct.true;
 }
 
 pub returns : goal.returns
