@@ -1,5 +1,5 @@
 -- A turn of each loop over groups and members, and GRAPH's two parts.
-use Rattle.std.proofs.Common.{◌≡◌, ◌∙◌, ap, refl, sym, subst, ℕ, suc, ◌+◌, ◌<◌, List, [], ◌∷◌, ◌++◌, map, drop, length, get_or, drop-cons, add-one, Option, Some, None}
+use Rattle.std.proofs.Common.{◌≡◌, ◌∙◌, ap, sym, subst, ℕ, suc, ◌+◌, ◌<◌, List, [], ◌∷◌, ◌++◌, map, drop, length, get_or, drop-cons, add-one, Some, None}
 use Rattle.rdf_grammar.specs.Prologue.{Prologue}
 use Rattle.rdf_grammar.specs.Steps.{Outcome, Step, and_then, ◌>>=◌, pure}
 use Rattle.rdf_grammar.specs.declared.prologue.PrologueFault.{PrologueFault}

@@ -1,5 +1,5 @@
 -- Each text says one thing: it is a query, or it has a fault.
-use Rattle.std.proofs.Common.{◌≡◌, ◌⊎◌, inl, inr, ℕ, Bool, true, false, cond, List, [], ◌∷◌, Option, Some, None, Result, Ok, Err, refl, sym, subst, ◌∙◌}
+use Rattle.std.proofs.Common.{◌≡◌, ◌⊎◌, inl, inr, ℕ, Bool, true, false, cond, List, [], ◌∷◌, Option, Some, None, Result, Ok, Err, refl, sym, subst}
 use Rattle.rdf_grammar.proofs.Decides.{some_pair}
 use Rattle.rdf_grammar.specs.declared.fault.GrammarFault.TheVariants.{Syntax}
 use Rattle.rdf_grammar.specs.Steps.{◌>>=◌, ◌>>◌, and_then, pure}

@@ -1,5 +1,5 @@
 -- What a reader of queries answers is what the text says.
-use Rattle.std.proofs.Common.{◌≡◌, ◌∙◌, inl, inr, ℕ, Bool, true, false, List, [], Option, Some, None, Result, Ok, Err, IsTrue, MatchResult, refl, ap}
+use Rattle.std.proofs.Common.{◌≡◌, ◌∙◌, inl, inr, ℕ, true, false, List, Option, Some, None, Result, Ok, Err, IsTrue, MatchResult, refl}
 use Rattle.std.specs.Str.{chars}
 use Rattle.rdf_grammar.specs.declared.prologue.PrologueFault.{PrologueFault}
 use Rattle.rdf_grammar.specs.declared.prologue.PrologueFault.TheVariants as name
@@ -19,10 +19,9 @@ use Rattle.sparql_queries.specs.Groups.{Labels}
 use Rattle.sparql_queries.specs.Known.{known_query}
 use Rattle.sparql_queries.specs.Queries.{query_in, IsFaultOf}
 use Rattle.sparql_syntax.specs.declared.fault.SyntaxFault.{SyntaxFault}
-use Rattle.sparql_syntax.specs.declared.fault.SyntaxFaultKind.{SyntaxFaultKind}
 use Rattle.sparql_syntax.specs.declared.fault.SyntaxFaultKind.TheVariants as fault
 use Rattle.sparql_syntax.specs.Phases.{HasTokens, TellsEarly}
-use Rattle.sparql_syntax.specs.Query.{HasTree, IsQuery, TellsFault, FaultIs, IsRefused, meaning, ruled}
+use Rattle.sparql_syntax.specs.Query.{HasTree, IsQuery, TellsFault, meaning, ruled}
 use Rattle.sparql_syntax.specs.QueryTold.{IsTold, IsRuleFault}
 use Rattle.sparql_syntax.specs.Told.{stop_fault, name_fault}
 use Rattle.sparql_trees.specs.declared.query.Query.{Query}

@@ -9,7 +9,7 @@ use Rattle.indexmap.specs.IndexSet.{insert_key}
 use Rattle.rdf_grammar.specs.Keys.{key_of, same_key}
 use Rattle.sparql_syntax.specs.declared.draft.Draft.{Draft}
 use Rattle.sparql_syntax.specs.declared.draft.Draft.TheVariants as draft
-use Rattle.sparql_syntax.specs.RuleLaws.{brings_label, HasSharedLabel, LabelsAreShared}
+use Rattle.sparql_syntax.specs.RuleLaws.{brings_label, LabelsAreShared}
 use Rattle.sparql_syntax.specs.Rules.{is_among, known_behind, reuses_label}
 
 abbrev Keys : Type 0

@@ -1,5 +1,5 @@
 -- What the bytes of a text say as a query (SPARQL 1.1 Query, section 19): a query, or a fault.
-use Rattle.std.specs.Prelude.{◌≡◌, ℕ, Bool, true, false, ◌||◌, List, [], ◌∷◌, Option, Some, None, Result, Ok, Err, if◌then◌else◌}
+use Rattle.std.specs.Prelude.{ℕ, Bool, false, ◌||◌, List, [], ◌∷◌, Option, Some, None, Result, Ok, Err, if◌then◌else◌}
 use Rattle.std.specs.List.{list_any}
 use Rattle.sparql_grammar.specs.declared.tree.Query as written
 use Rattle.sparql_grammar.specs.QueryGrammar as grammar

@@ -1,6 +1,6 @@
 -- Names that are put in at their places stay in order, and are just those that were put in.
-use Rattle.std.proofs.Common.{◌≡◌, ◌∙◌, ◌⊎◌, ap, refl, sym, subst, inl, inr, ℕ, zero, suc, ◌<◌, List, [], ◌∷◌, ◌++◌, length, get_or, Contains, ◌↔◌, arith}
-use Rattle.std.proofs.lemmas.List.Elements.{Contains-append_right, Contains-append_cases}
+use Rattle.std.proofs.Common.{◌≡◌, ◌∙◌, ◌⊎◌, ap, refl, sym, subst, inl, inr, ℕ, zero, suc, ◌<◌, List, [], ◌∷◌, length, Contains, ◌↔◌, arith}
+use Rattle.std.proofs.lemmas.List.Elements.{Contains-append_right}
 use Rattle.std.specs.declared.cmp.Ordering.{Ordering}
 use Rattle.std.specs.declared.cmp.Ordering.TheVariants.{Less, Equal, Greater}
 use Rattle.std.specs.Ordering.{match_ordering, ordering_reverse}
@@ -13,8 +13,7 @@ use Rattle.std.specs.List.Sorted.{IsStrictlySortedBy}
 use Rattle.rdf_terms.specs.Order.{text_cmp}
 use Rattle.rdf_terms.specs.OrderLaws.{text_cmp-IsAntisymmetric}
 use Rattle.sparql_trees.specs.Visible.{Names, names_in, visible, with_names}
-use Rattle.sparql_trees.specs.VisibleLaws.{AreVisible, VisibleAreSorted, OneVisible}
-use Rattle.sparql_trees.specs.declared.pattern.Pattern.{Pattern}
+use Rattle.sparql_trees.specs.VisibleLaws.{VisibleAreSorted, OneVisible}
 
 less_greater : Less ≡ Greater → ⊥
 less_greater e = cc
