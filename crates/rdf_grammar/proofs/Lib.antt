@@ -3,6 +3,7 @@ pub mod Combinators
 pub mod Decides
 pub mod Depths
 pub mod LexemeLemmas
+pub mod LiteralLemmas
 pub mod Nests
 pub mod ProductionNests
 pub mod Productions

@@ -1,6 +1,7 @@
 pub mod Derivations
 pub mod Keys
 pub mod Lexemes
+pub mod Literals
 pub mod Nesting
 pub mod Numbering
 pub mod ProductionLaws

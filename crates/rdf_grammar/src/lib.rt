@@ -11,6 +11,7 @@ mod key;
 mod laws;
 mod lexeme;
 mod lexeme_list;
+mod literals;
 mod names;
 mod numbering;
 mod parser;

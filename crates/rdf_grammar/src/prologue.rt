@@ -42,7 +42,7 @@ impl From<NoMemory> for PrologueFault {
 /// IRIs of names that were looked at are kept for the next time that they stand in the text.
 #[derive(Drop)]
 pub struct Prologue<'a> {
-    alloc: Global,
+    pub(crate) alloc: Global,
     base: Option<Iri>,
     prefixes: IndexMap<Key<'a>, Iri>,
     names: Names<'a>,

@@ -3,13 +3,13 @@ use Rattle.std.proofs.Common.{◌≡◌, ap, refl, sym, subst, ℕ, Bool, true, 
 use Rattle.std.specs.List.{list_any}
 use Rattle.std.specs.Map.{lookup}
 use Rattle.std.specs.Option.{option_map}
-use Rattle.std.specs.Str.{IsUtf8}
+use Rattle.std.specs.Str.{IsUtf8, encode_utf8_all}
 use Rattle.rdf_terms.specs.Iri.{has_scheme, has_forbidden, is_iri}
-use Rattle.rdf_terms.specs.Literal.{is_tag}
+use Rattle.rdf_terms.specs.Literal.{is_tag, tagged, xsd_string}
 use Rattle.rdf_terms.specs.Quad.{has_right_kinds}
 use Rattle.rdf_terms.specs.Rewriting as rewriting
 use Rattle.rdf_terms.specs.Term.{is_literal_term}
-use Rattle.rdf_terms.specs.Vocabulary.{rdf_first, rdf_rest, rdf_nil}
+use Rattle.rdf_terms.specs.Vocabulary.{rdf_first, rdf_rest, rdf_nil, xsd_integer, xsd_decimal, xsd_double, xsd_boolean}
 use Rattle.rdf_terms.specs.declared.term.Term.{Term}
 use Rattle.rdf_terms.specs.declared.term.Term.TheVariants as t
 use Rattle.rdf_terms.proofs.CleanLemmas.{resolved_iri}
@@ -23,11 +23,12 @@ use Rattle.rdf_grammar.specs.declared.tree.Literal.TheVariants as l
 use Rattle.rdf_turtle.specs.Bases.{lacks, lacks_name, lacks_verb, lacks_literal}
 use Rattle.rdf_tokens.specs.Forms.{IsLocal}
 use Rattle.rdf_grammar.specs.Keys.{key_of, same_key}
-use Rattle.rdf_turtle.specs.Known.{holds, known_verb, known_literal}
-use Rattle.rdf_turtle.specs.Meaning.{Meaning, Says, iri, verb, untagged, literal, object, objects, behind, list_term, list_inside}
+use Rattle.rdf_turtle.specs.Known.{holds, known_verb}
+use Rattle.rdf_turtle.specs.Meaning.{Meaning, Says, iri, verb, literal, object, objects, behind, list_term, list_inside}
+use Rattle.rdf_grammar.specs.Literals.{boolean_text, known_literal, literal_of, untagged}
 use Rattle.rdf_grammar.specs.Numbering as numbering
 use Rattle.rdf_grammar.specs.Numbering.{Numbering}
-use Rattle.rdf_grammar.specs.Prologue.{Prologue, knows, resolved, prefixed}
+use Rattle.rdf_grammar.specs.Prologue.{Prologue, iri_of, knows, resolved, prefixed}
 use Rattle.rdf_grammar.specs.References.{resolve}
 use Rattle.rdf_turtle.specs.State.{State, Does, told, blank, fresh, labelled, triple, says}
 use Rattle.rdf_grammar.specs.Steps.{Outcome, and_then, each}
@@ -160,15 +161,27 @@ module _ (based : Bool) (declared : List (List ℕ)) where
   verb_goes (v.Name name) form in_scope = weak_goes (lacks_name based name) (iri name) IsIri (iri_goes name form in_scope)
   verb_goes v.Type form in_scope = pure_goes _ Any tt
 
-  pub literal_goes : (w : Literal) → LiteralFormed w → known_literal declared w ≡ true → Goes (lacks_literal based w) Any (literal w)
+  name_finds : (name : Name) → NameFormed name → knows declared name ≡ true → (p : Prologue) → Holds based declared p → Finds (lacks_name based name) IsIri (iri_of name p)
+  name_finds (Full r) form in_scope = reference_finds r form
+  name_finds (Prefixed prefix local) form in_scope = prefixed_finds prefix local form in_scope
+
+  map_finds : {A B : Type 0} (b : Bool) (f : A → B) (P : A → Type 0) (o : Option A) → Finds b P o → Finds b Any (option_map f o)
+  map_finds true f P o h = ap (λ o. option_map f o) h
+  map_finds false f P o h = record { value = f h.value; is = ap (λ o. option_map f o) h.is; good = tt }
+
+  literal_finds : (w : Literal) → LiteralFormed w → known_literal declared w ≡ true → (p : Prologue) → Holds based declared p → Finds (lacks_literal based w) Any (literal_of w p)
+  unfolding literal_of
+  literal_finds (l.Plain text) form in_scope p h = record { value = untagged (text_value text) xsd_string; is = refl; good = tt }
+  literal_finds (l.Tagged text tag) form in_scope p h = record { value = tagged (text_value text) (tag_value tag); is = rw form refl; good = tt }
+  literal_finds (l.Typed text name) form in_scope p h = map_finds (lacks_name based name) (untagged (text_value text)) IsIri (iri_of name p) (name_finds name form in_scope p h)
+  literal_finds (l.Integer text) form in_scope p h = record { value = untagged (encode_utf8_all text) xsd_integer; is = refl; good = tt }
+  literal_finds (l.Decimal text) form in_scope p h = record { value = untagged (encode_utf8_all text) xsd_decimal; is = refl; good = tt }
+  literal_finds (l.Double text) form in_scope p h = record { value = untagged (encode_utf8_all text) xsd_double; is = refl; good = tt }
+  literal_finds (l.Boolean value word) form in_scope p h = record { value = untagged (boolean_text value) xsd_boolean; is = refl; good = tt }
+
+  pub literal_goes : (w : Literal) → LiteralFormed w → known_literal declared w ≡ true → Goes (lacks_literal based w) Any (λ s. and_then (literal w s) (λ a u. Some (t.Literal a, u)))
   unfolding literal
-  literal_goes (l.Plain text) form in_scope = pure_goes _ Any tt
-  literal_goes (l.Tagged text tag) form in_scope = rw form (pure_goes _ Any tt)
-  literal_goes (l.Typed text name) form in_scope = map_goes (lacks_name based name) (iri name) (untagged (text_value text)) IsIri Any (iri_goes name form in_scope) (λ a h. tt)
-  literal_goes (l.Integer text) form in_scope = pure_goes _ Any tt
-  literal_goes (l.Decimal text) form in_scope = pure_goes _ Any tt
-  literal_goes (l.Double text) form in_scope = pure_goes _ Any tt
-  literal_goes (l.Boolean value word) form in_scope = pure_goes _ Any tt
+  literal_goes w form in_scope = map_goes (lacks_literal based w) (told (literal_of w)) (λ a. t.Literal a) Any Any (told_goes (lacks_literal based w) (literal_of w) Any (literal_finds w form in_scope)) (λ a h. tt)
 
   -- ---- terms
 

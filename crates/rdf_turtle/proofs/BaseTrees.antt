@@ -21,11 +21,12 @@ use Rattle.rdf_turtle.specs.declared.tree.Property.{Property}
 use Rattle.rdf_turtle.specs.declared.tree.Statement.{Statement}
 use Rattle.rdf_turtle.specs.declared.tree.Statement.TheVariants as s
 use Rattle.rdf_turtle.specs.Bases.{lacks_name, lacks_literal, lacks_property_of, lacks_node_of, lacks_node, lacks_property}
-use Rattle.rdf_turtle.specs.Known.{holds, known_literal, known_property_of, known_node_of, known_node, known_property}
-use Rattle.rdf_turtle.specs.Meaning.{Meaning, Says, iri, literal, node_of, property_of, meaning, property, has_properties, is_some_property}
+use Rattle.rdf_grammar.specs.Literals.{known_literal, proper_literal}
+use Rattle.rdf_turtle.specs.Known.{holds, known_property_of, known_node_of, known_node, known_property}
+use Rattle.rdf_turtle.specs.Meaning.{Meaning, Says, iri, node_of, property_of, meaning, property, has_properties, is_some_property}
 use Rattle.rdf_grammar.specs.Keys.{key_of}
 use Rattle.rdf_grammar.specs.Prologue.{knows, is_proper}
-use Rattle.rdf_turtle.specs.Proper.{is_filled, proper_verb, proper_literal, proper_property_of, proper_node_of, proper_node, proper_property, is_literal, proper_statement}
+use Rattle.rdf_turtle.specs.Proper.{is_filled, proper_verb, proper_property_of, proper_node_of, proper_node, proper_property, is_literal, proper_statement}
 use Rattle.rdf_grammar.specs.Terminals.{Piece}
 use Rattle.rdf_turtle.specs.Reading as read
 use Rattle.rdf_grammar.specs.Derivations as grammar
@@ -186,7 +187,7 @@ literal_says x form based declared k =
         term_flag = lacks_literal based x;
         inside_flag = false;
         both = or-false (lacks_literal based x);
-        term = wide_goes based declared (lacks_literal based x) (literal x) Any (λ y. false ≡ true → NoLiteral y) (literal_goes based declared x form in_scope) (λ y h e. absurd (true≢false (sym e)));
+        term = wide_goes based declared (lacks_literal based x) _ Any (λ y. false ≡ true → NoLiteral y) (literal_goes based declared x form in_scope) (λ y h e. absurd (true≢false (sym e)));
         inside = λ y h. pure_goes based declared tt Any tt;
       }),
     )

@@ -4,7 +4,7 @@ use Rattle.std.specs.Prelude.{Ok, Err, ok_or}
 use Rattle.std.proofs.lemmas.Option.{same_Some}
 use Rattle.std.specs.List.{flat_map, AllByRecursion}
 use Rattle.std.specs.Option.{option_map}
-use Rattle.rdf_terms.specs.Literal.{LiteralParts, is_tag}
+use Rattle.rdf_terms.specs.Literal.{LiteralParts}
 use Rattle.rdf_terms.specs.Quad.{QuadParts}
 use Rattle.rdf_terms.specs.Vocabulary.{rdf_first, rdf_rest, rdf_nil}
 use Rattle.rdf_terms.specs.declared.term.Term.{Term}
@@ -14,7 +14,6 @@ use Rattle.rdf_grammar.specs.declared.tree.Name.{Name}
 use Rattle.rdf_turtle.specs.declared.tree.Verb.{Verb}
 use Rattle.rdf_turtle.specs.declared.tree.Verb.TheVariants as v
 use Rattle.rdf_grammar.specs.declared.tree.Literal.{Literal}
-use Rattle.rdf_grammar.specs.declared.tree.Literal.TheVariants as l
 use Rattle.rdf_turtle.specs.declared.tree.Node.{Node}
 use Rattle.rdf_turtle.specs.declared.tree.Node.TheOpen.{Node-F, Property-F}
 use Rattle.rdf_turtle.specs.declared.tree.Node.TheFolds.{fold-roll-Node, fold-roll-Property, map-Node, map-Property, ind-Node, ind-Property}
@@ -27,11 +26,11 @@ use Rattle.rdf_turtle.specs.Blanks.{BlankNumbersAreBelow, IsTriple}
 use Rattle.rdf_turtle.specs.Known.{declares_first}
 use Rattle.rdf_grammar.specs.Keys.{key_of}
 use Rattle.rdf_grammar.specs.Prologue.{Prologue, iri_of, resolved, declares, moves_base}
-use Rattle.rdf_tokens.specs.Values.{text_value, tag_value}
 use Rattle.rdf_grammar.specs.Steps.{Outcome, each, and_then}
 use Rattle.rdf_turtle.specs.State.{State, Does, start, told, declared, fresh, says}
 use Rattle.rdf_turtle.specs.Meaning.{Meaning, Says, iri, verb, literal, object, objects, behind, list_term, list_inside, is_some_property, node_of, property_of, meaning, property, properties, has_properties, statement, document, triples_of}
 use Rattle.rdf_turtle.proofs.ScopeSteps.{then_parts, Numbered, IsBelow, Said, wider, also, below_on, says_numbered, TermKeeps, fresh_keeps, labelled_keeps, Stays, stays_keeps}
+use Rattle.rdf_grammar.specs.Literals.{literal_of}
 
 -- ---- leaves
 
@@ -69,31 +68,17 @@ name_stays name s u x e =
 literal_apart : (w : LiteralParts) (n : ℕ) → t.Literal w ≡ t.Blank n → ⊥
 literal_apart w n e = cc
 
-written_stays : (w : LiteralParts) → Stays (λ s. Some (t.Literal w, s))
-written_stays w s u x e =
-    let same = same_Some _ _ e in (ap (λ q. q.1) same, apart (t.Literal w) x (ap (λ q. q.0) same) (literal_apart w))
-
-tagged_stays : (b : Bool) (w : LiteralParts) → Stays (if b then (λ s. Some (t.Literal w, s)) else (λ s. None))
-tagged_stays true w = written_stays w
-tagged_stays false w = λ s u x e. absurd (cc e)
-
-typed_stays : (text : List ℕ) (name : Name) → Stays (λ s. and_then (iri name s) (λ i u. Some (t.Literal (record { lexical = text; datatype = i; tag = None }), u)))
-typed_stays text name s u x e =
-    let p = then_parts (iri name s) _ (x, u) e in
-    let same = same_Some _ _ p.3 in (
-      iri_same name s p.1 p.0 p.2 ∙ ap (λ q. q.1) same,
-      apart (t.Literal (record { lexical = text; datatype = p.0; tag = None })) x (ap (λ q. q.0) same) (literal_apart _),
-    )
-
-literal_stays : (w : Literal) → Stays (literal w)
+literal_same : (w : Literal) (s u : State) (a : LiteralParts) → literal w s ≡ Some (a, u) → s ≡ u
 unfolding literal
-literal_stays (l.Plain text) = written_stays _
-literal_stays (l.Tagged text tag) = tagged_stays (is_tag (tag_value tag)) _
-literal_stays (l.Typed text name) = typed_stays (text_value text) name
-literal_stays (l.Integer text) = written_stays _
-literal_stays (l.Decimal text) = written_stays _
-literal_stays (l.Double text) = written_stays _
-literal_stays (l.Boolean value word) = written_stays _
+literal_same w s u a e = told_same (literal_of w) s u a e
+
+literal_stays : (w : Literal) → Stays (λ s. and_then (literal w s) (λ a u. Some (t.Literal a, u)))
+literal_stays w s u x e =
+    let p = then_parts (literal w s) _ (x, u) e in
+    let same = same_Some _ _ p.3 in (
+      literal_same w s p.1 p.0 p.2 ∙ ap (λ q. q.1) same,
+      apart (t.Literal p.0) x (ap (λ q. q.0) same) (literal_apart p.0),
+    )
 
 nil_stays : Stays (λ s. Some (t.Iri rdf_nil, s))
 nil_stays s u x e =

@@ -33,7 +33,8 @@ use Rattle.rdf_turtle.specs.declared.tree.Node.TheFolds.{fold-Node, fold-Propert
 use Rattle.rdf_turtle.specs.declared.tree.Property.{Property}
 use Rattle.rdf_turtle.specs.declared.tree.Statement.TheVariants as s
 use Rattle.rdf_terms.specs.Blanks.{blanks_in, blanks_in_graph, blanks_of}
-use Rattle.rdf_turtle.specs.Known.{known_verb, known_literal, known_property_of, known_node_of, known_node, known_property, known_statement, declares_first}
+use Rattle.rdf_grammar.specs.Literals.{known_literal, literal_of}
+use Rattle.rdf_turtle.specs.Known.{known_verb, known_property_of, known_node_of, known_node, known_property, known_statement, declares_first}
 use Rattle.rdf_turtle.specs.Meaning.{Meaning, Says, only, iri, verb, literal, object, node_of, property_of, meaning, property, statement, document, triples_of, answer}
 use Rattle.rdf_turtle.specs.Reading.{property_with}
 use Rattle.rdf_grammar.specs.Prologue.{resolved}
@@ -73,9 +74,12 @@ tag_is tag h = encodes-IsAscii tag (ascii_from tag (tag_low tag (tag_name tag h)
 abbrev literal_term : List ℕ → List ℕ → Option (List ℕ) → Term
 literal_term lexical datatype tag = t.Literal (record { lexical = lexical; datatype = datatype; tag = tag })
 
+abbrev literal_term_of : Literal → Does Term
+literal_term_of w = t.Literal <$> literal w
+
 tagged_goes : (lexical datatype tag : List ℕ) (st : State) → IsUtf8 lexical → tag_fits datatype (Some tag) ≡ true
-    → literal (l.Tagged (text_slice lexical) (tag_slice tag)) st ≡ Some (literal_term lexical datatype (Some tag), st)
-unfolding literal
+    → literal_term_of (l.Tagged (text_slice lexical) (tag_slice tag)) st ≡ Some (literal_term lexical datatype (Some tag), st)
+unfolding literal literal_of
 tagged_goes lexical datatype tag st u k =
     let p = tag_parts datatype tag k in
     let same : literal_term (text_value (text_slice lexical)) lang_string (Some (str_to_ascii_lowercase tag)) ≡ literal_term lexical datatype (Some tag) =
@@ -83,16 +87,16 @@ tagged_goes lexical datatype tag st u k =
     rw (tag_is tag p.1, p.1) (ap (λ (x : Term). Some (x, st)) same)
 
 datatype_goes : (b : Bool) (lexical datatype : List ℕ) (st : State) → IsUtf8 lexical → is_iri datatype ≡ true → pointwise nat_eq datatype xsd_string ≡ b
-    → literal (datatype_tree b lexical datatype) st ≡ Some (literal_term lexical datatype None, st)
-unfolding literal
+    → literal_term_of (datatype_tree b lexical datatype) st ≡ Some (literal_term lexical datatype None, st)
+unfolding literal literal_of resolved
 datatype_goes true lexical datatype st u h is =
     let same : literal_term (text_value (text_slice lexical)) xsd_string None ≡ literal_term lexical datatype None =
     λ i. literal_term (text_is lexical u i) (sym ((bytes_decides datatype xsd_string).0 is) i) None in
     ap (λ (x : Term). Some (x, st)) same
-datatype_goes false lexical datatype st u h is = rw (iri_goes datatype st h, text_is lexical u) refl
+datatype_goes false lexical datatype st u h is = rw (resolves st.prologue.base datatype h, text_is lexical u) refl
 
 literal_goes : (lexical datatype : List ℕ) (tag : Option (List ℕ)) (st : State) → IsUtf8 lexical → is_iri datatype ≡ true → tag_fits datatype tag ≡ true
-    → literal (literal_tree lexical datatype tag) st ≡ Some (literal_term lexical datatype tag, st)
+    → literal_term_of (literal_tree lexical datatype tag) st ≡ Some (literal_term lexical datatype tag, st)
 literal_goes lexical datatype (Some tag) st u h k = tagged_goes lexical datatype tag st u k
 literal_goes lexical datatype None st u h k = datatype_goes (pointwise nat_eq datatype xsd_string) lexical datatype st u h refl
 
@@ -114,7 +118,7 @@ module _ {A B : Type 0} (f : Node-F A B → A) (h : Property-F A B → B) where
 abbrev means : Term → Does Term
 means (t.Blank number) = labelled (key number)
 means (t.Iri i) = t.Iri <$> iri (Full (iri_slice i))
-means (t.Literal w) = literal (literal_tree w.lexical w.datatype w.tag)
+means (t.Literal w) = literal_term_of (literal_tree w.lexical w.datatype w.tag)
 
 node_means : (x : Term) → meaning (tree.node_of x) ≡ only (means x)
 node_means (t.Blank number) = by-Label node_of property_of (label_slice number)

@@ -4,8 +4,6 @@ use Rattle.std.specs.List.{list_all}
 use Rattle.indexmap.specs.IndexSet.{insert_key}
 use Rattle.rdf_turtle.specs.declared.tree.Verb.{Verb}
 use Rattle.rdf_turtle.specs.declared.tree.Verb.TheVariants as v
-use Rattle.rdf_grammar.specs.declared.tree.Literal.{Literal}
-use Rattle.rdf_grammar.specs.declared.tree.Literal.TheVariants as l
 use Rattle.rdf_turtle.specs.declared.tree.Node.{Node}
 use Rattle.rdf_turtle.specs.declared.tree.Node.TheOpen.{Node-F, Property-F}
 use Rattle.rdf_turtle.specs.declared.tree.Node.TheFolds.{fold-Node, fold-Property}
@@ -13,6 +11,7 @@ use Rattle.rdf_turtle.specs.declared.tree.Property.{Property}
 use Rattle.rdf_turtle.specs.declared.tree.Statement.{Statement}
 use Rattle.rdf_turtle.specs.declared.tree.Statement.TheVariants as s
 use Rattle.rdf_grammar.specs.Keys.{key_of, same_key}
+use Rattle.rdf_grammar.specs.Literals.{known_literal}
 use Rattle.rdf_grammar.specs.Prologue.{knows}
 
 abbrev pub holds : Bool → Bool
@@ -28,10 +27,6 @@ module _ (declared : List (List ℕ)) where
   known_verb (v.Name name) = knows declared name
   known_verb v.Type = true
 
-  abbrev pub known_literal : Literal → Bool
-  known_literal (l.Typed text name) = knows declared name
-  known_literal _ = true
-
   abbrev pub known_property_of : Property-F Bool Bool → Bool
   known_property_of p = known_verb p.verb && list_all holds p.objects
 
@@ -40,7 +35,7 @@ module _ (declared : List (List ℕ)) where
   known_node_of (Node-F.Label label) = true
   known_node_of (Node-F.Blank properties) = list_all holds properties
   known_node_of (Node-F.Collection items) = list_all holds items
-  known_node_of (Node-F.Literal l) = known_literal l
+  known_node_of (Node-F.Literal l) = known_literal declared l
 
   abbrev pub known_node : Node → Bool
   known_node = fold-Node Bool Bool known_node_of known_property_of

@@ -1,17 +1,15 @@
 -- The triples of a document: the tree is gone through as it stands in the text (Turtle 1.1, section 7.2 and 7.3).
-use Rattle.std.specs.Prelude.{ℕ, Bool, true, false, List, [], ◌∷◌, Option, None, map, Result, Err, if◌then◌else◌, ok_or, codes}
+use Rattle.std.specs.Prelude.{ℕ, Bool, true, false, List, [], ◌∷◌, Option, map, Result, Err, if◌then◌else◌, ok_or}
 use Rattle.std.specs.Option.{option_map}
-use Rattle.std.specs.Str.{encode_utf8_all}
-use Rattle.rdf_terms.specs.Literal.{xsd_string, is_tag, tagged}
+use Rattle.rdf_terms.specs.Literal.{LiteralParts}
 use Rattle.rdf_terms.specs.Quad.{QuadParts}
-use Rattle.rdf_terms.specs.Vocabulary.{rdf_type, rdf_first, rdf_rest, rdf_nil, xsd_integer, xsd_decimal, xsd_double, xsd_boolean}
+use Rattle.rdf_terms.specs.Vocabulary.{rdf_type, rdf_first, rdf_rest, rdf_nil}
 use Rattle.rdf_terms.specs.declared.term.Term.{Term}
 use Rattle.rdf_terms.specs.declared.term.Term.TheVariants as t
 use Rattle.rdf_grammar.specs.declared.tree.Name.{Name}
 use Rattle.rdf_turtle.specs.declared.tree.Verb.{Verb}
 use Rattle.rdf_turtle.specs.declared.tree.Verb.TheVariants as v
 use Rattle.rdf_grammar.specs.declared.tree.Literal.{Literal}
-use Rattle.rdf_grammar.specs.declared.tree.Literal.TheVariants as l
 use Rattle.rdf_turtle.specs.declared.tree.Node.{Node}
 use Rattle.rdf_turtle.specs.declared.tree.Node.TheOpen.{Node-F, Property-F}
 use Rattle.rdf_turtle.specs.declared.tree.Node.TheFolds.{fold-Node, fold-Property}
@@ -22,8 +20,8 @@ use Rattle.rdf_turtle.specs.declared.fault.TurtleFaultKind.{TurtleFaultKind}
 use Rattle.rdf_turtle.specs.declared.fault.TurtleFaultKind.TheVariants.{UnknownPrefix, Relative}
 use Rattle.rdf_turtle.specs.Known.{declares_first}
 use Rattle.rdf_grammar.specs.Keys.{key_of}
+use Rattle.rdf_grammar.specs.Literals.{literal_of}
 use Rattle.rdf_grammar.specs.Prologue.{iri_of, resolved, declares, moves_base}
-use Rattle.rdf_tokens.specs.Values.{text_value, tag_value}
 use Rattle.rdf_grammar.specs.Steps.{◌>>=◌, ◌>>◌, ◌<$>◌, pure, none, each}
 use Rattle.rdf_turtle.specs.State.{Does, start, told, declared, fresh, labelled, says}
 
@@ -37,23 +35,8 @@ unfoldable pub verb : Verb → Does (List ℕ)
 verb (v.Name name) = iri name
 verb v.Type = pure rdf_type
 
-abbrev pub untagged : List ℕ → List ℕ → Term
-untagged lexical datatype = t.Literal (record { lexical = lexical; datatype = datatype; tag = None })
-
-abbrev pub boolean_text : Bool → List ℕ
-boolean_text true = codes "true"
-boolean_text false = codes "false"
-
--- numbers keep their text (Turtle 1.1, section 2.5)
-unfoldable pub literal : Literal → Does Term
-literal (l.Plain text) = pure (untagged (text_value text) xsd_string)
-literal (l.Tagged text tag) =
-    if is_tag (tag_value tag) then pure (t.Literal (tagged (text_value text) (tag_value tag))) else none
-literal (l.Typed text name) = untagged (text_value text) <$> iri name
-literal (l.Integer text) = pure (untagged (encode_utf8_all text) xsd_integer)
-literal (l.Decimal text) = pure (untagged (encode_utf8_all text) xsd_decimal)
-literal (l.Double text) = pure (untagged (encode_utf8_all text) xsd_double)
-literal (l.Boolean value word) = pure (untagged (boolean_text value) xsd_boolean)
+unfoldable pub literal : Literal → Does LiteralParts
+literal w = told (literal_of w)
 
 -- ---- nodes
 
@@ -116,7 +99,7 @@ node_of (Node-F.Name name) = only (t.Iri <$> iri name)
 node_of (Node-F.Label label) = only (labelled (key_of label))
 node_of (Node-F.Blank properties) = record { term = fresh; inside = λ blank. each (λ p. p blank) properties; alone = is_some_property properties }
 node_of (Node-F.Collection items) = collection items
-node_of (Node-F.Literal l) = only (literal l)
+node_of (Node-F.Literal l) = only (t.Literal <$> literal l)
 
 abbrev pub meaning : Node → Meaning
 meaning = fold-Node Meaning Says node_of property_of

@@ -1,11 +1,8 @@
 -- What each tree of the grammar is: its names, tags and verbs are whole, and no literal is a subject (Turtle 1.1, section 6.5).
 use Rattle.std.specs.Prelude.{Bool, true, false, ◌&&◌, not, List, [], ◌∷◌, map}
 use Rattle.std.specs.List.{list_all}
-use Rattle.rdf_terms.specs.Literal.{is_tag}
 use Rattle.rdf_turtle.specs.declared.tree.Verb.{Verb}
 use Rattle.rdf_turtle.specs.declared.tree.Verb.TheVariants as v
-use Rattle.rdf_grammar.specs.declared.tree.Literal.{Literal}
-use Rattle.rdf_grammar.specs.declared.tree.Literal.TheVariants as l
 use Rattle.rdf_turtle.specs.declared.tree.Node.{Node}
 use Rattle.rdf_turtle.specs.declared.tree.Node.TheVariants as n
 use Rattle.rdf_turtle.specs.declared.tree.Node.TheOpen.{Node-F, Property-F}
@@ -15,17 +12,12 @@ use Rattle.rdf_turtle.specs.declared.tree.Statement.{Statement}
 use Rattle.rdf_turtle.specs.declared.tree.Statement.TheVariants as s
 use Rattle.rdf_turtle.specs.Known.{holds}
 use Rattle.rdf_turtle.specs.Meaning.{meaning, has_properties}
+use Rattle.rdf_grammar.specs.Literals.{proper_literal}
 use Rattle.rdf_grammar.specs.Prologue.{is_proper}
-use Rattle.rdf_tokens.specs.Values.{tag_value}
 
 abbrev pub proper_verb : Verb → Bool
 proper_verb (v.Name name) = is_proper name
 proper_verb v.Type = true
-
-abbrev pub proper_literal : Literal → Bool
-proper_literal (l.Tagged text tag) = is_tag (tag_value tag)
-proper_literal (l.Typed text name) = is_proper name
-proper_literal _ = true
 
 abbrev pub is_filled : {A : Type 0} → List A → Bool
 is_filled [] = false

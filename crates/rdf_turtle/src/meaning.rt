@@ -2,7 +2,6 @@
 ghost use Rattle.std.specs.Prelude.{◌≡◌, ◌+◌, ◌≤◌, [], false, length, IfOk, OnOk, MatchResult, IsTrue, Ok, map};
 ghost use Rattle.std.specs.List.{list_all};
 ghost use Rattle.std.specs.Option.{option_copied};
-ghost use Rattle.std.specs.Str.{encode_utf8_all};
 ghost use Rattle.rdf_terms.specs.Term.{is_literal_term};
 ghost use Rattle.rdf_turtle.specs.Blanks.{BlankNumbersAreBelow};
 ghost use Rattle.rdf_turtle.specs.Kept.{Gives, IsFaultOf};
@@ -15,28 +14,10 @@ ghost use Rattle.rdf_turtle.specs.Room.{HasRoom, TakesAtMost};
 
 use crate::known::first_unknown;
 use crate::scope::Scope;
-use crate::tree::{Literal as Written, Node, Property, Statement, Verb};
+use crate::tree::{Node, Property, Statement, Verb};
 use rdf_grammar::PrologueFault;
-use rdf_terms::{Iri, Literal, NoMemory, Quad, Term, Text};
-use rdf_tokens::{Slice, tag_value, text_value};
+use rdf_terms::{Iri, NoMemory, Quad, Term};
 use std::alloc::Global;
-
-fn boolean_text(alloc: Global, value: bool) -> Result<Text, NoMemory>
-    ensures { IfOk result (λ text. text ≡ spec.boolean_text value) }
-{
-    if value {
-        Text::new(alloc, "true")
-    } else {
-        Text::new(alloc, "false")
-    }
-}
-
-// The text as it is written.
-fn as_written(alloc: Global, slice: &Slice<'_>) -> Result<Text, NoMemory>
-    ensures { IfOk result (λ text. text ≡ encode_utf8_all slice.now) }
-{
-    Text::new(alloc, slice.as_str())
-}
 
 /// An equal base.
 pub(crate) fn copied(base: Option<&Iri>) -> Result<Option<Iri>, NoMemory>
@@ -62,39 +43,6 @@ impl<'a> Scope<'a> {
         }
     }
 
-    #[tactic(auto, unfolding(crate::specs::Meaning::literal))]
-    fn literal(&mut self, literal: &Written<'a>) -> Result<Term, PrologueFault>
-        requires known { IsTrue (known.known_literal (declared self.old.prologue) literal.now) }
-        requires proper { IsTrue (proper.proper_literal literal.now) }
-        ensures gives { Gives (spec.literal literal.now self.old) result self.new }
-        ensures same { self.new ≡ self.old }
-    {
-        let word = &self.vocabulary;
-        let (text, datatype) = match literal {
-            Written::Plain(text) => (text_value(self.alloc, text)?, word.xsd_string().copy()?),
-            Written::Tagged(text, tag) => {
-                let text = text_value(self.alloc, text)?;
-                let tagged = Literal::tagged_from_text(self.alloc, text, tag_value(tag))?;
-                let Some(tagged) = tagged else { unreachable!() };
-                return Ok(Term::Literal(tagged));
-            }
-            Written::Typed(text, name) => {
-                let datatype = self.iri(name)?;
-                (text_value(self.alloc, text)?, datatype)
-            }
-            Written::Integer(text) => (as_written(self.alloc, text)?, word.xsd_integer().copy()?),
-            Written::Decimal(text) => (as_written(self.alloc, text)?, word.xsd_decimal().copy()?),
-            Written::Double(text) => (as_written(self.alloc, text)?, word.xsd_double().copy()?),
-            Written::Boolean(value, _) => {
-                (
-                    boolean_text(self.alloc, *value)?,
-                    word.xsd_boolean().copy()?,
-                )
-            }
-        };
-        Ok(Term::Literal(Literal::from_text(text, datatype)))
-    }
-
     // The term that a node stands for.
     fn term(&mut self, node: &Node<'a>) -> Result<Term, PrologueFault>
         requires known { IsTrue (known.known_node (declared self.old.prologue) node.now) }
@@ -114,7 +62,7 @@ impl<'a> Scope<'a> {
                 [] => Ok(Term::Iri(self.vocabulary.rdf_nil().copy()?)),
                 [_, ..] => Ok(self.fresh()),
             },
-            Node::Literal(literal) => self.literal(literal),
+            Node::Literal(literal) => Ok(Term::Literal(self.literal(literal)?)),
         }
     }
 

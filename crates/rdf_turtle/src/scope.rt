@@ -4,14 +4,15 @@ ghost use Rattle.rdf_terms.specs.Term.{is_literal_term};
 ghost use Rattle.rdf_grammar.specs.Keys.{key_of};
 ghost use Rattle.rdf_turtle.specs.Kept.{Gives};
 ghost use Rattle.rdf_turtle.specs.Meaning as meaning;
+ghost use Rattle.rdf_grammar.specs.Literals.{known_literal, proper_literal};
 ghost use Rattle.rdf_grammar.specs.Prologue as prologue;
 ghost use Rattle.rdf_grammar.specs.Prologue.{declared, knows, is_proper};
 ghost use Rattle.rdf_turtle.specs.Room.{HasRoom, TakesAtMost};
 ghost use Rattle.rdf_turtle.specs.State as state;
 
-use crate::tree::Name;
+use crate::tree::{Literal as Written, Name};
 use rdf_grammar::{Numbering, Prologue, PrologueFault};
-use rdf_terms::{GraphName, Iri, NoMemory, Quad, Term, Vocabulary};
+use rdf_terms::{GraphName, Iri, Literal, NoMemory, Quad, Term, Vocabulary};
 use rdf_tokens::Slice;
 use std::alloc::Global;
 use std::marker::Model;
@@ -118,6 +119,17 @@ impl<'a> Scope<'a> {
         ensures same { self.new ≡ self.old }
     {
         self.prologue.iri(name)
+    }
+
+    /// What a literal stands for.
+    #[tactic(auto, unfolding(crate::specs::Meaning::literal))]
+    pub(crate) fn literal(&mut self, literal: &Written<'a>) -> Result<Literal, PrologueFault>
+        requires known { IsTrue (known_literal (declared self.old.prologue) literal.now) }
+        requires proper { IsTrue (proper_literal literal.now) }
+        ensures gives { Gives (meaning.literal literal.now self.old) result self.new }
+        ensures same { self.new ≡ self.old }
+    {
+        self.prologue.literal(&self.vocabulary, literal)
     }
 
     /// The IRI of a reference.

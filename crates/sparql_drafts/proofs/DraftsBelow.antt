@@ -4,15 +4,14 @@ use Rattle.std.proofs.lemmas.Option.{same_Some}
 use Rattle.std.proofs.lemmas.List.Elements.{Contains-append_left, Contains-append_right}
 use Rattle.std.specs.List.{flat_map, AllByRecursion}
 use Rattle.std.specs.Option.{option_map}
-use Rattle.rdf_terms.specs.Literal.{LiteralParts, is_tag}
+use Rattle.rdf_terms.specs.Literal.{LiteralParts}
 use Rattle.rdf_terms.specs.declared.term.Term.{Term}
 use Rattle.rdf_terms.specs.declared.term.Term.TheVariants as t
 use Rattle.rdf_terms.specs.Vocabulary.{rdf_nil}
-use Rattle.rdf_tokens.specs.Values.{text_value, tag_value}
 use Rattle.rdf_grammar.specs.Prologue.{Prologue, iri_of}
 use Rattle.rdf_grammar.specs.Steps.{Outcome, each, and_then}
 use Rattle.rdf_grammar.specs.declared.tree.Literal.{Literal}
-use Rattle.rdf_grammar.specs.declared.tree.Literal.TheVariants as l
+use Rattle.rdf_grammar.specs.Literals.{literal_of}
 use Rattle.rdf_grammar.specs.declared.tree.Name.{Name}
 use Rattle.sparql_grammar.specs.Proper.{is_filled, stands_alone, stands_alone_of}
 use Rattle.sparql_grammar.specs.declared.tree.Block.{Block}
@@ -93,51 +92,16 @@ name_stays name s u b e =
       apart (x.Term (t.Iri p.0)) b (ap (λ q. q.0) same) (iri_apart p.0),
     )
 
--- a step that gives a literal and leaves the state
-abbrev Writes : Does Term → Type 0
-Writes f = (s u : State) (a : Term) → f s ≡ Some (a, u) → (s ≡ u) × ((k : ℕ) → a ≡ t.Blank k → ⊥)
-
-not_blank : (a b : Term) → a ≡ b → ((k : ℕ) → a ≡ t.Blank k → ⊥) → (k : ℕ) → b ≡ t.Blank k → ⊥
-not_blank a b e h = λ k z. h k (e ∙ z)
-
-no_blank : (a : LiteralParts) (k : ℕ) → t.Literal a ≡ t.Blank k → ⊥
-no_blank a k e = cc
-
-written_is : (a : LiteralParts) → Writes (λ s. Some (t.Literal a, s))
-written_is a s u b e = let same = same_Some _ _ e in (ap (λ q. q.1) same, not_blank (t.Literal a) b (ap (λ q. q.0) same) (no_blank a))
-
-tagged_is : (b : Bool) (a : LiteralParts) → Writes (if b then (λ s. Some (t.Literal a, s)) else (λ s. None))
-tagged_is true a = written_is a
-tagged_is false a = λ s u b e. absurd (cc e)
-
-typed_is : (text : List ℕ) (name : Name) → Writes (λ s. and_then (iri name s) (λ a u. Some (t.Literal (record { lexical = text; datatype = a; tag = None }), u)))
-typed_is text name s u b e =
-    let p = then_parts (iri name s) _ (b, u) e in
-    let same = same_Some _ _ p.3 in (
-      iri_same name s p.1 p.0 p.2 ∙ ap (λ q. q.1) same,
-      not_blank (t.Literal (record { lexical = text; datatype = p.0; tag = None })) b (ap (λ q. q.0) same) (no_blank _),
-    )
-
-literal_is : (word : Literal) → Writes (literal word)
+literal_same : (w : Literal) (s u : State) (a : LiteralParts) → literal w s ≡ Some (a, u) → s ≡ u
 unfolding literal
-literal_is (l.Plain text) = written_is _
-literal_is (l.Tagged text tag) = tagged_is (is_tag (tag_value tag)) _
-literal_is (l.Typed text name) = typed_is (text_value text) name
-literal_is (l.Integer text) = written_is _
-literal_is (l.Decimal text) = written_is _
-literal_is (l.Double text) = written_is _
-literal_is (l.Boolean value word) = written_is _
+literal_same w s u a e = told_same (literal_of w) s u a e
 
-term_inside : (a b : Term) → x.Term a ≡ x.Term b → a ≡ b
-term_inside a b e = cc
-
-literal_stays : (word : Literal) → Stays (λ s. and_then (literal word s) (λ a u. Some (x.Term a, u)))
-literal_stays word s u b e =
-    let p = then_parts (literal word s) _ (b, u) e in
-    let same = same_Some _ _ p.3 in
-    let is = literal_is word s p.1 p.0 p.2 in (
-      is.0 ∙ ap (λ q. q.1) same,
-      apart (x.Term p.0) b (ap (λ q. q.0) same) (λ k z. is.1 k (term_inside p.0 (t.Blank k) z)),
+literal_stays : (w : Literal) → Stays (λ s. and_then (literal w s) (λ a u. Some (x.Term (t.Literal a), u)))
+literal_stays w s u b e =
+    let p = then_parts (literal w s) _ (b, u) e in
+    let same = same_Some _ _ p.3 in (
+      literal_same w s p.1 p.0 p.2 ∙ ap (λ q. q.1) same,
+      apart (x.Term (t.Literal p.0)) b (ap (λ q. q.0) same) (literal_apart p.0),
     )
 
 -- ---- nodes and properties

@@ -3,9 +3,8 @@ use Rattle.std.specs.Prelude.{ℕ, Bool, true, false, ◌&&◌, List, map, Optio
 use Rattle.std.specs.List.{list_all}
 use Rattle.indexmap.specs.IndexSet.{insert_key}
 use Rattle.rdf_grammar.specs.Keys.{key_of, same_key}
+use Rattle.rdf_grammar.specs.Literals.{known_literal}
 use Rattle.rdf_grammar.specs.Prologue.{knows}
-use Rattle.rdf_grammar.specs.declared.tree.Literal.{Literal}
-use Rattle.rdf_grammar.specs.declared.tree.Literal.TheVariants as l
 use Rattle.sparql_grammar.specs.Proper.{holds}
 use Rattle.sparql_grammar.specs.declared.tree.Block.{Block}
 use Rattle.sparql_grammar.specs.declared.tree.Declaration.{Declaration}
@@ -31,17 +30,13 @@ module _ (declared : List (List ℕ)) where
   known_verb (v.Name name) = knows declared name
   known_verb v.Type = true
 
-  abbrev pub known_literal : Literal → Bool
-  known_literal (l.Typed text name) = knows declared name
-  known_literal _ = true
-
   abbrev pub known_property_of : Property-F Bool Bool → Bool
   known_property_of p = known_verb p.verb && list_all holds p.objects
 
   abbrev pub known_node_of : Node-F Bool Bool → Bool
   known_node_of (Node-F.Variable name) = true
   known_node_of (Node-F.Name name) = knows declared name
-  known_node_of (Node-F.Literal l) = known_literal l
+  known_node_of (Node-F.Literal l) = known_literal declared l
   known_node_of (Node-F.Label label) = true
   known_node_of (Node-F.Blank bracket properties) = list_all holds properties
   known_node_of (Node-F.Collection bracket items) = list_all holds items

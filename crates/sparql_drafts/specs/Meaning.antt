@@ -1,18 +1,16 @@
 -- What triples and declarations say: the tree is gone through as it stands in the text, names get their IRIs and blank nodes their numbers
 -- (SPARQL 1.1 Query, sections 4.1 and 4.2).
-use Rattle.std.specs.Prelude.{ℕ, Bool, true, false, ◌||◌, List, [], ◌∷◌, Option, Some, None, map, if◌then◌else◌, codes}
+use Rattle.std.specs.Prelude.{ℕ, ◌||◌, List, [], ◌∷◌, Option, Some, None, map, if◌then◌else◌}
 use Rattle.std.specs.Option.{option_map}
-use Rattle.std.specs.Str.{encode_utf8_all}
-use Rattle.rdf_terms.specs.Literal.{xsd_string, is_tag, tagged}
-use Rattle.rdf_terms.specs.Vocabulary.{rdf_type, rdf_first, rdf_rest, rdf_nil, xsd_integer, xsd_decimal, xsd_double, xsd_boolean}
+use Rattle.rdf_terms.specs.Literal.{LiteralParts}
+use Rattle.rdf_terms.specs.Vocabulary.{rdf_type, rdf_first, rdf_rest, rdf_nil}
 use Rattle.rdf_terms.specs.declared.term.Term.{Term}
 use Rattle.rdf_terms.specs.declared.term.Term.TheVariants as t
-use Rattle.rdf_tokens.specs.Values.{text_value, tag_value}
 use Rattle.rdf_grammar.specs.Keys.{key_of}
+use Rattle.rdf_grammar.specs.Literals.{literal_of}
 use Rattle.rdf_grammar.specs.Prologue.{Prologue, iri_of, resolved, declares, moves_base}
 use Rattle.rdf_grammar.specs.Steps.{Step, ◌>>=◌, ◌>>◌, ◌<$>◌, pure, none, each}
 use Rattle.rdf_grammar.specs.declared.tree.Literal.{Literal}
-use Rattle.rdf_grammar.specs.declared.tree.Literal.TheVariants as l
 use Rattle.rdf_grammar.specs.declared.tree.Name.{Name}
 use Rattle.sparql_grammar.specs.Proper.{is_filled, stands_alone}
 use Rattle.sparql_grammar.specs.declared.tree.Block.{Block}
@@ -49,23 +47,8 @@ unfoldable pub var_or_iri : written_name.VarOrIri → Does VarOrIri
 var_or_iri (n.Variable name) = pure (i.Variable name)
 var_or_iri (n.Name name) = i.Iri <$> iri name
 
-abbrev pub untagged : List ℕ → List ℕ → Term
-untagged lexical datatype = t.Literal (record { lexical = lexical; datatype = datatype; tag = None })
-
-abbrev pub boolean_text : Bool → List ℕ
-boolean_text true = codes "true"
-boolean_text false = codes "false"
-
--- numbers keep their text (SPARQL 1.1 Query, section 4.1.2)
-unfoldable pub literal : Literal → Does Term
-literal (l.Plain text) = pure (untagged (text_value text) xsd_string)
-literal (l.Tagged text tag) =
-    if is_tag (tag_value tag) then pure (t.Literal (tagged (text_value text) (tag_value tag))) else none
-literal (l.Typed text name) = untagged (text_value text) <$> iri name
-literal (l.Integer text) = pure (untagged (encode_utf8_all text) xsd_integer)
-literal (l.Decimal text) = pure (untagged (encode_utf8_all text) xsd_decimal)
-literal (l.Double text) = pure (untagged (encode_utf8_all text) xsd_double)
-literal (l.Boolean value word) = pure (untagged (boolean_text value) xsd_boolean)
+unfoldable pub literal : Literal → Does LiteralParts
+literal w = told (literal_of w)
 
 -- ---- nodes
 
@@ -136,7 +119,7 @@ property_of p = λ subject. verb p.verb >>= (λ predicate. objects subject predi
 abbrev pub node_of : Node-F Meaning Says → Meaning
 node_of (Node-F.Variable name) = only (pure (x.Variable name))
 node_of (Node-F.Name name) = only ((λ iri. x.Term (t.Iri iri)) <$> iri name)
-node_of (Node-F.Literal l) = only (x.Term <$> literal l)
+node_of (Node-F.Literal l) = only ((λ w. x.Term (t.Literal w)) <$> literal l)
 node_of (Node-F.Label label) = only (labelled label)
 node_of (Node-F.Blank bracket properties) =
     record { term = fresh; inside = λ blank. each (λ p. p blank) properties }

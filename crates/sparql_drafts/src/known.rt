@@ -1,6 +1,7 @@
 //! Whether prefixes are declared before they are used.
 ghost use Rattle.std.specs.Prelude.{◌≡◌, ◌&&◌, OnOk, map};
 ghost use Rattle.std.specs.List.{list_all};
+ghost use Rattle.rdf_grammar.specs.Literals.{known_literal};
 ghost use Rattle.rdf_grammar.specs.Prologue.{knows};
 ghost use Rattle.sparql_grammar.specs.Proper.{holds};
 ghost use Rattle.sparql_drafts.specs.Known as spec;
@@ -39,7 +40,7 @@ fn unknown_verb<'a>(declared: &IndexSet<Key<'a>>, verb: &Verb<'a>) -> Option<usi
 }
 
 fn unknown_literal<'a>(declared: &IndexSet<Key<'a>>, literal: &Literal<'a>) -> Option<usize>
-    ensures { is_none result ≡ spec.known_literal declared.now.keys literal.now }
+    ensures { is_none result ≡ known_literal declared.now.keys literal.now }
 {
     match literal {
         Literal::Typed(_, name) => unknown_name(declared, name),

@@ -1,7 +1,6 @@
 //! What triples say.
 ghost use Rattle.std.specs.Prelude.{◌≡◌, true, drop, length, IfOk, OnOk, IsTrue, map};
 ghost use Rattle.std.specs.List.{list_all};
-ghost use Rattle.std.specs.Str.{encode_utf8_all};
 ghost use Rattle.rdf_grammar.specs.Prologue.{declared};
 ghost use Rattle.rdf_grammar.specs.Steps.{each};
 ghost use Rattle.sparql_grammar.specs.Proper as proper;
@@ -14,29 +13,10 @@ ghost use Rattle.sparql_drafts.specs.Room.{HasRoom, TakesAtMost, SaysAtLeast, Is
 use crate::draft::{Quads, VarOrIri, VarOrTerm};
 use crate::scope::Scope;
 use rdf_grammar::PrologueFault;
-use rdf_terms::{Literal, NoMemory, Term, Text};
-use rdf_tokens::{Slice, tag_value, text_value};
+use rdf_terms::{NoMemory, Term};
 use sparql_grammar::{
-    Block, Literal as Written, Name, Node, Property, Triples, VarOrIri as WrittenName, Verb,
+    Block, Literal as Written, Node, Property, Triples, VarOrIri as WrittenName, Verb,
 };
-use std::alloc::Global;
-
-fn boolean_text(alloc: Global, value: bool) -> Result<Text, NoMemory>
-    ensures { IfOk result (λ text. text ≡ spec.boolean_text value) }
-{
-    if value {
-        Text::new(alloc, "true")
-    } else {
-        Text::new(alloc, "false")
-    }
-}
-
-// The text as it is written.
-fn as_written(alloc: Global, slice: &Slice<'_>) -> Result<Text, NoMemory>
-    ensures { IfOk result (λ text. text ≡ encode_utf8_all slice.now) }
-{
-    Text::new(alloc, slice.as_str())
-}
 
 // Where a literal starts.
 fn start_of_literal(literal: &Written<'_>) -> usize {
@@ -90,39 +70,6 @@ impl<'a> Scope<'a> {
         }
     }
 
-    #[tactic(auto, unfolding(crate::specs::Meaning::literal))]
-    fn literal(&mut self, literal: &Written<'a>) -> Result<Term, PrologueFault>
-        requires known { IsTrue (known.known_literal (declared self.old.prologue) literal.now) }
-        requires proper { IsTrue (proper.proper_literal literal.now) }
-        ensures gives { Gives (spec.literal literal.now self.old) result self.new }
-        ensures same { self.new ≡ self.old }
-    {
-        let word = &self.vocabulary;
-        let (text, datatype) = match literal {
-            Written::Plain(text) => (text_value(self.alloc, text)?, word.xsd_string().copy()?),
-            Written::Tagged(text, tag) => {
-                let text = text_value(self.alloc, text)?;
-                let tagged = Literal::tagged_from_text(self.alloc, text, tag_value(tag))?;
-                let Some(tagged) = tagged else { unreachable!() };
-                return Ok(Term::Literal(tagged));
-            }
-            Written::Typed(text, name) => {
-                let datatype = self.iri(name)?;
-                (text_value(self.alloc, text)?, datatype)
-            }
-            Written::Integer(text) => (as_written(self.alloc, text)?, word.xsd_integer().copy()?),
-            Written::Decimal(text) => (as_written(self.alloc, text)?, word.xsd_decimal().copy()?),
-            Written::Double(text) => (as_written(self.alloc, text)?, word.xsd_double().copy()?),
-            Written::Boolean(value, _) => {
-                (
-                    boolean_text(self.alloc, *value)?,
-                    word.xsd_boolean().copy()?,
-                )
-            }
-        };
-        Ok(Term::Literal(Literal::from_text(text, datatype)))
-    }
-
     // What a node stands for.
     fn term(&mut self, node: &Node<'a>) -> Result<VarOrTerm<'a>, PrologueFault>
         requires known { IsTrue (known.known_node (declared self.old.prologue) node.now) }
@@ -139,7 +86,7 @@ impl<'a> Scope<'a> {
                 Ok(VarOrTerm::Variable(name.fork()))
             }
             Node::Name(name) => Ok(VarOrTerm::Term(Term::Iri(self.iri(name)?))),
-            Node::Literal(literal) => Ok(VarOrTerm::Term(self.literal(literal)?)),
+            Node::Literal(literal) => Ok(VarOrTerm::Term(Term::Literal(self.literal(literal)?))),
             Node::Label(label) => {
                 self.mark_blank(label.start());
                 Ok(self.labelled(label)?)

@@ -1,5 +1,6 @@
 //! The state in which declarations and triples are read.
 ghost use Rattle.std.specs.Prelude.{◌≡◌, ◌+◌, ◌≤◌, length, Some, IfOk, OnOk, OnErr, IsTrue};
+ghost use Rattle.rdf_grammar.specs.Literals.{known_literal, proper_literal};
 ghost use Rattle.rdf_grammar.specs.Prologue as prologue;
 ghost use Rattle.rdf_grammar.specs.Prologue.{declared, knows, is_proper};
 ghost use Rattle.sparql_drafts.specs.Kept.{Gives, Tells};
@@ -9,8 +10,8 @@ ghost use Rattle.sparql_drafts.specs.Room.{HasRoom, TakesAtMost, SaysAtLeast, lo
 ghost use Rattle.sparql_drafts.specs.State as state;
 
 use crate::draft::{Place, QuadPattern, Quads, VarOrIri, VarOrTerm};
-use rdf_grammar::{Name, Numbering, Prologue, PrologueFault};
-use rdf_terms::{Iri, Items, NoMemory, Term, Vocabulary};
+use rdf_grammar::{Literal as Written, Name, Numbering, Prologue, PrologueFault};
+use rdf_terms::{Iri, Items, Literal, NoMemory, Term, Vocabulary};
 use rdf_tokens::Slice;
 use sparql_grammar::Declaration;
 use std::alloc::Global;
@@ -279,6 +280,17 @@ impl<'a> Scope<'a> {
         ensures same { self.new ≡ self.old }
     {
         self.prologue.iri(name)
+    }
+
+    /// What a literal stands for.
+    #[tactic(auto, unfolding(crate::specs::Meaning::literal))]
+    pub(crate) fn literal(&mut self, literal: &Written<'a>) -> Result<Literal, PrologueFault>
+        requires known { IsTrue (known_literal (declared self.old.prologue) literal.now) }
+        requires proper { IsTrue (proper_literal literal.now) }
+        ensures gives { Gives (meaning.literal literal.now self.old) result self.new }
+        ensures same { self.new ≡ self.old }
+    {
+        self.prologue.literal(&self.vocabulary, literal)
     }
 
     /// The IRI of a reference.

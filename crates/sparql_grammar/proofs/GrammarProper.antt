@@ -25,7 +25,8 @@ use Rattle.sparql_grammar.specs.declared.tree.Verb.{Verb}
 use Rattle.sparql_grammar.specs.declared.tree.Verb.TheVariants as v
 use Rattle.sparql_grammar.specs.Formed.{AllFormed}
 use Rattle.sparql_grammar.specs.Lexemes.{Lexemes, Derives}
-use Rattle.sparql_grammar.specs.Proper.{holds, is_filled, stands_alone, proper_verb, proper_literal, proper_node_of, proper_property_of, proper_node, proper_property, proper_triples, proper_var_or_iri}
+use Rattle.rdf_grammar.specs.Literals.{proper_literal}
+use Rattle.sparql_grammar.specs.Proper.{holds, is_filled, stands_alone, proper_verb, proper_node_of, proper_property_of, proper_node, proper_property, proper_triples, proper_var_or_iri}
 use Rattle.sparql_grammar.specs.Terminals.{word}
 use Rattle.sparql_grammar.specs.WordGrammar as words
 use Rattle.sparql_grammar.specs.Reading as read

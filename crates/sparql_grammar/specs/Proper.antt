@@ -2,11 +2,8 @@
 -- Query, section 19.8).
 use Rattle.std.specs.Prelude.{Bool, true, false, ◌&&◌, ◌||◌, List, [], ◌∷◌, map, Option, Some, None}
 use Rattle.std.specs.List.{list_all}
-use Rattle.rdf_terms.specs.Literal.{is_tag}
-use Rattle.rdf_tokens.specs.Values.{tag_value}
+use Rattle.rdf_grammar.specs.Literals.{proper_literal}
 use Rattle.rdf_grammar.specs.Prologue.{is_proper}
-use Rattle.rdf_grammar.specs.declared.tree.Literal.{Literal}
-use Rattle.rdf_grammar.specs.declared.tree.Literal.TheVariants as l
 use Rattle.sparql_grammar.specs.declared.tree.Block.{Block}
 use Rattle.sparql_grammar.specs.declared.tree.Columns.{Columns}
 use Rattle.sparql_grammar.specs.declared.tree.Columns.TheVariants as c
@@ -46,11 +43,6 @@ abbrev pub proper_verb : Verb → Bool
 proper_verb (v.Variable name) = true
 proper_verb (v.Name name) = is_proper name
 proper_verb v.Type = true
-
-abbrev pub proper_literal : Literal → Bool
-proper_literal (l.Tagged text tag) = is_tag (tag_value tag)
-proper_literal (l.Typed text name) = is_proper name
-proper_literal _ = true
 
 -- a verb has one object or more
 abbrev pub proper_property_of : Property-F Bool Bool → Bool
