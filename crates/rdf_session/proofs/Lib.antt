@@ -8,6 +8,7 @@ mod MarkLemmas
 mod NetLemmas
 mod OneQueryLemmas
 mod OneReplyLemmas
+mod QueryLemmas
 mod RefusalLemmas
 mod StandingLemmas
 mod UndoRedoLemmas
