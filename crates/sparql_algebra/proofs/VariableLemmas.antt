@@ -12,7 +12,6 @@ use Rattle.std.specs.declared.cmp.Ordering.TheVariants.{Less, Equal, Greater}
 use Rattle.std.proofs.lemmas.Map.Keys.{sorted_head, sorted_tail}
 use Rattle.rdf_terms.specs.Order.{text_cmp}
 use Rattle.sparql_trees.specs.Visible.{Names, names_in, with_names, visible}
-use Rattle.sparql_trees.specs.declared.pattern.Pattern.{Pattern}
 use Rattle.sparql_algebra.specs.Laws.{VariablesInOrder, VariablesAreAll}
 use Rattle.sparql_algebra.proofs.TruthLemmas.{or_false, or_assoc}
 
