@@ -1,5 +1,7 @@
-//! Tests that query a dataset as a host does. It has no code of its own.
+//! Tests that read queries and ask a dataset as a host does. It has no code of its own.
 #![tactic(auto)]
 
 #[cfg(test)]
-mod queries;
+mod readings;
+#[cfg(test)]
+mod solutions;

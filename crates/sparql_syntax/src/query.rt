@@ -49,7 +49,7 @@ fn read_tree<'a>(alloc: Global, text: &'a str) -> Result<Tree<'a>, SyntaxFault>
 }
 
 // Where a label stands in one of these lists that stood in one before it.
-fn first_repeated<'a>(alloc: Global, lists: &[Items<Slice<'a>>]) -> Result<Option<usize>, NoMemory>
+fn first_reused<'a>(alloc: Global, lists: &[Items<Slice<'a>>]) -> Result<Option<usize>, NoMemory>
     ensures { IfOk result (λ start. is_some start ≡ spec.repeats_label [] lists.now) }
 {
     let mut known = IndexSet::new(alloc);
@@ -67,7 +67,7 @@ fn query_of(alloc: Global, text: &str, said: Said<'_>) -> Result<Query, SyntaxFa
     ensures { let answer = spec.ruled (Some (said.entry.query, said.entry.labels)) in
         MatchResult result (λ query. answer ≡ Ok query) (λ fault. IsRuleFault answer fault) }
 {
-    if let Some(start) = first_repeated(alloc, said.labels.as_slice())? {
+    if let Some(start) = first_reused(alloc, said.labels.as_slice())? {
         let kind = SyntaxFaultKind::BlankReused;
         return Err(fault_at(text.as_bytes(), kind, start));
     }
