@@ -5,7 +5,7 @@
     query_texts.py prefixes    each prefix of some queries, and of one with a byte that is no text behind it: it is refused by a
                                fault that has a name, and the whole query is answered
     query_texts.py members     groups of 10,000 members: groups, OPTIONALs, GRAPHs, parts of a UNION
-    query_texts.py triples     basic graph patterns of 2,000 triple patterns, and 2,000 columns
+    query_texts.py triples     basic graph patterns of 2,000 triple patterns, over a chain of as many nodes and round a ring, and 2,000 columns
 """
 import sys
 from pathlib import Path
@@ -87,15 +87,17 @@ def members():
 def triples():
     many = 2_000
     chain = [f"<http://e/{i}> {P} <http://e/{i + 1}>" for i in range(many)]
-    path = f"<http://e/0> {P} ?v1 . " + " . ".join(f"?v{i} {P} ?v{i + 1}" for i in range(1, many))
+    ring = [f"<http://e/{i}> {Q} <http://e/{(i + 1) % 3}>" for i in range(3)]
+    path = f"<http://e/0> {Q} ?v1 . " + " . ".join(f"?v{i} {Q} ?v{i + 1}" for i in range(1, many))
     names = sorted(f"v{i}" for i in range(1, many + 1))
+    nodes = [f"<http://e/{int(name[1:]) % 3}>" for name in names]
     write_queries(
-        chain,
+        chain + ring,
         [
             ("ASK { " + " . ".join(chain) + " }", "true\nok 1"),
             ("ASK { " + " . ".join(chain + [chain[0][:-1] + "x>"]) + " }", "false\nok 1"),
-            (f"SELECT ?v{many} {{ {path} }}", f"?v{many}\n<http://e/{many}>\nok 1"),
-            (f"SELECT * {{ {path} }}", "\t".join("?" + name for name in names) + "\n" + "\t".join(f"<http://e/{name[1:]}>" for name in names) + "\nok 1"),
+            (f"SELECT ?v{many} {{ {path} }}", f"?v{many}\n<http://e/{many % 3}>\nok 1"),
+            (f"SELECT * {{ {path} }}", "\t".join("?" + name for name in names) + "\n" + "\t".join(nodes) + "\nok 1"),
         ],
     )
 
