@@ -9,6 +9,7 @@
 #![tactic(auto)]
 
 mod conversions;
+mod queries;
 mod retry;
 mod script;
 mod sessions;
@@ -29,6 +30,7 @@ fn main(rt: HostRuntime) -> io::Result<()> {
     println!(rt; "{}", terms::outcome(alloc))?;
     println!(rt; "{}", sessions::outcome(alloc))?;
     println!(rt; "{}", updates::outcome(alloc))?;
+    println!(rt; "{}", queries::outcome(alloc))?;
     println!(rt; "{}", script::outcome(alloc))?;
     println!(rt; "{}", conversions::outcome(alloc))?;
     println!(rt; "then memory is given {} times", given(alloc))

@@ -1,4 +1,4 @@
-//! Calls that only read a session, made again where they are refused.
+//! Calls that only read a session, made again where they are refused, and what they show.
 use rdf_dataset::Net;
 use rdf_keeper::Keeper;
 use rdf_terms::Term;
@@ -30,4 +30,29 @@ pub fn changes(keeper: &Keeper) -> Option<Net> {
         Ok(net) => Some(net),
         Err(_) => keeper.changes().ok(),
     }
+}
+
+/// Whether the quads as text are the lines.
+pub fn is_shown(alloc: Global, keeper: &Keeper, lines: &[u8]) -> bool {
+    match shown(alloc, keeper) {
+        Some(text) => text.as_slice() == lines,
+        None => false,
+    }
+}
+
+/// Whether the graph names are IRIs of the texts, in their order.
+pub fn are_names(keeper: &Keeper, wanted: &[&str]) -> bool {
+    let Some(names) = names(keeper) else {
+        return false;
+    };
+    if names.len() != wanted.len() {
+        return false;
+    }
+    for (name, text) in names.iter().zip(wanted) {
+        match name {
+            Term::Iri(iri) if iri.as_str() == *text => {}
+            _ => return false,
+        }
+    }
+    true
 }

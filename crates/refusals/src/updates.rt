@@ -1,8 +1,7 @@
 //! An update of three operations on a session that has a base, an entry ahead of the cursor and two
 //! marks. What the session shows is known before the update and behind it.
-use crate::retry::{changes, names, shown};
+use crate::retry::{are_names, changes, is_shown};
 use rdf_keeper::{Counts, Format, Keeper, KeeperFault};
-use rdf_terms::Term;
 use std::alloc::Global;
 
 const START: &[u8] = b"<a:s> <a:p> \"0\" .\n_:b <a:p> \"1\" <a:g> .\n";
@@ -118,29 +117,6 @@ fn is_behind(alloc: Global, keeper: &mut Keeper) -> bool {
         && is_shown(alloc, keeper, BEHIND)
         && are_names(keeper, &["a:g", "a:h", "http://e/g"])
         && is_net(keeper, 5, 1)
-}
-
-fn is_shown(alloc: Global, keeper: &Keeper, lines: &[u8]) -> bool {
-    match shown(alloc, keeper) {
-        Some(text) => text.as_slice() == lines,
-        None => false,
-    }
-}
-
-fn are_names(keeper: &Keeper, wanted: &[&str]) -> bool {
-    let Some(names) = names(keeper) else {
-        return false;
-    };
-    if names.len() != wanted.len() {
-        return false;
-    }
-    for (name, text) in names.iter().zip(wanted) {
-        match name {
-            Term::Iri(iri) if iri.as_str() == *text => {}
-            _ => return false,
-        }
-    }
-    true
 }
 
 fn is_net(keeper: &Keeper, added: usize, removed: usize) -> bool {
