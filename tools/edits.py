@@ -12,6 +12,10 @@ WAITS = "its goals wait for a callee's proof"
 Function = collections.namedtuple("Function", "file first opens last names alone key")
 
 
+def module_of(crate, file):
+    return "::".join([crate, *(it for it in file[4:-3].split("/") if it not in ("lib", "mod"))])
+
+
 def is_whole(lines):
     """Whether each bracket that these lines open is closed: a `;` inside a record of a clause ends no declaration."""
     text = "".join(lines)
@@ -20,7 +24,7 @@ def is_whole(lines):
 
 def functions_of(crate, file, text):
     """The functions of a file in rt fmt's layout, their lines from 0. `names` are patterns of what a check calls them, most exact first."""
-    lines, module, found = text.split("\n"), "::".join([crate, *(it for it in file[4:-3].split("/") if it not in ("lib", "mod"))]), []
+    lines, module, found = text.split("\n"), module_of(crate, file), []
     for at, line in enumerate(lines):
         head = HEAD.match(line)
         if not head:
@@ -78,6 +82,34 @@ class Edit:
             self.functions += [it for it in inside if it not in self.functions]
             if not inside or is_head:
                 self.why = self.why or f"{file}:{at + 1} is in no function's body: say the same wrong thing in a body"
+
+
+def without_body(lines, function):
+    """The lines of a file without a function's body, which only says that it is never reached. Each other line keeps its number."""
+    indent = re.match(" *", lines[function.opens])[0]
+    body = [f"{indent}    unreachable!()"] + [""] * (function.last - function.opens - 2)
+    return lines[: function.opens + 1] + body + lines[function.last :]
+
+
+def plain_names(crate, texts, functions):
+    """What a check is bound to call those functions whose names say it: a method stands in the module that declares its type."""
+    types = {}
+    for file, text in texts.items():
+        for name in re.findall(r"(?m)^(?:pub(?:\([^)]*\))? )?(?:struct|enum) (\w+)", text):
+            types.setdefault(name, []).append(module_of(crate, file))
+    found = set()
+    for names in {tuple(names) for it in functions for names in it.names}:
+        if names and "*" not in names[0]:
+            owner, name = names[0].split("::")[-2:] if len(names) > 1 else ("", "")
+            kind = max((it for it in types if owner.startswith(it)), key=len, default="")
+            found |= {names[0]} if len(names) == 1 else {f"{types[kind][0]}::{owner}::{name}"} if len(types.get(kind, ())) == 1 else set()
+    return found
+
+
+def has_its_body_left_out(function, lines):
+    """Whether nothing but its own proof can see the function's body: what a `const fn` says is computed, and what an `impl` stands for is seen."""
+    head = " ".join(lines[function.first : function.opens + 1])
+    return not function.alone and function.last - function.opens >= 2 and lines[function.opens].endswith("{") and "-> impl" not in head
 
 
 def complaint(said):

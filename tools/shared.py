@@ -33,14 +33,15 @@ def linked(source, to):
 
 
 @contextlib.contextmanager
-def copy_of(root, below):
-    """A copy of a crate and of those below it, over what is kept of each, for as long as it is used. `below` has the crate's name last."""
+def copy_of(root, below, own=KEPT, lower=KEPT):
+    """A copy of a crate and of those below it, over what is kept of each, for as long as it is used. `below` has the crate's name last; `own` and `lower`
+    say what is taken of all that is kept of it and of the others."""
     with tempfile.TemporaryDirectory(prefix="rdfkeep-") as at:
         pathlib.Path(at, "crates.txt").write_text("".join(f"{it}: {' '.join(rows_of(root)[it])}\n" for it in below))
         for crate in below:
             source, to = root / "crates" / crate, pathlib.Path(at, "crates", crate)
             to.mkdir(parents=True)
-            for part in ("src", "specs", "proofs", *KEPT):
+            for part in ("src", "specs", "proofs", *(own if crate == below[-1] else lower)):
                 if (source / part).is_dir():
                     shutil.copytree(source / part, to / part, copy_function=linked if part in KEPT else shutil.copy2)
         yield pathlib.Path(at, "crates", below[-1])

@@ -6,8 +6,8 @@ use rdf_dataset::{Dataset, Staged};
 use rdf_terms::{GraphName, Iri, Items, Literal, Quad, Term, Text};
 use sparql_eval::{apply, ask, select, solve};
 use sparql_trees::{
-    BasicGraphPattern, Data, Member, Operation, Pattern, Request, Select, TriplePattern, VarOrIri,
-    VarOrTerm,
+    BasicGraphPattern, Data, Expression, Member, Operation, Pattern, Request, Select,
+    TriplePattern, VarOrIri, VarOrTerm,
 };
 use std::alloc::Global;
 
@@ -75,7 +75,8 @@ fn group(alloc: Global, member: Option<Member>) -> Option<Pattern> {
     if let Some(member) = member {
         members.push(member).ok()?;
     }
-    Some(Pattern { members })
+    let filters = Items::new(alloc);
+    Some(Pattern { members, filters })
 }
 
 // `{ { ?s <a:p> ?o } UNION { ?s <a:q> ?o } }`
@@ -176,4 +177,22 @@ fn empty_group_has_one_solution(rt: HostRuntime) {
     let view = Staged::over(alloc, &dataset);
     assert!(rt; asked(alloc, &view, group(alloc, None)) == Some((true, 1)));
     assert!(rt; asked(alloc, &view, graphs(alloc)) == Some((false, 0)));
+}
+
+// `{ ?s <a:p> ?o FILTER(bound(?..)) }`
+fn bound(alloc: Global, variable: &str) -> Option<Pattern> {
+    let mut pattern = facts(alloc, "a:p", false)?;
+    let filter = Expression::Bound(name(alloc, variable)?);
+    pattern.filters.push(filter).ok()?;
+    Some(pattern)
+}
+
+#[test]
+fn filters_leave_solutions_out(rt: HostRuntime) {
+    let alloc = rt.alloc();
+    let dataset = Dataset::new(alloc);
+    let mut view = Staged::over(alloc, &dataset);
+    assert!(rt; insert(alloc, &mut view, "a:p", "1").is_some());
+    assert!(rt; asked(alloc, &view, bound(alloc, "o")) == Some((true, 1)));
+    assert!(rt; asked(alloc, &view, bound(alloc, "x")) == Some((false, 0)));
 }

@@ -8,7 +8,7 @@ use Rattle.std.specs.List.{AllByRecursion}
 use Rattle.std.specs.List.Sorted.{IsStrictlySortedBy}
 use Rattle.std.specs.FinSet.{IsAntisymmetric}
 use Rattle.std.proofs.lemmas.List.{take-append-drop}
-use Rattle.rdf_dataset.specs.Places.{IsFoundAt, IsGapAt}
+use Rattle.rdf_dataset.specs.Inside.Places.{IsFoundAt, IsGapAt}
 use Rattle.rdf_dataset.proofs.SortedLemmas.{Below, all_map, all_join, rising_head, rising_right, turned_less}
 
 pub all_more : {X : Type 0} (P : X → Type 0) (xs : List X) (i : ℕ) (d : X) → i < length xs → AllByRecursion P (take i xs) → P (get_or xs i d) → AllByRecursion P (take (i + 1) xs)

@@ -16,8 +16,8 @@ use Rattle.std.proofs.lemmas.Map.Keys.{Less-from_sorted}
 use Rattle.std.proofs.lemmas.List.{take-append-drop, append_assoc}
 use Rattle.std.specs.FinSet as set
 use Rattle.std.specs.FinSet.{contains, from_list, IsAntisymmetric, same_set, contains-from_list, contains-insert, contains-remove, contains-union, contains-difference, contains-empty, len-empty, len-insert}
-use Rattle.rdf_dataset.specs.Places.{IsFoundAt, IsGapAt}
-use Rattle.rdf_dataset.specs.Merging.{PopsGreatest, IsMerging}
+use Rattle.rdf_dataset.specs.Inside.Places.{IsFoundAt, IsGapAt}
+use Rattle.rdf_dataset.specs.Inside.Merging.{PopsGreatest, IsMerging}
 use Rattle.rdf_dataset.specs.Sorted.{ListsOnce, ListsSorted}
 
 -- ---- a fact of each item

@@ -1,8 +1,6 @@
-pub mod Delta
 pub mod Insertion
+pub mod Inside
 pub mod Laws
-pub mod Merging
-pub mod Places
 pub mod Sorted
 pub mod Staging
 pub mod State

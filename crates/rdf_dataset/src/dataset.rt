@@ -1,7 +1,7 @@
 //! A dataset as sorted lists.
 ghost use Rattle.std.specs.Prelude.{◌≡◌, ◌≤◌, [], IsOk, OnOk, OnErr};
 ghost use Rattle.std.specs.FinSet as set;
-ghost use Rattle.rdf_dataset.specs.Delta.{Leads};
+ghost use Rattle.rdf_dataset.specs.Inside.Delta.{Leads};
 ghost use Rattle.rdf_dataset.specs.Sorted.{ListsSorted};
 ghost use Rattle.rdf_dataset.specs.State.{State, IsSound, Begins, Ends, net_between, empty_state, last_number};
 

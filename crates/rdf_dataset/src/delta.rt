@@ -1,7 +1,7 @@
 //! What was added to a set and what was removed from it, as sorted lists.
 ghost use Rattle.std.specs.Prelude.{◌≡◌, IfOk};
 ghost use Rattle.std.specs.FinSet as set;
-ghost use Rattle.rdf_dataset.specs.Delta.{IsDelta};
+ghost use Rattle.rdf_dataset.specs.Inside.Delta.{IsDelta};
 
 use crate::item::Item;
 use crate::sorted::Sorted;

@@ -4,7 +4,7 @@ ghost use Rattle.std.specs.Prelude.{◌≡◌, ◌≤◌, ◌+◌, length, optio
 ghost use Rattle.std.specs.FinSet as set;
 ghost use Rattle.rdf_dataset.specs.Sorted.{ListsOnce};
 ghost use Rattle.rdf_terms.specs.Order.{term_cmp};
-ghost use Rattle.rdf_dataset.specs.Delta.{IsDelta};
+ghost use Rattle.rdf_dataset.specs.Inside.Delta.{IsDelta};
 ghost use Rattle.rdf_dataset.specs.State.{State, Names, Quads, IsKnownGraph, matches, net_between, with_quad, without_quad, with_name, without_name};
 
 use crate::listing::append_matching_of;

@@ -4,8 +4,8 @@ ghost use Rattle.std.specs.FinSet as set;
 ghost use Rattle.std.specs.List.{AllByRecursion};
 ghost use Rattle.std.specs.List.Sorted.{IsStrictlySortedBy};
 ghost use Rattle.std.specs.declared.cmp.Ordering.TheVariants.{Less};
-ghost use Rattle.rdf_dataset.specs.Places.{IsFoundAt, IsGapAt};
-ghost use Rattle.rdf_dataset.specs.Merging.{PopsGreatest};
+ghost use Rattle.rdf_dataset.specs.Inside.Places.{IsFoundAt, IsGapAt};
+ghost use Rattle.rdf_dataset.specs.Inside.Merging.{PopsGreatest};
 ghost use Rattle.rdf_dataset.specs.Sorted.{ListsSorted};
 
 use crate::item::Item;

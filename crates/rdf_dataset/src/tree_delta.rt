@@ -1,7 +1,7 @@
 //! What was added to a set and what was removed from it, while that changes.
 ghost use Rattle.std.specs.Prelude.{◌≡◌, not, IfOk, OnOk, OnErr};
 ghost use Rattle.std.specs.FinSet as set;
-ghost use Rattle.rdf_dataset.specs.Delta.{IsDelta};
+ghost use Rattle.rdf_dataset.specs.Inside.Delta.{IsDelta};
 
 use crate::delta::Delta;
 use crate::item::Item;

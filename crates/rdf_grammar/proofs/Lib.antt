@@ -2,6 +2,7 @@
 pub mod Combinators
 pub mod Decides
 pub mod Depths
+pub mod KeyEntries
 pub mod LexemeLemmas
 pub mod LiteralLemmas
 pub mod Nests

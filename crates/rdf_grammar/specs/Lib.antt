@@ -15,4 +15,3 @@ pub mod References
 pub mod Steps
 pub mod Terminals
 pub mod Words
-pub mod formers

@@ -1,9 +1,8 @@
 //! What the grammars of Turtle and SPARQL share: tokens as terminals, a cursor over them, readings
-//! and derivations with the bridge between the two, the depth of brackets, boxes for trees, the
-//! prologue with the IRIs of names, and the numbers of blank nodes.
+//! and derivations with the bridge between the two, the depth of brackets, the prologue
+//! with the IRIs of names, and the numbers of blank nodes.
 #![tactic(auto)]
 
-mod boxed;
 mod bracket;
 mod depth;
 mod fault;
@@ -21,7 +20,6 @@ mod terminal;
 mod tree;
 mod word;
 
-pub use boxed::Boxed;
 pub use bracket::Bracket;
 pub use depth::{MAX_OPEN, too_deep};
 pub use fault::GrammarFault;

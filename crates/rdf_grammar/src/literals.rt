@@ -1,12 +1,14 @@
 //! What literals stand for.
-ghost use Rattle.std.specs.Prelude.{◌≡◌, Some, IfOk, IfErr, IsTrue};
+ghost use Rattle.std.specs.Prelude.{◌≡◌, true, Some, IfOk, IfErr, IsTrue};
 ghost use Rattle.std.specs.Str.{encode_utf8_all};
+ghost use Rattle.rdf_terms.specs.Literal.{is_tag, tagged};
+ghost use Rattle.rdf_tokens.specs.Values.{text_value, tag_value};
 ghost use Rattle.rdf_grammar.specs.Literals as spec;
 ghost use Rattle.rdf_grammar.specs.Literals.{ExplainsLiteral};
 
 use crate::prologue::{Prologue, PrologueFault};
 use crate::tree::Literal as Written;
-use rdf_terms::{Literal, NoMemory, Text, Vocabulary};
+use rdf_terms::{Iri, Literal, NoMemory, Text, Vocabulary};
 use rdf_tokens::{Slice, tag_value, text_value};
 use std::alloc::Global;
 
@@ -27,6 +29,54 @@ fn as_written(alloc: Global, slice: &Slice<'_>) -> Result<Text, NoMemory>
     Text::new(alloc, slice.as_str())
 }
 
+// The literal of what a string stands for, with this datatype.
+fn quoted(alloc: Global, string: &Slice<'_>, datatype: Iri) -> Result<Literal, NoMemory>
+    ensures { let text = text_value string.now in
+        IfOk result (λ literal. literal ≡ spec.untagged text datatype) }
+{
+    let text = text_value(alloc, string)?;
+    Ok(Literal::from_text(text, datatype))
+}
+
+// The literal of what a string stands for, with the tag behind it.
+fn tagged(alloc: Global, string: &Slice<'_>, tag: &Slice<'_>) -> Result<Literal, NoMemory>
+    requires { is_tag (tag_value tag.now) ≡ true }
+    ensures { let text = text_value string.now in
+        IfOk result (λ literal. literal ≡ tagged text (tag_value tag.now)) }
+{
+    let lexical = text_value(alloc, string)?;
+    let Some(literal) = Literal::tagged_from_text(alloc, lexical, tag_value(tag))? else {
+        unreachable!()
+    };
+    Ok(literal)
+}
+
+// The literal of a text, with this datatype.
+fn untagged(text: Text, datatype: &Iri) -> Result<Literal, NoMemory>
+    ensures { IfOk result (λ literal. literal ≡ spec.untagged text datatype.now) }
+{
+    let datatype = datatype.copy()?;
+    Ok(Literal::from_text(text, datatype))
+}
+
+// The literal of a number as it is written, with this datatype.
+fn number(alloc: Global, number: &Slice<'_>, datatype: &Iri) -> Result<Literal, NoMemory>
+    ensures { let text = encode_utf8_all number.now in
+        IfOk result (λ literal. literal ≡ spec.untagged text datatype.now) }
+{
+    let text = as_written(alloc, number)?;
+    untagged(text, datatype)
+}
+
+// The literal of a truth value.
+fn boolean(alloc: Global, value: bool, datatype: &Iri) -> Result<Literal, NoMemory>
+    ensures { let text = spec.boolean_text value in
+        IfOk result (λ literal. literal ≡ spec.untagged text datatype.now) }
+{
+    let text = boolean_text(alloc, value)?;
+    untagged(text, datatype)
+}
+
 impl<'a> Prologue<'a> {
     /// What a literal stands for (Turtle 1.1, section 2.5; SPARQL 1.1 Query, section 4.1.2). Numbers
     /// keep their text.
@@ -45,28 +95,20 @@ impl<'a> Prologue<'a> {
         ensures fault { IfErr result (λ fault. ExplainsLiteral self.old literal.now fault) }
         ensures same { self.new ≡ self.old }
     {
-        let (text, datatype) = match literal {
-            Written::Plain(text) => (text_value(self.alloc, text)?, word.xsd_string().copy()?),
-            Written::Tagged(text, tag) => {
-                let text = text_value(self.alloc, text)?;
-                let tagged = Literal::tagged_from_text(self.alloc, text, tag_value(tag))?;
-                let Some(tagged) = tagged else { unreachable!() };
-                return Ok(tagged);
+        match literal {
+            Written::Plain(text) => {
+                let datatype = word.xsd_string().copy()?;
+                Ok(quoted(self.alloc, text, datatype)?)
             }
+            Written::Tagged(text, tag) => Ok(tagged(self.alloc, text, tag)?),
             Written::Typed(text, name) => {
                 let datatype = self.iri(name)?;
-                (text_value(self.alloc, text)?, datatype)
+                Ok(quoted(self.alloc, text, datatype)?)
             }
-            Written::Integer(text) => (as_written(self.alloc, text)?, word.xsd_integer().copy()?),
-            Written::Decimal(text) => (as_written(self.alloc, text)?, word.xsd_decimal().copy()?),
-            Written::Double(text) => (as_written(self.alloc, text)?, word.xsd_double().copy()?),
-            Written::Boolean(value, _) => {
-                (
-                    boolean_text(self.alloc, *value)?,
-                    word.xsd_boolean().copy()?,
-                )
-            }
-        };
-        Ok(Literal::from_text(text, datatype))
+            Written::Integer(text) => Ok(number(self.alloc, text, word.xsd_integer())?),
+            Written::Decimal(text) => Ok(number(self.alloc, text, word.xsd_decimal())?),
+            Written::Double(text) => Ok(number(self.alloc, text, word.xsd_double())?),
+            Written::Boolean(value, _) => Ok(boolean(self.alloc, *value, word.xsd_boolean())?),
+        }
     }
 }

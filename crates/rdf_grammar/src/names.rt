@@ -99,10 +99,12 @@ impl<'a> Names<'a> {
     fn keep(&mut self, front: &Iri, local: &Slice<'a>, iri: &Iri) -> Result<(), NoMemory>
         requires { iri.now ≡ front.now ++ values.local_value local.now }
     {
+        let front = front.copy()?;
+        let iri = iri.copy()?;
         let name = KeptName {
-            front: front.copy()?,
+            front,
             local: local.fork(),
-            iri: iri.copy()?,
+            iri,
         };
         if let Some(place) = self.places.get_mut(place_of(local.as_str())) {
             *place = Some(name);

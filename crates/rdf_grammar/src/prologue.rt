@@ -64,11 +64,12 @@ impl<'a> Prologue<'a> {
     pub fn new(alloc: Global, base: Option<Iri>) -> Result<Prologue<'a>, NoMemory>
         ensures { IfOk result (λ prologue. prologue ≡ spec.start base) }
     {
+        let names = Names::new(alloc)?;
         Ok(Prologue {
             alloc,
             base,
             prefixes: IndexMap::new(alloc),
-            names: Names::new(alloc)?,
+            names,
         })
     }
 

@@ -17,6 +17,7 @@ pub mod RenamedLemmas
 pub mod RoundTripLemmas
 pub mod SortLemmas
 pub mod SoundLemmas
+pub mod StatementSteps
 pub mod StepLemmas
 pub mod TermLemmas
 pub mod WrittenLabelLemmas

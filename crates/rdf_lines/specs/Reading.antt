@@ -143,3 +143,17 @@ statement_at format cs = do
   object ← object_at (skip_white predicate.1)
   graph ← graph_at format (skip_white object.1)
   if stops_at (skip_white graph.1) then Some (record { subject = subject.0; predicate = predicate.0; object = object.0; graph = graph.0 }) else None
+
+-- the same in two steps, as the code takes them: the subject and the predicate, then the object and the graph label up to the end
+
+unfoldable pub front_at : List ℕ → Option (WrittenNode × List ℕ × List ℕ)
+front_at cs = do
+  subject ← node_at (skip_white cs)
+  predicate ← iri_at (skip_white subject.1)
+  Some (subject.0, predicate.0, predicate.1)
+
+unfoldable pub back_at : LineFormat → List ℕ → Option (WrittenObject × Option WrittenNode)
+back_at format cs = do
+  object ← object_at (skip_white cs)
+  graph ← graph_at format (skip_white object.1)
+  if stops_at (skip_white graph.1) then Some (object.0, graph.0) else None

@@ -45,3 +45,17 @@ absolute_statement s = do
   object ← absolute_object s.object
   graph ← absolute_graph s.graph
   Some (record { subject = subject; predicate = predicate; object = object; graph = graph })
+
+-- ---- the same in two steps, as the code takes them
+
+abbrev pub absolute_front : WrittenNode → List ℕ → Option (Node × List ℕ)
+absolute_front subject predicate = do
+  node ← absolute_node subject
+  iri ← absolute_iri predicate
+  Some (node, iri)
+
+abbrev pub absolute_back : WrittenObject → Option WrittenNode → Option (Object × Option Node)
+absolute_back object graph = do
+  meant ← absolute_object object
+  label ← absolute_graph graph
+  Some (meant, label)

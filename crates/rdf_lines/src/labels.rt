@@ -61,6 +61,19 @@ impl Labels {
         }
     }
 
+    // The subject and the object, in this order.
+    fn ends(&mut self, subject: Node, object: Object) -> Result<(Term, Term), NoMemory>
+        ensures labels { IfOk result (λ _. self.new ≡ all_noted
+            (all_noted self.old (labels_in subject)) (labels_in_object object)) }
+        ensures subject { IfOk result (λ t. t.0
+            ≡ term_in (all_noted self.old (labels_in subject)) subject) }
+        ensures object { IfOk result (λ t. t.1 ≡ object_in self.new object) }
+    {
+        let subject = self.node(subject)?;
+        let object = self.object(object)?;
+        Ok((subject, object))
+    }
+
     fn graph(&mut self, graph: Option<Node>) -> Result<GraphName, NoMemory>
         ensures { IfOk result (λ g. (self.new ≡ all_noted self.old (labels_in_graph graph))
             × (g ≡ graph_in self.new graph)) }
@@ -82,8 +95,7 @@ impl Labels {
             object,
             graph,
         } = statement;
-        let subject = self.node(subject)?;
-        let object = self.object(object)?;
+        let (subject, object) = self.ends(subject, object)?;
         let graph = self.graph(graph)?;
         let quad = Quad::new(graph, subject, Term::Iri(predicate), object);
         Ok(quad.unwrap())

@@ -9,8 +9,8 @@ use crate::literal::object;
 use crate::name::{first_is, skip_white};
 use crate::node::node;
 use crate::statement::Statement;
-use crate::written::{WrittenNode, WrittenStatement};
-use rdf_terms::{Cursor, NoMemory};
+use crate::written::{WrittenNode, WrittenObject, WrittenStatement};
+use rdf_terms::{Cursor, IriReference, NoMemory};
 use std::alloc::Global;
 use std::str;
 
@@ -71,14 +71,13 @@ fn stops(at: &Cursor<'_>) -> bool
     }
 }
 
-/// A statement up to the end of the line.
-#[tactic(auto, unfolding(crate::specs::Reading::statement_at))]
-fn statement(
+/// A subject and a predicate, and the place behind them.
+#[tactic(auto, unfolding(crate::specs::Reading::front_at))]
+fn front<'a>(
     alloc: Global,
-    format: LineFormat,
-    at: &Cursor<'_>,
-) -> Result<Option<WrittenStatement>, NoMemory>
-    ensures { IfOk result (λ r. r ≡ reading.statement_at format at.now) }
+    at: &Cursor<'a>,
+) -> Result<Option<(WrittenNode, IriReference, Cursor<'a>)>, NoMemory>
+    ensures { IfOk result (λ r. r ≡ reading.front_at at.now) }
 {
     let Some((subject, rest)) = node(alloc, &skip_white(at))? else {
         return Ok(None);
@@ -86,7 +85,19 @@ fn statement(
     let Some((predicate, rest)) = skip_white(&rest).iri(alloc)? else {
         return Ok(None);
     };
-    let Some((object, rest)) = object(alloc, &skip_white(&rest))? else {
+    Ok(Some((subject, predicate, rest)))
+}
+
+/// An object and a graph label or none, up to the end of the line.
+#[tactic(auto, unfolding(crate::specs::Reading::back_at))]
+fn back(
+    alloc: Global,
+    format: LineFormat,
+    at: &Cursor<'_>,
+) -> Result<Option<(WrittenObject, Option<WrittenNode>)>, NoMemory>
+    ensures { IfOk result (λ r. r ≡ reading.back_at format at.now) }
+{
+    let Some((object, rest)) = object(alloc, &skip_white(at))? else {
         return Ok(None);
     };
     let Some((graph, rest)) = graph_label(alloc, format, &skip_white(&rest))? else {
@@ -95,6 +106,24 @@ fn statement(
     if !stops(&skip_white(&rest)) {
         return Ok(None);
     }
+    Ok(Some((object, graph)))
+}
+
+/// A statement up to the end of the line.
+#[tactic(auto, using(crate::proofs::StatementSteps::front_fails, crate::proofs::StatementSteps::back_fails, crate::proofs::StatementSteps::both_read))]
+fn statement(
+    alloc: Global,
+    format: LineFormat,
+    at: &Cursor<'_>,
+) -> Result<Option<WrittenStatement>, NoMemory>
+    ensures { IfOk result (λ r. r ≡ reading.statement_at format at.now) }
+{
+    let Some((subject, predicate, rest)) = front(alloc, at)? else {
+        return Ok(None);
+    };
+    let Some((object, graph)) = back(alloc, format, &rest)? else {
+        return Ok(None);
+    };
     Ok(Some(WrittenStatement {
         subject,
         predicate,

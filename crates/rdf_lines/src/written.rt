@@ -1,9 +1,9 @@
 //! A statement as it is written, where an IRI may still lack its scheme.
 ghost use Rattle.std.specs.Prelude.{◌≡◌};
-ghost use Rattle.rdf_lines.specs.Written.{absolute_node, absolute_object, absolute_graph, absolute_statement};
+ghost use Rattle.rdf_lines.specs.Written.{absolute_node, absolute_object, absolute_graph, absolute_front, absolute_back, absolute_statement};
 
 use crate::statement::{Node, Object, Statement};
-use rdf_terms::{IriReference, Literal, Text};
+use rdf_terms::{Iri, IriReference, Literal, Text};
 
 #[derive(Debug, Drop)]
 pub enum WrittenNode {
@@ -65,8 +65,30 @@ fn absolute_graph(graph: Option<WrittenNode>) -> Option<Option<Node>>
     }
 }
 
+// The subject and the predicate.
+fn absolute_front(subject: WrittenNode, predicate: IriReference) -> Option<(Node, Iri)>
+    ensures { result ≡ absolute_front subject predicate }
+{
+    let subject = subject.absolute()?;
+    let predicate = predicate.into_iri()?;
+    Some((subject, predicate))
+}
+
+// The object and the graph label.
+fn absolute_back(
+    object: WrittenObject,
+    graph: Option<WrittenNode>,
+) -> Option<(Object, Option<Node>)>
+    ensures { result ≡ absolute_back object graph }
+{
+    let object = object.absolute()?;
+    let graph = absolute_graph(graph)?;
+    Some((object, graph))
+}
+
 impl WrittenStatement {
     /// The statement, or `None` where an IRI has no scheme.
+    #[tactic(auto, using(crate::proofs::StatementSteps::front_relative))]
     pub fn absolute(self) -> Option<Statement>
         ensures { result ≡ absolute_statement self }
     {
@@ -76,11 +98,13 @@ impl WrittenStatement {
             object,
             graph,
         } = self;
+        let (subject, predicate) = absolute_front(subject, predicate)?;
+        let (object, graph) = absolute_back(object, graph)?;
         Some(Statement {
-            subject: subject.absolute()?,
-            predicate: predicate.into_iri()?,
-            object: object.absolute()?,
-            graph: absolute_graph(graph)?,
+            subject,
+            predicate,
+            object,
+            graph,
         })
     }
 }

@@ -1,7 +1,7 @@
 -- What a query answers at a session (SPARQL 1.1 Query, section 16), and why it is refused.
 use Rattle.std.specs.Prelude.{◌≡◌, ℕ, Bool, List, length, Result, Ok, Err}
 use Rattle.rdf_dataset.specs.State.{State}
-use Rattle.sparql_algebra.specs.Mapping.{Mapping}
+use Rattle.sparql_values.specs.Mapping.{Mapping}
 use Rattle.sparql_algebra.specs.Results.{IsSelection, HasSolution}
 use Rattle.sparql_results.specs.ResultsText.{boolean_text, selection_text}
 use Rattle.sparql_syntax.specs.Query as query

@@ -7,6 +7,7 @@ pub mod DotLemmas
 pub mod EscapeLemmas
 pub mod EscapedLemmas
 pub mod ExampleLemmas
+pub mod IntegerLemmas
 pub mod LoopLemmas
 pub mod OptionLemmas
 pub mod PastLemmas

@@ -7,6 +7,8 @@ pub mod Cuts
 pub mod Dots
 pub mod Escapes
 pub mod Examples
+pub mod IntegerLaws
+pub mod Integers
 pub mod Iri
 pub mod Literal
 pub mod Names

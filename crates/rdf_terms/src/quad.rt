@@ -139,12 +139,24 @@ impl Quad {
     pub fn copy(&self) -> Result<Quad, NoMemory>
         ensures { IfOk result (λ q. q ≡ self.now) }
     {
+        let graph = self.graph.copy()?;
+        let (subject, predicate, object) = self.copied_triple()?;
         Ok(Quad {
-            graph: self.graph.copy()?,
-            subject: self.subject.copy()?,
-            predicate: self.predicate.copy()?,
-            object: self.object.copy()?,
+            graph,
+            subject,
+            predicate,
+            object,
         })
+    }
+
+    // Copies of the three terms.
+    fn copied_triple(&self) -> Result<(Term, Term, Term), NoMemory>
+        ensures { IfOk result (λ t. t
+            ≡ (self.now.subject, self.now.predicate, self.now.object)) }
+    {
+        let subject = self.subject.copy()?;
+        let (predicate, object) = copied_pair(&self.predicate, &self.object)?;
+        Ok((subject, predicate, object))
     }
 
     /// The graph and the three terms.
@@ -154,6 +166,15 @@ impl Quad {
     {
         (self.graph, self.subject, self.predicate, self.object)
     }
+}
+
+// Copies of two terms.
+fn copied_pair(first: &Term, second: &Term) -> Result<(Term, Term), NoMemory>
+    ensures { IfOk result (λ t. t ≡ (first.now, second.now)) }
+{
+    let first = first.copy()?;
+    let second = second.copy()?;
+    Ok((first, second))
 }
 
 // Whether these may be the graph, the subject and the predicate of a quad.

@@ -1,6 +1,6 @@
 //! The text of terms, in canonical N-Triples (RDF 1.1 N-Triples, section 4).
 ghost use Rattle.std.specs.Cmp.Lexicographic.{pointwise};
-ghost use Rattle.std.specs.Prelude.{◌≡◌, ◌++◌, ◌<◌, nat_eq, take, length, codes, position, IfSome, OnOk, OnErr};
+ghost use Rattle.std.specs.Prelude.{◌≡◌, ◌++◌, ◌<◌, nat_eq, take, length, codes, decimal, position, IfSome, OnOk, OnErr};
 ghost use Rattle.std.specs.List.{flat_map};
 ghost use Rattle.rdf_terms.specs.Literal.{xsd_string};
 ghost use Rattle.rdf_terms.specs.Runs.{is_escaped};
@@ -34,18 +34,29 @@ fn append_term(alloc: Global, term: &Term, out: &mut Vec<u8>) -> Result<(), NoMe
     ensures kept { take (length out.old.items) out.new.items ≡ out.old.items }
 {
     match term {
-        Term::Blank(number) => {
-            let digits = number.to_string(alloc)?;
-            out.extend_from_slice(b"_:b")?;
-            out.extend_from_slice(digits.as_bytes())?;
-        }
-        Term::Iri(iri) => {
-            out.extend_from_slice(b"<")?;
-            out.extend_from_slice(iri.as_str().as_bytes())?;
-            out.extend_from_slice(b">")?;
-        }
-        Term::Literal(literal) => append_literal(literal, out)?,
+        Term::Blank(number) => append_blank(alloc, *number, out),
+        Term::Iri(iri) => append_iri(iri, out),
+        Term::Literal(literal) => append_literal(literal, out),
     }
+}
+
+fn append_blank(alloc: Global, number: u64, out: &mut Vec<u8>) -> Result<(), NoMemory>
+    ensures ok { OnOk result (out.new.items ≡ out.old.items ++ codes "_:b" ++ decimal number) }
+    ensures kept { take (length out.old.items) out.new.items ≡ out.old.items }
+{
+    let digits = number.to_string(alloc)?;
+    out.extend_from_slice(b"_:b")?;
+    out.extend_from_slice(digits.as_bytes())?;
+    Ok(())
+}
+
+fn append_iri(iri: &Iri, out: &mut Vec<u8>) -> Result<(), NoMemory>
+    ensures ok { OnOk result (out.new.items ≡ out.old.items ++ codes "<" ++ iri.now ++ codes ">") }
+    ensures kept { take (length out.old.items) out.new.items ≡ out.old.items }
+{
+    out.extend_from_slice(b"<")?;
+    out.extend_from_slice(iri.as_str().as_bytes())?;
+    out.extend_from_slice(b">")?;
     Ok(())
 }
 

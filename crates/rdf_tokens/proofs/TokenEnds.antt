@@ -8,7 +8,7 @@ use Rattle.rdf_terms.proofs.OptionLemmas.{some_is, none_is}
 use Rattle.rdf_terms.proofs.QuotedLemmas.{iri_sound, iri_complete, quoted_sound, quoted_complete}
 use Rattle.rdf_tokens.specs.declared.token.Kind.TheVariants as kind
 use Rattle.rdf_tokens.specs.Forms.{IsShort}
-use Rattle.rdf_tokens.specs.TokenReading.{iri_end_at, quoted_end_at}
+use Rattle.rdf_tokens.specs.Inside.TokenReading.{iri_end_at, quoted_end_at}
 use Rattle.rdf_tokens.proofs.TokenClaims.{Sound}
 
 end_some : (o : Option (List ℕ × List ℕ)) (rest : List ℕ) → option_map (λ piece. piece.1) o ≡ Some rest → (text : List ℕ) × (o ≡ Some (text, rest))

@@ -5,7 +5,7 @@ use Rattle.std.proofs.lemmas.List.{append-nil}
 use Rattle.std.proofs.lemmas.Bool.{cases_Bool, eqb-true, eqb-false, ne_eqb, true≢false}
 use Rattle.rdf_tokens.specs.Characters.{is_white, is_line_end}
 use Rattle.rdf_tokens.specs.Tokens.{IsComment, IsBlank, Gap, HasGap, Ends}
-use Rattle.rdf_tokens.specs.TokenReading.{gap_step, skip_gap}
+use Rattle.rdf_tokens.specs.Inside.TokenReading.{gap_step, skip_gap}
 
 -- no gap goes on here
 abbrev pub Stops : List ℕ → Type 0

@@ -10,7 +10,7 @@ use Rattle.rdf_tokens.specs.Characters.{is_white}
 use Rattle.rdf_terms.specs.Reading.{byte_count}
 use Rattle.rdf_tokens.specs.Forms.{HasForm, IsOneOf, symbols}
 use Rattle.rdf_tokens.specs.Tokens.{IsToken, Gap, HasGap, Ends, At, Runs, NoToken, Says}
-use Rattle.rdf_tokens.specs.TokenReading.{skip_gap, token_at}
+use Rattle.rdf_tokens.specs.Inside.TokenReading.{skip_gap, token_at}
 use Rattle.rdf_terms.proofs.OptionLemmas.{some_is, some_pair, none_is}
 use Rattle.rdf_tokens.proofs.TokenClaims.{Beats}
 use Rattle.rdf_tokens.proofs.TokenGaps.{Stops, skip_ends, skip_starts, gap_skipped, end_skipped}

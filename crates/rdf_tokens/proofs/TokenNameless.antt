@@ -9,7 +9,7 @@ use Rattle.rdf_terms.specs.Skips.{skip}
 use Rattle.rdf_terms.proofs.OptionLemmas.{some_is, guard_some}
 use Rattle.rdf_tokens.specs.declared.token.Kind.{Kind}
 use Rattle.rdf_tokens.specs.Tokens.{HasGap}
-use Rattle.rdf_tokens.specs.TokenReading.{skip_dots, dotted_at, name_part_at, prefix_at, pname_at, token_at, NoPnameBefore}
+use Rattle.rdf_tokens.specs.Inside.TokenReading.{skip_dots, dotted_at, name_part_at, prefix_at, pname_at, token_at, NoPnameBefore}
 use Rattle.rdf_tokens.proofs.TokenNumbers.{cases_Option}
 use Rattle.rdf_tokens.proofs.TokenUnits.{name_unit, dotted_step, dotted_stop}
 use Rattle.rdf_tokens.proofs.TokenNames.{colon_stops}

@@ -8,7 +8,7 @@ use Rattle.rdf_tokens.specs.Characters.{is_word_part, is_name_start, is_variable
 use Rattle.std.proofs.lemmas.Bool.{cases_Bool, or_cases, or_left, or_right, true≢false}
 use Rattle.rdf_tokens.specs.Forms.{IsWord, IsDotted, IsNamePart, IsPrefix, IsLocal, IsPname}
 use Rattle.rdf_terms.specs.Reading.{expect}
-use Rattle.rdf_tokens.specs.TokenReading.{as_kind, word_at, variable_at, skip_dots, dotted_at, name_part_at, local_part_at, local_first_at, local_at, prefix_at, pname_at, label_at, blank_at}
+use Rattle.rdf_tokens.specs.Inside.TokenReading.{as_kind, word_at, variable_at, skip_dots, dotted_at, name_part_at, local_part_at, local_first_at, local_at, prefix_at, pname_at, label_at, blank_at}
 use Rattle.rdf_terms.specs.Skips.{skip}
 use Rattle.rdf_terms.proofs.OptionLemmas.{bind_some, some_is, none_is, guard_some, map_some}
 use Rattle.rdf_tokens.proofs.TokenNumbers.{cases_Option}

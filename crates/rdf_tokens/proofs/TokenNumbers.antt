@@ -7,7 +7,7 @@ use Rattle.rdf_tokens.specs.declared.token.Kind.TheVariants as kind
 use Rattle.rdf_tokens.specs.Characters.{is_sign, is_exponent_letter}
 use Rattle.rdf_tokens.specs.Forms.{AreDigits, HasDigits, IsSign, IsExponent, IsFraction, IsMantissa, IsExponential, Signed, HasForm}
 use Rattle.rdf_terms.specs.Reading.{expect}
-use Rattle.rdf_tokens.specs.TokenReading.{digits_at, skip_sign, exponent_at, with_exponent, fraction_at, dot_exponent_at, whole_at, unsigned_at, number_at}
+use Rattle.rdf_tokens.specs.Inside.TokenReading.{digits_at, skip_sign, exponent_at, with_exponent, fraction_at, dot_exponent_at, whole_at, unsigned_at, number_at}
 use Rattle.rdf_terms.proofs.OptionLemmas.{bind_some, some_is, none_is, guard_some}
 use Rattle.rdf_terms.proofs.QuotedLemmas.{expect_sound, expect_complete}
 use Rattle.rdf_terms.specs.Skips.{skip, some_of}

@@ -6,7 +6,7 @@ use Rattle.rdf_tokens.specs.declared.token.Kind.TheVariants as kind
 use Rattle.rdf_tokens.specs.Characters.{is_sign}
 use Rattle.rdf_tokens.specs.Forms.{IsOneOf, symbols}
 use Rattle.rdf_terms.specs.Reading.{expect}
-use Rattle.rdf_tokens.specs.TokenReading.{or_just, number_at, symbol_at, number_or_symbol_at}
+use Rattle.rdf_tokens.specs.Inside.TokenReading.{or_just, number_at, symbol_at, number_or_symbol_at}
 use Rattle.rdf_terms.proofs.OptionLemmas.{some_is, none_is, guard_some}
 use Rattle.rdf_terms.proofs.QuotedLemmas.{expect_sound}
 use Rattle.rdf_tokens.proofs.TokenClaims.{Beats}

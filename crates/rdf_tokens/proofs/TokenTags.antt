@@ -9,7 +9,7 @@ use Rattle.rdf_terms.proofs.TagForms as name
 use Rattle.rdf_terms.proofs.TagReadings.{tag_greedy}
 use Rattle.rdf_tokens.specs.declared.token.Kind.TheVariants as kind
 use Rattle.rdf_tokens.specs.Forms.{IsAtWord}
-use Rattle.rdf_tokens.specs.TokenReading.{as_kind}
+use Rattle.rdf_tokens.specs.Inside.TokenReading.{as_kind}
 use Rattle.rdf_tokens.specs.Values.{tag_value}
 use Rattle.rdf_tokens.proofs.TokenClaims.{Beats, Sound}
 

@@ -6,7 +6,8 @@ use Rattle.rdf_tokens.specs.declared.token.Kind.TheVariants as kind
 use Rattle.rdf_tokens.specs.declared.token.Token.{Token}
 use Rattle.rdf_tokens.specs.Forms.{HasForm}
 use Rattle.rdf_tokens.specs.Tokens.{Stands, HasItsForm}
-use Rattle.rdf_tokens.specs.TokenTexts.{SaysBy, TokenSays, SaysText, value_by}
+use Rattle.rdf_tokens.specs.Inside.TokenValues.{value_by}
+use Rattle.rdf_tokens.specs.TokenTexts.{SaysBy, TokenSays, SaysText}
 use Rattle.rdf_tokens.specs.Values.{local_part, local_value}
 use Rattle.rdf_tokens.proofs.SliceLemmas.{token_stands, stands_once}
 use Rattle.rdf_tokens.proofs.ValueIris.{iri_value_is}

@@ -8,7 +8,7 @@ use Rattle.rdf_tokens.specs.Characters.{is_name_start, is_local_escape}
 use Rattle.rdf_tokens.specs.Forms.{IsDotted, IsNamePart, IsPlx, IsLocalFirst, IsLocalPart}
 use Rattle.rdf_terms.specs.Reading.{hex_at}
 use Rattle.rdf_terms.specs.Skips.{skip}
-use Rattle.rdf_tokens.specs.TokenReading.{skip_dots, dotted, dotted_at, name_part_at, local_escape_at, plx_at, local_part_at, local_first_at}
+use Rattle.rdf_tokens.specs.Inside.TokenReading.{skip_dots, dotted, dotted_at, name_part_at, local_escape_at, plx_at, local_part_at, local_first_at}
 use Rattle.rdf_terms.proofs.OptionLemmas.{bind_some, some_is, none_is, guard_some}
 use Rattle.rdf_tokens.proofs.TokenClaims.{Beats}
 use Rattle.rdf_terms.proofs.EscapeLemmas.{hex_sound, hex_complete}

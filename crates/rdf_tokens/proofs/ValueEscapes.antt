@@ -1,54 +1,19 @@
 -- The characters that texts with escapes write.
-use Rattle.std.proofs.Common.{◌≡◌, ◌≢◌, ◌≤◌, ℕ, zero, suc, eqb, List, [], ◌∷◌, ◌++◌, length, Option, Some, None, refl, sym, ap, subst, ◌∙◌, inl, inr, arith, MatchOption}
-use Rattle.std.proofs.lemmas.Bool.{cases_Bool, eqb-true, eqb-false, ne_eqb}
+use Rattle.std.proofs.Common.{◌≡◌, ◌≤◌, ℕ, zero, suc, List, [], ◌∷◌, ◌++◌, length, Option, Some, None, refl, sym, ap, subst, ◌∙◌, inl, arith, MatchOption}
+use Rattle.std.proofs.lemmas.Bool.{eqb-false}
 use Rattle.std.proofs.lemmas.Str.{encodes-chars}
 use Rattle.std.specs.Prelude.{option_map, ◌==◌}
 use Rattle.std.specs.Str.{chars, encode_utf8_all, IsUtf8, NonePass, NoCharPasses}
-use Rattle.rdf_terms.specs.Reading.{escape_at, character_at}
-use Rattle.rdf_terms.specs.Escapes.{IsNumericEscape, IsCharacter, Writes, Unescapes}
-use Rattle.rdf_terms.proofs.OptionLemmas.{bind_some, some_is, some_pair, none_is}
-use Rattle.rdf_terms.proofs.QuotedLemmas.{numeric_begins, escape_sound, escape-short, escape-numeric}
-use Rattle.rdf_terms.proofs.UnescapeLemmas.{shorter}
+use Rattle.rdf_terms.specs.Reading.{character_at}
+use Rattle.rdf_terms.specs.Escapes.{IsCharacter, Writes, Unescapes}
+use Rattle.rdf_terms.proofs.OptionLemmas.{bind_some, some_is, none_is}
+use Rattle.rdf_terms.proofs.UnescapeLemmas.{character_sound, character_complete, shorter}
 use Rattle.rdf_tokens.specs.Values.{written_within, unescaped, text_body, text_value}
 use Rattle.rdf_tokens.proofs.ValuePlaces.{none_pass}
-
--- ---- one character
-
-character_sound : (cs : List ℕ) (c : ℕ) (rest : List ℕ) → character_at cs ≡ Some (c, rest) → (piece : List ℕ) × (cs ≡ piece ++ rest) × IsCharacter piece c
-unfolding character_at
-character_sound [] c rest e = none_is (c, rest) e
-character_sound (d ∷ cs) c rest e =
-    elim (cases_Bool (eqb d 92)) [
-      | inl is ↦
-          let s = escape_sound cs c rest (rw is at e) in
-          (92 ∷ s.0, ap (λ (x : ℕ). x ∷ cs) (eqb-true d 92 is) ∙ ap (λ (t : List ℕ). 92 ∷ t) s.1, inr s.2)
-      | inr not ↦
-          let p = some_pair d c cs rest (rw not at e) in
-          (d ∷ [], ap (λ (t : List ℕ). d ∷ t) p.1, subst (IsCharacter (d ∷ [])) p.0 (inl (refl, eqb-false d 92 not)))
-    ]
-
-character-plain : (c : ℕ) (rest : List ℕ) → c ≢ 92 → character_at (c ∷ rest) ≡ Some (c, rest)
-unfolding character_at
-character-plain c rest q = rw (ne_eqb c 92 q) refl
-
-character-escape : (rest : List ℕ) → character_at (92 ∷ rest) ≡ escape_at rest
-unfolding character_at
-character-escape rest = refl
 
 character-none : character_at [] ≡ None
 unfolding character_at
 character-none = refl
-
-character_complete : (piece : List ℕ) (c : ℕ) (rest : List ℕ) → IsCharacter piece c → character_at (piece ++ rest) ≡ Some (c, rest)
-character_complete piece c rest (inl h) = ap (λ (t : List ℕ). character_at (t ++ rest)) h.0 ∙ character-plain c rest h.1
-character_complete piece c rest (inr (inl n)) =
-    let b = numeric_begins piece c n in
-    ap (λ (t : List ℕ). character_at (t ++ rest)) b.1 ∙ character-escape (b.0 ++ rest)
-    ∙ escape-numeric b.0 c rest (subst (λ (t : List ℕ). IsNumericEscape t c) b.1 n)
-character_complete piece c rest (inr (inr s)) =
-    ap (λ (t : List ℕ). character_at (t ++ rest)) s.1 ∙ character-escape (s.0 ∷ rest) ∙ escape-short s.0 c rest s.2
-
--- ---- all of them
 
 first_is : (cs : List ℕ) (d : ℕ) (ds : List ℕ) (w : Writes IsCharacter cs (d ∷ ds)) → character_at cs ≡ Some (d, w.1)
 first_is cs d ds w = ap character_at w.2 ∙ character_complete w.0 d w.1 w.3

@@ -1,9 +1,9 @@
 pub mod Characters
 pub mod Faults
 pub mod Forms
+pub mod Inside
 pub mod LineLaws
 pub mod Lines
-pub mod TokenReading
 pub mod TokenTexts
 pub mod Tokens
 pub mod ValueLaws

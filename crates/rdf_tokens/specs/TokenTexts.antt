@@ -7,7 +7,7 @@ use Rattle.rdf_tokens.specs.declared.token.Kind.TheVariants as kind
 use Rattle.rdf_tokens.specs.declared.token.Token.{Token}
 use Rattle.rdf_tokens.specs.Forms.{IsText, IsPrefix}
 use Rattle.rdf_tokens.specs.Tokens.{Stands}
-use Rattle.rdf_tokens.specs.Values.{iri_value, text_value, local_part, local_value, LocalMeans}
+use Rattle.rdf_tokens.specs.Values.{LocalMeans}
 
 -- The slice of a token of that kind says these bytes: an IRIREF its reference, a string what it stands for, and a prefixed
 -- name what its local part stands for. Other kinds say nothing.
@@ -20,12 +20,6 @@ SaysBy other slice bytes = ⊥
 
 abbrev pub TokenSays : List ℕ → Token → List ℕ → Type 0
 TokenSays text token bytes = (slice : List ℕ) × Stands text token.start token.stop slice × SaysBy token.kind slice bytes
-
--- those bytes, for slices of the three forms
-abbrev pub value_by : Kind → List ℕ → List ℕ
-value_by kind.Iri slice = iri_value slice
-value_by kind.Text slice = text_value slice
-value_by other slice = local_value (local_part slice)
 
 -- the kinds that say something
 abbrev pub SaysText : Kind → Type 0

@@ -1,6 +1,6 @@
 //! Blank labels and prefixed names: units with dots between them, the last no dot.
 ghost use Rattle.std.specs.Prelude.{◌≡◌};
-ghost use Rattle.rdf_tokens.specs.TokenReading.{skip_dots, dotted_at, name_part_at, local_escape_at, plx_at, local_part_at, local_first_at, local_at, prefix_at, pname_at, NoPnameBefore, label_at, blank_at};
+ghost use Rattle.rdf_tokens.specs.Inside.TokenReading.{skip_dots, dotted_at, name_part_at, local_escape_at, plx_at, local_part_at, local_first_at, local_at, prefix_at, pname_at, NoPnameBefore, label_at, blank_at};
 
 use crate::character::{is_local_escape, is_name_start};
 use rdf_terms::{Cursor, is_pn_chars, is_pn_chars_base};
@@ -13,7 +13,7 @@ fn skip_dots<'a>(cursor: &Cursor<'a>) -> Cursor<'a>
 }
 
 /// The place behind one of PN_CHARS.
-#[tactic(auto, unfolding(crate::specs::TokenReading::name_part_at))]
+#[tactic(auto, unfolding(crate::specs::Inside::TokenReading::name_part_at))]
 fn name_part<'a>(cursor: &Cursor<'a>) -> Option<Cursor<'a>>
     ensures { result ≡ name_part_at cursor.now }
 {
@@ -26,7 +26,7 @@ fn name_part<'a>(cursor: &Cursor<'a>) -> Option<Cursor<'a>>
 }
 
 /// PN_LOCAL_ESC, behind its backslash.
-#[tactic(auto, unfolding(crate::specs::TokenReading::local_escape_at))]
+#[tactic(auto, unfolding(crate::specs::Inside::TokenReading::local_escape_at))]
 fn local_escape<'a>(cursor: &Cursor<'a>) -> Option<Cursor<'a>>
     ensures { result ≡ local_escape_at cursor.now }
 {
@@ -39,7 +39,7 @@ fn local_escape<'a>(cursor: &Cursor<'a>) -> Option<Cursor<'a>>
 }
 
 /// PLX: `%` and two hexadecimal digits, or a backslash and what may follow it.
-#[tactic(auto, unfolding(crate::specs::TokenReading::plx_at))]
+#[tactic(auto, unfolding(crate::specs::Inside::TokenReading::plx_at))]
 fn plx<'a>(cursor: &Cursor<'a>) -> Option<Cursor<'a>>
     ensures { result ≡ plx_at cursor.now }
 {
@@ -56,7 +56,7 @@ fn plx<'a>(cursor: &Cursor<'a>) -> Option<Cursor<'a>>
 }
 
 /// One unit that a local part may go on with: PN_CHARS, `:` or PLX.
-#[tactic(auto, unfolding(crate::specs::TokenReading::local_part_at))]
+#[tactic(auto, unfolding(crate::specs::Inside::TokenReading::local_part_at))]
 fn local_part<'a>(cursor: &Cursor<'a>) -> Option<Cursor<'a>>
     ensures { result ≡ local_part_at cursor.now }
 {
@@ -70,7 +70,7 @@ fn local_part<'a>(cursor: &Cursor<'a>) -> Option<Cursor<'a>>
 }
 
 /// The unit that a local part begins with: PN_CHARS_U, `:`, a digit or PLX.
-#[tactic(auto, unfolding(crate::specs::TokenReading::local_first_at))]
+#[tactic(auto, unfolding(crate::specs::Inside::TokenReading::local_first_at))]
 fn local_first<'a>(cursor: &Cursor<'a>) -> Option<Cursor<'a>>
     ensures { result ≡ local_first_at cursor.now }
 {
@@ -106,7 +106,7 @@ fn local_rest<'a>(cursor: &Cursor<'a>) -> Cursor<'a>
 }
 
 /// The place behind a local part, which may be empty.
-#[tactic(auto, unfolding(crate::specs::TokenReading::local_at))]
+#[tactic(auto, unfolding(crate::specs::Inside::TokenReading::local_at))]
 fn local<'a>(cursor: &Cursor<'a>) -> Cursor<'a>
     ensures { result ≡ local_at cursor.now }
 {
@@ -117,7 +117,7 @@ fn local<'a>(cursor: &Cursor<'a>) -> Cursor<'a>
 }
 
 /// The place behind a prefix, which may be empty.
-#[tactic(auto, unfolding(crate::specs::TokenReading::prefix_at))]
+#[tactic(auto, unfolding(crate::specs::Inside::TokenReading::prefix_at))]
 fn prefix<'a>(cursor: &Cursor<'a>) -> Cursor<'a>
     ensures { result ≡ prefix_at cursor.now }
 {
@@ -131,7 +131,7 @@ fn prefix<'a>(cursor: &Cursor<'a>) -> Cursor<'a>
 /// The place behind PNAME_NS or PNAME_LN (Turtle 1.1, section 6.5): a prefix, `:` and perhaps a local part.
 /// No prefixed name begins where more than `nameless` bytes follow, which is known from one call to
 /// the next: so what runs on without a colon is gone through once, however many words begin in it.
-#[tactic(auto, unfolding(crate::specs::TokenReading::pname_at))]
+#[tactic(auto, unfolding(crate::specs::Inside::TokenReading::pname_at))]
 pub fn pname<'a>(cursor: &Cursor<'a>, nameless: &mut usize) -> Option<Cursor<'a>>
     requires { NoPnameBefore cursor.now nameless.old }
     ensures place { result ≡ pname_at cursor.now }
@@ -151,7 +151,7 @@ pub fn pname<'a>(cursor: &Cursor<'a>, nameless: &mut usize) -> Option<Cursor<'a>
 }
 
 /// The place behind a label.
-#[tactic(auto, unfolding(crate::specs::TokenReading::label_at))]
+#[tactic(auto, unfolding(crate::specs::Inside::TokenReading::label_at))]
 fn label<'a>(cursor: &Cursor<'a>) -> Option<Cursor<'a>>
     ensures { result ≡ label_at cursor.now }
 {
@@ -164,7 +164,7 @@ fn label<'a>(cursor: &Cursor<'a>) -> Option<Cursor<'a>>
 }
 
 /// The place behind BLANK_NODE_LABEL (Turtle 1.1, section 6.5), from behind its `_`.
-#[tactic(auto, unfolding(crate::specs::TokenReading::blank_at))]
+#[tactic(auto, unfolding(crate::specs::Inside::TokenReading::blank_at))]
 pub fn blank<'a>(cursor: &Cursor<'a>) -> Option<Cursor<'a>>
     ensures { result ≡ blank_at cursor.now }
 {

@@ -1,13 +1,13 @@
 //! Numbers.
 ghost use Rattle.std.specs.Prelude.{◌≡◌};
-ghost use Rattle.rdf_tokens.specs.TokenReading.{skip_sign, digits_at, exponent_at, with_exponent, fraction_at, dot_exponent_at, whole_at, unsigned_at, number_at};
+ghost use Rattle.rdf_tokens.specs.Inside.TokenReading.{skip_sign, digits_at, exponent_at, with_exponent, fraction_at, dot_exponent_at, whole_at, unsigned_at, number_at};
 
 use crate::character::{is_exponent_letter, is_sign};
 use crate::token::Kind;
 use rdf_terms::Cursor;
 
 /// The place behind one or more digits.
-#[tactic(auto, unfolding(crate::specs::TokenReading::digits_at))]
+#[tactic(auto, unfolding(crate::specs::Inside::TokenReading::digits_at))]
 fn digits<'a>(cursor: &Cursor<'a>) -> Option<Cursor<'a>>
     ensures { result ≡ digits_at cursor.now }
 {
@@ -15,7 +15,7 @@ fn digits<'a>(cursor: &Cursor<'a>) -> Option<Cursor<'a>>
 }
 
 /// The place behind a sign, where there is one.
-#[tactic(auto, unfolding(crate::specs::TokenReading::skip_sign))]
+#[tactic(auto, unfolding(crate::specs::Inside::TokenReading::skip_sign))]
 fn skip_sign<'a>(cursor: &Cursor<'a>) -> Cursor<'a>
     ensures { result ≡ skip_sign cursor.now }
 {
@@ -27,7 +27,7 @@ fn skip_sign<'a>(cursor: &Cursor<'a>) -> Cursor<'a>
 }
 
 /// The place behind EXPONENT (Turtle 1.1, section 6.5).
-#[tactic(auto, unfolding(crate::specs::TokenReading::exponent_at))]
+#[tactic(auto, unfolding(crate::specs::Inside::TokenReading::exponent_at))]
 fn exponent<'a>(cursor: &Cursor<'a>) -> Option<Cursor<'a>>
     ensures { result ≡ exponent_at cursor.now }
 {
@@ -40,7 +40,7 @@ fn exponent<'a>(cursor: &Cursor<'a>) -> Option<Cursor<'a>>
 }
 
 /// A double where an exponent follows, otherwise what was read so far.
-#[tactic(auto, unfolding(crate::specs::TokenReading::with_exponent))]
+#[tactic(auto, unfolding(crate::specs::Inside::TokenReading::with_exponent))]
 fn with_exponent<'a>(kind: Kind, cursor: &Cursor<'a>) -> (Kind, Cursor<'a>)
     ensures { result ≡ with_exponent kind cursor.now }
 {
@@ -51,7 +51,7 @@ fn with_exponent<'a>(kind: Kind, cursor: &Cursor<'a>) -> (Kind, Cursor<'a>)
 }
 
 /// A dot, digits, and perhaps an exponent.
-#[tactic(auto, unfolding(crate::specs::TokenReading::fraction_at))]
+#[tactic(auto, unfolding(crate::specs::Inside::TokenReading::fraction_at))]
 fn fraction<'a>(cursor: &Cursor<'a>) -> Option<(Kind, Cursor<'a>)>
     ensures { result ≡ fraction_at cursor.now }
 {
@@ -60,7 +60,7 @@ fn fraction<'a>(cursor: &Cursor<'a>) -> Option<(Kind, Cursor<'a>)>
 }
 
 /// The place behind a dot and an exponent.
-#[tactic(auto, unfolding(crate::specs::TokenReading::dot_exponent_at))]
+#[tactic(auto, unfolding(crate::specs::Inside::TokenReading::dot_exponent_at))]
 fn dot_exponent<'a>(cursor: &Cursor<'a>) -> Option<Cursor<'a>>
     ensures { result ≡ dot_exponent_at cursor.now }
 {
@@ -68,7 +68,7 @@ fn dot_exponent<'a>(cursor: &Cursor<'a>) -> Option<Cursor<'a>>
 }
 
 /// What digits that end here are the beginning of.
-#[tactic(auto, unfolding(crate::specs::TokenReading::whole_at))]
+#[tactic(auto, unfolding(crate::specs::Inside::TokenReading::whole_at))]
 fn whole<'a>(cursor: &Cursor<'a>) -> (Kind, Cursor<'a>)
     ensures { result ≡ whole_at cursor.now }
 {
@@ -82,7 +82,7 @@ fn whole<'a>(cursor: &Cursor<'a>) -> (Kind, Cursor<'a>)
 }
 
 /// A number without a sign.
-#[tactic(auto, unfolding(crate::specs::TokenReading::unsigned_at))]
+#[tactic(auto, unfolding(crate::specs::Inside::TokenReading::unsigned_at))]
 fn unsigned<'a>(cursor: &Cursor<'a>) -> Option<(Kind, Cursor<'a>)>
     ensures { result ≡ unsigned_at cursor.now }
 {
@@ -93,7 +93,7 @@ fn unsigned<'a>(cursor: &Cursor<'a>) -> Option<(Kind, Cursor<'a>)>
 }
 
 /// INTEGER, DECIMAL or DOUBLE (Turtle 1.1, section 6.5), the longest that begins here, and the place behind it.
-#[tactic(auto, unfolding(crate::specs::TokenReading::number_at))]
+#[tactic(auto, unfolding(crate::specs::Inside::TokenReading::number_at))]
 pub fn number<'a>(cursor: &Cursor<'a>) -> Option<(Kind, Cursor<'a>)>
     ensures { result ≡ number_at cursor.now }
 {

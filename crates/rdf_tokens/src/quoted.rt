@@ -1,11 +1,11 @@
 //! Strings, long and short.
 ghost use Rattle.std.specs.Prelude.{◌≡◌, ◌≢◌};
-ghost use Rattle.rdf_tokens.specs.TokenReading.{two_at, three_at, long_body_at, long_at, text_at};
+ghost use Rattle.rdf_tokens.specs.Inside.TokenReading.{two_at, three_at, long_body_at, long_at, text_at};
 
 use rdf_terms::Cursor;
 
 /// The place behind two such quotes.
-#[tactic(auto, unfolding(crate::specs::TokenReading::two_at))]
+#[tactic(auto, unfolding(crate::specs::Inside::TokenReading::two_at))]
 fn two<'a>(quote: char, cursor: &Cursor<'a>) -> Option<Cursor<'a>>
     ensures { result ≡ two_at quote cursor.now }
 {
@@ -13,7 +13,7 @@ fn two<'a>(quote: char, cursor: &Cursor<'a>) -> Option<Cursor<'a>>
 }
 
 /// The place behind three such quotes.
-#[tactic(auto, unfolding(crate::specs::TokenReading::three_at))]
+#[tactic(auto, unfolding(crate::specs::Inside::TokenReading::three_at))]
 fn three<'a>(quote: char, cursor: &Cursor<'a>) -> Option<Cursor<'a>>
     ensures { result ≡ three_at quote cursor.now }
 {
@@ -35,7 +35,7 @@ fn long_body<'a>(quote: char, cursor: &Cursor<'a>) -> Option<Cursor<'a>>
 }
 
 /// The place behind a long string.
-#[tactic(auto, unfolding(crate::specs::TokenReading::long_at))]
+#[tactic(auto, unfolding(crate::specs::Inside::TokenReading::long_at))]
 fn long<'a>(quote: char, cursor: &Cursor<'a>) -> Option<Cursor<'a>>
     ensures { result ≡ long_at quote cursor.now }
 {
@@ -44,7 +44,7 @@ fn long<'a>(quote: char, cursor: &Cursor<'a>) -> Option<Cursor<'a>>
 
 /// The place behind a string with such quotes (Turtle 1.1, section 6.5: STRING_LITERAL_QUOTE and the
 /// three others), long where a long one fits.
-#[tactic(auto, unfolding(crate::specs::TokenReading::text_at))]
+#[tactic(auto, unfolding(crate::specs::Inside::TokenReading::text_at))]
 pub fn text<'a>(quote: char, cursor: &Cursor<'a>) -> Option<Cursor<'a>>
     requires { quote ≢ 92 }
     ensures { result ≡ text_at quote cursor.now }

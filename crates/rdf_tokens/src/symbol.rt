@@ -1,11 +1,11 @@
 //! Symbols.
 ghost use Rattle.std.specs.Prelude.{◌≡◌};
-ghost use Rattle.rdf_tokens.specs.TokenReading.{symbol_at};
+ghost use Rattle.rdf_tokens.specs.Inside.TokenReading.{symbol_at};
 
 use rdf_terms::Cursor;
 
 /// The place behind the longest symbol that begins here.
-#[tactic(auto, unfolding(crate::specs::TokenReading::symbol_at))]
+#[tactic(auto, unfolding(crate::specs::Inside::TokenReading::symbol_at))]
 pub fn symbol<'a>(cursor: &Cursor<'a>) -> Option<Cursor<'a>>
     ensures { result ≡ symbol_at cursor.now }
 {

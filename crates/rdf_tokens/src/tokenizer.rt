@@ -2,7 +2,8 @@
 ghost use Rattle.std.specs.Prelude.{◌≡◌, ℕ, List, [], ◌∷◌, Ok, MatchBool, IfOk, IfErr};
 ghost use Rattle.std.specs.Str.{chars};
 ghost use Rattle.rdf_tokens.specs.Faults.{TellsFault};
-ghost use Rattle.rdf_tokens.specs.TokenReading.{token_at, number_or_symbol_at, NoPnameBefore};
+ghost use Rattle.rdf_tokens.specs.Inside.TokenReading.{as_kind, or_else, iri_end_at, pname_at, word_at, token_at, number_or_symbol_at, NoPnameBefore};
+ghost use Rattle.rdf_tokens.specs.declared.token.Kind.TheVariants.{Iri, Pname, Word};
 ghost use Rattle.rdf_tokens.specs.Tokens.{Says, HasOneTokenList, HasSomeTokenList, TokensHaveForms};
 
 use crate::dotted::{blank, pname};
@@ -16,19 +17,50 @@ use crate::token::{Kind, Token};
 use rdf_terms::{Cursor, is_pn_chars_base};
 use std::alloc::Global;
 
+/// A token of this kind, where one ends.
+fn of_kind<'a>(kind: Kind, end: Option<Cursor<'a>>) -> Option<(Kind, Cursor<'a>)>
+    ensures { result ≡ as_kind kind end.entry }
+{
+    Some((kind, end?))
+}
+
 /// A number, or otherwise a symbol.
-#[tactic(auto, unfolding(crate::specs::TokenReading::number_or_symbol_at))]
+#[tactic(auto, unfolding(crate::specs::Inside::TokenReading::number_or_symbol_at))]
 fn number_or_symbol<'a>(cursor: &Cursor<'a>) -> Option<(Kind, Cursor<'a>)>
     ensures { result ≡ number_or_symbol_at cursor.now }
 {
     match number(cursor) {
         Some(found) => Some(found),
-        None => Some((Kind::Symbol, symbol(cursor)?)),
+        None => of_kind(Kind::Symbol, symbol(cursor)),
+    }
+}
+
+/// An IRI, or otherwise a symbol.
+fn iri_or_symbol<'a>(cursor: &Cursor<'a>) -> Option<(Kind, Cursor<'a>)>
+    ensures { let iri = as_kind Iri (iri_end_at cursor.now) in
+        result ≡ or_else iri (number_or_symbol_at cursor.now) }
+{
+    match cursor.iri_end() {
+        Some(behind) => Some((Kind::Iri, behind)),
+        None => number_or_symbol(cursor),
+    }
+}
+
+/// A prefixed name, or otherwise a word. `nameless` is [`pname`]'s.
+fn pname_or_word<'a>(cursor: &Cursor<'a>, nameless: &mut usize) -> Option<(Kind, Cursor<'a>)>
+    requires { NoPnameBefore cursor.now nameless.old }
+    ensures token { let name = as_kind Pname (pname_at cursor.now) in
+        result ≡ or_else name (as_kind Word (word_at cursor.now)) }
+    ensures nameless { NoPnameBefore cursor.now nameless.new }
+{
+    match pname(cursor, nameless) {
+        Some(behind) => Some((Kind::Pname, behind)),
+        None => of_kind(Kind::Word, word(cursor)),
     }
 }
 
 /// The longest token that begins here, and the place behind it. `nameless` is [`pname`]'s.
-#[tactic(auto, unfolding(crate::specs::TokenReading::token_at))]
+#[tactic(auto, unfolding(crate::specs::Inside::TokenReading::token_at))]
 fn token<'a>(cursor: &Cursor<'a>, nameless: &mut usize) -> Option<(Kind, Cursor<'a>)>
     requires { NoPnameBefore cursor.now nameless.old }
     ensures token { result ≡ token_at cursor.now }
@@ -37,28 +69,22 @@ fn token<'a>(cursor: &Cursor<'a>, nameless: &mut usize) -> Option<(Kind, Cursor<
     let mut behind = cursor.fork();
     let c = behind.bump()?;
     if c == '<' {
-        return match cursor.iri_end() {
-            Some(behind) => Some((Kind::Iri, behind)),
-            None => number_or_symbol(cursor),
-        };
+        return iri_or_symbol(cursor);
     }
     if matches!(c, '"' | '\'') {
-        return Some((Kind::Text, text(c, cursor)?));
+        return of_kind(Kind::Text, text(c, cursor));
     }
     if matches!(c, '?' | '$') {
-        return Some((Kind::Var, variable(&behind)?));
+        return of_kind(Kind::Var, variable(&behind));
     }
     if c == '@' {
-        return Some((Kind::AtWord, behind.tag_end()?));
+        return of_kind(Kind::AtWord, behind.tag_end());
     }
     if c == '_' {
-        return Some((Kind::BlankLabel, blank(&behind)?));
+        return of_kind(Kind::BlankLabel, blank(&behind));
     }
     if is_pn_chars_base(c) || c == ':' {
-        return match pname(cursor, nameless) {
-            Some(behind) => Some((Kind::Pname, behind)),
-            None => Some((Kind::Word, word(cursor)?)),
-        };
+        return pname_or_word(cursor, nameless);
     }
     number_or_symbol(cursor)
 }

@@ -3,7 +3,8 @@ ghost use Rattle.std.specs.Prelude.{◌≡◌, ◌<◌, None, Some, false, strin
 ghost use Rattle.std.specs.Str.{chars, encode_utf8_all};
 ghost use Rattle.std.specs.List.{list_any};
 ghost use Rattle.rdf_terms.specs.Iri.{is_forbidden, has_forbidden};
-ghost use Rattle.rdf_tokens.specs.TokenTexts.{TokenSays, SaysText, value_by, OneTokenText};
+ghost use Rattle.rdf_tokens.specs.Inside.TokenValues.{value_by};
+ghost use Rattle.rdf_tokens.specs.TokenTexts.{TokenSays, SaysText, OneTokenText};
 ghost use Rattle.rdf_tokens.specs.Tokens.{HasItsForm};
 ghost use Rattle.rdf_tokens.specs.Values as spec;
 ghost use Rattle.rdf_tokens.specs.ValueLaws.{IrisHaveValues, IriValuesAreAllowed, TextsHaveValues, PrefixesAreParts, LocalsAreParts, LocalsHaveMeanings, LocalsHaveValues, PnamesAreIris};

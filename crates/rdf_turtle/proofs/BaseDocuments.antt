@@ -18,7 +18,7 @@ use Rattle.rdf_turtle.specs.declared.tree.Statement.TheVariants as s
 use Rattle.rdf_turtle.specs.Bases.{lacks, lacks_node, lacks_property, lacks_statement, based_behind, lacks_base, RelativeLacksABase}
 use Rattle.rdf_turtle.specs.Known.{holds, known_node, known_property, known_statement, declared_behind, declares_first}
 use Rattle.rdf_turtle.specs.Document.{HasTree}
-use Rattle.rdf_turtle.specs.Proper.{proper_statement}
+use Rattle.rdf_turtle.specs.Inside.Proper.{proper_statement}
 use Rattle.rdf_turtle.specs.Meaning.{meaning, property, properties, has_properties, statement, document, triples_of}
 use Rattle.rdf_grammar.specs.Keys.{key_of, same_key}
 use Rattle.rdf_grammar.specs.Prologue.{Prologue, resolved, declares, moves_base}

@@ -16,7 +16,7 @@ use Rattle.rdf_tokens.specs.declared.token.Kind.{Kind}
 use Rattle.rdf_tokens.specs.declared.token.Kind.TheVariants as kind
 use Rattle.rdf_tokens.specs.declared.token.Token.{Token}
 use Rattle.rdf_turtle.specs.Document.{HasTokens}
-use Rattle.rdf_turtle.specs.Formed.{Formed}
+use Rattle.rdf_turtle.specs.Inside.Formed.{Formed}
 use Rattle.rdf_tokens.specs.Forms.{HasForm, IsLocal}
 use Rattle.rdf_turtle.specs.Terminals.{without_case, at_word_terminal, word_terminal, symbol_terminal, terminal_of, terminal_by}
 use Rattle.rdf_grammar.specs.Lexemes.{HaveForms}

@@ -26,9 +26,8 @@ use Rattle.rdf_turtle.specs.Known.{holds, known_property_of, known_node_of, know
 use Rattle.rdf_turtle.specs.Meaning.{Meaning, Says, iri, node_of, property_of, meaning, property, has_properties, is_some_property}
 use Rattle.rdf_grammar.specs.Keys.{key_of}
 use Rattle.rdf_grammar.specs.Prologue.{knows, is_proper}
-use Rattle.rdf_turtle.specs.Proper.{is_filled, proper_verb, proper_property_of, proper_node_of, proper_node, proper_property, is_literal, proper_statement}
+use Rattle.rdf_turtle.specs.Inside.Proper.{is_filled, proper_verb, proper_property_of, proper_node_of, proper_node, proper_property, is_literal, proper_statement}
 use Rattle.rdf_grammar.specs.Terminals.{Piece}
-use Rattle.rdf_turtle.specs.Reading as read
 use Rattle.rdf_grammar.specs.Derivations as grammar
 use Rattle.rdf_grammar.specs.Derivations.{Then, Star, stop, more}
 use Rattle.rdf_turtle.specs.Grammar as g
@@ -37,7 +36,7 @@ use Rattle.rdf_grammar.specs.Productions as productions
 use Rattle.rdf_grammar.specs.declared.word.Word.{Word}
 use Rattle.rdf_grammar.specs.declared.word.Word.TheVariants as w
 use Rattle.rdf_turtle.proofs.GrammarWords.{IsJust, Tag, is_iri, is_pname, is_text, is_caret, is_integer, is_decimal, is_double, is_true, is_false, value_is, behind_is, tag_is}
-use Rattle.rdf_turtle.specs.Formed.{Formed}
+use Rattle.rdf_turtle.specs.Inside.Formed.{Formed}
 use Rattle.rdf_turtle.proofs.BaseLeaves.{is_tag_terminal, iri_utf8, local_formed, tag_formed}
 use Rattle.rdf_tokens.proofs.CallerLemmas.{local_allowed}
 use Rattle.rdf_turtle.proofs.BaseSteps.{NameFormed, VerbFormed, LiteralFormed, Any, IsIri, NoLiteral, IsMore, NodeGoes, SomeGoes, SaysGoes, AllGo, AllSay, pure_goes, map_goes, wide_goes, iri_goes, literal_goes, labelled_goes, fresh_goes, each_goes, list_term_goes, list_inside_goes, property_goes}
@@ -60,7 +59,7 @@ module _ {A B : Type 0} (f : Node-F A B → A) (h : Property-F A B → B) where
   by-Literal : (x : Literal) → fold-Node A B f h (n.Literal x) ≡ f (Node-F.Literal x)
   by-Literal x = ap (fold-Node A B f h) (sym (n.rolls-Literal x)) ∙ fold-roll-Node A B f h (Node-F.Literal x)
 
-  by-property : (verb : Verb) (objects : List Node) → fold-Property A B f h (read.property_with verb objects) ≡ h (record { verb = verb; objects = map (fold-Node A B f h) objects })
+  by-property : (verb : Verb) (objects : List Node) → fold-Property A B f h (g.property_with verb objects) ≡ h (record { verb = verb; objects = map (fold-Node A B f h) objects })
   by-property verb objects = fold-roll-Property A B f h (record { verb = verb; objects = objects })
 
 -- ---- what is good
@@ -196,10 +195,10 @@ some_map : {A B : Type 0} (f : A → B) (xs : List A) → IsMore xs → IsMore (
 some_map f [] h = h
 some_map f (x ∷ xs) h = tt
 
-property_says : (verb : Verb) (objects : List Node) → VerbFormed verb → AllByRecursion GoodNode objects × IsMore objects → PropertySays (read.property_with verb objects)
+property_says : (verb : Verb) (objects : List Node) → VerbFormed verb → AllByRecursion GoodNode objects × IsMore objects → PropertySays (g.property_with verb objects)
 property_says verb objects form all based declared k =
     let both = and_parts _ _ (sym (by-property (known_node_of declared) (known_property_of declared) verb objects) ∙ k) in
-    subst (λ (f : Says). SaysGoes based declared f (lacks_property based (read.property_with verb objects))) (sym (by-property node_of property_of verb objects))
+    subst (λ (f : Says). SaysGoes based declared f (lacks_property based (g.property_with verb objects))) (sym (by-property node_of property_of verb objects))
     (subst (λ (b : Bool). SaysGoes based declared (property_of (record { verb = verb; objects = map meaning objects })) b) (sym (by-property (lacks_node_of based) (lacks_property_of based) verb objects))
     (property_goes based declared verb (map meaning objects) (map (lacks_node based) objects) form both.0 (some_map meaning objects all.1) (all_go based declared objects all.0 both.1)))
 
@@ -224,7 +223,7 @@ filled_map : (xs : List Node) → IsMore xs → is_filled (map proper_node xs) �
 filled_map [] h = absurd h
 filled_map (x ∷ xs) h = refl
 
-good_property : (verb : Verb) (objects : List Node) → VerbFormed verb → AllByRecursion GoodNode objects × IsMore objects → GoodProperty (read.property_with verb objects)
+good_property : (verb : Verb) (objects : List Node) → VerbFormed verb → AllByRecursion GoodNode objects × IsMore objects → GoodProperty (g.property_with verb objects)
 good_property verb objects form all = record {
   proper = by-property proper_node_of proper_property_of verb objects
       ∙ and_from (proper_verb verb) _ (verb_proper verb form)
@@ -386,7 +385,7 @@ module _ (P : Derives Node) (p : Gives P GoodNode) where
       (λ others hs. pure_gives (first ∷ others) SomeNodes ((h, hs), tt)))
 
   property_gives : Gives (g.VerbObjects P) GoodProperty
-  property_gives = then_gives _ _ VerbFormed _ verb_gives (λ verb h. then_gives _ _ SomeNodes _ objects_give (λ objects hs. pure_gives (read.property_with verb objects) GoodProperty (good_property verb objects h hs)))
+  property_gives = then_gives _ _ VerbFormed _ verb_gives (λ verb h. then_gives _ _ SomeNodes _ objects_give (λ objects hs. pure_gives (g.property_with verb objects) GoodProperty (good_property verb objects h hs)))
 
   predicate_object_list_gives : Gives (g.PredicateObjectList P) SomeProperties
   predicate_object_list_gives = then_gives _ _ GoodProperty _ property_gives (λ first h. then_gives _ _ AllProperties _
@@ -438,10 +437,10 @@ unfolding Gives
 namespace_gives ts x us d w = (tt, (front_formed ts us d.0 d.4 w).1)
 
 abbrev GoodBound : Piece × Piece → Type 0
-GoodBound b = GoodStatement (read.bound b)
+GoodBound b = GoodStatement (g.bound b)
 
 binding_gives : Gives g.Binding GoodStatement
-binding_gives = map_gives read.bound _ GoodBound GoodStatement
+binding_gives = map_gives g.bound _ GoodBound GoodStatement
     (then_gives _ _ Any GoodBound namespace_gives (λ prefix h. then_gives _ _ (IsOf terminal.Iri) GoodBound (word_gives w.Iri terminal.Iri is_iri)
     (λ reference i. pure_gives (prefix, reference) GoodBound (reference_formed reference i))))
     (λ b h. h)
@@ -473,7 +472,7 @@ some_either : (inside ps : List Property) → IsMore inside → has_properties (
 some_either inside ps h =
     ap (λ (m : Meaning). has_properties m.alone ps) (by-Blank node_of property_of inside) ∙ ap (λ (b : Bool). has_properties b ps) (some_inside inside h) ∙ alone_or_behind ps
 
-some_properties : (o : Option (List Property)) → IsGoodOption SomeProperties o → AllProperties (read.all_of o)
+some_properties : (o : Option (List Property)) → IsGoodOption SomeProperties o → AllProperties (g.all_of o)
 some_properties None h = tt
 some_properties (Some ps) h = h.0
 
@@ -484,7 +483,7 @@ module _ (I P : Derives Node) (i : Gives I GoodNode) (p : Gives P GoodNode) wher
 
   about_blank_gives : Gives (g.AboutBlank I P) GoodStatement
   about_blank_gives = then_gives _ _ SomeProperties _ (blank_node_property_list_gives I i) (λ inside h. then_gives _ _ (IsGoodOption SomeProperties) _ (maybe_gives _ SomeProperties (predicate_object_list_gives P p))
-      (λ ps hs. pure_gives (s.Triples (n.Blank inside) (read.all_of ps)) GoodStatement (record { subject = good_blank inside h.0; properties = some_properties ps hs; some = some_either inside (read.all_of ps) h.1 })))
+      (λ ps hs. pure_gives (s.Triples (n.Blank inside) (g.all_of ps)) GoodStatement (record { subject = good_blank inside h.0; properties = some_properties ps hs; some = some_either inside (g.all_of ps) h.1 })))
 
   statement_gives : Gives (g.AStatement I P) GoodStatement
   statement_gives = or_gives _ _ GoodStatement directive_gives (dotted_gives _ (or_gives _ _ GoodStatement about_gives about_blank_gives))

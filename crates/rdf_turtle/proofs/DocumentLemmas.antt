@@ -1,14 +1,12 @@
 -- A text says one thing: the quads of a document, or a fault.
-use Rattle.std.proofs.Common.{◌≡◌, ◌≢◌, zero, cond, ok_or, ◌<◌, ◌+◌, ◌⊎◌, inl, inr, ℕ, suc, Bool, true, false, List, [], ◌∷◌, length, Option, Some, None, Result, Ok, Err, refl, sym, ap, subst, ◌∙◌, arith}
-use Rattle.std.proofs.lemmas.Bool.{cases_lt}
+use Rattle.std.proofs.Common.{◌≡◌, ◌≢◌, cond, ok_or, ◌<◌, ◌⊎◌, inl, inr, ℕ, Bool, true, false, List, Option, Some, None, Result, Ok, Err, refl, sym, ap, subst, ◌∙◌}
 use Rattle.std.specs.List.{slice_get}
-use Rattle.std.specs.Str.{chars, IsValidUpTo}
+use Rattle.std.specs.Str.{chars}
 use Rattle.rdf_terms.specs.declared.quad.Quad.{Quad}
 use Rattle.rdf_turtle.specs.declared.fault.TurtleFault.{TurtleFault}
 use Rattle.rdf_turtle.specs.declared.fault.TurtleFaultKind.{TurtleFaultKind}
 use Rattle.rdf_turtle.specs.declared.fault.TurtleFaultKind.TheVariants as fault
-use Rattle.rdf_turtle.specs.Lexemes.{Lexeme, IsLexeme, AreLexemes}
-use Rattle.rdf_turtle.specs.declared.terminal.Terminal.{Terminal}
+use Rattle.rdf_turtle.specs.Lexemes.{Lexeme, AreLexemes}
 use Rattle.rdf_tokens.specs.declared.token.Token.{Token}
 use Rattle.rdf_grammar.specs.declared.prologue.PrologueFault.{PrologueFault}
 use Rattle.rdf_grammar.specs.declared.prologue.PrologueFault.TheVariants as names
@@ -16,37 +14,19 @@ use Rattle.rdf_turtle.specs.declared.tree.Statement.{Statement}
 use Rattle.rdf_turtle.specs.Document.{HasTokens, HasTree, IsDocument, FaultIs, IsFaulty, TellsFault}
 use Rattle.rdf_turtle.specs.DocumentLaws.{has_free_line, OneDocument, NeverBoth, OneFault}
 use Rattle.rdf_turtle.specs.Grammar as grammar
-use Rattle.rdf_turtle.specs.Terminals.{terminal_of}
+use Rattle.rdf_turtle.specs.Terminals.{terminal_by, bracket}
 use Rattle.rdf_tokens.specs.Lines.{line_of}
-use Rattle.rdf_turtle.specs.Kept.{IsFaultOf, IsNameFault}
+use Rattle.rdf_turtle.specs.Inside.Kept.{IsFaultOf, IsNameFault}
 use Rattle.rdf_turtle.specs.Meaning.{answer}
 use Rattle.rdf_turtle.specs.Nesting.{IsTooDeep, IsTooDeepAt}
-use Rattle.rdf_turtle.specs.Stops.{Explains}
+use Rattle.rdf_turtle.specs.Inside.Stops.{Explains}
 use Rattle.rdf_tokens.specs.Tokens.{Says}
+use Rattle.rdf_grammar.proofs.TextLemmas.{got, same_lengths, one_lexemes, one_front, deep_at, one_opener}
 use Rattle.rdf_turtle.proofs.GrammarWhole.{document_unique}
-use Rattle.rdf_tokens.proofs.CallerLemmas.{one_token_list, stands_once}
+use Rattle.rdf_tokens.proofs.CallerLemmas.{one_token_list}
 use Rattle.rdf_turtle.specs.FaultName.{no_memory}
 
 -- ---- a text has one list of tokens, and one of lexemes
-
-parts_same : (x y : Terminal) (s t : List ℕ) (a b : Lexeme) → x ≡ y → s ≡ t → a ≡ record { terminal = x; text = s } → b ≡ record { terminal = y; text = t } → a ≡ b
-parts_same x y s t a b e f g h = cc
-
-one_lexeme : (text : List ℕ) (token : Token) (a b : Lexeme) → IsLexeme text token a → IsLexeme text token b → a ≡ b
-one_lexeme text token a b h k =
-    let slice : a.text ≡ b.text = stands_once text token.start token.stop a.text b.text h.0 k.0 in
-    parts_same a.terminal b.terminal a.text b.text a b (h.1 ∙ ap (λ (s : List ℕ). terminal_of token.kind s) slice ∙ sym k.1) slice refl refl
-
-lists_same : (a b : Lexeme) (ls ms : List Lexeme) → a ≡ b → ls ≡ ms → a ∷ ls ≡ b ∷ ms
-lists_same a b ls ms e f = cc
-
-one_lexemes : (text : List ℕ) (tokens : List Token) (ls ms : List Lexeme) → AreLexemes text tokens ls → AreLexemes text tokens ms → ls ≡ ms
-one_lexemes text [] [] [] h k = refl
-one_lexemes text [] [] (m ∷ ms) h k = absurd k
-one_lexemes text [] (l ∷ ls) ms h k = absurd h
-one_lexemes text (t ∷ ts) [] ms h k = absurd h
-one_lexemes text (t ∷ ts) (l ∷ ls) [] h k = absurd k
-one_lexemes text (t ∷ ts) (l ∷ ls) (m ∷ ms) h k = lists_same l m ls ms (one_lexeme text t l m h.0 k.0) (one_lexemes text ts ls ms h.1 k.1)
 
 ok_same : {A E : Type 0} (a b : A) → ◌≡◌ {A = Result A E} (Ok a) (Ok b) → a ≡ b
 ok_same a b e = cc
@@ -60,7 +40,7 @@ ok_err a b e = cc
 one_tokens : (text : List ℕ) (ts us : List Token) (ls ms : List Lexeme) → HasTokens text ts ls → HasTokens text us ms → (ts ≡ us) × (ls ≡ ms)
 one_tokens text ts us ls ms h k =
     let e : ts ≡ us = ok_same ts us (one_token_list (chars text) (Ok ts) (Ok us) h.list k.list) in
-    (e, one_lexemes (chars text) us ls ms (subst (λ (x : List Token). AreLexemes (chars text) x ls) e h.pieces) k.pieces)
+    (e, one_lexemes terminal_by (chars text) us ls ms (subst (λ (x : List Token). AreLexemes (chars text) x ls) e h.pieces) k.pieces)
 
 one_tree : (text : List ℕ) (a b : List Statement) → HasTree text a → HasTree text b → a ≡ b
 one_tree text a b h k =
@@ -93,12 +73,9 @@ shallow_tree text h = (h.1.tokens, h.1.lexemes, h.1.list, h.1.shallow)
 no_token : (text : List ℕ) (place : ℕ) → Says (chars text) (Err place) → Listed text → ⊥
 no_token text place h k = ok_err k.0 place (one_token_list (chars text) (Ok k.0) (Err place) k.2.list h)
 
-deep : (lexemes : List Lexeme) (place : ℕ) → IsTooDeepAt lexemes place → IsTooDeep lexemes
-deep lexemes place h = (place + 1, omega (arith, h.over))
-
 not_shallow : (text : List ℕ) (tokens : List Token) (lexemes : List Lexeme) (place : ℕ) → HasTokens text tokens lexemes → IsTooDeepAt lexemes place → Shallow text → ⊥
 not_shallow text tokens lexemes place h d k =
-    k.3 (subst IsTooDeep (one_tokens text tokens k.0 lexemes k.1 h k.2).1 (deep lexemes place d))
+    k.3 (subst IsTooDeep (one_tokens text tokens k.0 lexemes k.1 h k.2).1 (deep_at bracket lexemes place d))
 
 no_tree : (text : List ℕ) (tokens : List Token) (lexemes : List Lexeme) → HasTokens text tokens lexemes → ((tree : List Statement) → ¬ (grammar.IsDocument lexemes tree)) → Read text → ⊥
 no_tree text tokens lexemes h none k =
@@ -124,27 +101,6 @@ never_both base text quads f h k = not_both base text quads f.kind f.line h k
 
 -- ---- a text has one fault
 
-front_place : (text : List ℕ) (m n : ℕ) → IsValidUpTo text m → IsValidUpTo text n → ¬ (m < n)
-front_place text m n h k lt = h.longest n lt k.front
-
-no_other : (m n : ℕ) → ¬ (m < n) → ¬ (n < m) → m ≡ n
-no_other m n a b = elim (cases_lt m n) [
-  | inl l ↦ absurd (a l)
-  | inr l ↦ elim (cases_lt n m) [
-    | inl k ↦ absurd (b k)
-    | inr k ↦ omega (arith, l, k)
-  ]
-]
-
-one_front : (text : List ℕ) (m n : ℕ) → IsValidUpTo text m → IsValidUpTo text n → m ≡ n
-one_front text m n h k = no_other m n (front_place text m n h k) (front_place text n m k h)
-
-opener_place : (lexemes : List Lexeme) (m n : ℕ) → IsTooDeepAt lexemes m → IsTooDeepAt lexemes n → ¬ (m < n)
-opener_place lexemes m n h k lt = omega (arith, h.over, k.first (m + 1) (omega (arith, lt)))
-
-one_opener : (lexemes : List Lexeme) (m n : ℕ) → IsTooDeepAt lexemes m → IsTooDeepAt lexemes n → m ≡ n
-one_opener lexemes m n h k = no_other m n (opener_place lexemes m n h k) (opener_place lexemes n m k h)
-
 some_same : (a b : Token) → Some a ≡ Some b → a ≡ b
 some_same a b e = cc
 
@@ -152,7 +108,7 @@ same_opener : (text : List ℕ) (ts us : List Token) (ls ms : List Lexeme) (t u 
     → slice_get ts m ≡ Some t → slice_get us n ≡ Some u → t ≡ u
 same_opener text ts us ls ms t u m n h k d e p q =
     let lists = one_tokens text ts us ls ms h k in
-    let place : m ≡ n = one_opener ms m n (subst (λ (x : List Lexeme). IsTooDeepAt x m) lists.1 d) e in
+    let place : m ≡ n = one_opener bracket ms m n (subst (λ (x : List Lexeme). IsTooDeepAt x m) lists.1 d) e in
     some_same t u (sym p ∙ ap (λ (x : List Token). slice_get x m) lists.0 ∙ ap (λ (x : ℕ). slice_get us x) place ∙ q)
 
 abbrev Same : TurtleFaultKind → TurtleFaultKind → ℕ → ℕ → Type 0
@@ -233,17 +189,6 @@ fault_tells : (base : Option (List ℕ)) (text : List ℕ) (f : TurtleFault) (k 
 fault_tells base text f k e h =
     subst (λ (x : TurtleFaultKind). TellsFault base text f x) (sym e) (tells_at base text f k h (subst (λ (x : TurtleFaultKind). FaultIs base text x f.line) (sym e) h))
 
-pub same_lengths : (text : List ℕ) (ts : List Token) (ls : List Lexeme) → AreLexemes text ts ls → length ls ≡ length ts
-same_lengths text [] [] h = refl
-same_lengths text [] (l ∷ ls) h = absurd h
-same_lengths text (t ∷ ts) [] h = absurd h
-same_lengths text (t ∷ ts) (l ∷ ls) h = omega (arith, same_lengths text ts ls h.1)
-
-pub got : (xs : List Token) (n : ℕ) → n < length xs → (x : Token) × (slice_get xs n ≡ Some x)
-got [] n h = absurd (omega (arith, h))
-got (x ∷ xs) zero h = (x, refl)
-got (x ∷ xs) (suc n) h = got xs n (omega (arith, h))
-
 not_deep : ◌≡◌ {A = TurtleFaultKind} fault.Syntax fault.TooDeep → ⊥
 not_deep e = cc
 
@@ -252,7 +197,7 @@ stop_is : (base : Option (List ℕ)) (text : List ℕ) (ts : List Token) (ls : L
     → (IsTooDeep ls → k ≡ fault.TooDeep) → Explains ls k place → ((token : Token) → slice_get ts place ≡ Some token → start ≡ token.start)
     → k ≢ no_memory → line ≡ line_of text start → FaultIs base text k line
 stop_is base text ts ls fault.TooDeep place start line h deep why at some l =
-    let found = got ts place (subst (λ (n : ℕ). place < n) (same_lengths (chars text) ts ls h.pieces) why.within) in
+    let found = got ts place (subst (λ (n : ℕ). place < n) (same_lengths terminal_by (chars text) ts ls h.pieces) why.within) in
     (ts, ls, found.0, place, h, why, found.1, l ∙ ap (line_of text) (at found.0 found.1))
 stop_is base text ts ls fault.Syntax place start line h deep why at some l = (ts, ls, h, λ d. not_deep (deep d), why)
 stop_is base text ts ls (fault.NoMemory _) place start line h deep why at some l = absurd (some refl)

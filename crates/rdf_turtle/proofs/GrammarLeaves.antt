@@ -20,7 +20,6 @@ use Rattle.rdf_turtle.specs.declared.tree.Statement.{Statement}
 use Rattle.rdf_turtle.specs.declared.tree.Statement.TheVariants as s
 use Rattle.rdf_tokens.specs.Values.{local_part}
 use Rattle.rdf_grammar.specs.Terminals.{Piece}
-use Rattle.rdf_turtle.specs.Reading as read
 use Rattle.rdf_grammar.specs.Derivations as grammar
 use Rattle.rdf_grammar.specs.Derivations.{Then, Star, stop, more}
 use Rattle.rdf_turtle.specs.Grammar as g
@@ -70,7 +69,7 @@ leaves-Collection xs = ap node_leaves (sym (n.rolls-Collection xs)) ∙ fold-rol
 leaves-Literal : (x : Literal) → node_leaves (n.Literal x) ≡ literal_leaves x
 leaves-Literal x = ap node_leaves (sym (n.rolls-Literal x)) ∙ fold-roll-Node (List Leaf) (List Leaf) node_leaves_of property_leaves_of (Node-F.Literal x)
 
-leaves-property : (verb : Verb) (objects : List Node) → property_leaves (read.property_with verb objects) ≡ verb_leaves verb ++ joined (map node_leaves objects)
+leaves-property : (verb : Verb) (objects : List Node) → property_leaves (g.property_with verb objects) ≡ verb_leaves verb ++ joined (map node_leaves objects)
 leaves-property verb objects = fold-roll-Property (List Leaf) (List Leaf) node_leaves_of property_leaves_of (record { verb = verb; objects = objects })
 
 stand_by : (all : Lexemes) (xs ys : List Leaf) → xs ≡ ys → AllStand all ys → AllStand all xs
@@ -215,7 +214,7 @@ module _ (all : Lexemes) where
 
     property_gives : Gives all (g.VerbObjects P) GoodProperty
     property_gives = then_gives _ _ GoodVerb _ verb_gives (λ verb h. then_gives _ _ (AllByRecursion GoodNode) _ objects_give
-        (λ objects hs. pure_gives (read.property_with verb objects) GoodProperty (stand_by all _ _ (leaves-property verb objects) (all_joined all (verb_leaves verb) (joined (map node_leaves objects)) h (nodes_stand objects hs)))))
+        (λ objects hs. pure_gives (g.property_with verb objects) GoodProperty (stand_by all _ _ (leaves-property verb objects) (all_joined all (verb_leaves verb) (joined (map node_leaves objects)) h (nodes_stand objects hs)))))
 
     some_property : (o : Option Property) → IsGoodOption GoodProperty o → AllByRecursion GoodProperty (option_to_list o)
     some_property None h = tt
@@ -283,10 +282,10 @@ module _ (all : Lexemes) where
       (stands_as all (leaf_by d.0.terminal d.0.text) (terminal.Pname, x ∷ [] ∷ []) e (stands_at all ts us d.0 d.4 w), within_next all ts us d.0 d.4 w)
 
   abbrev GoodBound : Piece × Piece → Type 0
-  GoodBound b = GoodStatement (read.bound b)
+  GoodBound b = GoodStatement (g.bound b)
 
   binding_gives : Gives all g.Binding GoodStatement
-  binding_gives = map_gives read.bound _ GoodBound GoodStatement
+  binding_gives = map_gives g.bound _ GoodBound GoodStatement
       (then_gives _ _ IsNamespace GoodBound namespace_gives (λ prefix h. then_gives _ _ (IsLeaf (leaf terminal.Iri)) GoodBound (word_gives w.Iri terminal.Iri is_iri)
       (λ reference i. pure_gives (prefix, reference) GoodBound ((h, (i, tt)), tt))))
       (λ b h. h)
@@ -302,7 +301,7 @@ module _ (all : Lexemes) where
       or_gives _ _ GoodStatement (behind_gives terminal.AtPrefix _ GoodStatement (dotted_gives _ binding_gives)) (or_gives _ _ GoodStatement (behind_gives terminal.AtBase _ GoodStatement (dotted_gives _ base_gives))
       (or_gives _ _ GoodStatement (behind_gives terminal.Prefix _ GoodStatement binding_gives) (behind_gives terminal.Base _ GoodStatement base_gives)))
 
-  some_properties : (o : Option (List Property)) → IsGoodOption (AllByRecursion GoodProperty) o → AllByRecursion GoodProperty (read.all_of o)
+  some_properties : (o : Option (List Property)) → IsGoodOption (AllByRecursion GoodProperty) o → AllByRecursion GoodProperty (g.all_of o)
   some_properties None h = tt
   some_properties (Some ps) h = h
 
@@ -313,8 +312,8 @@ module _ (all : Lexemes) where
 
     about_blank_gives : Gives all (g.AboutBlank I P) GoodStatement
     about_blank_gives = then_gives _ _ (AllByRecursion GoodProperty) _ (blank_node_property_list_gives I i) (λ inside h. then_gives _ _ (IsGoodOption (AllByRecursion GoodProperty)) _ (maybe_gives _ (AllByRecursion GoodProperty) (predicate_object_list_gives P p))
-        (λ ps hs. pure_gives (s.Triples (n.Blank inside) (read.all_of ps)) GoodStatement
-        (all_joined all (node_leaves (n.Blank inside)) (joined (map property_leaves (read.all_of ps))) (stand_by all _ _ (leaves-Blank inside) (properties_stand inside h)) (properties_stand (read.all_of ps) (some_properties ps hs)), tt)))
+        (λ ps hs. pure_gives (s.Triples (n.Blank inside) (g.all_of ps)) GoodStatement
+        (all_joined all (node_leaves (n.Blank inside)) (joined (map property_leaves (g.all_of ps))) (stand_by all _ _ (leaves-Blank inside) (properties_stand inside h)) (properties_stand (g.all_of ps) (some_properties ps hs)), tt)))
 
     statement_gives : Gives all (g.AStatement I P) GoodStatement
     statement_gives = or_gives _ _ GoodStatement directive_gives (dotted_gives _ (or_gives _ _ GoodStatement about_gives about_blank_gives))

@@ -9,7 +9,7 @@ use Rattle.rdf_turtle.specs.Lexemes.{Lexemes, Reading, sees}
 use Rattle.rdf_grammar.specs.Readings.{next}
 use Rattle.rdf_grammar.specs.Terminals as front
 use Rattle.rdf_grammar.specs.Terminals.{next_terminal}
-use Rattle.rdf_turtle.specs.Reading.{more, optional_property, begins_node, sees_node}
+use Rattle.rdf_turtle.specs.Inside.Reading.{more, optional_property, begins_node, sees_node}
 
 pub node_seen : (ts : Lexemes) {k : Option Terminal} → k ≡ next_terminal ts → true ≡ begins_node k → sees_node ts ≡ true
 node_seen ts p q = ap begins_node (sym p) ∙ sym q

@@ -9,7 +9,6 @@ use Rattle.rdf_turtle.specs.declared.tree.Node.TheVariants as n
 use Rattle.rdf_turtle.specs.declared.tree.Statement.{Statement}
 use Rattle.rdf_turtle.specs.declared.tree.Statement.TheVariants as s
 use Rattle.rdf_turtle.specs.Nesting.{open_after}
-use Rattle.rdf_turtle.specs.Reading as read
 use Rattle.rdf_grammar.specs.Derivations as grammar
 use Rattle.rdf_grammar.specs.Derivations.{Then, Star, stop, more}
 use Rattle.rdf_turtle.specs.Grammar as g
@@ -34,7 +33,7 @@ module _ (limit b : ℕ) where
     objects_keeps = then_keeps bracket limit b _ _ _ _ p (λ first. then_keeps bracket limit b _ _ _ _ (star_keeps bracket limit b _ _ (one_keeps bracket limit b _ _ (behind_keeps bracket limit b terminal.Comma P Q refl p))) (λ others. pure_keeps bracket limit b (first ∷ others)))
 
     verb_objects_keeps : Keeps bracket limit b (g.VerbObjects P) (g.VerbObjects Q)
-    verb_objects_keeps = then_keeps bracket limit b _ _ _ _ verb_keeps (λ verb. then_keeps bracket limit b _ _ _ _ objects_keeps (λ objects. pure_keeps bracket limit b (read.property_with verb objects)))
+    verb_objects_keeps = then_keeps bracket limit b _ _ _ _ verb_keeps (λ verb. then_keeps bracket limit b _ _ _ _ objects_keeps (λ objects. pure_keeps bracket limit b (g.property_with verb objects)))
 
     predicate_object_list_keeps : Keeps bracket limit b (g.PredicateObjectList P) (g.PredicateObjectList Q)
     predicate_object_list_keeps = then_keeps bracket limit b _ _ _ _ verb_objects_keeps (λ first. then_keeps bracket limit b _ _ _ _
@@ -78,7 +77,7 @@ objects_at limit (suc d) b ts x us h below =
 
 module _ (limit : ℕ) where
   binding_keeps : Keeps bracket limit 0 g.Binding g.Binding
-  binding_keeps = map_keeps bracket limit 0 read.bound _ _ (shared.binding_keeps word bracket plain limit 0)
+  binding_keeps = map_keeps bracket limit 0 g.bound _ _ (shared.binding_keeps word bracket plain limit 0)
 
   base_keeps : Keeps bracket limit 0 g.Base g.Base
   base_keeps = leaf_keeps bracket limit 0 s.Base terminal.Iri refl
@@ -97,7 +96,7 @@ module _ (limit : ℕ) where
     about_keeps = then_keeps bracket limit 0 _ _ _ _ (subject_keeps limit 0 I J i) (λ subject. then_keeps bracket limit 0 _ _ _ _ (predicate_object_list_keeps limit 0 P Q p) (λ ps. pure_keeps bracket limit 0 (s.Triples subject ps)))
 
     about_blank_keeps : Keeps bracket limit 0 (g.AboutBlank I P) (g.AboutBlank J Q)
-    about_blank_keeps = then_keeps bracket limit 0 _ _ _ _ (blank_node_property_list_keeps limit 0 I J i) (λ inside. then_keeps bracket limit 0 _ _ _ _ (maybe_keeps bracket limit 0 _ _ (predicate_object_list_keeps limit 0 P Q p)) (λ ps. pure_keeps bracket limit 0 (s.Triples (n.Blank inside) (read.all_of ps))))
+    about_blank_keeps = then_keeps bracket limit 0 _ _ _ _ (blank_node_property_list_keeps limit 0 I J i) (λ inside. then_keeps bracket limit 0 _ _ _ _ (maybe_keeps bracket limit 0 _ _ (predicate_object_list_keeps limit 0 P Q p)) (λ ps. pure_keeps bracket limit 0 (s.Triples (n.Blank inside) (g.all_of ps))))
 
     statement_keeps : Keeps bracket limit 0 (g.AStatement I P) (g.AStatement J Q)
     statement_keeps = or_keeps bracket limit 0 _ _ _ _ directive_keeps (dotted_keeps _ _ (or_keeps bracket limit 0 _ _ _ _ about_keeps about_blank_keeps))

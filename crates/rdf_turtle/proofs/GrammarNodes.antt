@@ -13,7 +13,7 @@ use Rattle.rdf_turtle.specs.Lexemes.{Lexemes, Reading, sees, Derives, Test}
 use Rattle.rdf_grammar.specs.Terminals.{next_terminal}
 use Rattle.rdf_grammar.specs.Derivations as grammar
 use Rattle.rdf_grammar.specs.Derivations.{Then, Star, stop, more}
-use Rattle.rdf_turtle.specs.Reading as read
+use Rattle.rdf_turtle.specs.Inside.Reading as read
 use Rattle.rdf_turtle.specs.Grammar as g
 use Rattle.rdf_grammar.proofs.Decides.{always, Decides, then_decides, pure_decides, repeat_decides}
 use Rattle.rdf_grammar.proofs.Terminals.{the_decides, value_decides, after_terminal, starts_with, the_terminal, value_terminal, terminal_seen, seen_terminal, unseen}
@@ -123,7 +123,7 @@ module _ (node : Reading Node) (Node' : Derives Node) (r : IsNodeRule node Node'
   property_decides : Decides (read.property node) (g.VerbObjects Node') ends_objects
   unfolding read.property
   property_decides =
-      seq _ _ _ _ ends_objects verb_decides (λ v. then_decides _ _ _ _ ends_objects ends_objects objects_decide (λ os. pure_decides (read.property_with v os) ends_objects) (λ a mid b us h e. rw h.1 e))
+      seq _ _ _ _ ends_objects verb_decides (λ v. then_decides _ _ _ _ ends_objects ends_objects objects_decide (λ os. pure_decides (g.property_with v os) ends_objects) (λ a mid b us h e. rw h.1 e))
 
   property_begins : (ts : Lexemes) (x : Property) (us : Lexemes) → g.VerbObjects Node' ts x us → read.sees_verb ts ≡ true
   property_begins ts x us h = verb_begins ts h.first h.mid h.reads
@@ -161,11 +161,11 @@ module _ (node : Reading Node) (Node' : Derives Node) (r : IsNodeRule node Node'
   predicate_object_list_begins ts x us h = property_begins ts h.first h.mid h.reads
 
   abbrev pub OptionalPredicateObjectList : Derives (List Property)
-  OptionalPredicateObjectList = grammar.◌<$>◌ read.all_of (grammar.maybe (g.PredicateObjectList Node'))
+  OptionalPredicateObjectList = grammar.◌<$>◌ g.all_of (grammar.maybe (g.PredicateObjectList Node'))
 
   pub optional_predicate_object_list_decides : Decides (read.optional_predicate_object_list node) OptionalPredicateObjectList ends_list
   unfolding read.optional_predicate_object_list
-  optional_predicate_object_list_decides = last read.all_of _ _ ends_list (maybe_decides read.sees_verb (read.predicate_object_list node) (g.PredicateObjectList Node') ends_list ends_list predicate_object_list_decides
+  optional_predicate_object_list_decides = last g.all_of _ _ ends_list (maybe_decides read.sees_verb (read.predicate_object_list node) (g.PredicateObjectList Node') ends_list ends_list predicate_object_list_decides
       predicate_object_list_begins (λ us h. objects_no_verb (next_terminal us) (list_objects (next_terminal us) h)) (λ us h. h))
 
   -- "[" predicateObjectList? "]"
@@ -302,7 +302,7 @@ module _ (node : Reading Node) (Node' : Derives Node) (r : IsNodeRule node Node'
   pub bracketed_is : (ts : Lexemes) (ps : List Property) (us : Lexemes) → Bracketed ts ps us → (g.Anonymous Node' ts ps us) ⊎ (g.BlankNodePropertyList Node' ts ps us)
   bracketed_is ts ps us h = at h.goes.reads.first h.goes.reads.reads h.goes.reads.goes
     where
-      at : (o : Option (List Property)) → grammar.maybe (g.PredicateObjectList Node') h.mid o h.goes.reads.mid → grammar.pure (read.all_of o) h.goes.reads.mid h.goes.first h.goes.mid
+      at : (o : Option (List Property)) → grammar.maybe (g.PredicateObjectList Node') h.mid o h.goes.reads.mid → grammar.pure (g.all_of o) h.goes.reads.mid h.goes.first h.goes.mid
           → (g.Anonymous Node' ts ps us) ⊎ (g.BlankNodePropertyList Node' ts ps us)
       at None m e =
           let z = h.goes.goes in

@@ -17,7 +17,7 @@ use Rattle.rdf_grammar.specs.Derivations as grammar
 use Rattle.rdf_grammar.specs.Derivations.{Then}
 use Rattle.rdf_grammar.specs.ProductionReadings as productions
 use Rattle.rdf_grammar.specs.ProductionReadings.{ends_literal}
-use Rattle.rdf_turtle.specs.Reading as read
+use Rattle.rdf_turtle.specs.Inside.Reading as read
 use Rattle.rdf_turtle.specs.Grammar as g
 use Rattle.rdf_grammar.proofs.Decides.{always, Decides}
 use Rattle.rdf_grammar.proofs.Terminals.{the_terminal, word_sound, word_complete, word_strict}

@@ -16,7 +16,7 @@ use Rattle.rdf_turtle.specs.Terminals.{same_terminal, apart, word}
 use Rattle.rdf_grammar.specs.Readings.{any, is_nil, is_more}
 use Rattle.rdf_grammar.specs.Derivations as grammar
 use Rattle.rdf_grammar.specs.Derivations.{Then, Star, stop, more}
-use Rattle.rdf_turtle.specs.Reading as read
+use Rattle.rdf_turtle.specs.Inside.Reading as read
 use Rattle.rdf_turtle.specs.Grammar as g
 use Rattle.rdf_grammar.proofs.Decides.{always, Decides, then_decides, pure_decides, repeat_decides}
 use Rattle.rdf_grammar.proofs.Terminals.{the_decides, value_decides, after_terminal, the_terminal, value_terminal, any_the}
@@ -29,7 +29,7 @@ use Rattle.rdf_turtle.proofs.GrammarNodes.{ends_list, IsNodeRule, node_rule, Bra
 
 binding_decides : Decides read.binding g.Binding always
 unfolding read.binding
-binding_decides = last read.bound _ _ always (shared.binding_decides word)
+binding_decides = last g.bound _ _ always (shared.binding_decides word)
 
 base_decides : Decides read.base g.Base always
 unfolding read.base
@@ -103,7 +103,7 @@ module _ (inner node : Reading Node) (Inner Node' : Derives Node) (ri : IsNodeRu
   Rest subject = grammar.◌>>=◌ (g.PredicateObjectList Node') (λ ps. grammar.pure (s.Triples subject ps))
 
   abbrev MaybeRest : List Property → Derives Statement
-  MaybeRest inside = grammar.◌>>=◌ (grammar.maybe (g.PredicateObjectList Node')) (λ ps. grammar.pure (s.Triples (n.Blank inside) (read.all_of ps)))
+  MaybeRest inside = grammar.◌>>=◌ (grammar.maybe (g.PredicateObjectList Node')) (λ ps. grammar.pure (s.Triples (n.Blank inside) (g.all_of ps)))
 
   -- a propList isn't empty
   blank_node_property_list_some : (ts : Lexemes) (inside : List Property) (mid : Lexemes) → g.BlankNodePropertyList Inner ts inside mid → (p : Property) × (qs : List Property) × (p ∷ qs ≡ inside)
@@ -182,13 +182,13 @@ module _ (inner node : Reading Node) (Inner Node' : Derives Node) (ri : IsNodeRu
   triples_complete ts x us (inr h) e =
       let p = blank_node_property_list_some ts h.first h.mid h.reads in
       let z = h.goes in
-      let m = some_behind h.first p.0 p.1 p.2 h.mid (read.all_of z.first) z.mid (record { first = z.first; mid = z.mid; reads = z.reads; goes = (refl, refl) }) in
+      let m = some_behind h.first p.0 p.1 p.2 h.mid (g.all_of z.first) z.mid (record { first = z.first; mid = z.mid; reads = z.reads; goes = (refl, refl) }) in
       rw (the_terminal terminal.OpenBracket ts h.reads.mid h.reads.first h.reads.reads)
       (about_blank_decides.complete ts x us (record {
         first = h.first;
         mid = h.mid;
         reads = blank_node_property_list_is inner Inner ri ts h.first h.mid h.reads;
-        goes = record { first = read.all_of z.first; mid = z.mid; reads = m; goes = z.goes };
+        goes = record { first = g.all_of z.first; mid = z.mid; reads = m; goes = z.goes };
       }) e)
 
   iri_begins : (ts : Lexemes) → (next_terminal ts ≡ Some terminal.Iri) ⊎ (next_terminal ts ≡ Some terminal.Pname) → read.begins_subject (next_terminal ts) ≡ true
@@ -221,7 +221,7 @@ module _ (inner node : Reading Node) (Inner Node' : Derives Node) (ri : IsNodeRu
         first = h.first;
         mid = h.mid;
         reads = blank_node_property_list_is inner Inner ri ts h.first h.mid h.reads;
-        goes = record { first = read.all_of z.first; mid = z.mid; reads = some_behind h.first p.0 p.1 p.2 h.mid (read.all_of z.first) z.mid (record { first = z.first; mid = z.mid; reads = z.reads; goes = (refl, refl) }); goes = z.goes };
+        goes = record { first = g.all_of z.first; mid = z.mid; reads = some_behind h.first p.0 p.1 p.2 h.mid (g.all_of z.first) z.mid (record { first = z.first; mid = z.mid; reads = z.reads; goes = (refl, refl) }); goes = z.goes };
       })
 
   either_shorter : (ts : Lexemes) (x : Statement) (us : Lexemes) → AboutSubject ts x us ⊎ AboutBracketed ts x us → length us ≤ length ts

@@ -7,9 +7,9 @@ use Rattle.rdf_grammar.specs.declared.fault.GrammarFault.TheVariants.{Syntax, No
 use Rattle.rdf_turtle.specs.Lexemes.{Lexemes}
 use Rattle.rdf_grammar.specs.Readings.{Fails}
 use Rattle.rdf_turtle.specs.Nesting.{open_after, IsTooDeep, IsTooDeepAt}
-use Rattle.rdf_turtle.specs.Reading.{document}
+use Rattle.rdf_turtle.specs.Inside.Reading.{document}
 use Rattle.rdf_turtle.specs.Grammar.{IsDocument}
-use Rattle.rdf_turtle.specs.Stops.{Explains}
+use Rattle.rdf_turtle.specs.Inside.Stops.{Explains}
 use Rattle.rdf_turtle.specs.GrammarFaults.{kind_of}
 use Rattle.rdf_turtle.proofs.GrammarStatements.{document_decides}
 use Rattle.rdf_grammar.proofs.Decides.{some_pair}

@@ -1,13 +1,16 @@
 -- A turn of each loop of the reading.
 use Rattle.std.proofs.Common.{◌≡◌, ◌∙◌, ap, refl, sym, ℕ, suc, ◌+◌, ◌<◌, List, ◌∷◌, map, drop, length, get_or, drop-cons, add-one, Some, cond, Bool, true, false, true≢false}
+use Rattle.std.proofs.lemmas.Option.{same_Some}
 use Rattle.rdf_terms.specs.declared.term.Term.{Term}
 use Rattle.rdf_terms.specs.Vocabulary.{rdf_first, rdf_rest}
 use Rattle.rdf_turtle.specs.declared.tree.Node.{Node}
 use Rattle.rdf_turtle.specs.declared.tree.Statement.{Statement}
+use Rattle.rdf_turtle.specs.Inside.Cells as cells
 use Rattle.rdf_turtle.specs.Known.{known_statement, declared_behind, declares_first}
 use Rattle.rdf_turtle.specs.Meaning.{Meaning, meaning, object, behind}
 use Rattle.rdf_turtle.specs.State.{State, fresh, says}
 use Rattle.rdf_grammar.specs.Steps.{Step, and_then, each}
+use Rattle.rdf_turtle.proofs.ScopeSteps.{then_parts}
 
 drop_is : {A : Type 0} (xs : List A) (i : ℕ) (x : A) → i < length xs → x ≡ get_or xs i x → drop i xs ≡ x ∷ drop (suc i) xs
 drop_is {A = A} xs i x l is = drop-cons xs i x l ∙ ap (λ (y : A). y ∷ drop (suc i) xs) (sym is)
@@ -18,18 +21,20 @@ pub next_step : {S A B : Type 0} (f : B → Step S (Unit {0})) (g : A → B) (xs
 next_step {A = A} f g xs i x s u l is h =
     rw add-one (ap (λ (ys : List A). each f (map g ys) s) (drop_is xs i x l is) ∙ ap (λ o. and_then o (λ _. each f (map g (drop (suc i) xs)))) h)
 
-cell_step : (cell next : Term) (m : Meaning) (ms : List Meaning) (s s1 s2 u : State) → fresh s ≡ Some (next, s1) → says cell rdf_rest next s1 ≡ Some (tt, s2) → object next rdf_first m s2 ≡ Some (tt, u)
-    → behind cell (m ∷ ms) s ≡ behind next ms u
-cell_step cell next m ms s s1 s2 u h1 h2 h3 = rw (h1, h2, h3) refl
+cell_step : (cell next : Term) (m : Meaning) (ms : List Meaning) (s u : State) → cells.next_cell cell rdf_rest rdf_first m s ≡ Some (next, u) → behind cell (m ∷ ms) s ≡ behind next ms u
+cell_step cell next m ms s u h =
+    let p = then_parts (fresh s) _ (next, u) h in
+    let q = then_parts (says cell rdf_rest p.0 p.1) _ (next, u) p.3 in
+    let r = then_parts (object p.0 rdf_first m q.1) _ (next, u) q.3 in
+    rw (p.2, q.2, r.2) (ap (λ (g : Term × State). behind g.0 ms g.1) (same_Some _ _ r.3))
 
 -- the next cell of a list
-pub next_cell : (cell next said : Term) (first rest : List ℕ) (items : List Node) (i : ℕ) (x : Node) (s s1 s2 u : State) → first ≡ rdf_first → rest ≡ rdf_rest → said ≡ next
-    → i < length items → x ≡ get_or items i x → fresh s ≡ Some (next, s1) → says cell rest said s1 ≡ Some (tt, s2) → object next first (meaning x) s2 ≡ Some (tt, u)
-    → behind cell (map meaning (drop i items)) s ≡ behind next (map meaning (drop (i + 1) items)) u
-next_cell cell next said first rest items i x s s1 s2 u e1 e2 e3 l is h1 h2 h3 =
-    let k2 : says cell rdf_rest next s1 ≡ Some (tt, s2) = ap (λ (p : List ℕ). says cell p next s1) (sym e2) ∙ ap (λ (o : Term). says cell rest o s1) (sym e3) ∙ h2 in
-    let k3 : object next rdf_first (meaning x) s2 ≡ Some (tt, u) = ap (λ (p : List ℕ). object next p (meaning x) s2) (sym e1) ∙ h3 in
-    rw add-one (ap (λ (ys : List Node). behind cell (map meaning ys) s) (drop_is items i x l is) ∙ cell_step cell next (meaning x) (map meaning (drop (suc i) items)) s s1 s2 u h1 k2 k3)
+pub next_cell : (cell next : Term) (first rest : List ℕ) (items : List Node) (i : ℕ) (x : Node) (s u : State) → first ≡ rdf_first → rest ≡ rdf_rest → i < length items → x ≡ get_or items i x
+    → cells.next_cell cell rest first (meaning x) s ≡ Some (next, u) → behind cell (map meaning (drop i items)) s ≡ behind next (map meaning (drop (i + 1) items)) u
+next_cell cell next first rest items i x s u e1 e2 l is h =
+    let k1 : cells.next_cell cell rdf_rest first (meaning x) s ≡ Some (next, u) = ap (λ (p : List ℕ). cells.next_cell cell p first (meaning x) s) (sym e2) ∙ h in
+    let k2 : cells.next_cell cell rdf_rest rdf_first (meaning x) s ≡ Some (next, u) = ap (λ (p : List ℕ). cells.next_cell cell rdf_rest p (meaning x) s) (sym e1) ∙ k1 in
+    rw add-one (ap (λ (ys : List Node). behind cell (map meaning ys) s) (drop_is items i x l is) ∙ cell_step cell next (meaning x) (map meaning (drop (suc i) items)) s u k2)
 
 both_of : (b c : Bool) → cond b c false ≡ true → (b ≡ true) × (c ≡ true)
 both_of true c e = (refl, e)

@@ -1,5 +1,5 @@
 -- A document that is read statement by statement.
-use Rattle.std.proofs.Common.{◌≡◌, ℕ, ◌+◌, ◌≤◌, length, arith, true, false, List, [], ◌∷◌, ◌++◌, Option, Ok, refl, sym, ap, subst, ◌∙◌, append_assoc}
+use Rattle.std.proofs.Common.{◌≡◌, ℕ, ◌+◌, ◌≤◌, length, arith, true, false, List, [], ◌∷◌, ◌++◌, Option, Some, Ok, refl, sym, ap, subst, ◌∙◌, append_assoc}
 use Rattle.std.proofs.lemmas.List.{append-nil}
 use Rattle.std.specs.List.{AllByRecursion}
 use Rattle.rdf_terms.specs.Quad.{QuadParts}
@@ -7,69 +7,81 @@ use Rattle.rdf_turtle.specs.declared.tree.Statement.{Statement}
 use Rattle.rdf_tokens.specs.declared.token.Token.{Token}
 use Rattle.rdf_turtle.specs.Document as text_of
 use Rattle.rdf_turtle.specs.Document.{HasTokens}
-use Rattle.rdf_turtle.specs.Formed.{Formed}
+use Rattle.rdf_turtle.specs.Inside.Formed.{Formed}
 use Rattle.rdf_turtle.specs.Grammar.{IsDocument}
 use Rattle.rdf_turtle.specs.Known.{known_statement, declared_behind, declares_first}
 use Rattle.rdf_turtle.specs.Meaning as meaning
 use Rattle.rdf_turtle.specs.Nesting.{IsTooDeep}
 use Rattle.rdf_grammar.specs.Prologue as prologue
 use Rattle.rdf_grammar.specs.Readings.{is_more, one}
-use Rattle.rdf_turtle.specs.Reading.{node, statement, document}
+use Rattle.rdf_turtle.specs.Inside.Reading.{node, statement, document}
 use Rattle.rdf_turtle.specs.Lexemes.{Lexemes}
 use Rattle.rdf_turtle.specs.State.{State, start}
 use Rattle.rdf_grammar.specs.Steps.{and_then}
-use Rattle.rdf_turtle.specs.Turns.{Turn}
+use Rattle.rdf_turtle.specs.Inside.Turns.{Turn, Turns}
 use Rattle.rdf_turtle.proofs.BaseTrees.{statement_of_formed}
 use Rattle.rdf_grammar.proofs.Repeats.{one_reads, no_more, Going, going_starts, going_on, going_done}
 use Rattle.rdf_turtle.proofs.GrammarStatements.{statement_derived}
 use Rattle.rdf_turtle.proofs.GrammarWhole.{found_alone}
 
--- The lexemes but for those that are left were read as statements, which leave this state and these prefixes.
-pub record Read (base : Option (List ℕ)) (whole now : Lexemes) (state : State) (declared : List (List ℕ)) : Type 0 where
+-- The lexemes but for those that are left were read as statements, which lead from one state to the other and leave these prefixes.
+pub record Read (before : State) (whole now : Lexemes) (state : State) (declared : List (List ℕ)) : Type 0 where
   pub tree : List Statement
   pub going : Going is_more (one (statement (node 100) (node 101))) (document 100 whole) tree now
-  pub says : (ss : List Statement) → meaning.document (tree ++ ss) (start base) ≡ meaning.document ss state
+  pub says : (ss : List Statement) → meaning.document (tree ++ ss) before ≡ meaning.document ss state
   pub known : (ss : List Statement) → declares_first [] (tree ++ ss) ≡ declares_first declared ss
   pub formed : AllByRecursion Formed now
   pub prefixes : declared ≡ prologue.declared state.prologue
   pub room : state.numbering.next + length now ≤ length state.quads + length whole
 
-pub read_starts : (base : Option (List ℕ)) (whole : Lexemes) → AllByRecursion Formed whole → Read base whole whole (start base) []
+pub read_starts : (before : State) (whole now : Lexemes) (declared : List (List ℕ)) → AllByRecursion Formed whole → prologue.declared before.prologue ≡ [] → before.numbering.next ≤ length before.quads
+    → declared ≡ [] → now ≡ whole → Read before whole now before declared
 unfolding document
-read_starts base whole formed = record { tree = []; going = going_starts _ _ whole; says = λ ss. refl; known = λ ss. refl; formed = formed; prefixes = refl; room = omega arith }
+read_starts before whole now declared formed none room p q =
+    let first : Read before whole whole before [] = record {
+      tree = [];
+      going = going_starts _ _ whole;
+      says = λ ss. refl;
+      known = λ ss. refl;
+      formed = formed;
+      prefixes = sym none;
+      room = omega (arith, room);
+    } in
+    subst (λ (w : Lexemes). Read before whole w before declared) (sym q) (subst (λ (d : List (List ℕ)). Read before whole whole before d) (sym p) first)
 
 behind : (s : Statement) (ss : List Statement) (declared : List (List ℕ)) → known_statement declared s ≡ true → declares_first declared (s ∷ ss) ≡ declares_first (declared_behind declared s) ss
 behind s ss declared known = rw known refl
 
-pub read_starts_at : (base b : Option (List ℕ)) (whole now : Lexemes) (state : State) (declared : List (List ℕ)) → AllByRecursion Formed whole → b ≡ base → state ≡ start b → declared ≡ [] → now ≡ whole → Read base whole now state declared
-read_starts_at base b whole now state declared formed p q r e =
-    subst (λ (w : Lexemes). Read base whole w state declared) (sym e)
-    (subst (λ (d : List (List ℕ)). Read base whole whole state d) (sym r)
-    (subst (λ (s : State). Read base whole whole s []) (sym (q ∙ ap start p)) (read_starts base whole formed)))
-
-pub read_on : {base : Option (List ℕ)} {whole now then : Lexemes} {state u : State} {declared more : List (List ℕ)}
-    → Read base whole now state declared → is_more now ≡ true → Turn now then state u declared more → Read base whole then u more
-read_on {base = base} {whole = whole} {now = now} {then = then} {state = state} {u = u} {declared = declared} r is_left t =
+pub read_on : {before : State} {whole now then : Lexemes} {state u : State} {declared more : List (List ℕ)}
+    → Read before whole now state declared → is_more now ≡ true → Turn now then state u declared more → Read before whole then u more
+read_on {before = before} {whole = whole} {now = now} {then = then} {state = state} {u = u} {declared = declared} r is_left t =
     let s = t.tree in
-    let next : Read base whole then u (declared_behind declared s) = record {
+    let next : Read before whole then u (declared_behind declared s) = record {
       tree = r.tree ++ s ∷ [];
       going = going_on (s ∷ []) then r.going is_left (one_reads (statement (node 100) (node 101)) _ _ _ t.reads) t.shorter;
-      says = λ ss. ap (λ (l : List Statement). meaning.document l (start base)) (append_assoc r.tree (s ∷ []) ss) ∙ r.says (s ∷ ss) ∙ ap (λ o. and_then o (λ _. meaning.document ss)) t.says;
-      known = λ ss. ap (declares_first []) (append_assoc r.tree (s ∷ []) ss) ∙ r.known (s ∷ ss) ∙ behind s ss declared t.known;
+      says = λ ss. ap (λ (l : List Statement). meaning.document l before) (append_assoc r.tree (s ∷ []) ss) ∙ r.says (s ∷ ss) ∙ ap (λ o. and_then o (λ _. meaning.document ss)) t.said.says;
+      known = λ ss. ap (declares_first []) (append_assoc r.tree (s ∷ []) ss) ∙ r.known (s ∷ ss) ∙ behind s ss declared t.said.known;
       formed = (statement_of_formed now s then r.formed (statement_derived now then s t.reads)).1;
-      prefixes = ap (λ (d : List (List ℕ)). declared_behind d s) r.prefixes ∙ sym t.prologue;
-      room = omega (arith, r.room, t.room, t.shorter);
+      prefixes = ap (λ (d : List (List ℕ)). declared_behind d s) r.prefixes ∙ sym t.said.prologue;
+      room = omega (arith, r.room, t.said.room, t.shorter);
     } in
-    subst (λ (d : List (List ℕ)). Read base whole then u d) (sym t.declares) next
+    subst (λ (d : List (List ℕ)). Read before whole then u d) (sym t.said.declares) next
 
-pub read_done : {base : Option (List ℕ)} {whole now : Lexemes} {state : State} {declared : List (List ℕ)} (quads : List QuadParts)
-    → Read base whole now state declared → is_more now ≡ false → quads ≡ state.quads
-    → (tree : List Statement) × IsDocument whole tree × (meaning.answer base tree ≡ Ok quads)
+pub read_done : {before : State} {whole now : Lexemes} {state : State} {declared : List (List ℕ)} → Read before whole now state declared → is_more now ≡ false → Turns whole before state
+read_done {before = before} {whole = whole} {now = now} r no_more_left = record {
+  tree = r.tree;
+  reads = found_alone whole r.tree now (going_done r.going no_more_left) (no_more now (sym no_more_left));
+  declares = ap (declares_first []) (sym (append-nil r.tree)) ∙ r.known [];
+  says = ap (λ (l : List Statement). meaning.document l before) (sym (append-nil r.tree)) ∙ r.says [];
+}
+
+-- what is said from the start is the answer
+pub said_answer : (base b : Option (List ℕ)) (whole : Lexemes) (before behind : State) (quads : List QuadParts)
+    → Turns whole before behind → before ≡ start b → b ≡ base → quads ≡ behind.quads → (tree : List Statement) × IsDocument whole tree × (meaning.answer base tree ≡ Ok quads)
 unfolding meaning.triples_of
-read_done {base = base} {whole = whole} {now = now} quads r no_more_left e =
-    let known : declares_first [] r.tree ≡ true = ap (declares_first []) (sym (append-nil r.tree)) ∙ r.known [] in
-    let said : meaning.document r.tree (start base) ≡ meaning.document [] _ = ap (λ (l : List Statement). meaning.document l (start base)) (sym (append-nil r.tree)) ∙ r.says [] in
-    (r.tree, found_alone whole r.tree now (going_done r.going no_more_left) (no_more now (sym no_more_left)), rw (known, said, e) refl)
+said_answer base b whole before behind quads t s e q =
+    let said : meaning.document t.tree (start base) ≡ Some (tt, behind) = ap (meaning.document t.tree) (sym (s ∙ ap start e)) ∙ t.says in
+    (t.tree, t.reads, rw (t.declares, said, q) refl)
 
 pub straight_document : (base : Option (List ℕ)) (text : List ℕ) (quads : List QuadParts) (lexemes seen : Lexemes)
     → ((tokens : List Token) × HasTokens text tokens lexemes) → seen ≡ lexemes

@@ -6,7 +6,7 @@ use Rattle.rdf_tokens.specs.declared.token.Kind.{Kind}
 use Rattle.rdf_tokens.specs.declared.token.Token.{Token}
 use Rattle.rdf_tokens.specs.Characters.{is_white}
 use Rattle.rdf_turtle.specs.Terminals.{terminal_of}
-use Rattle.rdf_tokens.specs.TokenReading.{token_at}
+use Rattle.rdf_tokens.specs.Inside.TokenReading.{token_at}
 use Rattle.rdf_tokens.specs.Tokens.{HasGap, Ends, Runs}
 use Rattle.rdf_tokens.proofs.CallerLemmas.{Within, within_start, token_is}
 

@@ -36,7 +36,7 @@ use Rattle.rdf_terms.specs.Blanks.{blanks_in, blanks_in_graph, blanks_of}
 use Rattle.rdf_grammar.specs.Literals.{known_literal, literal_of}
 use Rattle.rdf_turtle.specs.Known.{known_verb, known_property_of, known_node_of, known_node, known_property, known_statement, declares_first}
 use Rattle.rdf_turtle.specs.Meaning.{Meaning, Says, only, iri, verb, literal, object, node_of, property_of, meaning, property, statement, document, triples_of, answer}
-use Rattle.rdf_turtle.specs.Reading.{property_with}
+use Rattle.rdf_turtle.specs.Grammar.{property_with}
 use Rattle.rdf_grammar.specs.Prologue.{resolved}
 use Rattle.rdf_grammar.specs.References.{resolve}
 use Rattle.rdf_turtle.specs.State.{State, Does, start, labelled, triple, says}

@@ -1,11 +1,10 @@
 -- The numbers of written blank nodes: each is the one that its label has by first appearance.
-use Rattle.std.proofs.Common.{◌≡◌, ◌≢◌, ◌∙◌, ◌⊎◌, ap, refl, sym, inl, inr, ℕ, ◌+◌, ◌<◌, ◌≤◌, ◌^◌, arith, Bool, true, false, cond, List, [], ◌∷◌, ◌++◌, drop, append_assoc, Option, Some, None, Contains}
+use Rattle.std.proofs.Common.{◌≡◌, ◌≢◌, ◌∙◌, ◌⊎◌, ap, refl, sym, inl, inr, ℕ, ◌+◌, ◌<◌, ◌≤◌, ◌^◌, arith, List, [], ◌∷◌, ◌++◌, drop, append_assoc, Option, Some, None, Contains}
 use Rattle.std.specs.List.{flat_map}
 use Rattle.std.specs.Map.{lookup}
 use Rattle.std.proofs.lemmas.Bool.{cases_lt}
 use Rattle.std.proofs.lemmas.Fmt.{decimal_injective}
 use Rattle.std.proofs.lemmas.List.Elements.{Contains-push_cases}
-use Rattle.std.proofs.lemmas.Slice.Eq.{bytes_eq-Decides}
 use Rattle.std.proofs.lemmas.Str.{encodes-IsAscii}
 use Rattle.indexmap.specs.IndexMap.{insert_entry}
 use Rattle.rdf_terms.specs.declared.quad.Quad.{Quad}
@@ -13,6 +12,7 @@ use Rattle.rdf_terms.specs.declared.term.Term.TheVariants.{Blank}
 use Rattle.rdf_terms.specs.Blanks.{AreNumberedInOrder, blanks_of}
 use Rattle.rdf_terms.proofs.WrittenNumberLemmas.{blank_ascii}
 use Rattle.rdf_grammar.specs.Keys.{key_of, same_key}
+use Rattle.rdf_grammar.proofs.KeyEntries.{found, kept}
 use Rattle.rdf_turtle.specs.State.{State, start, labelled}
 use Rattle.rdf_turtle.proofs.WrittenTerms.{label_slice}
 
@@ -59,40 +59,6 @@ key_is n h = encodes-IsAscii (label_slice n) (blank_ascii n h)
 
 keys_apart : (m n : ℕ) → m < 2 ^ 64 → n < 2 ^ 64 → m ≢ n → key m ≢ key n
 keys_apart m n h k apart e = apart (decimal_injective m n h k (ap (λ (t : List ℕ). drop 3 t) (sym (key_is m h) ∙ e ∙ key_is n k)))
-
-abbrev Entries : Type 0
-Entries = List (List ℕ × ℕ)
-
-key_same : (a : List ℕ) → same_key a a ≡ true
-key_same a = (bytes_eq-Decides a a).1 refl
-
-key_apart : (a b : List ℕ) → a ≢ b → same_key a b ≡ false
-key_apart a b apart = by (same_key a b) refl
-  where
-    by : (t : Bool) → same_key a b ≡ t → t ≡ false
-    by true e = absurd (apart ((bytes_eq-Decides a b).0 e))
-    by false e = refl
-
-found : (a : List ℕ) (n : ℕ) (es : Entries) → lookup (same_key a) (insert_entry same_key es a n) ≡ Some n
-found a n [] = rw key_same refl
-found a n (e ∷ es) = by (same_key a e.0) refl (found a n es)
-  where
-    by : (t : Bool) → same_key a e.0 ≡ t → lookup (same_key a) (insert_entry same_key es a n) ≡ Some n
-        → lookup (same_key a) (cond t ((e.0, n) ∷ es) (e ∷ insert_entry same_key es a n)) ≡ Some n
-    by true at rest = rw at refl
-    by false at rest = rw at rest
-
-kept : (a : List ℕ) (n : ℕ) (other : List ℕ) (es : Entries) → other ≢ a → lookup (same_key other) (insert_entry same_key es a n) ≡ lookup (same_key other) es
-kept a n other [] apart = rw (key_apart other a apart) refl
-kept a n other (e ∷ es) apart = by (same_key a e.0) refl (kept a n other es apart)
-  where
-    by : (t : Bool) → same_key a e.0 ≡ t → lookup (same_key other) (insert_entry same_key es a n) ≡ lookup (same_key other) es
-        → lookup (same_key other) (cond t ((e.0, n) ∷ es) (e ∷ insert_entry same_key es a n)) ≡ lookup (same_key other) (e ∷ es)
-    by true at rest =
-        let same : a ≡ e.0 = (bytes_eq-Decides a e.0).0 at in
-        let differs : same_key other e.0 ≡ false = key_apart other e.0 (λ is. apart (is ∙ sym same)) in
-        rw differs refl
-    by false at rest = ap (λ (o : Option ℕ). cond (same_key other e.0) (Some e.1) o) rest
 
 -- ---- states
 

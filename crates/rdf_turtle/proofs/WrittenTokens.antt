@@ -17,7 +17,7 @@ use Rattle.rdf_terms.proofs.WrittenTextLemmas.{by_escape}
 use Rattle.rdf_tokens.specs.declared.token.Kind.TheVariants as kind
 use Rattle.rdf_tokens.specs.Characters.{is_name_start}
 use Rattle.rdf_tokens.specs.Forms.{IsDotted, IsNamePart}
-use Rattle.rdf_tokens.specs.TokenReading.{as_kind, or_else, skip_dots, iri_end_at, quoted_end_at, two_at, three_at, long_at, text_at, digits_at, skip_sign, fraction_at, unsigned_at, number_at, symbol_at, name_part_at, dotted_at, label_at, blank_at, number_or_symbol_at, token_at}
+use Rattle.rdf_tokens.specs.Inside.TokenReading.{as_kind, or_else, skip_dots, iri_end_at, quoted_end_at, two_at, three_at, long_at, text_at, digits_at, skip_sign, fraction_at, unsigned_at, number_at, symbol_at, name_part_at, dotted_at, label_at, blank_at, number_or_symbol_at, token_at}
 use Rattle.rdf_tokens.proofs.CallerLemmas.{name_unit, dotted_over, dotted_stop}
 
 -- ---- IRIs

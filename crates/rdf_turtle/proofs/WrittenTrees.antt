@@ -30,7 +30,7 @@ use Rattle.rdf_turtle.specs.Terminals.{at_word_terminal, terminal_of, word}
 use Rattle.rdf_grammar.specs.declared.word.Word.TheVariants as w
 use Rattle.rdf_grammar.specs.Productions as productions
 use Rattle.rdf_turtle.specs.Nesting.{open_behind, open_after, IsTooDeep}
-use Rattle.rdf_turtle.specs.Reading.{property_with}
+use Rattle.rdf_turtle.specs.Grammar.{property_with}
 use Rattle.rdf_turtle.specs.WrittenLaws.{IsDefaultQuad}
 use Rattle.rdf_turtle.proofs.WrittenCuts.{Slice, lexeme_of, lexemes_of}
 use Rattle.rdf_turtle.proofs.WrittenTerms.{iri_slice, text_slice, label_slice, tag_slice, datatype_slices, suffix_slices, term_slices}

@@ -1,5 +1,5 @@
 -- The grammar of Turtle as it is written (Turtle 1.1, section 6.5, by the numbers of its rules), with no look at the next lexeme.
-use Rattle.std.specs.Prelude.{ℕ, zero, suc, List, [], ◌∷◌, option_to_list}
+use Rattle.std.specs.Prelude.{ℕ, zero, suc, List, [], ◌∷◌, Option, Some, None, option_to_list}
 use Rattle.rdf_turtle.specs.declared.terminal.Terminal.TheVariants as terminal
 use Rattle.rdf_turtle.specs.Lexemes.{Lexemes, Derives}
 use Rattle.rdf_grammar.specs.declared.tree.Name.{Name}
@@ -11,10 +11,26 @@ use Rattle.rdf_turtle.specs.declared.tree.Node.TheVariants as n
 use Rattle.rdf_turtle.specs.declared.tree.Property.{Property}
 use Rattle.rdf_turtle.specs.declared.tree.Statement.{Statement}
 use Rattle.rdf_turtle.specs.declared.tree.Statement.TheVariants as s
-use Rattle.rdf_turtle.specs.Reading.{bound, property_with, all_of}
 use Rattle.rdf_turtle.specs.Terminals.{word}
 use Rattle.rdf_grammar.specs.Derivations.{◌>>=◌, ◌>>◌, ◌<$>◌, ◌∣◌, pure, the, value, one, maybe, Star}
 use Rattle.rdf_grammar.specs.Productions as productions
+use Rattle.rdf_grammar.specs.Terminals.{Piece}
+
+-- ---- parts of trees
+
+abbrev pub property_with : Verb → List Node → Property
+property_with verb objects = record { verb = verb; objects = objects }
+
+-- a list that may be missing
+abbrev pub all_of : {A : Type 0} → Option (List A) → List A
+all_of None = []
+all_of (Some xs) = xs
+
+-- a prefix, and what it is bound to
+abbrev pub bound : Piece × Piece → Statement
+bound b = s.Prefix b.0 b.1
+
+-- ---- productions
 
 -- 135s: iri = IRIREF | PrefixedName
 abbrev pub Iri : Derives Name

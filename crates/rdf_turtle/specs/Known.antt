@@ -1,5 +1,5 @@
 -- Prefixes are declared before they are used.
-use Rattle.std.specs.Prelude.{ℕ, Bool, true, false, ◌&&◌, List, [], ◌∷◌, map, Option, Some, None, if◌then◌else◌}
+use Rattle.std.specs.Prelude.{ℕ, Bool, true, false, ◌&&◌, List, [], ◌∷◌, map, if◌then◌else◌}
 use Rattle.std.specs.List.{list_all}
 use Rattle.indexmap.specs.IndexSet.{insert_key}
 use Rattle.rdf_turtle.specs.declared.tree.Verb.{Verb}
@@ -16,10 +16,6 @@ use Rattle.rdf_grammar.specs.Prologue.{knows}
 
 abbrev pub holds : Bool → Bool
 holds b = b
-
-abbrev pub is_none : {A : Type 0} → Option A → Bool
-is_none None = true
-is_none (Some a) = false
 
 -- each prefix that stands in the tree is one of these
 module _ (declared : List (List ℕ)) where

@@ -1,8 +1,6 @@
 -- The faults of a text that has no token list.
 use Rattle.std.specs.Prelude.{◌≡◌, ℕ, List, Err}
 use Rattle.std.specs.Str.{chars}
-use Rattle.rdf_tokens.specs.declared.fault.TokenFault.{TokenFault}
-use Rattle.rdf_tokens.specs.declared.fault.TokenFault.TheVariants.{NoToken, NoMemory}
 use Rattle.rdf_tokens.specs.Lines.{line_of}
 use Rattle.rdf_tokens.specs.Tokens.{Says}
 use Rattle.rdf_turtle.specs.declared.fault.TurtleFault.{TurtleFault}
@@ -17,8 +15,3 @@ IsFault text _ line = ⊥
 
 abbrev pub IsTokenFault : List ℕ → TurtleFault → Type 0
 IsTokenFault text f = IsFault text f.kind f.line
-
--- the fault of a text, at a line and no byte
-abbrev pub turtle_fault : List ℕ → TokenFault → TurtleFault
-turtle_fault text (NoToken place) = record { line = line_of text place; kind = fault.Token }
-turtle_fault text (NoMemory why) = record { line = 0; kind = fault.NoMemory why }

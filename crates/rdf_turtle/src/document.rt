@@ -6,7 +6,7 @@ ghost use Rattle.rdf_tokens.specs.declared.token.Token.{Token as Held};
 ghost use Rattle.rdf_turtle.specs.Bases.{RelativeLacksABase};
 ghost use Rattle.rdf_turtle.specs.Document.{HasTokens, HasTree, IsDocument, TellsFault};
 ghost use Rattle.rdf_turtle.specs.FaultName.{no_memory};
-ghost use Rattle.rdf_turtle.specs.Kept.{IsNameFault};
+ghost use Rattle.rdf_turtle.specs.Inside.Kept.{IsNameFault};
 ghost use Rattle.rdf_turtle.specs.DocumentLaws.{SomeMeaning, OneDocument, NeverBoth, OneFault};
 ghost use Rattle.rdf_tokens.specs.Lines.{line_of};
 

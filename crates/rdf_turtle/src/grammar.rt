@@ -4,7 +4,7 @@
 ghost use Rattle.std.specs.Prelude.{◌≡◌, ◌≤◌, ◌<◌, length, OnOk, OnErr, IfErr};
 ghost use Rattle.rdf_grammar.specs.Readings.{Reads};
 ghost use Rattle.rdf_grammar.specs.declared.fault.GrammarFault.TheVariants.{Syntax};
-ghost use Rattle.rdf_turtle.specs.Reading as spec;
+ghost use Rattle.rdf_turtle.specs.Inside.Reading as spec;
 
 use crate::lexeme::Parser;
 use crate::terminal::Terminal;
@@ -57,7 +57,7 @@ fn begins_node(terminal: Option<Terminal>) -> bool
     )
 }
 
-#[tactic(auto, unfolding(crate::specs::Reading::verb, rdf_grammar::specs::Readings::any))]
+#[tactic(auto, unfolding(crate::specs::Inside::Reading::verb, rdf_grammar::specs::Readings::any))]
 fn verb<'a>(parser: &mut Parser<'_, 'a>) -> Result<Verb<'a>, GrammarFault>
     ensures reads { Reads (spec.verb parser.old) result parser.new }
     ensures fault { IfErr result (λ e. e ≡ Syntax) }
@@ -74,7 +74,7 @@ fn verb<'a>(parser: &mut Parser<'_, 'a>) -> Result<Verb<'a>, GrammarFault>
 }
 
 #[cycle(node)]
-#[tactic(auto, unfolding(crate::specs::Reading::node, crate::specs::Reading::object))]
+#[tactic(auto, unfolding(crate::specs::Inside::Reading::node, crate::specs::Inside::Reading::object))]
 fn node<'a>(parser: &mut Parser<'_, 'a>, depth: usize) -> Result<Node<'a>, GrammarFault>
     ensures reads { Reads (spec.node depth parser.old) result parser.new }
     ensures shorter { OnOk result (length parser.new < length parser.old) }
@@ -86,7 +86,7 @@ fn node<'a>(parser: &mut Parser<'_, 'a>, depth: usize) -> Result<Node<'a>, Gramm
 }
 
 #[cycle(node)]
-#[tactic(auto, unfolding(crate::specs::Reading::object))]
+#[tactic(auto, unfolding(crate::specs::Inside::Reading::object))]
 fn object<'a>(parser: &mut Parser<'_, 'a>, depth: usize) -> Result<Node<'a>, GrammarFault>
     ensures reads { Reads (spec.object (spec.node depth) parser.old) result parser.new }
     ensures shorter { OnOk result (length parser.new < length parser.old) }
@@ -99,7 +99,7 @@ fn object<'a>(parser: &mut Parser<'_, 'a>, depth: usize) -> Result<Node<'a>, Gra
 }
 
 #[cycle(node)]
-#[tactic(auto, unfolding(crate::specs::Reading::subject))]
+#[tactic(auto, unfolding(crate::specs::Inside::Reading::subject))]
 pub fn subject<'a>(parser: &mut Parser<'_, 'a>, depth: usize) -> Result<Node<'a>, GrammarFault>
     ensures reads { Reads (spec.subject (spec.node depth) parser.old) result parser.new }
     ensures shorter { OnOk result (length parser.new < length parser.old) }
@@ -114,7 +114,7 @@ pub fn subject<'a>(parser: &mut Parser<'_, 'a>, depth: usize) -> Result<Node<'a>
 
 /// `[ ]`, or with properties.
 #[cycle(node)]
-#[tactic(auto, unfolding(crate::specs::Reading::bracketed))]
+#[tactic(auto, unfolding(crate::specs::Inside::Reading::bracketed))]
 pub fn bracketed<'a>(
     parser: &mut Parser<'_, 'a>,
     depth: usize,
@@ -129,7 +129,7 @@ pub fn bracketed<'a>(
 }
 
 #[cycle(node)]
-#[tactic(auto, unfolding(crate::specs::Reading::collection))]
+#[tactic(auto, unfolding(crate::specs::Inside::Reading::collection))]
 fn collection<'a>(
     parser: &mut Parser<'_, 'a>,
     depth: usize,
@@ -147,7 +147,7 @@ fn collection<'a>(
 }
 
 #[cycle(node)]
-#[tactic(auto, unfolding(crate::specs::Reading::optional_predicate_object_list))]
+#[tactic(auto, unfolding(crate::specs::Inside::Reading::optional_predicate_object_list))]
 pub fn optional_predicate_object_list<'a>(
     parser: &mut Parser<'_, 'a>,
     depth: usize,
@@ -163,7 +163,7 @@ pub fn optional_predicate_object_list<'a>(
 }
 
 #[cycle(node)]
-#[tactic(auto, unfolding(crate::specs::Reading::predicate_object_list))]
+#[tactic(auto, unfolding(crate::specs::Inside::Reading::predicate_object_list))]
 pub fn predicate_object_list<'a>(
     parser: &mut Parser<'_, 'a>,
     depth: usize,
@@ -183,7 +183,7 @@ pub fn predicate_object_list<'a>(
 }
 
 #[cycle(node)]
-#[tactic(auto, unfolding(crate::specs::Reading::optional_property))]
+#[tactic(auto, unfolding(crate::specs::Inside::Reading::optional_property))]
 fn optional_property<'a>(
     parser: &mut Parser<'_, 'a>,
     depth: usize,
@@ -198,7 +198,7 @@ fn optional_property<'a>(
 }
 
 #[cycle(node)]
-#[tactic(auto, unfolding(crate::specs::Reading::property))]
+#[tactic(auto, unfolding(crate::specs::Inside::Reading::property))]
 fn property<'a>(parser: &mut Parser<'_, 'a>, depth: usize) -> Result<Property<'a>, GrammarFault>
     ensures reads { Reads (spec.property (spec.node depth) parser.old) result parser.new }
     ensures shorter { OnOk result (length parser.new < length parser.old) }
@@ -210,13 +210,14 @@ fn property<'a>(parser: &mut Parser<'_, 'a>, depth: usize) -> Result<Property<'a
 }
 
 #[cycle(node)]
-#[tactic(auto, unfolding(crate::specs::Reading::objects))]
+#[tactic(auto, unfolding(crate::specs::Inside::Reading::objects))]
 fn objects<'a>(parser: &mut Parser<'_, 'a>, depth: usize) -> Result<Items<Node<'a>>, GrammarFault>
     ensures reads { Reads (spec.objects (spec.node depth) parser.old) result parser.new }
     ensures shorter { OnOk result (length parser.new < length parser.old) }
 {
+    let first = node(parser, depth)?;
     let mut all = Items::new(parser.alloc());
-    all.push(node(parser, depth)?)?;
+    all.push(first)?;
     while parser.eat(Terminal::Comma) {
         all.push(node(parser, depth)?)?;
     }

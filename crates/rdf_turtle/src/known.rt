@@ -1,8 +1,8 @@
 //! Whether prefixes are declared before they are used.
 ghost use Rattle.std.specs.Prelude.{◌≡◌, [], IfOk, OnOk, map};
 ghost use Rattle.std.specs.List.{list_all};
+ghost use Rattle.std.specs.Option.{is_none};
 ghost use Rattle.rdf_turtle.specs.Known as spec;
-ghost use Rattle.rdf_turtle.specs.Known.{is_none};
 ghost use Rattle.rdf_grammar.specs.Prologue.{knows};
 
 use crate::tree::{Literal, Name, Node, Property, Statement, Verb};
@@ -123,6 +123,23 @@ pub(crate) fn declare<'a>(
     Ok(())
 }
 
+// Where the first name stands whose prefix is neither one of these nor declared before it.
+fn first_unknown_behind<'a>(
+    declared: &mut IndexSet<Key<'a>>,
+    statements: &[Statement<'a>],
+) -> Result<Option<usize>, NoMemory>
+    ensures { IfOk result (λ unknown.
+        is_none unknown ≡ spec.declares_first declared.old.keys statements.now) }
+{
+    for statement in statements {
+        if let Some(start) = unknown_in(declared, statement) {
+            return Ok(Some(start));
+        }
+        declare(declared, statement)?;
+    }
+    Ok(None)
+}
+
 /// Where the first name stands whose prefix isn't declared before it.
 pub(crate) fn first_unknown<'a>(
     alloc: Global,
@@ -131,11 +148,5 @@ pub(crate) fn first_unknown<'a>(
     ensures { IfOk result (λ unknown. is_none unknown ≡ spec.declares_first [] statements.now) }
 {
     let mut declared = IndexSet::new(alloc);
-    for statement in statements {
-        if let Some(start) = unknown_in(&declared, statement) {
-            return Ok(Some(start));
-        }
-        declare(&mut declared, statement)?;
-    }
-    Ok(None)
+    first_unknown_behind(&mut declared, statements)
 }

@@ -4,13 +4,14 @@ ghost use Rattle.std.specs.List.{list_all};
 ghost use Rattle.std.specs.Option.{option_copied};
 ghost use Rattle.rdf_terms.specs.Term.{is_literal_term};
 ghost use Rattle.rdf_turtle.specs.Blanks.{BlankNumbersAreBelow};
-ghost use Rattle.rdf_turtle.specs.Kept.{Gives, IsFaultOf};
+ghost use Rattle.rdf_turtle.specs.Inside.Cells.{next_cell};
+ghost use Rattle.rdf_turtle.specs.Inside.Kept.{Gives, IsFaultOf};
 ghost use Rattle.rdf_turtle.specs.Known as known;
 ghost use Rattle.rdf_turtle.specs.Known.{holds, declared_behind, declares_first};
 ghost use Rattle.rdf_turtle.specs.Meaning as spec;
 ghost use Rattle.rdf_grammar.specs.Prologue.{declared};
-ghost use Rattle.rdf_turtle.specs.Proper as proper;
-ghost use Rattle.rdf_turtle.specs.Room.{HasRoom, TakesAtMost};
+ghost use Rattle.rdf_turtle.specs.Inside.Proper as proper;
+ghost use Rattle.rdf_turtle.specs.Inside.Room.{HasRoom, TakesAtMost};
 
 use crate::known::first_unknown;
 use crate::scope::Scope;
@@ -122,6 +123,32 @@ impl<'a> Scope<'a> {
         }
     }
 
+    // The cell behind one, and what is inside its element.
+    #[cycle(inside)]
+    fn next_cell(
+        &mut self,
+        cell: &Term,
+        rest: &Iri,
+        first: &Iri,
+        item: &Node<'a>,
+    ) -> Result<Term, PrologueFault>
+        requires known { IsTrue (known.known_node (declared self.old.prologue) item.now) }
+        requires proper { IsTrue (proper.proper_node item.now) }
+        requires subject { is_literal_term cell.now ≡ false }
+        requires room { HasRoom 0 self.old }
+        ensures gives { let step = next_cell cell.now rest.now first.now (spec.meaning item.now) in
+            Gives (step self.old) result self.new }
+        ensures prologue { self.new.prologue ≡ self.old.prologue }
+        ensures room { OnOk result (TakesAtMost 0 self.old self.new) }
+        ensures kind { IfOk result (λ next. is_literal_term next ≡ false) }
+    {
+        let next = self.fresh();
+        let said = next.copy()?;
+        self.says(cell, rest, said)?;
+        self.object(&next, first, item)?;
+        Ok(next)
+    }
+
     // The cells behind one, and what is inside their elements.
     #[cycle(inside)]
     fn behind(&mut self, cell: &Term, items: &[Node<'a>]) -> Result<(), PrologueFault>
@@ -139,10 +166,7 @@ impl<'a> Scope<'a> {
         let rest = self.vocabulary.rdf_rest().copy()?;
         let mut cell = cell.copy()?;
         for item in items {
-            let next = self.fresh();
-            let said = next.copy()?;
-            self.says(&cell, &rest, said)?;
-            self.object(&next, &first, item)?;
+            let next = self.next_cell(&cell, &rest, &first, item)?;
             cell = next;
         }
         let nil = Term::Iri(self.vocabulary.rdf_nil().copy()?);
@@ -253,6 +277,19 @@ impl<'a> Scope<'a> {
         }
     }
 
+    // Says a statement, and lets go of its tree.
+    fn consume(&mut self, statement: Statement<'a>) -> Result<(), PrologueFault>
+        requires known { IsTrue (known.known_statement (declared self.old.prologue) statement) }
+        requires proper { IsTrue (proper.proper_statement statement) }
+        requires room { HasRoom 1 self.old }
+        ensures gives { Gives (spec.statement statement.entry self.old) result self.new }
+        ensures declares { let before = declared self.old.prologue in
+            OnOk result (declared self.new.prologue ≡ declared_behind before statement.entry) }
+        ensures room { OnOk result (TakesAtMost 1 self.old self.new) }
+    {
+        self.statement(&statement)
+    }
+
     // Each statement's tree is let go when its triples are said.
     fn document(&mut self, statements: Vec<Statement<'a>>) -> Result<(), PrologueFault>
         requires known { IsTrue (declares_first (declared self.old.prologue) statements.items) }
@@ -261,7 +298,7 @@ impl<'a> Scope<'a> {
         ensures { Gives (spec.document statements.entry.items self.old) result self.new }
     {
         for statement in statements {
-            self.statement(&statement)?;
+            self.consume(statement)?;
         }
         Ok(())
     }
@@ -288,7 +325,8 @@ pub(crate) fn triples_of(
     if let Some(start) = first_unknown(alloc, statements.as_slice())? {
         return Err(PrologueFault::UnknownPrefix(start));
     }
-    let mut scope = Scope::new(alloc, copied(base)?)?;
+    let base = copied(base)?;
+    let mut scope = Scope::new(alloc, base)?;
     match scope.document(statements) {
         Ok(()) => Ok(scope.into_quads()),
         Err(fault) => Err(fault),

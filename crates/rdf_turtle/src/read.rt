@@ -5,7 +5,7 @@ ghost use Rattle.rdf_turtle.specs.declared.fault.TurtleFaultKind.TheVariants.{To
 ghost use Rattle.rdf_turtle.specs.declared.tree.Statement.{Statement as Tree};
 ghost use Rattle.rdf_turtle.specs.Nesting.{IsTooDeep};
 ghost use Rattle.rdf_turtle.specs.Grammar.{IsDocument};
-ghost use Rattle.rdf_turtle.specs.Stops.{Explains};
+ghost use Rattle.rdf_turtle.specs.Inside.Stops.{Explains};
 
 use crate::fault::TurtleFaultKind;
 use crate::lexeme::{Lexeme, Parser};

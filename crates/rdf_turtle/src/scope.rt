@@ -2,12 +2,12 @@
 ghost use Rattle.std.specs.Prelude.{◌≡◌, ◌+◌, false, length, IfOk, OnOk, IsTrue};
 ghost use Rattle.rdf_terms.specs.Term.{is_literal_term};
 ghost use Rattle.rdf_grammar.specs.Keys.{key_of};
-ghost use Rattle.rdf_turtle.specs.Kept.{Gives};
+ghost use Rattle.rdf_turtle.specs.Inside.Kept.{Gives};
 ghost use Rattle.rdf_turtle.specs.Meaning as meaning;
 ghost use Rattle.rdf_grammar.specs.Literals.{known_literal, proper_literal};
 ghost use Rattle.rdf_grammar.specs.Prologue as prologue;
 ghost use Rattle.rdf_grammar.specs.Prologue.{declared, knows, is_proper};
-ghost use Rattle.rdf_turtle.specs.Room.{HasRoom, TakesAtMost};
+ghost use Rattle.rdf_turtle.specs.Inside.Room.{HasRoom, TakesAtMost};
 ghost use Rattle.rdf_turtle.specs.State as state;
 
 use crate::tree::{Literal as Written, Name};
@@ -44,10 +44,12 @@ impl<'a> Scope<'a> {
     pub(crate) fn new(alloc: Global, base: Option<Iri>) -> Result<Scope<'a>, NoMemory>
         ensures { IfOk result (λ scope. scope ≡ state.start base) }
     {
+        let vocabulary = Vocabulary::new(alloc)?;
+        let prologue = Prologue::new(alloc, base)?;
         Ok(Scope {
             alloc,
-            vocabulary: Vocabulary::new(alloc)?,
-            prologue: Prologue::new(alloc, base)?,
+            vocabulary,
+            prologue,
             numbering: Numbering::new(alloc),
             quads: Vec::new(alloc),
         })

@@ -3,7 +3,7 @@
 ghost use Rattle.std.specs.Prelude.{◌≡◌, ◌≤◌, ◌<◌, [], length, OnOk, OnErr, IfErr};
 ghost use Rattle.rdf_grammar.specs.Readings.{Reads};
 ghost use Rattle.rdf_grammar.specs.declared.fault.GrammarFault.TheVariants.{Syntax};
-ghost use Rattle.rdf_turtle.specs.Reading as spec;
+ghost use Rattle.rdf_turtle.specs.Inside.Reading as spec;
 
 use crate::grammar::{bracketed, optional_predicate_object_list, predicate_object_list, subject};
 use crate::lexeme::Parser;
@@ -12,7 +12,7 @@ use crate::tree::{Node, Property, Statement};
 use rdf_grammar::{GrammarFault, MAX_OPEN, binding};
 use rdf_terms::Items;
 
-#[tactic(auto, unfolding(crate::specs::Reading::binding))]
+#[tactic(auto, unfolding(crate::specs::Inside::Reading::binding))]
 fn prefix<'a>(parser: &mut Parser<'_, 'a>) -> Result<Statement<'a>, GrammarFault>
     ensures reads { Reads (spec.binding parser.old) result parser.new }
     ensures fault { IfErr result (λ e. e ≡ Syntax) }
@@ -22,7 +22,7 @@ fn prefix<'a>(parser: &mut Parser<'_, 'a>) -> Result<Statement<'a>, GrammarFault
     Ok(Statement::Prefix(prefix, reference))
 }
 
-#[tactic(auto, unfolding(crate::specs::Reading::base))]
+#[tactic(auto, unfolding(crate::specs::Inside::Reading::base))]
 fn base<'a>(parser: &mut Parser<'_, 'a>) -> Result<Statement<'a>, GrammarFault>
     ensures reads { Reads (spec.base parser.old) result parser.new }
     ensures fault { IfErr result (λ e. e ≡ Syntax) }
@@ -46,7 +46,7 @@ fn predicate_object_list_behind<'a>(
     }
 }
 
-#[tactic(auto, unfolding(crate::specs::Reading::about_blank))]
+#[tactic(auto, unfolding(crate::specs::Inside::Reading::about_blank))]
 fn about_blank<'a>(parser: &mut Parser<'_, 'a>) -> Result<Statement<'a>, GrammarFault>
     ensures reads { Reads (spec.about_blank (spec.node 100)
         (spec.node 101) parser.old) result parser.new }
@@ -57,7 +57,7 @@ fn about_blank<'a>(parser: &mut Parser<'_, 'a>) -> Result<Statement<'a>, Grammar
     Ok(Statement::Triples(Node::Blank(inside), properties))
 }
 
-#[tactic(auto, unfolding(crate::specs::Reading::about_subject))]
+#[tactic(auto, unfolding(crate::specs::Inside::Reading::about_subject))]
 fn about_subject<'a>(parser: &mut Parser<'_, 'a>) -> Result<Statement<'a>, GrammarFault>
     ensures reads { Reads (spec.about_subject (spec.node 100)
         (spec.node 101) parser.old) result parser.new }
@@ -68,7 +68,7 @@ fn about_subject<'a>(parser: &mut Parser<'_, 'a>) -> Result<Statement<'a>, Gramm
     Ok(Statement::Triples(subject, properties))
 }
 
-#[tactic(auto, unfolding(crate::specs::Reading::triples))]
+#[tactic(auto, unfolding(crate::specs::Inside::Reading::triples))]
 fn triples<'a>(parser: &mut Parser<'_, 'a>) -> Result<Statement<'a>, GrammarFault>
     ensures reads { Reads (spec.triples (spec.node 100)
         (spec.node 101) parser.old) result parser.new }
@@ -80,8 +80,20 @@ fn triples<'a>(parser: &mut Parser<'_, 'a>) -> Result<Statement<'a>, GrammarFaul
     }
 }
 
+// What was read, where a dot follows.
+fn ended<'a>(
+    parser: &mut Parser<'_, 'a>,
+    statement: Statement<'a>,
+) -> Result<Statement<'a>, GrammarFault>
+    ensures reads { Reads (spec.ended statement.entry parser.old) result parser.new }
+    ensures shorter { OnOk result (length parser.new < length parser.old) }
+{
+    parser.expect(Terminal::Dot)?;
+    Ok(statement)
+}
+
 /// The next statement.
-#[tactic(auto, unfolding(crate::specs::Reading::statement, rdf_grammar::specs::Readings::any))]
+#[tactic(auto, unfolding(crate::specs::Inside::Reading::statement, rdf_grammar::specs::Readings::any))]
 pub fn statement<'a>(parser: &mut Parser<'_, 'a>) -> Result<Statement<'a>, GrammarFault>
     ensures reads { Reads (spec.statement (spec.node 100)
         (spec.node 101) parser.old) result parser.new }
@@ -91,14 +103,12 @@ pub fn statement<'a>(parser: &mut Parser<'_, 'a>) -> Result<Statement<'a>, Gramm
         Some(Terminal::AtPrefix) => {
             parser.pass();
             let statement = prefix(parser)?;
-            parser.expect(Terminal::Dot)?;
-            Ok(statement)
+            ended(parser, statement)
         }
         Some(Terminal::AtBase) => {
             parser.pass();
             let statement = base(parser)?;
-            parser.expect(Terminal::Dot)?;
-            Ok(statement)
+            ended(parser, statement)
         }
         Some(Terminal::Prefix) => {
             parser.pass();
@@ -110,14 +120,13 @@ pub fn statement<'a>(parser: &mut Parser<'_, 'a>) -> Result<Statement<'a>, Gramm
         }
         _ => {
             let statement = triples(parser)?;
-            parser.expect(Terminal::Dot)?;
-            Ok(statement)
+            ended(parser, statement)
         }
     }
 }
 
 /// Statements up to the last lexeme.
-#[tactic(auto, unfolding(crate::specs::Reading::document))]
+#[tactic(auto, unfolding(crate::specs::Inside::Reading::document))]
 pub fn document<'a>(parser: &mut Parser<'_, 'a>) -> Result<Items<Statement<'a>>, GrammarFault>
     ensures reads { Reads (spec.document 100 parser.old) result parser.new }
     ensures all { OnOk result (parser.new ≡ []) }

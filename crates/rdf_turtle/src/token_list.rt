@@ -3,7 +3,8 @@ ghost use Rattle.std.specs.Prelude.{◌≡◌, List, Ok, IfOk, IfErr};
 ghost use Rattle.std.specs.Str.{chars};
 ghost use Rattle.rdf_tokens.specs.Tokens.{Says};
 ghost use Rattle.rdf_tokens.specs.declared.token.Token.{Token as Held};
-ghost use Rattle.rdf_turtle.specs.TokenFaults.{IsTokenFault, turtle_fault};
+ghost use Rattle.rdf_turtle.specs.Inside.LinedFaults.{turtle_fault};
+ghost use Rattle.rdf_turtle.specs.TokenFaults.{IsTokenFault};
 ghost use Rattle.rdf_turtle.specs.declared.fault.TurtleFaultKind.TheVariants as faults;
 
 use crate::fault::{TurtleFault, TurtleFaultKind};

@@ -1,4 +1,4 @@
-//! A SELECT and an ASK of a session of three quads in two graphs. What they answer is known.
+//! Queries, one of them with a FILTER, of a session of three quads in two graphs. What they answer is known.
 use crate::retry::{are_names, is_shown};
 use rdf_keeper::{Answer, Counts, Format, Keeper, KeeperFault};
 use std::alloc::Global;
@@ -17,6 +17,11 @@ const ASK: &[u8] = b"ASK { <a:s> <a:p> \"2\" }";
 
 const TRUTH: &[u8] = b"true\n";
 
+// The filter is an error, so the left row stays.
+const FILTERED: &[u8] = b"SELECT ?s ?o { ?s <a:p> \"2\" OPTIONAL { ?s <a:p> ?o FILTER(?o < 5) } }";
+
+const FILTERED_ROWS: &[u8] = b"?s\t?o\n<a:s>\t\n";
+
 /// Whether a query that is refused leaves quads, names and counter, and answers as it should when it is
 /// made again.
 pub fn outcome(alloc: Global) -> &'static str {
@@ -30,7 +35,12 @@ fn session(alloc: Global) -> Option<bool> {
     let keeper = begun(alloc)?;
     let selected = survives(alloc, &keeper, SELECT)?;
     let asked = survives(alloc, &keeper, ASK)?;
-    Some(is_answer(&selected, ROWS, 2) && is_answer(&asked, TRUTH, 1))
+    let filtered = survives(alloc, &keeper, FILTERED)?;
+    Some(
+        is_answer(&selected, ROWS, 2)
+            && is_answer(&asked, TRUTH, 1)
+            && is_answer(&filtered, FILTERED_ROWS, 1),
+    )
 }
 
 // The three quads, loaded again where that was refused.

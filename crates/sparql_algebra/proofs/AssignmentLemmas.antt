@@ -8,7 +8,7 @@ use Rattle.sparql_trees.specs.declared.pattern.BasicGraphPattern.{BasicGraphPatt
 use Rattle.sparql_trees.specs.declared.pattern.TriplePattern.{TriplePattern}
 use Rattle.sparql_trees.specs.declared.pattern.VarOrTerm.{VarOrTerm}
 use Rattle.sparql_trees.specs.declared.pattern.VarOrTerm.TheVariants.{Variable, Hidden, Term as Fixed}
-use Rattle.sparql_algebra.specs.Mapping.{Variables, Mapping, same_term, same_mapping, column, value_at, value_in}
+use Rattle.sparql_values.specs.Mapping.{Variables, Mapping, same_term, same_mapping, column, value_at, value_in}
 use Rattle.sparql_algebra.specs.Solutions.{var_or_term, term_at, is_triple, holds, instance_lies, is_at, is_column, occurs, same_bool, binds_exactly, solves, terms_of, all_mappings, assignments}
 use Rattle.sparql_algebra.proofs.Sums.{one, sum_by-cong, sum_by-filter}
 use Rattle.sparql_algebra.proofs.TruthLemmas.{and_false, and_left, and_right, and_true, or_left, or_right, or_cases, cond_one}

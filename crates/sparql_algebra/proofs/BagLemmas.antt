@@ -3,7 +3,7 @@ use Rattle.std.proofs.Common.{Bool, cond, List, [], ◌∷◌, ◌++◌, map, fi
 use Rattle.std.specs.List.{sum_by, flat_map}
 use Rattle.std.proofs.lemmas.List.Sums.{sum_by-cons, sum_by-append}
 use Rattle.sparql_algebra.specs.Bags.{SameBag}
-use Rattle.sparql_algebra.specs.Mapping.{Mapping, compatible, merge}
+use Rattle.sparql_values.specs.Mapping.{Mapping, compatible, merge}
 use Rattle.sparql_algebra.specs.Solutions.{merges, joins, left_joins, or_alone}
 use Rattle.sparql_algebra.proofs.Sums.{sum_by-cong, sum_by-filter, sum_by-map, sum_by-flat_map}
 

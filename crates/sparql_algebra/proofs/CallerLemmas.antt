@@ -11,7 +11,8 @@ pub use Rattle.sparql_algebra.proofs.IndependenceLemmas.{any_same, assignments_s
 pub use Rattle.sparql_algebra.proofs.LengthLemmas.{length_from, length_to, solutions_length}
 pub use Rattle.sparql_algebra.proofs.OrderLemmas.{mapping_cmp-IsAntisymmetric, mapping_total, mapping_ranks, neither_less}
 pub use Rattle.sparql_algebra.proofs.SortedLemmas.{sort_sorted, sort_same, one_sorted}
-pub use Rattle.sparql_algebra.proofs.TranslationLemmas.{element-Basic, element-Union, element-Optional, element-Graph, translation-members}
+pub use Rattle.sparql_algebra.proofs.FilterLemmas.{filter_always, filter-cong, filter-filter, filter-append, filter_twice}
+pub use Rattle.sparql_algebra.proofs.TranslationLemmas.{parts-is, translation-is, element-Basic, element-Union, element-Optional, element-Graph}
 pub use Rattle.sparql_algebra.proofs.JoinLemmas.{joins_commute, joins_associate, empty_solutions, empty_joins}
 pub use Rattle.sparql_algebra.proofs.GrowthLemmas.{merges_grow}
 pub use Rattle.sparql_algebra.proofs.Regroup.{each_once, each_once_lists}

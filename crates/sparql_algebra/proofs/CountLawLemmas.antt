@@ -15,7 +15,7 @@ use Rattle.sparql_algebra.specs.Bags.{SameBag}
 use Rattle.sparql_algebra.specs.Counts.{always, ListsCounted, pairs_count, begins_pair, widens, VariableLaw}
 use Rattle.sparql_algebra.specs.Laws.{held, instance_held, is_assignment, AssignmentsCountOnce, AssignmentsListed}
 use Rattle.sparql_algebra.specs.Listing.{Listing, graph_quads}
-use Rattle.sparql_algebra.specs.Mapping.{Variables, Mapping, same_mapping, single}
+use Rattle.sparql_values.specs.Mapping.{Variables, Mapping, same_mapping, single}
 use Rattle.sparql_algebra.specs.Solutions.{var_or_term, term_at, holds, instance_lies, occurs, binds_exactly, solves, assignments, basic_solutions, joins, left_joins, solutions}
 use Rattle.sparql_algebra.proofs.Sums.{one, sum_by-cong, sum_by-filter, sum_by-map, sum_by-flat_map, sums_from_counts}
 use Rattle.sparql_algebra.proofs.TruthLemmas.{both_true, cond_one}
@@ -104,9 +104,10 @@ variable_law vs d g name A U lu m =
 
 -- ---- LeftJoin
 
-pub lonely_stay : (A B V : List Mapping) → ListsCounted V (times B) → (m : Mapping) → begins_pair always V m ≡ false → times A m ≤ times (left_joins A B always) m
-lonely_stay A B V lv m h =
-    let e : times (left_joins A B always) m ≡ pairs_count always (each_once A) V (times A) (times B) m + cond (begins_pair always V m) 0 (times A m) =
-    left_join_law always A B (each_once A) V (each_once_lists A) lv m in
-    let z : cond (begins_pair always V m) 0 (times A m) ≡ times A m = ap (λ b. cond b 0 (times A m)) h in
+pub lonely_stay : (F : Mapping → Bool) (A B V : List Mapping) → ListsCounted V (times B) → (m : Mapping) → begins_pair F V m ≡ false →
+    times A m ≤ times (left_joins A B F) m
+lonely_stay F A B V lv m h =
+    let e : times (left_joins A B F) m ≡ pairs_count F (each_once A) V (times A) (times B) m + cond (begins_pair F V m) 0 (times A m) =
+    left_join_law F A B (each_once A) V (each_once_lists A) lv m in
+    let z : cond (begins_pair F V m) 0 (times A m) ≡ times A m = ap (λ b. cond b 0 (times A m)) h in
     omega (arith, e, z)

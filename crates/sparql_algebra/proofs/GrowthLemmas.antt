@@ -8,7 +8,7 @@ use Rattle.sparql_trees.specs.declared.pattern.TriplePattern.{TriplePattern}
 use Rattle.sparql_trees.specs.declared.pattern.VarOrTerm.{VarOrTerm}
 use Rattle.sparql_trees.specs.declared.pattern.VarOrTerm.TheVariants.{Variable, Hidden, Term as Fixed}
 use Rattle.sparql_algebra.specs.Growth.{value_grows, grows, MergesGrow}
-use Rattle.sparql_algebra.specs.Mapping.{Variables, Mapping, same_term, same_value, same_mapping, column, value_at, value_in, agrees, first_of, compatible, merge}
+use Rattle.sparql_values.specs.Mapping.{Variables, Mapping, same_term, same_value, same_mapping, column, value_at, value_in, agrees, first_of, compatible, merge}
 use Rattle.sparql_algebra.specs.Solutions.{var_or_term, term_at, holds, instance_lies, is_at, is_column, occurs, same_bool, binds_exactly, solves, terms_of, all_mappings, merges}
 use Rattle.sparql_algebra.proofs.Sums.{one, sum_by-map, sum_by-filter}
 use Rattle.sparql_algebra.proofs.TruthLemmas.{and_false, and_true, and_swap, and_four, and_right, or_left, or_right, cond_one}

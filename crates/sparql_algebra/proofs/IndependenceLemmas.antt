@@ -11,14 +11,15 @@ use Rattle.rdf_dataset.specs.State.{State}
 use Rattle.sparql_trees.specs.declared.pattern.BasicGraphPattern.{BasicGraphPattern}
 use Rattle.sparql_trees.specs.declared.pattern.TriplePattern.{TriplePattern}
 use Rattle.sparql_trees.specs.declared.pattern.VarOrIri.TheVariants as v
+use Rattle.sparql_algebra.specs.Algebra as algebra
 use Rattle.sparql_algebra.specs.Algebra.{Algebra, basic, join, left_join, union, graph}
 use Rattle.sparql_algebra.specs.Bags.{SameBag}
 use Rattle.sparql_algebra.specs.Listing.{Listing, Lists}
-use Rattle.sparql_algebra.specs.Mapping.{Variables, Mapping, same_term, same_mapping, single}
-use Rattle.sparql_algebra.specs.Solutions.{var_or_term, term_at, is_triple, holds, instance_lies, occurs, binds_exactly, assignments, basic_solutions, joins, solutions}
+use Rattle.sparql_values.specs.Mapping.{Variables, Mapping, same_term, same_mapping, single}
+use Rattle.sparql_algebra.specs.Solutions.{var_or_term, term_at, is_triple, holds, instance_lies, occurs, binds_exactly, assignments, basic_solutions, joins, satisfies, solutions}
 use Rattle.sparql_algebra.proofs.Sums.{one, sums_from_counts}
 use Rattle.sparql_algebra.proofs.TermLemmas.{same_mapping_is, same_mapping_own}
-use Rattle.sparql_algebra.proofs.BagLemmas.{SameBag-refl, SameBag-map, SameBag-append, SameBag-flat_map, SameBag-joins, SameBag-left_joins}
+use Rattle.sparql_algebra.proofs.BagLemmas.{SameBag-refl, SameBag-filter, SameBag-map, SameBag-append, SameBag-flat_map, SameBag-joins, SameBag-left_joins}
 use Rattle.sparql_algebra.proofs.UniverseLemmas.{has_length}
 use Rattle.sparql_algebra.proofs.AssignmentLemmas.{assignments_count}
 use Rattle.sparql_algebra.proofs.ListingLemmas.{names_same, quads_same}
@@ -85,8 +86,11 @@ module _ (variables : Variables) (d e : Listing) (names : SameBag d.names e.name
   same_solutions g (basic b) = basic_same (d.quads g) (e.quads g) (quads g) variables b
   same_solutions g (join A B) =
       SameBag-joins (solutions variables d g A) (solutions variables e g A) (solutions variables d g B) (solutions variables e g B) (same_solutions g A) (same_solutions g B)
-  same_solutions g (left_join A B) =
-      SameBag-left_joins (λ _. true) (solutions variables d g A) (solutions variables e g A) (solutions variables d g B) (solutions variables e g B) (same_solutions g A) (same_solutions g B)
+  same_solutions g (left_join F A B) =
+      SameBag-left_joins (satisfies variables F) (solutions variables d g A) (solutions variables e g A) (solutions variables d g B) (solutions variables e g B)
+      (same_solutions g A) (same_solutions g B)
+  same_solutions g (algebra.filter F A) =
+      SameBag-filter (satisfies variables F) (solutions variables d g A) (solutions variables e g A) (same_solutions g A)
   same_solutions g (union A B) =
       SameBag-append (solutions variables d g A) (solutions variables e g A) (solutions variables d g B) (solutions variables e g B) (same_solutions g A) (same_solutions g B)
   same_solutions g (graph (v.Iri iri) A) =

@@ -7,7 +7,7 @@ use Rattle.rdf_terms.specs.Quad.{QuadParts}
 use Rattle.rdf_terms.specs.declared.term.Term.{Term}
 use Rattle.sparql_trees.specs.declared.pattern.BasicGraphPattern.{BasicGraphPattern}
 use Rattle.sparql_algebra.specs.Bags.{SameBag}
-use Rattle.sparql_algebra.specs.Mapping.{Variables, Mapping, same_term, same_mapping, empty_mapping, agrees, first_of, compatible, merge}
+use Rattle.sparql_values.specs.Mapping.{Variables, Mapping, same_term, same_mapping, empty_mapping, agrees, first_of, compatible, merge}
 use Rattle.sparql_algebra.specs.Solutions.{binds_exactly, assignments, basic_solutions, merges, joins}
 use Rattle.sparql_algebra.proofs.Sums.{one, sum_by-cong, sum_by-filter, sum_by-map, sum_by-flat_map, sums_from_counts}
 use Rattle.sparql_algebra.proofs.TruthLemmas.{and_true, and_false, and_left, and_right, and_four, both_true, cond_both}

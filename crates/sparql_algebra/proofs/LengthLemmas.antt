@@ -7,10 +7,11 @@ use Rattle.rdf_terms.specs.declared.term.Term.TheVariants as t
 use Rattle.rdf_terms.specs.declared.quad.GraphName.{GraphName}
 use Rattle.rdf_terms.specs.declared.quad.GraphName.TheVariants.{Named}
 use Rattle.sparql_trees.specs.declared.pattern.VarOrIri.TheVariants as v
+use Rattle.sparql_algebra.specs.Algebra as algebra
 use Rattle.sparql_algebra.specs.Algebra.{Algebra, basic, join, left_join, union, graph}
 use Rattle.sparql_algebra.specs.Listing.{Listing}
-use Rattle.sparql_algebra.specs.Mapping.{Variables, Mapping, same_term, column, set_in, empty_mapping, single, compatible, merge}
-use Rattle.sparql_algebra.specs.Solutions.{solves, terms_of, all_mappings, assignments, merges, joins, or_alone, left_joins, solutions}
+use Rattle.sparql_values.specs.Mapping.{Variables, Mapping, same_term, column, set_in, empty_mapping, single, compatible, merge}
+use Rattle.sparql_algebra.specs.Solutions.{solves, terms_of, all_mappings, assignments, merges, joins, or_alone, left_joins, satisfies, solutions}
 use Rattle.sparql_algebra.proofs.TruthLemmas.{and_left, and_right}
 use Rattle.sparql_algebra.proofs.UniverseLemmas.{has_length, longer}
 
@@ -121,8 +122,10 @@ module _ (variables : Variables) (d : Listing) where
       (all_lengths (length variables + b.hidden) (terms_of (d.quads g))))
   solutions_length g (join A B) =
       joins_length (length variables) (solutions variables d g A) (solutions variables d g B) (solutions_length g A) (solutions_length g B)
-  solutions_length g (left_join A B) =
-      left_joins_length (length variables) (solutions variables d g A) (solutions variables d g B) (λ _. true) (solutions_length g A) (solutions_length g B)
+  solutions_length g (left_join F A B) =
+      left_joins_length (length variables) (solutions variables d g A) (solutions variables d g B) (satisfies variables F) (solutions_length g A) (solutions_length g B)
+  solutions_length g (algebra.filter F A) =
+      all_filter (has_length (length variables)) (satisfies variables F) (solutions variables d g A) (solutions_length g A)
   solutions_length g (union A B) =
       all_append (has_length (length variables)) (solutions variables d g A) (solutions variables d g B) (solutions_length g A) (solutions_length g B)
   solutions_length g (graph (v.Iri iri) A) =

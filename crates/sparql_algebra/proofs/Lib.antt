@@ -3,6 +3,8 @@ mod BagLemmas
 pub mod CallerLemmas
 mod CountLawLemmas
 mod CountLemmas
+mod ExampleLemmas
+mod FilterLemmas
 mod GrowthLemmas
 mod IndependenceLemmas
 mod JoinLemmas

@@ -12,7 +12,7 @@ use Rattle.rdf_dataset.specs.Sorted.{ListsOnce}
 use Rattle.rdf_dataset.specs.State.{State, matches}
 use Rattle.sparql_algebra.specs.Bags.{SameBag}
 use Rattle.sparql_algebra.specs.Listing.{Listing, Lists, graph_quads}
-use Rattle.sparql_algebra.specs.Mapping.{same_term}
+use Rattle.sparql_values.specs.Mapping.{same_term}
 use Rattle.sparql_algebra.specs.Solutions.{is_triple}
 use Rattle.sparql_algebra.proofs.Sums.{one}
 use Rattle.sparql_algebra.proofs.TruthLemmas.{and_left, and_right, and_true, both_true}

@@ -2,7 +2,7 @@
 use Rattle.std.proofs.Common.{◌≡◌, ℕ, ◌+◌, ◌*◌, ◌<◌, zero, suc, Bool, true, false, cond, ◌&&◌, ◌||◌, not, List, [], ◌∷◌, map, filter, refl, sym, ap, ◌∙◌, arith}
 use Rattle.std.specs.List.{sum_by, count_by, list_any}
 use Rattle.std.proofs.lemmas.List.Sums.{sum_by-cons}
-use Rattle.sparql_algebra.specs.Mapping.{Mapping, same_mapping, compatible, merge}
+use Rattle.sparql_values.specs.Mapping.{Mapping, same_mapping, compatible, merge}
 use Rattle.sparql_algebra.specs.Solutions.{merges, joins, left_joins, or_alone}
 use Rattle.sparql_algebra.specs.Counts.{always, ListsCounted, is_pair, pairs_count, begins_pair}
 use Rattle.sparql_algebra.specs.Bags.{once_if_any}

@@ -12,7 +12,7 @@ use Rattle.sparql_algebra.specs.Algebra.{translation}
 use Rattle.sparql_algebra.specs.Bags.{SameBag}
 use Rattle.sparql_algebra.specs.Laws.{SomeSolutions, SolutionsAgree, SomeSelection, OneSelection, SomeAnswer, OneAnswer, AnswerTellsSolutions}
 use Rattle.sparql_algebra.specs.Listing.{Listing, Lists}
-use Rattle.sparql_algebra.specs.Mapping.{Mapping, same_mapping}
+use Rattle.sparql_values.specs.Mapping.{Mapping, same_mapping}
 use Rattle.sparql_algebra.specs.Results.{pattern_solutions, projected, projections, times_selected, is_some_solution}
 use Rattle.sparql_algebra.proofs.Sums.{one}
 use Rattle.sparql_algebra.proofs.TermLemmas.{same_mapping_own}

@@ -4,7 +4,7 @@ use Rattle.std.specs.List.{sum_by, count_by, list_all}
 use Rattle.std.specs.List.Sorted.{IsSorted}
 use Rattle.std.proofs.lemmas.List.Sums.{sum_by-cons}
 use Rattle.std.proofs.lemmas.List.Sorted.{sorted_far}
-use Rattle.sparql_algebra.specs.Mapping.{Mapping, same_mapping}
+use Rattle.sparql_values.specs.Mapping.{Mapping, same_mapping}
 use Rattle.sparql_algebra.specs.Order.{mapping_cmp}
 use Rattle.sparql_algebra.specs.Bags.{SameBag}
 use Rattle.sparql_algebra.proofs.Sums.{one}

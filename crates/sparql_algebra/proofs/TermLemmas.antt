@@ -5,7 +5,7 @@ use Rattle.std.specs.Cmp.{Equal-is, tied_itself}
 use Rattle.rdf_terms.specs.declared.term.Term.{Term}
 use Rattle.rdf_terms.specs.Order.{term_cmp}
 use Rattle.rdf_terms.specs.OrderLaws.{term_cmp_total, term_cmp-IsAntisymmetric}
-use Rattle.sparql_algebra.specs.Mapping.{Mapping, same_term, same_value, same_mapping}
+use Rattle.sparql_values.specs.Mapping.{Mapping, same_term, same_value, same_mapping}
 use Rattle.sparql_algebra.proofs.TruthLemmas.{and_left, and_right}
 
 pub same_term_is : (s t : Term) → same_term s t ≡ true → s ≡ t

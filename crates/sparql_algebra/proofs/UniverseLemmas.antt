@@ -3,7 +3,7 @@ use Rattle.std.proofs.Common.{◌≡◌, ℕ, ◌+◌, ◌≤◌, zero, suc, Boo
 use Rattle.std.specs.List.{sum_by, count_by, list_any}
 use Rattle.std.proofs.lemmas.List.Sums.{sum_by-cons}
 use Rattle.rdf_terms.specs.declared.term.Term.{Term}
-use Rattle.sparql_algebra.specs.Mapping.{Mapping, same_term, same_mapping}
+use Rattle.sparql_values.specs.Mapping.{Mapping, same_term, same_mapping}
 use Rattle.sparql_algebra.specs.Solutions.{distinct, all_mappings}
 use Rattle.sparql_algebra.proofs.Sums.{one, sum_by-cong, sum_by-flat_map, sum_by-map}
 use Rattle.sparql_algebra.proofs.TruthLemmas.{cond_one}

@@ -1,18 +1,19 @@
 -- The algebra by counts: what each operator makes of the counts of its parts (SPARQL 1.1 Query, section 18.5).
-use Rattle.std.specs.Prelude.{◌≡◌, ℕ, ◌+◌, ◌*◌, ◌≤◌, Bool, true, false, ◌&&◌, cond, List, [], ◌∷◌, count_by, length, take, nat_eq}
+use Rattle.std.specs.Prelude.{◌≡◌, ℕ, ◌+◌, ◌*◌, ◌≤◌, Bool, true, false, ◌&&◌, cond, List, [], ◌∷◌, ◌++◌, count_by, length, take, nat_eq}
 use Rattle.std.specs.List.{sum_by, list_any}
 use Rattle.rdf_terms.specs.Quad.{QuadParts}
 use Rattle.rdf_terms.specs.declared.term.Term.{Term}
 use Rattle.rdf_terms.specs.declared.term.Term.TheVariants as t
 use Rattle.rdf_terms.specs.declared.quad.GraphName.{GraphName}
 use Rattle.rdf_terms.specs.declared.quad.GraphName.TheVariants.{Named}
+use Rattle.sparql_trees.specs.declared.expression.Expression.{Expression}
 use Rattle.sparql_trees.specs.declared.pattern.BasicGraphPattern.{BasicGraphPattern}
 use Rattle.sparql_trees.specs.declared.pattern.VarOrIri.TheVariants as v
-use Rattle.sparql_algebra.specs.Algebra.{Algebra, basic, join, left_join, union, graph, empty_pattern}
+use Rattle.sparql_algebra.specs.Algebra.{Algebra, basic, join, left_join, filter, union, graph, empty_pattern}
 use Rattle.sparql_algebra.specs.Bags.{once_if_any}
 use Rattle.sparql_algebra.specs.Listing.{Listing}
-use Rattle.sparql_algebra.specs.Mapping.{Variables, Mapping, same_term, same_mapping, compatible, merge, single}
-use Rattle.sparql_algebra.specs.Solutions.{count, solves}
+use Rattle.sparql_values.specs.Mapping.{Variables, Mapping, same_term, same_mapping, compatible, merge, single}
+use Rattle.sparql_algebra.specs.Solutions.{count, satisfies, solves}
 
 -- a finite list of the mappings that are counted above 0, each once
 abbrev pub ListsCounted : List Mapping → (Mapping → ℕ) → Type 0
@@ -53,9 +54,14 @@ module _ (variables : Variables) (d : Listing) where
   JoinLaw = (g : GraphName) (A B : Algebra) (U V : List Mapping) → ListsCounted U (# g A) → ListsCounted V (# g B) →
       (m : Mapping) → # g (join A B) m ≡ pairs_count always U V (# g A) (# g B) m
 
+  -- a mapping that begins no pair whose merge fulfils the condition stays besides
   abbrev pub LeftJoinLaw : Type 0
-  LeftJoinLaw = (g : GraphName) (A B : Algebra) (U V : List Mapping) → ListsCounted U (# g A) → ListsCounted V (# g B) →
-      (m : Mapping) → # g (left_join A B) m ≡ pairs_count always U V (# g A) (# g B) m + cond (begins_pair always V m) 0 (# g A m)
+  LeftJoinLaw = (g : GraphName) (F : List Expression) (A B : Algebra) (U V : List Mapping) → ListsCounted U (# g A) → ListsCounted V (# g B) →
+      (m : Mapping) → # g (left_join F A B) m
+      ≡ pairs_count (satisfies variables F) U V (# g A) (# g B) m + cond (begins_pair (satisfies variables F) V m) 0 (# g A m)
+
+  abbrev pub FilterLaw : Type 0
+  FilterLaw = (g : GraphName) (F : List Expression) (A : Algebra) (m : Mapping) → # g (filter F A) m ≡ cond (satisfies variables F m) (# g A m) 0
 
   abbrev pub UnionLaw : Type 0
   UnionLaw = (g : GraphName) (A B : Algebra) (m : Mapping) → # g (union A B) m ≡ # g A m + # g B m
@@ -89,7 +95,18 @@ module _ (variables : Variables) (d : Listing) where
   abbrev pub UnionCommutes : Type 0
   UnionCommutes = (g : GraphName) (A B : Algebra) (m : Mapping) → # g (union A B) m ≡ # g (union B A) m
 
-  -- a mapping without a partner keeps its count
+  -- a mapping without a partner under the condition keeps its count
   abbrev pub LonelyStay : Type 0
-  LonelyStay = (g : GraphName) (A B : Algebra) (V : List Mapping) → ListsCounted V (# g B) →
-      (m : Mapping) → begins_pair always V m ≡ false → # g A m ≤ # g (left_join A B) m
+  LonelyStay = (g : GraphName) (F : List Expression) (A B : Algebra) (V : List Mapping) → ListsCounted V (# g B) →
+      (m : Mapping) → begins_pair (satisfies variables F) V m ≡ false → # g A m ≤ # g (left_join F A B) m
+
+  abbrev pub EmptyConditionHolds : Type 0
+  EmptyConditionHolds = (g : GraphName) (A : Algebra) (m : Mapping) → # g (filter [] A) m ≡ # g A m
+
+  -- a condition may be asked expression by expression
+  abbrev pub FiltersFollow : Type 0
+  FiltersFollow = (g : GraphName) (F G : List Expression) (A : Algebra) (m : Mapping) → # g (filter (F ++ G) A) m ≡ # g (filter G (filter F A)) m
+
+  abbrev pub FilterEntersUnion : Type 0
+  FilterEntersUnion = (g : GraphName) (F : List Expression) (A B : Algebra) (m : Mapping) →
+      # g (filter F (union A B)) m ≡ # g (union (filter F A) (filter F B)) m

@@ -4,7 +4,7 @@ use Rattle.std.specs.List.{list_all}
 use Rattle.rdf_terms.specs.Quad.{QuadParts}
 use Rattle.rdf_terms.specs.declared.term.Term.{Term}
 use Rattle.sparql_trees.specs.declared.pattern.TriplePattern.{TriplePattern}
-use Rattle.sparql_algebra.specs.Mapping.{Variables, Mapping, same_value, same_mapping}
+use Rattle.sparql_values.specs.Mapping.{Variables, Mapping, same_value, same_mapping}
 use Rattle.sparql_algebra.specs.Solutions.{instance_lies, occurs, same_bool, solves, terms_of, all_mappings, merges}
 
 -- at one column: the value stays, or comes where the test says so

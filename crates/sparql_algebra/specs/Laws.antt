@@ -16,7 +16,7 @@ use Rattle.sparql_trees.specs.declared.pattern.TriplePattern.{TriplePattern}
 use Rattle.sparql_trees.specs.declared.query.Select.{Select}
 use Rattle.sparql_algebra.specs.Algebra.{Algebra, basic, translation}
 use Rattle.sparql_algebra.specs.Listing.{Listing, Lists}
-use Rattle.sparql_algebra.specs.Mapping.{Variables, Mapping, same_term, same_mapping}
+use Rattle.sparql_values.specs.Mapping.{Variables, Mapping, same_term, same_mapping}
 use Rattle.sparql_algebra.specs.Results.{Solves, IsSelection, HasSolution}
 use Rattle.sparql_algebra.specs.Solutions.{var_or_term, term_at, holds, occurs, binds_exactly, count}
 

@@ -5,7 +5,6 @@ pub mod Examples
 pub mod Growth
 pub mod Laws
 pub mod Listing
-pub mod Mapping
 pub mod Order
 pub mod Results
 pub mod Solutions

@@ -3,7 +3,7 @@ use Rattle.std.specs.Option.{option_cmp}
 use Rattle.std.specs.Cmp.Lexicographic.{slice_cmp}
 use Rattle.std.specs.declared.cmp.Ordering.{Ordering}
 use Rattle.rdf_terms.specs.Order.{term_cmp}
-use Rattle.sparql_algebra.specs.Mapping.{Mapping}
+use Rattle.sparql_values.specs.Mapping.{Mapping}
 
 abbrev pub mapping_cmp : Mapping → Mapping → Ordering
 mapping_cmp = slice_cmp (option_cmp term_cmp)

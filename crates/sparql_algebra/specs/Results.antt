@@ -9,7 +9,7 @@ use Rattle.sparql_trees.specs.declared.query.Select.{Select}
 use Rattle.sparql_algebra.specs.Algebra.{translation}
 use Rattle.sparql_algebra.specs.Bags.{once_if_any}
 use Rattle.sparql_algebra.specs.Listing.{Listing, Lists}
-use Rattle.sparql_algebra.specs.Mapping.{Variables, Mapping, same_mapping, value_of}
+use Rattle.sparql_values.specs.Mapping.{Variables, Mapping, same_mapping, value_of}
 use Rattle.sparql_algebra.specs.Order.{mapping_cmp}
 use Rattle.sparql_algebra.specs.Solutions.{solutions, count}
 

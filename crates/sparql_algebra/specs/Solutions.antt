@@ -6,15 +6,18 @@ use Rattle.rdf_terms.specs.declared.term.Term.{Term}
 use Rattle.rdf_terms.specs.declared.term.Term.TheVariants as t
 use Rattle.rdf_terms.specs.declared.quad.GraphName.{GraphName}
 use Rattle.rdf_terms.specs.declared.quad.GraphName.TheVariants.{Named}
+use Rattle.sparql_trees.specs.declared.expression.Expression.{Expression}
 use Rattle.sparql_trees.specs.declared.pattern.BasicGraphPattern.{BasicGraphPattern}
 use Rattle.sparql_trees.specs.declared.pattern.TriplePattern.{TriplePattern}
 use Rattle.sparql_trees.specs.declared.pattern.VarOrIri.{VarOrIri}
 use Rattle.sparql_trees.specs.declared.pattern.VarOrIri.TheVariants as v
 use Rattle.sparql_trees.specs.declared.pattern.VarOrTerm.{VarOrTerm}
 use Rattle.sparql_trees.specs.declared.pattern.VarOrTerm.TheVariants as p
+use Rattle.sparql_algebra.specs.Algebra as algebra
 use Rattle.sparql_algebra.specs.Algebra.{Algebra, basic, join, left_join, union, graph}
 use Rattle.sparql_algebra.specs.Listing.{Listing}
-use Rattle.sparql_algebra.specs.Mapping.{Variables, Mapping, same_term, same_mapping, column, value_at, value_in, single, compatible, merge}
+use Rattle.sparql_values.specs.Mapping.{Variables, Mapping, same_term, same_mapping, column, value_at, value_in, value_of, single, compatible, merge}
+use Rattle.sparql_values.specs.Values.{is_satisfied}
 
 -- ---- basic graph patterns (section 18.3.1)
 
@@ -117,13 +120,20 @@ or_alone a (m ∷ ms) = m ∷ ms
 abbrev pub left_joins : List Mapping → List Mapping → (Mapping → Bool) → List Mapping
 left_joins A B F = flat_map (λ a. or_alone a (filter F (merges B a))) A
 
+-- ---- conditions (section 18.5: Filter)
+
+-- each expression is true of the mapping, none is false or an error
+abbrev pub satisfies : Variables → List Expression → Mapping → Bool
+satisfies variables F m = list_all (is_satisfied (value_of variables m)) F
+
 -- ---- the pattern's solutions over a listing of the dataset, in the active graph
 
 module _ (variables : Variables) (d : Listing) where
   abbrev pub solutions : GraphName → Algebra → List Mapping
   solutions g (basic b) = basic_solutions variables (d.quads g) b
   solutions g (join A B) = joins (solutions g A) (solutions g B)
-  solutions g (left_join A B) = left_joins (solutions g A) (solutions g B) (λ _. true)
+  solutions g (left_join F A B) = left_joins (solutions g A) (solutions g B) (satisfies variables F)
+  solutions g (algebra.filter F A) = filter (satisfies variables F) (solutions g A)
   solutions g (union A B) = solutions g A ++ solutions g B
   solutions g (graph (v.Iri iri) A) = cond (list_any (same_term (t.Iri iri)) d.names) (solutions (Named (t.Iri iri)) A) []
   solutions g (graph (v.Variable name) A) = flat_map (λ n. joins (solutions (Named n) A) (single variables name n ∷ [])) d.names

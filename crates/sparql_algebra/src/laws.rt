@@ -3,15 +3,17 @@ ghost use Rattle.sparql_algebra.specs.Laws.{SomeListing, ListingsAgree, TriplesA
 ghost use Rattle.sparql_algebra.specs.Counts as counts;
 ghost use Rattle.sparql_algebra.specs.Growth.{MergesGrow};
 ghost use Rattle.sparql_algebra.specs.Listing.{Listing};
-ghost use Rattle.sparql_algebra.specs.Mapping.{Variables};
+ghost use Rattle.sparql_values.specs.Mapping.{Variables};
 
 /// The counts of the algebra, operator by operator: sums over pairs of compatible mappings whose
 /// merge is the mapping (SPARQL 1.1 Query, sections 18.3.1 and 18.5). A basic graph pattern counts
-/// a mapping once for each assignment of its hidden variables.
+/// a mapping once for each assignment of its hidden variables; Filter counts it as before where the
+/// condition is true of it, and LeftJoin asks the condition of each merge.
 pub fn counts_are_the_algebra()
     ensures basic { (vs : Variables) (d : Listing) → counts.BasicLaw vs d }
     ensures join { (vs : Variables) (d : Listing) → counts.JoinLaw vs d }
     ensures left_join { (vs : Variables) (d : Listing) → counts.LeftJoinLaw vs d }
+    ensures filter { (vs : Variables) (d : Listing) → counts.FilterLaw vs d }
     ensures union { (vs : Variables) (d : Listing) → counts.UnionLaw vs d }
     ensures named { (vs : Variables) (d : Listing) → counts.NamedLaw vs d }
     ensures variable { (vs : Variables) (d : Listing) → counts.VariableLaw vs d }
@@ -19,13 +21,18 @@ pub fn counts_are_the_algebra()
 {}
 
 /// Join and Union are commutative, Join is associative, the empty pattern is Join's unit, and a
-/// mapping without a partner keeps its count under LeftJoin.
+/// mapping without a partner keeps its count under LeftJoin. A condition without expressions is
+/// true of every mapping, one with several may be asked expression by expression, and Filter of a
+/// Union is the Union of both filtered.
 pub fn operators_keep_their_laws()
     ensures join_commutes { (vs : Variables) (d : Listing) → counts.JoinCommutes vs d }
     ensures join_associates { (vs : Variables) (d : Listing) → counts.JoinAssociates vs d }
     ensures empty_is_unit { (vs : Variables) (d : Listing) → counts.EmptyIsUnit vs d }
     ensures union_commutes { (vs : Variables) (d : Listing) → counts.UnionCommutes vs d }
     ensures lonely_stay { (vs : Variables) (d : Listing) → counts.LonelyStay vs d }
+    ensures empty_condition { (vs : Variables) (d : Listing) → counts.EmptyConditionHolds vs d }
+    ensures filters_follow { (vs : Variables) (d : Listing) → counts.FiltersFollow vs d }
+    ensures filter_union { (vs : Variables) (d : Listing) → counts.FilterEntersUnion vs d }
 {}
 
 /// The graphs of every state can be listed, and the counts don't depend on how: a triple lies in a

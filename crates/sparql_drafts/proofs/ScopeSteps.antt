@@ -38,13 +38,12 @@ pub iri_gives : (name : Name) (s u : State) (r : Result (List ℕ) PrologueFault
 unfolding iri
 iri_gives name s u r tells same = told_gives (iri_of name) s u r tells same
 
-literal_tells : (w : Literal) (p : Prologue) (r : Result LiteralParts PrologueFault) → known_literal (declared p) w ≡ true → IfOk r (λ l. literal_of w p ≡ Some l) → IfErr r (λ e. ExplainsLiteral p w e) → Tells (literal_of w p) r
+pub literal_tells : (w : Literal) (p : Prologue) (r : Result LiteralParts PrologueFault) → known_literal (declared p) w ≡ true → IfOk r (λ l. literal_of w p ≡ Some l) → IfErr r (λ e. ExplainsLiteral p w e) → Tells (literal_of w p) r
 literal_tells w p (Ok l) known value fault = value
 literal_tells w p (Err (NoMemory e)) known value fault = tt
 literal_tells w p (Err (UnknownPrefix place)) known value fault = literal_known w p place known fault
 literal_tells w p (Err (Relative place)) known value fault = literal_lacking w p place fault
 
-pub literal_gives : (w : Literal) (s u : State) (r : Result LiteralParts PrologueFault) → known_literal (declared s.prologue) w ≡ true → IfOk r (λ l. literal_of w s.prologue ≡ Some l) → IfErr r (λ e. ExplainsLiteral s.prologue w e) → u ≡ s
-    → Gives (literal w s) r u
+pub literal_gives : (w : Literal) (s u : State) (r : Result LiteralParts PrologueFault) → Tells (literal_of w s.prologue) r → u ≡ s → Gives (literal w s) r u
 unfolding literal
-literal_gives w s u r known value fault same = told_gives (literal_of w) s u r (literal_tells w s.prologue r known value fault) same
+literal_gives w s u r tells same = told_gives (literal_of w) s u r tells same

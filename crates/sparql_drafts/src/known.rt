@@ -39,7 +39,8 @@ fn unknown_verb<'a>(declared: &IndexSet<Key<'a>>, verb: &Verb<'a>) -> Option<usi
     }
 }
 
-fn unknown_literal<'a>(declared: &IndexSet<Key<'a>>, literal: &Literal<'a>) -> Option<usize>
+/// Where the prefix of a literal's datatype starts, if it isn't one of these.
+pub fn unknown_literal<'a>(declared: &IndexSet<Key<'a>>, literal: &Literal<'a>) -> Option<usize>
     ensures { is_none result ≡ known_literal declared.now.keys literal.now }
 {
     match literal {

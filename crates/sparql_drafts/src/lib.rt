@@ -10,7 +10,8 @@ mod scope;
 
 pub use draft::{Place, QuadPattern, Quads, VarOrIri, VarOrTerm};
 pub use known::{
-    declare_prefix, unknown_all_triples, unknown_blocks, unknown_name, unknown_var_or_iri,
+    declare_prefix, unknown_all_triples, unknown_blocks, unknown_literal, unknown_name,
+    unknown_var_or_iri,
 };
 pub use laws::blank_numbers_are_below;
 pub use scope::Scope;

@@ -1,6 +1,6 @@
 //! The state in which declarations and triples are read.
 ghost use Rattle.std.specs.Prelude.{◌≡◌, ◌+◌, ◌≤◌, length, Some, IfOk, OnOk, OnErr, IsTrue};
-ghost use Rattle.rdf_grammar.specs.Literals.{known_literal, proper_literal};
+ghost use Rattle.rdf_grammar.specs.Literals.{known_literal, literal_of, proper_literal};
 ghost use Rattle.rdf_grammar.specs.Prologue as prologue;
 ghost use Rattle.rdf_grammar.specs.Prologue.{declared, knows, is_proper};
 ghost use Rattle.sparql_drafts.specs.Kept.{Gives, Tells};
@@ -282,12 +282,16 @@ impl<'a> Scope<'a> {
         self.prologue.iri(name)
     }
 
-    /// What a literal stands for.
+    /// What a literal stands for (SPARQL 1.1 Query, section 4.1.2).
+    ///
+    /// # Errors
+    /// As of [`Scope::iri`], for the name of its datatype.
     #[tactic(auto, unfolding(crate::specs::Meaning::literal))]
-    pub(crate) fn literal(&mut self, literal: &Written<'a>) -> Result<Literal, PrologueFault>
+    pub fn literal(&mut self, literal: &Written<'a>) -> Result<Literal, PrologueFault>
         requires known { IsTrue (known_literal (declared self.old.prologue) literal.now) }
         requires proper { IsTrue (proper_literal literal.now) }
         ensures gives { Gives (meaning.literal literal.now self.old) result self.new }
+        ensures tells { Tells (literal_of literal.now self.old.prologue) result }
         ensures same { self.new ≡ self.old }
     {
         self.prologue.literal(&self.vocabulary, literal)

@@ -6,18 +6,18 @@ use Rattle.rdf_grammar.specs.Derivations as grammar
 use Rattle.rdf_grammar.specs.Derivations.{Then, Star}
 use Rattle.rdf_grammar.proofs.Nests.{Keeps, then_keeps, pure_keeps, or_keeps, the_keeps, map_keeps, behind_keeps, word_keeps, leaf_keeps, maybe_keeps, star_keeps, one_keeps, Below, after}
 use Rattle.rdf_grammar.proofs.ProductionNests as shared
-use Rattle.sparql_grammar.specs.declared.terminal.Terminal.{Terminal}
-use Rattle.sparql_grammar.specs.declared.terminal.Terminal.TheVariants as terminal
+use Rattle.sparql_terminals.specs.declared.terminal.Terminal.{Terminal}
+use Rattle.sparql_terminals.specs.declared.terminal.Terminal.TheVariants as terminal
 use Rattle.sparql_grammar.specs.declared.tree.Node.{Node}
 use Rattle.sparql_grammar.specs.declared.tree.Node.TheVariants as n
 use Rattle.sparql_grammar.specs.declared.tree.VarOrIri.TheVariants as i
 use Rattle.sparql_grammar.specs.declared.tree.Verb.TheVariants as v
-use Rattle.sparql_grammar.specs.Lexemes.{Lexemes, Derives}
-use Rattle.sparql_grammar.specs.Terminals.{bracket, word}
+use Rattle.sparql_terminals.specs.Lexemes.{Lexemes, Derives}
+use Rattle.sparql_terminals.specs.Terminals.{bracket, word}
 use Rattle.sparql_grammar.specs.Reading as read
-use Rattle.sparql_grammar.specs.WordGrammar.{Iri, ALiteral}
+use Rattle.sparql_terminals.specs.WordGrammar.{Iri, ALiteral}
 use Rattle.sparql_grammar.specs.Grammar as g
-use Rattle.sparql_grammar.proofs.GrammarWords.{plain}
+use Rattle.sparql_terminals.proofs.GrammarWords.{plain}
 
 module _ (limit b : ℕ) where
   pub iri_keeps : Keeps bracket limit b Iri Iri

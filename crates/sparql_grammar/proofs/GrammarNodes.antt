@@ -10,8 +10,8 @@ use Rattle.rdf_grammar.specs.Derivations.{Then, Star, stop, more}
 use Rattle.rdf_grammar.proofs.Decides.{always, Decides, then_decides, pure_decides, repeat_decides}
 use Rattle.rdf_grammar.proofs.Terminals.{the_decides, value_decides, after_terminal, starts_with, the_terminal, value_terminal, terminal_seen, seen_terminal, unseen, word_sound, word_complete, word_strict}
 use Rattle.rdf_grammar.proofs.Combinators.{one_decides, seq, last, also, maybe_decides}
-use Rattle.sparql_grammar.specs.declared.terminal.Terminal.{Terminal}
-use Rattle.sparql_grammar.specs.declared.terminal.Terminal.TheVariants as terminal
+use Rattle.sparql_terminals.specs.declared.terminal.Terminal.{Terminal}
+use Rattle.sparql_terminals.specs.declared.terminal.Terminal.TheVariants as terminal
 use Rattle.sparql_grammar.specs.declared.tree.Node.{Node}
 use Rattle.sparql_grammar.specs.declared.tree.Node.TheVariants as n
 use Rattle.sparql_grammar.specs.declared.tree.Property.{Property}
@@ -19,14 +19,14 @@ use Rattle.sparql_grammar.specs.declared.tree.VarOrIri.{VarOrIri}
 use Rattle.sparql_grammar.specs.declared.tree.VarOrIri.TheVariants as i
 use Rattle.sparql_grammar.specs.declared.tree.Verb.{Verb}
 use Rattle.sparql_grammar.specs.declared.tree.Verb.TheVariants as v
-use Rattle.sparql_grammar.specs.Lexemes as lexemes
-use Rattle.sparql_grammar.specs.Lexemes.{Lexemes, Reading, sees, Derives, Test}
-use Rattle.sparql_grammar.specs.Terminals.{same_terminal, apart}
+use Rattle.sparql_terminals.specs.Lexemes as lexemes
+use Rattle.sparql_terminals.specs.Lexemes.{Lexemes, Reading, sees, Derives, Test}
+use Rattle.sparql_terminals.specs.Terminals.{same_terminal, apart}
 use Rattle.sparql_grammar.specs.Reading as read
-use Rattle.sparql_grammar.specs.WordReading as word
+use Rattle.sparql_terminals.specs.WordReading as word
 use Rattle.sparql_grammar.specs.Grammar as g
-use Rattle.sparql_grammar.specs.WordGrammar.{Iri, ALiteral}
-use Rattle.sparql_grammar.proofs.GrammarWords.{iri_passes, iri_strict, iri_decides, ends_node, after_node, literal_decides, literal_strict, begins_literal, literal_begins}
+use Rattle.sparql_terminals.specs.WordGrammar.{Iri, ALiteral}
+use Rattle.sparql_terminals.proofs.GrammarWords.{iri_passes, iri_strict, iri_decides, ends_node, after_node, literal_decides, literal_strict, begins_literal, literal_begins}
 
 -- ---- names and variables
 
@@ -165,6 +165,9 @@ literal_node (Some terminal.Text) h = refl
 literal_node (Some terminal.Integer) h = refl
 literal_node (Some terminal.Decimal) h = refl
 literal_node (Some terminal.Double) h = refl
+literal_node (Some terminal.SignedInteger) h = refl
+literal_node (Some terminal.SignedDecimal) h = refl
+literal_node (Some terminal.SignedDouble) h = refl
 literal_node (Some terminal.True) h = refl
 literal_node (Some terminal.False) h = refl
 literal_node _ h = absurd (cc)
@@ -333,6 +336,9 @@ module _ (node : Reading Node) (Node' : Derives Node) (r : IsNodeRule node Node'
   node_literal (Some terminal.Integer) h = refl
   node_literal (Some terminal.Decimal) h = refl
   node_literal (Some terminal.Double) h = refl
+  node_literal (Some terminal.SignedInteger) h = refl
+  node_literal (Some terminal.SignedDecimal) h = refl
+  node_literal (Some terminal.SignedDouble) h = refl
   node_literal (Some terminal.True) h = refl
   node_literal (Some terminal.False) h = refl
   node_literal _ h = absurd (cc)

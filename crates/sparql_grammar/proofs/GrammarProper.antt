@@ -3,19 +3,12 @@ use Rattle.std.proofs.Common.{◌≡◌, ◌∙◌, ap, refl, sym, subst, ℕ, z
 use Rattle.std.proofs.lemmas.Bool.{and_from}
 use Rattle.std.specs.Prelude.{option_to_list}
 use Rattle.std.specs.List.{list_all, AllByRecursion}
-use Rattle.rdf_tokens.proofs.CallerLemmas.{local_allowed}
 use Rattle.rdf_grammar.specs.declared.tree.Name.{Name}
-use Rattle.rdf_grammar.specs.declared.tree.Name.TheVariants.{Full}
 use Rattle.rdf_grammar.specs.declared.tree.Literal.{Literal}
-use Rattle.rdf_grammar.specs.declared.tree.Literal.TheVariants as l
 use Rattle.rdf_grammar.specs.Prologue.{is_proper}
 use Rattle.rdf_grammar.specs.Terminals.{Piece}
 use Rattle.rdf_grammar.specs.Derivations as grammar
-use Rattle.rdf_grammar.specs.Productions as productions
-use Rattle.rdf_grammar.specs.declared.word.Word.{Word}
-use Rattle.rdf_grammar.specs.declared.word.Word.TheVariants as w
-use Rattle.sparql_grammar.specs.declared.terminal.Terminal.{Terminal}
-use Rattle.sparql_grammar.specs.declared.terminal.Terminal.TheVariants as terminal
+use Rattle.sparql_terminals.specs.declared.terminal.Terminal.TheVariants as terminal
 use Rattle.sparql_grammar.specs.declared.tree.Node.{Node}
 use Rattle.sparql_grammar.specs.declared.tree.Node.TheVariants as n
 use Rattle.sparql_grammar.specs.declared.tree.Property.{Property}
@@ -23,46 +16,22 @@ use Rattle.sparql_grammar.specs.declared.tree.Triples.{Triples}
 use Rattle.sparql_grammar.specs.declared.tree.VarOrIri.TheVariants as i
 use Rattle.sparql_grammar.specs.declared.tree.Verb.{Verb}
 use Rattle.sparql_grammar.specs.declared.tree.Verb.TheVariants as v
-use Rattle.sparql_grammar.specs.Formed.{AllFormed}
-use Rattle.sparql_grammar.specs.Lexemes.{Lexemes, Derives}
+use Rattle.sparql_terminals.specs.Formed.{AllFormed}
+use Rattle.sparql_terminals.specs.Lexemes.{Lexemes, Derives}
 use Rattle.rdf_grammar.specs.Literals.{proper_literal}
 use Rattle.sparql_grammar.specs.Proper.{holds, is_filled, stands_alone, proper_verb, proper_node_of, proper_property_of, proper_node, proper_property, proper_triples, proper_var_or_iri}
-use Rattle.sparql_grammar.specs.Terminals.{word}
-use Rattle.sparql_grammar.specs.WordGrammar as words
 use Rattle.sparql_grammar.specs.Reading as read
 use Rattle.sparql_grammar.specs.Grammar as g
-use Rattle.sparql_grammar.proofs.FormedPieces.{local_formed, tag_formed}
-use Rattle.sparql_grammar.proofs.Gives.{Gives, IsOf, Any, IsGoodOption, then_gives, pure_gives, or_gives, also_gives, the_gives, value_gives, map_gives, behind_gives, closed_gives, maybe_gives, star_gives, one_gives}
+use Rattle.sparql_terminals.proofs.Gives.{Gives, IsOf, Any, IsGoodOption, then_gives, pure_gives, or_gives, also_gives, the_gives, value_gives, map_gives, behind_gives, closed_gives, maybe_gives, star_gives, one_gives}
 use Rattle.sparql_grammar.proofs.GrammarTriples.{node_alone}
-use Rattle.sparql_grammar.proofs.GrammarWords.{IsJust, is_iri, is_pname, is_text, is_tag, is_caret, is_integer, is_decimal, is_double, is_true, is_false, value_is, behind_is}
+use Rattle.sparql_terminals.proofs.WordGives.{Passes, iri_gives, literal_gives}
 use Rattle.sparql_grammar.proofs.Trees.{by-Variable, by-Name, by-Literal, by-Label, by-Blank, by-Collection, by-property, filled_map}
-
--- each of them passes the test
-abbrev pub Passes : {A : Type 0} → (A → Bool) → A → Type 0
-Passes test x = test x ≡ true
 
 pub all_pass : {A : Type 0} (test : A → Bool) (xs : List A) → AllByRecursion (Passes test) xs → list_all holds (map test xs) ≡ true
 all_pass test [] all = refl
 all_pass test (x ∷ xs) all = and_from (test x) (list_all holds (map test xs)) all.0 (all_pass test xs all.1)
 
--- ---- names, verbs and literals
-
-by_gives : {A : Type 0} (P Q : Derives A) (Good : A → Type 0) → ((ts : Lexemes) (x : A) (us : Lexemes) → P ts x us → Q ts x us) → Gives Q Good → Gives P Good
-unfolding Gives
-by_gives P Q Good there q ts x us d w = q ts x us (there ts x us d) w
-
-word_gives : (w : Word) (k : Terminal) → IsJust w k → Gives (productions.value word w) (IsOf k)
-word_gives w k is = by_gives _ _ (IsOf k) (value_is w k is) (value_gives k)
-
-behind_word : {A : Type 0} (w : Word) (k : Terminal) → IsJust w k → (P : Derives A) (Good : A → Type 0) → Gives P Good → Gives (grammar.◌>>◌ (productions.the word w) P) Good
-behind_word w k is P Good p = by_gives _ _ Good (behind_is w k P is) (behind_gives k P Good p)
-
-prefixed_proper : (text : Piece) → IsOf terminal.Pname text → is_proper (productions.prefixed text) ≡ true
-prefixed_proper text h = subst (λ (x : Piece). is_proper (productions.prefixed x) ≡ true) h.is (ap not (local_allowed _ (local_formed h.lexeme h.formed h.terminal)))
-
-pub iri_gives : Gives words.Iri (Passes is_proper)
-iri_gives = or_gives _ _ (Passes is_proper) (map_gives Full _ _ (Passes is_proper) (word_gives w.Iri terminal.Iri is_iri) (λ a h. refl))
-    (map_gives productions.prefixed _ _ (Passes is_proper) (word_gives w.Pname terminal.Pname is_pname) prefixed_proper)
+-- ---- names and verbs
 
 pub var_or_iri_gives : Gives g.AVarOrIri (Passes proper_var_or_iri)
 var_or_iri_gives = or_gives _ _ (Passes proper_var_or_iri) (map_gives i.Variable _ _ (Passes proper_var_or_iri) (value_gives terminal.Variable) (λ a h. refl))
@@ -71,28 +40,6 @@ var_or_iri_gives = or_gives _ _ (Passes proper_var_or_iri) (map_gives i.Variable
 verb_gives : Gives g.AVerb (Passes proper_verb)
 verb_gives = or_gives _ _ (Passes proper_verb) (map_gives v.Variable _ _ (Passes proper_verb) (value_gives terminal.Variable) (λ a h. refl))
     (or_gives _ _ (Passes proper_verb) (map_gives v.Name _ _ (Passes proper_verb) iri_gives (λ a h. h)) (closed_gives terminal.A v.Type (Passes proper_verb) refl))
-
-tagged_proper : (form tag : Piece) → IsOf terminal.AtWord tag → proper_literal (l.Tagged form tag) ≡ true
-tagged_proper form tag h = subst (λ (x : Piece). proper_literal (l.Tagged form x) ≡ true) h.is (tag_formed h.lexeme h.formed h.terminal)
-
-suffix_gives : (form : Piece) → Gives (productions.Suffix word form) (Passes proper_literal)
-suffix_gives form = or_gives _ _ (Passes proper_literal) (map_gives (l.Tagged form) _ _ (Passes proper_literal) (word_gives w.Tag terminal.AtWord is_tag) (tagged_proper form))
-    (or_gives _ _ (Passes proper_literal) (behind_word w.Caret terminal.Caret is_caret _ (Passes proper_literal) (map_gives (l.Typed form) _ _ (Passes proper_literal) iri_gives (λ a h. h))) (pure_gives (l.Plain form) (Passes proper_literal) refl))
-
-text_gives : Gives (productions.RDFLiteral word) (Passes proper_literal)
-text_gives = then_gives _ _ _ (Passes proper_literal) (word_gives w.Text terminal.Text is_text) (λ form h. suffix_gives form)
-
-number_gives : Gives (productions.NumericLiteral word) (Passes proper_literal)
-number_gives = or_gives _ _ (Passes proper_literal) (map_gives l.Integer _ _ (Passes proper_literal) (word_gives w.Integer terminal.Integer is_integer) (λ a h. refl))
-    (or_gives _ _ (Passes proper_literal) (map_gives l.Decimal _ _ (Passes proper_literal) (word_gives w.Decimal terminal.Decimal is_decimal) (λ a h. refl))
-    (map_gives l.Double _ _ (Passes proper_literal) (word_gives w.Double terminal.Double is_double) (λ a h. refl)))
-
-boolean_gives : Gives (productions.BooleanLiteral word) (Passes proper_literal)
-boolean_gives = or_gives _ _ (Passes proper_literal) (map_gives (l.Boolean true) _ _ (Passes proper_literal) (word_gives w.True terminal.True is_true) (λ a h. refl))
-    (map_gives (l.Boolean false) _ _ (Passes proper_literal) (word_gives w.False terminal.False is_false) (λ a h. refl))
-
-literal_gives : Gives words.ALiteral (Passes proper_literal)
-literal_gives = or_gives _ _ (Passes proper_literal) text_gives (or_gives _ _ (Passes proper_literal) number_gives boolean_gives)
 
 -- ---- nodes by what they are
 

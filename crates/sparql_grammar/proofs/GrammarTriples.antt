@@ -10,18 +10,18 @@ use Rattle.rdf_grammar.specs.Derivations.{Then, Star, stop, more}
 use Rattle.rdf_grammar.proofs.Decides.{always, Decides, then_decides, pure_decides, repeat_decides}
 use Rattle.rdf_grammar.proofs.Terminals.{the_decides, after_terminal, starts_with, the_terminal, terminal_seen, unseen}
 use Rattle.rdf_grammar.proofs.Combinators.{one_decides, also, maybe_decides}
-use Rattle.sparql_grammar.specs.declared.terminal.Terminal.{Terminal}
-use Rattle.sparql_grammar.specs.declared.terminal.Terminal.TheVariants as terminal
+use Rattle.sparql_terminals.specs.declared.terminal.Terminal.{Terminal}
+use Rattle.sparql_terminals.specs.declared.terminal.Terminal.TheVariants as terminal
 use Rattle.sparql_grammar.specs.declared.tree.Node.{Node}
 use Rattle.sparql_grammar.specs.declared.tree.Property.{Property}
 use Rattle.sparql_grammar.specs.declared.tree.Triples.{Triples}
-use Rattle.sparql_grammar.specs.Lexemes as lexemes
-use Rattle.sparql_grammar.specs.Lexemes.{Lexemes, Reading, sees, Derives, Test}
-use Rattle.sparql_grammar.specs.Terminals.{same_terminal, apart}
+use Rattle.sparql_terminals.specs.Lexemes as lexemes
+use Rattle.sparql_terminals.specs.Lexemes.{Lexemes, Reading, sees, Derives, Test}
+use Rattle.sparql_terminals.specs.Terminals.{same_terminal, apart}
 use Rattle.sparql_grammar.specs.Proper.{is_filled, stands_alone}
 use Rattle.sparql_grammar.specs.Reading as read
 use Rattle.sparql_grammar.specs.Grammar as g
-use Rattle.sparql_grammar.proofs.GrammarWords.{after_node}
+use Rattle.sparql_terminals.proofs.GrammarWords.{after_node}
 use Rattle.sparql_grammar.proofs.GrammarNodes.{closes_list, ends_list, seen_passes, IsNodeRule, node_rule, property_list_not_empty_decides, property_list_decides, not_empty_behind, list_behind}
 use Rattle.sparql_grammar.proofs.Trees.{alone_variable, alone_name, alone_literal, alone_label, alone_blank, alone_collection}
 

@@ -1,14 +1,12 @@
-pub mod FormedPieces
-pub mod Gives
+pub mod BodyLemmas
 pub mod GrammarNests
 pub mod GrammarNodes
 pub mod GrammarProper
 pub mod GrammarTriples
-pub mod GrammarWords
+pub mod GroupElements
 pub mod GroupNests
 pub mod GroupProductions
 pub mod GroupTurns
-pub mod Keywords
 pub mod OperationData
 pub mod OperationNests
 pub mod OperationParts
@@ -16,7 +14,6 @@ pub mod OperationProductions
 pub mod OperationProper
 pub mod OperationTurns
 pub mod OperationWhole
-pub mod ProfileTokens
 pub mod PrologueProductions
 pub mod QueryProductions
 pub mod QueryProper

@@ -4,8 +4,8 @@ use Rattle.std.specs.Prelude.{is_some}
 use Rattle.rdf_grammar.specs.Derivations as grammar
 use Rattle.rdf_grammar.specs.Derivations.{Star}
 use Rattle.rdf_grammar.proofs.Nests.{Keeps, then_keeps, pure_keeps, or_keeps, the_keeps, map_keeps, behind_keeps, word_keeps, maybe_keeps, star_keeps, one_keeps, enclosed}
-use Rattle.sparql_grammar.specs.declared.terminal.Terminal.{Terminal}
-use Rattle.sparql_grammar.specs.declared.terminal.Terminal.TheVariants as terminal
+use Rattle.sparql_terminals.specs.declared.terminal.Terminal.{Terminal}
+use Rattle.sparql_terminals.specs.declared.terminal.Terminal.TheVariants as terminal
 use Rattle.sparql_grammar.specs.declared.tree.Block.{Block}
 use Rattle.sparql_grammar.specs.declared.tree.GraphOrDefault.{GraphOrDefault}
 use Rattle.sparql_grammar.specs.declared.tree.GraphOrDefault.TheVariants as place
@@ -17,12 +17,12 @@ use Rattle.sparql_grammar.specs.declared.tree.Part.{Part}
 use Rattle.sparql_grammar.specs.declared.tree.Part.TheVariants as part
 use Rattle.sparql_grammar.specs.declared.tree.Triples.{Triples}
 use Rattle.sparql_grammar.specs.Grammar.{Nodes_at, TriplesTemplate}
-use Rattle.sparql_grammar.specs.Lexemes.{Lexemes, Derives}
+use Rattle.sparql_terminals.specs.Lexemes.{Lexemes, Derives}
 use Rattle.sparql_grammar.specs.Nesting.{open_after}
 use Rattle.sparql_grammar.specs.OperationGrammar as g
 use Rattle.sparql_grammar.specs.OperationReading as read
 use Rattle.sparql_grammar.specs.Reading.{all_of}
-use Rattle.sparql_grammar.specs.Terminals.{bracket}
+use Rattle.sparql_terminals.specs.Terminals.{bracket}
 use Rattle.sparql_grammar.proofs.GrammarNests.{iri_keeps, var_or_iri_keeps, triples_keep}
 use Rattle.sparql_grammar.proofs.OperationParts.{Ended, APart}
 use Rattle.sparql_grammar.proofs.PrologueProductions.{declaration_keeps}

@@ -10,22 +10,22 @@ use Rattle.rdf_grammar.specs.Derivations.{Then, Star, stop, more}
 use Rattle.rdf_grammar.proofs.Combinators.{one_decides, seq, last, choose_decides}
 use Rattle.rdf_grammar.proofs.Decides.{always, Decides, some_pair, pure_decides, repeat_decides}
 use Rattle.rdf_grammar.proofs.Terminals.{the_decides}
-use Rattle.sparql_grammar.specs.declared.terminal.Terminal.{Terminal}
-use Rattle.sparql_grammar.specs.declared.terminal.Terminal.TheVariants as terminal
+use Rattle.sparql_terminals.specs.declared.terminal.Terminal.{Terminal}
+use Rattle.sparql_terminals.specs.declared.terminal.Terminal.TheVariants as terminal
 use Rattle.sparql_grammar.specs.declared.tree.Declaration.{Declaration}
 use Rattle.sparql_grammar.specs.declared.tree.Operation.{Operation}
 use Rattle.sparql_grammar.specs.declared.tree.Operation.TheVariants as o
 use Rattle.sparql_grammar.specs.declared.tree.Part.{Part}
 use Rattle.sparql_grammar.specs.declared.tree.Part.TheVariants as p
 use Rattle.sparql_grammar.specs.declared.tree.Triples.{Triples}
-use Rattle.sparql_grammar.specs.Lexemes as lexemes
-use Rattle.sparql_grammar.specs.Lexemes.{Lexeme, Lexemes, Reading, Outcome, sees, Derives, Test}
+use Rattle.sparql_terminals.specs.Lexemes as lexemes
+use Rattle.sparql_terminals.specs.Lexemes.{Lexeme, Lexemes, Reading, Outcome, sees, Derives, Test}
 use Rattle.sparql_grammar.specs.OperationGrammar as g
 use Rattle.sparql_grammar.specs.OperationReading as read
-use Rattle.sparql_grammar.specs.Terminals.{same_terminal, apart}
+use Rattle.sparql_terminals.specs.Terminals.{same_terminal, apart}
 use Rattle.sparql_grammar.specs.PrologueGrammar.{Prologue}
 use Rattle.sparql_grammar.specs.PrologueReading.{begins_declaration, declaration, sees_declaration}
-use Rattle.sparql_grammar.proofs.Keywords.{keyword_sound, keyword_complete, keyword_terminal, keyword_strict}
+use Rattle.sparql_terminals.proofs.Keywords.{keyword_sound, keyword_complete, keyword_terminal, keyword_strict}
 use Rattle.sparql_grammar.proofs.PrologueProductions.{ADeclaration, declaration_begins, declaration_decides, declaration_strict}
 use Rattle.sparql_grammar.proofs.OperationProductions.{create_decides, on_graphs_decides, between_decides}
 use Rattle.sparql_grammar.proofs.OperationData.{IsTemplateRule, DataRest, data_decides}

@@ -12,22 +12,22 @@ use Rattle.rdf_grammar.specs.Derivations.{Then}
 use Rattle.rdf_grammar.proofs.Combinators.{seq, last, maybe_decides}
 use Rattle.rdf_grammar.proofs.Decides.{always, Decides, then_decides, pure_decides}
 use Rattle.rdf_grammar.proofs.Terminals.{the_decides, after_terminal, the_terminal, terminal_seen, unseen, word_sound, word_complete, word_strict}
-use Rattle.sparql_grammar.specs.declared.terminal.Terminal.{Terminal}
-use Rattle.sparql_grammar.specs.declared.terminal.Terminal.TheVariants as terminal
+use Rattle.sparql_terminals.specs.declared.terminal.Terminal.{Terminal}
+use Rattle.sparql_terminals.specs.declared.terminal.Terminal.TheVariants as terminal
 use Rattle.sparql_grammar.specs.declared.tree.GraphOrDefault.{GraphOrDefault}
 use Rattle.sparql_grammar.specs.declared.tree.GraphOrDefault.TheVariants as place
 use Rattle.sparql_grammar.specs.declared.tree.GraphRefAll.{GraphRefAll}
 use Rattle.sparql_grammar.specs.declared.tree.GraphRefAll.TheVariants as graphs
 use Rattle.sparql_grammar.specs.declared.tree.Operation.{Operation}
 use Rattle.sparql_grammar.specs.declared.tree.Operation.TheVariants as o
-use Rattle.sparql_grammar.specs.Lexemes as lexemes
-use Rattle.sparql_grammar.specs.Lexemes.{Lexemes, Reading, sees, Derives, Test}
+use Rattle.sparql_terminals.specs.Lexemes as lexemes
+use Rattle.sparql_terminals.specs.Lexemes.{Lexemes, Reading, sees, Derives, Test}
 use Rattle.sparql_grammar.specs.OperationGrammar as g
 use Rattle.sparql_grammar.specs.OperationReading as read
-use Rattle.sparql_grammar.specs.Terminals.{same_terminal, apart}
-use Rattle.sparql_grammar.specs.WordGrammar.{Iri}
-use Rattle.sparql_grammar.specs.WordReading.{iri}
-use Rattle.sparql_grammar.proofs.GrammarWords.{iri_terminal, iri_decides}
+use Rattle.sparql_terminals.specs.Terminals.{same_terminal, apart}
+use Rattle.sparql_terminals.specs.WordGrammar.{Iri}
+use Rattle.sparql_terminals.specs.WordReading.{iri}
+use Rattle.sparql_terminals.proofs.GrammarWords.{iri_terminal, iri_decides}
 
 -- ---- a lexeme that may be missing
 

@@ -7,8 +7,8 @@ use Rattle.rdf_grammar.specs.Derivations as grammar
 use Rattle.rdf_grammar.specs.Derivations.{Star}
 use Rattle.rdf_grammar.specs.Prologue.{is_proper}
 use Rattle.rdf_grammar.proofs.LexemeLemmas.{lexemes_have_forms}
-use Rattle.sparql_grammar.specs.declared.terminal.Terminal.{Terminal}
-use Rattle.sparql_grammar.specs.declared.terminal.Terminal.TheVariants as terminal
+use Rattle.sparql_terminals.specs.declared.terminal.Terminal.{Terminal}
+use Rattle.sparql_terminals.specs.declared.terminal.Terminal.TheVariants as terminal
 use Rattle.sparql_grammar.specs.declared.tree.Block.{Block}
 use Rattle.sparql_grammar.specs.declared.tree.GraphOrDefault.{GraphOrDefault}
 use Rattle.sparql_grammar.specs.declared.tree.GraphOrDefault.TheVariants as place
@@ -20,18 +20,19 @@ use Rattle.sparql_grammar.specs.declared.tree.Part.{Part}
 use Rattle.sparql_grammar.specs.declared.tree.Part.TheVariants as part
 use Rattle.sparql_grammar.specs.declared.tree.Triples.{Triples}
 use Rattle.sparql_grammar.specs.declared.tree.VarOrIri.{VarOrIri}
-use Rattle.sparql_grammar.specs.Formed.{AllFormed}
+use Rattle.sparql_terminals.specs.Formed.{AllFormed}
 use Rattle.sparql_grammar.specs.Grammar.{Nodes_at, TriplesTemplate}
-use Rattle.sparql_grammar.specs.Lexemes.{Lexemes, Derives}
+use Rattle.sparql_terminals.specs.Lexemes.{Lexemes, Derives}
 use Rattle.sparql_grammar.specs.OperationGrammar as g
 use Rattle.sparql_grammar.specs.OperationReading.{block}
 use Rattle.sparql_grammar.specs.Proper.{holds, proper_triples, proper_var_or_iri, proper_graph, proper_block, proper_graph_ref_all, proper_graph_or_default, proper_operation, proper_part}
 use Rattle.sparql_grammar.specs.Reading.{all_of}
 use Rattle.sparql_grammar.specs.RequestLaws.{RequestsAreProper}
-use Rattle.sparql_grammar.specs.Terminals.{terminal_by}
-use Rattle.sparql_grammar.proofs.FormedPieces.{lexemes_formed}
-use Rattle.sparql_grammar.proofs.Gives.{Gives, Any, IsGoodOption, then_gives, pure_gives, or_gives, the_gives, map_gives, behind_gives, closed_gives, maybe_gives, star_gives, one_gives}
-use Rattle.sparql_grammar.proofs.GrammarProper.{Passes, all_pass, iri_gives, var_or_iri_gives, triples_give}
+use Rattle.sparql_terminals.specs.Terminals.{terminal_by}
+use Rattle.sparql_terminals.proofs.FormedPieces.{lexemes_formed}
+use Rattle.sparql_terminals.proofs.Gives.{Gives, Any, IsGoodOption, then_gives, pure_gives, or_gives, the_gives, map_gives, behind_gives, closed_gives, maybe_gives, star_gives, one_gives}
+use Rattle.sparql_terminals.proofs.WordGives.{Passes, iri_gives}
+use Rattle.sparql_grammar.proofs.GrammarProper.{all_pass, var_or_iri_gives, triples_give}
 use Rattle.sparql_grammar.proofs.OperationNests.{PartsAt}
 use Rattle.sparql_grammar.proofs.OperationParts.{Ended, EndedOperation, APart}
 use Rattle.sparql_grammar.proofs.OperationWhole.{parts_are}

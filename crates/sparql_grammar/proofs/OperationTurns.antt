@@ -1,10 +1,10 @@
 -- A turn of the loop over GRAPH blocks.
 use Rattle.std.proofs.Common.{◌≡◌, ◌<◌, ◌≤◌, Bool, true, false, cond, List, [], ◌∷◌, ◌++◌, length, Some, None, refl, sym, ◌∙◌, ap, arith, append_assoc}
 use Rattle.rdf_grammar.specs.Readings.{next}
-use Rattle.sparql_grammar.specs.declared.terminal.Terminal.TheVariants as terminal
+use Rattle.sparql_terminals.specs.declared.terminal.Terminal.TheVariants as terminal
 use Rattle.sparql_grammar.specs.declared.tree.Block.{Block}
 use Rattle.sparql_grammar.specs.declared.tree.Triples.{Triples}
-use Rattle.sparql_grammar.specs.Lexemes.{Lexemes, Reading, sees}
+use Rattle.sparql_terminals.specs.Lexemes.{Lexemes, Reading, sees}
 use Rattle.sparql_grammar.specs.OperationReading.{default_block, named_block, named_and_default}
 
 -- what is left where a lexeme may be taken

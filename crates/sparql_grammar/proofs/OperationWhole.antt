@@ -7,20 +7,20 @@ use Rattle.rdf_grammar.specs.Readings.{Fails}
 use Rattle.rdf_grammar.specs.Terminals.{next_terminal}
 use Rattle.rdf_grammar.proofs.Decides.{some_pair}
 use Rattle.rdf_grammar.proofs.Depths.{never_more}
-use Rattle.sparql_grammar.specs.declared.terminal.Terminal.{Terminal}
-use Rattle.sparql_grammar.specs.declared.terminal.Terminal.TheVariants as terminal
+use Rattle.sparql_terminals.specs.declared.terminal.Terminal.{Terminal}
+use Rattle.sparql_terminals.specs.declared.terminal.Terminal.TheVariants as terminal
 use Rattle.sparql_grammar.specs.declared.tree.Operation.{Operation}
 use Rattle.sparql_grammar.specs.declared.tree.Part.{Part}
 use Rattle.sparql_grammar.specs.declared.tree.Triples.{Triples}
 use Rattle.sparql_grammar.specs.Grammar.{Nodes_at, TriplesTemplate}
-use Rattle.sparql_grammar.specs.Lexemes.{Lexemes, Reading, Derives}
+use Rattle.sparql_terminals.specs.Lexemes.{Lexemes, Reading, Derives}
 use Rattle.sparql_grammar.specs.Nesting.{open_after, IsTooDeep, IsTooDeepAt}
 use Rattle.sparql_grammar.specs.OperationGrammar.{IsRequest, Update1}
 use Rattle.sparql_grammar.specs.OperationReading.{request}
 use Rattle.sparql_grammar.specs.Reading.{node, triples_template}
 use Rattle.sparql_grammar.specs.RequestLaws.{OneRequest}
 use Rattle.sparql_grammar.specs.Stops.{Explains, kind_of}
-use Rattle.sparql_grammar.specs.Terminals.{bracket}
+use Rattle.sparql_terminals.specs.Terminals.{bracket}
 use Rattle.sparql_grammar.proofs.GrammarTriples.{triples_decides, triples_begin, closes_template}
 use Rattle.sparql_grammar.proofs.OperationData.{closes_triples, IsTemplateRule}
 use Rattle.sparql_grammar.proofs.OperationNests.{PartsAt, parts_within}

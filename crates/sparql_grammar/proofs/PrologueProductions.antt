@@ -6,16 +6,16 @@ use Rattle.rdf_grammar.proofs.Combinators.{one_decides, seq, last}
 use Rattle.rdf_grammar.proofs.Decides.{always, Decides, pure_decides, repeat_decides}
 use Rattle.rdf_grammar.proofs.Nests.{Keeps, then_keeps, pure_keeps, or_keeps, value_keeps, namespace_keeps, behind_keeps, leaf_keeps, star_keeps, one_keeps}
 use Rattle.rdf_grammar.proofs.Terminals.{value_decides, namespace_decides}
-use Rattle.sparql_grammar.specs.declared.terminal.Terminal.{Terminal}
-use Rattle.sparql_grammar.specs.declared.terminal.Terminal.TheVariants as terminal
+use Rattle.sparql_terminals.specs.declared.terminal.Terminal.{Terminal}
+use Rattle.sparql_terminals.specs.declared.terminal.Terminal.TheVariants as terminal
 use Rattle.sparql_grammar.specs.declared.tree.Declaration.{Declaration}
 use Rattle.sparql_grammar.specs.declared.tree.Declaration.TheVariants as d
-use Rattle.sparql_grammar.specs.Lexemes.{Lexemes, Derives, Test}
+use Rattle.sparql_terminals.specs.Lexemes.{Lexemes, Derives, Test}
 use Rattle.sparql_grammar.specs.PrologueGrammar.{BaseDecl, PrefixDecl, Prologue}
 use Rattle.sparql_grammar.specs.PrologueReading as read
-use Rattle.sparql_grammar.specs.Terminals.{same_terminal, apart, bracket}
-use Rattle.sparql_grammar.proofs.Gives.{Gives, Any, then_gives, or_gives, value_gives, namespace_gives, map_gives, behind_gives}
-use Rattle.sparql_grammar.proofs.Keywords.{keyword_sound, keyword_complete, keyword_terminal, keyword_strict}
+use Rattle.sparql_terminals.specs.Terminals.{same_terminal, apart, bracket}
+use Rattle.sparql_terminals.proofs.Gives.{Gives, Any, then_gives, or_gives, value_gives, namespace_gives, map_gives, behind_gives}
+use Rattle.sparql_terminals.proofs.Keywords.{keyword_sound, keyword_complete, keyword_terminal, keyword_strict}
 
 -- ---- declarations
 

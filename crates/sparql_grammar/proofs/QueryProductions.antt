@@ -8,24 +8,24 @@ use Rattle.rdf_grammar.specs.Derivations.{Star}
 use Rattle.rdf_grammar.proofs.Combinators.{one_decides, seq, last}
 use Rattle.rdf_grammar.proofs.Decides.{always, Decides, some_pair, then_decides, pure_decides, repeat_decides}
 use Rattle.rdf_grammar.proofs.Terminals.{value_decides, value_terminal, the_terminal, terminal_seen, unseen, word_sound, word_complete, word_strict}
-use Rattle.sparql_grammar.specs.declared.terminal.Terminal.{Terminal}
-use Rattle.sparql_grammar.specs.declared.terminal.Terminal.TheVariants as terminal
+use Rattle.sparql_terminals.specs.declared.terminal.Terminal.{Terminal}
+use Rattle.sparql_terminals.specs.declared.terminal.Terminal.TheVariants as terminal
 use Rattle.sparql_grammar.specs.declared.tree.Columns.{Columns}
 use Rattle.sparql_grammar.specs.declared.tree.Columns.TheVariants as c
 use Rattle.sparql_grammar.specs.declared.tree.Group.{Group}
 use Rattle.sparql_grammar.specs.declared.tree.Query.{Query}
 use Rattle.sparql_grammar.specs.declared.tree.QueryForm.{QueryForm}
 use Rattle.sparql_grammar.specs.declared.tree.QueryForm.TheVariants as form
-use Rattle.sparql_grammar.specs.Lexemes as lexemes
-use Rattle.sparql_grammar.specs.Lexemes.{Lexemes, Reading, sees, Derives, Test}
+use Rattle.sparql_terminals.specs.Lexemes as lexemes
+use Rattle.sparql_terminals.specs.Lexemes.{Lexemes, Reading, sees, Derives, Test}
 use Rattle.sparql_grammar.specs.OperationGrammar.{Perhaps}
 use Rattle.sparql_grammar.specs.PrologueGrammar.{Prologue}
 use Rattle.sparql_grammar.specs.PrologueReading.{sees_declaration}
 use Rattle.sparql_grammar.specs.QueryGrammar as g
 use Rattle.sparql_grammar.specs.QueryReading as read
-use Rattle.sparql_grammar.specs.Terminals.{same_terminal, apart}
+use Rattle.sparql_terminals.specs.Terminals.{same_terminal, apart}
 use Rattle.sparql_grammar.proofs.GroupProductions.{IsGroupRule}
-use Rattle.sparql_grammar.proofs.Keywords.{keyword_sound, keyword_complete, keyword_terminal, keyword_strict}
+use Rattle.sparql_terminals.proofs.Keywords.{keyword_sound, keyword_complete, keyword_terminal, keyword_strict}
 use Rattle.sparql_grammar.proofs.OperationParts.{Nothing}
 use Rattle.sparql_grammar.proofs.OperationProductions.{perhaps_decides, perhaps_terminal}
 use Rattle.sparql_grammar.proofs.PrologueProductions.{prologue_decides}

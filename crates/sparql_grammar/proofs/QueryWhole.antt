@@ -9,8 +9,11 @@ use Rattle.rdf_grammar.specs.Derivations.{Star}
 use Rattle.rdf_grammar.proofs.Decides.{some_pair}
 use Rattle.rdf_grammar.proofs.Depths.{never_more}
 use Rattle.rdf_grammar.proofs.Nests.{Keeps, then_keeps, pure_keeps, or_keeps, the_keeps, value_keeps, map_keeps, behind_keeps, word_keeps, star_keeps, one_keeps}
-use Rattle.sparql_grammar.specs.declared.terminal.Terminal.{Terminal}
-use Rattle.sparql_grammar.specs.declared.terminal.Terminal.TheVariants as terminal
+use Rattle.sparql_terminals.specs.declared.terminal.Terminal.{Terminal}
+use Rattle.sparql_terminals.specs.declared.terminal.Terminal.TheVariants as terminal
+use Rattle.sparql_expressions.proofs.CallerLemmas.{constraint_decides, constraint_strict}
+use Rattle.sparql_expressions.specs.ExpressionGrammar.{Constraint, Expressions_at}
+use Rattle.sparql_expressions.specs.ExpressionReading.{constraint}
 use Rattle.sparql_grammar.specs.declared.tree.Columns.TheVariants as c
 use Rattle.sparql_grammar.specs.declared.tree.Group.{Group}
 use Rattle.sparql_grammar.specs.declared.tree.Query.{Query}
@@ -18,7 +21,7 @@ use Rattle.sparql_grammar.specs.declared.tree.QueryForm.TheVariants as form
 use Rattle.sparql_grammar.specs.Grammar.{Nodes_at, TriplesTemplate}
 use Rattle.sparql_grammar.specs.GroupGrammar.{Groups_at}
 use Rattle.sparql_grammar.specs.GroupReading.{group}
-use Rattle.sparql_grammar.specs.Lexemes.{Lexemes, Reading, Derives}
+use Rattle.sparql_terminals.specs.Lexemes.{Lexemes, Reading, Derives}
 use Rattle.sparql_grammar.specs.Nesting.{open_after, IsTooDeep}
 use Rattle.sparql_grammar.specs.QueryGrammar as g
 use Rattle.sparql_grammar.specs.QueryGrammar.{IsQuery}
@@ -27,10 +30,10 @@ use Rattle.sparql_grammar.specs.QueryReading as read
 use Rattle.sparql_grammar.specs.QueryReading.{whole_query}
 use Rattle.sparql_grammar.specs.Reading.{node, triples_template}
 use Rattle.sparql_grammar.specs.Stops.{ExplainsQuery, kind_of}
-use Rattle.sparql_grammar.specs.Terminals.{bracket}
+use Rattle.sparql_terminals.specs.Terminals.{bracket}
 use Rattle.sparql_grammar.proofs.GrammarTriples.{triples_decides, triples_begin, closes_template}
-use Rattle.sparql_grammar.proofs.GroupNests.{groups_keep, block_keeps}
-use Rattle.sparql_grammar.proofs.GroupProductions.{closes_block, IsBlockRule, IsGroupRule, group_rule}
+use Rattle.sparql_grammar.proofs.GroupNests.{groups_keep, block_keeps, filter_keeps}
+use Rattle.sparql_grammar.proofs.GroupProductions.{closes_block, IsBlockRule, IsConstraintRule, IsGroupRule, group_rule}
 use Rattle.sparql_grammar.proofs.OperationNests.{perhaps_keeps}
 use Rattle.sparql_grammar.proofs.OperationWhole.{never_high}
 use Rattle.sparql_grammar.proofs.PrologueProductions.{prologue_keeps}
@@ -43,6 +46,7 @@ closes_there (Some terminal.CloseBrace) h = refl
 closes_there (Some terminal.OpenBrace) h = refl
 closes_there (Some terminal.Optional) h = refl
 closes_there (Some terminal.Graph) h = refl
+closes_there (Some terminal.Filter) h = refl
 closes_there _ h = absurd (cc)
 
 block_rule : (depth : ℕ) → IsBlockRule (triples_template (node (suc depth))) (TriplesTemplate (Nodes_at depth))
@@ -53,15 +57,20 @@ block_rule depth =
       begins = triples_begin depth;
     }
 
+constraint_rule : (depth : ℕ) → IsConstraintRule (constraint depth) (Constraint (Expressions_at depth))
+constraint_rule depth = record { decides = constraint_decides depth; strict = constraint_strict depth }
+
 module _ (depth : ℕ) where
   abbrev read_group : Reading Group
-  read_group = group (triples_template (node (suc depth))) (suc depth)
+  read_group = group (triples_template (node (suc depth))) (constraint depth) (suc depth)
 
   abbrev AGroup : Derives Group
-  AGroup = Groups_at (TriplesTemplate (Nodes_at depth)) (suc depth)
+  AGroup = Groups_at (TriplesTemplate (Nodes_at depth)) (Constraint (Expressions_at depth)) (suc depth)
 
 rule : (depth : ℕ) → IsGroupRule (read_group depth) (AGroup depth)
-rule depth = group_rule (triples_template (node (suc depth))) (TriplesTemplate (Nodes_at depth)) (block_rule depth) (suc depth)
+rule depth =
+    group_rule (triples_template (node (suc depth))) (constraint depth) (TriplesTemplate (Nodes_at depth)) (Constraint (Expressions_at depth))
+    (block_rule depth) (constraint_rule depth) (suc depth)
 
 -- ---- where no more than so many brackets are open at once
 
@@ -98,7 +107,8 @@ unfolding Keeps
 query_within depth d ts query below h =
     let all : suc depth - 0 ≡ suc depth = omega arith in
     let groups : Keeps bracket (suc depth) 0 (AGroup d) (AGroup depth) =
-    rw all at (groups_keep (suc depth) (TriplesTemplate (Nodes_at d)) (TriplesTemplate (Nodes_at depth)) (block_keeps depth d) (suc d) 0) in
+    rw all at (groups_keep (suc depth) (TriplesTemplate (Nodes_at d)) (TriplesTemplate (Nodes_at depth))
+    (Constraint (Expressions_at d)) (Constraint (Expressions_at depth)) (block_keeps depth d) (filter_keeps depth d) (suc d) 0) in
     (query_keeps (suc depth) (AGroup d) (AGroup depth) groups ts query [] h (record { at = below })).0
 
 -- ---- all of the lexemes

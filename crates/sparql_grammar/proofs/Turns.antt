@@ -2,12 +2,12 @@
 use Rattle.std.proofs.Common.{◌≡◌, ◌<◌, Bool, true, false, if◌then◌else◌, List, [], ◌∷◌, length, Option, Some, None, refl, sym, ◌∙◌, ap, arith}
 use Rattle.std.proofs.lemmas.Bool.{and_parts}
 use Rattle.std.specs.Prelude.{option_to_list}
-use Rattle.sparql_grammar.specs.declared.terminal.Terminal.{Terminal}
-use Rattle.sparql_grammar.specs.declared.terminal.Terminal.TheVariants as terminal
+use Rattle.sparql_terminals.specs.declared.terminal.Terminal.{Terminal}
+use Rattle.sparql_terminals.specs.declared.terminal.Terminal.TheVariants as terminal
 use Rattle.sparql_grammar.specs.declared.tree.Node.{Node}
 use Rattle.sparql_grammar.specs.declared.tree.Property.{Property}
 use Rattle.sparql_grammar.specs.declared.tree.Triples.{Triples}
-use Rattle.sparql_grammar.specs.Lexemes.{Lexemes, Reading, sees, the}
+use Rattle.sparql_terminals.specs.Lexemes.{Lexemes, Reading, sees, the}
 use Rattle.rdf_grammar.specs.Readings.{next, one, optional, repeat}
 use Rattle.rdf_grammar.specs.Steps.{and_then, ◌>>◌, pure}
 use Rattle.rdf_grammar.specs.Terminals as front

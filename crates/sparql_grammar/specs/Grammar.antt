@@ -1,6 +1,6 @@
 -- Triples as the grammar writes them (SPARQL 1.1 Query, section 19.8, by the numbers of its rules), with no look at the next lexeme.
 use Rattle.std.specs.Prelude.{ℕ, zero, suc, List, [], ◌∷◌, option_to_list}
-use Rattle.sparql_grammar.specs.declared.terminal.Terminal.TheVariants as terminal
+use Rattle.sparql_terminals.specs.declared.terminal.Terminal.TheVariants as terminal
 use Rattle.sparql_grammar.specs.declared.tree.VarOrIri.{VarOrIri}
 use Rattle.sparql_grammar.specs.declared.tree.VarOrIri.TheVariants as i
 use Rattle.sparql_grammar.specs.declared.tree.Verb.{Verb}
@@ -11,9 +11,9 @@ use Rattle.sparql_grammar.specs.declared.tree.Property.{Property}
 use Rattle.sparql_grammar.specs.declared.tree.Triples.{Triples}
 use Rattle.rdf_grammar.specs.Derivations.{◌>>=◌, ◌>>◌, ◌<$>◌, ◌∣◌, pure, the, value, one, maybe, Star}
 use Rattle.rdf_grammar.specs.Terminals.{Piece}
-use Rattle.sparql_grammar.specs.Lexemes.{Derives}
+use Rattle.sparql_terminals.specs.Lexemes.{Derives}
 use Rattle.sparql_grammar.specs.Reading.{property_with, triples_with, all_of}
-use Rattle.sparql_grammar.specs.WordGrammar.{Iri, ALiteral}
+use Rattle.sparql_terminals.specs.WordGrammar.{Iri, ALiteral}
 
 -- 108: Var = VAR1 | VAR2
 abbrev pub Var : Derives Piece

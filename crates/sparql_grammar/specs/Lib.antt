@@ -1,12 +1,11 @@
-pub mod Formed
+pub mod Bodies
 pub mod Grammar
 pub mod GroupGrammar
+pub mod GroupLaws
 pub mod GroupReading
-pub mod Lexemes
 pub mod Nesting
 pub mod OperationGrammar
 pub mod OperationReading
-pub mod Profile
 pub mod PrologueGrammar
 pub mod PrologueReading
 pub mod Proper
@@ -16,6 +15,3 @@ pub mod QueryReading
 pub mod Reading
 pub mod RequestLaws
 pub mod Stops
-pub mod Terminals
-pub mod WordGrammar
-pub mod WordReading

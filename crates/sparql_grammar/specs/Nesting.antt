@@ -1,8 +1,8 @@
 -- How many brackets are open in lexemes of SPARQL.
 use Rattle.std.specs.Prelude.{ℕ}
 use Rattle.rdf_grammar.specs.Nesting as nesting
-use Rattle.sparql_grammar.specs.Lexemes.{Lexemes}
-use Rattle.sparql_grammar.specs.Terminals.{bracket}
+use Rattle.sparql_terminals.specs.Lexemes.{Lexemes}
+use Rattle.sparql_terminals.specs.Terminals.{bracket}
 
 -- the brackets that are open behind these lexemes, where so many were open before
 abbrev pub open_after : ℕ → Lexemes → ℕ

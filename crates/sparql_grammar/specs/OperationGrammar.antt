@@ -2,8 +2,8 @@
 use Rattle.std.specs.Prelude.{ℕ, suc, Bool, List, [], ◌∷◌, ◌++◌, map, Some, None, is_some}
 use Rattle.rdf_grammar.specs.Derivations.{◌>>=◌, ◌>>◌, ◌<$>◌, ◌∣◌, pure, the, maybe, Star}
 use Rattle.rdf_grammar.specs.declared.tree.Name.{Name}
-use Rattle.sparql_grammar.specs.declared.terminal.Terminal.{Terminal}
-use Rattle.sparql_grammar.specs.declared.terminal.Terminal.TheVariants as terminal
+use Rattle.sparql_terminals.specs.declared.terminal.Terminal.{Terminal}
+use Rattle.sparql_terminals.specs.declared.terminal.Terminal.TheVariants as terminal
 use Rattle.sparql_grammar.specs.declared.tree.Block.{Block}
 use Rattle.sparql_grammar.specs.declared.tree.Declaration.{Declaration}
 use Rattle.sparql_grammar.specs.declared.tree.GraphOrDefault.{GraphOrDefault}
@@ -15,12 +15,12 @@ use Rattle.sparql_grammar.specs.declared.tree.Operation.TheVariants as o
 use Rattle.sparql_grammar.specs.declared.tree.Part.{Part}
 use Rattle.sparql_grammar.specs.declared.tree.Part.TheVariants as p
 use Rattle.sparql_grammar.specs.declared.tree.Triples.{Triples}
-use Rattle.sparql_grammar.specs.Lexemes.{Lexemes, Derives}
+use Rattle.sparql_terminals.specs.Lexemes.{Lexemes, Derives}
 use Rattle.sparql_grammar.specs.Grammar.{AVarOrIri, Nodes_at, TriplesTemplate}
 use Rattle.sparql_grammar.specs.OperationReading.{block}
 use Rattle.sparql_grammar.specs.PrologueGrammar.{Prologue}
 use Rattle.sparql_grammar.specs.Reading.{all_of}
-use Rattle.sparql_grammar.specs.WordGrammar.{Iri}
+use Rattle.sparql_terminals.specs.WordGrammar.{Iri}
 
 -- ---- operations on graphs
 

@@ -5,8 +5,8 @@ use Rattle.rdf_grammar.specs.Steps.{◌>>=◌, ◌>>◌, ◌<$>◌, pure, none}
 use Rattle.rdf_grammar.specs.Terminals.{peek}
 use Rattle.rdf_grammar.specs.Readings.{any, choose, is_more, next, one, optional, repeat}
 use Rattle.rdf_grammar.specs.declared.tree.Name.{Name}
-use Rattle.sparql_grammar.specs.declared.terminal.Terminal.{Terminal}
-use Rattle.sparql_grammar.specs.declared.terminal.Terminal.TheVariants as terminal
+use Rattle.sparql_terminals.specs.declared.terminal.Terminal.{Terminal}
+use Rattle.sparql_terminals.specs.declared.terminal.Terminal.TheVariants as terminal
 use Rattle.sparql_grammar.specs.declared.tree.Block.{Block}
 use Rattle.sparql_grammar.specs.declared.tree.GraphOrDefault.{GraphOrDefault}
 use Rattle.sparql_grammar.specs.declared.tree.GraphOrDefault.TheVariants as place
@@ -18,10 +18,10 @@ use Rattle.sparql_grammar.specs.declared.tree.Part.{Part}
 use Rattle.sparql_grammar.specs.declared.tree.Part.TheVariants as p
 use Rattle.sparql_grammar.specs.declared.tree.Triples.{Triples}
 use Rattle.sparql_grammar.specs.declared.tree.VarOrIri.{VarOrIri}
-use Rattle.sparql_grammar.specs.Lexemes.{Reading, sees, the}
+use Rattle.sparql_terminals.specs.Lexemes.{Reading, sees, the}
 use Rattle.sparql_grammar.specs.PrologueReading.{declaration, sees_declaration}
 use Rattle.sparql_grammar.specs.Reading.{all_of, node, sees_node, triples_template, var_or_iri}
-use Rattle.sparql_grammar.specs.WordReading.{iri}
+use Rattle.sparql_terminals.specs.WordReading.{iri}
 
 abbrev pub block : Option VarOrIri → List Triples → Block
 block graph triples = record { graph = graph; triples = triples }

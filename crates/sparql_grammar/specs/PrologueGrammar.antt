@@ -1,10 +1,10 @@
 -- Prologues as they are written (SPARQL 1.1 Query, section 19.8, by the numbers of its rules), with no look at the next lexeme.
 use Rattle.std.specs.Prelude.{List}
 use Rattle.rdf_grammar.specs.Derivations.{◌>>=◌, ◌>>◌, ◌<$>◌, ◌∣◌, pure, the, value, namespace, one, Star}
-use Rattle.sparql_grammar.specs.declared.terminal.Terminal.TheVariants as terminal
+use Rattle.sparql_terminals.specs.declared.terminal.Terminal.TheVariants as terminal
 use Rattle.sparql_grammar.specs.declared.tree.Declaration.{Declaration}
 use Rattle.sparql_grammar.specs.declared.tree.Declaration.TheVariants as d
-use Rattle.sparql_grammar.specs.Lexemes.{Derives}
+use Rattle.sparql_terminals.specs.Lexemes.{Derives}
 
 -- 5: BaseDecl = "BASE" IRIREF
 abbrev pub BaseDecl : Derives Declaration

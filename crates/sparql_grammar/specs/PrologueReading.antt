@@ -3,11 +3,11 @@ use Rattle.std.specs.Prelude.{Bool, true, false, List, Option, Some}
 use Rattle.rdf_grammar.specs.Steps.{◌>>=◌, ◌>>◌, ◌<$>◌, pure, none}
 use Rattle.rdf_grammar.specs.Terminals.{peek, next_terminal}
 use Rattle.rdf_grammar.specs.Readings.{any, one, repeat}
-use Rattle.sparql_grammar.specs.declared.terminal.Terminal.{Terminal}
-use Rattle.sparql_grammar.specs.declared.terminal.Terminal.TheVariants as terminal
+use Rattle.sparql_terminals.specs.declared.terminal.Terminal.{Terminal}
+use Rattle.sparql_terminals.specs.declared.terminal.Terminal.TheVariants as terminal
 use Rattle.sparql_grammar.specs.declared.tree.Declaration.{Declaration}
 use Rattle.sparql_grammar.specs.declared.tree.Declaration.TheVariants as d
-use Rattle.sparql_grammar.specs.Lexemes.{Reading, Test, value, namespace}
+use Rattle.sparql_terminals.specs.Lexemes.{Reading, Test, value, namespace}
 
 -- IRIREF
 unfoldable pub base : Reading Declaration

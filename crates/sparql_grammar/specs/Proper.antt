@@ -4,6 +4,7 @@ use Rattle.std.specs.Prelude.{Bool, true, false, ◌&&◌, ◌||◌, List, [], �
 use Rattle.std.specs.List.{list_all}
 use Rattle.rdf_grammar.specs.Literals.{proper_literal}
 use Rattle.rdf_grammar.specs.Prologue.{is_proper}
+use Rattle.sparql_expressions.specs.ProperExpressions.{proper_expression}
 use Rattle.sparql_grammar.specs.declared.tree.Block.{Block}
 use Rattle.sparql_grammar.specs.declared.tree.Columns.{Columns}
 use Rattle.sparql_grammar.specs.declared.tree.Columns.TheVariants as c
@@ -119,7 +120,7 @@ proper_member_of (Member-F.Optional group) = group
 proper_member_of (Member-F.Graph graph group) = proper_var_or_iri graph && group
 
 abbrev pub proper_group_of : Group-F Bool Bool → Bool
-proper_group_of g = list_all holds g.members
+proper_group_of g = list_all holds g.members && list_all proper_expression g.filters
 
 abbrev pub proper_group : Group → Bool
 proper_group = fold-Group Bool Bool proper_member_of proper_group_of

@@ -2,7 +2,8 @@
 use Rattle.std.specs.Prelude.{ℕ, suc, List, [], ◌∷◌}
 use Rattle.rdf_grammar.specs.Derivations.{◌>>=◌, ◌>>◌, ◌<$>◌, ◌∣◌, pure, the, one, Star}
 use Rattle.rdf_grammar.specs.Terminals.{Piece}
-use Rattle.sparql_grammar.specs.declared.terminal.Terminal.TheVariants as terminal
+use Rattle.sparql_terminals.specs.declared.terminal.Terminal.TheVariants as terminal
+use Rattle.sparql_expressions.specs.ExpressionGrammar.{Constraint, Expressions_at}
 use Rattle.sparql_grammar.specs.declared.tree.Columns.{Columns}
 use Rattle.sparql_grammar.specs.declared.tree.Columns.TheVariants as c
 use Rattle.sparql_grammar.specs.declared.tree.Group.{Group}
@@ -11,7 +12,7 @@ use Rattle.sparql_grammar.specs.declared.tree.QueryForm.{QueryForm}
 use Rattle.sparql_grammar.specs.declared.tree.QueryForm.TheVariants as form
 use Rattle.sparql_grammar.specs.Grammar.{Nodes_at, TriplesTemplate, Var}
 use Rattle.sparql_grammar.specs.GroupGrammar.{Groups_at}
-use Rattle.sparql_grammar.specs.Lexemes.{Lexemes, Derives}
+use Rattle.sparql_terminals.specs.Lexemes.{Lexemes, Derives}
 use Rattle.sparql_grammar.specs.OperationGrammar.{Perhaps}
 use Rattle.sparql_grammar.specs.PrologueGrammar.{Prologue}
 use Rattle.sparql_grammar.specs.QueryReading.{query_with}
@@ -57,4 +58,5 @@ module _ (Group' : Derives Group) where
 
 -- All of the lexemes are this query. Its brackets may nest as deep as they do.
 abbrev pub IsQuery : Lexemes → Query → Type 0
-IsQuery ts query = (depth : ℕ) × AQuery (Groups_at (TriplesTemplate (Nodes_at depth)) (suc depth)) ts query []
+IsQuery ts query =
+    (depth : ℕ) × AQuery (Groups_at (TriplesTemplate (Nodes_at depth)) (Constraint (Expressions_at depth)) (suc depth)) ts query []

@@ -3,7 +3,7 @@ use Rattle.std.specs.Prelude.{◌≡◌, ℕ, List, IsTrue}
 use Rattle.rdf_tokens.specs.declared.token.Token.{Token}
 use Rattle.rdf_tokens.specs.Tokens.{Runs}
 use Rattle.sparql_grammar.specs.declared.tree.Query.{Query}
-use Rattle.sparql_grammar.specs.Lexemes.{Lexemes, AreLexemes}
+use Rattle.sparql_terminals.specs.Lexemes.{Lexemes, AreLexemes}
 use Rattle.sparql_grammar.specs.QueryGrammar.{IsQuery}
 use Rattle.sparql_grammar.specs.Proper.{proper_query}
 

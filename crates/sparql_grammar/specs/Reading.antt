@@ -1,8 +1,8 @@
 -- Triples (SPARQL 1.1 Query, section 19.8), a definition for each production. Where a production has alternatives the next lexeme
 -- chooses.
 use Rattle.std.specs.Prelude.{ℕ, zero, suc, Bool, true, false, ◌&&◌, if◌then◌else◌, List, [], ◌∷◌, Option, Some, None, option_to_list}
-use Rattle.sparql_grammar.specs.declared.terminal.Terminal.{Terminal}
-use Rattle.sparql_grammar.specs.declared.terminal.Terminal.TheVariants as terminal
+use Rattle.sparql_terminals.specs.declared.terminal.Terminal.{Terminal}
+use Rattle.sparql_terminals.specs.declared.terminal.Terminal.TheVariants as terminal
 use Rattle.sparql_grammar.specs.declared.tree.VarOrIri.{VarOrIri}
 use Rattle.sparql_grammar.specs.declared.tree.VarOrIri.TheVariants as i
 use Rattle.sparql_grammar.specs.declared.tree.Verb.{Verb}
@@ -14,9 +14,9 @@ use Rattle.sparql_grammar.specs.declared.tree.Triples.{Triples}
 use Rattle.rdf_grammar.specs.Readings.{any, one, optional, repeat, next}
 use Rattle.rdf_grammar.specs.Steps.{◌>>=◌, ◌>>◌, ◌<$>◌, pure, none}
 use Rattle.rdf_grammar.specs.Terminals.{peek, next_terminal}
-use Rattle.sparql_grammar.specs.Lexemes.{Reading, Test, sees, the, value}
+use Rattle.sparql_terminals.specs.Lexemes.{Reading, Test, sees, the, value}
 use Rattle.sparql_grammar.specs.Proper.{stands_alone}
-use Rattle.sparql_grammar.specs.WordReading.{iri, literal}
+use Rattle.sparql_terminals.specs.WordReading.{iri, literal}
 
 -- VarOrIri = Var | iri
 abbrev pub var_or_iri_by : Option Terminal → Reading VarOrIri
@@ -57,6 +57,9 @@ begins_node (Some terminal.Text) = true
 begins_node (Some terminal.Integer) = true
 begins_node (Some terminal.Decimal) = true
 begins_node (Some terminal.Double) = true
+begins_node (Some terminal.SignedInteger) = true
+begins_node (Some terminal.SignedDecimal) = true
+begins_node (Some terminal.SignedDouble) = true
 begins_node (Some terminal.True) = true
 begins_node (Some terminal.False) = true
 begins_node _ = false

@@ -4,7 +4,7 @@ use Rattle.std.specs.List.{list_all}
 use Rattle.rdf_tokens.specs.declared.token.Token.{Token}
 use Rattle.rdf_tokens.specs.Tokens.{Runs}
 use Rattle.sparql_grammar.specs.declared.tree.Part.{Part}
-use Rattle.sparql_grammar.specs.Lexemes.{Lexemes, AreLexemes}
+use Rattle.sparql_terminals.specs.Lexemes.{Lexemes, AreLexemes}
 use Rattle.sparql_grammar.specs.OperationGrammar.{IsRequest}
 use Rattle.sparql_grammar.specs.Proper.{holds, proper_part}
 

@@ -2,7 +2,7 @@
 use Rattle.std.specs.Prelude.{ℕ, List}
 use Rattle.rdf_grammar.specs.declared.fault.GrammarFault.{GrammarFault}
 use Rattle.rdf_grammar.specs.declared.fault.GrammarFault.TheVariants as grammar
-use Rattle.sparql_grammar.specs.Lexemes.{Lexemes}
+use Rattle.sparql_terminals.specs.Lexemes.{Lexemes}
 use Rattle.sparql_grammar.specs.Nesting.{IsTooDeepAt}
 use Rattle.sparql_grammar.specs.OperationGrammar.{IsRequest}
 use Rattle.sparql_grammar.specs.QueryGrammar.{IsQuery}

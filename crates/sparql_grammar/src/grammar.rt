@@ -6,11 +6,10 @@ ghost use Rattle.rdf_grammar.specs.declared.fault.GrammarFault.TheVariants.{Synt
 ghost use Rattle.sparql_grammar.specs.Proper.{stands_alone};
 ghost use Rattle.sparql_grammar.specs.Reading as spec;
 
-use crate::lexeme::Parser;
-use crate::terminal::Terminal;
 use crate::tree::{Node, Property, Triples, VarOrIri, Verb};
 use rdf_grammar::{GrammarFault, iri, literal};
 use rdf_terms::Items;
+use sparql_terminals::{Parser, Terminal};
 
 /// A variable or a name (107: VarOrIri).
 #[tactic(auto, unfolding(crate::specs::Reading::var_or_iri))]
@@ -69,6 +68,9 @@ pub fn begins_node(terminal: Option<Terminal>) -> bool
                 | Terminal::Integer
                 | Terminal::Decimal
                 | Terminal::Double
+                | Terminal::SignedInteger
+                | Terminal::SignedDecimal
+                | Terminal::SignedDouble
                 | Terminal::True
                 | Terminal::False
         )

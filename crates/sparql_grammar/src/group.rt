@@ -1,54 +1,47 @@
 //! Groups (SPARQL 1.1 Query, section 19.8). A group in a group is a recursion, and a list a loop.
 
-ghost use Rattle.std.specs.Prelude.{◌≡◌, ◌≤◌, ◌<◌, ◌++◌, length, option_to_list, OnOk};
+ghost use Rattle.std.specs.Prelude.{◌≡◌, ◌≤◌, ◌<◌, length, OnOk};
 ghost use Rattle.rdf_grammar.specs.Readings.{Reads};
 ghost use Rattle.sparql_grammar.specs.GroupReading as spec;
 ghost use Rattle.sparql_grammar.specs.OperationReading.{in_data};
+ghost use Rattle.sparql_grammar.specs.QueryReading.{group_within, in_filter};
 
+use crate::body::Body;
 use crate::grammar::{begins_node, triples_template, var_or_iri};
-use crate::lexeme::Parser;
-use crate::terminal::Terminal;
-use crate::tree::{Group, Member};
+use crate::tree::{Element, Group, Member};
 use rdf_grammar::{GrammarFault, MAX_OPEN};
-use rdf_terms::{Items, NoMemory};
+use rdf_terms::Items;
+use sparql_expressions::constraint;
+use sparql_terminals::{Parser, Terminal};
+
+/// How many parentheses a constraint may open: the group around it is open too.
+const MAX_PARENTHESES: usize = MAX_OPEN - 1;
 
 fn begins_pattern(terminal: Option<Terminal>) -> bool
     ensures { result ≡ spec.begins_pattern terminal }
 {
     matches!(
         terminal,
-        Some(Terminal::OpenBrace | Terminal::Optional | Terminal::Graph)
+        Some(Terminal::OpenBrace | Terminal::Optional | Terminal::Graph | Terminal::Filter)
     )
 }
 
 #[tactic(auto, unfolding(crate::specs::GroupReading::maybe_block))]
-fn maybe_block<'a>(parser: &mut Parser<'_, 'a>) -> Result<Option<Member<'a>>, GrammarFault>
+fn maybe_block<'a>(parser: &mut Parser<'_, 'a>) -> Result<Option<Element<'a>>, GrammarFault>
     ensures reads { Reads (spec.maybe_block in_data parser.old) result parser.new }
     ensures shorter { OnOk result (length parser.new ≤ length parser.old) }
 {
     if !begins_node(parser.peek()) {
         return Ok(None);
     }
-    Ok(Some(Member::Triples(triples_template(parser, MAX_OPEN)?)))
-}
-
-fn push_some<'a>(
-    members: &mut Items<Member<'a>>,
-    member: Option<Member<'a>>,
-) -> Result<(), NoMemory>
-    ensures { OnOk result (members.new ≡ members.old ++ option_to_list member.entry) }
-{
-    if let Some(member) = member {
-        members.push(member)?;
-    }
-    Ok(())
+    Ok(Some(Element::Block(triples_template(parser, MAX_OPEN)?)))
 }
 
 /// A group (53: GroupGraphPattern). The depth is how many groups may be open from this one on.
 #[cycle(group)]
 #[tactic(auto, unfolding(crate::specs::GroupReading::group))]
 pub fn group<'a>(parser: &mut Parser<'_, 'a>, depth: usize) -> Result<Group<'a>, GrammarFault>
-    ensures reads { Reads (spec.group in_data depth parser.old) result parser.new }
+    ensures reads { Reads (group_within depth parser.old) result parser.new }
     ensures shorter { OnOk result (length parser.new < length parser.old) }
 {
     if depth == 0 {
@@ -64,37 +57,58 @@ fn group_graph_pattern<'a>(
     depth: usize,
 ) -> Result<Group<'a>, GrammarFault>
     ensures reads { Reads
-        (spec.group_graph_pattern in_data (spec.group in_data depth) parser.old)
+        (spec.group_graph_pattern in_data in_filter (group_within depth) parser.old)
         result parser.new }
     ensures shorter { OnOk result (length parser.new < length parser.old) }
 {
     parser.expect(Terminal::OpenBrace)?;
-    let members = members(parser, depth)?;
+    let group = contents(parser, depth)?;
     parser.expect(Terminal::CloseBrace)?;
-    Ok(Group { members })
+    Ok(group)
 }
 
 #[cycle(group)]
-#[tactic(auto, unfolding(crate::specs::GroupReading::members))]
-fn members<'a>(parser: &mut Parser<'_, 'a>, depth: usize) -> Result<Items<Member<'a>>, GrammarFault>
+#[tactic(auto, unfolding(crate::specs::GroupReading::contents))]
+fn contents<'a>(parser: &mut Parser<'_, 'a>, depth: usize) -> Result<Group<'a>, GrammarFault>
     ensures reads { Reads
-        (spec.members in_data (spec.group in_data depth) parser.old) result parser.new }
+        (spec.contents in_data in_filter (group_within depth) parser.old)
+        result parser.new }
     ensures shorter { OnOk result (length parser.new ≤ length parser.old) }
 {
-    let mut all = Items::new(parser.alloc());
-    push_some(&mut all, maybe_block(parser)?)?;
+    let mut body = Body::new(parser.alloc());
+    body.put_some(maybe_block(parser)?)?;
     while begins_pattern(parser.peek()) {
-        all.push(pattern(parser, depth)?)?;
+        body.put(pattern_or_filter(parser, depth)?)?;
         parser.eat(Terminal::Dot);
-        push_some(&mut all, maybe_block(parser)?)?;
+        body.put_some(maybe_block(parser)?)?;
     }
-    Ok(all)
+    Ok(body.into_group()?)
+}
+
+#[cycle(group)]
+#[tactic(auto, unfolding(crate::specs::GroupReading::pattern_or_filter, rdf_grammar::specs::Readings::any))]
+fn pattern_or_filter<'a>(
+    parser: &mut Parser<'_, 'a>,
+    depth: usize,
+) -> Result<Element<'a>, GrammarFault>
+    ensures reads { Reads
+        (spec.pattern_or_filter in_filter (group_within depth) parser.old)
+        result parser.new }
+    ensures shorter { OnOk result (length parser.new < length parser.old) }
+{
+    match parser.peek() {
+        Some(Terminal::Filter) => {
+            parser.pass();
+            Ok(Element::Filter(constraint(parser, MAX_PARENTHESES)?))
+        }
+        _ => Ok(Element::Pattern(pattern(parser, depth)?)),
+    }
 }
 
 #[cycle(group)]
 #[tactic(auto, unfolding(crate::specs::GroupReading::pattern, rdf_grammar::specs::Readings::any))]
 fn pattern<'a>(parser: &mut Parser<'_, 'a>, depth: usize) -> Result<Member<'a>, GrammarFault>
-    ensures reads { Reads (spec.pattern (spec.group in_data depth) parser.old) result parser.new }
+    ensures reads { Reads (spec.pattern (group_within depth) parser.old) result parser.new }
     ensures shorter { OnOk result (length parser.new < length parser.old) }
 {
     match parser.peek() {
@@ -114,7 +128,7 @@ fn pattern<'a>(parser: &mut Parser<'_, 'a>, depth: usize) -> Result<Member<'a>, 
 #[tactic(auto, unfolding(crate::specs::GroupReading::graph_pattern))]
 fn graph_pattern<'a>(parser: &mut Parser<'_, 'a>, depth: usize) -> Result<Member<'a>, GrammarFault>
     ensures reads { Reads
-        (spec.graph_pattern (spec.group in_data depth) parser.old) result parser.new }
+        (spec.graph_pattern (group_within depth) parser.old) result parser.new }
     ensures shorter { OnOk result (length parser.new < length parser.old) }
 {
     let graph = var_or_iri(parser)?;
@@ -125,7 +139,7 @@ fn graph_pattern<'a>(parser: &mut Parser<'_, 'a>, depth: usize) -> Result<Member
 #[tactic(auto, unfolding(crate::specs::GroupReading::group_or_union))]
 fn group_or_union<'a>(parser: &mut Parser<'_, 'a>, depth: usize) -> Result<Member<'a>, GrammarFault>
     ensures reads { Reads
-        (spec.group_or_union (spec.group in_data depth) parser.old) result parser.new }
+        (spec.group_or_union (group_within depth) parser.old) result parser.new }
     ensures shorter { OnOk result (length parser.new < length parser.old) }
 {
     let mut groups = Items::new(parser.alloc());

@@ -1,5 +1,5 @@
 //! What holds of each request, each query and their trees.
-ghost use Rattle.sparql_grammar.specs.Lexemes.{LexemesHaveForms};
+ghost use Rattle.sparql_grammar.specs.GroupLaws.{FiltersStandApart, PatternsDivide, TriplesStandTogether};
 ghost use Rattle.sparql_grammar.specs.QueryLaws.{OneQuery, QueriesAreProper};
 ghost use Rattle.sparql_grammar.specs.RequestLaws.{OneRequest, RequestsAreProper};
 
@@ -29,7 +29,11 @@ pub fn queries_are_proper()
     ensures { QueriesAreProper }
 {}
 
-/// The lexemes of a text have the forms of its tokens.
-pub fn lexemes_have_forms()
-    ensures { LexemesHaveForms }
+/// Which triples of a group are one basic graph pattern (SPARQL 1.1 Query, section 5.1): a FILTER
+/// between triples ends none, and anything else does. Its FILTERs stand apart, in the order of the
+/// text.
+pub fn filters_end_no_triples()
+    ensures together { TriplesStandTogether }
+    ensures divided { PatternsDivide }
+    ensures apart { FiltersStandApart }
 {}

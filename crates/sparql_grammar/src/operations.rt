@@ -7,12 +7,11 @@ ghost use Rattle.sparql_grammar.specs.Reading.{node, triples_template};
 ghost use Rattle.sparql_grammar.specs.declared.tree.Operation.TheVariants as operation;
 
 use crate::grammar::{begins_node, triples_template, var_or_iri};
-use crate::lexeme::Parser;
 use crate::prologue::{begins_declaration, declaration};
-use crate::terminal::Terminal;
 use crate::tree::{Block, GraphOrDefault, GraphRefAll, Name, Operation, Part, Triples};
 use rdf_grammar::{GrammarFault, MAX_OPEN, iri};
 use rdf_terms::Items;
+use sparql_terminals::{Parser, Terminal};
 
 #[tactic(auto, unfolding(crate::specs::OperationReading::graph_ref))]
 fn graph_ref<'a>(parser: &mut Parser<'_, 'a>) -> Result<Name<'a>, GrammarFault>

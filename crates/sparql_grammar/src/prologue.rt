@@ -4,11 +4,10 @@ ghost use Rattle.std.specs.Prelude.{◌≡◌, ◌≤◌, ◌<◌, length, OnOk}
 ghost use Rattle.rdf_grammar.specs.Readings.{Reads};
 ghost use Rattle.sparql_grammar.specs.PrologueReading as spec;
 
-use crate::lexeme::Parser;
-use crate::terminal::Terminal;
 use crate::tree::Declaration;
 use rdf_grammar::GrammarFault;
 use rdf_terms::Items;
+use sparql_terminals::{Parser, Terminal};
 
 #[tactic(auto, unfolding(crate::specs::PrologueReading::base))]
 fn base<'a>(parser: &mut Parser<'_, 'a>) -> Result<Declaration<'a>, GrammarFault>

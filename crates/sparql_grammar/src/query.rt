@@ -11,14 +11,13 @@ ghost use Rattle.sparql_grammar.specs.declared.stop.StopKind.TheVariants.{TooDee
 ghost use Rattle.sparql_grammar.specs.declared.tree.Query.{Query as Tree};
 
 use crate::group::group;
-use crate::lexeme::{Lexeme, Parser};
 use crate::prologue::prologue;
 use crate::stop::{Stop, StopKind};
-use crate::terminal::Terminal;
 use crate::tree::{Columns, Group, Query, QueryForm};
 use rdf_grammar::{GrammarFault, MAX_OPEN, too_deep};
 use rdf_terms::Items;
 use rdf_tokens::Slice;
+use sparql_terminals::{Lexeme, Parser, Terminal};
 use std::alloc::Global;
 
 #[tactic(auto, unfolding(crate::specs::QueryReading::variables))]

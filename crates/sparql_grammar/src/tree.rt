@@ -3,6 +3,7 @@
 pub use rdf_grammar::{Literal, Name};
 use rdf_terms::Items;
 use rdf_tokens::Slice;
+pub use sparql_expressions::Expression;
 
 /// A variable or a name (107: VarOrIri).
 #[derive(Debug, Drop)]
@@ -129,8 +130,11 @@ pub enum Part<'a> {
 #[cycle(group)]
 #[derive(Drop)]
 pub struct Group<'a> {
-    /// What stands between the braces, in the order of the text.
+    /// What stands between the braces besides FILTERs, in the order of the text. Triples with
+    /// nothing but FILTERs between them stand together.
     pub members: Items<Member<'a>>,
+    /// What its FILTERs ask (68: Filter), in the order of the text.
+    pub filters: Items<Expression<'a>>,
 }
 
 /// A member of a group (54: GroupGraphPatternSub).
@@ -145,6 +149,17 @@ pub enum Member<'a> {
     Optional(Group<'a>),
     /// 58: GraphGraphPattern.
     Graph(VarOrIri<'a>, Group<'a>),
+}
+
+/// What stands between a group's braces, one behind the other (54: GroupGraphPatternSub).
+#[derive(Drop)]
+pub enum Element<'a> {
+    /// 55: TriplesBlock.
+    Block(Items<Triples<'a>>),
+    /// 68: Filter.
+    Filter(Expression<'a>),
+    /// What else is no triples (56: GraphPatternNotTriples).
+    Pattern(Member<'a>),
 }
 
 /// What SELECT names (9: SelectClause).

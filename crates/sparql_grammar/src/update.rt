@@ -7,12 +7,12 @@ ghost use Rattle.sparql_grammar.specs.Nesting.{IsTooDeep};
 ghost use Rattle.sparql_grammar.specs.OperationGrammar.{IsRequest};
 ghost use Rattle.sparql_grammar.specs.Stops.{Explains};
 
-use crate::lexeme::{Lexeme, Parser};
 use crate::operations::request;
 use crate::stop::{Stop, StopKind};
 use crate::tree::Part;
 use rdf_grammar::too_deep;
 use rdf_terms::Items;
+use sparql_terminals::{Lexeme, Parser};
 use std::alloc::Global;
 
 /// The parts of the request that all of the lexemes are (SPARQL 1.1 Query, section 19.8, rule 29:

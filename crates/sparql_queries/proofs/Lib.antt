@@ -1,3 +1,5 @@
+pub mod ExpressionLemmas
 pub mod GroupLemmas
+pub mod KnownLemmas
 pub mod NameLemmas
 pub mod QueryLemmas

@@ -5,7 +5,7 @@ use Rattle.std.specs.Char.{encode_utf8}
 use Rattle.std.specs.Str.{chars, IsUtf8, encode_utf8_all}
 use Rattle.rdf_grammar.proofs.ScopeTexts.{bytes_of}
 use Rattle.rdf_terms.proofs.StepLemmas.{chars_step}
-use Rattle.sparql_queries.specs.Groups.{variable_name}
+use Rattle.sparql_queries.specs.Variables.{variable_name}
 
 behind_first : (o : Option ℕ) (now rest : List ℕ) → MatchOption o ((now ≡ []) × (rest ≡ [])) (λ c. now ≡ c ∷ rest) → encode_utf8_all rest ≡ variable_name now
 behind_first None now rest h = ap encode_utf8_all h.1 ∙ sym (ap variable_name h.0)

@@ -1,28 +1,32 @@
 -- Why a query says nothing.
-use Rattle.std.proofs.Common.{◌≡◌, ◌∙◌, ap, sym, ℕ, List, [], true, Option, Some}
+use Rattle.std.proofs.Common.{◌≡◌, ap, subst, ℕ, List, [], true, Option, None}
 use Rattle.std.specs.Option.{option_and_then}
 use Rattle.rdf_grammar.specs.Prologue as prologue
 use Rattle.rdf_grammar.specs.Prologue.{Prologue}
-use Rattle.rdf_grammar.specs.Steps.{Outcome, each}
 use Rattle.rdf_grammar.specs.declared.prologue.PrologueFault.{PrologueFault}
 use Rattle.rdf_grammar.specs.declared.prologue.PrologueFault.TheVariants.{UnknownPrefix, Relative, NoMemory}
 use Rattle.sparql_drafts.specs.Kept.{Fails}
-use Rattle.sparql_drafts.specs.Meaning.{declaration}
 use Rattle.sparql_grammar.specs.declared.tree.Query as written
+use Rattle.sparql_trees.specs.declared.query.Query.{Query}
+use Rattle.sparql_queries.specs.Groups.{Labels}
 use Rattle.sparql_queries.specs.Known.{known_query}
-use Rattle.sparql_queries.specs.Queries.{form_in, query_in, IsFaultOf}
+use Rattle.sparql_queries.specs.Queries.{said_from, query_in, IsFaultOf}
 
-pub declare_fails : (base : Option (List ℕ)) (q : written.Query) (p : Prologue) (e : PrologueFault) → p ≡ prologue.start base → known_query q ≡ true → Fails (each declaration q.prologue p) e → IsFaultOf base q e
-unfolding query_in
-declare_fails base q p (NoMemory refused) at known h = tt
-declare_fails base q p (UnknownPrefix start) at known h = absurd h
-declare_fails base q p (Relative start) at known h =
-    (known, ap (λ (o : Outcome Prologue (Unit {0})). option_and_then (λ declared. form_in declared.1 q.form []) o) (ap (λ (x : Prologue). each declaration q.prologue x) (sym at) ∙ h))
+-- where the first step fails, both do
+pub then_fails : {A B : Type 0} (f : A → Option B) (o : Option A) (e : PrologueFault) → Fails o e → Fails (option_and_then f o) e
+then_fails f o (NoMemory refused) h = tt
+then_fails f o (UnknownPrefix start) h = absurd h
+then_fails f o (Relative start) h = ap (option_and_then f) h
 
-pub form_fails : (base : Option (List ℕ)) (q : written.Query) (p r : Prologue) (e : PrologueFault) → p ≡ prologue.start base → known_query q ≡ true → each declaration q.prologue p ≡ Some (tt, r)
-    → Fails (form_in r q.form []) e → IsFaultOf base q e
+-- what is said from the start is what the query says
+pub from_start : (base : Option (List ℕ)) (q : written.Query) (p : Prologue) (l : Labels) (o : Option (Query × Labels))
+    → p ≡ prologue.start base → l ≡ [] → said_from p q l ≡ o → query_in base q ≡ o
 unfolding query_in
-form_fails base q p r (NoMemory refused) at known d h = tt
-form_fails base q p r (UnknownPrefix start) at known d h = absurd h
-form_fails base q p r (Relative start) at known d h =
-    (known, ap (λ (o : Outcome Prologue (Unit {0})). option_and_then (λ declared. form_in declared.1 q.form []) o) (ap (λ (x : Prologue). each declaration q.prologue x) (sym at) ∙ d) ∙ h)
+from_start base q p l o at none h =
+    subst (λ (x : Prologue). said_from x q [] ≡ o) at (subst (λ (k : Labels). said_from p q k ≡ o) none h)
+
+pub query_fails : (base : Option (List ℕ)) (q : written.Query) (p : Prologue) (l : Labels) (e : PrologueFault)
+    → p ≡ prologue.start base → l ≡ [] → known_query q ≡ true → Fails (said_from p q l) e → IsFaultOf base q e
+query_fails base q p l (NoMemory refused) at none known h = tt
+query_fails base q p l (UnknownPrefix start) at none known h = absurd h
+query_fails base q p l (Relative start) at none known h = (known, from_start base q p l None at none h)

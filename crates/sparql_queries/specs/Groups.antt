@@ -1,8 +1,7 @@
 -- What a group says: names get their IRIs, triples that stand together are one basic graph pattern, and its blank nodes are hidden variables
--- (SPARQL 1.1 Query, sections 4.1 and 5).
+-- (SPARQL 1.1 Query, sections 4.1 and 5). What its FILTERs ask stands apart from its members.
 use Rattle.std.specs.Prelude.{ℕ, List, [], ◌∷◌, ◌++◌, Option, Some, map}
 use Rattle.std.specs.Option.{option_map}
-use Rattle.std.specs.Str.{encode_utf8_all}
 use Rattle.rdf_grammar.specs.Prologue.{Prologue, iri_of}
 use Rattle.rdf_grammar.specs.Steps.{Step, ◌>>=◌, ◌<$>◌, pure}
 use Rattle.rdf_terms.specs.declared.term.Term.TheVariants as term
@@ -13,6 +12,7 @@ use Rattle.sparql_drafts.specs.declared.draft.VarOrIri as read_name
 use Rattle.sparql_drafts.specs.declared.draft.VarOrIri.TheVariants as read_name_of
 use Rattle.sparql_drafts.specs.declared.draft.VarOrTerm as read_place
 use Rattle.sparql_drafts.specs.declared.draft.VarOrTerm.TheVariants as read_place_of
+use Rattle.sparql_expressions.specs.declared.tree.Expression as written_expression
 use Rattle.sparql_grammar.specs.declared.tree.Group.{Group}
 use Rattle.sparql_grammar.specs.declared.tree.Member.TheOpen.{Group-F, Member-F}
 use Rattle.sparql_grammar.specs.declared.tree.Member.TheFolds.{fold-Group, fold-Member}
@@ -21,6 +21,9 @@ use Rattle.sparql_grammar.specs.declared.tree.Triples.{Triples}
 use Rattle.sparql_grammar.specs.declared.tree.VarOrIri as written_name
 use Rattle.sparql_grammar.specs.declared.tree.VarOrIri.TheVariants as n
 use Rattle.sparql_queries.specs.Collected.{collected}
+use Rattle.sparql_queries.specs.Expressions.{all, expression_in}
+use Rattle.sparql_queries.specs.Variables.{variable_name}
+use Rattle.sparql_trees.specs.declared.expression.Expression.{Expression}
 use Rattle.sparql_trees.specs.declared.pattern.BasicGraphPattern.{BasicGraphPattern}
 use Rattle.sparql_trees.specs.declared.pattern.Member.{Member}
 use Rattle.sparql_trees.specs.declared.pattern.Member.TheVariants as member
@@ -32,11 +35,6 @@ use Rattle.sparql_trees.specs.declared.pattern.VarOrTerm.{VarOrTerm}
 use Rattle.sparql_trees.specs.declared.pattern.VarOrTerm.TheVariants as place
 
 -- ---- basic graph patterns
-
--- a variable's name stands behind its `?` or `$` (section 4.1.3)
-abbrev pub variable_name : List ℕ → List ℕ
-variable_name [] = []
-variable_name (mark ∷ characters) = encode_utf8_all characters
 
 abbrev pub var_or_iri : read_name.VarOrIri → VarOrIri
 var_or_iri (read_name_of.Variable variable) = name.Variable (variable_name variable)
@@ -64,8 +62,8 @@ Labels = List (List (List ℕ))
 abbrev pub Does : Type 0 → Type 0
 Does A = Step Labels A
 
-abbrev pub pattern_with : List Member → Pattern
-pattern_with members = record { members = members }
+abbrev pub pattern_with : List Member → List Expression → Pattern
+pattern_with members filters = record { members = members; filters = filters }
 
 module _ (p : Prologue) where
   -- triples that stand together (section 5.1), whose blank nodes are numbered from 0
@@ -80,8 +78,16 @@ module _ (p : Prologue) where
   unfoldable pub named : written_name.VarOrIri → Does VarOrIri
   named written labels = option_map (λ name. (name, labels)) (graph_name written)
 
+  -- what FILTERs ask (section 17)
+  unfoldable pub asked : List written_expression.Expression → Does (List Expression)
+  asked filters labels = option_map (λ expressions. (expressions, labels)) (all (map (expression_in p) filters))
+
+  -- the members, and the group's own FILTERs (section 5.2.2)
   abbrev pub group_of : Group-F (Does Member) (Does Pattern) → Does Pattern
-  group_of g = pattern_with <$> collected g.members
+  group_of g = do
+    members ← collected g.members
+    filters ← asked g.filters
+    pure (pattern_with members filters)
 
   abbrev pub member_of : Member-F (Does Member) (Does Pattern) → Does Member
   member_of (Member-F.Triples triples) = member.Basic <$> basic triples

@@ -12,8 +12,9 @@ use Rattle.sparql_grammar.specs.declared.tree.Columns.TheVariants as columns
 use Rattle.sparql_grammar.specs.declared.tree.Query as written
 use Rattle.sparql_grammar.specs.declared.tree.QueryForm.{QueryForm}
 use Rattle.sparql_grammar.specs.declared.tree.QueryForm.TheVariants as form
-use Rattle.sparql_queries.specs.Groups.{Does, Labels, group, variable_name}
+use Rattle.sparql_queries.specs.Groups.{Does, Labels, group}
 use Rattle.sparql_queries.specs.Known.{known_query}
+use Rattle.sparql_queries.specs.Variables.{variable_name}
 use Rattle.sparql_trees.specs.Visible.{visible}
 use Rattle.sparql_trees.specs.declared.pattern.Pattern.{Pattern}
 use Rattle.sparql_trees.specs.declared.query.Query.{Query}
@@ -31,9 +32,13 @@ abbrev pub form_in : Prologue → QueryForm → Does Query
 form_in p (form.Select distinct columns g) = select_with distinct columns <$> group p g
 form_in p (form.Ask g) = Ask <$> group p g
 
+-- the prologue's declarations, and then the form
+abbrev pub said_from : Prologue → written.Query → Does Query
+said_from p q = λ labels. option_and_then (λ declared. form_in declared.1 q.form labels) (each declaration q.prologue p)
+
 -- Against the base, the query and the blank node labels of each of its basic graph patterns; nothing where a relative reference has no base.
 unfoldable pub query_in : Option (List ℕ) → written.Query → Option (Query × Labels)
-query_in base q = option_and_then (λ declared. form_in declared.1 q.form []) (each declaration q.prologue (prologue.start base))
+query_in base q = said_from (prologue.start base) q []
 
 -- the fault of a name: a prefix that isn't declared, else a relative reference without a base; want of memory tells nothing
 abbrev pub IsFaultOf : Option (List ℕ) → written.Query → PrologueFault → Type 0

@@ -1,6 +1,7 @@
 //! Basic graph patterns (SPARQL 1.1 Query, section 5.1).
 ghost use Rattle.std.specs.Prelude.{◌≡◌, IfOk, map};
 ghost use Rattle.sparql_queries.specs.Groups as spec;
+ghost use Rattle.sparql_queries.specs.Variables as variables;
 
 use rdf_terms::{Items, NoMemory, Term, Text};
 use rdf_tokens::Slice;
@@ -10,7 +11,7 @@ use std::alloc::Global;
 
 /// A variable's name, without its `?` or `$`.
 pub(crate) fn variable_name(alloc: Global, variable: &Slice<'_>) -> Result<Text, NoMemory>
-    ensures { IfOk result (λ name. name ≡ spec.variable_name variable.now) }
+    ensures { IfOk result (λ name. name ≡ variables.variable_name variable.now) }
 {
     let mut characters = variable.as_str().chars();
     let _mark = characters.next();

@@ -4,19 +4,24 @@ ghost use Rattle.std.specs.List.{list_all};
 ghost use Rattle.rdf_grammar.specs.Prologue.{declared};
 ghost use Rattle.sparql_drafts.specs.Kept.{Gives, Tells};
 ghost use Rattle.sparql_drafts.specs.Known as names;
+ghost use Rattle.sparql_expressions.specs.ProperExpressions.{proper_expression};
 ghost use Rattle.sparql_grammar.specs.Proper as proper;
 ghost use Rattle.sparql_grammar.specs.Proper.{holds};
 ghost use Rattle.sparql_queries.specs.Collected.{collected};
+ghost use Rattle.sparql_queries.specs.Expressions.{all, expression_in};
+ghost use Rattle.sparql_queries.specs.Faults as faults;
 ghost use Rattle.sparql_queries.specs.Groups as spec;
 ghost use Rattle.sparql_queries.specs.Known as known;
 
 use crate::basic::{triple_patterns, variable_name};
+use crate::expression::expressions;
 use rdf_grammar::PrologueFault;
 use rdf_terms::Items;
 use rdf_tokens::Slice;
 use sparql_drafts::Scope;
+use sparql_expressions::Expression as Filter;
 use sparql_grammar::{Group, Member as Written, Triples, VarOrIri as WrittenName};
-use sparql_trees::{BasicGraphPattern, Member, Pattern, VarOrIri};
+use sparql_trees::{BasicGraphPattern, Expression, Member, Pattern, VarOrIri};
 use std::alloc::Global;
 
 /// The prologue, and the blank node labels of each basic graph pattern so far.
@@ -25,6 +30,42 @@ pub(crate) struct Groups<'a> {
     pub(crate) alloc: Global,
     pub(crate) scope: Scope<'a>,
     pub(crate) labels: Items<Items<Slice<'a>>>,
+}
+
+// Where a fault stands in the text; want of memory goes before the others.
+fn place_of(fault: &PrologueFault) -> usize
+    ensures { result ≡ faults.place_of fault.now }
+{
+    match fault {
+        PrologueFault::UnknownPrefix(start) | PrologueFault::Relative(start) => *start,
+        PrologueFault::NoMemory(_) => 0,
+    }
+}
+
+// The fault that stands first in the text.
+fn earlier(one: PrologueFault, other: PrologueFault) -> PrologueFault
+    ensures { result ≡ faults.earlier one other }
+{
+    if place_of(&one) <= place_of(&other) {
+        one
+    } else {
+        other
+    }
+}
+
+// A group of these members and FILTERs. FILTERs may stand among the members, so where neither can
+// be said the fault that stands first is told.
+fn grouped(
+    members: Result<Items<Member>, PrologueFault>,
+    filters: Result<Items<Expression>, PrologueFault>,
+) -> Result<Pattern, PrologueFault>
+    ensures { result ≡ faults.grouped members filters }
+{
+    match (members, filters) {
+        (Ok(members), Ok(filters)) => Ok(Pattern { members, filters }),
+        (Ok(_), Err(fault)) | (Err(fault), Ok(_)) => Err(fault),
+        (Err(one), Err(other)) => Err(earlier(one, other)),
+    }
 }
 
 impl<'a> Groups<'a> {
@@ -65,6 +106,19 @@ impl<'a> Groups<'a> {
         }
     }
 
+    // What FILTERs ask.
+    fn asked(&mut self, filters: &[Filter<'a>]) -> Result<Items<Expression>, PrologueFault>
+        requires known { let knows = known.known_expression (declared self.old.scope.prologue) in
+            IsTrue (list_all knows filters.now) }
+        requires proper { IsTrue (list_all proper_expression filters.now) }
+        ensures tells { let says = expression_in self.old.scope.prologue in
+            Tells (all (map says filters.now)) result }
+        ensures prologue { self.new.scope.prologue ≡ self.old.scope.prologue }
+        ensures labels { self.new.labels ≡ self.old.labels }
+    {
+        expressions(self.alloc, &mut self.scope, filters)
+    }
+
     /// What a group says.
     #[cycle(group)]
     pub(crate) fn group(&mut self, group: &Group<'a>) -> Result<Pattern, PrologueFault>
@@ -75,8 +129,9 @@ impl<'a> Groups<'a> {
             Gives (says self.old.labels) result self.new.labels }
         ensures prologue { OnOk result (self.new.scope.prologue ≡ self.old.scope.prologue) }
     {
-        let members = self.members(group.members.as_slice())?;
-        Ok(Pattern { members })
+        let filters = self.asked(group.filters.as_slice());
+        let members = self.members(group.members.as_slice());
+        grouped(members, filters)
     }
 
     #[cycle(group)]

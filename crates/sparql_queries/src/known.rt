@@ -3,22 +3,111 @@ ghost use Rattle.std.specs.Prelude.{◌≡◌, [], IfOk, OnOk, map};
 ghost use Rattle.std.specs.List.{list_all};
 ghost use Rattle.sparql_drafts.specs.Known.{is_none};
 ghost use Rattle.sparql_grammar.specs.Proper.{holds};
+ghost use Rattle.sparql_queries.specs.Addends.{known_addend};
+ghost use Rattle.sparql_queries.specs.Faults as faults;
 ghost use Rattle.sparql_queries.specs.Known as spec;
 
 use indexmap::IndexSet;
 use rdf_grammar::Key;
 use rdf_terms::NoMemory;
-use sparql_drafts::{declare_prefix, unknown_all_triples, unknown_var_or_iri};
+use sparql_drafts::{
+    declare_prefix, unknown_all_triples, unknown_literal, unknown_name, unknown_var_or_iri,
+};
+use sparql_expressions::Expression;
 use sparql_grammar::{Declaration, Group, Member, Query, QueryForm};
+use sparql_trees::Sign;
 use std::alloc::Global;
 
+// The first of two places in the text.
+fn first_place(one: Option<usize>, other: Option<usize>) -> Option<usize>
+    ensures { result ≡ faults.first_place one other }
+{
+    match (one, other) {
+        (Some(one), Some(other)) => Some(one.min(other)),
+        (Some(place), None) | (None, Some(place)) => Some(place),
+        (None, None) => None,
+    }
+}
+
 // Each of these answers where the first name stands whose prefix isn't declared.
+
+#[cycle(known_expression)]
+#[tactic(auto, using(crate::proofs::KnownLemmas::sum_tested))]
+fn unknown_expression<'a>(
+    declared: &IndexSet<Key<'a>>,
+    expression: &Expression<'a>,
+) -> Option<usize>
+    ensures { is_none result ≡ spec.known_expression declared.now.keys expression.now }
+{
+    match expression {
+        Expression::Variable(_) | Expression::Bound(_) => None,
+        Expression::Or(operands) | Expression::And(operands) | Expression::Product(operands) => {
+            unknown_expressions(declared, operands.as_slice())
+        }
+        Expression::Compare(_, left, right) => {
+            if let Some(start) = unknown_expression(declared, left.get()) {
+                return Some(start);
+            }
+            unknown_expression(declared, right.get())
+        }
+        Expression::SameTerm(left, right) => {
+            if let Some(start) = unknown_expression(declared, left.get()) {
+                return Some(start);
+            }
+            unknown_expression(declared, right.get())
+        }
+        Expression::Sum(first, addends) => {
+            if let Some(start) = unknown_expression(declared, first.get()) {
+                return Some(start);
+            }
+            unknown_addends(declared, addends.as_slice())
+        }
+        Expression::Not(operand) | Expression::Signed(_, operand) | Expression::Call(_, operand) =>
+            unknown_expression(declared, operand.get()),
+        Expression::Name(name) => unknown_name(declared, name),
+        Expression::Literal(literal) => unknown_literal(declared, literal),
+    }
+}
+
+#[cycle(known_expression)]
+fn unknown_expressions<'a>(
+    declared: &IndexSet<Key<'a>>,
+    expressions: &[Expression<'a>],
+) -> Option<usize>
+    ensures { let knows = spec.known_expression declared.now.keys in
+        is_none result ≡ list_all holds (map knows expressions.now) }
+{
+    for expression in expressions {
+        if let Some(start) = unknown_expression(declared, expression) {
+            return Some(start);
+        }
+    }
+    None
+}
+
+#[cycle(known_expression)]
+fn unknown_addends<'a>(
+    declared: &IndexSet<Key<'a>>,
+    addends: &[(Sign, Expression<'a>)],
+) -> Option<usize>
+    ensures { let knows = known_addend declared.now.keys in
+        is_none result ≡ list_all holds (map knows addends.now) }
+{
+    for addend in addends {
+        if let Some(start) = unknown_expression(declared, &addend.1) {
+            return Some(start);
+        }
+    }
+    None
+}
 
 #[cycle(known)]
 fn unknown_group<'a>(declared: &IndexSet<Key<'a>>, group: &Group<'a>) -> Option<usize>
     ensures { is_none result ≡ spec.known_group declared.now.keys group.now }
 {
-    unknown_members(declared, group.members.as_slice())
+    let in_members = unknown_members(declared, group.members.as_slice());
+    let in_filters = unknown_expressions(declared, group.filters.as_slice());
+    first_place(in_members, in_filters)
 }
 
 #[cycle(known)]

@@ -3,6 +3,7 @@
 #![tactic(auto)]
 
 mod basic;
+mod expression;
 mod group;
 mod known;
 mod query;

@@ -1,12 +1,12 @@
 //! What queries say.
-ghost use Rattle.std.specs.Prelude.{◌≡◌, false, Some, None, IfOk, OnOk, IsTrue, MatchResult, map};
+ghost use Rattle.std.specs.Prelude.{◌≡◌, [], false, Some, None, IfOk, OnOk, IsTrue, MatchResult, map};
 ghost use Rattle.std.specs.Option.{option_copied};
 ghost use Rattle.rdf_grammar.specs.Prologue as prologue;
 ghost use Rattle.rdf_grammar.specs.Prologue.{declared};
 ghost use Rattle.rdf_grammar.specs.Steps.{each};
 ghost use Rattle.sparql_drafts.specs.Kept.{Gives};
 ghost use Rattle.sparql_drafts.specs.Meaning.{declaration};
-ghost use Rattle.sparql_queries.specs.Groups.{variable_name as named};
+ghost use Rattle.sparql_queries.specs.Variables.{variable_name as named};
 ghost use Rattle.sparql_queries.specs.Known as known;
 ghost use Rattle.sparql_grammar.specs.Proper as proper;
 ghost use Rattle.sparql_queries.specs.Queries as spec;
@@ -98,10 +98,39 @@ impl<'a> Groups<'a> {
             }
         }
     }
+
+    // What a query says, from its prologue on.
+    #[tactic(auto, using(crate::proofs::QueryLemmas::then_fails))]
+    fn query(&mut self, query: &Written<'a>) -> Result<Query, PrologueFault>
+        requires known { let behind = known.declared_by
+            (declared self.old.scope.prologue) query.now.prologue in
+            IsTrue (known.known_form behind query.now.form) }
+        requires proper { IsTrue (proper.proper_form query.now.form) }
+        ensures { let said = spec.said_from self.old.scope.prologue query.now self.old.labels in
+            Gives said result self.new.labels }
+    {
+        self.declare(query.prologue.as_slice())?;
+        self.form(&query.form)
+    }
+}
+
+// The prologue as it begins, and no labels.
+fn begun<'a>(alloc: Global, base: Option<&Iri>) -> Result<Groups<'a>, NoMemory>
+    ensures prologue { IfOk result (λ groups.
+        groups.scope.prologue ≡ prologue.start (option_copied base.entry)) }
+    ensures labels { IfOk result (λ groups. groups.labels ≡ []) }
+{
+    let base = copied(base)?;
+    let scope = Scope::new(alloc, base)?;
+    let labels = Items::new(alloc);
+    Ok(Groups {
+        alloc,
+        scope,
+        labels,
+    })
 }
 
 // What a query says whose prefixes are declared.
-#[tactic(auto, unfolding(crate::specs::Queries::query_in))]
 fn said_where_known<'a>(
     alloc: Global,
     base: Option<&Iri>,
@@ -114,16 +143,8 @@ fn said_where_known<'a>(
         × (spec.query_in (option_copied base.entry) query.now ≡ Some (said.query, said.labels)))
         (λ fault. spec.IsFaultOf (option_copied base.entry) query.now fault) }
 {
-    let mut groups = Groups {
-        alloc,
-        scope: Scope::new(alloc, copied(base)?)?,
-        labels: Items::new(alloc),
-    };
-    match groups.declare(query.prologue.as_slice()) {
-        Ok(()) => {}
-        Err(fault) => return Err(fault),
-    }
-    match groups.form(&query.form) {
+    let mut groups = begun(alloc, base)?;
+    match groups.query(query) {
         Err(fault) => Err(fault),
         Ok(query) => Ok(Said {
             query,

@@ -8,7 +8,7 @@ use Rattle.rdf_dataset.specs.State.{State}
 use Rattle.rdf_dataset.specs.Sorted.{ListsOnce, AppendsOnce}
 use Rattle.sparql_trees.specs.declared.pattern.TriplePattern.{TriplePattern}
 use Rattle.sparql_trees.specs.declared.pattern.BasicGraphPattern.{BasicGraphPattern}
-use Rattle.sparql_algebra.specs.Mapping.{Variables, Mapping, same_mapping}
+use Rattle.sparql_values.specs.Mapping.{Variables, Mapping, same_mapping}
 use Rattle.sparql_algebra.specs.Listing.{graph_quads}
 use Rattle.sparql_algebra.specs.Bags.{SameBag}
 use Rattle.sparql_algebra.specs.Solutions.{var_or_term, term_at, occurs, is_triple, holds, instance_lies, binds_exactly, same_bool, solves, assignments, basic_solutions}

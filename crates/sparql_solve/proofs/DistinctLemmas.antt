@@ -8,7 +8,7 @@ use Rattle.std.specs.Cmp.{Equal-is, tied_itself}
 use Rattle.std.proofs.lemmas.List.Sums.{sum_by-cons}
 use Rattle.std.proofs.lemmas.List.Sorted.{sorted_far, sum_by-IsPermutation}
 use Rattle.sparql_algebra.specs.Bags.{once_if_any}
-use Rattle.sparql_algebra.specs.Mapping.{Mapping, same_mapping}
+use Rattle.sparql_values.specs.Mapping.{Mapping, same_mapping}
 use Rattle.sparql_algebra.specs.Order.{mapping_cmp}
 use Rattle.sparql_algebra.specs.Results.{times_selected}
 use Rattle.sparql_algebra.proofs.CallerLemmas.{one, and_left, and_right, same_mapping_is, mapping_total, mapping_ranks, neither_less, mapping_cmp-IsAntisymmetric}

@@ -7,7 +7,7 @@ use Rattle.rdf_terms.specs.declared.term.Term.{Term}
 use Rattle.sparql_trees.specs.declared.pattern.TriplePattern.{TriplePattern}
 use Rattle.sparql_trees.specs.declared.pattern.VarOrTerm.{VarOrTerm}
 use Rattle.sparql_trees.specs.declared.pattern.VarOrTerm.TheVariants as x
-use Rattle.sparql_algebra.specs.Mapping.{Variables, Mapping, same_term, same_value, value_at, value_in, column}
+use Rattle.sparql_values.specs.Mapping.{Variables, Mapping, same_term, same_value, value_at, value_in, column}
 use Rattle.sparql_algebra.specs.Solutions.{var_or_term, term_at, is_at, is_column, same_bool}
 use Rattle.sparql_algebra.proofs.CallerLemmas.{and_false, and_swap, and_assoc, same_term_is}
 use Rattle.sparql_solve.specs.Matching.{place_by, place_of, places_of, assigned_at, assigned, matched}

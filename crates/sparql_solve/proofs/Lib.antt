@@ -1,4 +1,6 @@
 pub mod RowLemmas
+pub mod FilterLemmas
+pub mod FitLemmas
 pub mod GrowthLemmas
 pub mod MatchingLemmas
 pub mod BasicLemmas

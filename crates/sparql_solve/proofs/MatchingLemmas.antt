@@ -5,7 +5,7 @@ use Rattle.std.proofs.lemmas.List.Sums.{sum_by-cons}
 use Rattle.rdf_terms.specs.Quad.{QuadParts}
 use Rattle.rdf_terms.specs.declared.term.Term.{Term}
 use Rattle.sparql_trees.specs.declared.pattern.TriplePattern.{TriplePattern}
-use Rattle.sparql_algebra.specs.Mapping.{Variables, Mapping, same_term, same_value, same_mapping}
+use Rattle.sparql_values.specs.Mapping.{Variables, Mapping, same_term, same_value, same_mapping}
 use Rattle.sparql_algebra.specs.Solutions.{var_or_term, term_at, occurs, is_triple, holds, instance_lies}
 use Rattle.sparql_algebra.proofs.CallerLemmas.{one, sum_by-cong, sum_by-flat_map, and_false, and_swap, and_assoc, sum_zero, sum_of_tests, at_most_once}
 use Rattle.sparql_solve.specs.Matching.{places_of, matched, matches_of, stepped, matching}

@@ -12,7 +12,7 @@ use Rattle.sparql_trees.specs.declared.query.Select.{Select}
 use Rattle.sparql_algebra.specs.Algebra.{translation}
 use Rattle.sparql_algebra.specs.Bags.{SameBag}
 use Rattle.sparql_algebra.specs.Listing.{Listing, Lists}
-use Rattle.sparql_algebra.specs.Mapping.{Variables, Mapping, same_mapping, column, value_in, value_of}
+use Rattle.sparql_values.specs.Mapping.{Variables, Mapping, same_mapping, column, value_in, value_of}
 use Rattle.sparql_algebra.specs.Order.{mapping_cmp}
 use Rattle.sparql_algebra.specs.Results.{Solves, IsSelection, HasSolution, pattern_solutions, projected, projections, times_selected, is_some_solution}
 use Rattle.sparql_algebra.specs.Solutions.{solutions}

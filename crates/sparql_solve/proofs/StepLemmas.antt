@@ -9,51 +9,20 @@ use Rattle.rdf_terms.specs.declared.quad.GraphName.{GraphName}
 use Rattle.rdf_terms.specs.declared.quad.GraphName.TheVariants.{Named}
 use Rattle.rdf_dataset.specs.State.{State}
 use Rattle.rdf_dataset.specs.Sorted.{ListsOnce}
+use Rattle.sparql_trees.specs.declared.expression.Expression.{Expression}
 use Rattle.sparql_trees.specs.declared.pattern.Member.{Member}
 use Rattle.sparql_trees.specs.declared.pattern.Member.TheVariants as m
-use Rattle.sparql_trees.specs.declared.pattern.Member.TheOpen.{Member-F}
-use Rattle.sparql_trees.specs.declared.pattern.Member.TheFolds.{fold-roll-Member, fold-roll-Pattern}
 use Rattle.sparql_trees.specs.declared.pattern.Pattern.{Pattern}
 use Rattle.sparql_trees.specs.declared.pattern.VarOrIri.{VarOrIri}
 use Rattle.sparql_trees.specs.declared.pattern.VarOrIri.TheVariants as v
-use Rattle.sparql_algebra.specs.Algebra.{Algebra, empty_pattern, union, graph, Element, joined, optional, extended, element, element_in, group_in, group_of, translation, union_of}
+use Rattle.sparql_algebra.specs.Algebra.{Algebra, empty_pattern, union, graph, Element, joined, optional, filtered, extended, element, group_of, translation, union_of}
 use Rattle.sparql_algebra.specs.Bags.{SameBag}
 use Rattle.sparql_algebra.specs.Listing.{Listing, Lists}
-use Rattle.sparql_algebra.specs.Mapping.{Variables, Mapping, same_term, single}
-use Rattle.sparql_algebra.specs.Solutions.{joins, left_joins, merges, or_alone, solutions}
-use Rattle.sparql_algebra.proofs.CallerLemmas.{SameBag-refl, SameBag-joins, SameBag-left_joins, SameBag-flat_map, names_same}
-use Rattle.sparql_solve.specs.Steps.{Gives, GivesMore, all_joins, rows_after, element_solutions, over_names, over_groups}
+use Rattle.sparql_values.specs.Mapping.{Variables, Mapping, same_term, single}
+use Rattle.sparql_algebra.specs.Solutions.{joins, satisfies, solutions}
+use Rattle.sparql_algebra.proofs.CallerLemmas.{SameBag-refl, SameBag-filter, SameBag-joins, SameBag-left_joins, SameBag-flat_map, filter_always, names_same, translation-is, element-Union, element-Optional, element-Graph}
+use Rattle.sparql_solve.specs.Steps.{Gives, GivesMore, rows_after, element_solutions, over_names, over_groups}
 use Rattle.sparql_solve.proofs.BasicLemmas.{basic_bag}
-
--- ---- members by what they are
-
-pub translation-is : (p : Pattern) → translation p ≡ group_of (map element p.members)
-translation-is p = fold-roll-Pattern Element Algebra element_in group_in (record { members = p.members })
-
-pub element-Union : (ps : List Pattern) → element (m.Union ps) ≡ joined (union_of (map translation ps))
-element-Union ps = ap element (sym (m.rolls-Union ps)) ∙ fold-roll-Member Element Algebra element_in group_in (Member-F.Union ps)
-
-pub element-Optional : (p : Pattern) → element (m.Optional p) ≡ optional (translation p)
-element-Optional p = ap element (sym (m.rolls-Optional p)) ∙ fold-roll-Member Element Algebra element_in group_in (Member-F.Optional p)
-
-pub element-Graph : (x : VarOrIri) (p : Pattern) → element (m.Graph x p) ≡ joined (graph x (translation p))
-element-Graph x p = ap element (sym (m.rolls-Graph x p)) ∙ fold-roll-Member Element Algebra element_in group_in (Member-F.Graph x p)
-
--- ---- LeftJoin
-
-filter_always : (xs : List Mapping) → filter (λ (_ : Mapping). true) xs ≡ xs
-filter_always [] = refl
-filter_always (x ∷ xs) = ap (λ l. x ∷ l) (filter_always xs)
-
-all_joins_is : (A B : List Mapping) → all_joins A B ≡ left_joins A B (λ _. true)
-all_joins_is [] B = refl
-all_joins_is (a ∷ A) B =
-    ap (λ l. or_alone a l ++ all_joins A B) (sym (filter_always (merges B a)))
-    ∙ ap (λ l. or_alone a (filter (λ _. true) (merges B a)) ++ l) (all_joins_is A B)
-
-pub SameBag-all_joins : (A C B D : List Mapping) → SameBag A C → SameBag B D → SameBag (all_joins A B) (left_joins C D (λ _. true))
-SameBag-all_joins A C B D h k =
-    subst (λ l. SameBag l (left_joins C D (λ _. true))) (sym (all_joins_is A B)) (SameBag-left_joins (λ _. true) A C B D h k)
 
 -- ---- the empty pattern
 
@@ -80,29 +49,50 @@ module _ (vs : Variables) (s : State) (g : GraphName) where
   extended_push G (y ∷ xs) x = extended_push (extended G (element y)) xs x
 
   after_one : (d : Listing) (G : Algebra) (k : Element) (rows right : List Mapping) → SameBag rows (solutions vs d g G) →
-      SameBag right (element_solutions vs d g k) → SameBag (rows_after rows right k) (solutions vs d g (extended G k))
+      SameBag right (element_solutions vs d g k) → SameBag (rows_after vs rows right k) (solutions vs d g (extended G k))
   after_one d G (joined A) rows right h r = SameBag-joins rows (solutions vs d g G) right (solutions vs d g A) h r
-  after_one d G (optional A) rows right h r = SameBag-all_joins rows (solutions vs d g G) right (solutions vs d g A) h r
+  after_one d G (optional F A) rows right h r = SameBag-left_joins (satisfies vs F) rows (solutions vs d g G) right (solutions vs d g A) h r
 
   pub members_more : (ms : List Member) (i : ℕ) (x : Member) (rows right left other out : List Mapping) → i < length ms → x ≡ get_or ms i x →
       Gives s rows (λ d. solutions vs d g (group_of (map element (take i ms)))) → Gives s right (λ d. element_solutions vs d g (element x)) →
-      left ≡ rows → other ≡ right → out ≡ rows_after left other (element x) →
+      left ≡ rows → other ≡ right → out ≡ rows_after vs left other (element x) →
       Gives s out (λ d. solutions vs d g (group_of (map element (take (i + 1) ms))))
   members_more ms i x rows right left other out lt here h r el eo e d l =
       let more : take (i + 1) ms ≡ take i ms ++ x ∷ [] = take_more ms i x lt ∙ ap (λ (y : Member). take i ms ++ y ∷ []) (sym here) in
-      let is : out ≡ rows_after rows right (element x) =
-      e ∙ ap (λ xs. rows_after xs other (element x)) el ∙ ap (λ xs. rows_after rows xs (element x)) eo in
+      let is : out ≡ rows_after vs rows right (element x) =
+      e ∙ ap (λ xs. rows_after vs xs other (element x)) el ∙ ap (λ xs. rows_after vs rows xs (element x)) eo in
       let P : List Member → Type 0 = λ ps. SameBag out (solutions vs d g (group_of (map element ps))) in
       let R : Algebra → Type 0 = λ A. SameBag out (solutions vs d g A) in
       let Q : List Mapping → Type 0 = λ o. SameBag o (solutions vs d g (extended (group_of (map element (take i ms))) (element x))) in
       subst P (sym more) (subst R (sym (extended_push empty_pattern (take i ms) x))
       (subst Q (sym is) (after_one d (group_of (map element (take i ms))) (element x) rows right (h d l) (r d l))))
 
-  pub group_gives : (p : Pattern) (ms : List Member) (out : List Mapping) → ms ≡ p.members → Gives s out (λ d. solutions vs d g (group_of (map element ms))) →
-      Gives s out (λ d. solutions vs d g (translation p))
-  group_gives p ms out e h d l =
+  under_filters : (d : Listing) (F : List Expression) (A : Algebra) (rows : List Mapping) → SameBag rows (solutions vs d g A) →
+      SameBag (filter (satisfies vs F) rows) (solutions vs d g (filtered F A))
+  under_filters d [] A rows h = subst (λ xs. SameBag xs (solutions vs d g A)) (sym (filter_always rows)) h
+  under_filters d (x ∷ F) A rows h = SameBag-filter (satisfies vs (x ∷ F)) rows (solutions vs d g A) h
+
+  pub group_gives : (p : Pattern) (ms : List Member) (F : List Expression) (rows out : List Mapping) → ms ≡ p.members → F ≡ p.filters →
+      Gives s rows (λ d. solutions vs d g (group_of (map element ms))) → out ≡ filter (satisfies vs F) rows → Gives s out (λ d. solutions vs d g (translation p))
+  group_gives p ms F rows out em ef h e d l =
+      let G : Algebra = group_of (map element p.members) in
+      let inner : SameBag rows (solutions vs d g G) = subst (λ (xs : List Member). SameBag rows (solutions vs d g (group_of (map element xs)))) em (h d l) in
+      let is : out ≡ filter (satisfies vs p.filters) rows = e ∙ ap (λ (E : List Expression). filter (satisfies vs E) rows) ef in
       subst (λ A. SameBag out (solutions vs d g A)) (sym (translation-is p))
-      (subst (λ (xs : List Member). SameBag out (solutions vs d g (group_of (map element xs)))) e (h d l))
+      (subst (λ xs. SameBag xs (solutions vs d g (filtered p.filters G))) (sym is) (under_filters d p.filters G rows inner))
+
+  -- OPTIONAL's group alone, without its filters
+  pub optional_gives : (member : Member) (p : Pattern) (ms : List Member) (out : List Mapping) → member ≡ m.Optional p → ms ≡ p.members →
+      Gives s out (λ d. solutions vs d g (group_of (map element ms))) → Gives s out (λ d. element_solutions vs d g (element member))
+  optional_gives member p ms out em es h d l =
+      subst (λ k. SameBag out (element_solutions vs d g k)) (sym (ap element em ∙ element-Optional p))
+      (subst (λ (xs : List Member). SameBag out (solutions vs d g (group_of (map element xs)))) es (h d l))
+
+  pub groups_give : (member : Member) (ps given : List Pattern) (out : List Mapping) → member ≡ m.Union ps → given ≡ ps →
+      Gives s out (λ d. solutions vs d g (union_of (map translation given))) → Gives s out (λ d. element_solutions vs d g (element member))
+  groups_give member ps given out em eg h d l =
+      subst (λ k. SameBag out (element_solutions vs d g k)) (sym (ap element em ∙ element-Union ps))
+      (subst (λ (qs : List Pattern). SameBag out (solutions vs d g (union_of (map translation qs)))) eg (h d l))
 
   pub graph_gives : (member : Member) (name : VarOrIri) (p : Pattern) (out : List Mapping) → member ≡ m.Graph name p →
       ((active : GraphName) → Gives s out (λ d. solutions vs d active (graph name (translation p)))) → Gives s out (λ d. element_solutions vs d g (element member))

@@ -1,12 +1,12 @@
 -- How the plain evaluator matches a basic graph pattern: one triple pattern after another.
-use Rattle.std.specs.Prelude.{ℕ, ◌+◌, cond, List, length, Option, Some, None, slice_get, slice_set, option_and_then}
+use Rattle.std.specs.Prelude.{ℕ, ◌+◌, Bool, ◌&&◌, cond, List, length, Option, Some, None, is_some, slice_get, slice_set, option_and_then}
 use Rattle.std.specs.List.{fold, filter_map, flat_map}
 use Rattle.rdf_terms.specs.Quad.{QuadParts}
 use Rattle.rdf_terms.specs.declared.term.Term.{Term}
 use Rattle.sparql_trees.specs.declared.pattern.TriplePattern.{TriplePattern}
 use Rattle.sparql_trees.specs.declared.pattern.VarOrTerm.{VarOrTerm}
 use Rattle.sparql_trees.specs.declared.pattern.VarOrTerm.TheVariants as x
-use Rattle.sparql_algebra.specs.Mapping.{Variables, Mapping, same_term, column}
+use Rattle.sparql_values.specs.Mapping.{Variables, Mapping, same_term, column}
 use Rattle.sparql_algebra.specs.Solutions.{var_or_term}
 use Rattle.sparql_solve.specs.declared.place.Place.{Place}
 use Rattle.sparql_solve.specs.declared.place.Place.TheVariants.{Fixed, Column, Nowhere}
@@ -50,6 +50,10 @@ abbrev pub assigned : Mapping → Place → Term → Option Mapping
 assigned m (Fixed t) u = cond (same_term t u) (Some m) None
 assigned m (Column c) u = assigned_at m c u (slice_get m c)
 assigned m Nowhere u = None
+
+-- the mapping may have each term of the triple at its place, one by one
+abbrev pub fits : Places → Mapping → QuadParts → Bool
+fits p m q = is_some (assigned m p.predicate q.predicate) && (is_some (assigned m p.subject q.subject) && is_some (assigned m p.object q.object))
 
 -- the mapping with what a triple pattern binds, where it has this triple as its instance
 abbrev pub matched : Places → Mapping → QuadParts → Option Mapping

@@ -6,11 +6,11 @@ use Rattle.rdf_terms.specs.declared.quad.GraphName.{GraphName}
 use Rattle.rdf_terms.specs.declared.quad.GraphName.TheVariants.{Named}
 use Rattle.rdf_dataset.specs.State.{State}
 use Rattle.sparql_trees.specs.declared.pattern.Pattern.{Pattern}
-use Rattle.sparql_algebra.specs.Mapping.{Variables, Mapping, single}
+use Rattle.sparql_values.specs.Mapping.{Variables, Mapping, single}
 use Rattle.sparql_algebra.specs.Algebra.{Algebra, Element, joined, optional, translation}
 use Rattle.sparql_algebra.specs.Bags.{SameBag}
 use Rattle.sparql_algebra.specs.Listing.{Listing, Lists}
-use Rattle.sparql_algebra.specs.Solutions.{joins, merges, or_alone, solutions}
+use Rattle.sparql_algebra.specs.Solutions.{joins, left_joins, satisfies, solutions}
 
 -- however the state is listed, the rows are these solutions, each as often
 abbrev pub Gives : State → List Mapping → (Listing → List Mapping) → Type 0
@@ -20,20 +20,16 @@ Gives s rows F = (d : Listing) → Lists s d → SameBag rows (F d)
 abbrev pub GivesMore : State → List Mapping → (Listing → List Mapping) → (Listing → List Mapping) → Type 0
 GivesMore s rows rest F = (d : Listing) → Lists s d → SameBag (rows ++ rest d) (F d)
 
--- the merges of compatible pairs, and each left mapping that has none
-abbrev pub all_joins : List Mapping → List Mapping → List Mapping
-all_joins A B = flat_map (λ a. or_alone a (merges B a)) A
-
 -- the rows after an element whose own rows are the right ones
-abbrev pub rows_after : List Mapping → List Mapping → Element → List Mapping
-rows_after rows right (joined A) = joins rows right
-rows_after rows right (optional A) = all_joins rows right
+abbrev pub rows_after : Variables → List Mapping → List Mapping → Element → List Mapping
+rows_after vs rows right (joined A) = joins rows right
+rows_after vs rows right (optional F A) = left_joins rows right (satisfies vs F)
 
 module _ (vs : Variables) (d : Listing) where
-  -- the solutions of an element alone
+  -- the solutions of an element alone, without its condition
   abbrev pub element_solutions : GraphName → Element → List Mapping
   element_solutions g (joined A) = solutions vs d g A
-  element_solutions g (optional A) = solutions vs d g A
+  element_solutions g (optional F A) = solutions vs d g A
 
   -- the solutions over some of the names, the variable bound to the name
   abbrev pub over_names : List ℕ → Algebra → List Term → List Mapping

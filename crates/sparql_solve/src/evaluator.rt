@@ -6,15 +6,16 @@ ghost use Rattle.rdf_terms.specs.declared.quad.GraphName.{GraphName};
 ghost use Rattle.rdf_dataset.specs.Sorted.{ListsOnce};
 ghost use Rattle.sparql_algebra.specs.Algebra.{element, graph, group_of, translation, union_of};
 ghost use Rattle.sparql_algebra.specs.Listing.{Listing, Lists};
-ghost use Rattle.sparql_algebra.specs.Mapping.{same_term, single};
+ghost use Rattle.sparql_values.specs.Mapping.{same_term, single};
 ghost use Rattle.sparql_algebra.specs.Solutions.{joins, solutions};
 ghost use Rattle.sparql_solve.specs.Steps.{Gives, rows_after, element_solutions, over_names, over_groups};
 
+use crate::filters::filtered_rows;
 use crate::joins::{join, left_join};
 use crate::matching::basic_rows;
 use crate::rows::Row;
 use rdf_dataset::Source;
-use rdf_terms::{GraphName, NoMemory, Term, Text};
+use rdf_terms::{GraphName, NoMemory, Term, Text, Vocabulary};
 use sparql_trees::{Member, Pattern, VarOrIri};
 use std::alloc::Global;
 
@@ -37,17 +38,24 @@ fn graph_names<S: Source>(alloc: Global, source: &S) -> Result<Vec<Term>, NoMemo
     Ok(names)
 }
 
-// The rows after a member of the group, whose own rows are the right ones.
+// The rows after a member of the group, whose own rows are the right ones. The filters of OPTIONAL's
+// own group are its condition.
 fn rows_after(
     alloc: Global,
+    variables: &[Text],
+    vocabulary: &Vocabulary,
     rows: &[Row],
     right: &[Row],
     member: &Member,
 ) -> Result<Vec<Row>, NoMemory>
-    ensures { IfOk result (λ out. out.items ≡ rows_after rows.now right.now (element member.now)) }
+    ensures { IfOk result (λ out. out.items
+        ≡ rows_after variables.now rows.now right.now (element member.now)) }
 {
     match member {
-        Member::Optional(_) => left_join(alloc, rows, right),
+        Member::Optional(pattern) => {
+            let filters = pattern.filters.as_slice();
+            left_join(alloc, variables, vocabulary, rows, right, filters)
+        }
         _ => join(alloc, rows, right),
     }
 }
@@ -78,11 +86,12 @@ fn is_named<S: Source>(source: &S, name: &Term) -> bool
     source.has_name(name)
 }
 
-/// The solutions of a group in a graph.
+/// The solutions of a group in a graph: those of its members under its own filters.
 #[cycle(evaluate)]
 pub(crate) fn group_rows<S: Source>(
     alloc: Global,
     variables: &[Text],
+    vocabulary: &Vocabulary,
     graph: &GraphName,
     source: &S,
     pattern: &Pattern,
@@ -90,7 +99,10 @@ pub(crate) fn group_rows<S: Source>(
     ensures { IfOk result (λ out. Gives (S.contents source.now) out.items
         (λ d. solutions variables.now d graph.now (translation pattern.now))) }
 {
-    member_list_rows(alloc, variables, graph, source, pattern.members.as_slice())
+    let members = pattern.members.as_slice();
+    let rows = member_list_rows(alloc, variables, vocabulary, graph, source, members)?;
+    let filters = pattern.filters.as_slice();
+    filtered_rows(alloc, variables, vocabulary, rows, filters)
 }
 
 // The solutions of the members, from left to right.
@@ -98,6 +110,7 @@ pub(crate) fn group_rows<S: Source>(
 fn member_list_rows<S: Source>(
     alloc: Global,
     variables: &[Text],
+    vocabulary: &Vocabulary,
     graph: &GraphName,
     source: &S,
     members: &[Member],
@@ -107,8 +120,8 @@ fn member_list_rows<S: Source>(
 {
     let mut rows = unit_rows(alloc, variables)?;
     for member in members {
-        let right = member_rows(alloc, variables, graph, source, member)?;
-        rows = rows_after(alloc, &rows, &right, member)?;
+        let right = member_rows(alloc, variables, vocabulary, graph, source, member)?;
+        rows = rows_after(alloc, variables, vocabulary, &rows, &right, member)?;
     }
     Ok(rows)
 }
@@ -118,6 +131,7 @@ fn member_list_rows<S: Source>(
 fn group_list_rows<S: Source>(
     alloc: Global,
     variables: &[Text],
+    vocabulary: &Vocabulary,
     graph: &GraphName,
     source: &S,
     groups: &[Pattern],
@@ -127,7 +141,7 @@ fn group_list_rows<S: Source>(
 {
     let mut out = Vec::new(alloc);
     for group in groups {
-        let mut found = group_rows(alloc, variables, graph, source, group)?;
+        let mut found = group_rows(alloc, variables, vocabulary, graph, source, group)?;
         out.append(&mut found)?;
     }
     Ok(out)
@@ -138,6 +152,7 @@ fn group_list_rows<S: Source>(
 fn union_rows<S: Source>(
     alloc: Global,
     variables: &[Text],
+    vocabulary: &Vocabulary,
     graph: &GraphName,
     source: &S,
     groups: &[Pattern],
@@ -148,7 +163,7 @@ fn union_rows<S: Source>(
     if groups.is_empty() {
         return unit_rows(alloc, variables);
     }
-    group_list_rows(alloc, variables, graph, source, groups)
+    group_list_rows(alloc, variables, vocabulary, graph, source, groups)
 }
 
 // The solutions of GRAPH with an IRI: none where no graph has that name.
@@ -156,6 +171,7 @@ fn union_rows<S: Source>(
 fn named_graph_rows<S: Source>(
     alloc: Global,
     variables: &[Text],
+    vocabulary: &Vocabulary,
     name: Term,
     source: &S,
     pattern: &Pattern,
@@ -168,7 +184,7 @@ fn named_graph_rows<S: Source>(
         return Ok(Vec::new(alloc));
     }
     let graph = GraphName::Named(name);
-    group_rows(alloc, variables, &graph, source, pattern)
+    group_rows(alloc, variables, vocabulary, &graph, source, pattern)
 }
 
 // The solutions in the graphs of these names, the variable bound to the name.
@@ -176,6 +192,7 @@ fn named_graph_rows<S: Source>(
 fn each_graph_rows<S: Source>(
     alloc: Global,
     variables: &[Text],
+    vocabulary: &Vocabulary,
     variable: &Text,
     names: &[Term],
     source: &S,
@@ -187,7 +204,7 @@ fn each_graph_rows<S: Source>(
     let mut out = Vec::new(alloc);
     for name in names {
         let graph = GraphName::Named(name.copy()?);
-        let rows = group_rows(alloc, variables, &graph, source, pattern)?;
+        let rows = group_rows(alloc, variables, vocabulary, &graph, source, pattern)?;
         push_bound_rows(alloc, &rows, variables, variable, name, &mut out)?;
     }
     Ok(out)
@@ -198,6 +215,7 @@ fn each_graph_rows<S: Source>(
 fn all_graph_rows<S: Source>(
     alloc: Global,
     variables: &[Text],
+    vocabulary: &Vocabulary,
     variable: &Text,
     source: &S,
     pattern: &Pattern,
@@ -206,7 +224,9 @@ fn all_graph_rows<S: Source>(
         (λ d. over_names variables.now d variable.now (translation pattern.now) d.names)) }
 {
     let names = graph_names(alloc, source)?;
-    each_graph_rows(alloc, variables, variable, &names, source, pattern)
+    each_graph_rows(
+        alloc, variables, vocabulary, variable, &names, source, pattern,
+    )
 }
 
 // The solutions of GRAPH, whichever graph is the active one.
@@ -214,6 +234,7 @@ fn all_graph_rows<S: Source>(
 fn graph_rows<S: Source>(
     alloc: Global,
     variables: &[Text],
+    vocabulary: &Vocabulary,
     name: &VarOrIri,
     source: &S,
     pattern: &Pattern,
@@ -223,19 +244,27 @@ fn graph_rows<S: Source>(
 {
     match name {
         VarOrIri::Iri(iri) => {
-            named_graph_rows(alloc, variables, Term::Iri(iri.copy()?), source, pattern)
+            named_graph_rows(
+                alloc,
+                variables,
+                vocabulary,
+                Term::Iri(iri.copy()?),
+                source,
+                pattern,
+            )
         }
         VarOrIri::Variable(variable) => {
-            all_graph_rows(alloc, variables, variable, source, pattern)
+            all_graph_rows(alloc, variables, vocabulary, variable, source, pattern)
         }
     }
 }
 
-// The solutions of a member alone.
+// The solutions of a member alone, of OPTIONAL without its group's filters.
 #[cycle(evaluate)]
 fn member_rows<S: Source>(
     alloc: Global,
     variables: &[Text],
+    vocabulary: &Vocabulary,
     graph: &GraphName,
     source: &S,
     member: &Member,
@@ -245,8 +274,20 @@ fn member_rows<S: Source>(
 {
     match member {
         Member::Basic(basic) => basic_rows(alloc, variables, graph, source, basic),
-        Member::Union(groups) => union_rows(alloc, variables, graph, source, groups.as_slice()),
-        Member::Optional(pattern) => group_rows(alloc, variables, graph, source, pattern),
-        Member::Graph(name, pattern) => graph_rows(alloc, variables, name, source, pattern),
+        Member::Union(groups) => union_rows(
+            alloc,
+            variables,
+            vocabulary,
+            graph,
+            source,
+            groups.as_slice(),
+        ),
+        Member::Optional(pattern) => {
+            let members = pattern.members.as_slice();
+            member_list_rows(alloc, variables, vocabulary, graph, source, members)
+        }
+        Member::Graph(name, pattern) => graph_rows(
+            alloc, variables, vocabulary, name, source, pattern,
+        ),
     }
 }

@@ -1,10 +1,11 @@
 //! Join and LeftJoin of rows, pair by pair (SPARQL 1.1 Query, section 18.5).
 ghost use Rattle.std.specs.Prelude.{◌≡◌, IfOk};
-ghost use Rattle.sparql_algebra.specs.Solutions.{joins, merges, or_alone};
-ghost use Rattle.sparql_solve.specs.Steps.{all_joins};
+ghost use Rattle.sparql_algebra.specs.Solutions.{joins, left_joins, merges, or_alone, satisfies};
 
+use crate::filters::filtered_rows;
 use crate::rows::Row;
-use rdf_terms::NoMemory;
+use rdf_terms::{NoMemory, Text, Vocabulary};
+use sparql_trees::Expression;
 use std::alloc::Global;
 
 // The merges of a row with those that are compatible with it.
@@ -42,13 +43,24 @@ fn or_alone(alloc: Global, row: &Row, mut merged: Vec<Row>) -> Result<Vec<Row>, 
     Ok(merged)
 }
 
-/// LeftJoin: the merges of all compatible pairs, and each left row that has none.
-pub(crate) fn left_join(alloc: Global, left: &[Row], right: &[Row]) -> Result<Vec<Row>, NoMemory>
-    ensures { IfOk result (λ out. out.items ≡ all_joins left.now right.now) }
+/// LeftJoin: the merges of all compatible pairs of which each of the filters is true, and each left
+/// row that has none.
+pub(crate) fn left_join(
+    alloc: Global,
+    variables: &[Text],
+    vocabulary: &Vocabulary,
+    left: &[Row],
+    right: &[Row],
+    filters: &[Expression],
+) -> Result<Vec<Row>, NoMemory>
+    ensures { IfOk result (λ out. out.items
+        ≡ left_joins left.now right.now (satisfies variables.now filters.now)) }
 {
     let mut out = Vec::new(alloc);
     for row in left {
-        let mut found = or_alone(alloc, row, merged_rows(alloc, row, right)?)?;
+        let merged = merged_rows(alloc, row, right)?;
+        let kept = filtered_rows(alloc, variables, vocabulary, merged, filters)?;
+        let mut found = or_alone(alloc, row, kept)?;
         out.append(&mut found)?;
     }
     Ok(out)

@@ -3,6 +3,7 @@
 #![tactic(auto)]
 
 mod evaluator;
+mod filters;
 mod joins;
 mod matching;
 mod order;

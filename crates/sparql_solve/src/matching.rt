@@ -2,7 +2,7 @@
 //! (SPARQL 1.1 Query, section 18.3.1).
 ghost use Rattle.std.specs.Prelude.{◌≡◌, IfOk, map, take, replicate, None, ◌∷◌, []};
 ghost use Rattle.sparql_algebra.specs.Solutions.{basic_solutions};
-ghost use Rattle.sparql_solve.specs.Matching.{matched, matches_of, stepped, matching};
+ghost use Rattle.sparql_solve.specs.Matching.{fits, matched, matches_of, stepped, matching};
 ghost use Rattle.sparql_solve.specs.Steps.{Gives};
 
 use crate::place::{Places, places_of};
@@ -12,6 +12,17 @@ use rdf_terms::{GraphName, NoMemory, Quad, Text};
 use sparql_trees::{BasicGraphPattern, TriplePattern};
 use std::alloc::Global;
 
+// Whether each place of the row may have its term of the triple.
+fn fits(row: &Row, places: &Places, quad: &Quad) -> bool
+    ensures { result ≡ fits places.now row.now quad.now }
+{
+    row.admits(&places.predicate, quad.predicate())
+        && row.admits(&places.subject, quad.subject())
+        && row.admits(&places.object, quad.object())
+}
+
+// A row is copied only where each term fits; a variable that stands twice may still want two terms.
+#[tactic(auto, using(crate::proofs::FitLemmas::no_fit))]
 fn matched_row(
     alloc: Global,
     row: &Row,
@@ -20,7 +31,13 @@ fn matched_row(
 ) -> Result<Option<Row>, NoMemory>
     ensures { IfOk result (λ out. out ≡ matched places.now row.now quad.now) }
 {
-    let Some(row) = row.grown(alloc, &places.predicate, quad.predicate())? else {
+    if !fits(row, places, quad) {
+        return Ok(None);
+    }
+    let Some(row) = row
+        .copy(alloc)?
+        .assigned(&places.predicate, quad.predicate())?
+    else {
         return Ok(None);
     };
     let Some(row) = row.assigned(&places.subject, quad.subject())? else {

@@ -2,7 +2,7 @@
 ghost use Rattle.std.specs.Prelude.{◌≡◌, IfOk, OnOk, IsPermutation, IsSorted, count_by};
 ghost use Rattle.std.specs.List.{dedup};
 ghost use Rattle.std.specs.Ordering.{eq_by_cmp};
-ghost use Rattle.sparql_algebra.specs.Mapping.{Mapping, same_mapping};
+ghost use Rattle.sparql_values.specs.Mapping.{Mapping, same_mapping};
 ghost use Rattle.sparql_algebra.specs.Order.{mapping_cmp};
 ghost use Rattle.sparql_algebra.specs.Results.{times_selected};
 

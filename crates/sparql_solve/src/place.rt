@@ -1,14 +1,12 @@
 //! Where the places of a triple pattern get their terms.
 ghost use Rattle.std.specs.Prelude.{◌≡◌, ◌+◌, length, IfOk};
-ghost use Rattle.rdf_terms.specs.Order.{text_cmp};
-ghost use Rattle.std.specs.Ordering.{eq_by_cmp};
-ghost use Rattle.sparql_algebra.specs.Mapping.{column};
 ghost use Rattle.sparql_algebra.specs.Solutions.{var_or_term};
 ghost use Rattle.sparql_solve.specs.Matching.{place_of, places_of};
 ghost use Rattle.sparql_trees.specs.declared.pattern.VarOrTerm.TheVariants.{Variable};
 
 use rdf_terms::{NoMemory, Term, Text};
 use sparql_trees::{TriplePattern, VarOrIri, VarOrTerm};
+use sparql_values::column;
 
 /// Where a place of a triple pattern gets its term.
 #[derive(Drop)]
@@ -27,21 +25,6 @@ pub struct Places {
     pub subject: Place,
     pub predicate: Place,
     pub object: Place,
-}
-
-fn is_same_text(a: &Text, b: &Text) -> bool
-    ensures { result ≡ eq_by_cmp text_cmp a.now b.now }
-{
-    a.cmp(b).is_eq()
-}
-
-/// The column of a variable.
-pub(crate) fn column(variables: &[Text], name: &Text) -> Option<usize>
-    ensures { result ≡ column variables.now name.now }
-{
-    variables
-        .iter()
-        .position(|variable| is_same_text(name, variable))
 }
 
 fn place_of_variable(variables: &[Text], name: &Text) -> Place

@@ -1,15 +1,15 @@
 //! The results of queries (SPARQL 1.1 Query, sections 16.1, 16.3 and 18.2.5).
 ghost use Rattle.std.specs.Prelude.{◌≡◌, IfOk, map};
-ghost use Rattle.sparql_algebra.specs.Mapping.{column, value_in};
+ghost use Rattle.sparql_values.specs.Mapping.{column, value_in};
 ghost use Rattle.sparql_algebra.specs.Results.{HasSolution, IsSelection, Solves};
 
 use crate::evaluator::group_rows;
 use crate::order::ordered;
-use crate::place::column;
 use crate::rows::Row;
 use rdf_dataset::Source;
-use rdf_terms::{GraphName, Items, NoMemory, Text};
+use rdf_terms::{GraphName, Items, NoMemory, Text, Vocabulary};
 use sparql_trees::{Pattern, Select, visible_variables};
+use sparql_values::column;
 use std::alloc::Global;
 
 /// The solutions of a pattern.
@@ -36,7 +36,9 @@ pub fn solve<S: Source>(
         s.variables s.rows.items) }
 {
     let variables = visible_variables(alloc, pattern)?;
-    let rows = group_rows(alloc, variables.as_slice(), graph, source, pattern)?;
+    let vocabulary = Vocabulary::new(alloc)?;
+    let names = variables.as_slice();
+    let rows = group_rows(alloc, names, &vocabulary, graph, source, pattern)?;
     Ok(Solutions { variables, rows })
 }
 

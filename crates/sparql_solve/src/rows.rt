@@ -1,11 +1,12 @@
 //! Rows: mappings over the columns of a pattern (SPARQL 1.1 Query, section 18.1.4).
 ghost use Rattle.std.specs.Prelude.{◌≡◌, ◌+◌, ◌<◌, length, is_some, slice_get, slice_set, Some, IfOk, replicate, None, take, if◌then◌else◌, nat_lt, map};
-ghost use Rattle.sparql_algebra.specs.Mapping.{agrees, first_of, compatible, merge, same_term, single, value_at, value_in};
+ghost use Rattle.sparql_values.specs.Mapping.{agrees, first_of, compatible, merge, same_term, single, value_at, value_in};
 ghost use Rattle.sparql_algebra.specs.Order.{mapping_cmp};
 ghost use Rattle.sparql_solve.specs.Matching.{assigned, vacant};
 
-use crate::place::{Place, column};
+use crate::place::Place;
 use rdf_terms::{NoMemory, Term, Text};
+use sparql_values::column;
 use std::alloc::Global;
 use std::cmp::Ordering;
 use std::marker::Model;
@@ -156,8 +157,8 @@ impl Row {
         }
     }
 
-    // Whether the place may have the term: it has it, or nothing.
-    fn admits(&self, place: &Place, term: &Term) -> bool
+    /// Whether the place may have the term: it has it, or nothing.
+    pub(crate) fn admits(&self, place: &Place, term: &Term) -> bool
         ensures { result ≡ is_some (assigned self.now place.now term.now) }
     {
         match place {
@@ -186,22 +187,6 @@ impl Row {
                 None
             },
         })
-    }
-
-    /// A copy of the row with the term at the place; nothing as with `assigned`.
-    pub(crate) fn grown(
-        &self,
-        alloc: Global,
-        place: &Place,
-        term: &Term,
-    ) -> Result<Option<Row>, NoMemory>
-        ensures { IfOk result (λ row. row ≡ assigned self.now place.now term.now) }
-    {
-        if self.admits(place, term) {
-            self.copy(alloc)?.assigned(place, term)
-        } else {
-            Ok(None)
-        }
     }
 
     /// The first columns alone.

@@ -7,10 +7,10 @@ use Rattle.rdf_grammar.proofs.TextLemmas as text_lemmas
 use Rattle.rdf_tokens.specs.declared.token.Token.{Token}
 use Rattle.rdf_tokens.specs.Lines.{line_of}
 use Rattle.rdf_tokens.proofs.CallerLemmas.{one_token_list}
-use Rattle.sparql_grammar.specs.Lexemes.{Lexeme, AreLexemes}
+use Rattle.sparql_terminals.specs.Lexemes.{Lexeme, AreLexemes}
 use Rattle.sparql_grammar.specs.Nesting.{IsTooDeep, IsTooDeepAt}
-use Rattle.sparql_grammar.specs.Profile.{AreInside, IsFirstOutside}
-use Rattle.sparql_grammar.specs.Terminals.{terminal_by, bracket}
+use Rattle.sparql_terminals.specs.Profile.{AreInside, IsFirstOutside}
+use Rattle.sparql_terminals.specs.Terminals.{terminal_by, bracket}
 use Rattle.sparql_syntax.specs.declared.fault.SyntaxFault.{SyntaxFault}
 use Rattle.sparql_syntax.specs.declared.fault.SyntaxFaultKind.{SyntaxFaultKind}
 use Rattle.sparql_syntax.specs.declared.fault.SyntaxFaultKind.TheVariants as fault

@@ -9,8 +9,8 @@ use Rattle.rdf_tokens.specs.declared.token.Kind.TheVariants as kind
 use Rattle.rdf_tokens.specs.declared.token.Token.{Token}
 use Rattle.rdf_tokens.specs.Tokens.{HasItsForm}
 use Rattle.rdf_tokens.proofs.CallerLemmas.{token_stands}
-use Rattle.sparql_grammar.proofs.ProfileTokens.{word_tells}
-use Rattle.sparql_grammar.specs.Profile.{is_outside, IsOutside, AreInside, IsFirstOutside}
+use Rattle.sparql_terminals.proofs.ProfileTokens.{word_tells}
+use Rattle.sparql_terminals.specs.Profile.{is_outside, IsOutside, AreInside, IsFirstOutside}
 
 -- a token before the place is within the profile
 before_place : (text : List ℕ) (tokens : List Token) (token : Token) (m n : ℕ) → m < n → AreInside text (take n tokens) → slice_get tokens m ≡ Some token → ¬ (IsOutside text token)

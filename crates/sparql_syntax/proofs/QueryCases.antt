@@ -6,7 +6,7 @@ use Rattle.rdf_grammar.specs.Steps.{◌>>=◌, ◌>>◌, and_then, pure}
 use Rattle.sparql_grammar.specs.declared.tree.Declaration.{Declaration}
 use Rattle.sparql_grammar.specs.declared.tree.Query as written
 use Rattle.sparql_grammar.specs.declared.tree.QueryForm.{QueryForm}
-use Rattle.sparql_grammar.specs.Lexemes.{Lexeme, Lexemes, Outcome}
+use Rattle.sparql_terminals.specs.Lexemes.{Lexeme, Lexemes, Outcome}
 use Rattle.sparql_grammar.specs.Nesting.{IsTooDeep}
 use Rattle.sparql_grammar.specs.QueryGrammar as grammar
 use Rattle.sparql_grammar.specs.PrologueReading.{prologue}

@@ -6,10 +6,10 @@ use Rattle.rdf_grammar.specs.declared.prologue.PrologueFault.TheVariants as name
 use Rattle.rdf_tokens.specs.declared.token.Token.{Token}
 use Rattle.rdf_tokens.specs.Lines.{line_of}
 use Rattle.sparql_grammar.specs.declared.tree.Query as written
-use Rattle.sparql_grammar.specs.Lexemes.{Lexemes}
+use Rattle.sparql_terminals.specs.Lexemes.{Lexemes}
 use Rattle.sparql_grammar.specs.Nesting.{IsTooDeep}
 use Rattle.sparql_grammar.specs.QueryGrammar as grammar
-use Rattle.sparql_grammar.specs.Profile.{AreInside}
+use Rattle.sparql_terminals.specs.Profile.{AreInside}
 use Rattle.sparql_grammar.specs.Proper.{proper_query}
 use Rattle.sparql_grammar.specs.Stops.{ExplainsQuery}
 use Rattle.sparql_grammar.proofs.QueryProper.{queries_proper}

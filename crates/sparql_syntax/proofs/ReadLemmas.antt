@@ -7,10 +7,10 @@ use Rattle.rdf_grammar.specs.declared.prologue.PrologueFault.TheVariants as name
 use Rattle.rdf_tokens.specs.declared.token.Token.{Token}
 use Rattle.rdf_tokens.specs.Lines.{line_of}
 use Rattle.sparql_grammar.specs.declared.tree.Part.{Part}
-use Rattle.sparql_grammar.specs.Lexemes.{Lexemes}
+use Rattle.sparql_terminals.specs.Lexemes.{Lexemes}
 use Rattle.sparql_grammar.specs.Nesting.{IsTooDeep}
 use Rattle.sparql_grammar.specs.OperationGrammar.{IsRequest}
-use Rattle.sparql_grammar.specs.Profile.{AreInside}
+use Rattle.sparql_terminals.specs.Profile.{AreInside}
 use Rattle.sparql_grammar.specs.Proper.{holds, proper_part}
 use Rattle.sparql_grammar.specs.Stops.{Explains}
 use Rattle.sparql_grammar.proofs.OperationProper.{requests_proper}

@@ -4,7 +4,7 @@ use Rattle.std.specs.List.{AllByRecursion}
 use Rattle.rdf_grammar.proofs.Decides.{some_pair}
 use Rattle.rdf_grammar.specs.declared.fault.GrammarFault.TheVariants.{Syntax}
 use Rattle.sparql_grammar.specs.declared.tree.Part.{Part}
-use Rattle.sparql_grammar.specs.Lexemes.{Lexeme, Lexemes, Outcome}
+use Rattle.sparql_terminals.specs.Lexemes.{Lexeme, Lexemes, Outcome}
 use Rattle.sparql_grammar.specs.Nesting.{IsTooDeep}
 use Rattle.sparql_grammar.specs.OperationGrammar.{IsRequest}
 use Rattle.sparql_grammar.specs.OperationReading.{request}

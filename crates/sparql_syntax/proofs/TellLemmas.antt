@@ -8,10 +8,10 @@ use Rattle.rdf_tokens.specs.declared.token.Token.{Token}
 use Rattle.rdf_tokens.specs.Lines.{line_of}
 use Rattle.rdf_tokens.specs.Tokens.{Says}
 use Rattle.rdf_tokens.proofs.CallerLemmas.{tokens_have_forms}
-use Rattle.sparql_grammar.specs.Lexemes.{Lexeme, Lexemes}
+use Rattle.sparql_terminals.specs.Lexemes.{Lexeme, Lexemes}
 use Rattle.sparql_grammar.specs.Nesting.{IsTooDeep, IsTooDeepAt}
-use Rattle.sparql_grammar.specs.Profile.{AreInside, IsFirstOutside}
-use Rattle.sparql_grammar.specs.Terminals.{terminal_by}
+use Rattle.sparql_terminals.specs.Profile.{AreInside, IsFirstOutside}
+use Rattle.sparql_terminals.specs.Terminals.{terminal_by}
 use Rattle.sparql_syntax.specs.declared.fault.SyntaxFault.{SyntaxFault}
 use Rattle.sparql_syntax.specs.declared.fault.SyntaxFaultKind.{SyntaxFaultKind}
 use Rattle.sparql_syntax.specs.declared.fault.SyntaxFaultKind.TheVariants as fault

@@ -6,9 +6,9 @@ use Rattle.std.specs.List.{slice_get}
 use Rattle.rdf_tokens.specs.declared.token.Token.{Token}
 use Rattle.rdf_tokens.specs.Lines.{line_of}
 use Rattle.rdf_tokens.specs.Tokens.{Says}
-use Rattle.sparql_grammar.specs.Lexemes.{Lexeme, AreLexemes}
+use Rattle.sparql_terminals.specs.Lexemes.{Lexeme, AreLexemes}
 use Rattle.sparql_grammar.specs.Nesting.{IsTooDeep, IsTooDeepAt}
-use Rattle.sparql_grammar.specs.Profile.{AreInside, IsFirstOutside}
+use Rattle.sparql_terminals.specs.Profile.{AreInside, IsFirstOutside}
 use Rattle.sparql_syntax.specs.declared.fault.SyntaxFault.{SyntaxFault}
 use Rattle.sparql_syntax.specs.declared.fault.SyntaxFaultKind.{SyntaxFaultKind}
 use Rattle.sparql_syntax.specs.declared.fault.SyntaxFaultKind.TheVariants as fault

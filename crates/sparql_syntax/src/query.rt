@@ -3,7 +3,7 @@ ghost use Rattle.std.specs.Prelude.{◌≡◌, [], Ok, Some, IfOk, MatchResult, 
 ghost use Rattle.std.specs.Option.{option_copied};
 ghost use Rattle.std.specs.Str.{chars, IsUtf8};
 ghost use Rattle.rdf_tokens.specs.Tokens.{Says};
-ghost use Rattle.sparql_grammar.specs.Profile.{AreInside};
+ghost use Rattle.sparql_terminals.specs.Profile.{AreInside};
 ghost use Rattle.sparql_syntax.specs.Query as spec;
 ghost use Rattle.sparql_syntax.specs.Query.{HasTree, IsQuery, TellsFault};
 ghost use Rattle.sparql_syntax.specs.QueryTold.{IsRuleFault, IsTold};

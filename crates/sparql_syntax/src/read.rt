@@ -4,7 +4,7 @@ ghost use Rattle.std.specs.List.{AllByRecursion};
 ghost use Rattle.std.specs.Option.{option_copied};
 ghost use Rattle.std.specs.Str.{chars, IsUtf8};
 ghost use Rattle.rdf_tokens.specs.Tokens.{Says};
-ghost use Rattle.sparql_grammar.specs.Profile.{AreInside};
+ghost use Rattle.sparql_terminals.specs.Profile.{AreInside};
 ghost use Rattle.sparql_syntax.specs.Drafts.{IsDraftBelow};
 ghost use Rattle.sparql_syntax.specs.Rules.{judged};
 ghost use Rattle.sparql_syntax.specs.Told.{IsRuleFault, IsTold};

@@ -3,14 +3,15 @@ ghost use Rattle.std.specs.Prelude.{◌≡◌, length, Ok, Some, None, MatchResu
 ghost use Rattle.std.specs.Str.{chars, IsUtf8};
 ghost use Rattle.rdf_tokens.specs.Tokens.{Says};
 ghost use Rattle.rdf_tokens.specs.declared.token.Token.{Token as Held};
-ghost use Rattle.sparql_grammar.specs.Profile.{AreInside};
+ghost use Rattle.sparql_terminals.specs.Profile.{AreInside};
 ghost use Rattle.sparql_syntax.specs.Phases.{TellsEarly};
 ghost use Rattle.sparql_syntax.specs.Told as spec;
 
 use crate::fault::{SyntaxFault, SyntaxFaultKind};
 use rdf_grammar::PrologueFault;
 use rdf_tokens::{Token, TokenFault, line_at, tokens};
-use sparql_grammar::{StopKind, first_outside};
+use sparql_grammar::StopKind;
+use sparql_terminals::first_outside;
 use std::alloc::Global;
 
 /// The fault of this kind, at the line of that byte.

@@ -1,3 +1,4 @@
 pub mod Data
 pub mod Visible
 pub mod VisibleLaws
+pub mod formers

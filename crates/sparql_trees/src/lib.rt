@@ -2,13 +2,17 @@
 //! and 16; SPARQL 1.1 Update, section 3).
 #![tactic(auto)]
 
+mod boxed;
 mod data;
+mod expression;
 mod operation;
 mod pattern;
 mod query;
 mod visible;
 
+pub use boxed::Boxed;
 pub use data::{Data, GroundData};
+pub use expression::{Comparison, Expression, Function, Sign};
 pub use operation::{GraphOrDefault, GraphRefAll, Operation, Request};
 pub use pattern::{BasicGraphPattern, Member, Pattern, TriplePattern, VarOrIri, VarOrTerm};
 pub use query::{Query, Select};

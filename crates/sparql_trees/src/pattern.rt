@@ -1,5 +1,6 @@
 //! Patterns: what a query asks of a dataset (SPARQL 1.1 Query, section 5).
 
+use crate::expression::Expression;
 use rdf_terms::{Iri, Items, Term, Text};
 
 /// A variable or an IRI: what may be a predicate, or the name behind GRAPH (107: VarOrIri).
@@ -42,8 +43,11 @@ pub struct BasicGraphPattern {
 #[cycle(pattern)]
 #[derive(Drop)]
 pub struct Pattern {
-    /// The members of the group, in the order of the text.
+    /// What stands in the group besides FILTERs, in the order of the text.
     pub members: Items<Member>,
+    /// Its own FILTERs, in the order of the text. They hold for the whole group, wherever they stand
+    /// (section 5.2.2).
+    pub filters: Items<Expression>,
 }
 
 /// A member of a group (54: GroupGraphPatternSub).

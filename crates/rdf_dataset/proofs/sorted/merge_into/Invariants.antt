@@ -1,6 +1,6 @@
 use Rattle.std.proofs.Common.{◌+◌, ◌≤◌, length}
 use Rattle.std.specs.Vec.{vec_capacity}
-use Rattle.rdf_dataset.specs.Merging.{IsMerging}
+use Rattle.rdf_dataset.specs.Inside.Merging.{IsMerging}
 use Rattle.rdf_dataset.proofs.sorted.merge_into.Given as goal
 
 abbrev pub decreases-loop-item : goal.decreases-loop-item

@@ -1,5 +1,5 @@
 use Rattle.std.proofs.Common.{sym, ap, ◌∙◌}
-use Rattle.rdf_tokens.specs.TokenReading.{local_part_at}
+use Rattle.rdf_tokens.specs.Inside.TokenReading.{local_part_at}
 use Rattle.rdf_tokens.proofs.TokenUnits.{unit_less, dotted_step, dotted_stop, local_unit}
 use Rattle.rdf_tokens.proofs.dotted.local_rest.Goals as goal
 

@@ -1,5 +1,5 @@
 use Rattle.std.proofs.Common.{◌≡◌, length}
-use Rattle.rdf_tokens.specs.TokenReading.{dotted_at, local_part_at}
+use Rattle.rdf_tokens.specs.Inside.TokenReading.{dotted_at, local_part_at}
 use Rattle.rdf_tokens.proofs.dotted.local_rest.Given as goal
 
 abbrev pub invariant-loop-behind : goal.invariant-loop-behind

@@ -1,5 +1,5 @@
 use Rattle.std.proofs.Common.{sym, ap, ◌∙◌}
-use Rattle.rdf_tokens.specs.TokenReading.{name_part_at}
+use Rattle.rdf_tokens.specs.Inside.TokenReading.{name_part_at}
 use Rattle.rdf_tokens.proofs.TokenUnits.{unit_less, dotted_step, dotted_stop, name_unit}
 use Rattle.rdf_tokens.proofs.dotted.name_rest.Goals as goal
 

@@ -1,5 +1,5 @@
 use Rattle.std.proofs.Common.{◌≡◌, length}
-use Rattle.rdf_tokens.specs.TokenReading.{dotted_at, name_part_at}
+use Rattle.rdf_tokens.specs.Inside.TokenReading.{dotted_at, name_part_at}
 use Rattle.rdf_tokens.proofs.dotted.name_rest.Given as goal
 
 abbrev pub invariant-loop-behind : goal.invariant-loop-behind

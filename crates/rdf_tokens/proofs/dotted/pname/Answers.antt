@@ -1,6 +1,6 @@
 use Rattle.std.proofs.Common.{◌<◌, arith, sym, ap, subst, ◌∙◌}
 use Rattle.rdf_terms.specs.Reading.{byte_count, expect}
-use Rattle.rdf_tokens.specs.TokenReading.{NoPnameBefore}
+use Rattle.rdf_tokens.specs.Inside.TokenReading.{NoPnameBefore}
 use Rattle.rdf_tokens.proofs.TokenNameless.{nameless_use, nameless_here}
 use Rattle.rdf_tokens.proofs.dotted.pname.Goals as goal
 

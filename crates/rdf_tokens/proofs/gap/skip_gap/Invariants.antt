@@ -1,5 +1,5 @@
 use Rattle.std.proofs.Common.{◌≡◌, length, false}
-use Rattle.rdf_tokens.specs.TokenReading.{skip_gap}
+use Rattle.rdf_tokens.specs.Inside.TokenReading.{skip_gap}
 use Rattle.rdf_tokens.proofs.gap.skip_gap.Given as goal
 
 abbrev pub invariant-loop-c : goal.invariant-loop-c

@@ -1,5 +1,5 @@
 use Rattle.std.proofs.Common.{◌≡◌, length}
-use Rattle.rdf_tokens.specs.TokenReading.{long_body_at}
+use Rattle.rdf_tokens.specs.Inside.TokenReading.{long_body_at}
 use Rattle.rdf_tokens.proofs.quoted.long_body.Given as goal
 
 abbrev pub invariant-loop-behind : goal.invariant-loop-behind

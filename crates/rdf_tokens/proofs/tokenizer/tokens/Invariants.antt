@@ -1,7 +1,7 @@
 use Rattle.std.proofs.Common.{length}
 use Rattle.std.specs.Str.{chars}
 use Rattle.rdf_tokens.specs.Tokens.{Runs}
-use Rattle.rdf_tokens.specs.TokenReading.{NoPnameBefore}
+use Rattle.rdf_tokens.specs.Inside.TokenReading.{NoPnameBefore}
 use Rattle.rdf_tokens.proofs.TokenLists.{Within}
 use Rattle.rdf_tokens.proofs.tokenizer.tokens.Given as goal
 

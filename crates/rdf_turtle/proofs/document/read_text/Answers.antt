@@ -3,10 +3,10 @@ use Rattle.std.specs.List.{list_all}
 use Rattle.std.specs.Option.{option_copied}
 use Rattle.rdf_turtle.specs.declared.tree.Statement.{Statement}
 use Rattle.rdf_turtle.specs.Document.{HasTree}
-use Rattle.rdf_turtle.specs.Kept.{IsFaultOf, IsNameFault}
+use Rattle.rdf_turtle.specs.Inside.Kept.{IsFaultOf, IsNameFault}
 use Rattle.rdf_turtle.specs.Known.{holds}
 use Rattle.rdf_turtle.specs.Meaning.{answer}
-use Rattle.rdf_turtle.specs.Proper.{proper_statement}
+use Rattle.rdf_turtle.specs.Inside.Proper.{proper_statement}
 use Rattle.rdf_turtle.proofs.BaseDocuments.{tree_proper}
 use Rattle.rdf_turtle.proofs.DocumentLemmas.{name_tells}
 use Rattle.rdf_turtle.proofs.document.read_text.Goals as goal

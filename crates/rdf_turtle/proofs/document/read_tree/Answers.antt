@@ -7,7 +7,7 @@ use Rattle.rdf_turtle.specs.Grammar as grammar
 use Rattle.rdf_turtle.specs.Lexemes.{AreLexemes}
 use Rattle.rdf_tokens.specs.Lines.{line_of}
 use Rattle.rdf_turtle.specs.Nesting.{IsTooDeep}
-use Rattle.rdf_turtle.specs.Stops.{Explains}
+use Rattle.rdf_turtle.specs.Inside.Stops.{Explains}
 use Rattle.rdf_tokens.specs.Tokens.{Says}
 use Rattle.rdf_turtle.proofs.DocumentLemmas.{stop_tells}
 use Rattle.rdf_turtle.proofs.document.read_tree.Goals as goal

@@ -1,7 +1,7 @@
 use Rattle.std.proofs.Common.{List, sym, subst}
 use Rattle.std.specs.List.{AllByRecursion}
 use Rattle.rdf_turtle.specs.Lexemes.{Lexeme}
-use Rattle.rdf_turtle.specs.Formed.{Formed}
+use Rattle.rdf_turtle.specs.Inside.Formed.{Formed}
 use Rattle.rdf_turtle.proofs.BaseLeaves.{lexemes_formed}
 use Rattle.rdf_turtle.proofs.StraightReading.{straight_document}
 use Rattle.rdf_turtle.proofs.document.straight_quads.Goals as goal

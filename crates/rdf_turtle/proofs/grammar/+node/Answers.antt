@@ -1,7 +1,7 @@
 use Rattle.std.proofs.Common.{arith, sym}
 use Rattle.std.proofs.lemmas.Result.{err_from_is_err_and}
 use Rattle.rdf_turtle.specs.declared.terminal.Terminal.TheVariants as terminal
-use Rattle.rdf_turtle.specs.Reading.{node, objects, predicate_object_list}
+use Rattle.rdf_turtle.specs.Inside.Reading.{node, objects, predicate_object_list}
 use Rattle.rdf_grammar.proofs.Repeats.{grown_starts, grown_on, going_fails, fails_on, fails_first, fails_then, deeper, one_reads, none_pushed, one_pushed}
 use Rattle.rdf_grammar.proofs.Terminals.{grown_behind, grown_fails_behind}
 use Rattle.rdf_turtle.proofs.GrammarLists.{node_seen, sees_some, more_reads, more_fails}
@@ -19,19 +19,19 @@ node-returns-clause-reads t c = rw (deeper (λ n. node n c.args.parser.now) c.ar
 pub objects-loop-all-init : goal.objects-loop-all-init
 objects-loop-all-init t c = record { grown = grown_starts _ _ _ _; shorter = omega arith }
 
-pub objects-returns-in_err-node-2-clause-reads : goal.objects-returns-in_err-node-2-clause-reads
+pub objects-returns-in_err-node-clause-reads : goal.objects-returns-in_err-node-clause-reads
 unfolding objects
-objects-returns-in_err-node-2-clause-reads t c =
+objects-returns-in_err-node-clause-reads t c =
     let seen = sym c.loop-all-test.ensures.found in
-    let p = err_from_is_err_and c.from_residual-in_err-node-2.result c.from_residual-in_err-node-2.ensures.1 in
-    rw (p.1, p.2) (fails_then _ _ _ _ _ c.in_ok-node.ensures.reads (fails_first _ _ _ (grown_fails_behind same_terminal _ terminal.Comma _ _ _ c.loop-all.invariant.grown seen seen c.loop-all-test.ensures.left c.in_err-node-2.ensures.reads)))
+    let p = err_from_is_err_and c.from_residual-in_err-node.result c.from_residual-in_err-node.ensures.1 in
+    rw (p.1, p.2) (fails_then _ _ _ _ _ c.in_ok-first.ensures.reads (fails_first _ _ _ (grown_fails_behind same_terminal _ terminal.Comma _ _ _ c.loop-all.invariant.grown seen seen c.loop-all-test.ensures.left c.in_err-node.ensures.reads)))
 
 pub objects-loop-all-preserved : goal.objects-loop-all-preserved
 objects-loop-all-preserved t c =
     let seen = sym c.loop-all-test.ensures.found in
     record {
-      grown = grown_behind same_terminal _ terminal.Comma _ _ _ _ _ c.loop-all.invariant.grown seen seen c.loop-all-test.ensures.left c.in_ok-node-2.ensures.reads (omega (arith, c.in_ok-node-2.ensures.shorter)) c.in_ok-push-2.ensures.ok;
-      shorter = omega (arith, c.in_ok-node-2.ensures.shorter, c.loop-all-test.ensures.shorter);
+      grown = grown_behind same_terminal _ terminal.Comma _ _ _ _ _ c.loop-all.invariant.grown seen seen c.loop-all-test.ensures.left c.in_ok-node.ensures.reads (omega (arith, c.in_ok-node.ensures.shorter)) c.in_ok-push-2.ensures.ok;
+      shorter = omega (arith, c.in_ok-node.ensures.shorter, c.loop-all-test.ensures.shorter);
     }
 
 -- ---- collection

@@ -3,7 +3,7 @@ use Rattle.rdf_turtle.specs.declared.terminal.Terminal.TheVariants as terminal
 use Rattle.rdf_grammar.specs.Steps.{◌>>◌}
 use Rattle.rdf_turtle.specs.Lexemes.{sees, the}
 use Rattle.rdf_grammar.specs.Readings.{one, repeat}
-use Rattle.rdf_turtle.specs.Reading as spec
+use Rattle.rdf_turtle.specs.Inside.Reading as spec
 use Rattle.rdf_grammar.proofs.Repeats.{Grown}
 use Rattle.rdf_turtle.proofs.grammar.+node.Given as goal
 

@@ -1,5 +1,5 @@
 use Rattle.std.proofs.Common.{sym, ap, ◌∙◌}
-use Rattle.rdf_turtle.specs.Reading.{document}
+use Rattle.rdf_turtle.specs.Inside.Reading.{document}
 use Rattle.rdf_turtle.proofs.GrammarWhole.{found_alone, found_only, stop_explained, shallow}
 use Rattle.rdf_turtle.proofs.read.parse_document.Goals as goal
 

@@ -1,5 +1,5 @@
 use Rattle.std.proofs.Common.{arith, sym}
-use Rattle.rdf_turtle.specs.Reading.{statement, node}
+use Rattle.rdf_turtle.specs.Inside.Reading.{statement, node}
 use Rattle.rdf_grammar.proofs.Repeats.{grown_starts, grown_on, one_reads}
 use Rattle.rdf_turtle.proofs.statement.document.Goals as goal
 

@@ -1,6 +1,6 @@
 use Rattle.std.proofs.Common.{◌≤◌, length}
 use Rattle.rdf_grammar.specs.Readings.{one, repeat, is_more}
-use Rattle.rdf_turtle.specs.Reading.{statement, node}
+use Rattle.rdf_turtle.specs.Inside.Reading.{statement, node}
 use Rattle.rdf_grammar.proofs.Repeats.{Grown}
 use Rattle.rdf_turtle.proofs.statement.document.Given as goal
 

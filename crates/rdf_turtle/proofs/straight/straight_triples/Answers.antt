@@ -1,29 +1,7 @@
-use Rattle.std.proofs.Common.{◌≡◌, sym, [], arith}
 use Rattle.rdf_turtle.proofs.GrammarWhole.{shallow}
-use Rattle.rdf_turtle.proofs.StraightReading.{read_starts_at, read_on, read_done, some_left}
 use Rattle.rdf_turtle.proofs.straight.straight_triples.Goals as goal
 
-pub loop-parser-init : goal.loop-parser-init
-loop-parser-init c =
-    let none : c.new-declared.result.keys ≡ [] = c.new-declared.ensures.empty in
-    read_starts_at _ _ _ _ _ _ c.requires c.in-Ok.ensures c.in-Ok-new.ensures none c.new-parser.ensures
-
-pub turn-requires-clause-formed : goal.turn-requires-clause-formed
-turn-requires-clause-formed c = c.loop-parser.invariant.formed
-
-pub turn-requires-clause-known : goal.turn-requires-clause-known
-turn-requires-clause-known c = c.loop-parser.invariant.prefixes
-
-pub turn-requires-clause-room : goal.turn-requires-clause-room
-turn-requires-clause-room c = omega (arith, c.loop-parser.invariant.room, some_left _ (sym c.loop-parser-test.ensures))
-
-pub loop-parser-smaller : goal.loop-parser-smaller
-loop-parser-smaller c = c.if-not-turn.ensures.shorter
-
-pub loop-parser-preserved : goal.loop-parser-preserved
-loop-parser-preserved c = read_on c.loop-parser.invariant (sym c.loop-parser-test.ensures) c.if-not-turn.ensures
-
-pub returns : goal.returns
-returns c =
-    let read = read_done c.into_quads.result.items c.loop-parser.invariant (sym c.loop-parser-test.ensures) c.into_quads.ensures in
-    (read.0, shallow c.args.lexemes.now c.too_deep.result c.too_deep.ensures c.in_default.not-Some, read.1, read.2)
+pub returns-in-Ok-Some : goal.returns-in-Ok-Some
+returns-in-Ok-Some c =
+    let found = rw c.in-Ok-Some.field-0-is at c.in-Ok-Some.ensures in
+    (found.0, shallow c.args.lexemes.now c.too_deep.result c.too_deep.ensures c.in_default.not-Some, found.1, found.2)

@@ -3,11 +3,10 @@ use Rattle.std.specs.List.{list_any}
 use Rattle.std.proofs.lemmas.List.Sums.{sum_by-append}
 use Rattle.rdf_terms.specs.declared.term.Term.TheVariants as t
 use Rattle.rdf_terms.specs.declared.quad.GraphName.TheVariants.{Named}
-use Rattle.sparql_algebra.specs.Counts.{always}
-use Rattle.sparql_algebra.specs.Mapping.{same_term, same_mapping}
-use Rattle.sparql_algebra.specs.Solutions.{solutions}
+use Rattle.sparql_values.specs.Mapping.{same_term, same_mapping}
+use Rattle.sparql_algebra.specs.Solutions.{satisfies, solutions}
 use Rattle.sparql_algebra.proofs.CountLawLemmas.{basic_law, cond_counts, variable_law}
-use Rattle.sparql_algebra.proofs.Regroup.{join_law, left_join_law, each_once, each_once_lists}
+use Rattle.sparql_algebra.proofs.Regroup.{join_law, left_join_law, filter_law, each_once, each_once_lists}
 use Rattle.sparql_algebra.proofs.laws.counts_are_the_algebra.Goals as goal
 
 pub returns-clause-basic : goal.returns-clause-basic
@@ -17,7 +16,10 @@ pub returns-clause-join : goal.returns-clause-join
 returns-clause-join c vs d g A B U V lu lv m = join_law (solutions vs d g A) (solutions vs d g B) U V lu lv m
 
 pub returns-clause-left_join : goal.returns-clause-left_join
-returns-clause-left_join c vs d g A B U V lu lv m = left_join_law always (solutions vs d g A) (solutions vs d g B) U V lu lv m
+returns-clause-left_join c vs d g F A B U V lu lv m = left_join_law (satisfies vs F) (solutions vs d g A) (solutions vs d g B) U V lu lv m
+
+pub returns-clause-filter : goal.returns-clause-filter
+returns-clause-filter c vs d g F A m = filter_law (satisfies vs F) (solutions vs d g A) m
 
 pub returns-clause-union : goal.returns-clause-union
 returns-clause-union c vs d g A B m = sum_by-append (λ x. cond (same_mapping m x) 1 0) (solutions vs d g A) (solutions vs d g B)

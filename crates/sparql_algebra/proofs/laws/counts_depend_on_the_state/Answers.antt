@@ -1,5 +1,5 @@
 use Rattle.std.proofs.Common.{cond}
-use Rattle.sparql_algebra.specs.Mapping.{same_mapping}
+use Rattle.sparql_values.specs.Mapping.{same_mapping}
 use Rattle.sparql_algebra.proofs.CountLawLemmas.{assignments_count_once, assignments_listed}
 use Rattle.sparql_algebra.proofs.IndependenceLemmas.{listings_same}
 use Rattle.sparql_algebra.proofs.ListingLemmas.{listing_of, there_is_a_listing, triple_listed, name_listed}

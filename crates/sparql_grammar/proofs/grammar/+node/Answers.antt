@@ -1,12 +1,12 @@
 use Rattle.std.proofs.Common.{arith, sym}
 use Rattle.std.proofs.lemmas.Result.{err_from_is_err_and}
-use Rattle.sparql_grammar.specs.declared.terminal.Terminal.TheVariants as terminal
+use Rattle.sparql_terminals.specs.declared.terminal.Terminal.TheVariants as terminal
 use Rattle.sparql_grammar.specs.Reading.{node, objects, property_list_not_empty}
 use Rattle.rdf_grammar.proofs.Repeats.{grown_starts, grown_on, going_fails, fails_on, fails_first, fails_then, deeper, one_reads, none_pushed, one_pushed}
 use Rattle.rdf_grammar.proofs.Terminals.{grown_behind, grown_fails_behind}
 use Rattle.sparql_grammar.proofs.Turns.{node_seen, sees_some, more_reads, more_fails}
 use Rattle.sparql_grammar.proofs.grammar.+node.Goals as goal
-use Rattle.sparql_grammar.specs.Terminals.{same_terminal}
+use Rattle.sparql_terminals.specs.Terminals.{same_terminal}
 
 -- ---- node
 

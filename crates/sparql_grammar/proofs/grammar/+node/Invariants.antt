@@ -1,7 +1,7 @@
 use Rattle.std.proofs.Common.{◌≤◌, ◌+◌, ◌*◌, length}
-use Rattle.sparql_grammar.specs.declared.terminal.Terminal.TheVariants as terminal
+use Rattle.sparql_terminals.specs.declared.terminal.Terminal.TheVariants as terminal
 use Rattle.rdf_grammar.specs.Steps.{◌>>◌}
-use Rattle.sparql_grammar.specs.Lexemes.{sees, the}
+use Rattle.sparql_terminals.specs.Lexemes.{sees, the}
 use Rattle.rdf_grammar.specs.Readings.{one, repeat}
 use Rattle.sparql_grammar.specs.Reading as spec
 use Rattle.rdf_grammar.proofs.Repeats.{Grown}

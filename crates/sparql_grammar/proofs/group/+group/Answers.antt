@@ -2,11 +2,12 @@ use Rattle.std.proofs.Common.{arith, sym, ap, ◌∙◌}
 use Rattle.std.proofs.lemmas.Result.{err_from_is_err_and}
 use Rattle.rdf_grammar.proofs.Repeats.{grown_starts, grown_on, going_fails, fails_on, fails_first, fails_then, deeper}
 use Rattle.rdf_grammar.proofs.Terminals.{grown_behind, grown_fails_behind}
-use Rattle.sparql_grammar.specs.declared.terminal.Terminal.TheVariants as terminal
-use Rattle.sparql_grammar.specs.GroupReading.{begins_pattern, group, group_or_union, members}
+use Rattle.sparql_terminals.specs.declared.terminal.Terminal.TheVariants as terminal
+use Rattle.sparql_grammar.specs.GroupReading.{begins_pattern, contents, group, group_or_union}
 use Rattle.sparql_grammar.specs.OperationReading.{in_data}
-use Rattle.sparql_grammar.specs.Terminals.{same_terminal}
-use Rattle.sparql_grammar.proofs.GroupTurns.{pattern_some, member_pushed, turn_reads, pattern_fails, block_fails}
+use Rattle.sparql_grammar.specs.QueryReading.{group_within, in_filter}
+use Rattle.sparql_terminals.specs.Terminals.{same_terminal}
+use Rattle.sparql_grammar.proofs.GroupTurns.{pattern_some, turn_reads, pattern_fails, block_fails, filled_starts, filled_on, contents_read}
 use Rattle.sparql_grammar.proofs.OperationTurns.{turn_shorter}
 use Rattle.sparql_grammar.proofs.group.+group.Goals as goal
 
@@ -14,7 +15,7 @@ use Rattle.sparql_grammar.proofs.group.+group.Goals as goal
 
 pub group-returns-clause-reads : goal.group-returns-clause-reads
 unfolding group
-group-returns-clause-reads t c = rw (deeper (λ n. group in_data n c.args.parser.now) c.args.depth (omega arith)) c.group_graph_pattern.ensures.reads
+group-returns-clause-reads t c = rw (deeper (λ n. group_within n c.args.parser.now) c.args.depth (omega arith)) c.group_graph_pattern.ensures.reads
 
 -- ---- groups with UNION between them
 
@@ -37,34 +38,39 @@ group_or_union-loop-groups-preserved t c =
       shorter = omega (arith, c.in_ok-group-2.ensures.shorter, c.loop-groups-test.ensures.shorter);
     }
 
--- ---- members
+-- ---- what stands between the braces
 
-pub members-loop-all-init : goal.members-loop-all-init
-members-loop-all-init t c = record { grown = grown_starts _ _ _ _; shorter = omega arith }
+pub contents-loop-body-init : goal.contents-loop-body-init
+contents-loop-body-init t c = record { filled = filled_starts _ _ _ _ _; shorter = omega arith }
 
-pub members-returns-in_err-pattern-clause-reads : goal.members-returns-in_err-pattern-clause-reads
-unfolding members
-members-returns-in_err-pattern-clause-reads t c =
-    let seen = ap begins_pattern (sym c.peek.ensures) ∙ sym c.loop-all-test.ensures in
-    let p = err_from_is_err_and c.from_residual-in_err-pattern.result c.from_residual-in_err-pattern.ensures.1 in
-    rw (p.1, p.2) (fails_then _ _ _ _ _ c.in_ok-maybe_block.ensures.reads (fails_first _ _ _ (fails_on _ c.in_err-pattern.ensures.reads
-    (λ none. going_fails c.loop-all.invariant.grown.going (pattern_some _ seen) seen (pattern_fails in_data (group in_data c.args.depth) _ none)))))
+pub contents-returns-in_err-pattern_or_filter-clause-reads : goal.contents-returns-in_err-pattern_or_filter-clause-reads
+unfolding contents
+contents-returns-in_err-pattern_or_filter-clause-reads t c =
+    let seen = ap begins_pattern (sym c.peek.ensures) ∙ sym c.loop-body-test.ensures in
+    let p = err_from_is_err_and c.from_residual-in_err-pattern_or_filter.result c.from_residual-in_err-pattern_or_filter.ensures.1 in
+    rw (p.1, p.2) (fails_then _ _ _ _ _ c.in_ok-maybe_block.ensures.reads (fails_first _ _ _ (fails_on _ c.in_err-pattern_or_filter.ensures.reads
+    (λ none. going_fails c.loop-body.invariant.filled.going (pattern_some _ seen) seen (pattern_fails in_data in_filter (group_within c.args.depth) _ none)))))
 
-pub members-returns-in_err-maybe_block-2-clause-reads : goal.members-returns-in_err-maybe_block-2-clause-reads
-unfolding members
-members-returns-in_err-maybe_block-2-clause-reads t c =
-    let seen = ap begins_pattern (sym c.peek.ensures) ∙ sym c.loop-all-test.ensures in
+pub contents-returns-in_err-maybe_block-2-clause-reads : goal.contents-returns-in_err-maybe_block-2-clause-reads
+unfolding contents
+contents-returns-in_err-maybe_block-2-clause-reads t c =
+    let seen = ap begins_pattern (sym c.peek.ensures) ∙ sym c.loop-body-test.ensures in
     let p = err_from_is_err_and c.from_residual-in_err-maybe_block-2.result c.from_residual-in_err-maybe_block-2.ensures.1 in
     rw (p.1, p.2) (fails_then _ _ _ _ _ c.in_ok-maybe_block.ensures.reads (fails_first _ _ _ (fails_on _ c.in_err-maybe_block-2.ensures.reads
-    (λ none. going_fails c.loop-all.invariant.grown.going (pattern_some _ seen) seen
-    (block_fails in_data (group in_data c.args.depth) _ _ _ _ _ c.in_ok-pattern.ensures.reads c.eat.ensures.found c.eat.ensures.left none)))))
+    (λ none. going_fails c.loop-body.invariant.filled.going (pattern_some _ seen) seen
+    (block_fails in_data in_filter (group_within c.args.depth) _ _ _ _ _ c.in_ok-pattern_or_filter.ensures.reads c.eat.ensures.found c.eat.ensures.left none)))))
 
-pub members-loop-all-preserved : goal.members-loop-all-preserved
-members-loop-all-preserved t c =
-    let seen = ap begins_pattern (sym c.peek.ensures) ∙ sym c.loop-all-test.ensures in
-    let less = turn_shorter c.loop-all.parser c.pattern.new.parser c.eat.new.self c.maybe_block-in-loop-all.new.parser c.eat.result c.in_ok-pattern.ensures.shorter c.eat.ensures.left c.in_ok-maybe_block-2.ensures.shorter in
-    let read = turn_reads in_data (group in_data c.args.depth) _ _ _ _ _ _ _ c.in_ok-pattern.ensures.reads c.eat.ensures.found c.eat.ensures.left c.in_ok-maybe_block-2.ensures.reads in
+pub contents-loop-body-preserved : goal.contents-loop-body-preserved
+contents-loop-body-preserved t c =
+    let seen = ap begins_pattern (sym c.peek.ensures) ∙ sym c.loop-body-test.ensures in
+    let less = turn_shorter c.loop-body.parser c.pattern_or_filter.new.parser c.eat.new.self c.maybe_block-in-loop-body.new.parser c.eat.result c.in_ok-pattern_or_filter.ensures.shorter c.eat.ensures.left c.in_ok-maybe_block-2.ensures.shorter in
+    let read = turn_reads in_data in_filter (group_within c.args.depth) _ _ _ _ _ _ _ c.in_ok-pattern_or_filter.ensures.reads c.eat.ensures.found c.eat.ensures.left c.in_ok-maybe_block-2.ensures.reads in
     record {
-      grown = grown_on _ _ _ c.loop-all.invariant.grown seen read less (member_pushed _ _ _ _ _ c.in_ok-push.ensures.ok c.in_ok-push_some-2.ensures);
+      filled = filled_on in_data in_filter (group_within c.args.depth) _ _ _ _ _ c.loop-body.invariant.filled seen read less c.in_ok-put.ensures c.in_ok-put_some-2.ensures;
       shorter = omega (arith, less);
     }
+
+pub contents-returns-clause-reads : goal.contents-returns-clause-reads
+contents-returns-clause-reads t c =
+    let stops = ap begins_pattern (sym c.peek.ensures) ∙ sym c.loop-body-test.ensures in
+    contents_read in_data in_filter (group_within c.args.depth) _ _ _ _ _ _ _ _ c.in_ok-maybe_block.ensures.reads c.new-body.ensures c.in_ok-put_some.ensures c.loop-body.invariant.filled stops c.in_ok-into_group.ensures

@@ -1,7 +1,7 @@
 use Rattle.std.proofs.Common.{arith, sym}
 use Rattle.std.proofs.lemmas.Result.{err_from_is_err_and}
 use Rattle.rdf_grammar.proofs.Repeats.{grown_starts, grown_on, going_fails, fails_on, fails_first, fails_then}
-use Rattle.sparql_grammar.specs.declared.terminal.Terminal.TheVariants.{Graph}
+use Rattle.sparql_terminals.specs.declared.terminal.Terminal.TheVariants.{Graph}
 use Rattle.sparql_grammar.specs.OperationReading.{quads}
 use Rattle.sparql_grammar.specs.Reading.{node, triples_template}
 use Rattle.sparql_grammar.proofs.OperationTurns.{turn_shorter, turn_reads, two_pushed, named_fails, default_fails}

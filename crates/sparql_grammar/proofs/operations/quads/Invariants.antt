@@ -1,10 +1,10 @@
 use Rattle.std.proofs.Common.{◌≤◌, length}
 use Rattle.rdf_grammar.specs.Readings.{repeat}
 use Rattle.rdf_grammar.proofs.Repeats.{Grown}
-use Rattle.sparql_grammar.specs.Lexemes.{sees}
+use Rattle.sparql_terminals.specs.Lexemes.{sees}
 use Rattle.sparql_grammar.specs.OperationReading.{named_and_default}
 use Rattle.sparql_grammar.specs.Reading.{node, triples_template}
-use Rattle.sparql_grammar.specs.declared.terminal.Terminal.TheVariants.{Graph}
+use Rattle.sparql_terminals.specs.declared.terminal.Terminal.TheVariants.{Graph}
 use Rattle.sparql_grammar.proofs.operations.quads.Given as goal
 
 abbrev pub invariant-loop-blocks : goal.invariant-loop-blocks

@@ -1,8 +1,8 @@
 use Rattle.std.proofs.Common.{◌≤◌, length}
 use Rattle.rdf_grammar.specs.Readings.{one, repeat}
 use Rattle.rdf_grammar.proofs.Repeats.{Grown}
-use Rattle.sparql_grammar.specs.declared.terminal.Terminal.TheVariants as terminal
-use Rattle.sparql_grammar.specs.Lexemes.{sees, value}
+use Rattle.sparql_terminals.specs.declared.terminal.Terminal.TheVariants as terminal
+use Rattle.sparql_terminals.specs.Lexemes.{sees, value}
 use Rattle.sparql_grammar.proofs.query.variables.Given as goal
 
 abbrev pub invariant-loop-all : goal.invariant-loop-all

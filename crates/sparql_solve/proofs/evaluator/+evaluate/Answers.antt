@@ -2,9 +2,9 @@ use Rattle.std.proofs.Common.{[], ◌∷◌, ap, refl}
 use Rattle.std.proofs.lemmas.Result.{IfOk-weaker}
 use Rattle.rdf_terms.specs.declared.quad.GraphName.TheVariants.{Named}
 use Rattle.sparql_algebra.specs.Algebra.{translation}
-use Rattle.sparql_algebra.specs.Mapping.{single}
+use Rattle.sparql_values.specs.Mapping.{single}
 use Rattle.sparql_algebra.specs.Solutions.{joins, solutions}
-use Rattle.sparql_solve.proofs.StepLemmas.{unit_gives, members_more, more_gives, union_gives, union_none, joined_gives, all_names_give, group_gives, variable_gives}
+use Rattle.sparql_solve.proofs.StepLemmas.{unit_gives, members_more, more_gives, union_gives, union_none, joined_gives, all_names_give, group_gives, groups_give, optional_gives, variable_gives}
 use Rattle.sparql_solve.proofs.evaluator.+evaluate.Goals as goal
 
 pub member_list_rows-loop-member-init : goal.member_list_rows-loop-member-init
@@ -20,10 +20,10 @@ member_list_rows-loop-member-preserved g t c =
 
 pub group_rows-returns : goal.group_rows-returns
 group_rows-returns g t c =
-    IfOk-weaker c.member_list_rows.result _ _
-    (λ out h. group_gives c.args.variables.now (g.S.Source.contents c.args.source.now) c.args.graph.now c.args.pattern.now c.as_slice.result.now out.items
-    c.as_slice.ensures h)
-    c.member_list_rows.ensures
+    IfOk-weaker c.filtered_rows.result _ _
+    (λ out e. group_gives c.args.variables.now (g.S.Source.contents c.args.source.now) c.args.graph.now c.args.pattern.now c.as_slice-members.result.now
+    c.as_slice-filters.result.now c.in_ok-rows.rows.items out.items c.as_slice-members.ensures c.as_slice-filters.ensures c.in_ok-rows.ensures e)
+    c.filtered_rows.ensures
 
 pub all_graph_rows-returns : goal.all_graph_rows-returns
 all_graph_rows-returns g t c =
@@ -65,3 +65,17 @@ graph_rows-returns-in-Variable g t c =
     (λ out h. variable_gives c.args.variables.now (g.S.Source.contents c.args.source.now) c.args.name.now c.in-Variable.variable c.args.pattern.now out.items
     c.in-Variable.is h)
     c.all_graph_rows.ensures
+
+pub member_rows-returns-in-Union : goal.member_rows-returns-in-Union
+member_rows-returns-in-Union g t c =
+    IfOk-weaker c.union_rows.result _ _
+    (λ out h. groups_give c.args.variables.now (g.S.Source.contents c.args.source.now) c.args.graph.now c.args.member.now c.in-Union.groups
+    c.as_slice.result.now out.items c.in-Union.is c.as_slice.ensures h)
+    c.union_rows.ensures
+
+pub member_rows-returns-in-Optional : goal.member_rows-returns-in-Optional
+member_rows-returns-in-Optional g t c =
+    IfOk-weaker c.member_list_rows.result _ _
+    (λ out h. optional_gives c.args.variables.now (g.S.Source.contents c.args.source.now) c.args.graph.now c.args.member.now c.in-Optional.pattern
+    c.as_slice-members.result.now out.items c.in-Optional.is c.as_slice-members.ensures h)
+    c.member_list_rows.ensures

@@ -1,7 +1,7 @@
 use Rattle.std.proofs.Common.{rules, ◌≡◌}
 use Rattle.std.specs.Ordering.{is_lt}
 use Rattle.std.proofs.lemmas.List.Sorted.{answers_always}
-use Rattle.sparql_algebra.specs.Mapping.{Mapping}
+use Rattle.sparql_values.specs.Mapping.{Mapping}
 use Rattle.sparql_algebra.specs.Order.{mapping_cmp}
 use Rattle.sparql_algebra.proofs.CallerLemmas.{mapping_ranks}
 use Rattle.sparql_solve.proofs.order.sort_rows.Goals as goal

@@ -1,5 +1,5 @@
 use Rattle.std.proofs.Common.{◌≡◌, ◌++◌, drop, map}
-use Rattle.sparql_algebra.specs.Mapping.{column}
+use Rattle.sparql_values.specs.Mapping.{column}
 use Rattle.sparql_solve.proofs.results.columns_of.Given as goal
 
 abbrev pub invariant-loop-name : goal.invariant-loop-name

@@ -1,5 +1,5 @@
 use Rattle.std.proofs.Common.{map}
-use Rattle.sparql_algebra.specs.Mapping.{Mapping, value_in}
+use Rattle.sparql_values.specs.Mapping.{Mapping, value_in}
 use Rattle.sparql_solve.proofs.RowLemmas.{map_more}
 use Rattle.sparql_solve.proofs.results.projected_rows.Goals as goal
 

@@ -1,5 +1,5 @@
 use Rattle.std.proofs.Common.{◌≡◌, ◌++◌, drop, map}
-use Rattle.sparql_algebra.specs.Mapping.{Mapping, value_in}
+use Rattle.sparql_values.specs.Mapping.{Mapping, value_in}
 use Rattle.sparql_solve.proofs.results.projected_rows.Given as goal
 
 abbrev pub invariant-loop-row : goal.invariant-loop-row

@@ -3,5 +3,5 @@ use Rattle.sparql_solve.proofs.results.solve.Goals as goal
 
 pub returns : goal.returns
 returns g c =
-    solved c.args.pattern.now c.args.graph.now (g.S.Source.contents c.args.source.now) c.in_ok-variables.variables c.as_slice.result.now c.in_ok-rows.rows.items
-    c.in_ok-variables.ensures c.as_slice.ensures c.in_ok-rows.ensures
+    solved c.args.pattern.now c.args.graph.now (g.S.Source.contents c.args.source.now) c.in_ok-variables.variables c.as_slice-names.result.now c.in_ok-rows.rows.items
+    c.in_ok-variables.ensures c.as_slice-names.ensures c.in_ok-rows.ensures

@@ -1,7 +1,7 @@
 use Rattle.std.proofs.Common.{rules, ◌≡◌, Some, slice_get, subst}
 use Rattle.std.specs.Str.{chars}
 use Rattle.rdf_tokens.specs.declared.token.Token.{Token as Held}
-use Rattle.sparql_grammar.specs.Lexemes.{AreLexemes, Lexemes}
+use Rattle.sparql_terminals.specs.Lexemes.{AreLexemes, Lexemes}
 use Rattle.sparql_grammar.specs.Nesting.{IsTooDeep}
 use Rattle.sparql_grammar.specs.OperationGrammar.{IsRequest}
 use Rattle.sparql_grammar.specs.Stops.{Explains}

@@ -1,7 +1,7 @@
 use Rattle.std.proofs.Common.{rules, ◌≡◌, Some, slice_get}
 use Rattle.std.specs.Str.{chars}
 use Rattle.rdf_tokens.specs.declared.token.Token.{Token as Held}
-use Rattle.sparql_grammar.specs.Profile.{IsFirstOutside}
+use Rattle.sparql_terminals.specs.Profile.{IsFirstOutside}
 use Rattle.sparql_syntax.proofs.TellLemmas.{out_of_profile}
 use Rattle.sparql_syntax.proofs.text.check_profile.Goals as goal
 

@@ -1,10 +1,9 @@
-use Rattle.std.proofs.Common.{◌≡◌, ◌∙◌, ap, sym, subst, true, map, drop, ◌+◌, arith}
+use Rattle.std.proofs.Common.{◌≡◌, ◌∙◌, sym, subst, true, map, drop, ◌+◌, arith}
 use Rattle.std.specs.List.{list_all}
 use Rattle.rdf_turtle.specs.Known.{holds, known_node, known_property}
 use Rattle.rdf_turtle.specs.Meaning as spec
-use Rattle.rdf_grammar.specs.Numbering.{Numbering}
 use Rattle.rdf_grammar.specs.Prologue.{Prologue, declared}
-use Rattle.rdf_turtle.specs.Proper.{proper_node, proper_property}
+use Rattle.rdf_turtle.specs.Inside.Proper.{proper_node, proper_property}
 use Rattle.rdf_turtle.proofs.ProperLists.{next_member}
 use Rattle.rdf_turtle.proofs.ScopeLoops.{next_step, next_cell}
 use Rattle.rdf_turtle.proofs.scope.Scope.+inside.Goals as goal
@@ -13,22 +12,19 @@ pub behind-loop-item-preserved : goal.behind-loop-item-preserved
 behind-loop-item-preserved t c =
     let i = c.loop-item.item-index in
     let items = c.args.items.now in
-    let same : c.object.new.self.prologue ≡ c.loop-item.self.prologue = c.object.ensures.prologue ∙ c.says.ensures.prologue ∙ c.fresh-next.ensures.prologue in
-    let number : c.says.new.self.numbering.next ≡ c.fresh-next.new.self.numbering.next = ap (λ (n : Numbering). n.next) c.says.ensures.number in
+    let same : c.next_cell.new.self.prologue ≡ c.loop-item.self.prologue = c.next_cell.ensures.prologue in
     let known = next_member (known_node (declared c.loop-item.self.prologue)) items i c.item-item.result c.loop-item-test.true c.item-item.is c.loop-item.invariant.known in
     let proper = next_member proper_node items i c.item-item.result c.loop-item-test.true c.item-item.is c.loop-item.invariant.proper in
     record {
       says = c.loop-item.invariant.says
-          ∙ next_cell c.loop-item.cell c.fresh-next.result c.in_ok-said.said c.in_ok-first.first c.in_ok-rest.rest items i c.item-item.result
-          c.loop-item.self c.fresh-next.new.self c.says.new.self c.object.new.self
-          (c.in_ok-first.ensures ∙ c.rdf_first.ensures) (c.in_ok-rest.ensures ∙ c.rdf_rest.ensures) c.in_ok-said.ensures c.loop-item-test.true c.item-item.is
-          c.fresh-next.ensures.gives c.in_ok-says.ensures.gives c.in_ok-object.ensures.gives;
+          ∙ next_cell c.loop-item.cell c.in_ok-next.next c.in_ok-first.first c.in_ok-rest.rest items i c.item-item.result c.loop-item.self c.next_cell.new.self
+          (c.in_ok-first.ensures ∙ c.rdf_first.ensures) (c.in_ok-rest.ensures ∙ c.rdf_rest.ensures) c.loop-item-test.true c.item-item.is c.in_ok-next.ensures.gives;
       prologue = same ∙ c.loop-item.invariant.prologue;
       known = subst (λ (p : Prologue). list_all holds (map (known_node (declared p)) (drop (i + 1) items)) ≡ true) (sym same) known.1;
       proper = proper.1;
-      subject = c.fresh-next.ensures.kind;
-      room = omega (arith, c.loop-item.invariant.room, c.fresh-next.ensures.room, number, c.in_ok-says.ensures.more, c.in_ok-object.ensures.room);
-      takes = omega (arith, c.loop-item.invariant.takes, c.fresh-next.ensures.room, number, c.in_ok-says.ensures.more, c.in_ok-object.ensures.room);
+      subject = c.in_ok-next.ensures.kind;
+      room = omega (arith, c.loop-item.invariant.room, c.in_ok-next.ensures.room);
+      takes = omega (arith, c.loop-item.invariant.takes, c.in_ok-next.ensures.room);
     }
 
 pub objects-loop-node-preserved : goal.objects-loop-node-preserved

@@ -4,8 +4,8 @@ use Rattle.rdf_terms.specs.Term.{is_literal_term}
 use Rattle.rdf_turtle.specs.Known.{holds, known_node, known_property}
 use Rattle.rdf_turtle.specs.Meaning as spec
 use Rattle.rdf_grammar.specs.Prologue.{declared}
-use Rattle.rdf_turtle.specs.Proper.{proper_node, proper_property}
-use Rattle.rdf_turtle.specs.Room.{HasRoom, TakesAtMost}
+use Rattle.rdf_turtle.specs.Inside.Proper.{proper_node, proper_property}
+use Rattle.rdf_turtle.specs.Inside.Room.{HasRoom, TakesAtMost}
 use Rattle.rdf_grammar.specs.Steps.{each}
 use Rattle.rdf_turtle.proofs.scope.Scope.+inside.Given as goal
 

@@ -4,7 +4,7 @@ use Rattle.std.specs.Vec.Iter.{into_iter_items}
 use Rattle.rdf_turtle.specs.Known.{holds, declares_first}
 use Rattle.rdf_turtle.specs.Meaning as spec
 use Rattle.rdf_grammar.specs.Prologue.{declared}
-use Rattle.rdf_turtle.specs.Proper.{proper_statement}
+use Rattle.rdf_turtle.specs.Inside.Proper.{proper_statement}
 use Rattle.rdf_turtle.proofs.scope.Scope.document.Given as goal
 
 abbrev pub invariant-loop-statement : goal.invariant-loop-statement

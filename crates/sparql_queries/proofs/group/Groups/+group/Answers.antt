@@ -1,15 +1,24 @@
 use Rattle.std.proofs.Common.{◌≡◌, ◌∙◌, ap, sym, subst, rules, Some, List, [], ◌∷◌, ◌++◌, ◌+◌, map, drop}
 use Rattle.rdf_grammar.specs.Prologue.{Prologue, declared}
 use Rattle.sparql_drafts.proofs.ScopeLoops.{next_member}
-use Rattle.sparql_drafts.specs.Kept.{Fails}
+use Rattle.sparql_drafts.specs.Kept.{Fails, Gives, Tells}
 use Rattle.sparql_queries.specs.Collected.{collected, collected_behind}
+use Rattle.sparql_queries.specs.Expressions.{all, expression_in}
 use Rattle.sparql_queries.specs.Groups as spec
 use Rattle.sparql_queries.specs.Known as known
 use Rattle.sparql_grammar.specs.Proper as proper
-use Rattle.sparql_queries.proofs.GroupLemmas.{next_collected, next_fails, graph_said, graph_fails}
+use Rattle.sparql_queries.proofs.GroupLemmas.{next_collected, next_fails, group_gives, graph_said, graph_fails}
 use Rattle.sparql_trees.specs.declared.pattern.Member.{Member}
 use Rattle.sparql_trees.specs.declared.pattern.Pattern.{Pattern}
 use Rattle.sparql_queries.proofs.group.Groups.+group.Goals as goal
+
+pub group-returns-clause-gives : goal.group-returns-clause-gives
+group-returns-clause-gives t c =
+    let now = c.args.self.now in
+    let members : Gives (collected (map (spec.member_in c.asked-filters.new.self.scope.prologue) c.args.group.now.members) c.asked-filters.new.self.labels) c.members-members.result c.members-members.new.self.labels = search rules in
+    let filters : Tells (all (map (expression_in now.scope.prologue) c.args.group.now.filters)) c.asked-filters.result = search rules in
+    group_gives now.scope.prologue c.asked-filters.new.self.scope.prologue c.args.group.now now.labels c.asked-filters.new.self.labels c.members-members.new.self.labels c.members-members.result c.asked-filters.result c.grouped.result
+    c.asked-filters.ensures.prologue c.asked-filters.ensures.labels members filters c.grouped.ensures
 
 pub groups-loop-group-preserved : goal.groups-loop-group-preserved
 groups-loop-group-preserved t c =

@@ -1,7 +1,7 @@
 use Rattle.std.specs.Slice.Iter.{iter_rest}
 use Rattle.std.specs.Iterator.Adapters.{zip_first, zip_second}
 use Rattle.std.proofs.lemmas.Slice.Zip.{either_empty_from_Zip}
-use Rattle.sparql_algebra.specs.Mapping.{merge, first_of}
+use Rattle.sparql_values.specs.Mapping.{merge, first_of}
 use Rattle.sparql_solve.proofs.RowLemmas.{zip_done}
 use Rattle.sparql_solve.proofs.rows.Row.merged.Goals as goal
 

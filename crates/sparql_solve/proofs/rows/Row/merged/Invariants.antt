@@ -2,7 +2,7 @@ use Rattle.std.proofs.Common.{◌≡◌, ◌++◌, map}
 use Rattle.std.specs.List.{zip}
 use Rattle.std.specs.Slice.Iter.{iter_rest}
 use Rattle.std.specs.Iterator.Adapters.{zip_first, zip_second}
-use Rattle.sparql_algebra.specs.Mapping.{first_of}
+use Rattle.sparql_values.specs.Mapping.{first_of}
 use Rattle.sparql_solve.proofs.rows.Row.merged.Given as goal
 
 abbrev pub invariant-loop-x : goal.invariant-loop-x

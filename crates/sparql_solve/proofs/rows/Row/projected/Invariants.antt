@@ -1,5 +1,5 @@
 use Rattle.std.proofs.Common.{◌≡◌, ◌++◌, drop, map}
-use Rattle.sparql_algebra.specs.Mapping.{value_in}
+use Rattle.sparql_values.specs.Mapping.{value_in}
 use Rattle.sparql_solve.proofs.rows.Row.projected.Given as goal
 
 abbrev pub invariant-loop-column : goal.invariant-loop-column

@@ -1,0 +1,10 @@
+-- What only private functions speak of.
+pub mod Cells
+pub mod Formed
+pub mod Kept
+pub mod LinedFaults
+pub mod Proper
+pub mod Reading
+pub mod Room
+pub mod Stops
+pub mod Turns

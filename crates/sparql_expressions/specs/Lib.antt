@@ -1,0 +1,4 @@
+pub mod ExpressionGrammar
+pub mod ExpressionLaws
+pub mod ExpressionReading
+pub mod ProperExpressions

@@ -1,0 +1,238 @@
+//! What expressions say (SPARQL 1.1 Query, sections 4.1 and 17).
+ghost use Rattle.std.specs.Prelude.{◌≡◌, IsTrue, map, option_map};
+ghost use Rattle.std.specs.List.{list_all};
+ghost use Rattle.rdf_grammar.specs.Literals.{known_literal, literal_of, proper_literal};
+ghost use Rattle.rdf_grammar.specs.Prologue.{declared, iri_of, is_proper, knows};
+ghost use Rattle.sparql_drafts.specs.Kept.{Tells};
+ghost use Rattle.sparql_expressions.specs.ProperExpressions as proper;
+ghost use Rattle.sparql_grammar.specs.Proper.{holds};
+ghost use Rattle.sparql_queries.specs.Addends as addends;
+ghost use Rattle.sparql_queries.specs.Expressions as spec;
+ghost use Rattle.sparql_queries.specs.Known as known;
+
+use crate::basic::variable_name;
+use rdf_grammar::{Literal, Name, PrologueFault};
+use rdf_terms::{Items, Term};
+use sparql_drafts::Scope;
+use sparql_expressions::Expression as Written;
+use sparql_trees::{Boxed, Expression, Function, Sign};
+use std::alloc::Global;
+
+fn name<'a>(scope: &mut Scope<'a>, written: &Name<'a>) -> Result<Expression, PrologueFault>
+    requires known { IsTrue (knows (declared scope.old.prologue) written.now) }
+    requires proper { IsTrue (is_proper written.now) }
+    ensures tells { let found = iri_of written.now scope.old.prologue in
+        Tells (option_map (λ iri. Expression.Term (Term.Iri iri)) found) result }
+    ensures prologue { scope.new.prologue ≡ scope.old.prologue }
+{
+    Ok(Expression::Term(Term::Iri(scope.iri(written)?)))
+}
+
+fn literal<'a>(scope: &mut Scope<'a>, written: &Literal<'a>) -> Result<Expression, PrologueFault>
+    requires known { IsTrue (known_literal (declared scope.old.prologue) written.now) }
+    requires proper { IsTrue (proper_literal written.now) }
+    ensures tells { let found = literal_of written.now scope.old.prologue in
+        Tells (option_map (λ parts. Expression.Term (Term.Literal parts)) found) result }
+    ensures prologue { scope.new.prologue ≡ scope.old.prologue }
+{
+    Ok(Expression::Term(Term::Literal(scope.literal(written)?)))
+}
+
+/// What an expression says.
+#[cycle(expression)]
+pub(crate) fn expression<'a>(
+    alloc: Global,
+    scope: &mut Scope<'a>,
+    written: &Written<'a>,
+) -> Result<Expression, PrologueFault>
+    requires known { let knows = known.known_expression (declared scope.old.prologue) in
+        IsTrue (knows written.now) }
+    requires proper { IsTrue (proper.proper_expression written.now) }
+    ensures tells { Tells (spec.expression_in scope.old.prologue written.now) result }
+    ensures prologue { scope.new.prologue ≡ scope.old.prologue }
+{
+    match written {
+        Written::Or(operands) => or(alloc, scope, operands.as_slice()),
+        Written::And(operands) => and(alloc, scope, operands.as_slice()),
+        Written::Compare(operator, left, right) => {
+            let left = boxed(alloc, scope, left)?;
+            let right = boxed(alloc, scope, right)?;
+            Ok(Expression::Compare(*operator, left, right))
+        }
+        Written::Sum(first, others) => {
+            let left = boxed(alloc, scope, first)?;
+            let right = addends(alloc, scope, others.as_slice())?;
+            Ok(Expression::Sum(left, right))
+        }
+        Written::Product(operands) => product(alloc, scope, operands.as_slice()),
+        Written::Not(operand) => not(alloc, scope, operand),
+        Written::Signed(sign, operand) => signed(alloc, scope, *sign, operand),
+        Written::Variable(variable) => Ok(Expression::Variable(variable_name(alloc, variable)?)),
+        Written::Name(written) => name(scope, written),
+        Written::Literal(written) => literal(scope, written),
+        Written::Bound(variable) => Ok(Expression::Bound(variable_name(alloc, variable)?)),
+        Written::SameTerm(left, right) => {
+            let left = boxed(alloc, scope, left)?;
+            let right = boxed(alloc, scope, right)?;
+            Ok(Expression::SameTerm(left, right))
+        }
+        Written::Call(function, operand) => call(alloc, scope, *function, operand),
+    }
+}
+
+#[cycle(expression)]
+fn or<'a>(
+    alloc: Global,
+    scope: &mut Scope<'a>,
+    operands: &[Written<'a>],
+) -> Result<Expression, PrologueFault>
+    requires known { let knows = known.known_expression (declared scope.old.prologue) in
+        IsTrue (list_all holds (map knows operands.now)) }
+    requires proper { IsTrue (list_all holds (map proper.proper_expression operands.now)) }
+    ensures tells { let says = spec.expression_in scope.old.prologue in
+        Tells (option_map Expression.Or (spec.all (map says operands.now))) result }
+    ensures prologue { scope.new.prologue ≡ scope.old.prologue }
+{
+    Ok(Expression::Or(expressions(alloc, scope, operands)?))
+}
+
+#[cycle(expression)]
+fn and<'a>(
+    alloc: Global,
+    scope: &mut Scope<'a>,
+    operands: &[Written<'a>],
+) -> Result<Expression, PrologueFault>
+    requires known { let knows = known.known_expression (declared scope.old.prologue) in
+        IsTrue (list_all holds (map knows operands.now)) }
+    requires proper { IsTrue (list_all holds (map proper.proper_expression operands.now)) }
+    ensures tells { let says = spec.expression_in scope.old.prologue in
+        Tells (option_map Expression.And (spec.all (map says operands.now))) result }
+    ensures prologue { scope.new.prologue ≡ scope.old.prologue }
+{
+    Ok(Expression::And(expressions(alloc, scope, operands)?))
+}
+
+#[cycle(expression)]
+fn product<'a>(
+    alloc: Global,
+    scope: &mut Scope<'a>,
+    operands: &[Written<'a>],
+) -> Result<Expression, PrologueFault>
+    requires known { let knows = known.known_expression (declared scope.old.prologue) in
+        IsTrue (list_all holds (map knows operands.now)) }
+    requires proper { IsTrue (list_all holds (map proper.proper_expression operands.now)) }
+    ensures tells { let says = spec.expression_in scope.old.prologue in
+        Tells (option_map Expression.Product (spec.all (map says operands.now))) result }
+    ensures prologue { scope.new.prologue ≡ scope.old.prologue }
+{
+    Ok(Expression::Product(expressions(alloc, scope, operands)?))
+}
+
+#[cycle(expression)]
+fn not<'a>(
+    alloc: Global,
+    scope: &mut Scope<'a>,
+    operand: &Boxed<Written<'a>>,
+) -> Result<Expression, PrologueFault>
+    requires known { let knows = known.known_expression (declared scope.old.prologue) in
+        IsTrue (knows operand.now) }
+    requires proper { IsTrue (proper.proper_expression operand.now) }
+    ensures tells { let says = spec.expression_in scope.old.prologue in
+        Tells (option_map Expression.Not (says operand.now)) result }
+    ensures prologue { scope.new.prologue ≡ scope.old.prologue }
+{
+    Ok(Expression::Not(boxed(alloc, scope, operand)?))
+}
+
+#[cycle(expression)]
+fn signed<'a>(
+    alloc: Global,
+    scope: &mut Scope<'a>,
+    sign: Sign,
+    operand: &Boxed<Written<'a>>,
+) -> Result<Expression, PrologueFault>
+    requires known { let knows = known.known_expression (declared scope.old.prologue) in
+        IsTrue (knows operand.now) }
+    requires proper { IsTrue (proper.proper_expression operand.now) }
+    ensures tells { let says = spec.expression_in scope.old.prologue in
+        Tells (option_map (Expression.Signed sign) (says operand.now)) result }
+    ensures prologue { scope.new.prologue ≡ scope.old.prologue }
+{
+    Ok(Expression::Signed(sign, boxed(alloc, scope, operand)?))
+}
+
+#[cycle(expression)]
+fn call<'a>(
+    alloc: Global,
+    scope: &mut Scope<'a>,
+    function: Function,
+    operand: &Boxed<Written<'a>>,
+) -> Result<Expression, PrologueFault>
+    requires known { let knows = known.known_expression (declared scope.old.prologue) in
+        IsTrue (knows operand.now) }
+    requires proper { IsTrue (proper.proper_expression operand.now) }
+    ensures tells { let says = spec.expression_in scope.old.prologue in
+        Tells (option_map (Expression.Call function) (says operand.now)) result }
+    ensures prologue { scope.new.prologue ≡ scope.old.prologue }
+{
+    Ok(Expression::Call(function, boxed(alloc, scope, operand)?))
+}
+
+#[cycle(expression)]
+fn boxed<'a>(
+    alloc: Global,
+    scope: &mut Scope<'a>,
+    written: &Boxed<Written<'a>>,
+) -> Result<Boxed<Expression>, PrologueFault>
+    requires known { let knows = known.known_expression (declared scope.old.prologue) in
+        IsTrue (knows written.now) }
+    requires proper { IsTrue (proper.proper_expression written.now) }
+    ensures tells { Tells (spec.expression_in scope.old.prologue written.now) result }
+    ensures prologue { scope.new.prologue ≡ scope.old.prologue }
+{
+    let said = expression(alloc, scope, written.get())?;
+    Ok(Boxed::new(alloc, said)?)
+}
+
+/// What each of these expressions says.
+#[cycle(expression)]
+pub(crate) fn expressions<'a>(
+    alloc: Global,
+    scope: &mut Scope<'a>,
+    written: &[Written<'a>],
+) -> Result<Items<Expression>, PrologueFault>
+    requires known { let knows = known.known_expression (declared scope.old.prologue) in
+        IsTrue (list_all holds (map knows written.now)) }
+    requires proper { IsTrue (list_all holds (map proper.proper_expression written.now)) }
+    ensures tells { let says = spec.expression_in scope.old.prologue in
+        Tells (spec.all (map says written.now)) result }
+    ensures prologue { scope.new.prologue ≡ scope.old.prologue }
+{
+    let mut made = Items::new(alloc);
+    for one in written {
+        let said = expression(alloc, scope, one)?;
+        made.push(said)?;
+    }
+    Ok(made)
+}
+
+#[cycle(expression)]
+fn addends<'a>(
+    alloc: Global,
+    scope: &mut Scope<'a>,
+    written: &[(Sign, Written<'a>)],
+) -> Result<Items<(Sign, Expression)>, PrologueFault>
+    requires known { let knows = known.known_expression (declared scope.old.prologue) in
+        IsTrue (addends.each_value knows written.now) }
+    requires proper { IsTrue (addends.each_value proper.proper_expression written.now) }
+    ensures tells { let says = addends.addend_in scope.old.prologue in
+        Tells (spec.all (map says written.now)) result }
+    ensures prologue { scope.new.prologue ≡ scope.old.prologue }
+{
+    let mut made = Items::new(alloc);
+    for one in written {
+        let said = expression(alloc, scope, &one.1)?;
+        made.push((one.0, said))?;
+    }
+    Ok(made)
+}

@@ -1,0 +1,16 @@
+-- A condition asked expression by expression.
+use Rattle.std.proofs.Common.{◌≡◌, ℕ, ◌+◌, ◌<◌, Bool, ◌&&◌, List, ◌∷◌, sym, ap, ◌∙◌, length, drop, get_or}
+use Rattle.std.proofs.lemmas.List.{drop_more}
+use Rattle.sparql_trees.specs.declared.expression.Expression.{Expression}
+use Rattle.sparql_values.specs.Mapping.{Variables, Mapping, value_of}
+use Rattle.sparql_values.specs.Values.{is_satisfied}
+use Rattle.sparql_algebra.specs.Solutions.{satisfies}
+
+-- the answer of the expression at this place, asked of the values that a row gives
+pub asked : (vs : Variables) (F : List Expression) (i : ℕ) (x : Expression) (m values : Mapping) (answer whole : Bool) → i < length F → x ≡ get_or F i x →
+    satisfies vs (drop i F) m ≡ whole → values ≡ m → answer ≡ is_satisfied (value_of vs values) x → (answer && satisfies vs (drop (i + 1) F) m) ≡ whole
+asked vs F i x m values answer whole lt here h ev e =
+    let rest : List Expression = drop (i + 1) F in
+    let next : drop i F ≡ x ∷ rest = drop_more F i x lt ∙ ap (λ (y : Expression). y ∷ rest) (sym here) in
+    ap (λ b. b && satisfies vs rest m) (e ∙ ap (λ (w : Mapping). is_satisfied (value_of vs w) x) ev)
+    ∙ ap (λ (G : List Expression). satisfies vs G m) (sym next) ∙ h

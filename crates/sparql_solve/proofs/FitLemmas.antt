@@ -1,0 +1,85 @@
+-- A term that a place of a row refuses, it refuses in each row that grows from that one.
+use Rattle.std.proofs.Common.{◌≡◌, ℕ, zero, suc, Bool, true, false, cond, ◌&&◌, [], ◌∷◌, Option, Some, None, refl, sym, ap, ◌∙◌, is_some, subst}
+use Rattle.std.specs.Prelude.{slice_get, slice_set, option_and_then}
+use Rattle.rdf_terms.specs.Quad.{QuadParts}
+use Rattle.rdf_terms.specs.declared.term.Term.{Term}
+use Rattle.sparql_values.specs.Mapping.{Mapping, same_term}
+use Rattle.sparql_solve.specs.Matching.{assigned_at, assigned, matched, fits}
+use Rattle.sparql_solve.specs.declared.place.Place.{Place}
+use Rattle.sparql_solve.specs.declared.place.Place.TheVariants.{Fixed, Column, Nowhere}
+use Rattle.sparql_solve.specs.declared.place.Places.{Places}
+
+-- whether a column that has this may have the term
+abbrev admits : Option (Option Term) → Term → Bool
+admits (Some (Some t)) u = same_term t u
+admits (Some None) u = true
+admits None u = false
+
+some_where : {X : Type 0} (b : Bool) (x : X) → is_some (cond b (Some x) None) ≡ b
+some_where true x = refl
+some_where false x = refl
+
+assigned_admits : (m : Mapping) (c : ℕ) (u : Term) (o : Option (Option Term)) → is_some (assigned_at m c u o) ≡ admits o u
+assigned_admits m c u (Some (Some t)) = some_where (same_term t u) m
+assigned_admits m c u (Some None) = refl
+assigned_admits m c u None = refl
+
+set_refuses : (m : Mapping) (c d : ℕ) (u v : Term) → slice_get m d ≡ Some None → admits (slice_get m c) u ≡ false →
+    admits (slice_get (slice_set m d (Some v)) c) u ≡ false
+set_refuses [] c d u v h r = cc
+set_refuses (x ∷ m) zero zero u v h r = let t : admits (Some x) u ≡ true = ap (λ o. admits o u) h in cc
+set_refuses (x ∷ m) (suc c) zero u v h r = r
+set_refuses (x ∷ m) zero (suc d) u v h r = r
+set_refuses (x ∷ m) (suc c) (suc d) u v h r = set_refuses m c d u v h r
+
+module _ (m k : Mapping) (c : ℕ) (u : Term) (r : admits (slice_get m c) u ≡ false) where
+  from_same : (b : Bool) → cond b (Some m) None ≡ Some k → admits (slice_get k c) u ≡ false
+  from_same true e = subst (λ (l : Mapping). admits (slice_get l c) u ≡ false) (some_is e) r
+    where
+      some_is : {X : Type 0} {x y : X} → Some x ≡ Some y → x ≡ y
+      some_is e = cc
+  from_same false e = cc
+
+  from_column : (d : ℕ) (v : Term) (o : Option (Option Term)) → slice_get m d ≡ o → assigned_at m d v o ≡ Some k → admits (slice_get k c) u ≡ false
+  from_column d v (Some (Some t)) h e = from_same (same_term t v) e
+  from_column d v (Some None) h e =
+      let is : slice_set m d (Some v) ≡ k = cc in
+      subst (λ (l : Mapping). admits (slice_get l c) u ≡ false) is (set_refuses m c d u v h r)
+  from_column d v None h e = cc
+
+  from_place : (y : Place) (v : Term) → assigned m y v ≡ Some k → admits (slice_get k c) u ≡ false
+  from_place (Fixed t) v e = from_same (same_term t v) e
+  from_place (Column d) v e = from_column d v (slice_get m d) refl e
+  from_place Nowhere v e = cc
+
+refuses : (m k : Mapping) (x y : Place) (u v : Term) → assigned m y v ≡ Some k → is_some (assigned m x u) ≡ false → is_some (assigned k x u) ≡ false
+refuses m k (Fixed t) y u v e r = some_where (same_term t u) k ∙ sym (some_where (same_term t u) m) ∙ r
+refuses m k (Column c) y u v e r =
+    assigned_admits k c u (slice_get k c) ∙ from_place m k c u (sym (assigned_admits m c u (slice_get m c)) ∙ r) y v e
+refuses m k Nowhere y u v e r = refl
+
+is_none : {X : Type 0} (o : Option X) → is_some o ≡ false → o ≡ None
+is_none None h = refl
+is_none (Some x) h = cc
+
+-- a triple of which one term is refused at its place is no match
+pub no_fit : (p : Places) (m : Mapping) (q : QuadParts) → fits p m q ≡ false → matched p m q ≡ None
+no_fit p m q h = by_predicate (assigned m p.predicate q.predicate) refl h
+  where
+    by_object : (k : Mapping) → is_some (assigned k p.object q.object) ≡ false → (s : Option Mapping) → assigned k p.subject q.subject ≡ s →
+        option_and_then (λ l. assigned l p.object q.object) s ≡ None
+    by_object k r None e = refl
+    by_object k r (Some l) e = is_none (assigned l p.object q.object) (refuses k l p.object p.subject q.object q.subject e r)
+
+    by_subject : (k : Mapping) → assigned m p.predicate q.predicate ≡ Some k → (b : Bool) → is_some (assigned m p.subject q.subject) ≡ b →
+        (b && is_some (assigned m p.object q.object)) ≡ false → option_and_then (λ l. assigned l p.object q.object) (assigned k p.subject q.subject) ≡ None
+    by_subject k e true s r = by_object k (refuses m k p.object p.predicate q.object q.predicate e r) (assigned k p.subject q.subject) refl
+    by_subject k e false s r =
+        ap (option_and_then (λ l. assigned l p.object q.object))
+        (is_none (assigned k p.subject q.subject) (refuses m k p.subject p.predicate q.subject q.predicate e s))
+
+    by_predicate : (o : Option Mapping) → assigned m p.predicate q.predicate ≡ o →
+        (is_some o && (is_some (assigned m p.subject q.subject) && is_some (assigned m p.object q.object))) ≡ false →
+        option_and_then (λ k. option_and_then (λ l. assigned l p.object q.object) (assigned k p.subject q.subject)) o ≡ None
+    by_predicate None e r = refl
+    by_predicate (Some k) e r = by_subject k e (is_some (assigned m p.subject q.subject)) refl r

@@ -1,0 +1,47 @@
+//! Filter of rows (SPARQL 1.1 Query, section 18.5).
+ghost use Rattle.std.specs.Prelude.{◌≡◌, IfOk, filter};
+ghost use Rattle.sparql_algebra.specs.Solutions.{satisfies};
+
+use crate::rows::Row;
+use rdf_terms::{NoMemory, Text, Vocabulary};
+use sparql_trees::Expression;
+use sparql_values::is_satisfied;
+use std::alloc::Global;
+
+// Whether each of the filters is true of the row.
+fn satisfies(
+    alloc: Global,
+    variables: &[Text],
+    vocabulary: &Vocabulary,
+    row: &Row,
+    filters: &[Expression],
+) -> Result<bool, NoMemory>
+    ensures { IfOk result (λ b. b ≡ satisfies variables.now filters.now row.now) }
+{
+    for filter in filters {
+        if !is_satisfied(alloc, variables, row.values(), vocabulary, filter)? {
+            return Ok(false);
+        }
+    }
+    Ok(true)
+}
+
+/// The rows of which each of the filters is true, neither false nor an error.
+pub(crate) fn filtered_rows(
+    alloc: Global,
+    variables: &[Text],
+    vocabulary: &Vocabulary,
+    rows: Vec<Row>,
+    filters: &[Expression],
+) -> Result<Vec<Row>, NoMemory>
+    ensures { IfOk result
+        (λ out. out.items ≡ filter (satisfies variables.now filters.now) rows.items) }
+{
+    let mut out = Vec::new(alloc);
+    for row in rows {
+        if satisfies(alloc, variables, vocabulary, &row, filters)? {
+            out.push(row)?;
+        }
+    }
+    Ok(out)
+}

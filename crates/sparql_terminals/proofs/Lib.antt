@@ -1,0 +1,6 @@
+pub mod FormedPieces
+pub mod Gives
+pub mod GrammarWords
+pub mod Keywords
+pub mod ProfileTokens
+pub mod WordGives

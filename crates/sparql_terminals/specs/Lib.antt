@@ -1,0 +1,6 @@
+pub mod Formed
+pub mod Lexemes
+pub mod Profile
+pub mod Terminals
+pub mod WordGrammar
+pub mod WordReading

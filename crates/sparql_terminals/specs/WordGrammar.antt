@@ -1,0 +1,14 @@
+-- Names and literals as the grammar writes them, which Turtle and SPARQL share (SPARQL 1.1 Query, section 19.8).
+use Rattle.rdf_grammar.specs.declared.tree.Name.{Name}
+use Rattle.rdf_grammar.specs.declared.tree.Literal.{Literal}
+use Rattle.rdf_grammar.specs.Productions as productions
+use Rattle.sparql_terminals.specs.Lexemes.{Derives}
+use Rattle.sparql_terminals.specs.Terminals.{word}
+
+-- 136: iri = IRIREF | PrefixedName
+abbrev pub Iri : Derives Name
+Iri = productions.Iri word
+
+-- RDFLiteral (129) | NumericLiteral (130) | BooleanLiteral (134)
+abbrev pub ALiteral : Derives Literal
+ALiteral = productions.ALiteral word

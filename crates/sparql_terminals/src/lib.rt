@@ -1,0 +1,13 @@
+//! SPARQL's terminals: tokens as its grammar sees them (SPARQL 1.1 Query, section 19.8), and the
+//! words that this profile leaves out.
+#![tactic(auto)]
+
+mod laws;
+mod lexeme;
+mod outside;
+mod terminal;
+
+pub use laws::lexemes_have_forms;
+pub use lexeme::{Lexeme, Parser};
+pub use outside::first_outside;
+pub use terminal::Terminal;

@@ -1,0 +1,5 @@
+pub mod Laws
+pub mod Mapping
+pub mod Operands
+pub mod Scopes
+pub mod Values

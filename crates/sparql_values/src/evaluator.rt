@@ -1,0 +1,200 @@
+//! The value of an expression (SPARQL 1.1 Query, section 17.2).
+ghost use Rattle.std.specs.Prelude.{◌≡◌, IfOk, Some, true, false, map, pos};
+ghost use Rattle.std.specs.List.{fold};
+ghost use Rattle.std.specs.Option.{option_map, option_and_then};
+ghost use Rattle.sparql_values.specs.Mapping.{same_term};
+ghost use Rattle.sparql_values.specs.Operands.{term_of};
+ghost use Rattle.sparql_values.specs.Scopes.{value_in, truth_in, number_at, signed_values};
+ghost use Rattle.sparql_values.specs.Values.{added, both, called, compared, either, is_satisfied, on_both, times};
+ghost use Rattle.sparql_values.specs.Mapping as mapping;
+
+use crate::comparison::comparison;
+use crate::function::{are_same, called};
+use crate::mapping::value_of;
+use crate::number::{added, multiplied, signed};
+use crate::truth::{both, either, is_true, negated};
+use crate::value::{Value, number, of_number, of_term, of_truth, truth};
+use rdf_terms::{NoMemory, Term, Text, Vocabulary};
+use sparql_trees::{Comparison, Expression, Function, Sign};
+use std::alloc::Global;
+
+/// Where an expression is worked out.
+#[derive(Drop)]
+pub struct Scope<'a> {
+    pub alloc: Global,
+    pub vocabulary: &'a Vocabulary,
+    pub variables: &'a [Text],
+    pub row: &'a [Option<Term>],
+}
+
+fn bound<'a>(scope: &Scope<'a>, name: &Text) -> Option<&'a Term>
+    ensures { option_map (λ t. t.now) result
+        ≡ mapping.value_of scope.now.variables.now scope.now.row.now name.now }
+{
+    value_of(scope.variables, scope.row, name)
+}
+
+#[cycle(value)]
+fn value<'a>(scope: &Scope<'a>, expression: &'a Expression) -> Result<Option<Value<'a>>, NoMemory>
+    ensures { IfOk result (λ v. option_map term_of v ≡ value_in scope.now expression.now) }
+{
+    match expression {
+        Expression::Or(operands) => Ok(of_truth(any(scope, operands.as_slice())?)),
+        Expression::And(operands) => Ok(of_truth(all(scope, operands.as_slice())?)),
+        Expression::Compare(operator, x, y) => {
+            let x = value(scope, x.get())?;
+            Ok(of_truth(compared_with(scope, *operator, x, y.get())?))
+        }
+        Expression::Sum(first, others) => {
+            let first = number_at(scope, first.get())?;
+            Ok(of_number(sum(scope, first, others.as_slice())?))
+        }
+        Expression::Product(factors) => Ok(of_number(product(scope, factors.as_slice())?)),
+        Expression::Not(x) => Ok(of_truth(negated(truth_at(scope, x.get())?))),
+        Expression::Signed(sign, x) => Ok(of_number(signed(*sign, number_at(scope, x.get())?))),
+        Expression::Variable(name) => Ok(of_term(bound(scope, name))),
+        Expression::Term(term) => Ok(Some(Value::Held(term))),
+        Expression::Bound(name) => Ok(Some(Value::Truth(bound(scope, name).is_some()))),
+        Expression::SameTerm(x, y) => {
+            let x = value(scope, x.get())?;
+            Ok(of_truth(same_as(scope, x, y.get())?))
+        }
+        Expression::Call(function, x) => called_at(scope, *function, x.get()),
+    }
+}
+
+// A value compared with another.
+#[cycle(value)]
+fn compared_with<'a>(
+    scope: &Scope<'a>,
+    operator: Comparison,
+    x: Option<Value<'a>>,
+    y: &'a Expression,
+) -> Result<Option<bool>, NoMemory>
+    ensures { IfOk result (λ t. t ≡ option_and_then
+        (λ a. option_and_then (compared operator a) (value_in scope.now y.now))
+        (option_map term_of x.entry)) }
+{
+    let y = value(scope, y)?;
+    Ok(comparison(operator, &x, &y))
+}
+
+// SAMETERM of a value and another.
+#[cycle(value)]
+fn same_as<'a>(
+    scope: &Scope<'a>,
+    x: Option<Value<'a>>,
+    y: &'a Expression,
+) -> Result<Option<bool>, NoMemory>
+    ensures { IfOk result (λ t. t ≡ option_and_then
+        (λ a. option_map (same_term a) (value_in scope.now y.now)) (option_map term_of x.entry)) }
+{
+    let y = value(scope, y)?;
+    are_same(scope.alloc, scope.vocabulary, &x, &y)
+}
+
+#[cycle(value)]
+fn called_at<'a>(
+    scope: &Scope<'a>,
+    function: Function,
+    x: &'a Expression,
+) -> Result<Option<Value<'a>>, NoMemory>
+    ensures { IfOk result (λ v. option_map term_of v
+        ≡ option_and_then (called function) (value_in scope.now x.now)) }
+{
+    let x = value(scope, x)?;
+    called(scope.alloc, scope.vocabulary, function, &x)
+}
+
+#[cycle(value)]
+fn truth_at<'a>(scope: &Scope<'a>, expression: &'a Expression) -> Result<Option<bool>, NoMemory>
+    ensures { IfOk result (λ t. t ≡ truth_in scope.now expression.now) }
+{
+    Ok(truth(&value(scope, expression)?))
+}
+
+#[cycle(value)]
+fn number_at<'a>(scope: &Scope<'a>, expression: &'a Expression) -> Result<Option<i128>, NoMemory>
+    ensures { IfOk result (λ n. n ≡ number_at scope.now expression.now) }
+{
+    Ok(number(&value(scope, expression)?))
+}
+
+// `||` between these.
+#[cycle(value)]
+fn any<'a>(scope: &Scope<'a>, operands: &'a [Expression]) -> Result<Option<bool>, NoMemory>
+    ensures { IfOk result (λ t. t ≡ fold either (Some false)
+        (map (truth_in scope.now) operands.now)) }
+{
+    let mut so_far = Some(false);
+    for operand in operands {
+        so_far = either(so_far, truth_at(scope, operand)?);
+    }
+    Ok(so_far)
+}
+
+// `&&` between these.
+#[cycle(value)]
+fn all<'a>(scope: &Scope<'a>, operands: &'a [Expression]) -> Result<Option<bool>, NoMemory>
+    ensures { IfOk result (λ t. t ≡ fold both (Some true)
+        (map (truth_in scope.now) operands.now)) }
+{
+    let mut so_far = Some(true);
+    for operand in operands {
+        so_far = both(so_far, truth_at(scope, operand)?);
+    }
+    Ok(so_far)
+}
+
+// `+` and `-` of these to and from a number.
+#[cycle(value)]
+fn sum<'a>(
+    scope: &Scope<'a>,
+    first: Option<i128>,
+    others: &'a [(Sign, Expression)],
+) -> Result<Option<i128>, NoMemory>
+    ensures { IfOk result (λ n. n ≡ fold added first (signed_values scope.now others.now)) }
+{
+    let mut so_far = first;
+    for (sign, term) in others {
+        so_far = added(so_far, *sign, number_at(scope, term)?);
+    }
+    Ok(so_far)
+}
+
+// `*` between these.
+#[cycle(value)]
+fn product<'a>(scope: &Scope<'a>, factors: &'a [Expression]) -> Result<Option<i128>, NoMemory>
+    ensures { IfOk result (λ n. n ≡ fold (on_both times) (Some (pos 1))
+        (map (number_at scope.now) factors.now)) }
+{
+    let mut so_far = Some(1);
+    for factor in factors {
+        so_far = multiplied(so_far, number_at(scope, factor)?);
+    }
+    Ok(so_far)
+}
+
+/// Whether a solution, whose row has the values of these variables, passes a FILTER: the
+/// expression's effective boolean value is true, neither false nor an error (section 18.5).
+///
+/// # Errors
+/// [`NoMemory`] where memory is wanting.
+pub fn is_satisfied(
+    alloc: Global,
+    variables: &[Text],
+    row: &[Option<Term>],
+    vocabulary: &Vocabulary,
+    expression: &Expression,
+) -> Result<bool, NoMemory>
+    ensures { IfOk result (λ passes. passes
+        ≡ is_satisfied (mapping.value_of variables.now row.now) expression.now) }
+{
+    let scope = Scope {
+        alloc,
+        vocabulary: &*vocabulary,
+        variables: &*variables,
+        row: &*row,
+    };
+    Ok(is_true(truth_at(&scope, &*expression)?))
+}

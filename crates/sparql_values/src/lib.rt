@@ -1,0 +1,16 @@
+//! The values of expressions (SPARQL 1.1 Query, section 17): terms, errors, and truth.
+#![tactic(auto)]
+
+mod comparison;
+mod evaluator;
+mod function;
+mod laws;
+mod literal;
+mod mapping;
+mod number;
+mod truth;
+mod value;
+
+pub use evaluator::is_satisfied;
+pub use laws::{comparisons_keep_their_laws, logic_tables_hold, results_are_read_back};
+pub use mapping::column;
