@@ -9,6 +9,7 @@ pub mod OperationReading
 pub mod PrologueGrammar
 pub mod PrologueReading
 pub mod Proper
+pub mod QuadGroups
 pub mod QueryGrammar
 pub mod QueryLaws
 pub mod QueryReading

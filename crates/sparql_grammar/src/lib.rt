@@ -21,6 +21,6 @@ pub use query::parse_query;
 pub use stop::{Stop, StopKind};
 pub use tree::{
     Block, Columns, Declaration, Expression, GraphOrDefault, GraphRefAll, Group, Literal, Member,
-    Name, Node, Operation, Part, Property, Query, QueryForm, Triples, VarOrIri, Verb,
+    Modify, Name, Node, Operation, Part, Property, Query, QueryForm, Triples, VarOrIri, Verb,
 };
 pub use update::parse_update;

@@ -75,12 +75,29 @@ pub enum GraphOrDefault<'a> {
     Graph(Name<'a>),
 }
 
-/// One operation (30: Update1). Data are blocks, those of the default graph and those of GRAPH in
-/// turn (50: Quads).
+/// DELETE and INSERT by the solutions of a group (41: Modify). A template that isn't there has no
+/// block, and one that is has one at least.
+#[derive(Drop)]
+pub struct Modify<'a> {
+    /// The graph of WITH.
+    pub with: Option<Name<'a>>,
+    /// 42: DeleteClause.
+    pub delete: Items<Block<'a>>,
+    /// 43: InsertClause.
+    pub insert: Items<Block<'a>>,
+    /// What stands behind WHERE.
+    pub group: Group<'a>,
+}
+
+/// One operation (30: Update1). Data and templates are blocks, those of the default graph and those
+/// of GRAPH in turn (50: Quads).
 #[derive(Drop)]
 pub enum Operation<'a> {
     InsertData(Items<Block<'a>>),
     DeleteData(Items<Block<'a>>),
+    /// What is asked for and deleted (40: DeleteWhere).
+    DeleteWhere(Items<Block<'a>>),
+    Modify(Modify<'a>),
     Create {
         silent: bool,
         graph: Name<'a>,

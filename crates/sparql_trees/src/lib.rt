@@ -8,6 +8,7 @@ mod expression;
 mod operation;
 mod pattern;
 mod query;
+mod template;
 mod visible;
 
 pub use boxed::Boxed;
@@ -16,4 +17,5 @@ pub use expression::{Comparison, Expression, Function, Sign};
 pub use operation::{GraphOrDefault, GraphRefAll, Operation, Request};
 pub use pattern::{BasicGraphPattern, Member, Pattern, TriplePattern, VarOrIri, VarOrTerm};
 pub use query::{Query, Select};
+pub use template::{Modify, QuadPattern, Template};
 pub use visible::{one_list_of_visible_variables, visible_variables};

@@ -1,6 +1,7 @@
 //! Requests and their operations (SPARQL 1.1 Update, section 3).
 
 use crate::data::{Data, GroundData};
+use crate::template::Modify;
 use rdf_terms::{Iri, Items};
 
 /// What CLEAR and DROP empty (the grammar's `GraphRefAll`).
@@ -26,12 +27,14 @@ pub enum GraphOrDefault {
 }
 
 /// One operation of a request.
-#[derive(Debug, Drop)]
+#[derive(Drop)]
 pub enum Operation {
     /// INSERT DATA (section 3.1.1).
     InsertData(Data),
     /// DELETE DATA (section 3.1.2).
     DeleteData(GroundData),
+    /// DELETE/INSERT and DELETE WHERE (section 3.1.3).
+    Modify(Modify),
     /// CREATE (section 3.2.1).
     Create {
         silent: bool,
@@ -68,7 +71,7 @@ pub enum Operation {
 }
 
 /// Operations that act one after another.
-#[derive(Debug, Drop)]
+#[derive(Drop)]
 pub struct Request {
     /// The operations in order.
     pub operations: Items<Operation>,
