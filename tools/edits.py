@@ -8,8 +8,8 @@ CALLS = re.compile(r"[;:]( in `\S+`, of this cycle of calls:)? it (calls|passes)
 # what it says where an answer file names what isn't there any more
 NAMES = re.compile(r"has no field|is not in scope|has no `|was not admitted")
 WAITS = "its goals wait for a callee's proof"
-# `names` has for the function, or for each of its cycle of calls, patterns of what a check calls it, the most exact first
-Function = collections.namedtuple("Function", "file first opens last names alone key")
+# `names` has for the function, or for each of its cycle of calls, patterns of what a check calls it, the most exact first; `cycle` names that cycle
+Function = collections.namedtuple("Function", "file first opens last name names alone cycle")
 
 
 def module_of(crate, file):
@@ -43,9 +43,10 @@ def functions_of(crate, file, text):
         names = [f"{module}{owner}::{head[3]}"] if outer or not indent else []
         names += [rf"\S*{owner}::{head[3]}"] if indent else []
         cycle = re.search(r"#\[cycle\((\w+)\)\]", "\n".join(lines[first:at]))
-        found.append(Function(file, first, opens, last, [names], "const" in head[2], (file, cycle[1] if cycle else first)))
+        found.append(Function(file, first, opens, last, head[3], [names], "const" in head[2], (file, cycle[1]) if cycle else None))
     # a cycle of calls has one proof, so what one of its functions does is judged at all of them
-    return [it._replace(names=[names for other in found if other.key == it.key for names in other.names]) for it in found]
+    mates = lambda it: [other for other in found if other is it or it.cycle and other.cycle == it.cycle]
+    return [it._replace(names=[names for other in mates(it) for names in other.names]) for it in found]
 
 
 class Edit:
@@ -68,7 +69,8 @@ class Edit:
         for file, text in texts.items():
             self.take(file, (folder / file).read_text(), text, folder.name)
         self.why = self.why or (None if self.functions else "it changes nothing")
-        self.keys, self.alone = {it.key for it in self.functions}, any(it.alone for it in self.functions)
+        self.keys, self.alone = {(it.file, it.first) for it in self.functions}, any(it.alone for it in self.functions)
+        self.cycles = {it.cycle for it in self.functions if it.cycle}
 
     def take(self, file, was, text, crate):
         functions = functions_of(crate, file, was) if re.match(r"src/.*\.rt$", file) else []
@@ -135,6 +137,10 @@ def verdicts(batch, said):
             told[it.name] = "not tried", "the check has no line of this function"
         elif any("could not tell" in failures[name] for name in own):
             told[it.name] = "not tried", f"{own[0]}: {failures[own[0]]}"
+        elif own and any(it.cycles & other.cycles for other in batch if other is not it):
+            # the goals of a cycle of calls begin with the name of the function whose body asks for them
+            goals = [goal for goal in goals_of_cycle(own, failures, said) if goal.partition("-")[0] in {f.name for f in it.functions}]
+            told[it.name] = ("refused", f"{own[0]} at {named(goals)}") if goals else ("not tried", "no goal of the cycle is this function's")
         elif own:
             told[it.name] = "refused", f"{own[0]} at {reason(own[0], failures[own[0]], said)}"
         # behind some callees that aren't proved the tactics don't try a function's goals
@@ -165,6 +171,20 @@ def failure(symbol, line, said):
         places = "|".join(re.escape(it.replace(".", "/")) for it in (own, f"{module}.+"))
         return text if re.search(rf"(?m)^(\./)?proofs/({places})\w*/\w+\.antt:\d+:\d+: error", said) else ""
     return "" if text == "no proof" else text
+
+
+def named(goals):
+    """The first three goals, and how many more there are."""
+    return ", ".join(f"`{it}`" for it in goals[:3]) + (f" and {len(goals) - 3} more" if len(goals) > 3 else "")
+
+
+def goals_of_cycle(symbols, failures, said):
+    """The goals at which a check refuses a cycle of calls, as the lines of its functions and the errors at its answers name them."""
+    goals = [goal for it in symbols for goal in re.findall(r"`(\S+?)`", failures[it].partition("did not prove")[2])]
+    modules = {it.split("::", 1)[1].rpartition("::")[0].replace("::", "/") for it in symbols}
+    files = "|".join(sorted(re.escape(it) for it in modules))
+    goals += re.findall(rf"(?m)^(?:\./)?proofs/(?:{files})/\+\w+/Answers\.antt:\d+:\d+: error: `(\S+?)`: ", said)
+    return [*dict.fromkeys(goals)]
 
 
 def reason(symbol, line, said):

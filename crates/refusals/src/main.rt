@@ -2,10 +2,11 @@
 //! was lent as it was, and is made again; so the program writes the same whichever allocation is
 //! refused, and `tools/fail-alloc` compares.
 //!
-//! For each byte of its input the program first takes memory and gives it back. So `tools/fail-alloc`
-//! has always the same allocation refused, and chooses by the input which one of the library's that is.
-//! At its end the program takes memory until that is refused, and says how often it was given: all of
-//! 1024 times where the refused allocation was one of the library's.
+//! The program has parts, each of which writes a line. The first digit of its input names the one that
+//! is asked for; without input all are. For each byte of its input the program first takes memory and
+//! gives it back. So `tools/fail-alloc` has always the same allocation refused, and chooses by the
+//! input which one of a part that is. At its end the program takes memory until that is refused, and
+//! says how often it was given: all of 1024 times where the refused allocation was one of the part's.
 #![tactic(auto)]
 
 mod conversions;
@@ -20,6 +21,8 @@ use std::alloc::Global;
 use std::io;
 use std::io::Read;
 
+const PARTS: [u8; 6] = *b"123456";
+
 fn main(rt: HostRuntime) -> io::Result<()> {
     let alloc = rt.alloc();
     let mut input = [0u8; 1024];
@@ -27,13 +30,24 @@ fn main(rt: HostRuntime) -> io::Result<()> {
     for _ in 0..bytes {
         take_and_give_back(alloc);
     }
-    println!(rt; "{}", terms::outcome(alloc))?;
-    println!(rt; "{}", sessions::outcome(alloc))?;
-    println!(rt; "{}", updates::outcome(alloc))?;
-    println!(rt; "{}", queries::outcome(alloc))?;
-    println!(rt; "{}", script::outcome(alloc))?;
-    println!(rt; "{}", conversions::outcome(alloc))?;
+    for part in PARTS {
+        if bytes == 0 || input[0] == part {
+            println!(rt; "{}", outcome(alloc, part))?;
+        }
+    }
     println!(rt; "then memory is given {} times", given(alloc))
+}
+
+// What a part finds.
+fn outcome(alloc: Global, part: u8) -> &'static str {
+    match part {
+        b'1' => terms::outcome(alloc),
+        b'2' => sessions::outcome(alloc),
+        b'3' => updates::outcome(alloc),
+        b'4' => queries::outcome(alloc),
+        b'5' => script::outcome(alloc),
+        _ => conversions::outcome(alloc),
+    }
 }
 
 fn take_and_give_back(alloc: Global) {
