@@ -6,7 +6,7 @@ pub use Rattle.sparql_algebra.proofs.TermLemmas.{same_term_is, same_term_own, sa
 pub use Rattle.sparql_algebra.proofs.BagLemmas.{SameBag-refl, SameBag-trans, SameBag-filter, SameBag-map, SameBag-append, SameBag-flat_map, SameBag-joins, SameBag-left_joins}
 pub use Rattle.sparql_algebra.proofs.UniverseLemmas.{has_length, within, mappings_count, any_distinct, distinct_once}
 pub use Rattle.sparql_algebra.proofs.AssignmentLemmas.{covered, all_terms, solution_term, solving_count, assignments_count}
-pub use Rattle.sparql_algebra.proofs.ListingLemmas.{listing_of, there_is_a_listing, name_listed, names_same, quads_same, triple_listed, triple_once}
+pub use Rattle.sparql_algebra.proofs.ListingLemmas.{there_is_a_listing, name_listed, names_same, quads_same, triple_listed, triple_once}
 pub use Rattle.sparql_algebra.proofs.IndependenceLemmas.{any_same, assignments_same, basic_same, listings_same}
 pub use Rattle.sparql_algebra.proofs.LengthLemmas.{length_from, length_to, solutions_length}
 pub use Rattle.sparql_algebra.proofs.OrderLemmas.{mapping_cmp-IsAntisymmetric, mapping_total, mapping_ranks, neither_less}
@@ -16,4 +16,5 @@ pub use Rattle.sparql_algebra.proofs.TranslationLemmas.{parts-is, translation-is
 pub use Rattle.sparql_algebra.proofs.JoinLemmas.{joins_commute, joins_associate, empty_solutions, empty_joins}
 pub use Rattle.sparql_algebra.proofs.GrowthLemmas.{merges_grow}
 pub use Rattle.sparql_algebra.proofs.Regroup.{each_once, each_once_lists}
-pub use Rattle.sparql_algebra.proofs.ResultLemmas.{pattern_same, projections_same, selected, selected_counts, some_same, one_selection, one_answer}
+pub use Rattle.sparql_algebra.proofs.ResultLemmas.{pattern_same, projections_same, selected, selected_counts, some_same, some_solution_list, one_solution_list, one_selection, one_answer}
+pub use Rattle.sparql_algebra.proofs.BoundLemmas.{solutions_of_state, solutions_of_terms, solutions_below, at_place, of_variable}

@@ -14,7 +14,7 @@ use Rattle.sparql_trees.specs.declared.pattern.TriplePattern.{TriplePattern}
 use Rattle.sparql_algebra.specs.Bags.{SameBag}
 use Rattle.sparql_algebra.specs.Counts.{always, ListsCounted, pairs_count, begins_pair, widens, VariableLaw}
 use Rattle.sparql_algebra.specs.Laws.{held, instance_held, is_assignment, AssignmentsCountOnce, AssignmentsListed}
-use Rattle.sparql_algebra.specs.Listing.{Listing, graph_quads}
+use Rattle.sparql_algebra.specs.Listing.{Listing, graph_quads, listing_of}
 use Rattle.sparql_values.specs.Mapping.{Variables, Mapping, same_mapping, single}
 use Rattle.sparql_algebra.specs.Solutions.{var_or_term, term_at, holds, instance_lies, occurs, binds_exactly, solves, assignments, basic_solutions, joins, left_joins, solutions}
 use Rattle.sparql_algebra.proofs.Sums.{one, sum_by-cong, sum_by-filter, sum_by-map, sum_by-flat_map, sums_from_counts}
@@ -22,7 +22,7 @@ use Rattle.sparql_algebra.proofs.TruthLemmas.{both_true, cond_one}
 use Rattle.sparql_algebra.proofs.TermLemmas.{same_mapping_is, same_mapping_own}
 use Rattle.sparql_algebra.proofs.UniverseLemmas.{has_length}
 use Rattle.sparql_algebra.proofs.AssignmentLemmas.{assignments_count}
-use Rattle.sparql_algebra.proofs.ListingLemmas.{listing_of, there_is_a_listing, triple_listed}
+use Rattle.sparql_algebra.proofs.ListingLemmas.{there_is_a_listing, triple_listed}
 use Rattle.sparql_algebra.proofs.LengthLemmas.{length_from, length_to}
 use Rattle.sparql_algebra.proofs.Regroup.{times, left_join_law, filter_law, single_law, each_once, each_once_lists}
 

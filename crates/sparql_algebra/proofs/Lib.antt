@@ -1,5 +1,6 @@
 mod AssignmentLemmas
 mod BagLemmas
+mod BoundLemmas
 pub mod CallerLemmas
 mod CountLawLemmas
 mod CountLemmas

@@ -11,19 +11,13 @@ use Rattle.rdf_terms.specs.declared.quad.GraphName.{GraphName}
 use Rattle.rdf_dataset.specs.Sorted.{ListsOnce}
 use Rattle.rdf_dataset.specs.State.{State, matches}
 use Rattle.sparql_algebra.specs.Bags.{SameBag}
-use Rattle.sparql_algebra.specs.Listing.{Listing, Lists, graph_quads}
+use Rattle.sparql_algebra.specs.Listing.{Lists, graph_quads, listing_of}
 use Rattle.sparql_values.specs.Mapping.{same_term}
 use Rattle.sparql_algebra.specs.Solutions.{is_triple}
 use Rattle.sparql_algebra.proofs.Sums.{one}
 use Rattle.sparql_algebra.proofs.TruthLemmas.{and_left, and_right, and_true, both_true}
 use Rattle.sparql_algebra.proofs.TermLemmas.{same_term_is, same_term_own}
 use Rattle.sparql_algebra.proofs.SetLemmas as sets
-
-abbrev pub listing_of : State → Listing
-listing_of s = record {
-  names = sets.listed term_cmp_total term_cmp-IsAntisymmetric s.names;
-  quads = λ g. sets.listed quad_cmp_total quad_cmp-IsAntisymmetric (graph_quads s g);
-}
 
 pub there_is_a_listing : (s : State) → Lists s (listing_of s)
 there_is_a_listing s = record {
@@ -44,13 +38,13 @@ quads_same s g = sets.listed_same quad_cmp_total quad_cmp-IsAntisymmetric (graph
 same_graph_is : (g h : GraphName) → eq_by_cmp graph_cmp g h ≡ true → g ≡ h
 same_graph_is = sets.same_is graph_cmp_total graph_cmp-IsAntisymmetric
 
-same_quad_is : (q r : QuadParts) → eq_by_cmp quad_cmp q r ≡ true → q ≡ r
+pub same_quad_is : (q r : QuadParts) → eq_by_cmp quad_cmp q r ≡ true → q ≡ r
 same_quad_is = sets.same_is quad_cmp_total quad_cmp-IsAntisymmetric
 
 parts_same : (q r : QuadParts) → q.graph ≡ r.graph → q.subject ≡ r.subject → q.predicate ≡ r.predicate → q.object ≡ r.object → q ≡ r
 parts_same q r g s p o = λ i. record { graph = g i; subject = s i; predicate = p i; object = o i }
 
-in_graph : (s : State) (g : GraphName) (q : QuadParts) → contains (graph_quads s g) q ≡ (contains s.quads q && matches g None None None q)
+pub in_graph : (s : State) (g : GraphName) (q : QuadParts) → contains (graph_quads s g) q ≡ (contains s.quads q && matches g None None None q)
 in_graph s g q = contains-retain s.quads (matches g None None None) q (λ x e. ap (matches g None None None) (sym (quad_cmp-IsAntisymmetric q x e)))
 
 module _ (s : State) (g : GraphName) (quads : List QuadParts) (h : ListsOnce (graph_quads s g) quads) (a b c : Term) where

@@ -10,17 +10,18 @@ use Rattle.sparql_trees.specs.declared.pattern.Pattern.{Pattern}
 use Rattle.sparql_trees.specs.declared.query.Select.{Select}
 use Rattle.sparql_algebra.specs.Algebra.{translation}
 use Rattle.sparql_algebra.specs.Bags.{SameBag}
-use Rattle.sparql_algebra.specs.Laws.{SomeSolutions, SolutionsAgree, SomeSelection, OneSelection, SomeAnswer, OneAnswer, AnswerTellsSolutions}
-use Rattle.sparql_algebra.specs.Listing.{Listing, Lists}
+use Rattle.sparql_algebra.specs.Laws.{SomeSolutions, SolutionsAgree, SomeSelection, OneSelection, SomeAnswer, OneAnswer, AnswerTellsSolutions, SomeSolutionList, OneSolutionList}
+use Rattle.sparql_algebra.specs.Listing.{Listing, Lists, listing_of}
 use Rattle.sparql_values.specs.Mapping.{Mapping, same_mapping}
 use Rattle.sparql_algebra.specs.Results.{pattern_solutions, projected, projections, times_selected, is_some_solution}
+use Rattle.sparql_algebra.specs.Sorted.{sort, sorted_solutions}
 use Rattle.sparql_algebra.proofs.Sums.{one}
 use Rattle.sparql_algebra.proofs.TermLemmas.{same_mapping_own}
 use Rattle.sparql_algebra.proofs.BagLemmas.{SameBag-map}
 use Rattle.sparql_algebra.proofs.IndependenceLemmas.{listings_same}
-use Rattle.sparql_algebra.proofs.ListingLemmas.{listing_of, there_is_a_listing}
+use Rattle.sparql_algebra.proofs.ListingLemmas.{there_is_a_listing}
 use Rattle.sparql_algebra.proofs.Regroup.{each_once, each_once_lists}
-use Rattle.sparql_algebra.proofs.SortedLemmas.{sort, sort_sorted, sort_same, one_sorted}
+use Rattle.sparql_algebra.proofs.SortedLemmas.{sort_sorted, sort_same, one_sorted}
 
 pub pattern_same : (P : Pattern) (g : GraphName) (s : State) (d e : Listing) → Lists s d → Lists s e → SameBag (pattern_solutions P g d) (pattern_solutions P g e)
 pattern_same P g s d e h k = listings_same s d e h k (visible P) g (translation P)
@@ -36,6 +37,22 @@ solutions_agree P g s us vs xs ys h k = (
   h.variables_are ∙ sym k.variables_are,
   λ m. h.counted (listing_of s) (there_is_a_listing s) m ∙ sym (k.counted (listing_of s) (there_is_a_listing s) m),
 )
+
+-- ---- sorted solutions
+
+pub some_solution_list : SomeSolutionList
+unfolding sorted_solutions
+some_solution_list P g s = record {
+  sorted = sort_sorted (pattern_solutions P g (listing_of s));
+  counted = λ d h m.
+      sort_same (pattern_solutions P g (listing_of s)) (λ x. cond (same_mapping m x) 1 0)
+      ∙ pattern_same P g s (listing_of s) d (there_is_a_listing s) h (λ x. cond (same_mapping m x) 1 0);
+}
+
+pub one_solution_list : OneSolutionList
+one_solution_list P g s xs ys h k =
+    one_sorted xs ys h.sorted k.sorted
+    (λ m. h.counted (listing_of s) (there_is_a_listing s) m ∙ sym (k.counted (listing_of s) (there_is_a_listing s) m))
 
 -- ---- SELECT
 

@@ -1,14 +1,15 @@
 -- Lists that have each member of a set once.
-use Rattle.std.proofs.Common.{◌≡◌, ℕ, suc, ◌+◌, ◌≤◌, Bool, true, false, cond, ◌||◌, List, [], ◌∷◌, length, refl, sym, ap, ◌∙◌, arith}
+use Rattle.std.proofs.Common.{◌≡◌, ℕ, suc, ◌+◌, ◌≤◌, Bool, true, false, cond, ◌&&◌, ◌||◌, List, [], ◌∷◌, length, refl, sym, ap, ◌∙◌, arith}
 use Rattle.std.specs.declared.cmp.Ordering.{Ordering}
 use Rattle.std.specs.Ordering.{eq_by_cmp, is_eq}
 use Rattle.std.specs.Cmp.{IsTotalOrder, Equal-is, tied_itself}
-use Rattle.std.specs.List.{sum_by, count_by, list_any}
+use Rattle.std.specs.List.{sum_by, count_by, list_all, list_any}
 use Rattle.std.proofs.lemmas.List.Sums.{sum_by-cons}
 use Rattle.std.specs.FinSet as set
 use Rattle.std.specs.FinSet.{IsAntisymmetric, contains, from_list, contains-from_list, contains-items, len-empty, len-insert, same_set}
 use Rattle.rdf_dataset.specs.Sorted.{ListsOnce}
 use Rattle.sparql_algebra.specs.Bags.{SameBag}
+use Rattle.sparql_algebra.specs.Listing.{distinct_by, listed}
 use Rattle.sparql_algebra.proofs.Sums.{one, sums_from_counts}
 use Rattle.sparql_algebra.proofs.TruthLemmas.{or_left, or_right}
 
@@ -91,11 +92,15 @@ module _ {K : Type 0} {R : K → K → Ordering} (o : IsTotalOrder R) (apart : I
         sum_on f g xs (λ y e. h y (or_right (eq_by_cmp R y x) _ e)),
       )
 
+  pub all_on : (p : K → Bool) (xs : List K) → ((x : K) → has xs x ≡ true → p x ≡ true) → list_all p xs ≡ true
+  all_on p [] h = refl
+  all_on p (x ∷ xs) h =
+      ap (λ b. b && list_all p xs) (h x (or_left (eq_by_cmp R x x) _ (own x))) ∙ all_on p xs (λ y e. h y (or_right (eq_by_cmp R y x) _ e))
+
   -- ---- there is such a list
 
   abbrev once : List K → List K
-  once [] = []
-  once (x ∷ xs) = cond (has xs x) (once xs) (x ∷ once xs)
+  once = distinct_by R
 
   has_once : (q : K) (xs : List K) → has (once xs) q ≡ has xs q
   has_once q [] = refl
@@ -120,9 +125,6 @@ module _ {K : Type 0} {R : K → K → Ordering} (o : IsTotalOrder R) (apart : I
           let more : set.len (from_list {R = R} (x ∷ once xs)) ≡ set.len (from_list {R = R} (once xs)) + 1 =
           len-insert o (from_list (once xs)) x ∙ ap (λ b. cond b (set.len (from_list {R = R} (once xs))) (set.len (from_list {R = R} (once xs)) + 1)) absent in
           omega (arith, h, more)
-
-  abbrev pub listed : set.FinSet R → List K
-  listed members = once (set.items members)
 
   pub listed_once : (members : set.FinSet R) → ListsOnce members (listed members)
   listed_once members =

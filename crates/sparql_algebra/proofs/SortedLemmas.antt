@@ -7,6 +7,7 @@ use Rattle.std.proofs.lemmas.List.Sorted.{sorted_far}
 use Rattle.sparql_values.specs.Mapping.{Mapping, same_mapping}
 use Rattle.sparql_algebra.specs.Order.{mapping_cmp}
 use Rattle.sparql_algebra.specs.Bags.{SameBag}
+use Rattle.sparql_algebra.specs.Sorted.{put, sort}
 use Rattle.sparql_algebra.proofs.Sums.{one}
 use Rattle.sparql_algebra.proofs.TruthLemmas.{and_left, and_right}
 use Rattle.sparql_algebra.proofs.TermLemmas.{same_mapping_is, same_mapping_own}
@@ -125,14 +126,6 @@ one_sorted xs ys h k = one_rising xs ys (rises_from xs h) (rises_from ys k)
 
 -- ---- there is one
 
-abbrev put : Mapping → List Mapping → List Mapping
-put x [] = x ∷ []
-put x (y ∷ ys) = cond (less y x) (y ∷ put x ys) (x ∷ y ∷ ys)
-
-abbrev pub sort : List Mapping → List Mapping
-sort [] = []
-sort (x ∷ xs) = put x (sort xs)
-
 all_put : (p : Mapping → Bool) (x : Mapping) (ys : List Mapping) → p x ≡ true → list_all p ys ≡ true → list_all p (put x ys) ≡ true
 all_put p x [] h k = ap (λ b. b && true) h
 all_put p x (y ∷ ys) h k = by_test (less y x) (all_put p x ys h (and_right (p y) _ k))
@@ -162,6 +155,10 @@ sum_put f x (y ∷ ys) = by_test (less y x) (sum_put f x ys)
     by_test : (b : Bool) → sum_by f (put x ys) ≡ f x + sum_by f ys → sum_by f (cond b (y ∷ put x ys) (x ∷ y ∷ ys)) ≡ f x + sum_by f (y ∷ ys)
     by_test true r = omega (arith, r, sum_by-cons f y (put x ys), sum_by-cons f y ys)
     by_test false r = sum_by-cons f x (y ∷ ys)
+
+pub all_sort : (p : Mapping → Bool) (xs : List Mapping) → list_all p xs ≡ true → list_all p (sort xs) ≡ true
+all_sort p [] h = refl
+all_sort p (x ∷ xs) h = all_put p x (sort xs) (and_left (p x) _ h) (all_sort p xs (and_right (p x) _ h))
 
 sort_rises : (xs : List Mapping) → Rises (sort xs)
 sort_rises [] = tt

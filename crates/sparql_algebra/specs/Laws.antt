@@ -8,16 +8,18 @@ use Rattle.rdf_terms.specs.Order.{text_cmp}
 use Rattle.rdf_terms.specs.declared.term.Term.{Term}
 use Rattle.rdf_terms.specs.declared.quad.GraphName.{GraphName}
 use Rattle.rdf_terms.specs.declared.quad.GraphName.TheVariants.{Default}
-use Rattle.rdf_dataset.specs.State.{State}
+use Rattle.rdf_dataset.specs.State.{State, IsSound}
 use Rattle.sparql_trees.specs.Visible.{names_in, visible}
 use Rattle.sparql_trees.specs.declared.pattern.BasicGraphPattern.{BasicGraphPattern}
 use Rattle.sparql_trees.specs.declared.pattern.Pattern.{Pattern}
 use Rattle.sparql_trees.specs.declared.pattern.TriplePattern.{TriplePattern}
 use Rattle.sparql_trees.specs.declared.query.Select.{Select}
 use Rattle.sparql_algebra.specs.Algebra.{Algebra, basic, translation}
+use Rattle.sparql_algebra.specs.Bound.{IsValueOf, IsValue, IsValueBelow, AllValues}
 use Rattle.sparql_algebra.specs.Listing.{Listing, Lists}
 use Rattle.sparql_values.specs.Mapping.{Variables, Mapping, same_term, same_mapping}
 use Rattle.sparql_algebra.specs.Results.{Solves, IsSelection, HasSolution}
+use Rattle.sparql_algebra.specs.Sorted.{IsSolutionList, sorted_solutions}
 use Rattle.sparql_algebra.specs.Solutions.{var_or_term, term_at, holds, occurs, binds_exactly, count}
 
 -- ---- listings
@@ -104,3 +106,23 @@ AnswerTellsSolutions = (P : Pattern) (s : State) (answer : Bool) → HasSolution
 
 abbrev pub OneAnswer : Type 0
 OneAnswer = (P : Pattern) (s : State) (x y : Bool) → HasSolution P s x → HasSolution P s y → x ≡ y
+
+-- ---- sorted solutions
+
+abbrev pub SomeSolutionList : Type 0
+SomeSolutionList = (P : Pattern) (g : GraphName) (s : State) → IsSolutionList P g s (sorted_solutions P g s)
+
+abbrev pub OneSolutionList : Type 0
+OneSolutionList = (P : Pattern) (g : GraphName) (s : State) (xs ys : List Mapping) → IsSolutionList P g s xs → IsSolutionList P g s ys → xs ≡ ys
+
+-- each term that they bind stands in a quad of the state, or is the name of a graph
+abbrev pub SolutionsOfState : Type 0
+SolutionsOfState = (P : Pattern) (g : GraphName) (s : State) → AllValues (IsValueOf s) (sorted_solutions P g s)
+
+-- so in a sound state it is a term of RDF
+abbrev pub SolutionsOfTerms : Type 0
+SolutionsOfTerms = (P : Pattern) (g : GraphName) (s : State) → IsSound s → AllValues IsValue (sorted_solutions P g s)
+
+-- and no blank node with the next number or a later one
+abbrev pub SolutionsBelow : Type 0
+SolutionsBelow = (P : Pattern) (g : GraphName) (s : State) → IsSound s → AllValues (IsValueBelow s.next) (sorted_solutions P g s)

@@ -1,5 +1,6 @@
 pub mod Algebra
 pub mod Bags
+pub mod Bound
 pub mod Counts
 pub mod Examples
 pub mod Growth
@@ -8,3 +9,4 @@ pub mod Listing
 pub mod Order
 pub mod Results
 pub mod Solutions
+pub mod Sorted

@@ -1,5 +1,5 @@
 //! What holds of the algebra of patterns, and of the results of queries.
-ghost use Rattle.sparql_algebra.specs.Laws.{SomeListing, ListingsAgree, TriplesAreHeld, NamesAreHeld, AssignmentsCountOnce, AssignmentsListed, VariablesInOrder, VariablesAreAll, SomeSolutions, SolutionsAgree, SomeSelection, OneSelection, SomeAnswer, OneAnswer, AnswerTellsSolutions};
+ghost use Rattle.sparql_algebra.specs.Laws.{SomeListing, ListingsAgree, TriplesAreHeld, NamesAreHeld, AssignmentsCountOnce, AssignmentsListed, VariablesInOrder, VariablesAreAll, SomeSolutions, SolutionsAgree, SomeSelection, OneSelection, SomeAnswer, OneAnswer, AnswerTellsSolutions, SomeSolutionList, OneSolutionList, SolutionsOfState, SolutionsOfTerms, SolutionsBelow};
 ghost use Rattle.sparql_algebra.specs.Counts as counts;
 ghost use Rattle.sparql_algebra.specs.Growth.{MergesGrow};
 ghost use Rattle.sparql_algebra.specs.Listing.{Listing};
@@ -75,4 +75,19 @@ pub fn one_answer()
 /// by the pattern's columns: these are its merges with the compatible assignments, each once.
 pub fn merges_grow()
     ensures { MergesGrow }
+{}
+
+/// Each pattern has one list of solutions in each graph: sorted, each mapping as often as the
+/// algebra counts it.
+pub fn one_solution_list()
+    ensures some { SomeSolutionList }
+    ensures one { OneSolutionList }
+{}
+
+/// Solutions bind terms of the dataset alone: each stands in a quad, or is the name of a graph. So
+/// in a sound state each is a term of RDF, and a blank node's number is below the next one.
+pub fn solutions_are_of_the_dataset()
+    ensures of_state { SolutionsOfState }
+    ensures terms { SolutionsOfTerms }
+    ensures below { SolutionsBelow }
 {}

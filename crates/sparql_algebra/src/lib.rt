@@ -9,5 +9,5 @@ mod laws;
 pub use examples::the_standards_examples_hold;
 pub use laws::{
     counts_are_the_algebra, counts_depend_on_the_state, merges_grow, one_answer, one_selection,
-    operators_keep_their_laws, solutions_agree,
+    one_solution_list, operators_keep_their_laws, solutions_agree, solutions_are_of_the_dataset,
 };

@@ -2,7 +2,8 @@
 use Rattle.std.proofs.Common.{◌≡◌, ℕ, Bool, not, cond, List, [], ◌∷◌, map, Option, refl, sym, ap, ◌∙◌, subst, length, nat_eq}
 use Rattle.std.proofs.Math.Dec.{eqb-suc-zero}
 use Rattle.std.specs.List.{count_by}
-use Rattle.std.specs.List.Sorted.{IsSorted}
+use Rattle.std.specs.List.Sorted.{IsSorted, IsPermutation}
+use Rattle.std.proofs.lemmas.List.Sorted.{sum_by-IsPermutation}
 use Rattle.rdf_terms.specs.declared.quad.GraphName.{GraphName}
 use Rattle.rdf_terms.specs.declared.quad.GraphName.TheVariants.{Default}
 use Rattle.rdf_dataset.specs.State.{State}
@@ -16,7 +17,8 @@ use Rattle.sparql_values.specs.Mapping.{Variables, Mapping, same_mapping, column
 use Rattle.sparql_algebra.specs.Order.{mapping_cmp}
 use Rattle.sparql_algebra.specs.Results.{Solves, IsSelection, HasSolution, pattern_solutions, projected, projections, times_selected, is_some_solution}
 use Rattle.sparql_algebra.specs.Solutions.{solutions}
-use Rattle.sparql_algebra.proofs.CallerLemmas.{sums_from_counts, same_mapping_is, same_mapping_own, SameBag-map, some_same}
+use Rattle.sparql_algebra.specs.Sorted.{sorted_solutions}
+use Rattle.sparql_algebra.proofs.CallerLemmas.{sums_from_counts, same_mapping_is, same_mapping_own, SameBag-map, some_same, some_solution_list, one_solution_list}
 use Rattle.sparql_solve.specs.Steps.{Gives}
 
 pub solved : (P : Pattern) (g : GraphName) (s : State) (vs names : Variables) (rows : List Mapping) → vs ≡ visible P → names ≡ vs →
@@ -26,6 +28,13 @@ solved P g s vs names rows e en h = record {
   counted = λ d l m.
       subst (λ (ns : Variables). SameBag rows (solutions ns d g (translation P))) (en ∙ e) (h d l) (λ x. cond (same_mapping m x) 1 0);
 }
+
+pub sorted_found : (P : Pattern) (g : GraphName) (s : State) (vs : Variables) (found rows : List Mapping) → Solves P g s vs found → IsPermutation found rows →
+    IsSorted mapping_cmp rows → rows ≡ sorted_solutions P g s
+sorted_found P g s vs found rows h p k =
+    one_solution_list P g s rows (sorted_solutions P g s)
+    (record { sorted = k; counted = λ d l m. sum_by-IsPermutation (λ x. cond (same_mapping m x) 1 0) found rows p ∙ h.counted d l m })
+    (some_solution_list P g s)
 
 solved_bag : (P : Pattern) (g : GraphName) (s : State) (vs : Variables) (rows : List Mapping) → Solves P g s vs rows → (d : Listing) → Lists s d →
     SameBag rows (pattern_solutions P g d)

@@ -11,5 +11,5 @@ mod place;
 mod results;
 mod rows;
 
-pub use results::{Solutions, ask, select, solve};
+pub use results::{Solutions, ask, select, solve, sorted_solutions};
 pub use rows::Row;

@@ -9,7 +9,8 @@ ghost use Rattle.sparql_algebra.specs.Results.{times_selected};
 use crate::rows::Row;
 use rdf_terms::NoMemory;
 
-fn sort_rows(rows: &mut Vec<Row>) -> Result<(), NoMemory>
+/// Sorts rows by their values from the left, unbound first.
+pub(crate) fn sort_rows(rows: &mut Vec<Row>) -> Result<(), NoMemory>
     ensures permutation { OnOk result (IsPermutation rows.old.items rows.new.items) }
     ensures sorted { OnOk result (IsSorted mapping_cmp rows.new.items) }
 {

@@ -2,9 +2,11 @@
 ghost use Rattle.std.specs.Prelude.{◌≡◌, IfOk, map};
 ghost use Rattle.sparql_values.specs.Mapping.{column, value_in};
 ghost use Rattle.sparql_algebra.specs.Results.{HasSolution, IsSelection, Solves};
+ghost use Rattle.sparql_algebra.specs.Sorted.{sorted_solutions};
+ghost use Rattle.sparql_trees.specs.Visible.{visible};
 
 use crate::evaluator::group_rows;
-use crate::order::ordered;
+use crate::order::{ordered, sort_rows};
 use crate::rows::Row;
 use rdf_dataset::Source;
 use rdf_terms::{GraphName, Items, NoMemory, Text, Vocabulary};
@@ -17,8 +19,8 @@ use std::alloc::Global;
 pub struct Solutions {
     /// The visible variables in the order of their names.
     pub variables: Items<Text>,
-    /// The solutions in any order, each as often as the algebra counts it; the columns of a row are
-    /// the variables.
+    /// The solutions, each as often as the algebra counts it, from [`solve`] in any order and from
+    /// [`sorted_solutions`] in theirs; the columns of a row are the variables.
     pub rows: Vec<Row>,
 }
 
@@ -40,6 +42,27 @@ pub fn solve<S: Source>(
     let names = variables.as_slice();
     let rows = group_rows(alloc, names, &vocabulary, graph, source, pattern)?;
     Ok(Solutions { variables, rows })
+}
+
+/// The solutions of a pattern in a graph of a dataset, each as often as the algebra counts it,
+/// sorted by the values of the visible variables in the order of their names, unbound first. This
+/// order is the project's own, SPARQL 1.1 Update, section 4.3, names none.
+///
+/// # Errors
+/// [`NoMemory`] where memory is wanting.
+pub fn sorted_solutions<S: Source>(
+    alloc: Global,
+    pattern: &Pattern,
+    graph: &GraphName,
+    source: &S,
+) -> Result<Solutions, NoMemory>
+    ensures variables { IfOk result (λ s. s.variables ≡ visible pattern.now) }
+    ensures rows { IfOk result (λ s. s.rows.items
+        ≡ sorted_solutions pattern.now graph.now (S.contents source.now)) }
+{
+    let mut found = solve(alloc, pattern, graph, source)?;
+    sort_rows(&mut found.rows)?;
+    Ok(found)
 }
 
 // The columns of the names; a name that is no variable has none.

@@ -1,5 +1,6 @@
 //! Rows: mappings over the columns of a pattern (SPARQL 1.1 Query, section 18.1.4).
 ghost use Rattle.std.specs.Prelude.{◌≡◌, ◌+◌, ◌<◌, length, is_some, slice_get, slice_set, Some, IfOk, replicate, None, take, if◌then◌else◌, nat_lt, map};
+ghost use Rattle.std.specs.Option.{option_map};
 ghost use Rattle.sparql_values.specs.Mapping.{agrees, first_of, compatible, merge, same_term, single, value_at, value_in};
 ghost use Rattle.sparql_algebra.specs.Order.{mapping_cmp};
 ghost use Rattle.sparql_solve.specs.Matching.{assigned, vacant};
@@ -63,6 +64,17 @@ impl Row {
         ensures { result.now ≡ self.now }
     {
         self.values.as_slice()
+    }
+
+    /// What stands at the column; past the last one nothing does.
+    pub fn value(&self, column: usize) -> Option<&Term>
+        ensures { option_map (λ t. t.now) result ≡ value_at self.now column }
+    {
+        if column < self.values.len() {
+            self.values[column].as_ref()
+        } else {
+            None
+        }
     }
 
     pub(crate) fn is_compatible(&self, other: &Row) -> bool

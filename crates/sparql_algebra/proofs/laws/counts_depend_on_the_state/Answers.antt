@@ -2,7 +2,8 @@ use Rattle.std.proofs.Common.{cond}
 use Rattle.sparql_values.specs.Mapping.{same_mapping}
 use Rattle.sparql_algebra.proofs.CountLawLemmas.{assignments_count_once, assignments_listed}
 use Rattle.sparql_algebra.proofs.IndependenceLemmas.{listings_same}
-use Rattle.sparql_algebra.proofs.ListingLemmas.{listing_of, there_is_a_listing, triple_listed, name_listed}
+use Rattle.sparql_algebra.specs.Listing.{listing_of}
+use Rattle.sparql_algebra.proofs.ListingLemmas.{there_is_a_listing, triple_listed, name_listed}
 use Rattle.sparql_algebra.proofs.laws.counts_depend_on_the_state.Goals as goal
 
 pub returns-clause-listing : goal.returns-clause-listing
