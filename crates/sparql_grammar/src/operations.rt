@@ -280,7 +280,7 @@ fn templates<'a>(
     }
 }
 
-#[tactic(auto, unfolding(crate::specs::OperationReading::modify))]
+#[tactic(auto, unfolding(crate::specs::OperationReading::modify, rdf_grammar::specs::Terminals::the))]
 fn modify<'a>(parser: &mut Parser<'_, 'a>) -> Result<Modify<'a>, GrammarFault>
     ensures reads { Reads
         (spec.modify in_data spec.in_graph whole_group parser.old) result parser.new }
