@@ -6,12 +6,15 @@ pub mod GrammarTriples
 pub mod GroupElements
 pub mod GroupNests
 pub mod GroupProductions
+pub mod GroupProper
 pub mod GroupTurns
+pub mod GroupWhole
 pub mod OperationData
 pub mod OperationNests
 pub mod OperationParts
 pub mod OperationProductions
 pub mod OperationProper
+pub mod OperationTemplates
 pub mod OperationTurns
 pub mod OperationWhole
 pub mod PrologueProductions
