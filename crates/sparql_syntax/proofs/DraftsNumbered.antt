@@ -3,26 +3,33 @@ use Rattle.std.proofs.Common.{◌≡◌, ap, refl, subst, ℕ, Bool, true, false
 use Rattle.std.specs.Prelude.{Result, Ok, Err, ok_or}
 use Rattle.std.proofs.lemmas.Option.{same_Some}
 use Rattle.std.specs.List.{AllByRecursion}
-use Rattle.std.specs.Option.{option_map}
+use Rattle.std.specs.Option.{option_and_then, option_map}
 use Rattle.rdf_grammar.specs.Prologue as prologue
 use Rattle.rdf_grammar.specs.Prologue.{Prologue}
 use Rattle.rdf_grammar.specs.Steps.{Outcome, and_then}
+use Rattle.rdf_grammar.specs.declared.tree.Name.{Name}
+use Rattle.sparql_grammar.specs.QuadGroups.{quads_group}
+use Rattle.sparql_grammar.specs.declared.tree.Block.{Block}
 use Rattle.sparql_grammar.specs.declared.tree.Declaration.{Declaration}
+use Rattle.sparql_grammar.specs.declared.tree.Group.{Group}
 use Rattle.sparql_grammar.specs.declared.tree.Operation.{Operation}
 use Rattle.sparql_grammar.specs.declared.tree.Operation.TheVariants as o
 use Rattle.sparql_grammar.specs.declared.tree.Part.{Part}
 use Rattle.sparql_grammar.specs.declared.tree.Part.TheVariants as w
 use Rattle.sparql_drafts.proofs.BlankSteps.{then_parts}
 use Rattle.sparql_drafts.proofs.DraftsBelow.{data_numbered}
+use Rattle.sparql_drafts.specs.Blanks.{IsNumbered}
 use Rattle.sparql_drafts.specs.declared.draft.Quads.{Quads}
 use Rattle.sparql_drafts.specs.Meaning.{quads_in, declaration}
+use Rattle.sparql_queries.specs.Groups.{Labels, group}
 use Rattle.sparql_syntax.specs.Blanks.{IsDraftNumbered, BlankNumbersAreBelow}
 use Rattle.sparql_syntax.specs.Known.{declares_first}
 use Rattle.sparql_syntax.specs.declared.draft.Draft.{Draft}
 use Rattle.sparql_syntax.specs.declared.draft.Draft.TheVariants as d
 use Rattle.sparql_syntax.specs.declared.fault.SyntaxFaultKind.{SyntaxFaultKind}
 use Rattle.sparql_syntax.specs.declared.fault.SyntaxFaultKind.TheVariants.{Relative, UnknownPrefix}
-use Rattle.sparql_syntax.specs.Meaning.{operation, part, listed, drafts, drafts_behind, drafts_of}
+use Rattle.sparql_syntax.specs.Meaning.{operation, part, listed, drafts, drafts_behind, drafts_of, modification, modification_of, templates, with_graph}
+use Rattle.sparql_trees.specs.declared.pattern.Pattern.{Pattern}
 
 -- an operation without data
 other_numbered : {A : Type 0} (f : A → Draft) (r : Option A) (draft : Draft) → ((a : A) → IsDraftNumbered (f a)) → option_map f r ≡ Some draft → IsDraftNumbered draft
@@ -33,10 +40,37 @@ some_data : (f : Quads → Draft) (r : Option Quads) (draft : Draft) → ((q : Q
 some_data f None draft h e = absurd (cc e)
 some_data f (Some q) draft h e = subst IsDraftNumbered (same_Some _ _ e) (h q refl)
 
+-- ---- templates
+
+abbrev AreNumbered : Quads × Quads → Type 0
+AreNumbered quads = IsNumbered quads.0 × IsNumbered quads.1
+
+both_numbered : (a b : Option Quads) (quads : Quads × Quads) → ((q : Quads) → a ≡ Some q → IsNumbered q) → ((q : Quads) → b ≡ Some q → IsNumbered q)
+    → option_and_then (λ d. option_map {U = Quads × Quads} (λ i. (d, i)) b) a ≡ Some quads → AreNumbered quads
+both_numbered None b quads h i e = absurd (cc e)
+both_numbered (Some d) None quads h i e = absurd (cc e)
+both_numbered (Some d) (Some i) quads h k e = subst AreNumbered (same_Some _ _ e) (h d refl, k i refl)
+
+templates_numbered : (delete insert : List Block) (p : Prologue) (quads : Quads × Quads) → templates delete insert p ≡ Some quads → AreNumbered quads
+templates_numbered delete insert p quads e = both_numbered (quads_in delete p) (quads_in insert p) quads (λ q. data_numbered delete p q) (λ q. data_numbered insert p q) e
+
+modified_by : (graph : Option (Option (List ℕ))) (both : Option (Quads × Quads)) (said : Option (Pattern × Labels)) (draft : Draft) → ((quads : Quads × Quads) → both ≡ Some quads → AreNumbered quads)
+    → option_map d.Modify (option_and_then (λ w. option_and_then (λ quads. option_map (modification_of w quads) said) both) graph) ≡ Some draft → IsDraftNumbered draft
+modified_by None both said draft h e = absurd (cc e)
+modified_by (Some w) None said draft h e = absurd (cc e)
+modified_by (Some w) (Some quads) None draft h e = absurd (cc e)
+modified_by (Some w) (Some quads) (Some s) draft h e = subst IsDraftNumbered (same_Some _ _ e) (h quads refl)
+
+modification_numbered : (with : Option Name) (delete insert : List Block) (g : Group) (p : Prologue) (draft : Draft) → option_map d.Modify (modification with delete insert g p) ≡ Some draft
+    → IsDraftNumbered draft
+modification_numbered with delete insert g p draft e = modified_by (with_graph with p) (templates delete insert p) (group p g []) draft (templates_numbered delete insert p) e
+
 operation_numbered : (w : Operation) (p : Prologue) (draft : Draft) → operation w p ≡ Some draft → IsDraftNumbered draft
 unfolding operation
 operation_numbered (o.InsertData blocks) p draft e = some_data d.InsertData (quads_in blocks p) draft (λ q. data_numbered blocks p q) e
 operation_numbered (o.DeleteData blocks) p draft e = some_data d.DeleteData (quads_in blocks p) draft (λ q. data_numbered blocks p q) e
+operation_numbered (o.DeleteWhere blocks) p draft e = modification_numbered None blocks [] (quads_group blocks) p draft e
+operation_numbered (o.Modify m) p draft e = modification_numbered m.with m.delete m.insert m.group p draft e
 operation_numbered (o.Create silent name) p draft e = other_numbered _ _ draft (λ _. tt) e
 operation_numbered (o.Clear silent graphs) p draft e = other_numbered _ _ draft (λ _. tt) e
 operation_numbered (o.Drop silent graphs) p draft e = other_numbered _ _ draft (λ _. tt) e

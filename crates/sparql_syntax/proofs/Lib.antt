@@ -1,5 +1,7 @@
 pub mod AnswerLemmas
 pub mod DraftsNumbered
+pub mod LabelLemmas
+pub mod ModifyLemmas
 mod PhaseLemmas
 mod ProfileLemmas
 mod QueryCases

@@ -17,7 +17,8 @@ use Rattle.sparql_queries.specs.Known.{known_query}
 use Rattle.sparql_queries.specs.Queries.{query_in}
 use Rattle.sparql_syntax.specs.declared.fault.SyntaxFaultKind.{SyntaxFaultKind}
 use Rattle.sparql_syntax.specs.declared.fault.SyntaxFaultKind.TheVariants as fault
-use Rattle.sparql_syntax.specs.Query.{meaning, ruled, repeats_label}
+use Rattle.sparql_syntax.specs.Labels.{repeats_label}
+use Rattle.sparql_syntax.specs.Query.{meaning, ruled}
 use Rattle.sparql_syntax.specs.QueryLaws.{SomeMeaning, OneQuery, NeverBoth, OneFault}
 use Rattle.sparql_trees.specs.declared.query.Query.{Query}
 use Rattle.sparql_syntax.proofs.PhaseLemmas as phases

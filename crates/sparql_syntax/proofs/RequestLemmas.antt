@@ -58,6 +58,7 @@ answer_kind base tree k e = kind_by (declares_first [] tree) (drafts_of base tre
 draft_below : (d : Draft) → IsDraftNumbered d → IsDraftBelow d
 draft_below (draft.InsertData quads) h = numbered_below quads h
 draft_below (draft.DeleteData quads) h = numbered_below quads h
+draft_below (draft.Modify m) h = tt
 draft_below (draft.Other operation) h = tt
 
 all_below : (drafts : List Draft) → AllByRecursion IsDraftNumbered drafts → AllByRecursion IsDraftBelow drafts

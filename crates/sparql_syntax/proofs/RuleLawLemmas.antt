@@ -54,6 +54,7 @@ all_quads (p ∷ ps) e f =
 draft_quads : (d : Draft) → has_variable_in_data d ≡ false → has_literal_subject d ≡ false → has_quads d ≡ true
 draft_quads (draft.InsertData quads) e f = all_quads quads.patterns (no_second (list_any is_variable quads.graphs) (list_any has_variable quads.patterns) e) f
 draft_quads (draft.DeleteData quads) e f = all_quads quads.patterns (no_second (list_any is_variable quads.graphs) (list_any has_variable quads.patterns) e) f
+draft_quads (draft.Modify m) e f = refl
 draft_quads (draft.Other other) e f = refl
 
 drafts_quads : (ds : List Draft) → list_any has_variable_in_data ds ≡ false → list_any has_literal_subject ds ≡ false → list_all has_quads ds ≡ true
@@ -85,6 +86,6 @@ patterns_are_quads drafts operations e =
     let a = list_any has_blank_in_delete drafts in
     let b = list_any has_variable_in_data drafts in
     let c = list_any has_literal_subject drafts in
-    let d = reuses_label [] drafts in
+    let d = reuses_label drafts in
     let written = map operation_of drafts in
     drafts_quads drafts (no_variable a b c d written operations e) (no_literal a b c d written operations e)

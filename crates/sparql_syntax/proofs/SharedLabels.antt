@@ -1,16 +1,19 @@
--- A label is reused just where it stands in the data of two INSERT DATA operations.
+-- A label is repeated just where it stands in two lists, and reused just where it is shared.
 use Rattle.std.proofs.Common.{◌≡◌, ◌≤◌, ◌+◌, ℕ, Bool, true, false, cond, ◌||◌, List, [], ◌∷◌, ◌++◌, ◌⊎◌, inl, inr, refl, sym, ap, ◌∙◌, arith}
-use Rattle.std.specs.List.{list_any, count_by}
+use Rattle.std.specs.List.{count_by, flat_map, list_any, sum_by}
 use Rattle.std.proofs.lemmas.Cmp.{nat_list_eq_equiv}
 use Rattle.std.proofs.lemmas.List.Folds.{list_any-append}
 use Rattle.std.proofs.lemmas.List.Recursion.{is_count_by}
+use Rattle.std.proofs.lemmas.List.Sums.{sum_by-append}
 use Rattle.std.proofs.lemmas.Map.Steps.{list_any_congr}
 use Rattle.indexmap.specs.IndexSet.{insert_key}
 use Rattle.rdf_grammar.specs.Keys.{key_of, same_key}
 use Rattle.sparql_syntax.specs.declared.draft.Draft.{Draft}
 use Rattle.sparql_syntax.specs.declared.draft.Draft.TheVariants as draft
-use Rattle.sparql_syntax.specs.RuleLaws.{brings_label, LabelsAreShared}
-use Rattle.sparql_syntax.specs.Rules.{is_among, known_behind, reuses_label}
+use Rattle.sparql_queries.specs.Groups.{Labels}
+use Rattle.sparql_syntax.specs.Labels.{is_among, known_behind, repeats_label}
+use Rattle.sparql_syntax.specs.RuleLaws.{brings_label, patterns_with, stands_in, HasSharedLabel, LabelsAreShared}
+use Rattle.sparql_syntax.specs.Rules.{inserted_labels, pattern_labels, reuses_label}
 
 abbrev Keys : Type 0
 Keys = List (List ℕ)
@@ -80,101 +83,156 @@ meets : (key : List ℕ) (known labels : Keys) → list_any (same_key key) known
 meets key known [] among e = absurd cc
 meets key known (label ∷ labels) among e = meets_by key known labels label (same_key key (key_of label)) refl among e (meets key known labels among)
 
--- ---- what is reused stands in two
+-- ---- what is repeated stands in two
 
--- in how many operations a label is brought
-times : List ℕ → List Draft → ℕ
+-- in how many lists a label stands
+times : List ℕ → Labels → ℕ
 times label [] = 0
-times label (d ∷ ds) = cond (brings_label label d) (1 + times label ds) (times label ds)
+times label (labels ∷ lists) = cond (stands_in label labels) (1 + times label lists) (times label lists)
 
--- a label that stands in one operation and is known, or in two
-record Shared (known : Keys) (ds : List Draft) : Type 0 where
+-- a label stands in one list and is known, or in two
+abbrev Often : Keys → Labels → List ℕ → Type 0
+Often known lists label = ((is_among known label ≡ true) × (1 ≤ times label lists)) ⊎ (2 ≤ times label lists)
+
+record Shared (known : Keys) (lists : Labels) : Type 0 where
   label : List ℕ
-  often : ((is_among known label ≡ true) × (1 ≤ times label ds)) ⊎ (2 ≤ times label ds)
+  often : Often known lists label
 
-from_first : (known labels : Keys) (d : Draft) (ds : List Draft) → ((label : List ℕ) → brings_label label d ≡ stands (key_of label) labels) → Met known labels → Shared known (d ∷ ds)
+from_first : (known labels : Keys) (lists : Labels) → Met known labels → Shared known (labels ∷ lists)
 unfolding times
-from_first known labels d ds is m = record { label = m.label; often = inl (m.among, rw (is m.label, m.stood) (omega arith)) }
+from_first known labels lists m = record { label = m.label; often = inl (m.among, rw m.stood (omega arith)) }
 
-from_rest_by : (known labels : Keys) (d : Draft) (ds : List Draft) (label : List ℕ) (a b : Bool) → is_among known label ≡ a → brings_label label d ≡ b → (a || b) ≡ true → 1 ≤ times label ds
-    → ((is_among known label ≡ true) × (1 ≤ times label (d ∷ ds))) ⊎ (2 ≤ times label (d ∷ ds))
+from_rest_by : (known labels : Keys) (lists : Labels) (label : List ℕ) (a b : Bool) → is_among known label ≡ a → stands_in label labels ≡ b → (a || b) ≡ true → 1 ≤ times label lists
+    → Often known (labels ∷ lists) label
 unfolding times
-from_rest_by known labels d ds label true true e f h one = inr (rw f (omega (arith, one)))
-from_rest_by known labels d ds label true false e f h one = inl (e, rw f one)
-from_rest_by known labels d ds label false true e f h one = inr (rw f (omega (arith, one)))
-from_rest_by known labels d ds label false false e f h one = absurd cc
+from_rest_by known labels lists label true true e f h one = inr (rw f (omega (arith, one)))
+from_rest_by known labels lists label true false e f h one = inl (e, rw f one)
+from_rest_by known labels lists label false true e f h one = inr (rw f (omega (arith, one)))
+from_rest_by known labels lists label false false e f h one = absurd cc
 
-more : (label : List ℕ) (d : Draft) (ds : List Draft) (b : Bool) → brings_label label d ≡ b → times label ds ≤ times label (d ∷ ds)
+more : (label : List ℕ) (labels : Keys) (lists : Labels) (b : Bool) → stands_in label labels ≡ b → times label lists ≤ times label (labels ∷ lists)
 unfolding times
-more label d ds true e = rw e (omega arith)
-more label d ds false e = rw e (omega arith)
+more label labels lists true e = rw e (omega arith)
+more label labels lists false e = rw e (omega arith)
 
-from_rest : (known labels : Keys) (d : Draft) (ds : List Draft) → ((label : List ℕ) → brings_label label d ≡ stands (key_of label) labels) → (label : List ℕ)
-    → ((is_among (known_behind known labels) label ≡ true) × (1 ≤ times label ds)) ⊎ (2 ≤ times label ds) → ((is_among known label ≡ true) × (1 ≤ times label (d ∷ ds))) ⊎ (2 ≤ times label (d ∷ ds))
-from_rest known labels d ds is label (inl h) =
-    from_rest_by known labels d ds label (is_among known label) (stands (key_of label) labels) refl (is label) (sym (known_grows (key_of label) labels known) ∙ h.0) h.1
-from_rest known labels d ds is label (inr two) = let e = more label d ds (brings_label label d) refl in inr (omega (arith, e, two))
+from_rest : (known labels : Keys) (lists : Labels) (label : List ℕ) → Often (known_behind known labels) lists label → Often known (labels ∷ lists) label
+from_rest known labels lists label (inl h) =
+    from_rest_by known labels lists label (is_among known label) (stands_in label labels) refl refl (sym (known_grows (key_of label) labels known) ∙ h.0) h.1
+from_rest known labels lists label (inr two) = let e = more label labels lists (stands_in label labels) refl in inr (omega (arith, e, two))
 
-from_other : (known : Keys) (d : Draft) (ds : List Draft) → ((label : List ℕ) → brings_label label d ≡ false) → Shared known ds → Shared known (d ∷ ds)
-unfolding times
-from_other known d ds is m = record { label = m.label; often = rw (is m.label) m.often }
+by_parts : (known labels : Keys) (lists : Labels) (b : Bool) → list_any (is_among known) labels ≡ b → (b || repeats_label (known_behind known labels) lists) ≡ true
+    → (repeats_label (known_behind known labels) lists ≡ true → Shared (known_behind known labels) lists) → Shared known (labels ∷ lists)
+by_parts known labels lists true e f rest = from_first known labels lists (met known labels e)
+by_parts known labels lists false e f rest = let m = rest f in record { label = m.label; often = from_rest known labels lists m.label m.often }
 
-by_parts : (known labels : Keys) (d : Draft) (ds : List Draft) → ((label : List ℕ) → brings_label label d ≡ stands (key_of label) labels) → (b : Bool) → list_any (is_among known) labels ≡ b
-    → (b || reuses_label (known_behind known labels) ds) ≡ true → (reuses_label (known_behind known labels) ds ≡ true → Shared (known_behind known labels) ds) → Shared known (d ∷ ds)
-by_parts known labels d ds is true e f rest = from_first known labels d ds is (met known labels e)
-by_parts known labels d ds is false e f rest = let m = rest f in record { label = m.label; often = from_rest known labels d ds is m.label m.often }
-
-shared : (known : Keys) (ds : List Draft) → reuses_label known ds ≡ true → Shared known ds
+shared : (known : Keys) (lists : Labels) → repeats_label known lists ≡ true → Shared known lists
 shared known [] e = absurd cc
-shared known (draft.InsertData quads ∷ ds) e =
-    by_parts known quads.labels (draft.InsertData quads) ds (λ label. refl) (list_any (is_among known) quads.labels) refl e (shared (known_behind known quads.labels) ds)
-shared known (draft.DeleteData quads ∷ ds) e = from_other known (draft.DeleteData quads) ds (λ label. refl) (shared known ds e)
-shared known (draft.Other other ∷ ds) e = from_other known (draft.Other other) ds (λ label. refl) (shared known ds e)
+shared known (labels ∷ lists) e = by_parts known labels lists (list_any (is_among known) labels) refl e (shared (known_behind known labels) lists)
 
--- ---- what stands in two is reused
+-- ---- what stands in two is repeated
 
--- where the label is known one operation is enough
-record Reused (label : List ℕ) (known : Keys) (ds : List Draft) : Type 0 where
-  once : is_among known label ≡ true → 1 ≤ times label ds → reuses_label known ds ≡ true
-  twice : 2 ≤ times label ds → reuses_label known ds ≡ true
+-- where the label is known one list is enough
+record Repeated (label : List ℕ) (known : Keys) (lists : Labels) : Type 0 where
+  once : is_among known label ≡ true → 1 ≤ times label lists → repeats_label known lists ≡ true
+  twice : 2 ≤ times label lists → repeats_label known lists ≡ true
 
-once_by : (label : List ℕ) (known labels : Keys) (ds : List Draft) (b : Bool) → stands (key_of label) labels ≡ b → is_among known label ≡ true → 1 ≤ cond b (1 + times label ds) (times label ds)
-    → Reused label (known_behind known labels) ds → (list_any (is_among known) labels || reuses_label (known_behind known labels) ds) ≡ true
-once_by label known labels ds true e among one rest = rw (meets (key_of label) known labels among e) refl
-once_by label known labels ds false e among one rest = rw (rest.once (rw (known_grows (key_of label) labels known, among) refl) one) (or_yes _)
+once_by : (label : List ℕ) (known labels : Keys) (lists : Labels) (b : Bool) → stands (key_of label) labels ≡ b → is_among known label ≡ true
+    → 1 ≤ cond b (1 + times label lists) (times label lists) → Repeated label (known_behind known labels) lists
+    → (list_any (is_among known) labels || repeats_label (known_behind known labels) lists) ≡ true
+once_by label known labels lists true e among one rest = rw (meets (key_of label) known labels among e) refl
+once_by label known labels lists false e among one rest = rw (rest.once (rw (known_grows (key_of label) labels known, among) refl) one) (or_yes _)
 
-twice_by : (label : List ℕ) (known labels : Keys) (ds : List Draft) (b : Bool) → stands (key_of label) labels ≡ b → 2 ≤ cond b (1 + times label ds) (times label ds)
-    → Reused label (known_behind known labels) ds → (list_any (is_among known) labels || reuses_label (known_behind known labels) ds) ≡ true
-twice_by label known labels ds true e two rest =
-    let one : (1 ≤ times label ds) = omega (arith, two) in
+twice_by : (label : List ℕ) (known labels : Keys) (lists : Labels) (b : Bool) → stands (key_of label) labels ≡ b → 2 ≤ cond b (1 + times label lists) (times label lists)
+    → Repeated label (known_behind known labels) lists → (list_any (is_among known) labels || repeats_label (known_behind known labels) lists) ≡ true
+twice_by label known labels lists true e two rest =
+    let one : (1 ≤ times label lists) = omega (arith, two) in
     rw (rest.once (rw (known_grows (key_of label) labels known, e) (or_yes _)) one) (or_yes _)
-twice_by label known labels ds false e two rest = rw (rest.twice two) (or_yes _)
+twice_by label known labels lists false e two rest = rw (rest.twice two) (or_yes _)
 
-reused : (label : List ℕ) (known : Keys) (ds : List Draft) → Reused label known ds
+repeated : (label : List ℕ) (known : Keys) (lists : Labels) → Repeated label known lists
 unfolding times
-reused label known [] = record { once = λ among one. absurd (omega (arith, one)); twice = λ two. absurd (omega (arith, two)) }
-reused label known (draft.InsertData quads ∷ ds) =
-    let rest = reused label (known_behind known quads.labels) ds in
-    let b = stands (key_of label) quads.labels in
+repeated label known [] = record { once = λ among one. absurd (omega (arith, one)); twice = λ two. absurd (omega (arith, two)) }
+repeated label known (labels ∷ lists) =
+    let rest = repeated label (known_behind known labels) lists in
+    let b = stands (key_of label) labels in
     record {
-      once = λ among one. once_by label known quads.labels ds b refl among one rest;
-      twice = λ two. twice_by label known quads.labels ds b refl two rest;
+      once = λ among one. once_by label known labels lists b refl among one rest;
+      twice = λ two. twice_by label known labels lists b refl two rest;
     }
-reused label known (draft.DeleteData quads ∷ ds) = let rest = reused label known ds in record { once = rest.once; twice = rest.twice }
-reused label known (draft.Other other ∷ ds) = let rest = reused label known ds in record { once = rest.once; twice = rest.twice }
+
+-- ---- lists that begin with none known
+
+unknown : (lists : Labels) (label : List ℕ) → Often [] lists label → 2 ≤ times label lists
+unknown lists label (inl h) = absurd (cc h.0)
+unknown lists label (inr two) = two
+
+-- a label stands in two of the lists
+abbrev InTwo : Labels → Type 0
+InTwo lists = (label : List ℕ) × (2 ≤ times label lists)
+
+in_two : (lists : Labels) → repeats_label [] lists ≡ true → InTwo lists
+in_two lists e = let m = shared [] lists e in (m.label, unknown lists m.label m.often)
+
+from_two : (lists : Labels) (label : List ℕ) → 2 ≤ times label lists → repeats_label [] lists ≡ true
+from_two lists label two = (repeated label [] lists).twice two
+
+-- ---- the lists of a request
+
+counted : (label : List ℕ) (lists : Labels) → times label lists ≡ count_by (stands_in label) lists
+unfolding times
+counted label lists = is_count_by (times label) (stands_in label) refl (λ labels rest. refl) lists
+
+times-append : (label : List ℕ) (lists others : Labels) → times label (lists ++ others) ≡ times label lists + times label others
+times-append label lists others =
+    counted label (lists ++ others) ∙ (sum_by-append (λ labels. cond (stands_in label labels) 1 0) lists others ∙ sym (rw (counted label lists, counted label others) refl))
+
+one_list : (label : List ℕ) (labels : Keys) (b : Bool) → stands_in label labels ≡ b → times label (labels ∷ []) ≡ cond b 1 0
+unfolding times
+one_list label labels true e = rw e refl
+one_list label labels false e = rw e refl
+
+in_data : (label : List ℕ) (d : Draft) → times label (inserted_labels d) ≡ cond (brings_label label d) 1 0
+unfolding times
+in_data label (draft.InsertData quads) = one_list label quads.labels (stands_in label quads.labels) refl
+in_data label (draft.DeleteData quads) = refl
+in_data label (draft.Modify m) = refl
+in_data label (draft.Other other) = refl
+
+in_patterns : (label : List ℕ) (d : Draft) → times label (pattern_labels d) ≡ patterns_with label d
+unfolding times
+in_patterns label (draft.InsertData quads) = refl
+in_patterns label (draft.DeleteData quads) = refl
+in_patterns label (draft.Modify m) = counted label m.labels
+in_patterns label (draft.Other other) = refl
+
+-- in the lists of all operations, as often as in those of each
+summed : (label : List ℕ) (f : Draft → Labels) (g : Draft → ℕ) → ((d : Draft) → times label (f d) ≡ g d) → (ds : List Draft) → times label (flat_map f ds) ≡ sum_by g ds
+unfolding times
+summed label f g is [] = refl
+summed label f g is (d ∷ ds) =
+    times-append label (f d) (flat_map f ds) ∙ rw (is d, summed label f g is ds) refl
+
+data_times : (label : List ℕ) (ds : List Draft) → times label (flat_map inserted_labels ds) ≡ count_by (brings_label label) ds
+data_times label ds = summed label inserted_labels (λ d. cond (brings_label label d) 1 0) (in_data label) ds
+
+pattern_times : (label : List ℕ) (ds : List Draft) → times label (flat_map pattern_labels ds) ≡ sum_by (patterns_with label) ds
+pattern_times label ds = summed label pattern_labels (patterns_with label) (in_patterns label) ds
 
 -- ---- the law
 
-counted : (label : List ℕ) (ds : List Draft) → times label ds ≡ count_by (brings_label label) ds
-unfolding times
-counted label ds = is_count_by (times label) (brings_label label) refl (λ d rest. refl) ds
+data_shared : (ds : List Draft) → InTwo (flat_map inserted_labels ds) → HasSharedLabel ds
+data_shared ds m = (m.0, inl (rw (sym (data_times m.0 ds)) m.1))
 
-unknown : (ds : List Draft) (label : List ℕ) → ((is_among [] label ≡ true) × (1 ≤ times label ds)) ⊎ (2 ≤ times label ds) → 2 ≤ times label ds
-unknown ds label (inl h) = absurd (cc h.0)
-unknown ds label (inr two) = two
+patterns_shared : (ds : List Draft) → InTwo (flat_map pattern_labels ds) → HasSharedLabel ds
+patterns_shared ds m = (m.0, inr (rw (sym (pattern_times m.0 ds)) m.1))
+
+reused_by : (ds : List Draft) (a : Bool) → repeats_label [] (flat_map inserted_labels ds) ≡ a → (a || repeats_label [] (flat_map pattern_labels ds)) ≡ true → HasSharedLabel ds
+reused_by ds true e f = data_shared ds (in_two (flat_map inserted_labels ds) e)
+reused_by ds false e f = patterns_shared ds (in_two (flat_map pattern_labels ds) f)
+
+shared_by : (ds : List Draft) (label : List ℕ) → (2 ≤ count_by (brings_label label) ds) ⊎ (2 ≤ sum_by (patterns_with label) ds) → reuses_label ds ≡ true
+shared_by ds label (inl two) = rw (from_two (flat_map inserted_labels ds) label (rw (data_times label ds) two)) refl
+shared_by ds label (inr two) = rw (from_two (flat_map pattern_labels ds) label (rw (pattern_times label ds) two)) (or_yes _)
 
 pub labels_are_shared : LabelsAreShared
-labels_are_shared drafts = (
-  λ e. let m = shared [] drafts e in (m.label, rw (sym (counted m.label drafts)) (unknown drafts m.label m.often)),
-  λ h. (reused h.0 [] drafts).twice (rw (counted h.0 drafts) h.1),
-)
+labels_are_shared ds = (reused_by ds (repeats_label [] (flat_map inserted_labels ds)) refl, λ h. shared_by ds h.0 h.1)

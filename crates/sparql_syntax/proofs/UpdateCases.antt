@@ -40,7 +40,7 @@ rule_kind false false false false operations k e = absurd (ok_err operations k e
 
 judged_kind : (drafts : List Draft) (k : SyntaxFaultKind) → judged drafts ≡ Err k → IsKindOfTree k
 judged_kind drafts k e =
-    rule_kind (list_any has_blank_in_delete drafts) (list_any has_variable_in_data drafts) (list_any has_literal_subject drafts) (reuses_label [] drafts) (map operation_of drafts) k e
+    rule_kind (list_any has_blank_in_delete drafts) (list_any has_variable_in_data drafts) (list_any has_literal_subject drafts) (reuses_label drafts) (map operation_of drafts) k e
 
 name_kind : (k : SyntaxFaultKind) → (k ≡ fault.UnknownPrefix) ⊎ (k ≡ fault.Relative) → IsKindOfTree k
 name_kind k (inl e) = subst IsKindOfTree (sym e) (λ base text h line. h)

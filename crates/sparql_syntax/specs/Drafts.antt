@@ -3,8 +3,9 @@ use Rattle.sparql_drafts.specs.Drafts.{ArePatternsBelow}
 use Rattle.sparql_syntax.specs.declared.draft.Draft.{Draft}
 use Rattle.sparql_syntax.specs.declared.draft.Draft.TheVariants as draft
 
--- the blank nodes of data have numbers below their count
+-- the blank nodes of data have numbers below their count; templates are taken as they are
 abbrev pub IsDraftBelow : Draft → Type 0
 IsDraftBelow (draft.InsertData quads) = ArePatternsBelow quads.blanks quads.patterns
 IsDraftBelow (draft.DeleteData quads) = ArePatternsBelow quads.blanks quads.patterns
+IsDraftBelow (draft.Modify m) = Unit {0}
 IsDraftBelow (draft.Other operation) = Unit {0}

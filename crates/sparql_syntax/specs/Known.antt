@@ -1,18 +1,22 @@
 -- Prefixes are declared before they are used.
-use Rattle.std.specs.Prelude.{ℕ, Bool, true, false, ◌&&◌, List, [], ◌∷◌, map, if◌then◌else◌}
+use Rattle.std.specs.Prelude.{ℕ, Bool, true, false, ◌&&◌, List, [], ◌∷◌, map, Option, Some, None, if◌then◌else◌}
 use Rattle.std.specs.List.{list_all}
 use Rattle.rdf_grammar.specs.Prologue.{knows}
+use Rattle.rdf_grammar.specs.declared.tree.Name.{Name}
 use Rattle.sparql_grammar.specs.Proper.{holds}
+use Rattle.sparql_grammar.specs.declared.tree.Block.{Block}
 use Rattle.sparql_grammar.specs.declared.tree.GraphOrDefault.{GraphOrDefault}
 use Rattle.sparql_grammar.specs.declared.tree.GraphOrDefault.TheVariants as one
 use Rattle.sparql_grammar.specs.declared.tree.GraphRefAll.{GraphRefAll}
 use Rattle.sparql_grammar.specs.declared.tree.GraphRefAll.TheVariants as some
+use Rattle.sparql_grammar.specs.declared.tree.Modify.{Modify}
 use Rattle.sparql_grammar.specs.declared.tree.Operation.{Operation}
 use Rattle.sparql_grammar.specs.declared.tree.Operation.TheVariants as o
 use Rattle.sparql_grammar.specs.declared.tree.Part.{Part}
 use Rattle.sparql_grammar.specs.declared.tree.Part.TheVariants as p
 use Rattle.sparql_drafts.specs.Known as drafts
 use Rattle.sparql_drafts.specs.Known.{known_block}
+use Rattle.sparql_queries.specs.Known.{known_group}
 
 -- each prefix that stands in the tree is one of these
 module _ (declared : List (List ℕ)) where
@@ -24,9 +28,22 @@ module _ (declared : List (List ℕ)) where
   known_graph_or_default one.Default = true
   known_graph_or_default (one.Graph name) = knows declared name
 
+  abbrev pub known_blocks : List Block → Bool
+  known_blocks blocks = list_all holds (map (known_block declared) blocks)
+
+  -- what WITH names
+  abbrev pub known_with : Option Name → Bool
+  known_with None = true
+  known_with (Some name) = knows declared name
+
+  abbrev pub known_modify : Modify → Bool
+  known_modify m = known_with m.with && (known_blocks m.delete && (known_blocks m.insert && known_group declared m.group))
+
   unfoldable pub known_operation : Operation → Bool
-  known_operation (o.InsertData blocks) = list_all holds (map (known_block declared) blocks)
-  known_operation (o.DeleteData blocks) = list_all holds (map (known_block declared) blocks)
+  known_operation (o.InsertData blocks) = known_blocks blocks
+  known_operation (o.DeleteData blocks) = known_blocks blocks
+  known_operation (o.DeleteWhere blocks) = known_blocks blocks
+  known_operation (o.Modify m) = known_modify m
   known_operation (o.Create silent graph) = knows declared graph
   known_operation (o.Clear silent graphs) = known_graph_ref_all graphs
   known_operation (o.Drop silent graphs) = known_graph_ref_all graphs

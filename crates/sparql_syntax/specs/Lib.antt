@@ -3,7 +3,9 @@ pub mod Drafts
 pub mod FaultName
 pub mod Kept
 pub mod Known
+pub mod Labels
 pub mod Meaning
+pub mod ModifyLaws
 pub mod Phases
 pub mod Query
 pub mod QueryLaws

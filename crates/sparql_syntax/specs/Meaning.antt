@@ -5,10 +5,14 @@ use Rattle.std.specs.Option.{option_map, option_and_then}
 use Rattle.rdf_grammar.specs.Prologue as prologue
 use Rattle.rdf_grammar.specs.Prologue.{Prologue, iri_of}
 use Rattle.rdf_grammar.specs.Steps.{Step, ◌>>=◌, ◌<$>◌, pure}
+use Rattle.rdf_grammar.specs.declared.tree.Name.{Name}
+use Rattle.sparql_grammar.specs.QuadGroups.{quads_group}
+use Rattle.sparql_grammar.specs.declared.tree.Block.{Block}
 use Rattle.sparql_grammar.specs.declared.tree.GraphOrDefault.{GraphOrDefault}
 use Rattle.sparql_grammar.specs.declared.tree.GraphOrDefault.TheVariants as written_one
 use Rattle.sparql_grammar.specs.declared.tree.GraphRefAll.{GraphRefAll}
 use Rattle.sparql_grammar.specs.declared.tree.GraphRefAll.TheVariants as written_some
+use Rattle.sparql_grammar.specs.declared.tree.Group.{Group}
 use Rattle.sparql_grammar.specs.declared.tree.Operation.{Operation}
 use Rattle.sparql_grammar.specs.declared.tree.Operation.TheVariants as written
 use Rattle.sparql_grammar.specs.declared.tree.Part.{Part}
@@ -19,11 +23,15 @@ use Rattle.sparql_trees.specs.declared.operation.GraphRefAll as some
 use Rattle.sparql_trees.specs.declared.operation.GraphRefAll.TheVariants as some_of
 use Rattle.sparql_trees.specs.declared.operation.Operation.TheVariants as op
 use Rattle.sparql_drafts.specs.Meaning.{quads_in, declaration}
+use Rattle.sparql_drafts.specs.declared.draft.Quads.{Quads}
+use Rattle.sparql_queries.specs.Groups.{Labels, group}
 use Rattle.sparql_syntax.specs.declared.draft.Draft.{Draft}
-use Rattle.sparql_syntax.specs.declared.draft.Draft.TheVariants.{InsertData, DeleteData, Other}
+use Rattle.sparql_syntax.specs.declared.draft.Draft.TheVariants.{InsertData, DeleteData, Modify, Other}
+use Rattle.sparql_syntax.specs.declared.draft.Modification.{Modification}
 use Rattle.sparql_syntax.specs.declared.fault.SyntaxFaultKind.{SyntaxFaultKind}
 use Rattle.sparql_syntax.specs.declared.fault.SyntaxFaultKind.TheVariants.{UnknownPrefix, Relative}
 use Rattle.sparql_syntax.specs.Known.{declares_first}
+use Rattle.sparql_trees.specs.declared.pattern.Pattern.{Pattern}
 
 -- ---- operations
 
@@ -41,9 +49,30 @@ graph_or_default (written_one.Graph name) p = option_map one_of.Graph (iri_of na
 abbrev pub both : GraphOrDefault → GraphOrDefault → Prologue → Option (one.GraphOrDefault × one.GraphOrDefault)
 both from to p = option_and_then (λ f. option_map (λ u. (f, u)) (graph_or_default to p)) (graph_or_default from p)
 
+-- what WITH names, if it is there
+abbrev pub with_graph : Option Name → Prologue → Option (Option (List ℕ))
+with_graph None p = Some None
+with_graph (Some name) p = option_map Some (iri_of name p)
+
+-- the template of DELETE, then that of INSERT; one that isn't there is of no block
+abbrev pub templates : List Block → List Block → Prologue → Option (Quads × Quads)
+templates delete insert p = option_and_then (λ d. option_map (λ i. (d, i)) (quads_in insert p)) (quads_in delete p)
+
+abbrev pub modification_of : Option (List ℕ) → Quads × Quads → Pattern × Labels → Modification
+modification_of graph quads said = record { with = graph; delete = quads.0; insert = quads.1; pattern = said.0; labels = said.1 }
+
+-- the graph of WITH, both templates, and what the group says (SPARQL 1.1 Update, section 3.1.3)
+abbrev pub modification : Option Name → List Block → List Block → Group → Prologue → Option Modification
+modification with delete insert g p =
+    option_and_then (λ graph. option_and_then (λ quads. option_map (modification_of graph quads) (group p g [])) (templates delete insert p))
+    (with_graph with p)
+
+-- what is deleted is also the group (section 3.1.3.3)
 unfoldable pub operation : Operation → Prologue → Option Draft
 operation (written.InsertData blocks) p = option_map InsertData (quads_in blocks p)
 operation (written.DeleteData blocks) p = option_map DeleteData (quads_in blocks p)
+operation (written.DeleteWhere blocks) p = option_map Modify (modification None blocks [] (quads_group blocks) p)
+operation (written.Modify m) p = option_map Modify (modification m.with m.delete m.insert m.group p)
 operation (written.Create silent name) p = option_map (λ g. Other (op.Create silent g)) (iri_of name p)
 operation (written.Clear silent graphs) p = option_map (λ g. Other (op.Clear silent g)) (graph_ref_all graphs p)
 operation (written.Drop silent graphs) p = option_map (λ g. Other (op.Drop silent g)) (graph_ref_all graphs p)

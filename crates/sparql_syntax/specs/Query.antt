@@ -1,22 +1,16 @@
 -- What the bytes of a text say as a query (SPARQL 1.1 Query, section 19): a query, or a fault.
-use Rattle.std.specs.Prelude.{ℕ, Bool, false, ◌||◌, List, [], ◌∷◌, Option, Some, None, Result, Ok, Err, if◌then◌else◌}
-use Rattle.std.specs.List.{list_any}
+use Rattle.std.specs.Prelude.{ℕ, List, [], Option, Some, None, Result, Ok, Err, if◌then◌else◌}
 use Rattle.sparql_grammar.specs.declared.tree.Query as written
 use Rattle.sparql_grammar.specs.QueryGrammar as grammar
 use Rattle.sparql_queries.specs.Groups.{Labels}
 use Rattle.sparql_queries.specs.Known.{known_query}
 use Rattle.sparql_queries.specs.Queries.{query_in}
+use Rattle.sparql_syntax.specs.Labels.{repeats_label}
 use Rattle.sparql_syntax.specs.Phases as phases
-use Rattle.sparql_syntax.specs.Rules.{is_among, known_behind}
 use Rattle.sparql_syntax.specs.declared.fault.SyntaxFault.{SyntaxFault}
 use Rattle.sparql_syntax.specs.declared.fault.SyntaxFaultKind.{SyntaxFaultKind}
 use Rattle.sparql_syntax.specs.declared.fault.SyntaxFaultKind.TheVariants.{UnknownPrefix, Relative, BlankReused}
 use Rattle.sparql_trees.specs.declared.query.Query.{Query}
-
--- some list has a label that is known, or that stood in a list before it
-abbrev pub repeats_label : List (List ℕ) → Labels → Bool
-repeats_label known [] = false
-repeats_label known (labels ∷ lists) = list_any (is_among known) labels || repeats_label (known_behind known labels) lists
 
 -- a blank node label stands in one basic graph pattern alone (SPARQL 1.1 Query, section 4.1.4)
 abbrev pub ruled : Option (Query × Labels) → Result Query SyntaxFaultKind

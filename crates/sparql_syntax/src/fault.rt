@@ -30,7 +30,7 @@ pub enum SyntaxFaultKind {
     /// A relative reference has no base.
     #[error("Relative")]
     Relative,
-    /// A blank node stands in DELETE DATA.
+    /// A blank node stands in DELETE DATA, DELETE or DELETE WHERE.
     #[error("BlankInDelete")]
     BlankInDelete,
     /// A variable stands in INSERT DATA or DELETE DATA.
@@ -39,7 +39,7 @@ pub enum SyntaxFaultKind {
     /// A literal is a subject in INSERT DATA or DELETE DATA.
     #[error("LiteralSubject")]
     LiteralSubject,
-    /// A blank node label stood in another INSERT DATA of the request.
+    /// A blank node label stood in another INSERT DATA, or in another basic graph pattern.
     #[error("BlankReused")]
     BlankReused,
     /// Memory was wanting.

@@ -7,7 +7,8 @@ use indexmap::IndexSet;
 use rdf_grammar::Key;
 use rdf_terms::NoMemory;
 use sparql_drafts::{declare_prefix, unknown_blocks, unknown_name};
-use sparql_grammar::{GraphOrDefault, GraphRefAll, Operation, Part};
+use sparql_grammar::{GraphOrDefault, GraphRefAll, Modify, Name, Operation, Part};
+use sparql_queries::unknown_group;
 use std::alloc::Global;
 
 // Each of these answers where the first name stands whose prefix isn't declared.
@@ -44,15 +45,40 @@ fn unknown_places<'a>(
     unknown_place(declared, to)
 }
 
+fn unknown_with<'a>(declared: &IndexSet<Key<'a>>, name: &Option<Name<'a>>) -> Option<usize>
+    ensures { is_none result ≡ spec.known_with declared.now.keys name.now }
+{
+    match name {
+        Some(name) => unknown_name(declared, name),
+        None => None,
+    }
+}
+
+fn unknown_modify<'a>(declared: &IndexSet<Key<'a>>, modify: &Modify<'a>) -> Option<usize>
+    ensures { is_none result ≡ spec.known_modify declared.now.keys modify.now }
+{
+    if let Some(start) = unknown_with(declared, &modify.with) {
+        return Some(start);
+    }
+    if let Some(start) = unknown_blocks(declared, modify.delete.as_slice()) {
+        return Some(start);
+    }
+    if let Some(start) = unknown_blocks(declared, modify.insert.as_slice()) {
+        return Some(start);
+    }
+    unknown_group(declared, &modify.group)
+}
+
 // Where the first name of an operation stands whose prefix isn't one of these.
 #[tactic(auto, unfolding(crate::specs::Known::known_operation))]
 fn unknown_operation<'a>(declared: &IndexSet<Key<'a>>, operation: &Operation<'a>) -> Option<usize>
     ensures { is_none result ≡ spec.known_operation declared.now.keys operation.now }
 {
     match operation {
-        Operation::InsertData(blocks) | Operation::DeleteData(blocks) => {
-            unknown_blocks(declared, blocks.as_slice())
-        }
+        Operation::InsertData(blocks)
+        | Operation::DeleteData(blocks)
+        | Operation::DeleteWhere(blocks) => unknown_blocks(declared, blocks.as_slice()),
+        Operation::Modify(modify) => unknown_modify(declared, modify),
         Operation::Create { graph, .. } => unknown_name(declared, graph),
         Operation::Clear { graphs, .. } | Operation::Drop { graphs, .. } => {
             unknown_graphs(declared, graphs)

@@ -1,4 +1,5 @@
 //! What holds of each text.
+ghost use Rattle.sparql_syntax.specs.ModifyLaws.{DeleteWhereIsItsGroup};
 ghost use Rattle.sparql_syntax.specs.QueryLaws as query;
 ghost use Rattle.sparql_syntax.specs.RuleLaws.{LabelsAreShared, PatternsAreQuads};
 ghost use Rattle.sparql_syntax.specs.UpdateLaws.{SomeMeaning, OneRequest, NeverBoth, OneFault};
@@ -24,8 +25,14 @@ pub fn data_are_quads()
     ensures { PatternsAreQuads }
 {}
 
-/// A blank node label is reused where it stands in the data of two INSERT DATA operations, and nowhere
-/// else (SPARQL 1.1 Query, section 19.6).
+/// A blank node label is reused where it stands in the data of two INSERT DATA operations, or in two
+/// basic graph patterns, and nowhere else (SPARQL 1.1 Query, sections 4.1.4 and 19.6).
 pub fn labels_are_shared()
     ensures { LabelsAreShared }
+{}
+
+/// DELETE WHERE deletes its quads where the group of the same text finds them, and inserts nothing
+/// (SPARQL 1.1 Update, section 3.1.3.3).
+pub fn delete_where_is_its_group()
+    ensures { DeleteWhereIsItsGroup }
 {}

@@ -5,6 +5,7 @@
 mod draft;
 mod fault;
 mod known;
+mod labels;
 mod laws;
 mod operation;
 mod query;
@@ -14,7 +15,9 @@ mod rules;
 mod text;
 
 pub use fault::{SyntaxFault, SyntaxFaultKind};
-pub use laws::{data_are_quads, labels_are_shared, one_query, one_request};
+pub use laws::{
+    data_are_quads, delete_where_is_its_group, labels_are_shared, one_query, one_request,
+};
 pub use operation::blank_numbers_are_below;
 pub use query::read_query;
 pub use read::read_update;

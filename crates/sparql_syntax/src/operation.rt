@@ -1,11 +1,12 @@
 //! The drafts of a request's operations.
-ghost use Rattle.std.specs.Prelude.{◌≡◌, ◌&&◌, ◌++◌, [], IfOk, OnOk, MatchResult, IsTrue, Ok, map};
+ghost use Rattle.std.specs.Prelude.{◌≡◌, ◌&&◌, ◌++◌, [], IfOk, OnOk, MatchResult, IsTrue, None, Ok, map};
 ghost use Rattle.std.specs.List.{list_all};
 ghost use Rattle.std.specs.Option.{option_copied, option_map};
 ghost use Rattle.rdf_grammar.specs.Prologue as prologue;
 ghost use Rattle.rdf_grammar.specs.Prologue.{declared};
 ghost use Rattle.sparql_grammar.specs.Proper as proper;
 ghost use Rattle.sparql_grammar.specs.Proper.{holds};
+ghost use Rattle.sparql_grammar.specs.QuadGroups.{quads_group};
 ghost use Rattle.sparql_syntax.specs.Blanks.{BlankNumbersAreBelow};
 ghost use Rattle.sparql_drafts.specs.Kept.{Gives, Tells};
 ghost use Rattle.sparql_syntax.specs.Kept.{IsFaultOf};
@@ -13,14 +14,16 @@ ghost use Rattle.sparql_syntax.specs.Known as known;
 ghost use Rattle.sparql_syntax.specs.Known.{declared_behind, declares_first};
 ghost use Rattle.sparql_syntax.specs.Meaning as spec;
 
-use crate::draft::Draft;
+use crate::draft::{Draft, Modification};
 use crate::known::first_unknown;
 use rdf_grammar::PrologueFault;
 use rdf_terms::{Iri, Items, NoMemory};
-use sparql_drafts::Scope;
+use sparql_drafts::{Quads, Scope};
 use sparql_grammar::{
-    GraphOrDefault as WrittenPlace, GraphRefAll as WrittenGraphs, Operation as Written, Part,
+    Block, GraphOrDefault as WrittenPlace, GraphRefAll as WrittenGraphs, Modify, Name,
+    Operation as Written, Part,
 };
+use sparql_queries::{pattern_of, quads_pattern_of};
 use sparql_trees::{GraphOrDefault, GraphRefAll, Operation};
 use std::alloc::Global;
 
@@ -95,16 +98,100 @@ fn both<'a>(
     Ok((from, to))
 }
 
+// The graph of WITH, if there is one.
+fn with_graph<'a>(
+    scope: &mut Scope<'a>,
+    name: &Option<Name<'a>>,
+) -> Result<Option<Iri>, PrologueFault>
+    requires known { IsTrue (known.known_with (declared scope.old.prologue) name.now) }
+    requires proper { IsTrue (proper.proper_graph_name name.now) }
+    ensures tells { Tells (spec.with_graph name.now scope.old.prologue) result }
+    ensures prologue { scope.new.prologue ≡ scope.old.prologue }
+{
+    match name {
+        Some(name) => Ok(Some(scope.iri(name)?)),
+        None => Ok(None),
+    }
+}
+
+// The template of DELETE, and that of INSERT.
+fn templates<'a>(
+    scope: &mut Scope<'a>,
+    delete: &[Block<'a>],
+    insert: &[Block<'a>],
+) -> Result<(Quads<'a>, Quads<'a>), PrologueFault>
+    requires known { let knows = known.known_blocks (declared scope.old.prologue) in
+        IsTrue (knows delete.now && knows insert.now) }
+    requires proper { IsTrue (proper.proper_blocks delete.now && proper.proper_blocks insert.now) }
+    ensures tells { Tells (spec.templates delete.now insert.now scope.old.prologue) result }
+    ensures prologue { scope.new.prologue ≡ scope.old.prologue }
+{
+    let delete = scope.data(delete)?;
+    let insert = scope.data(insert)?;
+    Ok((delete, insert))
+}
+
+// The draft of DELETE/INSERT.
+fn modify<'a>(
+    alloc: Global,
+    scope: &mut Scope<'a>,
+    written: &Modify<'a>,
+) -> Result<Modification<'a>, PrologueFault>
+    requires known { IsTrue (known.known_modify (declared scope.old.prologue) written.now) }
+    requires proper { IsTrue (proper.proper_modify written.now) }
+    ensures tells { let parts = written.now in
+        Tells (spec.modification parts.with parts.delete parts.insert parts.group
+        scope.old.prologue) result }
+    ensures prologue { OnOk result (scope.new.prologue ≡ scope.old.prologue) }
+{
+    let with = with_graph(scope, &written.with)?;
+    let (delete, insert) = templates(scope, written.delete.as_slice(), written.insert.as_slice())?;
+    let mut labels = Items::new(alloc);
+    let pattern = pattern_of(alloc, scope, &mut labels, &written.group)?;
+    Ok(Modification {
+        with,
+        delete,
+        insert,
+        pattern,
+        labels,
+    })
+}
+
+// The draft of DELETE WHERE: what is deleted is also the group.
+fn delete_where<'a>(
+    alloc: Global,
+    scope: &mut Scope<'a>,
+    blocks: &[Block<'a>],
+) -> Result<Modification<'a>, PrologueFault>
+    requires known { IsTrue (known.known_blocks (declared scope.old.prologue) blocks.now) }
+    requires proper { IsTrue (proper.proper_blocks blocks.now) }
+    ensures tells { Tells (spec.modification None blocks.now [] (quads_group blocks.now)
+        scope.old.prologue) result }
+    ensures prologue { OnOk result (scope.new.prologue ≡ scope.old.prologue) }
+{
+    let (delete, insert) = templates(scope, blocks, &[])?;
+    let mut labels = Items::new(alloc);
+    let pattern = quads_pattern_of(alloc, scope, &mut labels, blocks)?;
+    Ok(Modification {
+        with: None,
+        delete,
+        insert,
+        pattern,
+        labels,
+    })
+}
+
 // The draft of an operation.
 #[tactic(auto, unfolding(crate::specs::Meaning::operation, crate::specs::Known::known_operation, sparql_grammar::specs::Proper::proper_operation))]
 fn operation_draft<'a>(
+    alloc: Global,
     scope: &mut Scope<'a>,
     operation: &Written<'a>,
 ) -> Result<Draft<'a>, PrologueFault>
     requires known { IsTrue (known.known_operation (declared scope.old.prologue) operation.now) }
     requires proper { IsTrue (proper.proper_operation operation.now) }
     ensures tells { Tells (spec.operation operation.now scope.old.prologue) result }
-    ensures prologue { scope.new.prologue ≡ scope.old.prologue }
+    ensures prologue { OnOk result (scope.new.prologue ≡ scope.old.prologue) }
 {
     let other = match operation {
         Written::InsertData(blocks) => {
@@ -112,6 +199,12 @@ fn operation_draft<'a>(
         }
         Written::DeleteData(blocks) => {
             return Ok(Draft::DeleteData(scope.data(blocks.as_slice())?));
+        }
+        Written::DeleteWhere(blocks) => {
+            return Ok(Draft::Modify(delete_where(alloc, scope, blocks.as_slice())?));
+        }
+        Written::Modify(written) => {
+            return Ok(Draft::Modify(modify(alloc, scope, written)?));
         }
         Written::Create { silent, graph } => Operation::Create {
             silent: *silent,
@@ -156,6 +249,7 @@ fn operation_draft<'a>(
 // The draft of a part: an operation has one, and a declaration is in force from here on.
 #[tactic(auto, unfolding(crate::specs::Meaning::part))]
 fn part_draft<'a>(
+    alloc: Global,
     scope: &mut Scope<'a>,
     part: &Part<'a>,
 ) -> Result<Option<Draft<'a>>, PrologueFault>
@@ -170,7 +264,7 @@ fn part_draft<'a>(
             scope.declare(declaration)?;
             Ok(None)
         }
-        Part::Operation(operation) => Ok(Some(operation_draft(scope, operation)?)),
+        Part::Operation(operation) => Ok(Some(operation_draft(alloc, scope, operation)?)),
     }
 }
 
@@ -187,7 +281,7 @@ fn all_drafts<'a>(
 {
     let mut drafts = Items::new(alloc);
     for part in parts {
-        let draft = part_draft(scope, &part)?;
+        let draft = part_draft(alloc, scope, &part)?;
         add(&mut drafts, draft)?;
     }
     Ok(drafts)

@@ -1,5 +1,5 @@
 //! Queries, from bytes to trees.
-ghost use Rattle.std.specs.Prelude.{◌≡◌, [], Ok, Some, IfOk, MatchResult, is_some};
+ghost use Rattle.std.specs.Prelude.{◌≡◌, Ok, Some, MatchResult};
 ghost use Rattle.std.specs.Option.{option_copied};
 ghost use Rattle.std.specs.Str.{chars, IsUtf8};
 ghost use Rattle.rdf_tokens.specs.Tokens.{Says};
@@ -9,12 +9,12 @@ ghost use Rattle.sparql_syntax.specs.Query.{HasTree, IsQuery, TellsFault};
 ghost use Rattle.sparql_syntax.specs.QueryTold.{IsRuleFault, IsTold};
 
 use crate::fault::{SyntaxFault, SyntaxFaultKind};
-use crate::rules::{first_known, know};
+use crate::labels::first_repeated;
 use crate::text::{check_profile, fault_at, name_fault, start_of, stop_fault, tokens_of};
 use indexmap::IndexSet;
 use rdf_grammar::lexemes;
-use rdf_terms::{Iri, Items, NoMemory};
-use rdf_tokens::{Slice, Token};
+use rdf_terms::Iri;
+use rdf_tokens::Token;
 use sparql_grammar::{Query as Tree, Stop, parse_query};
 use sparql_queries::{Said, said_by};
 use sparql_trees::Query;
@@ -48,26 +48,13 @@ fn read_tree<'a>(alloc: Global, text: &'a str) -> Result<Tree<'a>, SyntaxFault>
     tree_of(alloc, text, tokens.as_slice())
 }
 
-// Where a label stands in one of these lists that stood in one before it.
-fn first_reused<'a>(alloc: Global, lists: &[Items<Slice<'a>>]) -> Result<Option<usize>, NoMemory>
-    ensures { IfOk result (λ start. is_some start ≡ spec.repeats_label [] lists.now) }
-{
-    let mut known = IndexSet::new(alloc);
-    for labels in lists {
-        if let Some(start) = first_known(&known, labels.as_slice()) {
-            return Ok(Some(start));
-        }
-        know(&mut known, labels.as_slice())?;
-    }
-    Ok(None)
-}
-
 // The query that was said, where it keeps to the rule on labels.
 fn query_of(alloc: Global, text: &str, said: Said<'_>) -> Result<Query, SyntaxFault>
     ensures { let answer = spec.ruled (Some (said.entry.query, said.entry.labels)) in
         MatchResult result (λ query. answer ≡ Ok query) (λ fault. IsRuleFault answer fault) }
 {
-    if let Some(start) = first_reused(alloc, said.labels.as_slice())? {
+    let mut known = IndexSet::new(alloc);
+    if let Some(start) = first_repeated(&mut known, said.labels.as_slice())? {
         let kind = SyntaxFaultKind::BlankReused;
         return Err(fault_at(text.as_bytes(), kind, start));
     }

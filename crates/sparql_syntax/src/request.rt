@@ -2,13 +2,15 @@
 ghost use Rattle.std.specs.Prelude.{◌≡◌, map, None, Some, false, IfOk};
 ghost use Rattle.std.specs.List.{AllByRecursion, filter_map, list_any};
 ghost use Rattle.sparql_drafts.specs.Drafts.{ArePatternsBelow};
+ghost use Rattle.sparql_queries.specs.Templates as templates;
 ghost use Rattle.sparql_syntax.specs.Drafts.{IsDraftBelow};
 ghost use Rattle.sparql_syntax.specs.Rules as spec;
 
-use crate::draft::Draft;
+use crate::draft::{Draft, Modification};
 use rdf_terms::{GraphName, Items, NoMemory, Quad, Term};
 use sparql_drafts::{QuadPattern, Quads, VarOrIri, VarOrTerm};
-use sparql_trees::{Data, GroundData, Operation};
+use sparql_queries::quad_patterns;
+use sparql_trees::{Data, GroundData, Modify, Operation, Template};
 use std::alloc::Global;
 
 fn graph_of(name: Option<VarOrIri<'_>>) -> Option<GraphName>
@@ -69,6 +71,33 @@ fn quads_of(alloc: Global, patterns: Vec<QuadPattern<'_>>) -> Result<Items<Quad>
     Ok(Items::from_vec(quads))
 }
 
+fn template(alloc: Global, quads: Quads<'_>) -> Result<Template, NoMemory>
+    ensures { IfOk result (λ template. template ≡ templates.template quads.entry) }
+{
+    Ok(Template {
+        quads: quad_patterns(alloc, quads.patterns.as_slice())?,
+        blanks: quads.blanks,
+    })
+}
+
+fn modify(alloc: Global, draft: Modification<'_>) -> Result<Modify, NoMemory>
+    ensures { IfOk result (λ modify. modify ≡ spec.modify_of draft.entry) }
+{
+    let Modification {
+        with,
+        delete,
+        insert,
+        pattern,
+        ..
+    } = draft;
+    Ok(Modify {
+        with,
+        delete: template(alloc, delete)?,
+        insert: template(alloc, insert)?,
+        pattern,
+    })
+}
+
 // The operation that a draft is.
 fn operation_of(alloc: Global, draft: Draft<'_>) -> Result<Operation, NoMemory>
     requires below { IsDraftBelow draft }
@@ -90,6 +119,7 @@ fn operation_of(alloc: Global, draft: Draft<'_>) -> Result<Operation, NoMemory>
             let quads = quads_of(alloc, patterns.into_vec())?;
             Ok(Operation::DeleteData(GroundData::new(quads)))
         }
+        Draft::Modify(modification) => Ok(Operation::Modify(modify(alloc, modification)?)),
         Draft::Other(operation) => Ok(operation),
     }
 }

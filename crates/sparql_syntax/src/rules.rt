@@ -1,16 +1,17 @@
-//! The static rules of data, asked of a whole request (SPARQL 1.1 Update, sections 3.1.1 and 3.1.2;
-//! SPARQL 1.1 Query, section 19.8).
-ghost use Rattle.std.specs.Prelude.{◌≡◌, [], is_some, map, Ok, Err, IfOk, OnOk, MatchOption};
-ghost use Rattle.std.specs.List.{list_any};
+//! The static rules of data, templates and labels, asked of a whole request (SPARQL 1.1 Update,
+//! section 3.1; SPARQL 1.1 Query, sections 4.1.4, 19.6 and 19.8).
+ghost use Rattle.std.specs.Prelude.{◌≡◌, [], ◌==◌, is_some, map, not, Ok, Err, IfOk, MatchOption};
+ghost use Rattle.std.specs.List.{flat_map, list_any};
+ghost use Rattle.sparql_queries.specs.Faults as faults;
+ghost use Rattle.sparql_syntax.specs.Labels.{repeats_label};
 ghost use Rattle.sparql_syntax.specs.Rules as spec;
 
 use crate::draft::Draft;
 use crate::fault::SyntaxFaultKind;
+use crate::labels::{first_known, first_repeated, know};
 use indexmap::IndexSet;
-use rdf_grammar::Key;
 use rdf_terms::{NoMemory, Term};
-use rdf_tokens::Slice;
-use sparql_drafts::{QuadPattern, VarOrIri, VarOrTerm};
+use sparql_drafts::{QuadPattern, Quads, VarOrIri, VarOrTerm};
 use std::alloc::Global;
 
 /// A rule that is broken, and the byte of the text where it first is.
@@ -22,18 +23,24 @@ pub(crate) struct Broken {
 
 // ---- one operation
 
-// Where a blank node stands in DELETE DATA.
+// Where a blank node stands in these quads.
+fn blank_among(quads: &Quads<'_>) -> Option<usize>
+    ensures { is_some result ≡ not (quads.now.blanks == 0) }
+{
+    if quads.blanks == 0 {
+        None
+    } else {
+        Some(quads.first_blank.start())
+    }
+}
+
+// Where a blank node stands in DELETE DATA, DELETE or DELETE WHERE.
 fn blank_in(draft: &Draft<'_>) -> Option<usize>
     ensures { is_some result ≡ spec.has_blank_in_delete draft.now }
 {
     match draft {
-        Draft::DeleteData(quads) => {
-            if quads.blanks == 0 {
-                None
-            } else {
-                Some(quads.first_blank.start())
-            }
-        }
+        Draft::DeleteData(quads) => blank_among(quads),
+        Draft::Modify(modification) => blank_among(&modification.delete),
         Draft::InsertData(_) | Draft::Other(_) => None,
     }
 }
@@ -110,7 +117,7 @@ fn variable_in(draft: &Draft<'_>) -> Option<usize>
                 None
             }
         }
-        Draft::Other(_) => None,
+        Draft::Modify(_) | Draft::Other(_) => None,
     }
 }
 
@@ -146,7 +153,7 @@ fn literal_in(draft: &Draft<'_>) -> Option<usize>
                 None
             }
         }
-        Draft::Other(_) => None,
+        Draft::Modify(_) | Draft::Other(_) => None,
     }
 }
 
@@ -185,34 +192,10 @@ fn first_literal(drafts: &[Draft<'_>]) -> Option<usize>
     None
 }
 
-/// Where the first of the labels starts that is known.
-pub(crate) fn first_known<'a>(known: &IndexSet<Key<'a>>, labels: &[Slice<'a>]) -> Option<usize>
-    ensures { is_some result ≡ list_any (spec.is_among known.now.keys) labels.now }
-{
-    for label in labels {
-        if known.contains(&Key::of(label)) {
-            return Some(label.start());
-        }
-    }
-    None
-}
-
-/// From here on the labels are known.
-///
-/// # Errors
-/// [`NoMemory`] where memory is wanting.
-pub(crate) fn know<'a>(known: &mut IndexSet<Key<'a>>, labels: &[Slice<'a>]) -> Result<(), NoMemory>
-    ensures { OnOk result (known.new.keys ≡ spec.known_behind known.old.keys labels.now) }
-{
-    for label in labels {
-        known.insert(Key::of(label))?;
-    }
-    Ok(())
-}
-
 // Where a label stands in INSERT DATA that stood in an INSERT DATA before.
-fn first_reused(alloc: Global, drafts: &[Draft<'_>]) -> Result<Option<usize>, NoMemory>
-    ensures { IfOk result (λ start. is_some start ≡ spec.reuses_label [] drafts.now) }
+fn first_in_data(alloc: Global, drafts: &[Draft<'_>]) -> Result<Option<usize>, NoMemory>
+    ensures { IfOk result (λ start. is_some start
+        ≡ repeats_label [] (flat_map spec.inserted_labels drafts.now)) }
 {
     let mut known = IndexSet::new(alloc);
     for draft in drafts {
@@ -223,10 +206,46 @@ fn first_reused(alloc: Global, drafts: &[Draft<'_>]) -> Result<Option<usize>, No
                 }
                 know(&mut known, quads.labels.as_slice())?;
             }
-            Draft::DeleteData(_) | Draft::Other(_) => {}
+            Draft::DeleteData(_) | Draft::Modify(_) | Draft::Other(_) => {}
         }
     }
     Ok(None)
+}
+
+// Where a label stands in a basic graph pattern that stood in one before.
+fn first_in_patterns(alloc: Global, drafts: &[Draft<'_>]) -> Result<Option<usize>, NoMemory>
+    ensures { IfOk result (λ start. is_some start
+        ≡ repeats_label [] (flat_map spec.pattern_labels drafts.now)) }
+{
+    let mut known = IndexSet::new(alloc);
+    for draft in drafts {
+        if let Draft::Modify(modification) = draft
+            && let Some(start) = first_repeated(&mut known, modification.labels.as_slice())?
+        {
+            return Ok(Some(start));
+        }
+    }
+    Ok(None)
+}
+
+// The first of two places in the text.
+fn first_place(one: Option<usize>, other: Option<usize>) -> Option<usize>
+    ensures { result ≡ faults.first_place one other }
+{
+    match (one, other) {
+        (Some(one), Some(other)) => Some(one.min(other)),
+        (Some(place), None) | (None, Some(place)) => Some(place),
+        (None, None) => None,
+    }
+}
+
+// Where a label stands that may not stand there again.
+fn first_reused(alloc: Global, drafts: &[Draft<'_>]) -> Result<Option<usize>, NoMemory>
+    ensures { IfOk result (λ start. is_some start ≡ spec.reuses_label drafts.now) }
+{
+    let in_data = first_in_data(alloc, drafts)?;
+    let in_patterns = first_in_patterns(alloc, drafts)?;
+    Ok(first_place(in_data, in_patterns))
 }
 
 /// The first rule that is broken somewhere in the request.
