@@ -1,13 +1,24 @@
 //! Requests in a small world: three graphs and a few terms.
+use crate::pattern::{Pattern, Sketch};
 
-/// A term.
-#[derive(Clone, Copy, PartialEq)]
+/// A term. The order of the variants is that of terms.
+#[derive(Clone, Copy, PartialEq, Eq, PartialOrd, Ord)]
 pub enum Node {
-    /// A blank node: in data by its place there, in the model by its number.
+    /// A blank node: in data and in templates by its place there, in the model by its number.
     Blank(u64),
     Iri(&'static str),
     /// A text in English.
     Text(&'static str),
+}
+
+impl Node {
+    /// A node of data or of a template, whose blank nodes get the numbers from `first` on.
+    pub fn numbered(self, first: u64) -> Node {
+        match self {
+            Node::Blank(place) => Node::Blank(first.saturating_add(place)),
+            Node::Iri(_) | Node::Text(_) => self,
+        }
+    }
 }
 
 /// Where a quad lies.
@@ -83,6 +94,31 @@ pub enum Action {
         from: Place,
         to: Place,
     },
+    Modify(Change),
+}
+
+/// What is deleted and inserted under the solutions of a pattern.
+#[derive(Drop)]
+pub struct Change {
+    /// The graph of WITH.
+    pub with: Option<&'static str>,
+    pub delete: Vec<Sketch>,
+    pub insert: Vec<Sketch>,
+    /// How many blank nodes there are in what is inserted.
+    pub blanks: u64,
+    pub pattern: Pattern,
+    /// Whether it is written as DELETE WHERE: then it deletes what its pattern asks for.
+    pub is_short: bool,
+}
+
+impl Change {
+    /// The default graph of the pattern and of what is deleted and inserted.
+    pub fn default_graph(&self) -> Graph {
+        match self.with {
+            Some(name) => Graph::Named(Node::Iri(name)),
+            None => Graph::Default,
+        }
+    }
 }
 
 /// Where COPY, MOVE and ADD take from and bring to.

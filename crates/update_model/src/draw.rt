@@ -32,7 +32,7 @@ impl Draw {
         Some(actions)
     }
 
-    fn action(&mut self, alloc: Global) -> Option<Action> {
+    pub fn action(&mut self, alloc: Global) -> Option<Action> {
         let silent = self.number() % 4 == 0;
         Some(match self.number() % 16 {
             0..=6 => self.insert_data(alloc)?,
@@ -102,7 +102,7 @@ impl Draw {
     }
 
     // A blank node has the next place of the data, or an earlier one.
-    fn node_or_blank(&mut self, has_blanks: bool, blanks: &mut u64) -> Node {
+    pub fn node_or_blank(&mut self, has_blanks: bool, blanks: &mut u64) -> Node {
         match self.number() % 8 {
             0 if has_blanks => {
                 let place = *blanks;
@@ -114,21 +114,21 @@ impl Draw {
         }
     }
 
-    fn node(&mut self) -> Node {
+    pub fn node(&mut self) -> Node {
         match self.number() % 2 {
             0 => Node::Iri("a:s"),
             _ => Node::Iri("a:t"),
         }
     }
 
-    fn predicate(&mut self) -> &'static str {
+    pub fn predicate(&mut self) -> &'static str {
         match self.number() % 2 {
             0 => "a:p",
             _ => "a:q",
         }
     }
 
-    fn name(&mut self) -> &'static str {
+    pub fn name(&mut self) -> &'static str {
         match self.number() % 3 {
             0 => "a:g",
             1 => "a:h",

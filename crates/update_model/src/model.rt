@@ -1,19 +1,26 @@
 //! The model: what a dataset should hold after each request, in plain vectors.
-use crate::action::{Action, Fact, Graph, Graphs, Node, Place};
+use crate::action::{Action, Change, Fact, Graph, Graphs, Node, Place};
+use crate::pattern::{Asked, Row};
 use rdf_terms::NoMemory;
 use sparql_eval::ApplyFault;
 use std::alloc::Global;
 
 const LAST_NUMBER: u64 = 1_000_000_000_000_000_000;
 
-/// The quads and the graph names, each once, the number of the next blank node, and how many operations
-/// have acted.
+// How many quads and solutions there may be where a pattern is asked, so that no request takes long.
+const MOST_FACTS: usize = 200;
+const MOST_SOLUTIONS: usize = 100;
+
+/// The quads and the graph names, each once, the number of the next blank node, how many operations
+/// have acted, under how many solutions, and whether a pattern would have too many.
 #[derive(Drop)]
 pub struct Model {
     facts: Vec<Fact>,
     names: Vec<Node>,
     next: u64,
     acted: u64,
+    solutions: u64,
+    is_crowded: bool,
 }
 
 impl Model {
@@ -23,6 +30,8 @@ impl Model {
             names: Vec::new(alloc),
             next,
             acted: 0,
+            solutions: 0,
+            is_crowded: false,
         }
     }
 
@@ -32,6 +41,8 @@ impl Model {
             names: self.names.as_slice().to_vec(alloc).ok()?,
             next: self.next,
             acted: self.acted,
+            solutions: self.solutions,
+            is_crowded: self.is_crowded,
         })
     }
 
@@ -49,6 +60,14 @@ impl Model {
 
     pub fn acted(&self) -> u64 {
         self.acted
+    }
+
+    pub fn solutions(&self) -> u64 {
+        self.solutions
+    }
+
+    pub fn is_crowded(&self) -> bool {
+        self.is_crowded
     }
 
     /// Lets the operations act in order, up to the first that is refused. The model is to be given up then.
@@ -87,26 +106,84 @@ impl Model {
             Action::Copy { from, to, .. } => Ok(self.copy_graph(alloc, *from, *to)?),
             Action::Move { from, to, .. } => Ok(self.move_graph(alloc, *from, *to)?),
             Action::Add { from, to, .. } => Ok(self.unite(alloc, *from, *to)?),
+            Action::Modify(change) => self.modify(alloc, change),
         }
     }
 
     // The data's blank nodes get the next numbers.
     fn insert(&mut self, facts: &[Fact], blanks: u64) -> Result<(), ApplyFault> {
         let first = self.next;
-        match first.checked_add(blanks) {
-            Some(after) if after <= LAST_NUMBER => self.next = after,
-            _ => return Err(ApplyFault::BlankNumbers),
-        }
+        self.take(Some(blanks))?;
         for fact in facts {
             self.add(Fact {
                 graph: match fact.graph {
                     Graph::Default => Graph::Default,
-                    Graph::Named(name) => Graph::Named(numbered(name, first)),
+                    Graph::Named(name) => Graph::Named(name.numbered(first)),
                 },
-                subject: numbered(fact.subject, first),
+                subject: fact.subject.numbered(first),
                 predicate: fact.predicate,
-                object: numbered(fact.object, first),
+                object: fact.object.numbered(first),
             })?;
+        }
+        Ok(())
+    }
+
+    // So many blank nodes more have numbers.
+    fn take(&mut self, blanks: Option<u64>) -> Result<(), ApplyFault> {
+        let Some(blanks) = blanks else {
+            return Err(ApplyFault::BlankNumbers);
+        };
+        match self.next.checked_add(blanks) {
+            Some(after) if after <= LAST_NUMBER => {
+                self.next = after;
+                Ok(())
+            }
+            _ => Err(ApplyFault::BlankNumbers),
+        }
+    }
+
+    // All is deleted before anything is inserted.
+    fn modify(&mut self, alloc: Global, change: &Change) -> Result<(), ApplyFault> {
+        if self.facts.len() > MOST_FACTS {
+            self.is_crowded = true;
+            return Ok(());
+        }
+        let asked = Asked {
+            default: change.default_graph(),
+            facts: self.facts.as_slice(),
+        };
+        let rows = asked.solutions(alloc, change.pattern)?;
+        if rows.len() > MOST_SOLUTIONS {
+            self.is_crowded = true;
+            return Ok(());
+        }
+        let mut first = self.next;
+        let count = rows.len() as u64;
+        self.take(count.checked_mul(change.blanks))?;
+        self.solutions = self.solutions.saturating_add(count);
+        for row in &rows {
+            self.delete_under(*row, change);
+        }
+        for row in &rows {
+            self.insert_under(*row, change, first)?;
+            first = first.saturating_add(change.blanks);
+        }
+        Ok(())
+    }
+
+    fn delete_under(&mut self, row: Row, change: &Change) {
+        for sketch in &change.delete {
+            if let Some(fact) = row.instance(*sketch, change.default_graph(), 0) {
+                self.remove(fact);
+            }
+        }
+    }
+
+    fn insert_under(&mut self, row: Row, change: &Change, first: u64) -> Result<(), NoMemory> {
+        for sketch in &change.insert {
+            if let Some(fact) = row.instance(*sketch, change.default_graph(), first) {
+                self.add(fact)?;
+            }
         }
         Ok(())
     }
@@ -190,13 +267,6 @@ impl Model {
             }
         }
         Ok(())
-    }
-}
-
-fn numbered(node: Node, first: u64) -> Node {
-    match node {
-        Node::Blank(place) => Node::Blank(first.saturating_add(place)),
-        Node::Iri(_) | Node::Text(_) => node,
     }
 }
 

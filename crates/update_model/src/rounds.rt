@@ -2,7 +2,7 @@
 ghost use Rattle.std.specs.Prelude.{◌≤◌, IfOk, IsTrue};
 ghost use Rattle.rdf_dataset.specs.State.{Begins, Ends, last_number};
 
-use crate::action::{Action, Fact, Graph, Node};
+use crate::action::{Action, Fact, Graph, Graphs, Node};
 use crate::compare::agree;
 use crate::draw::Draw;
 use crate::model::Model;
@@ -28,7 +28,7 @@ pub fn thousand(alloc: Global, made: Made, seed: u64, next: u64) -> Tally
     };
     for number in 0..1000u32 {
         let is_first = number % 100 == 0;
-        let Some(actions) = trial.actions(is_first) else {
+        let Some(actions) = trial.actions(is_first, made) else {
             break;
         };
         let made = if is_first { Made::Tree } else { made };
@@ -47,7 +47,12 @@ pub fn thousand(alloc: Global, made: Made, seed: u64, next: u64) -> Tally
 pub enum Made {
     Tree,
     Text,
+    /// As texts too, with patterns.
+    Pattern,
 }
+
+/// How many quads there may be before a request with patterns.
+const FEW: usize = 60;
 
 // A run.
 #[derive(Drop)]
@@ -60,12 +65,29 @@ struct Trial {
 }
 
 impl Trial {
-    fn actions(&mut self, is_first: bool) -> Option<Vec<Action>> {
+    fn actions(&mut self, is_first: bool, made: Made) -> Option<Vec<Action>> {
         if is_first {
-            with_blank_graph(self.alloc)
-        } else {
-            self.draw.request(self.alloc)
+            return with_blank_graph(self.alloc);
         }
+        match made {
+            Made::Tree | Made::Text => self.draw.request(self.alloc),
+            Made::Pattern if self.model.facts().len() > FEW => drop_all(self.alloc),
+            Made::Pattern => self.with_pattern(),
+        }
+    }
+
+    // A request that has few solutions.
+    fn with_pattern(&mut self) -> Option<Vec<Action>> {
+        for _ in 0..20u32 {
+            let actions = self.draw.request_with_pattern(self.alloc)?;
+            let mut after = self.model.copy(self.alloc)?;
+            // whether it is refused comes later
+            let _ = after.act(self.alloc, actions.as_slice());
+            if !after.is_crowded() {
+                return Some(actions);
+            }
+        }
+        None
     }
 
     // Whether the dataset and the model answer the same and hold the same, after the request and
@@ -104,6 +126,7 @@ impl Trial {
                 turn_back(self.alloc, &mut self.dataset, net, &self.model)
             }
             _ => {
+                self.tally.solutions = after.solutions();
                 self.model = after;
                 true
             }
@@ -114,7 +137,7 @@ impl Trial {
 fn request(alloc: Global, actions: &[Action], made: Made) -> Option<Request> {
     match made {
         Made::Tree => tree::request(alloc, actions),
-        Made::Text => {
+        Made::Text | Made::Pattern => {
             let text = text::request(alloc, actions).ok()?;
             read_update(alloc, text.as_bytes(), None).ok()
         }
@@ -134,6 +157,17 @@ fn with_blank_graph(alloc: Global) -> Option<Vec<Action>> {
         .ok()?;
     let mut actions = Vec::new(alloc);
     actions.push(Action::InsertData { facts, blanks: 2 }).ok()?;
+    Some(actions)
+}
+
+fn drop_all(alloc: Global) -> Option<Vec<Action>> {
+    let mut actions = Vec::new(alloc);
+    actions
+        .push(Action::Drop {
+            silent: false,
+            graphs: Graphs::All,
+        })
+        .ok()?;
     Some(actions)
 }
 

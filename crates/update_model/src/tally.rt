@@ -8,6 +8,8 @@ use std::fmt;
 pub struct Tally {
     pub agreed: u32,
     pub taken_back: u32,
+    /// Of the patterns of requests that stand.
+    pub solutions: u64,
     missing_graph: u32,
     graph_exists: u32,
     blank_numbers: u32,
@@ -20,6 +22,7 @@ impl Tally {
         Tally {
             agreed: 0,
             taken_back: 0,
+            solutions: 0,
             missing_graph: 0,
             graph_exists: 0,
             blank_numbers: 0,
@@ -56,8 +59,8 @@ impl fmt::Display for Tally {
         )?;
         write!(
             f,
-            ", of these {} behind another operation; {} taken back",
-            self.behind_another, self.taken_back
+            ", of these {} behind another operation; {} taken back; {} solutions",
+            self.behind_another, self.taken_back, self.solutions
         )?;
         match &self.disagrees {
             Some(text) => write!(f, "; this one doesn't: {text}"),

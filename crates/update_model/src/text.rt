@@ -1,5 +1,6 @@
 //! Requests as SPARQL.
-use crate::action::{Action, Fact, Graph, Graphs, Node, Place};
+use crate::action::{Action, Change, Fact, Graph, Graphs, Node, Place};
+use crate::pattern::{Pattern, Shape, Sketch, Slot};
 use rdf_terms::NoMemory;
 use std::alloc::Global;
 
@@ -37,6 +38,7 @@ fn operation(text: &mut String, action: &Action, number: u64) -> Result<(), NoMe
         Action::Copy { silent, from, to } => transfer(text, "COPY", *silent, *from, *to),
         Action::Move { silent, from, to } => transfer(text, "MOVE", *silent, *from, *to),
         Action::Add { silent, from, to } => transfer(text, "ADD", *silent, *from, *to),
+        Action::Modify(change) => modify(text, change, number),
     }
 }
 
@@ -128,4 +130,99 @@ fn node(text: &mut String, node: Node, number: u64) -> Result<(), NoMemory> {
         Node::Text(lexical) => write!(text, " \"{lexical}\"@en")?,
     }
     Ok(())
+}
+
+fn modify(text: &mut String, change: &Change, number: u64) -> Result<(), NoMemory> {
+    if change.is_short {
+        text.push_str("DELETE WHERE")?;
+        return pattern(text, change.pattern, number);
+    }
+    if let Some(name) = change.with {
+        write!(text, "WITH <{name}> ")?;
+    }
+    // one of the two stands there
+    if !change.delete.is_empty() || change.insert.is_empty() {
+        text.push_str("DELETE")?;
+        template(text, change.delete.as_slice(), number)?;
+    }
+    if !change.insert.is_empty() {
+        text.push_str(" INSERT")?;
+        template(text, change.insert.as_slice(), number)?;
+    }
+    text.push_str(" WHERE")?;
+    pattern(text, change.pattern, number)
+}
+
+fn template(text: &mut String, sketches: &[Sketch], number: u64) -> Result<(), NoMemory> {
+    text.push_str(" {")?;
+    for it in sketches {
+        sketch(text, *it, number)?;
+        text.push_str(" .")?;
+    }
+    text.push_str(" }")?;
+    Ok(())
+}
+
+fn pattern(text: &mut String, pattern: Pattern, number: u64) -> Result<(), NoMemory> {
+    text.push_str(" {")?;
+    match pattern.shape {
+        Shape::Empty => {}
+        Shape::One(only) => sketch(text, only, number)?,
+        Shape::Both(first, then) => pair(text, [" ", " .", ""], first, then, number)?,
+        Shape::Either(one, other) => pair(text, [" {", " } UNION {", " }"], one, other, number)?,
+        Shape::Perhaps(first, then) => pair(text, [" ", " OPTIONAL {", " }"], first, then, number)?,
+    }
+    if let Some((one, other)) = pattern.same {
+        let (one, other) = (one.name(), other.name());
+        write!(text, " FILTER(sameTerm(?{one}, ?{other}))")?;
+    }
+    text.push_str(" }")?;
+    Ok(())
+}
+
+// Two quad patterns, and what stands before, between and behind them.
+fn pair(
+    text: &mut String,
+    around: [&str; 3],
+    one: Sketch,
+    other: Sketch,
+    number: u64,
+) -> Result<(), NoMemory> {
+    let [before, between, behind] = around;
+    text.push_str(before)?;
+    sketch(text, one, number)?;
+    text.push_str(between)?;
+    sketch(text, other, number)?;
+    text.push_str(behind)?;
+    Ok(())
+}
+
+fn sketch(text: &mut String, sketch: Sketch, number: u64) -> Result<(), NoMemory> {
+    if let Some(name) = sketch.graph {
+        text.push_str(" GRAPH")?;
+        slot(text, name, number)?;
+        text.push_str(" {")?;
+    }
+    slot(text, sketch.subject, number)?;
+    slot(text, sketch.predicate, number)?;
+    slot(text, sketch.object, number)?;
+    if sketch.graph.is_some() {
+        text.push_str(" }")?;
+    }
+    Ok(())
+}
+
+fn slot(text: &mut String, slot: Slot, number: u64) -> Result<(), NoMemory> {
+    match slot {
+        Slot::Variable(variable) => {
+            let name = variable.name();
+            write!(text, " ?{name}")?;
+            Ok(())
+        }
+        Slot::Node(it) => node(text, it, number),
+        Slot::Any => {
+            text.push_str(" [ ]")?;
+            Ok(())
+        }
+    }
 }

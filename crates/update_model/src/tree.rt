@@ -8,7 +8,7 @@ use rdf_terms::{Items, Quad};
 use sparql_trees::{Data, GraphOrDefault, GraphRefAll, GroundData, Operation, Request};
 use std::alloc::Global;
 
-/// The request of these operations.
+/// The request of these operations, where none has a pattern.
 pub fn request(alloc: Global, actions: &[Action]) -> Option<Request> {
     let mut operations = Items::new(alloc);
     for action in actions {
@@ -54,6 +54,7 @@ fn operation(alloc: Global, action: &Action) -> Option<Operation> {
             from: graph(alloc, *from)?,
             to: graph(alloc, *to)?,
         },
+        Action::Modify(_) => return None,
     })
 }
 

@@ -2,4 +2,6 @@
 #![tactic(auto)]
 
 #[cfg(test)]
+mod modify;
+#[cfg(test)]
 mod updates;

@@ -8,7 +8,7 @@ use sparql_eval::apply;
 use sparql_trees::{Data, GraphOrDefault, GraphRefAll, GroundData, Operation, Request};
 use std::alloc::Global;
 
-fn iri(alloc: Global, text: &str) -> Option<Iri> {
+pub fn iri(alloc: Global, text: &str) -> Option<Iri> {
     Iri::new(alloc, text).ok()
 }
 
@@ -44,7 +44,7 @@ fn insert_blank_nodes(alloc: Global) -> Option<Operation> {
 }
 
 // `INSERT DATA { GRAPH <a:g> { <a:s> <a:p> <a:o> } }`
-fn insert(alloc: Global) -> Option<Operation> {
+pub fn insert(alloc: Global) -> Option<Operation> {
     let mut quads = Items::new(alloc);
     quads.push(ground(alloc)?).ok()?;
     Some(Operation::InsertData(Data::new(quads, 0)))
@@ -105,7 +105,7 @@ fn clear_named() -> Option<Operation> {
 }
 
 // What a request of this operation is answered.
-fn told(
+pub fn told(
     alloc: Global,
     view: &mut Staged<'_, Dataset>,
     operation: Option<Operation>,
@@ -121,7 +121,7 @@ fn told(
 }
 
 // How many names there are, and how many quads in the default graph and in the graphs `<a:g>` and `<a:h>`.
-fn sizes(alloc: Global, view: &Staged<'_, Dataset>) -> Option<[usize; 4]> {
+pub fn sizes(alloc: Global, view: &Staged<'_, Dataset>) -> Option<[usize; 4]> {
     let mut names = Vec::new(alloc);
     view.names(&mut names).ok()?;
     Some([
