@@ -10,6 +10,7 @@
 #![tactic(auto)]
 
 mod conversions;
+mod patterns;
 mod queries;
 mod retry;
 mod script;
@@ -21,7 +22,7 @@ use std::alloc::Global;
 use std::io;
 use std::io::Read;
 
-const PARTS: [u8; 6] = *b"123456";
+const PARTS: [u8; 7] = *b"1234567";
 
 fn main(rt: HostRuntime) -> io::Result<()> {
     let alloc = rt.alloc();
@@ -44,8 +45,9 @@ fn outcome(alloc: Global, part: u8) -> &'static str {
         b'1' => terms::outcome(alloc),
         b'2' => sessions::outcome(alloc),
         b'3' => updates::outcome(alloc),
-        b'4' => queries::outcome(alloc),
-        b'5' => script::outcome(alloc),
+        b'4' => patterns::outcome(alloc),
+        b'5' => queries::outcome(alloc),
+        b'6' => script::outcome(alloc),
         _ => conversions::outcome(alloc),
     }
 }

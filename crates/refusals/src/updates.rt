@@ -63,16 +63,17 @@ fn survives(alloc: Global, keeper: &mut Keeper) -> Option<Counts> {
     }
 }
 
+/// A command of a session.
 #[derive(Clone, Copy)]
-enum Command {
+pub enum Command {
     Load(&'static [u8]),
     Mark(&'static [u8]),
     Undo,
     Redo,
 }
 
-// A command that is made again where it was refused.
-fn twice(keeper: &mut Keeper, command: Command) -> Option<Counts> {
+/// What a command answers, or where it was refused, what it answers when it is made again.
+pub fn twice(keeper: &mut Keeper, command: Command) -> Option<Counts> {
     match done(keeper, command) {
         Err(KeeperFault::NoMemory(_)) => done(keeper, command).ok(),
         answer => answer.ok(),
@@ -91,7 +92,8 @@ fn done(keeper: &mut Keeper, command: Command) -> Result<Counts, KeeperFault> {
     }
 }
 
-fn counts(added: u64, removed: u64) -> Counts {
+/// These counts.
+pub fn counts(added: u64, removed: u64) -> Counts {
     Counts { added, removed }
 }
 
