@@ -73,7 +73,7 @@ groups_keep limit P Q C D p c (suc d) b ts x us h below =
     rw e (braces_keep limit b P Q C D (g.Groups_at P C d) (g.Groups_at Q D (limit - (b + 1))) (p b) (c b) (groups_keep limit P Q C D p c d (b + 1)) ts x us h below)
 
 -- Triples in braces, derived at any depth, are derived at the depth that the limit leaves inside one brace.
-block_keeps : (depth d b : ℕ) → Keeps bracket (suc depth) (b + 1) (TriplesTemplate (Nodes_at d)) (TriplesTemplate (Nodes_at depth))
+pub block_keeps : (depth d b : ℕ) → Keeps bracket (suc depth) (b + 1) (TriplesTemplate (Nodes_at d)) (TriplesTemplate (Nodes_at depth))
 unfolding Keeps
 block_keeps depth d b ts x us h below =
     let wide : Below bracket (suc depth + b) (b + 1) ts = record { at = λ n. let l = below.at n in omega arith } in
@@ -83,7 +83,7 @@ block_keeps depth d b ts x us h below =
     (rw i at there.0, here.1)
 
 -- And so are constraints.
-filter_keeps : (depth d b : ℕ) → Keeps bracket (suc depth) (b + 1) (Constraint (Expressions_at d)) (Constraint (Expressions_at depth))
+pub filter_keeps : (depth d b : ℕ) → Keeps bracket (suc depth) (b + 1) (Constraint (Expressions_at d)) (Constraint (Expressions_at depth))
 unfolding Keeps
 filter_keeps depth d b ts x us h below =
     let wide : Below bracket (suc depth + b) (b + 1) ts = record { at = λ n. let l = below.at n in omega arith } in

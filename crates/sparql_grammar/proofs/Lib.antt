@@ -18,6 +18,7 @@ pub mod OperationTemplates
 pub mod OperationTurns
 pub mod OperationWhole
 pub mod PrologueProductions
+pub mod QuadProductions
 pub mod QueryProductions
 pub mod QueryProper
 pub mod QueryWhole

@@ -242,15 +242,6 @@ fn delete_where<'a>(parser: &mut Parser<'_, 'a>) -> Result<Operation<'a>, Gramma
     Ok(Operation::DeleteWhere(quad_pattern(parser)?))
 }
 
-#[tactic(auto, unfolding(crate::specs::OperationReading::delete_clause))]
-fn delete_clause<'a>(parser: &mut Parser<'_, 'a>) -> Result<Items<Block<'a>>, GrammarFault>
-    ensures reads { Reads (spec.delete_clause in_data spec.in_graph parser.old) result parser.new }
-    ensures shorter { OnOk result (length parser.new < length parser.old) }
-{
-    parser.expect(Terminal::Delete)?;
-    quad_pattern(parser)
-}
-
 #[tactic(auto, unfolding(crate::specs::OperationReading::insert_clause))]
 fn insert_clause<'a>(parser: &mut Parser<'_, 'a>) -> Result<Items<Block<'a>>, GrammarFault>
     ensures reads { Reads (spec.insert_clause in_data spec.in_graph parser.old) result parser.new }
@@ -261,7 +252,7 @@ fn insert_clause<'a>(parser: &mut Parser<'_, 'a>) -> Result<Items<Block<'a>>, Gr
 }
 
 // What is deleted, and what is inserted.
-#[tactic(auto, unfolding(crate::specs::OperationReading::templates))]
+#[tactic(auto, unfolding(crate::specs::OperationReading::templates, crate::specs::OperationReading::delete_clause))]
 fn templates<'a>(
     parser: &mut Parser<'_, 'a>,
 ) -> Result<(Items<Block<'a>>, Items<Block<'a>>), GrammarFault>
@@ -270,7 +261,8 @@ fn templates<'a>(
 {
     match parser.peek() {
         Some(Terminal::Delete) => {
-            let delete = delete_clause(parser)?;
+            parser.expect(Terminal::Delete)?;
+            let delete = quad_pattern(parser)?;
             if !parser.sees(Terminal::Insert) {
                 return Ok((delete, Items::new(parser.alloc())));
             }
