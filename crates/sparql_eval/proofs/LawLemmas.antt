@@ -144,7 +144,7 @@ move_is_copy_then_drop s silent from to there out =
 
 -- ---- INSERT DATA
 
-not_silent : (s t u : State) (right : Bool) → answer s t false (unless right BlankNumbers) ≡ Ok u → t ≡ u
+pub not_silent : (s t u : State) (right : Bool) → answer s t false (unless right BlankNumbers) ≡ Ok u → t ≡ u
 not_silent s t u true e = ap (state_or s) e
 not_silent s t u false e = absurd (true≢false (sym (ap is_ok e)))
 

@@ -1,6 +1,9 @@
 mod GraphLemmas
 mod LawLemmas
+mod ModifyLawLemmas
+mod ModifyLemmas
 mod OtherLemmas
 mod QuadLemmas
 mod ResultLemmas
 mod SetLemmas
+mod TemplateLemmas

@@ -16,12 +16,12 @@ use Rattle.rdf_dataset.specs.Insertion.{graph_names, names_in, quad_from}
 use Rattle.rdf_dataset.specs.State.{Names, Quads, State, with_graph}
 use Rattle.sparql_eval.specs.Graphs.{graph_of, is_meant, is_there, quad_in, quads_in, quads_of, same_graph, without_graph, without_name_of}
 use Rattle.sparql_eval.specs.Laws.{OthersStay, writes}
-use Rattle.sparql_eval.specs.Operations.{added, after, answer, copied, is_silent, moved, obstacle, onto}
+use Rattle.sparql_eval.specs.Operations.{added, after, answer, copied, deletions, insertions, is_silent, moved, obstacle, onto}
 use Rattle.sparql_eval.specs.declared.fault.ApplyFault.{ApplyFault}
 use Rattle.sparql_eval.proofs.LawLemmas.{any_join, state_or}
 use Rattle.sparql_eval.proofs.SetLemmas.{and_true, contains-kept, or_false, tie_same, tie_sym}
 use Rattle.sparql_trees.specs.declared.operation.Operation.{Operation}
-use Rattle.sparql_trees.specs.declared.operation.Operation.TheVariants.{InsertData, DeleteData, Create, Clear, Drop, Copy, Move, Add}
+use Rattle.sparql_trees.specs.declared.operation.Operation.TheVariants.{InsertData, DeleteData, Modify, Create, Clear, Drop, Copy, Move, Add}
 
 first_not : (a b : Bool) → (a || b) ≡ false → a ≡ false
 first_not true b h = h
@@ -87,6 +87,14 @@ quads_kept s (DeleteData quads) g q out own =
     contains-difference quad_cmp_total s.quads (from_list quads) q
     ∙ ap (λ b. contains s.quads q && not b) (contains-from_list quad_cmp_total quads q ∙ none_such quads g q out own)
     ∙ and_true (contains s.quads q)
+quads_kept s (Modify m) g q out own =
+    let gone = deletions s m in let come = insertions s m in
+    contains-union quad_cmp_total (set.difference s.quads (from_list gone)) (from_list come) q
+    ∙ ap (λ b. contains (set.difference s.quads (from_list gone)) q || b) (contains-from_list quad_cmp_total come q ∙ none_such come g q (second_not (list_any (λ x. same_graph g x.graph) gone) _ out) own)
+    ∙ or_false (contains (set.difference s.quads (from_list gone)) q)
+    ∙ contains-difference quad_cmp_total s.quads (from_list gone) q
+    ∙ ap (λ b. contains s.quads q && not b) (contains-from_list quad_cmp_total gone q ∙ none_such gone g q (first_not (list_any (λ x. same_graph g x.graph) gone) _ out) own)
+    ∙ and_true (contains s.quads q)
 quads_kept s (Create silent graph) g q out own = refl
 quads_kept s (Clear silent graphs) g q out own = kept_where s.quads (is_meant graphs) g q out own
 quads_kept s (Drop silent graphs) g q out own = kept_where s.quads (is_meant graphs) g q out own
@@ -123,6 +131,12 @@ name_kept s (InsertData brought) n out =
     contains-union term_cmp_total s.names (from_list (flat_map names_in qs)) n
     ∙ ap (λ b. contains s.names n || b) (contains-from_list term_cmp_total (flat_map names_in qs) n ∙ no_such_name qs n out) ∙ or_false (contains s.names n)
 name_kept s (DeleteData quads) n out = refl
+name_kept s (Modify m) n out =
+    let come = insertions s m in
+    contains-union term_cmp_total s.names (from_list (flat_map names_in come)) n
+    ∙ ap (λ b. contains s.names n || b)
+    (contains-from_list term_cmp_total (flat_map names_in come) n ∙ no_such_name come n (second_not (list_any (λ q. same_graph (Named n) q.graph) (deletions s m)) _ out))
+    ∙ or_false (contains s.names n)
 name_kept s (Create silent graph) n out = name_elsewhere s.names (Iri graph) n out
 name_kept s (Clear silent graphs) n out = refl
 name_kept s (Drop silent graphs) n out =

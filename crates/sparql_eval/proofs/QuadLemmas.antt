@@ -41,6 +41,21 @@ removing_goes_on s now new qs i q h is n e =
 pub removing_ends : (s now : State) (qs rest : List QuadParts) → rest ≡ [] → without_all now rest ≡ without_all s qs → now ≡ without_all s qs
 removing_ends s now qs rest r e = sym (without_all-nothing now) ∙ ap (without_all now) (sym r) ∙ e
 
+-- ---- quads come
+
+-- the quads of a list are to come, and one comes
+pub coming_goes_on : (now new t : State) (qs rest : List QuadParts) (q : QuadParts) → qs ≡ q ∷ rest → new ≡ with_quad now q → with_all now qs ≡ t → with_all new rest ≡ t
+coming_goes_on now new t qs rest q e n h = ap (λ z. with_all z rest) n ∙ with_all-more now q rest ∙ ap (with_all now) (sym e) ∙ h
+
+pub coming_below : (now new : State) (qs rest : List QuadParts) (q : QuadParts) → qs ≡ q ∷ rest → new ≡ with_quad now q → AreBelow now.next qs → AreBelow new.next rest
+coming_below now new qs rest q e n b = subst (λ k. AreBelow k rest) (sym (ap (λ (z : State). z.next) n)) (subst (AreBelow now.next) e b).1
+
+-- none is left to come
+pub coming_ends : (now t : State) (rest : List QuadParts) → rest ≡ [] → with_all now rest ≡ t → now ≡ t
+coming_ends now t rest r e = sym (with_all-nothing now) ∙ ap (with_all now) (sym r) ∙ e
+
+-- ---- the quads of a graph
+
 -- a look-up of a graph's quads passes each of them
 pub matches_all : (g : GraphName) (q : QuadParts) → matches g None None None q ≡ same_graph g q.graph
 matches_all g q = and_true (same_graph g q.graph)

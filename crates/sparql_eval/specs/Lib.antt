@@ -3,3 +3,4 @@ pub mod Graphs
 pub mod Inside
 pub mod Laws
 pub mod Operations
+pub mod Templates

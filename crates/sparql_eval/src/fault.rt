@@ -15,7 +15,7 @@ pub enum ApplyFault {
     /// A graph that the operation makes is there already.
     #[error("the graph is there already")]
     GraphExists,
-    /// The data's blank nodes would bring the counter past 10^18.
+    /// New blank nodes would bring the counter past 10^18.
     #[error("no blank numbers are left")]
     BlankNumbers,
     /// Memory is wanting.

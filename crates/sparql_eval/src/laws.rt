@@ -1,5 +1,5 @@
 //! Laws over the definitions alone.
-ghost use Rattle.sparql_eval.specs.Laws.{CopyReads, DropAllEmpties, InsertAgain, MoveIsCopyThenDrop, OneAnswer, OthersStay, SilentChangesNothing};
+ghost use Rattle.sparql_eval.specs.Laws.{CopyReads, DropAllEmpties, EachSolutionHasItsOwnBlankNodes, InsertAgain, InsertDataIsModify, ModifyDeletesThenInserts, MoveIsCopyThenDrop, OneAnswer, OthersStay, SilentChangesNothing};
 
 /// A request leads to one state or is refused, never both.
 pub fn one_answer()
@@ -34,4 +34,21 @@ pub fn insert_again()
 /// Each operation leaves all other graphs as they were.
 pub fn others_stay()
     ensures { OthersStay }
+{}
+
+/// DELETE/INSERT takes the instances of its DELETE template away, and then brings those of its
+/// INSERT template in; the counter goes past the new blank nodes of all solutions.
+pub fn modify_deletes_then_inserts()
+    ensures { ModifyDeletesThenInserts }
+{}
+
+/// The new blank nodes of a solution are no other's: with k of them in the template those of
+/// solution i, from 0, have the numbers from i * k on, and below (i + 1) * k.
+pub fn each_solution_has_its_own_blank_nodes()
+    ensures { EachSolutionHasItsOwnBlankNodes }
+{}
+
+/// INSERT DATA of quads is INSERT of these quads WHERE { }.
+pub fn insert_data_is_modify()
+    ensures { InsertDataIsModify }
 {}

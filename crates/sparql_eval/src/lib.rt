@@ -5,14 +5,17 @@
 mod fault;
 mod graphs;
 mod laws;
+mod modify;
 mod operations;
 mod quads;
 mod request;
+mod template;
 
 pub use fault::ApplyFault;
 pub use laws::{
-    copy_reads, drop_all_empties, insert_again, move_is_copy_then_drop, one_answer, others_stay,
-    silent_changes_nothing,
+    copy_reads, drop_all_empties, each_solution_has_its_own_blank_nodes, insert_again,
+    insert_data_is_modify, modify_deletes_then_inserts, move_is_copy_then_drop, one_answer,
+    others_stay, silent_changes_nothing,
 };
 pub use request::apply;
 pub use sparql_solve::{Row, Solutions, ask, select, solve};

@@ -1,11 +1,12 @@
 //! What one operation does, and what stands against it.
-ghost use Rattle.std.specs.Prelude.{◌≡◌, ◌+◌, ◌≤◌, None, IfOk, OnOk};
+ghost use Rattle.std.specs.Prelude.{◌≡◌, ◌+◌, ◌≤◌, false, None, IfOk, OnOk};
 ghost use Rattle.std.specs.FinSet.{contains};
 ghost use Rattle.rdf_terms.specs.declared.term.Term.TheVariants.{Iri as iri_term};
 ghost use Rattle.rdf_dataset.specs.State.{last_number, with_name};
 ghost use Rattle.rdf_dataset.specs.Insertion.{with_data};
 ghost use Rattle.sparql_eval.specs.Graphs.{graph_of, is_there};
 ghost use Rattle.sparql_eval.specs.Operations.{after, is_silent, missing_of, obstacle, unless};
+ghost use Rattle.sparql_eval.specs.Inside.Staging.{has_pattern};
 
 use crate::fault::ApplyFault;
 use crate::graphs::{Names, Transfer, empty_graphs, transfer_graph};
@@ -52,11 +53,12 @@ fn missing_of<D: Source>(
     }
 }
 
-/// What stands against an operation.
+/// What stands against an operation without a pattern.
 pub(crate) fn obstacle<D: Source>(
     operation: &Operation,
     view: &Staged<'_, D>,
 ) -> Result<Option<ApplyFault>, NoMemory>
+    requires { has_pattern operation.now ≡ false }
     ensures { IfOk result (λ found. found ≡ obstacle view.now.now operation.now) }
 {
     match operation {
@@ -65,6 +67,7 @@ pub(crate) fn obstacle<D: Source>(
             Ok(unless(data.blanks() <= room, ApplyFault::BlankNumbers))
         }
         Operation::DeleteData(_) => Ok(None),
+        Operation::Modify(_) => unreachable!(),
         Operation::Create { graph, .. } => {
             Ok(unless(!is_named(graph, view)?, ApplyFault::GraphExists))
         }
@@ -81,7 +84,7 @@ pub(crate) fn is_silent(operation: &Operation) -> bool
     ensures { result ≡ is_silent operation.now }
 {
     match operation {
-        Operation::InsertData(_) | Operation::DeleteData(_) => false,
+        Operation::InsertData(_) | Operation::DeleteData(_) | Operation::Modify(_) => false,
         Operation::Create { silent, .. }
         | Operation::Clear { silent, .. }
         | Operation::Drop { silent, .. }
@@ -125,12 +128,13 @@ fn create<D: Source>(graph: &Iri, view: &mut Staged<'_, D>) -> Result<(), NoMemo
     Ok(())
 }
 
-/// Does an operation that nothing stands against.
+/// Does an operation without a pattern that nothing stands against.
 pub(crate) fn perform<D: Source>(
     alloc: Global,
     operation: &Operation,
     view: &mut Staged<'_, D>,
 ) -> Result<(), NoMemory>
+    requires plain { has_pattern operation.now ≡ false }
     requires free { obstacle view.old.now operation.now ≡ None }
     ensures ok { OnOk result (view.new.now ≡ after view.old.now operation.now) }
     ensures beneath { view.new.under ≡ view.old.under }
@@ -138,6 +142,7 @@ pub(crate) fn perform<D: Source>(
     match operation {
         Operation::InsertData(data) => insert_data(alloc, data, view),
         Operation::DeleteData(data) => remove_all(data.quads(), view),
+        Operation::Modify(_) => unreachable!(),
         Operation::Create { graph, .. } => create(graph, view),
         Operation::Clear { graphs, .. } => empty_graphs(alloc, graphs, Names::Stay, view),
         Operation::Drop { graphs, .. } => empty_graphs(alloc, graphs, Names::Go, view),

@@ -1,7 +1,8 @@
 //! Quads that go and come, one after another.
 ghost use Rattle.std.specs.Prelude.{◌≡◌, IsTrue, OnOk};
-ghost use Rattle.rdf_terms.specs.Below.{IsGraphBelow};
+ghost use Rattle.rdf_terms.specs.Below.{AreBelow, IsGraphBelow};
 ghost use Rattle.rdf_terms.specs.Quad.{is_graph, may_name_graph};
+ghost use Rattle.rdf_dataset.specs.Insertion.{with_all};
 ghost use Rattle.rdf_dataset.specs.State.{IsSound};
 ghost use Rattle.sparql_eval.specs.Graphs.{quad_in};
 ghost use Rattle.sparql_eval.specs.Operations.{added, without_all};
@@ -28,6 +29,21 @@ pub(crate) fn remove_all<D: Source>(
 {
     for quad in quads {
         view.remove(quad)?;
+    }
+    Ok(())
+}
+
+/// Brings the quads in, with the names of their graphs.
+pub(crate) fn insert_all<D: Source>(
+    quads: Vec<Quad>,
+    view: &mut Staged<'_, D>,
+) -> Result<(), NoMemory>
+    requires { AreBelow view.old.now.next quads.items }
+    ensures ok { OnOk result (view.new.now ≡ with_all view.old.now quads.items) }
+    ensures beneath { view.new.under ≡ view.old.under }
+{
+    for quad in quads {
+        view.insert(quad)?;
     }
     Ok(())
 }

@@ -4,6 +4,7 @@ ghost use Rattle.rdf_dataset.specs.State.{IsSound};
 ghost use Rattle.sparql_eval.specs.Operations.{Tells, step, steps};
 
 use crate::fault::ApplyFault;
+use crate::modify::modify;
 use crate::operations::{is_silent, obstacle, perform};
 use rdf_dataset::{Source, Staged};
 use sparql_trees::{Operation, Request};
@@ -18,6 +19,9 @@ fn act<S: Source>(
     ensures refused { IfErr result (λ fault. Tells (step staged.old.now operation.now) fault) }
     ensures beneath { staged.new.under ≡ staged.old.under }
 {
+    if let Operation::Modify(operation) = operation {
+        return modify(alloc, operation, staged);
+    }
     if let Some(fault) = obstacle(operation, staged)? {
         return if is_silent(operation) {
             Ok(())
@@ -33,9 +37,9 @@ fn act<S: Source>(
 /// # Errors
 /// The first refusal of an operation that isn't SILENT: [`ApplyFault::MissingGraph`] where a graph
 /// that it names isn't there, [`ApplyFault::GraphExists`] where one that it makes is, and, SILENT
-/// or not, [`ApplyFault::BlankNumbers`] where the blank nodes of its data would bring the counter
-/// past 10^18. [`ApplyFault::NoMemory`] where memory is wanting. The view is to be given up then;
-/// what lies beneath is as it was.
+/// or not, [`ApplyFault::BlankNumbers`] where its new blank nodes, those of its data or of all its
+/// solutions, would bring the counter past 10^18. [`ApplyFault::NoMemory`] where memory is wanting.
+/// The view is to be given up then; what lies beneath is as it was.
 pub fn apply<S: Source>(
     alloc: Global,
     request: &Request,

@@ -1,4 +1,5 @@
--- Graphs that are emptied, and triples that come from one into another.
+-- Graphs that are emptied, triples that come from one into another, and operations with a pattern.
+use Rattle.std.specs.Prelude.{Bool, true, false}
 use Rattle.rdf_terms.specs.declared.quad.GraphName.{GraphName}
 use Rattle.rdf_dataset.specs.State.{State}
 use Rattle.sparql_eval.specs.Graphs.{without_graph, without_name_of}
@@ -8,6 +9,8 @@ use Rattle.sparql_eval.specs.declared.graphs.Names.TheVariants.{Stay, Go}
 use Rattle.sparql_eval.specs.declared.graphs.Transfer.{Transfer}
 use Rattle.sparql_eval.specs.declared.graphs.Transfer.TheVariants.{Copy, Move, Add}
 use Rattle.sparql_trees.specs.declared.operation.GraphRefAll.{GraphRefAll}
+use Rattle.sparql_trees.specs.declared.operation.Operation.{Operation}
+use Rattle.sparql_trees.specs.declared.operation.Operation.TheVariants as operation
 
 -- a graph is emptied
 abbrev pub emptied : State → GraphName → State
@@ -32,3 +35,15 @@ abbrev pub transferred : Transfer → State → GraphName → GraphName → Stat
 transferred Copy s g h = copied s g h
 transferred Move s g h = moved s g h
 transferred Add s g h = added s g h
+
+-- the operation has a pattern, so that its solutions tell what it does
+abbrev pub has_pattern : Operation → Bool
+has_pattern (operation.InsertData brought) = false
+has_pattern (operation.DeleteData quads) = false
+has_pattern (operation.Modify m) = true
+has_pattern (operation.Create silent graph) = false
+has_pattern (operation.Clear silent graphs) = false
+has_pattern (operation.Drop silent graphs) = false
+has_pattern (operation.Copy silent from to) = false
+has_pattern (operation.Move silent from to) = false
+has_pattern (operation.Add silent from to) = false
