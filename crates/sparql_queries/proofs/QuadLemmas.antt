@@ -81,13 +81,12 @@ together_fails p found (x ∷ xs) s e l h = one_fails found (member_in p (writte
 
 -- ---- GRAPH
 
-pub inside : List Triples → Group
+abbrev pub inside : List Triples → Group
 inside triples = record { members = together triples; filters = [] }
 
 pub graph_block_said : (p q : Prologue) (found : List Member) (w : written_name.VarOrIri) (triples : List Triples) (s u : Labels) (name : VarOrIri) (ms none : List Member) → q ≡ p → none ≡ [] → graph_name p w ≡ Some name
     → collected_behind none (map (member_in q) (together triples)) s ≡ Some (ms, u)
     → collected_behind found (map (member_in p) (members_by (Some w) triples)) s ≡ Some (found ++ member.Graph name (pattern_with ms []) ∷ [], u)
-unfolding inside
 graph_block_said p q found w triples s u name ms none same empty h k =
     let at_start : collected (map (member_in q) (inside triples).members) s ≡ Some (ms, u) = subst (λ (l : List Member). collected_behind l (map (member_in q) (together triples)) s ≡ Some (ms, u)) empty k in
     let said : group q (inside triples) s ≡ Some (pattern_with ms [], u) = filterless q (together triples) s u ms at_start in
@@ -97,7 +96,6 @@ graph_block_said p q found w triples s u name ms none same empty h k =
 pub graph_block_fails : (p q : Prologue) (found : List Member) (w : written_name.VarOrIri) (triples : List Triples) (s : Labels) (name : VarOrIri) (none : List Member) (e : PrologueFault) → q ≡ p → none ≡ [] → graph_name p w ≡ Some name
     → Fails (collected_behind none (map (member_in q) (together triples)) s) e
     → Fails (collected_behind found (map (member_in p) (members_by (Some w) triples)) s) e
-unfolding inside
 graph_block_fails p q found w triples s name none e same empty h k =
     let at_start : Fails (collected (map (member_in q) (inside triples).members) s) e = subst (λ (l : List Member). Fails (collected_behind l (map (member_in q) (together triples)) s) e) empty k in
     one_fails found (member_in p (written.Graph w (inside triples))) s e
@@ -105,7 +103,6 @@ graph_block_fails p q found w triples s name none e same empty h k =
 
 pub block_name_fails : (p : Prologue) (found : List Member) (w : written_name.VarOrIri) (triples : List Triples) (s : Labels) (e : PrologueFault) → Fails (graph_name p w) e
     → Fails (collected_behind found (map (member_in p) (members_by (Some w) triples)) s) e
-unfolding inside
 block_name_fails p found w triples s e h =
     one_fails found (member_in p (written.Graph w (inside triples))) s e (name_fails p w (inside triples) s e h)
 
