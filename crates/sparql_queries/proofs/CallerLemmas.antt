@@ -1,6 +1,5 @@
 -- What callers need to know of the group that quads are: its prefixes are those of the quads.
 use Rattle.std.proofs.Common.{◌≡◌, ◌∙◌, ap, sym, ℕ, List, [], ◌∷◌, ◌++◌, map, Bool, true, false, ◌&&◌, Option, Some, None, refl}
-use Rattle.std.proofs.lemmas.List.{map-append}
 use Rattle.std.specs.List.{flat_map, list_all}
 use Rattle.sparql_drafts.specs.Known.{known_block, known_graph, known_triples, known_var_or_iri}
 use Rattle.sparql_grammar.specs.GroupReading.{together}

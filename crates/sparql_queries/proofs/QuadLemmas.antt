@@ -1,5 +1,5 @@
 -- What quads say as a group: block by block, triples together, and those of GRAPH in a group of their own.
-use Rattle.std.proofs.Common.{◌≡◌, ◌∙◌, ap, sym, subst, ℕ, suc, ◌+◌, ◌<◌, List, [], ◌∷◌, ◌++◌, map, drop, length, get_or, add-one, arith, Option, Some, None, refl}
+use Rattle.std.proofs.Common.{◌≡◌, ◌∙◌, ap, sym, subst, ℕ, zero, suc, ◌+◌, ◌<◌, ◌≤◌, List, [], ◌∷◌, ◌++◌, map, drop, length, get_or, add-one, arith, Some, None, refl}
 use Rattle.std.proofs.lemmas.List.{map-append}
 use Rattle.std.specs.List.{flat_map}
 use Rattle.rdf_grammar.specs.Prologue.{Prologue}
@@ -141,7 +141,13 @@ block_fails p blocks i b found s (NoMemory refused) l is h = tt
 block_fails p blocks i b found s (Relative start) l is h = none_behind p blocks i b found s l is h
 block_fails p blocks i b found s (UnknownPrefix start) l is h = h
 
--- all blocks, as far as the loop has come
+-- behind the last block
+pub no_block : (p : Prologue) (blocks : List Block) (i : ℕ) (found : List Member) (s : Labels) → length blocks ≤ i → blocks_behind p found (drop i blocks) s ≡ Some (found, s)
+no_block p [] zero found s l = refl
+no_block p [] (suc i) found s l = refl
+no_block p (b ∷ bs) zero found s l = absurd (omega (arith, l))
+no_block p (b ∷ bs) (suc i) found s l = no_block p bs i found s (omega (arith, l))
+
 pub quads_said : (p : Prologue) (blocks : List Block) (s u : Labels) (ms : List Member) → blocks_behind p [] blocks s ≡ Some (ms, u) → group p (quads_group blocks) s ≡ Some (pattern_with ms [], u)
 quads_said p blocks s u ms h = filterless p (flat_map members_in blocks) s u ms h
 
