@@ -1,6 +1,5 @@
 -- What callers need to know of the group that quads are: its prefixes are those of the quads.
 use Rattle.std.proofs.Common.{◌≡◌, ◌∙◌, ap, sym, ℕ, List, [], ◌∷◌, ◌++◌, map, Bool, true, false, ◌&&◌, Option, Some, None, refl}
-use Rattle.std.proofs.lemmas.List.{map-append}
 use Rattle.std.specs.List.{flat_map, list_all}
 use Rattle.sparql_drafts.specs.Known.{known_block, known_graph, known_triples, known_var_or_iri}
 use Rattle.sparql_grammar.specs.GroupReading.{together}
@@ -36,13 +35,11 @@ together_known declared (x ∷ xs) =
     ∙ fold-roll-Member Bool Bool (known_member_of declared) (known_group_of declared) (Member-F.Triples (x ∷ xs))
 
 inside_known : (declared : List (List ℕ)) (triples : List Triples) → known_group declared (inside triples) ≡ list_all holds (map (known_triples declared) triples)
-unfolding inside
 inside_known declared triples =
     known_group_is declared (inside triples) ∙ and_true (list_all holds (map (known_member declared) (together triples))) ∙ together_known declared triples
 
 members_known : (declared : List (List ℕ)) (graph : Option VarOrIri) (triples : List Triples)
     → list_all holds (map (known_member declared) (members_by graph triples)) ≡ (known_graph declared graph && list_all holds (map (known_triples declared) triples))
-unfolding inside
 members_known declared None triples = together_known declared triples
 members_known declared (Some name) triples =
     and_true (known_member declared (written.Graph name (inside triples)))

@@ -1,5 +1,5 @@
 -- A turn of each loop over groups and members, a group's FILTERs, and GRAPH's two parts.
-use Rattle.std.proofs.Common.{◌≡◌, ◌∙◌, ap, sym, subst, ℕ, suc, ◌+◌, ◌<◌, List, [], ◌∷◌, ◌++◌, map, drop, length, get_or, drop-cons, add-one, Option, Some, None, Result, Ok, Err, OnOk, Bool, true, false, leb, if◌then◌else◌, rules, refl}
+use Rattle.std.proofs.Common.{◌≡◌, ◌∙◌, ap, sym, subst, ℕ, suc, ◌+◌, ◌<◌, List, [], ◌∷◌, ◌++◌, map, drop, length, get_or, drop-cons, add-one, Option, Some, None, Result, Ok, Err, OnOk, Bool, true, false, leb, if◌then◌else◌, refl}
 use Rattle.std.specs.Option.{option_map}
 use Rattle.rdf_grammar.specs.Prologue.{Prologue}
 use Rattle.rdf_grammar.specs.Steps.{Outcome, Step, and_then, ◌>>=◌, pure}

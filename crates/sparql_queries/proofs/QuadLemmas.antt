@@ -1,5 +1,5 @@
 -- What quads say as a group: block by block, triples together, and those of GRAPH in a group of their own.
-use Rattle.std.proofs.Common.{◌≡◌, ◌∙◌, ap, sym, subst, ℕ, suc, ◌+◌, ◌<◌, List, [], ◌∷◌, ◌++◌, map, drop, length, get_or, add-one, arith, Option, Some, None, refl}
+use Rattle.std.proofs.Common.{◌≡◌, ◌∙◌, ap, sym, subst, ℕ, zero, suc, ◌+◌, ◌<◌, ◌≤◌, List, [], ◌∷◌, ◌++◌, map, drop, length, get_or, add-one, arith, Some, None, refl}
 use Rattle.std.proofs.lemmas.List.{map-append}
 use Rattle.std.specs.List.{flat_map}
 use Rattle.rdf_grammar.specs.Prologue.{Prologue}
@@ -81,13 +81,12 @@ together_fails p found (x ∷ xs) s e l h = one_fails found (member_in p (writte
 
 -- ---- GRAPH
 
-pub inside : List Triples → Group
+abbrev pub inside : List Triples → Group
 inside triples = record { members = together triples; filters = [] }
 
 pub graph_block_said : (p q : Prologue) (found : List Member) (w : written_name.VarOrIri) (triples : List Triples) (s u : Labels) (name : VarOrIri) (ms none : List Member) → q ≡ p → none ≡ [] → graph_name p w ≡ Some name
     → collected_behind none (map (member_in q) (together triples)) s ≡ Some (ms, u)
     → collected_behind found (map (member_in p) (members_by (Some w) triples)) s ≡ Some (found ++ member.Graph name (pattern_with ms []) ∷ [], u)
-unfolding inside
 graph_block_said p q found w triples s u name ms none same empty h k =
     let at_start : collected (map (member_in q) (inside triples).members) s ≡ Some (ms, u) = subst (λ (l : List Member). collected_behind l (map (member_in q) (together triples)) s ≡ Some (ms, u)) empty k in
     let said : group q (inside triples) s ≡ Some (pattern_with ms [], u) = filterless q (together triples) s u ms at_start in
@@ -97,7 +96,6 @@ graph_block_said p q found w triples s u name ms none same empty h k =
 pub graph_block_fails : (p q : Prologue) (found : List Member) (w : written_name.VarOrIri) (triples : List Triples) (s : Labels) (name : VarOrIri) (none : List Member) (e : PrologueFault) → q ≡ p → none ≡ [] → graph_name p w ≡ Some name
     → Fails (collected_behind none (map (member_in q) (together triples)) s) e
     → Fails (collected_behind found (map (member_in p) (members_by (Some w) triples)) s) e
-unfolding inside
 graph_block_fails p q found w triples s name none e same empty h k =
     let at_start : Fails (collected (map (member_in q) (inside triples).members) s) e = subst (λ (l : List Member). Fails (collected_behind l (map (member_in q) (together triples)) s) e) empty k in
     one_fails found (member_in p (written.Graph w (inside triples))) s e
@@ -105,7 +103,6 @@ graph_block_fails p q found w triples s name none e same empty h k =
 
 pub block_name_fails : (p : Prologue) (found : List Member) (w : written_name.VarOrIri) (triples : List Triples) (s : Labels) (e : PrologueFault) → Fails (graph_name p w) e
     → Fails (collected_behind found (map (member_in p) (members_by (Some w) triples)) s) e
-unfolding inside
 block_name_fails p found w triples s e h =
     one_fails found (member_in p (written.Graph w (inside triples))) s e (name_fails p w (inside triples) s e h)
 
@@ -144,7 +141,13 @@ block_fails p blocks i b found s (NoMemory refused) l is h = tt
 block_fails p blocks i b found s (Relative start) l is h = none_behind p blocks i b found s l is h
 block_fails p blocks i b found s (UnknownPrefix start) l is h = h
 
--- all blocks, as far as the loop has come
+-- behind the last block
+pub no_block : (p : Prologue) (blocks : List Block) (i : ℕ) (found : List Member) (s : Labels) → length blocks ≤ i → blocks_behind p found (drop i blocks) s ≡ Some (found, s)
+no_block p [] zero found s l = refl
+no_block p [] (suc i) found s l = refl
+no_block p (b ∷ bs) zero found s l = absurd (omega (arith, l))
+no_block p (b ∷ bs) (suc i) found s l = no_block p bs i found s (omega (arith, l))
+
 pub quads_said : (p : Prologue) (blocks : List Block) (s u : Labels) (ms : List Member) → blocks_behind p [] blocks s ≡ Some (ms, u) → group p (quads_group blocks) s ≡ Some (pattern_with ms [], u)
 quads_said p blocks s u ms h = filterless p (flat_map members_in blocks) s u ms h
 

@@ -189,7 +189,7 @@ fn patterns_of<'a>(
 }
 
 #[cycle(group)]
-#[tactic(auto, using(crate::proofs::GroupLemmas::graph_said, crate::proofs::GroupLemmas::graph_fails, crate::proofs::GroupLemmas::name_fails))]
+#[tactic(auto, using(crate::proofs::GroupLemmas::graph_said, crate::proofs::GroupLemmas::graph_fails))]
 fn member_of<'a>(
     alloc: Global,
     scope: &mut Scope<'a>,

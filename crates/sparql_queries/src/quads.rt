@@ -35,10 +35,11 @@ fn with_triples<'a>(
         Gives (collected_behind members says labels.old) result labels.new }
     ensures prologue { scope.new.prologue ≡ scope.old.prologue }
 {
-    if !triples.is_empty() {
-        let pattern = basic(alloc, scope, labels, triples)?;
-        members.push(Member::Basic(pattern))?;
+    if triples.is_empty() {
+        return Ok(members);
     }
+    let pattern = basic(alloc, scope, labels, triples)?;
+    members.push(Member::Basic(pattern))?;
     Ok(members)
 }
 

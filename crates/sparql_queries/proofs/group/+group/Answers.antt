@@ -7,7 +7,7 @@ use Rattle.sparql_queries.specs.Expressions.{all, expression_in}
 use Rattle.sparql_queries.specs.Groups as spec
 use Rattle.sparql_queries.specs.Known as known
 use Rattle.sparql_grammar.specs.Proper as proper
-use Rattle.sparql_queries.proofs.GroupLemmas.{next_collected, next_fails, group_gives, graph_said, graph_fails}
+use Rattle.sparql_queries.proofs.GroupLemmas.{next_collected, next_fails, group_gives, graph_said, graph_fails, name_fails}
 use Rattle.sparql_trees.specs.declared.pattern.Member.{Member}
 use Rattle.sparql_trees.specs.declared.pattern.Pattern.{Pattern}
 use Rattle.sparql_queries.proofs.group.+group.Goals as goal
@@ -98,6 +98,14 @@ member_of-returns-in_ok-pattern-in-Graph-clause-gives t c =
     rw c.in-Graph.is
     (graph_said c.args.scope.now.prologue c.named.new.scope.prologue c.in-Graph.name c.in-Graph.group c.args.labels.now c.pattern_of-in-Graph.new.labels c.in_ok-name-in-Graph.name c.in_ok-pattern-in-Graph.pattern
     c.named.ensures.prologue c.in_ok-name-in-Graph.ensures.tells c.in_ok-pattern-in-Graph.ensures.gives)
+
+pub member_of-returns-in_err-name-in-Graph-clause-gives : goal.member_of-returns-in_err-name-in-Graph-clause-gives
+member_of-returns-in_err-name-in-Graph-clause-gives t c =
+    let p = c.args.scope.now.prologue in
+    let e = c.in_err-name-in-Graph.field-0.0 in
+    let fails : Fails (spec.member_in p c.args.member.now c.args.labels.now) e =
+    rw c.in-Graph.is (name_fails p c.in-Graph.name c.in-Graph.group c.args.labels.now e c.in_err-name-in-Graph.ensures.tells) in
+    search rules
 
 pub member_of-returns-in_err-pattern-in-Graph-clause-gives : goal.member_of-returns-in_err-pattern-in-Graph-clause-gives
 member_of-returns-in_err-pattern-in-Graph-clause-gives t c =
