@@ -63,6 +63,7 @@ modified_by (Some w) (Some quads) (Some s) draft h e = subst IsDraftNumbered (sa
 
 modification_numbered : (with : Option Name) (delete insert : List Block) (g : Group) (p : Prologue) (draft : Draft) → option_map d.Modify (modification with delete insert g p) ≡ Some draft
     → IsDraftNumbered draft
+unfolding modification
 modification_numbered with delete insert g p draft e = modified_by (with_graph with p) (templates delete insert p) (group p g []) draft (templates_numbered delete insert p) e
 
 operation_numbered : (w : Operation) (p : Prologue) (draft : Draft) → operation w p ≡ Some draft → IsDraftNumbered draft

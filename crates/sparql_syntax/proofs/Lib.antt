@@ -1,5 +1,6 @@
 pub mod AnswerLemmas
 pub mod DraftsNumbered
+mod FailLemmas
 pub mod LabelLemmas
 pub mod ModifyLemmas
 mod PhaseLemmas

@@ -8,7 +8,7 @@ use Rattle.sparql_drafts.specs.declared.draft.Quads.{Quads}
 use Rattle.sparql_grammar.specs.QuadGroups.{quads_group}
 use Rattle.sparql_grammar.specs.declared.tree.Block.{Block}
 use Rattle.sparql_queries.specs.Groups.{Labels, group}
-use Rattle.sparql_syntax.specs.Meaning.{modification_of, operation}
+use Rattle.sparql_syntax.specs.Meaning.{modification, modification_of, operation}
 use Rattle.sparql_syntax.specs.ModifyLaws.{DeleteWhereIsItsGroup, IsItsGroup}
 use Rattle.sparql_syntax.specs.declared.draft.Draft.{Draft}
 use Rattle.sparql_syntax.specs.declared.draft.Draft.TheVariants.{Modify}
@@ -26,5 +26,5 @@ by_parts blocks p draft (Some d) (Some i) (Some s) f g h e =
     (modification_of None (d, i) s, sym (same_Some _ _ e), record { default = refl; deleted = f; inserted = g; asked = h })
 
 pub delete_where_is_its_group : DeleteWhereIsItsGroup
-unfolding operation
+unfolding operation modification
 delete_where_is_its_group blocks p draft e = by_parts blocks p draft (quads_in blocks p) (quads_in [] p) (group p (quads_group blocks) []) refl refl refl e

@@ -4,7 +4,7 @@ use Rattle.std.specs.List.{count_by, flat_map, list_any, sum_by}
 use Rattle.std.proofs.lemmas.Cmp.{nat_list_eq_equiv}
 use Rattle.std.proofs.lemmas.List.Folds.{list_any-append}
 use Rattle.std.proofs.lemmas.List.Recursion.{is_count_by}
-use Rattle.std.proofs.lemmas.List.Sums.{sum_by-append}
+use Rattle.std.proofs.lemmas.List.Sums.{sum_by-append, sum_by-cons}
 use Rattle.std.proofs.lemmas.Map.Steps.{list_any_congr}
 use Rattle.indexmap.specs.IndexSet.{insert_key}
 use Rattle.rdf_grammar.specs.Keys.{key_of, same_key}
@@ -184,7 +184,8 @@ counted label lists = is_count_by (times label) (stands_in label) refl (λ label
 
 times-append : (label : List ℕ) (lists others : Labels) → times label (lists ++ others) ≡ times label lists + times label others
 times-append label lists others =
-    counted label (lists ++ others) ∙ (sum_by-append (λ labels. cond (stands_in label labels) 1 0) lists others ∙ sym (rw (counted label lists, counted label others) refl))
+    let e : times label lists + times label others ≡ count_by (stands_in label) lists + count_by (stands_in label) others = rw (counted label lists, counted label others) refl in
+    counted label (lists ++ others) ∙ (sum_by-append (λ labels. cond (stands_in label labels) 1 0) lists others ∙ sym e)
 
 one_list : (label : List ℕ) (labels : Keys) (b : Bool) → stands_in label labels ≡ b → times label (labels ∷ []) ≡ cond b 1 0
 unfolding times
@@ -210,7 +211,8 @@ summed : (label : List ℕ) (f : Draft → Labels) (g : Draft → ℕ) → ((d :
 unfolding times
 summed label f g is [] = refl
 summed label f g is (d ∷ ds) =
-    times-append label (f d) (flat_map f ds) ∙ rw (is d, summed label f g is ds) refl
+    let e : times label (f d) + times label (flat_map f ds) ≡ g d + sum_by g ds = rw (is d, summed label f g is ds) refl in
+    times-append label (f d) (flat_map f ds) ∙ (e ∙ sym (sum_by-cons g d ds))
 
 data_times : (label : List ℕ) (ds : List Draft) → times label (flat_map inserted_labels ds) ≡ count_by (brings_label label) ds
 data_times label ds = summed label inserted_labels (λ d. cond (brings_label label d) 1 0) (in_data label) ds

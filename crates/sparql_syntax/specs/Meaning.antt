@@ -62,7 +62,7 @@ abbrev pub modification_of : Option (List ℕ) → Quads × Quads → Pattern ×
 modification_of graph quads said = record { with = graph; delete = quads.0; insert = quads.1; pattern = said.0; labels = said.1 }
 
 -- the graph of WITH, both templates, and what the group says (SPARQL 1.1 Update, section 3.1.3)
-abbrev pub modification : Option Name → List Block → List Block → Group → Prologue → Option Modification
+unfoldable pub modification : Option Name → List Block → List Block → Group → Prologue → Option Modification
 modification with delete insert g p =
     option_and_then (λ graph. option_and_then (λ quads. option_map (modification_of graph quads) (group p g [])) (templates delete insert p))
     (with_graph with p)

@@ -21,4 +21,7 @@ pub use laws::{
 pub use operation::blank_numbers_are_below;
 pub use query::read_query;
 pub use read::read_update;
-pub use sparql_trees::{Data, GraphOrDefault, GraphRefAll, GroundData, Operation, Request};
+pub use sparql_trees::{
+    Data, GraphOrDefault, GraphRefAll, GroundData, Modify, Operation, QuadPattern, Request,
+    Template,
+};

@@ -132,6 +132,7 @@ fn templates<'a>(
 }
 
 // The draft of DELETE/INSERT.
+#[tactic(auto, using(crate::proofs::FailLemmas::then_fails, crate::proofs::FailLemmas::map_fails), unfolding(crate::specs::Meaning::modification))]
 fn modify<'a>(
     alloc: Global,
     scope: &mut Scope<'a>,
@@ -158,6 +159,7 @@ fn modify<'a>(
 }
 
 // The draft of DELETE WHERE: what is deleted is also the group.
+#[tactic(auto, using(crate::proofs::FailLemmas::then_fails, crate::proofs::FailLemmas::map_fails), unfolding(crate::specs::Meaning::modification))]
 fn delete_where<'a>(
     alloc: Global,
     scope: &mut Scope<'a>,

@@ -89,7 +89,8 @@ fn read_text(alloc: Global, text: &str, base: Option<&Iri>) -> Result<Request, S
 
 /// The request that a text is (SPARQL 1.1 Query, section 19.8; SPARQL 1.1 Update, section 3). Names
 /// have their IRIs, and references are resolved against `base`, until the text declares another. The
-/// blank nodes of an operation's data are numbered from 0 by their places in the text.
+/// blank nodes of an operation's data, of a template and of a basic graph pattern are numbered from 0
+/// by their places in the text.
 ///
 /// # Errors
 /// The first of these that applies, with the number of its line: [`SyntaxFaultKind::NotUtf8`],

@@ -213,6 +213,7 @@ fn first_in_data(alloc: Global, drafts: &[Draft<'_>]) -> Result<Option<usize>, N
 }
 
 // Where a label stands in a basic graph pattern that stood in one before.
+#[tactic(auto, using(crate::proofs::LabelLemmas::repeats_behind))]
 fn first_in_patterns(alloc: Global, drafts: &[Draft<'_>]) -> Result<Option<usize>, NoMemory>
     ensures { IfOk result (λ start. is_some start
         ≡ repeats_label [] (flat_map spec.pattern_labels drafts.now)) }

@@ -1,0 +1,16 @@
+-- Where a step fails, so do those that it is part of.
+use Rattle.std.proofs.Common.{◌≡◌, ap, Option, None}
+use Rattle.std.specs.Option.{option_and_then, option_map}
+use Rattle.rdf_grammar.specs.declared.prologue.PrologueFault.{PrologueFault}
+use Rattle.rdf_grammar.specs.declared.prologue.PrologueFault.TheVariants.{UnknownPrefix, Relative, NoMemory}
+use Rattle.sparql_drafts.specs.Kept.{Fails}
+
+pub then_fails : {A B : Type 0} (f : A → Option B) (o : Option A) (e : PrologueFault) → Fails o e → Fails (option_and_then f o) e
+then_fails f o (NoMemory refused) h = tt
+then_fails f o (UnknownPrefix start) h = absurd h
+then_fails f o (Relative start) h = ap (option_and_then f) h
+
+pub map_fails : {A B : Type 0} (f : A → B) (o : Option A) (e : PrologueFault) → Fails o e → Fails (option_map f o) e
+map_fails f o (NoMemory refused) h = tt
+map_fails f o (UnknownPrefix start) h = absurd h
+map_fails f o (Relative start) h = ap (option_map f) h
