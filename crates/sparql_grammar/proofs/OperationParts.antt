@@ -1,21 +1,18 @@
 -- The parts of a request are read just as they are derived.
-use Rattle.std.proofs.Common.{◌≡◌, ◌<◌, ◌≤◌, true, false, List, [], ◌∷◌, ◌++◌, length, map, Option, Some, refl, sym, ◌∙◌, ap, arith, inl, inr, append_assoc}
+use Rattle.std.proofs.Common.{◌≡◌, ◌<◌, ◌≤◌, true, false, List, [], ◌∷◌, ◌++◌, length, map, Some, refl, sym, ◌∙◌, ap, arith, inl, inr, append_assoc}
 use Rattle.std.proofs.lemmas.List.{map-append}
 use Rattle.rdf_grammar.specs.Steps as steps
 use Rattle.rdf_grammar.specs.Readings as reading
 use Rattle.rdf_grammar.specs.Readings.{any, is_more}
-use Rattle.rdf_grammar.specs.Terminals.{next_terminal}
 use Rattle.rdf_grammar.specs.Derivations as grammar
 use Rattle.rdf_grammar.specs.Derivations.{Then, Star, stop, more}
 use Rattle.rdf_grammar.proofs.Combinators.{one_decides, seq, last, choose_decides}
 use Rattle.rdf_grammar.proofs.Decides.{always, Decides, some_pair, pure_decides, repeat_decides}
 use Rattle.rdf_grammar.proofs.Terminals.{the_decides}
-use Rattle.sparql_terminals.specs.declared.terminal.Terminal.{Terminal}
 use Rattle.sparql_terminals.specs.declared.terminal.Terminal.TheVariants as terminal
 use Rattle.sparql_grammar.specs.declared.tree.Declaration.{Declaration}
 use Rattle.sparql_grammar.specs.declared.tree.Group.{Group}
 use Rattle.sparql_grammar.specs.declared.tree.Operation.{Operation}
-use Rattle.sparql_grammar.specs.declared.tree.Operation.TheVariants as o
 use Rattle.sparql_grammar.specs.declared.tree.Part.{Part}
 use Rattle.sparql_grammar.specs.declared.tree.Part.TheVariants as p
 use Rattle.sparql_grammar.specs.declared.tree.Triples.{Triples}
@@ -25,7 +22,7 @@ use Rattle.sparql_grammar.specs.OperationGrammar as g
 use Rattle.sparql_grammar.specs.OperationReading as read
 use Rattle.sparql_terminals.specs.Terminals.{same_terminal, apart}
 use Rattle.sparql_grammar.specs.PrologueGrammar.{Prologue}
-use Rattle.sparql_grammar.specs.PrologueReading.{begins_declaration, declaration, sees_declaration}
+use Rattle.sparql_grammar.specs.PrologueReading.{declaration, sees_declaration}
 use Rattle.sparql_grammar.proofs.PrologueProductions.{ADeclaration, declaration_begins, declaration_decides, declaration_strict}
 use Rattle.sparql_grammar.proofs.GroupProductions.{IsGroupRule}
 use Rattle.sparql_grammar.proofs.OperationData.{IsTemplateRule}

@@ -1,5 +1,5 @@
 -- Quads in braces are derived as a group.
-use Rattle.std.proofs.Common.{◌≡◌, ℕ, suc, ◌+◌, ◌≤◌, List, [], ◌∷◌, ◌++◌, take, length, Option, Some, None, refl, sym, ◌∙◌, ap, arith, inl, inr, subst, append_assoc}
+use Rattle.std.proofs.Common.{◌≡◌, ℕ, suc, List, [], ◌∷◌, ◌++◌, length, Option, Some, None, refl, sym, ◌∙◌, ap, arith, inl, inr, subst, append_assoc}
 use Rattle.std.proofs.lemmas.List.{append-nil}
 use Rattle.std.proofs.lemmas.Grind.{flat_map-append}
 use Rattle.std.specs.Prelude.{option_to_list}
@@ -25,7 +25,7 @@ use Rattle.sparql_grammar.specs.GroupReading.{filters_of, group_with, members_be
 use Rattle.sparql_grammar.specs.OperationGrammar as quads
 use Rattle.sparql_grammar.specs.OperationReading.{block}
 use Rattle.sparql_grammar.specs.QuadGroups.{members_by, quads_group}
-use Rattle.sparql_grammar.specs.QuadLaws.{AreQuads, AreGroup, QuadsAreGroups, QuadsAreOneGroup}
+use Rattle.sparql_grammar.specs.QuadLaws.{AreGroup, QuadsAreGroups, QuadsAreOneGroup}
 use Rattle.sparql_grammar.specs.Reading.{all_of}
 use Rattle.sparql_terminals.specs.Lexemes.{Lexemes, Derives}
 use Rattle.sparql_terminals.specs.Terminals.{bracket}

@@ -1,5 +1,5 @@
 -- All of the lexemes are a query.
-use Rattle.std.proofs.Common.{◌≡◌, ℕ, suc, ◌≤◌, [], ◌∷◌, take, length, Option, Some, refl, ap, sym, ◌∙◌, arith}
+use Rattle.std.proofs.Common.{◌≡◌, ℕ, suc, ◌≤◌, [], ◌∷◌, take, length, Some, refl, ap, sym, ◌∙◌, arith}
 use Rattle.rdf_grammar.specs.declared.fault.GrammarFault.{GrammarFault}
 use Rattle.rdf_grammar.specs.declared.fault.GrammarFault.TheVariants.{Syntax, NoMemory}
 use Rattle.rdf_grammar.specs.Readings.{Fails}
@@ -8,7 +8,6 @@ use Rattle.rdf_grammar.specs.Derivations.{Star}
 use Rattle.rdf_grammar.proofs.Decides.{some_pair}
 use Rattle.rdf_grammar.proofs.Depths.{never_more}
 use Rattle.rdf_grammar.proofs.Nests.{Keeps, then_keeps, pure_keeps, or_keeps, the_keeps, value_keeps, map_keeps, behind_keeps, word_keeps, star_keeps, one_keeps}
-use Rattle.sparql_terminals.specs.declared.terminal.Terminal.{Terminal}
 use Rattle.sparql_terminals.specs.declared.terminal.Terminal.TheVariants as terminal
 use Rattle.sparql_grammar.specs.declared.tree.Columns.TheVariants as c
 use Rattle.sparql_grammar.specs.declared.tree.Group.{Group}

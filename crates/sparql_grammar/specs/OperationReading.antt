@@ -1,6 +1,6 @@
 -- Requests (SPARQL 1.1 Query, section 19.8), a definition for each production. Where a production has alternatives the next
 -- lexeme chooses.
-use Rattle.std.specs.Prelude.{ℕ, suc, Bool, if◌then◌else◌, List, [], ◌∷◌, Option, Some, None}
+use Rattle.std.specs.Prelude.{ℕ, suc, Bool, List, [], ◌∷◌, Option, Some, None}
 use Rattle.rdf_grammar.specs.Steps.{◌>>=◌, ◌>>◌, ◌<$>◌, pure, none}
 use Rattle.rdf_grammar.specs.Terminals.{peek, next_terminal}
 use Rattle.rdf_grammar.specs.Readings.{any, choose, is_more, next, one, optional, repeat}
