@@ -9,6 +9,7 @@ const LAST_NUMBER: u64 = 1_000_000_000_000_000_000;
 
 // How many quads and solutions there may be where a pattern is asked, so that no request takes long.
 const MOST_FACTS: usize = 200;
+
 const MOST_SOLUTIONS: usize = 100;
 
 /// The quads and the graph names, each once, the number of the next blank node, how many operations

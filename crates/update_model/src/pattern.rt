@@ -195,12 +195,7 @@ impl<'a> Asked<'a> {
     }
 
     // Each row with each quad that meets the pattern.
-    fn joined(
-        self,
-        alloc: Global,
-        rows: &[Row],
-        sketch: Sketch,
-    ) -> Result<Vec<Row>, NoMemory> {
+    fn joined(self, alloc: Global, rows: &[Row], sketch: Sketch) -> Result<Vec<Row>, NoMemory> {
         let mut joined = Vec::new(alloc);
         for row in rows {
             for fact in self.facts {
@@ -213,12 +208,7 @@ impl<'a> Asked<'a> {
     }
 
     // The same, and each row alone that no quad meets.
-    fn extended(
-        self,
-        alloc: Global,
-        rows: &[Row],
-        sketch: Sketch,
-    ) -> Result<Vec<Row>, NoMemory> {
+    fn extended(self, alloc: Global, rows: &[Row], sketch: Sketch) -> Result<Vec<Row>, NoMemory> {
         let mut extended = Vec::new(alloc);
         for row in rows {
             let mut alone = Vec::new(alloc);
