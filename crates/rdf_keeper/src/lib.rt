@@ -19,6 +19,6 @@ pub use law::{
 pub use program::start;
 pub use rdf_session::{
     Answer, Counts, Format, Keeper, KeeperFault, a_load_is_insert_data, one_reply,
-    standing_requests, undo_gives_back,
+    standing_requests, the_headline, undo_gives_back,
 };
 pub use script::{Settings, Status, run};

@@ -18,7 +18,7 @@ Marks = List (List ℕ × ℕ)
 
 -- ---- a session stays whole
 
-length_pushed : (ss : List State) (k : ℕ) (t : State) → k ≤ length ss → length (take k ss ++ t ∷ []) ≡ k + 1
+pub length_pushed : (ss : List State) (k : ℕ) (t : State) → k ≤ length ss → length (take k ss ++ t ∷ []) ≡ k + 1
 length_pushed ss k t h = simp (length-append, length-take) (omega (arith, h))
 
 step_whole : (old new : Session) (c : Command) (r : Reply) → IsWholeSession old → Step old c r new → IsWholeSession new
@@ -59,14 +59,14 @@ comes b ss zero d t w = refl
 comes b [] (suc k) d t w = absurd (omega (arith, w))
 comes b (s ∷ ss) (suc k) d t w = comes s ss k d t (omega (arith, w))
 
-now_accepted : (after : State) (s : Session) → IsPlaced s → now (accepted after s) ≡ after
+pub now_accepted : (after : State) (s : Session) → IsPlaced s → now (accepted after s) ≡ after
 now_accepted after s w = rw add-one (comes s.base s.states.items s.states.cursor s.base after w)
 
-back_one : (k : ℕ) → (k + 1) - 1 ≡ k
+pub back_one : (k : ℕ) → (k + 1) - 1 ≡ k
 back_one k = omega arith
 
 -- the state before the request, by an undo
-now_undone : (after : State) (s : Session) → IsPlaced s → now (at_place ((s.states.cursor + 1) - 1) (accepted after s)) ≡ now s
+pub now_undone : (after : State) (s : Session) → IsPlaced s → now (at_place ((s.states.cursor + 1) - 1) (accepted after s)) ≡ now s
 now_undone after s w =
     ap (λ j. now (at_place j (accepted after s))) (back_one s.states.cursor) ∙ stands s.base s.states.items s.states.cursor s.states.cursor s.base after (omega arith) w
 

@@ -1,5 +1,7 @@
 mod AnswerLemmas
+mod ComesAboutLemmas
 mod GivesBackLemmas
+mod HeadlineLemmas
 mod InsertionLemmas
 mod KeptLemmas
 mod ListingLemmas

@@ -226,7 +226,7 @@ module _ (laws : Laws) where
       let d = laws.text format text in
       let p = d.3 quads ending a in let q = d.3 others end b in (p.0 ∙ sym q.0, p.1 ∙ sym q.1)
 
-  one_document : (format : Format) (base : Option (List ℕ)) (text : List ℕ) (quads others : List QuadParts) → IsDocument format base text quads → IsDocument format base text others → quads ≡ others
+  pub one_document : (format : Format) (base : Option (List ℕ)) (text : List ℕ) (quads others : List QuadParts) → IsDocument format base text quads → IsDocument format base text others → quads ≡ others
   one_document NQuads base text quads others a b = (in_lines line.NQuads text quads others None None a b).0
   one_document NTriples base text quads others a b = (in_lines line.NTriples text quads others None None a b).0
   one_document Turtle base text quads others a b = laws.document base text quads others a b
@@ -298,7 +298,7 @@ module _ (laws : Laws) where
   refused_alike s (Load format text) f g a b n m = load_faults s format text f g (load_fault s format text f a n) (load_fault s format text g b m)
   refused_alike s (Update text) f g a b n m = update_faults s text f g (update_fault s text f a n) (update_fault s text g b m)
 
-  never_refused : {A : Type 0} (s : Session) (r : Request) (f : KeeperFault) (after : State) → MayRefuse s (Do r) f → f ≢ no_memory → Makes s.base_iri r (now s) after → A
+  pub never_refused : {A : Type 0} (s : Session) (r : Request) (f : KeeperFault) (after : State) → MayRefuse s (Do r) f → f ≢ no_memory → Makes s.base_iri r (now s) after → A
   never_refused s (Load format text) f after a n b = load_not s format text f after (load_fault s format text f a n) b
   never_refused s (Update text) f after a n b = update_not s text f after (update_fault s text f a n) b
 

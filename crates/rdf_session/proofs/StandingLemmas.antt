@@ -33,7 +33,7 @@ length-push : (ss : List State) (k : ℕ) (t : State) → k ≤ length ss → k 
 length-push ss k t h = simp (length-append, length-take) (omega (arith, h))
 
 -- one command
-step_agrees : (iri : Option (List ℕ)) (old new : Session) (c : Command) (r : Reply) (h : Requests) → Agrees iri old h → Step old c r new → Agrees iri new (kept_after h (c, r))
+pub step_agrees : (iri : Option (List ℕ)) (old new : Session) (c : Command) (r : Reply) (h : Requests) → Agrees iri old h → Step old c r new → Agrees iri new (kept_after h (c, r))
 step_agrees iri old new c (Refused fault) h a st = subst (λ s. Agrees iri s h) (sym st.1) a
 step_agrees iri old new (Do request) (Changed counts) h a st =
     subst (λ s. Agrees iri s (pushed request h)) (sym st.2)

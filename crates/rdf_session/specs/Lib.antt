@@ -1,6 +1,8 @@
+pub mod ComesAbout
 pub mod Documents
 pub mod Faults
 pub mod GivesBack
+pub mod Headline
 pub mod History
 pub mod Inside
 pub mod Listing

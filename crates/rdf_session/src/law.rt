@@ -1,15 +1,37 @@
-//! Laws over the definitions alone: what holds after any list of commands, that undo gives back and redo gives again, that
-//! a command has one reply, and that a load is INSERT DATA.
+//! Laws over the definitions alone: the promise of the whole, and what holds after any list of commands, that undo gives back
+//! and redo gives again, that a command has one reply, and that a load is INSERT DATA.
 ghost use Rattle.std.specs.Prelude.{◌≡◌, List, ℕ, Option, take};
 ghost use Rattle.rdf_dataset.specs.State.{State};
 ghost use Rattle.rdf_session.specs.History.{nothing};
 ghost use Rattle.rdf_session.specs.Session.{Session, Command, Reply, fresh, now};
 ghost use Rattle.rdf_session.specs.Standing.{Run, Follows, requests_of, MakesAll};
+ghost use Rattle.rdf_session.specs.ComesAbout.{MayBeAccepted, EachCommandRuns};
 ghost use Rattle.rdf_session.specs.GivesBack.{RunsAreWhole, UndoGivesBack, RedoGivesAgain, RollbackGivesBack, RefusalsLeave};
+ghost use Rattle.rdf_session.specs.Headline.{Headline};
 ghost use Rattle.rdf_session.specs.LoadLaws.{LoadInserts, LoadIsRefusedAlike};
 ghost use Rattle.rdf_session.specs.OneQueryReply.{OneQueryReply};
 ghost use Rattle.rdf_session.specs.OneReply.{OneReply};
 ghost use Rattle.rdf_session.specs.UndoRedo.{UndoThenRedo, RedoThenUndo};
+
+/// The promise of the whole. For every state to start with, after any commands with any replies (loads, updates, undos, redos,
+/// marks, rollbacks, commits and refusals): an accepted request leaves exactly the state that its operations make of the state
+/// before, one after another; an undo then gives back the state before, in quads, names of graphs and blank counter, and a redo
+/// the state after, whatever marks and refusals come between; a refused command changes nothing, and a request is refused only
+/// where its operations lead to no state, or memory is wanting; the state is exactly what the requests that still stand, those
+/// that were committed among them, make of the start, so the same requests leave the same state, whatever else was done and taken
+/// back; and the entry of each request, standing or to be redone, is the net between its neighbouring states.
+///
+/// What this speaks of comes about: where operations lead to a state, their request may be accepted, undone and redone, and
+/// from every state whose counter is right commands of each kind run.
+pub fn the_headline()
+    ensures promise { Headline }
+    ensures accepted { MayBeAccepted }
+    ensures each_runs { EachCommandRuns }
+{
+    rdf_lines::each_text_is_one_document();
+    rdf_turtle::one_meaning();
+    sparql_syntax::one_request();
+}
 
 /// After any commands with any replies, refusals and want of memory among them, each state is what
 /// its standing request makes, against the session's base IRI, of the state before, and the state now is what the requests up to the

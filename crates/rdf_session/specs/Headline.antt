@@ -1,0 +1,122 @@
+-- The promise of the whole: what any commands with any replies leave.
+use Rattle.std.specs.Prelude.{◌≡◌, ◌≢◌, ℕ, List, [], ◌∷◌, ◌++◌, take, Option, Ok}
+use Rattle.std.specs.List.{AllByRecursion}
+use Rattle.rdf_dataset.specs.State.{State, Change, applied, net_between, turned}
+use Rattle.rdf_terms.specs.Quad.{QuadParts}
+use Rattle.sparql_eval.specs.Operations.{steps}
+use Rattle.sparql_syntax.specs.Update.{IsUpdate}
+use Rattle.sparql_trees.specs.declared.operation.Operation.{Operation}
+use Rattle.sparql_trees.specs.declared.operation.Request.{Request as UpdateRequest}
+use Rattle.rdf_session.specs.Documents.{IsDocument}
+use Rattle.rdf_session.specs.Faults.{no_memory}
+use Rattle.rdf_session.specs.History.{nothing}
+use Rattle.rdf_session.specs.LoadLaws.{insertion}
+use Rattle.rdf_session.specs.Request.{Request, Load, Update}
+use Rattle.rdf_session.specs.Session.{Session, Command, Reply, Do, Undo, Redo, Mark, Commit, Changed, Refused, Step, fresh, nets_between, now}
+use Rattle.rdf_session.specs.Standing.{Run, Requests, kept_after, requests_of}
+use Rattle.rdf_session.specs.declared.fault.Counts.{Counts}
+use Rattle.rdf_session.specs.declared.fault.KeeperFault.{KeeperFault}
+
+-- ---- what requests make
+
+-- These are the request's operations: those of its text, and of a load INSERT DATA of its document's quads (SPARQL 1.1 Update, section 3.1.1).
+abbrev pub HasOperations : Option (List ℕ) → Request → List Operation → Type 0
+HasOperations base_iri (Load format text) operations =
+    (quads : List QuadParts) × IsDocument format base_iri text quads × (operations ≡ insertion quads ∷ [])
+HasOperations base_iri (Update text) operations =
+    (request : UpdateRequest) × IsUpdate base_iri text request × (operations ≡ request.operations)
+
+-- and those of requests, one request after another
+abbrev pub HaveOperations : Option (List ℕ) → List Request → List Operation → Type 0
+HaveOperations base_iri [] operations = operations ≡ []
+HaveOperations base_iri (request ∷ requests) operations =
+    (first rest : List Operation) × HasOperations base_iri request first × HaveOperations base_iri requests rest × (operations ≡ first ++ rest)
+
+-- Against the base IRI the requests make t of s, and no other state: they have one list of operations, which, one after another, lead there.
+pub record MakeExactly (base_iri : Option (List ℕ)) (requests : List Request) (s t : State) : Type 0 where
+  pub operations : List Operation
+  pub theirs : HaveOperations base_iri requests operations
+  pub no_others : (others : List Operation) → HaveOperations base_iri requests others → others ≡ operations
+  pub lead : steps s operations ≡ Ok t
+
+-- ---- which requests stand
+
+-- those that the command commits: all up to the cursor
+abbrev pub committed_by : Requests → Command × Reply → List Request
+committed_by h (command, Refused fault) = []
+committed_by h (Commit, reply) = take h.cursor h.items
+committed_by h (command, reply) = []
+
+-- those that these commands commit
+abbrev pub committed : Requests → List (Command × Reply) → List Request
+committed h [] = []
+committed h (event ∷ events) = committed_by h event ++ committed (kept_after h event) events
+
+-- those since the last commit, up to the cursor
+abbrev pub standing_since : List (Command × Reply) → List Request
+standing_since events = take (requests_of nothing events).cursor (requests_of nothing events).items
+
+-- The requests that still stand after these commands: those committed, and those since.
+abbrev pub still_standing : List (Command × Reply) → List Request
+still_standing events = committed nothing events ++ standing_since events
+
+-- ---- what comes between
+
+-- a mark, or a command that was refused
+abbrev pub IsQuiet : Command × Reply → Type 0
+IsQuiet (command, Refused fault) = Unit {0}
+IsQuiet (Mark name, reply) = Unit {0}
+IsQuiet (command, reply) = ⊥
+
+-- from one session to the other by such commands alone, if any
+abbrev pub Quietly : Session → Session → Type 0
+Quietly old new = (events : List (Command × Reply)) × AllByRecursion IsQuiet events × Run old events new
+
+-- ---- entries
+
+-- The request made t of s, and the entry is the net between them: it leads from s to t, and turned from t to s.
+pub record IsEntry (base_iri : Option (List ℕ)) (request : Request) (entry : Change) (s t : State) : Type 0 where
+  pub made : MakeExactly base_iri (request ∷ []) s t
+  pub net : entry ≡ net_between s t
+  pub onward : applied entry s ≡ t
+  pub back : applied (turned entry) t ≡ s
+
+-- Each request has its entry, between the state before it and the one behind it.
+abbrev pub HaveEntries : Option (List ℕ) → List Request → List Change → State → List State → Type 0
+HaveEntries base_iri [] [] s [] = Unit {0}
+HaveEntries base_iri (request ∷ requests) (entry ∷ entries) s (t ∷ states) =
+    IsEntry base_iri request entry s t × HaveEntries base_iri requests entries t states
+HaveEntries base_iri requests entries s states = ⊥
+
+-- ---- the promise
+
+-- What is promised where these commands with these replies led from the start to the session.
+pub record Promise (base_iri : Option (List ℕ)) (start : State) (events : List (Command × Reply)) (session : Session) : Type 0 where
+  -- An accepted request leaves exactly the state that its operations make of the state before.
+  pub exactly : (request : Request) (c : Counts) (new : Session) → Step session (Do request) (Changed c) new
+      → MakeExactly base_iri (request ∷ []) (now session) (now new)
+  -- An undo then gives back the state before: quads, names of graphs and blank counter.
+  pub undone : (request : Request) (c d : Counts) (mid later new : Session) → Step session (Do request) (Changed c) mid
+      → Quietly mid later → Step later Undo (Changed d) new → now new ≡ now session
+  -- And a redo then the state after.
+  pub redone : (request : Request) (c d e : Counts) (mid later back after new : Session) → Step session (Do request) (Changed c) mid
+      → Quietly mid later → Step later Undo (Changed d) back → Quietly back after → Step after Redo (Changed e) new → now new ≡ now mid
+  -- A refused command changes nothing, history and marks neither.
+  pub unchanged : (command : Command) (fault : KeeperFault) (new : Session) → Step session command (Refused fault) new → new ≡ session
+  -- A request is refused only where its operations lead to no state, or memory is wanting.
+  pub rightly : (request : Request) (fault : KeeperFault) (new : Session) → Step session (Do request) (Refused fault) new → fault ≢ no_memory
+      → (operations : List Operation) → HasOperations base_iri request operations → (t : State) → steps (now session) operations ≢ Ok t
+  -- The base is exactly what the requests that were committed make of the start.
+  pub lasting : MakeExactly base_iri (committed nothing events) start session.base
+  -- The state is exactly what the requests that still stand make of it.
+  pub standing : MakeExactly base_iri (still_standing events) start (now session)
+  -- So another run after which the same requests stand leaves the same state, whatever else was done and taken back.
+  pub same_requests : (others : List (Command × Reply)) (another : Session) → Run (fresh base_iri start) others another
+      → still_standing others ≡ still_standing events → now another ≡ now session
+  -- Each request since the last commit, standing or to be redone, has its entry.
+  pub entries : HaveEntries base_iri (requests_of nothing events).items (nets_between session.base session.states.items) session.base session.states.items
+
+-- For every state to start with, after any commands with any replies, the promise is kept.
+abbrev pub Headline : Type 0
+Headline = (base_iri : Option (List ℕ)) (start : State) (events : List (Command × Reply)) (session : Session)
+    → Run (fresh base_iri start) events session → Promise base_iri start events session
