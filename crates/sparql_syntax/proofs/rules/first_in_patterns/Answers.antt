@@ -4,8 +4,8 @@ use Rattle.sparql_syntax.specs.Rules.{pattern_labels}
 use Rattle.sparql_syntax.proofs.LabelLemmas.{repeats_later, repeats_there}
 use Rattle.sparql_syntax.proofs.rules.first_in_patterns.Goals as goal
 
-pub returns-in-loop-draft : goal.returns-in-loop-draft
-returns-in-loop-draft c =
+pub returns-in-Some : goal.returns-in-loop-draft
+returns-in-Some c =
     let drafts = c.args.drafts.now in
     let i = c.loop-draft.draft-index in
     let draft = c.draft-item.result in
