@@ -1,6 +1,6 @@
 -- Where no more than so many brackets are open at once, no triples nest deeper.
 use Rattle.std.proofs.Common.{◌≡◌, ℕ, zero, suc, ◌+◌, ◌-◌, ◌≤◌, [], ◌∷◌, refl, ◌∙◌, ap, arith}
-use Rattle.std.specs.Prelude.{option_to_list}
+use Rattle.std.specs.Prelude.{is_some, option_to_list}
 use Rattle.rdf_grammar.specs.Nesting.{open_behind}
 use Rattle.rdf_grammar.specs.Derivations as grammar
 use Rattle.rdf_grammar.specs.Derivations.{Then, Star}
@@ -20,6 +20,9 @@ use Rattle.sparql_grammar.specs.Grammar as g
 use Rattle.sparql_terminals.proofs.GrammarWords.{plain}
 
 module _ (limit b : ℕ) where
+  pub perhaps_keeps : (k : Terminal) → Keeps bracket limit b (grammar.the k) (grammar.the k) → Keeps bracket limit b (g.Perhaps k) (g.Perhaps k)
+  perhaps_keeps k p = map_keeps bracket limit b is_some _ _ (maybe_keeps bracket limit b _ _ p)
+
   pub iri_keeps : Keeps bracket limit b Iri Iri
   iri_keeps = shared.iri_keeps word bracket plain limit b
 

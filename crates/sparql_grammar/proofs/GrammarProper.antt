@@ -1,13 +1,13 @@
 -- Triples that are derived of formed lexemes are proper.
-use Rattle.std.proofs.Common.{◌≡◌, ◌∙◌, ap, refl, sym, subst, ℕ, zero, suc, Bool, true, false, ◌||◌, not, List, [], ◌∷◌, map, Option, Some, None}
+use Rattle.std.proofs.Common.{◌≡◌, ◌∙◌, ap, refl, sym, ℕ, zero, suc, Bool, true, false, ◌||◌, List, [], ◌∷◌, map, Option, Some, None}
 use Rattle.std.proofs.lemmas.Bool.{and_from}
-use Rattle.std.specs.Prelude.{option_to_list}
+use Rattle.std.specs.Prelude.{is_some, option_to_list}
 use Rattle.std.specs.List.{list_all, AllByRecursion}
 use Rattle.rdf_grammar.specs.declared.tree.Name.{Name}
 use Rattle.rdf_grammar.specs.declared.tree.Literal.{Literal}
 use Rattle.rdf_grammar.specs.Prologue.{is_proper}
 use Rattle.rdf_grammar.specs.Terminals.{Piece}
-use Rattle.rdf_grammar.specs.Derivations as grammar
+use Rattle.sparql_terminals.specs.declared.terminal.Terminal.{Terminal}
 use Rattle.sparql_terminals.specs.declared.terminal.Terminal.TheVariants as terminal
 use Rattle.sparql_grammar.specs.declared.tree.Node.{Node}
 use Rattle.sparql_grammar.specs.declared.tree.Node.TheVariants as n
@@ -22,10 +22,13 @@ use Rattle.rdf_grammar.specs.Literals.{proper_literal}
 use Rattle.sparql_grammar.specs.Proper.{holds, is_filled, stands_alone, proper_verb, proper_node_of, proper_property_of, proper_node, proper_property, proper_triples, proper_var_or_iri}
 use Rattle.sparql_grammar.specs.Reading as read
 use Rattle.sparql_grammar.specs.Grammar as g
-use Rattle.sparql_terminals.proofs.Gives.{Gives, IsOf, Any, IsGoodOption, then_gives, pure_gives, or_gives, also_gives, the_gives, value_gives, map_gives, behind_gives, closed_gives, maybe_gives, star_gives, one_gives}
+use Rattle.sparql_terminals.proofs.Gives.{Gives, Any, IsGoodOption, then_gives, pure_gives, or_gives, also_gives, the_gives, value_gives, map_gives, behind_gives, closed_gives, maybe_gives, star_gives, one_gives}
 use Rattle.sparql_grammar.proofs.GrammarTriples.{node_alone}
 use Rattle.sparql_terminals.proofs.WordGives.{Passes, iri_gives, literal_gives}
 use Rattle.sparql_grammar.proofs.Trees.{by-Variable, by-Name, by-Literal, by-Label, by-Blank, by-Collection, by-property, filled_map}
+
+pub perhaps_gives : (k : Terminal) → Gives (g.Perhaps k) Any
+perhaps_gives k = map_gives is_some _ (IsGoodOption Any) Any (maybe_gives _ Any (the_gives k)) (λ a h. tt)
 
 pub all_pass : {A : Type 0} (test : A → Bool) (xs : List A) → AllByRecursion (Passes test) xs → list_all holds (map test xs) ≡ true
 all_pass test [] all = refl

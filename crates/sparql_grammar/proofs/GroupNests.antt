@@ -17,8 +17,7 @@ use Rattle.sparql_grammar.specs.GroupGrammar as g
 use Rattle.sparql_grammar.specs.GroupReading as read
 use Rattle.sparql_terminals.specs.Lexemes.{Derives}
 use Rattle.sparql_terminals.specs.Terminals.{bracket}
-use Rattle.sparql_grammar.proofs.GrammarNests.{var_or_iri_keeps, triples_keep}
-use Rattle.sparql_grammar.proofs.OperationNests.{perhaps_keeps}
+use Rattle.sparql_grammar.proofs.GrammarNests.{perhaps_keeps, var_or_iri_keeps, triples_keep}
 
 -- what stands where so many brackets are open
 module _ (limit b : ℕ) (I J : Derives Group) (i : Keeps bracket limit b I J) where
@@ -55,12 +54,12 @@ module _ (limit b : ℕ) (P Q : Derives (List Triples)) (C D : Derives Expressio
 -- a group, which stands where b brackets are open
 module _ (limit b : ℕ) (P Q : Derives (List Triples)) (C D : Derives Expression) (I J : Derives Group)
     (p : Keeps bracket limit (b + 1) P Q) (c : Keeps bracket limit (b + 1) C D) (i : Keeps bracket limit (b + 1) I J) where
-  braces_keep : Keeps bracket limit b (g.GroupGraphPattern P C I) (g.GroupGraphPattern Q D J)
+  pub braces_keep : Keeps bracket limit b (g.GroupGraphPattern P C I) (g.GroupGraphPattern Q D J)
   braces_keep = enclosed bracket limit b terminal.OpenBrace terminal.CloseBrace _ _ (λ inside. grammar.pure inside) refl (omega arith)
       (contents_keep limit (b + 1) P Q C D I J p c i) (λ a ts x us d. d.1)
 
 -- Groups behind b brackets, derived at any depth, are derived at the depth that the limit leaves.
-pub groups_keep : (limit : ℕ) (P Q : Derives (List Triples)) (C D : Derives Expression) → ((b : ℕ) → Keeps bracket limit (b + 1) P Q) → ((b : ℕ) → Keeps bracket limit (b + 1) C D)
+groups_keep : (limit : ℕ) (P Q : Derives (List Triples)) (C D : Derives Expression) → ((b : ℕ) → Keeps bracket limit (b + 1) P Q) → ((b : ℕ) → Keeps bracket limit (b + 1) C D)
     → (d b : ℕ) → Keeps bracket limit b (g.Groups_at P C d) (g.Groups_at Q D (limit - b))
 unfolding Keeps
 groups_keep limit P Q C D p c zero b ts x us h below = absurd h
@@ -92,3 +91,10 @@ filter_keeps depth d b ts x us h below =
     let there = constraint_keeps (suc depth + b) d (b + 1) ts x us h wide in
     let here = constraint_keeps (suc depth) d (b + 1) ts x us h below in
     (rw i at there.0, here.1)
+
+-- Groups that are derived at any depth are derived at the limit.
+pub group_at_keeps : (depth d : ℕ) → Keeps bracket (suc depth) 0 (g.GroupAt d) (g.GroupAt depth)
+group_at_keeps depth d =
+    let all : suc depth - 0 ≡ suc depth = omega arith in
+    rw all at (groups_keep (suc depth) (TriplesTemplate (Nodes_at d)) (TriplesTemplate (Nodes_at depth))
+    (Constraint (Expressions_at d)) (Constraint (Expressions_at depth)) (block_keeps depth d) (filter_keeps depth d) (suc d) 0)

@@ -18,14 +18,12 @@ use Rattle.sparql_grammar.specs.declared.tree.Group.{Group}
 use Rattle.sparql_grammar.specs.declared.tree.Member.{Member}
 use Rattle.sparql_grammar.specs.declared.tree.Member.TheVariants as m
 use Rattle.sparql_grammar.specs.declared.tree.Triples.{Triples}
-use Rattle.sparql_grammar.specs.Grammar.{AVarOrIri}
+use Rattle.sparql_grammar.specs.Grammar.{AVarOrIri, Perhaps}
 use Rattle.sparql_grammar.specs.GroupGrammar as g
 use Rattle.sparql_grammar.specs.GroupReading as read
 use Rattle.sparql_terminals.specs.Lexemes as lexemes
 use Rattle.sparql_terminals.specs.Lexemes.{Lexemes, Reading, sees, Derives, Test}
-use Rattle.sparql_grammar.specs.OperationGrammar.{Perhaps}
-use Rattle.sparql_grammar.specs.OperationReading.{perhaps}
-use Rattle.sparql_grammar.specs.Reading.{begins_node, sees_node}
+use Rattle.sparql_grammar.specs.Reading.{begins_node, perhaps, sees_node}
 use Rattle.sparql_terminals.specs.Terminals.{same_terminal, apart}
 use Rattle.sparql_grammar.proofs.GrammarNodes.{var_or_iri_decides}
 use Rattle.sparql_terminals.proofs.Keywords.{keyword_sound, keyword_complete, keyword_terminal, keyword_strict}

@@ -1,7 +1,7 @@
 -- A turn of the loop over the elements of a group.
 use Rattle.std.proofs.Common.{◌≡◌, ◌<◌, Bool, true, false, cond, List, [], ◌∷◌, ◌++◌, length, Option, Some, None, refl, sym, ◌∙◌, ap, arith}
 use Rattle.std.specs.Prelude.{option_to_list}
-use Rattle.rdf_grammar.specs.Readings.{Outcome, next, repeat}
+use Rattle.rdf_grammar.specs.Readings.{next, repeat}
 use Rattle.rdf_grammar.proofs.Repeats.{Going, going_starts, going_on, going_done}
 use Rattle.sparql_expressions.specs.declared.tree.Expression.{Expression}
 use Rattle.sparql_terminals.specs.declared.terminal.Terminal.TheVariants as terminal

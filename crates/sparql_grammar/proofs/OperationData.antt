@@ -1,4 +1,4 @@
--- Data are read just as they are derived, over a rule for triples.
+-- Data and templates are read just as they are derived, over rules for triples.
 use Rattle.std.proofs.Common.{◌≡◌, ◌<◌, Bool, true, false, List, [], ◌∷◌, length, Option, Some, None, refl, ◌∙◌, ap, arith}
 use Rattle.rdf_grammar.specs.Readings as reading
 use Rattle.rdf_grammar.specs.Terminals.{next_terminal}
@@ -146,16 +146,17 @@ module _ (template inner : Reading (List Triples)) (Template Inner : Derives (Li
       (λ first. then_decides _ _ _ _ (sees terminal.CloseBrace) (sees terminal.CloseBrace) named_decide (λ others. pure_decides (first ∷ others) (sees terminal.CloseBrace)) (λ a mid b us h e. rw h.1 e))
       (λ a mid b us h e. named_begin mid h.first h.mid h.reads (rw h.goes.1 e))
 
-  quad_data_decides : Decides (read.quad_data template inner) (g.QuadData Template Inner) always
-  unfolding read.quad_data
-  quad_data_decides =
+  pub quad_pattern_decides : Decides (read.quad_pattern template inner) (g.QuadPattern Template Inner) always
+  unfolding read.quad_pattern
+  quad_pattern_decides =
       seq _ _ _ _ always (the_decides same_terminal apart terminal.OpenBrace) (λ _.
       then_decides _ _ _ _ (sees terminal.CloseBrace) always quads_decide (λ blocks. seq _ _ _ _ always (the_decides same_terminal apart terminal.CloseBrace) (λ _. pure_decides blocks always))
       (λ a mid b us h e. terminal_seen same_terminal apart terminal.CloseBrace mid (the_terminal terminal.CloseBrace mid h.mid h.first h.reads)))
 
-  abbrev pub DataRest : (List Block → Operation) → Derives Operation
-  DataRest operation = grammar.◌>>=◌ (grammar.the terminal.Data) (λ _. grammar.◌>>=◌ (g.QuadData Template Inner) (λ blocks. grammar.pure (operation blocks)))
+  pub quad_pattern_opens : (ts : Lexemes) (x : List Block) (us : Lexemes) → g.QuadPattern Template Inner ts x us → next_terminal ts ≡ Some terminal.OpenBrace
+  quad_pattern_opens ts x us h = the_terminal terminal.OpenBrace ts h.mid h.first h.reads
 
-  pub data_decides : (operation : List Block → Operation) → Decides (read.data_of template inner operation) (DataRest operation) always
+  pub data_decides : (k : Terminal) (operation : List Block → Operation) → Decides (read.data_of template inner k operation) (g.DataOf Template Inner k operation) always
   unfolding read.data_of
-  data_decides operation = seq _ _ _ _ always (the_decides same_terminal apart terminal.Data) (λ _. seq _ _ _ _ always quad_data_decides (λ blocks. pure_decides (operation blocks) always))
+  data_decides k operation = seq _ _ _ _ always (the_decides same_terminal apart k) (λ _. seq _ _ _ _ always (the_decides same_terminal apart terminal.Data)
+      (λ _. seq _ _ _ _ always quad_pattern_decides (λ blocks. pure_decides (operation blocks) always)))

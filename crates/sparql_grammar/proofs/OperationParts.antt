@@ -1,20 +1,18 @@
 -- The parts of a request are read just as they are derived.
-use Rattle.std.proofs.Common.{◌≡◌, ◌<◌, ◌≤◌, true, false, List, [], ◌∷◌, ◌++◌, length, map, Option, Some, refl, sym, ◌∙◌, ap, arith, inl, inr, append_assoc}
+use Rattle.std.proofs.Common.{◌≡◌, ◌<◌, ◌≤◌, true, false, List, [], ◌∷◌, ◌++◌, length, map, Some, refl, sym, ◌∙◌, ap, arith, inl, inr, append_assoc}
 use Rattle.std.proofs.lemmas.List.{map-append}
 use Rattle.rdf_grammar.specs.Steps as steps
 use Rattle.rdf_grammar.specs.Readings as reading
 use Rattle.rdf_grammar.specs.Readings.{any, is_more}
-use Rattle.rdf_grammar.specs.Terminals.{next_terminal}
 use Rattle.rdf_grammar.specs.Derivations as grammar
 use Rattle.rdf_grammar.specs.Derivations.{Then, Star, stop, more}
 use Rattle.rdf_grammar.proofs.Combinators.{one_decides, seq, last, choose_decides}
 use Rattle.rdf_grammar.proofs.Decides.{always, Decides, some_pair, pure_decides, repeat_decides}
 use Rattle.rdf_grammar.proofs.Terminals.{the_decides}
-use Rattle.sparql_terminals.specs.declared.terminal.Terminal.{Terminal}
 use Rattle.sparql_terminals.specs.declared.terminal.Terminal.TheVariants as terminal
 use Rattle.sparql_grammar.specs.declared.tree.Declaration.{Declaration}
+use Rattle.sparql_grammar.specs.declared.tree.Group.{Group}
 use Rattle.sparql_grammar.specs.declared.tree.Operation.{Operation}
-use Rattle.sparql_grammar.specs.declared.tree.Operation.TheVariants as o
 use Rattle.sparql_grammar.specs.declared.tree.Part.{Part}
 use Rattle.sparql_grammar.specs.declared.tree.Part.TheVariants as p
 use Rattle.sparql_grammar.specs.declared.tree.Triples.{Triples}
@@ -24,11 +22,11 @@ use Rattle.sparql_grammar.specs.OperationGrammar as g
 use Rattle.sparql_grammar.specs.OperationReading as read
 use Rattle.sparql_terminals.specs.Terminals.{same_terminal, apart}
 use Rattle.sparql_grammar.specs.PrologueGrammar.{Prologue}
-use Rattle.sparql_grammar.specs.PrologueReading.{begins_declaration, declaration, sees_declaration}
-use Rattle.sparql_terminals.proofs.Keywords.{keyword_sound, keyword_complete, keyword_terminal, keyword_strict}
+use Rattle.sparql_grammar.specs.PrologueReading.{declaration, sees_declaration}
 use Rattle.sparql_grammar.proofs.PrologueProductions.{ADeclaration, declaration_begins, declaration_decides, declaration_strict}
-use Rattle.sparql_grammar.proofs.OperationProductions.{create_decides, on_graphs_decides, between_decides}
-use Rattle.sparql_grammar.proofs.OperationData.{IsTemplateRule, DataRest, data_decides}
+use Rattle.sparql_grammar.proofs.GroupProductions.{IsGroupRule}
+use Rattle.sparql_grammar.proofs.OperationData.{IsTemplateRule}
+use Rattle.sparql_grammar.proofs.OperationTemplates.{operation_begins, operation_decides, operation_strict}
 
 -- ---- the end of an operation: ";" or no more lexemes
 
@@ -58,64 +56,6 @@ end_shorter ts x us (inr d) = omega (arith, ap length d.0)
 end_decides : Decides read_end Ended always
 end_decides = record { sound = end_sound; complete = λ ts x us h _. end_complete ts x us h; shorter = end_shorter }
 
--- ---- operations
-
-module _ (template inner : Reading (List Triples)) (Template Inner : Derives (List Triples)) (r : IsTemplateRule template Template) (i : IsTemplateRule inner Inner) where
-  insert : Decides (read.data_of template inner o.InsertData) (DataRest template inner Template Inner r i o.InsertData) always
-  insert = data_decides template inner Template Inner r i o.InsertData
-
-  delete : Decides (read.data_of template inner o.DeleteData) (DataRest template inner Template Inner r i o.DeleteData) always
-  delete = data_decides template inner Template Inner r i o.DeleteData
-
-  operation_sound : (k : Option Terminal) (ts : Lexemes) (x : Operation) (us : Lexemes) → next_terminal ts ≡ k → read.operation_by template inner k ts ≡ Some (x, us) → g.Update1 Template Inner ts x us
-  operation_sound (Some terminal.Clear) ts x us q h = inl (keyword_sound terminal.Clear _ _ (on_graphs_decides o.Clear) ts x us q h)
-  operation_sound (Some terminal.Drop) ts x us q h = inr (inl (keyword_sound terminal.Drop _ _ (on_graphs_decides o.Drop) ts x us q h))
-  operation_sound (Some terminal.Add) ts x us q h = inr (inr (inl (keyword_sound terminal.Add _ _ (between_decides o.Add) ts x us q h)))
-  operation_sound (Some terminal.Move) ts x us q h = inr (inr (inr (inl (keyword_sound terminal.Move _ _ (between_decides o.Move) ts x us q h))))
-  operation_sound (Some terminal.Copy) ts x us q h = inr (inr (inr (inr (inl (keyword_sound terminal.Copy _ _ (between_decides o.Copy) ts x us q h)))))
-  operation_sound (Some terminal.Create) ts x us q h = inr (inr (inr (inr (inr (inl (keyword_sound terminal.Create _ _ create_decides ts x us q h))))))
-  operation_sound (Some terminal.Insert) ts x us q h = inr (inr (inr (inr (inr (inr (inl (keyword_sound terminal.Insert _ _ insert ts x us q h)))))))
-  operation_sound (Some terminal.Delete) ts x us q h = inr (inr (inr (inr (inr (inr (inr (keyword_sound terminal.Delete _ _ delete ts x us q h)))))))
-  operation_sound _ ts x us q h = absurd (cc)
-
-  operation_complete : (ts : Lexemes) (x : Operation) (us : Lexemes) → g.Update1 Template Inner ts x us → read.operation_by template inner (next_terminal ts) ts ≡ Some (x, us)
-  operation_complete ts x us (inl h) = let q = keyword_terminal terminal.Clear _ ts x us h in rw q (keyword_complete terminal.Clear _ _ (on_graphs_decides o.Clear) ts x us q h)
-  operation_complete ts x us (inr (inl h)) = let q = keyword_terminal terminal.Drop _ ts x us h in rw q (keyword_complete terminal.Drop _ _ (on_graphs_decides o.Drop) ts x us q h)
-  operation_complete ts x us (inr (inr (inl h))) = let q = keyword_terminal terminal.Add _ ts x us h in rw q (keyword_complete terminal.Add _ _ (between_decides o.Add) ts x us q h)
-  operation_complete ts x us (inr (inr (inr (inl h)))) = let q = keyword_terminal terminal.Move _ ts x us h in rw q (keyword_complete terminal.Move _ _ (between_decides o.Move) ts x us q h)
-  operation_complete ts x us (inr (inr (inr (inr (inl h))))) = let q = keyword_terminal terminal.Copy _ ts x us h in rw q (keyword_complete terminal.Copy _ _ (between_decides o.Copy) ts x us q h)
-  operation_complete ts x us (inr (inr (inr (inr (inr (inl h)))))) = let q = keyword_terminal terminal.Create _ ts x us h in rw q (keyword_complete terminal.Create _ _ create_decides ts x us q h)
-  operation_complete ts x us (inr (inr (inr (inr (inr (inr (inl h))))))) = let q = keyword_terminal terminal.Insert _ ts x us h in rw q (keyword_complete terminal.Insert _ _ insert ts x us q h)
-  operation_complete ts x us (inr (inr (inr (inr (inr (inr (inr h))))))) = let q = keyword_terminal terminal.Delete _ ts x us h in rw q (keyword_complete terminal.Delete _ _ delete ts x us q h)
-
-  pub operation_strict : (ts : Lexemes) (x : Operation) (us : Lexemes) → g.Update1 Template Inner ts x us → length us < length ts
-  operation_strict ts x us (inl h) = keyword_strict terminal.Clear _ _ (on_graphs_decides o.Clear) ts x us h
-  operation_strict ts x us (inr (inl h)) = keyword_strict terminal.Drop _ _ (on_graphs_decides o.Drop) ts x us h
-  operation_strict ts x us (inr (inr (inl h))) = keyword_strict terminal.Add _ _ (between_decides o.Add) ts x us h
-  operation_strict ts x us (inr (inr (inr (inl h)))) = keyword_strict terminal.Move _ _ (between_decides o.Move) ts x us h
-  operation_strict ts x us (inr (inr (inr (inr (inl h))))) = keyword_strict terminal.Copy _ _ (between_decides o.Copy) ts x us h
-  operation_strict ts x us (inr (inr (inr (inr (inr (inl h)))))) = keyword_strict terminal.Create _ _ create_decides ts x us h
-  operation_strict ts x us (inr (inr (inr (inr (inr (inr (inl h))))))) = keyword_strict terminal.Insert _ _ insert ts x us h
-  operation_strict ts x us (inr (inr (inr (inr (inr (inr (inr h))))))) = keyword_strict terminal.Delete _ _ delete ts x us h
-
-  operation_begins : (ts : Lexemes) (x : Operation) (us : Lexemes) → g.Update1 Template Inner ts x us → begins_declaration (next_terminal ts) ≡ false
-  operation_begins ts x us (inl h) = rw (keyword_terminal terminal.Clear _ ts x us h) refl
-  operation_begins ts x us (inr (inl h)) = rw (keyword_terminal terminal.Drop _ ts x us h) refl
-  operation_begins ts x us (inr (inr (inl h))) = rw (keyword_terminal terminal.Add _ ts x us h) refl
-  operation_begins ts x us (inr (inr (inr (inl h)))) = rw (keyword_terminal terminal.Move _ ts x us h) refl
-  operation_begins ts x us (inr (inr (inr (inr (inl h))))) = rw (keyword_terminal terminal.Copy _ ts x us h) refl
-  operation_begins ts x us (inr (inr (inr (inr (inr (inl h)))))) = rw (keyword_terminal terminal.Create _ ts x us h) refl
-  operation_begins ts x us (inr (inr (inr (inr (inr (inr (inl h))))))) = rw (keyword_terminal terminal.Insert _ ts x us h) refl
-  operation_begins ts x us (inr (inr (inr (inr (inr (inr (inr h))))))) = rw (keyword_terminal terminal.Delete _ ts x us h) refl
-
-  operation_decides : Decides (read.operation template inner) (g.Update1 Template Inner) always
-  unfolding read.operation
-  operation_decides = record {
-    sound = λ ts x us h. operation_sound (next_terminal ts) ts x us refl h;
-    complete = λ ts x us h _. operation_complete ts x us h;
-    shorter = λ ts x us h. let e = operation_strict ts x us h in omega arith;
-  }
-
 -- ---- parts: a declaration, or an operation and its end
 
 abbrev pub EndedOperation : Derives Operation → Derives Part
@@ -124,27 +64,25 @@ EndedOperation Op = grammar.◌>>=◌ Op (λ operation. grammar.◌>>=◌ Ended 
 abbrev pub APart : Derives Operation → Derives Part
 APart Op = grammar.◌∣◌ (grammar.◌<$>◌ p.Declaration ADeclaration) (EndedOperation Op)
 
-module _ (template inner : Reading (List Triples)) (Template Inner : Derives (List Triples)) (r : IsTemplateRule template Template) (i : IsTemplateRule inner Inner) where
-  abbrev Op : Derives Operation
-  Op = g.Update1 Template Inner
-
-  ended_operation_decides : Decides (read.ended_operation template inner) (EndedOperation (g.Update1 Template Inner)) always
+module _ (template inner : Reading (List Triples)) (group : Reading Group) (Template Inner : Derives (List Triples)) (Group' : Derives Group)
+    (r : IsTemplateRule template Template) (i : IsTemplateRule inner Inner) (s : IsGroupRule group Group') where
+  ended_operation_decides : Decides (read.ended_operation template inner group) (EndedOperation (g.Update1 Template Inner Group')) always
   unfolding read.ended_operation
-  ended_operation_decides = seq _ _ _ _ always (operation_decides template inner Template Inner r i) (λ operation. seq _ _ _ _ always end_decides (λ _. pure_decides (p.Operation operation) always))
+  ended_operation_decides = seq _ _ _ _ always (operation_decides template inner group Template Inner Group' r i s) (λ operation. seq _ _ _ _ always end_decides (λ _. pure_decides (p.Operation operation) always))
 
   declared_decides : Decides (steps.◌<$>◌ p.Declaration declaration) (grammar.◌<$>◌ p.Declaration ADeclaration) always
   declared_decides = last p.Declaration _ _ always declaration_decides
 
-  part_decides : Decides (read.part template inner) (APart (g.Update1 Template Inner)) always
+  part_decides : Decides (read.part template inner group) (APart (g.Update1 Template Inner Group')) always
   unfolding read.part
   part_decides = choose_decides sees_declaration _ _ _ _ always declared_decides ended_operation_decides
       (λ ts x us h _. declaration_begins ts h.first h.mid h.reads)
-      (λ ts x us h _. operation_begins template inner Template Inner r i ts h.first h.mid h.reads)
+      (λ ts x us h _. operation_begins template inner group Template Inner Group' r i s ts h.first h.mid h.reads)
 
-  part_strict : (ts : Lexemes) (x : Part) (us : Lexemes) → APart (g.Update1 Template Inner) ts x us → length us < length ts
+  part_strict : (ts : Lexemes) (x : Part) (us : Lexemes) → APart (g.Update1 Template Inner Group') ts x us → length us < length ts
   part_strict ts x us (inl h) = let a = declaration_strict ts h.first h.mid h.reads in omega (arith, ap length h.goes.1)
   part_strict ts x us (inr h) =
-      let a = operation_strict template inner Template Inner r i ts h.first h.mid h.reads in
+      let a = operation_strict template inner group Template Inner Group' r i s ts h.first h.mid h.reads in
       let b = end_shorter h.mid h.goes.first h.goes.mid h.goes.reads in
       omega (arith, ap length h.goes.goes.1)
 
@@ -154,7 +92,7 @@ module _ (template inner : Reading (List Triples)) (Template Inner : Derives (Li
   some_more [] us h = absurd (omega arith)
   some_more (t ∷ ts) us h = refl
 
-  parts_start : (ts : Lexemes) (x : List Part) (us : Lexemes) → grammar.one (APart (g.Update1 Template Inner)) ts x us → (is_more ts ≡ true) × (length us < length ts)
+  parts_start : (ts : Lexemes) (x : List Part) (us : Lexemes) → grammar.one (APart (g.Update1 Template Inner Group')) ts x us → (is_more ts ≡ true) × (length us < length ts)
   parts_start ts x us h = let l = part_strict ts h.first h.mid h.reads in (some_more ts h.mid l, omega (arith, ap length h.goes.1))
 
   abbrev ended : Test
@@ -165,14 +103,14 @@ module _ (template inner : Reading (List Triples)) (Template Inner : Derives (Li
   ended_stops [] h = refl
   ended_stops (t ∷ ts) h = absurd (cc)
 
-  parts_decide : Decides (read.update template inner) (Star (grammar.one (APart (g.Update1 Template Inner)))) ended
+  parts_decide : Decides (read.update template inner group) (Star (grammar.one (APart (g.Update1 Template Inner Group')))) ended
   unfolding read.update
   parts_decide = repeat_decides is_more _ _ always ended (one_decides _ _ always part_decides) parts_start ended_stops (λ us h. refl) (λ us h. refl)
 
-  pub parts_sound : (ts : Lexemes) (parts : List Part) (us : Lexemes) → read.update template inner ts ≡ Some (parts, us) → Star (grammar.one (APart (g.Update1 Template Inner))) ts parts us
+  pub parts_sound : (ts : Lexemes) (parts : List Part) (us : Lexemes) → read.update template inner group ts ≡ Some (parts, us) → Star (grammar.one (APart (g.Update1 Template Inner Group'))) ts parts us
   parts_sound = parts_decide.sound
 
-  pub parts_complete : (ts : Lexemes) (parts : List Part) → Star (grammar.one (APart (g.Update1 Template Inner))) ts parts [] → read.update template inner ts ≡ Some (parts, [])
+  pub parts_complete : (ts : Lexemes) (parts : List Part) → Star (grammar.one (APart (g.Update1 Template Inner Group'))) ts parts [] → read.update template inner group ts ≡ Some (parts, [])
   parts_complete ts parts h = parts_decide.complete ts parts [] h refl
 
 -- ---- the parts of an update, one behind the other

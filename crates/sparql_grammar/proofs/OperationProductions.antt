@@ -1,5 +1,5 @@
--- Operations on graphs are read just as they are derived.
-use Rattle.std.proofs.Common.{◌≡◌, ◌≤◌, Bool, true, false, length, Option, Some, None, refl, arith, inl, inr, ◌⊎◌}
+-- Operations on whole graphs are read just as they are derived.
+use Rattle.std.proofs.Common.{◌≡◌, ◌<◌, ◌≤◌, Bool, true, false, length, Option, Some, None, refl, arith, inl, inr, ◌⊎◌}
 use Rattle.std.specs.Prelude.{is_some}
 use Rattle.rdf_grammar.specs.declared.tree.Name.{Name}
 use Rattle.rdf_grammar.specs.Steps as steps
@@ -24,15 +24,18 @@ use Rattle.sparql_terminals.specs.Lexemes as lexemes
 use Rattle.sparql_terminals.specs.Lexemes.{Lexemes, Reading, sees, Derives, Test}
 use Rattle.sparql_grammar.specs.OperationGrammar as g
 use Rattle.sparql_grammar.specs.OperationReading as read
+use Rattle.sparql_grammar.specs.Grammar.{Perhaps}
+use Rattle.sparql_grammar.specs.Reading.{perhaps}
 use Rattle.sparql_terminals.specs.Terminals.{same_terminal, apart}
 use Rattle.sparql_terminals.specs.WordGrammar.{Iri}
 use Rattle.sparql_terminals.specs.WordReading.{iri}
+use Rattle.sparql_terminals.proofs.Keywords.{keyword_sound, keyword_complete, keyword_terminal, keyword_strict}
 use Rattle.sparql_terminals.proofs.GrammarWords.{iri_terminal, iri_decides}
 
 -- ---- a lexeme that may be missing
 
 module _ (k : Terminal) where
-  perhaps_as : (b : Bool) (ts : Lexemes) → sees k ts ≡ b → read.perhaps k ts ≡ steps.◌<$>◌ is_some (reading.optional (sees k) (lexemes.the k)) ts
+  perhaps_as : (b : Bool) (ts : Lexemes) → sees k ts ≡ b → perhaps k ts ≡ steps.◌<$>◌ is_some (reading.optional (sees k) (lexemes.the k)) ts
   unfolding front.the
   perhaps_as true ts h = rw h refl
   perhaps_as false ts h = rw h refl
@@ -41,11 +44,11 @@ module _ (k : Terminal) where
   the_seen ts x us h = terminal_seen same_terminal apart k ts (the_terminal k ts us x h)
 
   module _ (ends : Test) (stops : (us : Lexemes) → ends us ≡ true → sees k us ≡ false) where
-    optional_decides : Decides (steps.◌<$>◌ is_some (reading.optional (sees k) (lexemes.the k))) (g.Perhaps k) ends
+    optional_decides : Decides (steps.◌<$>◌ is_some (reading.optional (sees k) (lexemes.the k))) (Perhaps k) ends
     optional_decides = last is_some _ _ ends (maybe_decides (sees k) (lexemes.the k) (grammar.the k) always ends (the_decides same_terminal apart k) the_seen stops (λ us h. refl))
 
     -- behind it stands what passes the test, and so no such lexeme
-    pub perhaps_decides : Decides (read.perhaps k) (g.Perhaps k) ends
+    pub perhaps_decides : Decides (perhaps k) (Perhaps k) ends
     perhaps_decides = record {
       sound = λ ts x us h. optional_decides.sound ts x us (rw (perhaps_as (sees k ts) ts refl) at h);
       complete = λ ts x us h e. rw (perhaps_as (sees k ts) ts refl) (optional_decides.complete ts x us h e);
@@ -53,7 +56,7 @@ module _ (k : Terminal) where
     }
 
   -- it is there, or nothing is
-  pub perhaps_terminal : (ts : Lexemes) (x : Bool) (us : Lexemes) → g.Perhaps k ts x us → (next_terminal ts ≡ Some k) ⊎ (ts ≡ us)
+  pub perhaps_terminal : (ts : Lexemes) (x : Bool) (us : Lexemes) → Perhaps k ts x us → (next_terminal ts ≡ Some k) ⊎ (ts ≡ us)
   perhaps_terminal ts x us h = at h.first h.reads
     where
       at : (found : Option (Unit {0})) → grammar.maybe (grammar.the k) ts found h.mid → (next_terminal ts ≡ Some k) ⊎ (ts ≡ us)
@@ -88,7 +91,7 @@ behind_silent _ = false
 abbrev ends_silent : Test
 ends_silent us = behind_silent (next_terminal us)
 
-silent_decides : Decides (read.perhaps terminal.Silent) (g.Perhaps terminal.Silent) ends_silent
+silent_decides : Decides (perhaps terminal.Silent) (Perhaps terminal.Silent) ends_silent
 silent_decides = perhaps_decides terminal.Silent ends_silent (unseen same_terminal apart behind_silent terminal.Silent refl)
 
 graph_ref_terminal : (ts : Lexemes) (x : Name) (us : Lexemes) → g.GraphRef ts x us → next_terminal ts ≡ Some terminal.Graph
@@ -141,9 +144,9 @@ iri_begins ts x us h = at (iri_terminal ts x us h)
     at (inr q) = rw q refl
 
 abbrev NamedPlace : Derives GraphOrDefault
-NamedPlace = grammar.◌>>◌ (g.Perhaps terminal.Graph) (grammar.◌<$>◌ place.Graph Iri)
+NamedPlace = grammar.◌>>◌ (Perhaps terminal.Graph) (grammar.◌<$>◌ place.Graph Iri)
 
-named_place_decides : Decides (steps.◌>>◌ (read.perhaps terminal.Graph) (steps.◌<$>◌ place.Graph iri)) NamedPlace always
+named_place_decides : Decides (steps.◌>>◌ (perhaps terminal.Graph) (steps.◌<$>◌ place.Graph iri)) NamedPlace always
 named_place_decides =
     then_decides _ _ _ _ sees_iri always (perhaps_decides terminal.Graph sees_iri (unseen same_terminal apart begins_iri terminal.Graph refl))
     (λ _. last place.Graph _ _ always iri_decides) (λ a mid b us h e. iri_begins mid h.first h.mid h.reads)
@@ -166,7 +169,7 @@ named_place_begins ts x us h = at (perhaps_terminal terminal.Graph ts h.first h.
     at (inl q) = rw q refl
     at (inr e) = rw e (iri_named (next_terminal h.mid) (iri_begins h.mid h.goes.first h.goes.mid h.goes.reads))
 
-by_name : (k : Option Terminal) → begins_named k ≡ true → read.graph_or_default_by k ≡ steps.◌>>◌ (read.perhaps terminal.Graph) (steps.◌<$>◌ place.Graph iri)
+by_name : (k : Option Terminal) → begins_named k ≡ true → read.graph_or_default_by k ≡ steps.◌>>◌ (perhaps terminal.Graph) (steps.◌<$>◌ place.Graph iri)
 by_name (Some terminal.Default) h = absurd (cc)
 by_name _ h = refl
 
@@ -202,34 +205,98 @@ graph_or_default_decides = record {
 
 -- ---- operations
 
-abbrev pub CreateRest : Derives Operation
-CreateRest = grammar.◌>>=◌ (g.Perhaps terminal.Silent) (λ silent. grammar.◌>>=◌ g.GraphRef (λ graph. grammar.pure (o.Create silent graph)))
+abbrev CreateRest : Derives Operation
+CreateRest = grammar.◌>>=◌ (Perhaps terminal.Silent) (λ silent. grammar.◌>>=◌ g.GraphRef (λ graph. grammar.pure (o.Create silent graph)))
 
-pub create_decides : Decides read.create CreateRest always
+create_decides : Decides read.create CreateRest always
 unfolding read.create
 create_decides =
     then_decides _ _ _ _ ends_silent always silent_decides
     (λ silent. seq _ _ _ _ always graph_ref_decides (λ graph. pure_decides (o.Create silent graph) always))
     (λ a mid b us h e. rw (graph_ref_terminal mid h.first h.mid h.reads) refl)
 
-abbrev pub OnGraphsRest : (Bool → GraphRefAll → Operation) → Derives Operation
-OnGraphsRest operation = grammar.◌>>=◌ (g.Perhaps terminal.Silent) (λ silent. grammar.◌>>=◌ g.AGraphRefAll (λ graphs. grammar.pure (operation silent graphs)))
-
-pub on_graphs_decides : (operation : Bool → GraphRefAll → Operation) → Decides (read.on_graphs operation) (OnGraphsRest operation) always
+on_graphs_decides : Decides read.on_graphs g.OnGraphs always
 unfolding read.on_graphs
-on_graphs_decides operation =
+on_graphs_decides =
     then_decides _ _ _ _ ends_silent always silent_decides
-    (λ silent. seq _ _ _ _ always graph_ref_all_decides (λ graphs. pure_decides (operation silent graphs) always))
+    (λ silent. seq _ _ _ _ always graph_ref_all_decides (λ graphs. pure_decides (silent, graphs) always))
     (λ a mid b us h e. graph_ref_all_begins mid h.first h.mid h.reads)
 
-abbrev pub BetweenRest : (Bool → GraphOrDefault → GraphOrDefault → Operation) → Derives Operation
-BetweenRest operation = grammar.◌>>=◌ (g.Perhaps terminal.Silent) (λ silent. grammar.◌>>=◌ g.AGraphOrDefault (λ from.
-    grammar.◌>>=◌ (grammar.the terminal.To) (λ _. grammar.◌>>=◌ g.AGraphOrDefault (λ to. grammar.pure (operation silent from to)))))
-
-pub between_decides : (operation : Bool → GraphOrDefault → GraphOrDefault → Operation) → Decides (read.between operation) (BetweenRest operation) always
+between_decides : Decides read.between g.Between always
 unfolding read.between
-between_decides operation =
+between_decides =
     then_decides _ _ _ _ ends_silent always silent_decides
     (λ silent. seq _ _ _ _ always graph_or_default_decides (λ from. seq _ _ _ _ always (the_decides same_terminal apart terminal.To)
-    (λ _. seq _ _ _ _ always graph_or_default_decides (λ to. pure_decides (operation silent from to) always))))
+    (λ _. seq _ _ _ _ always graph_or_default_decides (λ to. pure_decides (silent, from, to) always))))
     (λ a mid b us h e. graph_or_default_begins mid h.first h.mid h.reads)
+
+module _ (operation : Bool → GraphRefAll → Operation) where
+  abbrev read_on : Reading Operation
+  read_on = steps.◌<$>◌ (read.on_graphs_by operation) read.on_graphs
+
+  abbrev OnThem : Derives Operation
+  OnThem = grammar.◌<$>◌ (read.on_graphs_by operation) g.OnGraphs
+
+  on_decides : Decides read_on OnThem always
+  on_decides = last (read.on_graphs_by operation) _ _ always on_graphs_decides
+
+module _ (operation : Bool → GraphOrDefault → GraphOrDefault → Operation) where
+  abbrev read_from_to : Reading Operation
+  read_from_to = steps.◌<$>◌ (read.between_by operation) read.between
+
+  abbrev FromTo : Derives Operation
+  FromTo = grammar.◌<$>◌ (read.between_by operation) g.Between
+
+  from_to_decides : Decides read_from_to FromTo always
+  from_to_decides = last (read.between_by operation) _ _ always between_decides
+
+-- what begins them
+abbrev pub begins_management : Option Terminal → Bool
+begins_management (Some terminal.Create) = true
+begins_management (Some terminal.Clear) = true
+begins_management (Some terminal.Drop) = true
+begins_management (Some terminal.Copy) = true
+begins_management (Some terminal.Move) = true
+begins_management (Some terminal.Add) = true
+begins_management _ = false
+
+management_sound : (k : Option Terminal) (ts : Lexemes) (x : Operation) (us : Lexemes) → next_terminal ts ≡ k → read.management_by k ts ≡ Some (x, us) → g.Management ts x us
+management_sound (Some terminal.Clear) ts x us q h = inl (keyword_sound terminal.Clear _ _ (on_decides o.Clear) ts x us q h)
+management_sound (Some terminal.Drop) ts x us q h = inr (inl (keyword_sound terminal.Drop _ _ (on_decides o.Drop) ts x us q h))
+management_sound (Some terminal.Add) ts x us q h = inr (inr (inl (keyword_sound terminal.Add _ _ (from_to_decides o.Add) ts x us q h)))
+management_sound (Some terminal.Move) ts x us q h = inr (inr (inr (inl (keyword_sound terminal.Move _ _ (from_to_decides o.Move) ts x us q h))))
+management_sound (Some terminal.Copy) ts x us q h = inr (inr (inr (inr (inl (keyword_sound terminal.Copy _ _ (from_to_decides o.Copy) ts x us q h)))))
+management_sound (Some terminal.Create) ts x us q h = inr (inr (inr (inr (inr (keyword_sound terminal.Create _ _ create_decides ts x us q h)))))
+management_sound _ ts x us q h = absurd (cc)
+
+management_complete : (ts : Lexemes) (x : Operation) (us : Lexemes) → g.Management ts x us → read.management_by (next_terminal ts) ts ≡ Some (x, us)
+management_complete ts x us (inl h) = let q = keyword_terminal terminal.Clear _ ts x us h in rw q (keyword_complete terminal.Clear _ _ (on_decides o.Clear) ts x us q h)
+management_complete ts x us (inr (inl h)) = let q = keyword_terminal terminal.Drop _ ts x us h in rw q (keyword_complete terminal.Drop _ _ (on_decides o.Drop) ts x us q h)
+management_complete ts x us (inr (inr (inl h))) = let q = keyword_terminal terminal.Add _ ts x us h in rw q (keyword_complete terminal.Add _ _ (from_to_decides o.Add) ts x us q h)
+management_complete ts x us (inr (inr (inr (inl h)))) = let q = keyword_terminal terminal.Move _ ts x us h in rw q (keyword_complete terminal.Move _ _ (from_to_decides o.Move) ts x us q h)
+management_complete ts x us (inr (inr (inr (inr (inl h))))) = let q = keyword_terminal terminal.Copy _ ts x us h in rw q (keyword_complete terminal.Copy _ _ (from_to_decides o.Copy) ts x us q h)
+management_complete ts x us (inr (inr (inr (inr (inr h))))) = let q = keyword_terminal terminal.Create _ ts x us h in rw q (keyword_complete terminal.Create _ _ create_decides ts x us q h)
+
+pub management_strict : (ts : Lexemes) (x : Operation) (us : Lexemes) → g.Management ts x us → length us < length ts
+management_strict ts x us (inl h) = keyword_strict terminal.Clear _ _ (on_decides o.Clear) ts x us h
+management_strict ts x us (inr (inl h)) = keyword_strict terminal.Drop _ _ (on_decides o.Drop) ts x us h
+management_strict ts x us (inr (inr (inl h))) = keyword_strict terminal.Add _ _ (from_to_decides o.Add) ts x us h
+management_strict ts x us (inr (inr (inr (inl h)))) = keyword_strict terminal.Move _ _ (from_to_decides o.Move) ts x us h
+management_strict ts x us (inr (inr (inr (inr (inl h))))) = keyword_strict terminal.Copy _ _ (from_to_decides o.Copy) ts x us h
+management_strict ts x us (inr (inr (inr (inr (inr h))))) = keyword_strict terminal.Create _ _ create_decides ts x us h
+
+pub management_begins : (ts : Lexemes) (x : Operation) (us : Lexemes) → g.Management ts x us → begins_management (next_terminal ts) ≡ true
+management_begins ts x us (inl h) = rw (keyword_terminal terminal.Clear _ ts x us h) refl
+management_begins ts x us (inr (inl h)) = rw (keyword_terminal terminal.Drop _ ts x us h) refl
+management_begins ts x us (inr (inr (inl h))) = rw (keyword_terminal terminal.Add _ ts x us h) refl
+management_begins ts x us (inr (inr (inr (inl h)))) = rw (keyword_terminal terminal.Move _ ts x us h) refl
+management_begins ts x us (inr (inr (inr (inr (inl h))))) = rw (keyword_terminal terminal.Copy _ ts x us h) refl
+management_begins ts x us (inr (inr (inr (inr (inr h))))) = rw (keyword_terminal terminal.Create _ ts x us h) refl
+
+pub management_decides : Decides read.management g.Management always
+unfolding read.management
+management_decides = record {
+  sound = λ ts x us h. management_sound (next_terminal ts) ts x us refl h;
+  complete = λ ts x us h _. management_complete ts x us h;
+  shorter = λ ts x us h. let e = management_strict ts x us h in omega arith;
+}

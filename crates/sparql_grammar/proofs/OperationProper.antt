@@ -1,8 +1,8 @@
 -- Requests that are derived of formed lexemes are proper.
 use Rattle.std.proofs.Common.{◌≡◌, ℕ, suc, Bool, true, ◌&&◌, List, [], ◌∷◌, map, Option, Some, None, refl, inl, inr}
 use Rattle.std.proofs.lemmas.Bool.{and_from}
-use Rattle.std.specs.Prelude.{is_some}
 use Rattle.std.specs.List.{list_all, AllByRecursion}
+use Rattle.rdf_grammar.specs.declared.tree.Name.{Name}
 use Rattle.rdf_grammar.specs.Derivations as grammar
 use Rattle.rdf_grammar.specs.Derivations.{Star}
 use Rattle.rdf_grammar.specs.Prologue.{is_proper}
@@ -14,6 +14,7 @@ use Rattle.sparql_grammar.specs.declared.tree.GraphOrDefault.{GraphOrDefault}
 use Rattle.sparql_grammar.specs.declared.tree.GraphOrDefault.TheVariants as place
 use Rattle.sparql_grammar.specs.declared.tree.GraphRefAll.{GraphRefAll}
 use Rattle.sparql_grammar.specs.declared.tree.GraphRefAll.TheVariants as graphs
+use Rattle.sparql_grammar.specs.declared.tree.Group.{Group}
 use Rattle.sparql_grammar.specs.declared.tree.Operation.{Operation}
 use Rattle.sparql_grammar.specs.declared.tree.Operation.TheVariants as o
 use Rattle.sparql_grammar.specs.declared.tree.Part.{Part}
@@ -22,24 +23,23 @@ use Rattle.sparql_grammar.specs.declared.tree.Triples.{Triples}
 use Rattle.sparql_grammar.specs.declared.tree.VarOrIri.{VarOrIri}
 use Rattle.sparql_terminals.specs.Formed.{AllFormed}
 use Rattle.sparql_grammar.specs.Grammar.{Nodes_at, TriplesTemplate}
+use Rattle.sparql_grammar.specs.GroupGrammar.{GroupAt}
 use Rattle.sparql_terminals.specs.Lexemes.{Lexemes, Derives}
 use Rattle.sparql_grammar.specs.OperationGrammar as g
-use Rattle.sparql_grammar.specs.OperationReading.{block}
-use Rattle.sparql_grammar.specs.Proper.{holds, proper_triples, proper_var_or_iri, proper_graph, proper_block, proper_graph_ref_all, proper_graph_or_default, proper_operation, proper_part}
+use Rattle.sparql_grammar.specs.OperationReading.{between_by, block, modify_with, on_graphs_by}
+use Rattle.sparql_grammar.specs.Proper.{holds, proper_triples, proper_var_or_iri, proper_graph, proper_block, proper_graph_ref_all, proper_graph_name, proper_graph_or_default, proper_group, proper_blocks, proper_modify, proper_operation, proper_part}
 use Rattle.sparql_grammar.specs.Reading.{all_of}
 use Rattle.sparql_grammar.specs.RequestLaws.{RequestsAreProper}
 use Rattle.sparql_terminals.specs.Terminals.{terminal_by}
 use Rattle.sparql_terminals.proofs.FormedPieces.{lexemes_formed}
 use Rattle.sparql_terminals.proofs.Gives.{Gives, Any, IsGoodOption, then_gives, pure_gives, or_gives, the_gives, map_gives, behind_gives, closed_gives, maybe_gives, star_gives, one_gives}
 use Rattle.sparql_terminals.proofs.WordGives.{Passes, iri_gives}
-use Rattle.sparql_grammar.proofs.GrammarProper.{all_pass, var_or_iri_gives, triples_give}
+use Rattle.sparql_grammar.proofs.GrammarProper.{all_pass, perhaps_gives, var_or_iri_gives, triples_give}
+use Rattle.sparql_grammar.proofs.GroupProper.{group_at_gives}
 use Rattle.sparql_grammar.proofs.OperationNests.{PartsAt}
 use Rattle.sparql_grammar.proofs.OperationParts.{Ended, EndedOperation, APart}
 use Rattle.sparql_grammar.proofs.OperationWhole.{parts_are}
 use Rattle.sparql_grammar.proofs.PrologueProductions.{declaration_gives}
-
-pub perhaps_gives : (k : Terminal) → Gives (g.Perhaps k) Any
-perhaps_gives k = map_gives is_some _ (IsGoodOption Any) Any (maybe_gives _ Any (the_gives k)) (λ a h. tt)
 
 -- ---- operations on graphs
 
@@ -62,18 +62,40 @@ unfolding proper_operation
 create_gives = behind_gives terminal.Create _ (Passes proper_operation) (then_gives _ _ Any (Passes proper_operation) (perhaps_gives terminal.Silent)
     (λ silent _. then_gives _ _ (Passes is_proper) (Passes proper_operation) graph_ref_gives (λ graph h. pure_gives (o.Create silent graph) (Passes proper_operation) h)))
 
-on_graphs_gives : (k : Terminal) (operation : Bool → GraphRefAll → Operation) → ((silent : Bool) (graphs : GraphRefAll) → proper_operation (operation silent graphs) ≡ proper_graph_ref_all graphs)
-    → Gives (g.OnGraphs k operation) (Passes proper_operation)
-on_graphs_gives k operation is = behind_gives k _ (Passes proper_operation) (then_gives _ _ Any (Passes proper_operation) (perhaps_gives terminal.Silent)
-    (λ silent _. then_gives _ _ (Passes proper_graph_ref_all) (Passes proper_operation) graph_ref_all_gives (λ graphs h. pure_gives (operation silent graphs) (Passes proper_operation) (rw (is silent graphs) h))))
+abbrev GoodOn : Bool × GraphRefAll → Type 0
+GoodOn x = proper_graph_ref_all x.1 ≡ true
 
-between_gives : (k : Terminal) (operation : Bool → GraphOrDefault → GraphOrDefault → Operation)
+on_graphs_gives : Gives g.OnGraphs GoodOn
+on_graphs_gives = then_gives _ _ Any GoodOn (perhaps_gives terminal.Silent)
+    (λ silent _. then_gives _ _ (Passes proper_graph_ref_all) GoodOn graph_ref_all_gives (λ graphs h. pure_gives (silent, graphs) GoodOn h))
+
+on_gives : (k : Terminal) (operation : Bool → GraphRefAll → Operation) → ((silent : Bool) (graphs : GraphRefAll) → proper_operation (operation silent graphs) ≡ proper_graph_ref_all graphs)
+    → Gives (grammar.◌>>◌ (grammar.the k) (grammar.◌<$>◌ (on_graphs_by operation) g.OnGraphs)) (Passes proper_operation)
+on_gives k operation is = behind_gives k _ (Passes proper_operation) (map_gives (on_graphs_by operation) _ GoodOn (Passes proper_operation) on_graphs_gives (λ x h. rw (is x.0 x.1) h))
+
+abbrev GoodBetween : Bool × GraphOrDefault × GraphOrDefault → Type 0
+GoodBetween x = (proper_graph_or_default x.1 ≡ true) × (proper_graph_or_default x.2 ≡ true)
+
+between_gives : Gives g.Between GoodBetween
+between_gives = then_gives _ _ Any GoodBetween (perhaps_gives terminal.Silent)
+    (λ silent _. then_gives _ _ (Passes proper_graph_or_default) GoodBetween graph_or_default_gives
+    (λ from h. behind_gives terminal.To _ GoodBetween (then_gives _ _ (Passes proper_graph_or_default) GoodBetween graph_or_default_gives
+    (λ to i. pure_gives (silent, from, to) GoodBetween (h, i)))))
+
+from_to_gives : (k : Terminal) (operation : Bool → GraphOrDefault → GraphOrDefault → Operation)
     → ((silent : Bool) (from to : GraphOrDefault) → proper_operation (operation silent from to) ≡ proper_graph_or_default from && proper_graph_or_default to)
-    → Gives (g.Between k operation) (Passes proper_operation)
-between_gives k operation is = behind_gives k _ (Passes proper_operation) (then_gives _ _ Any (Passes proper_operation) (perhaps_gives terminal.Silent)
-    (λ silent _. then_gives _ _ (Passes proper_graph_or_default) (Passes proper_operation) graph_or_default_gives
-    (λ from h. behind_gives terminal.To _ (Passes proper_operation) (then_gives _ _ (Passes proper_graph_or_default) (Passes proper_operation) graph_or_default_gives
-    (λ to i. pure_gives (operation silent from to) (Passes proper_operation) (rw (is silent from to) (and_from (proper_graph_or_default from) (proper_graph_or_default to) h i)))))))
+    → Gives (grammar.◌>>◌ (grammar.the k) (grammar.◌<$>◌ (between_by operation) g.Between)) (Passes proper_operation)
+from_to_gives k operation is = behind_gives k _ (Passes proper_operation) (map_gives (between_by operation) _ GoodBetween (Passes proper_operation) between_gives
+    (λ x h. rw (is x.0 x.1 x.2) (and_from (proper_graph_or_default x.1) (proper_graph_or_default x.2) h.0 h.1)))
+
+management_gives : Gives g.Management (Passes proper_operation)
+unfolding proper_operation
+management_gives =
+    or_gives _ _ (Passes proper_operation) (on_gives terminal.Clear o.Clear (λ silent graphs. refl))
+    (or_gives _ _ (Passes proper_operation) (on_gives terminal.Drop o.Drop (λ silent graphs. refl))
+    (or_gives _ _ (Passes proper_operation) (from_to_gives terminal.Add o.Add (λ silent from to. refl))
+    (or_gives _ _ (Passes proper_operation) (from_to_gives terminal.Move o.Move (λ silent from to. refl))
+    (or_gives _ _ (Passes proper_operation) (from_to_gives terminal.Copy o.Copy (λ silent from to. refl)) create_gives))))
 
 -- ---- data
 
@@ -108,46 +130,85 @@ module _ (Template Inner : Derives (List Triples)) (p : Gives Template (AllByRec
       (λ first h. then_gives _ _ (AllByRecursion (Passes proper_block)) (AllByRecursion (Passes proper_block)) (star_gives _ (Passes proper_block) named_and_default_give)
       (λ others all. pure_gives (first ∷ others) (AllByRecursion (Passes proper_block)) (h, all)))
 
-  quad_data_gives : Gives (g.QuadData Template Inner) (AllByRecursion (Passes proper_block))
-  quad_data_gives = behind_gives terminal.OpenBrace _ (AllByRecursion (Passes proper_block)) (then_gives _ _ (AllByRecursion (Passes proper_block)) (AllByRecursion (Passes proper_block)) quads_give
+  quad_pattern_gives : Gives (g.QuadPattern Template Inner) (AllByRecursion (Passes proper_block))
+  quad_pattern_gives = behind_gives terminal.OpenBrace _ (AllByRecursion (Passes proper_block)) (then_gives _ _ (AllByRecursion (Passes proper_block)) (AllByRecursion (Passes proper_block)) quads_give
       (λ blocks all. closed_gives terminal.CloseBrace blocks (AllByRecursion (Passes proper_block)) all))
 
-  data_give : (k : Terminal) (operation : List Block → Operation) → ((blocks : List Block) → proper_operation (operation blocks) ≡ list_all holds (map proper_block blocks))
-      → Gives (g.DataOf Template Inner k operation) (Passes proper_operation)
-  data_give k operation is = behind_gives k _ (Passes proper_operation) (behind_gives terminal.Data _ (Passes proper_operation)
-      (then_gives _ _ (AllByRecursion (Passes proper_block)) (Passes proper_operation) quad_data_gives
+  -- two words, and quads in braces
+  quads_behind_give : (k l : Terminal) (operation : List Block → Operation) → ((blocks : List Block) → proper_operation (operation blocks) ≡ proper_blocks blocks)
+      → Gives (grammar.◌>>◌ (grammar.the k) (grammar.◌>>◌ (grammar.the l) (grammar.◌>>=◌ (g.QuadPattern Template Inner) (λ blocks. grammar.pure (operation blocks))))) (Passes proper_operation)
+  quads_behind_give k l operation is = behind_gives k _ (Passes proper_operation) (behind_gives l _ (Passes proper_operation)
+      (then_gives _ _ (AllByRecursion (Passes proper_block)) (Passes proper_operation) quad_pattern_gives
       (λ blocks all. pure_gives (operation blocks) (Passes proper_operation) (rw (is blocks) (all_pass proper_block blocks all)))))
 
-  operation_gives : Gives (g.Update1 Template Inner) (Passes proper_operation)
+  -- ---- templates
+
+  abbrev GoodTemplates : List Block × List Block → Type 0
+  GoodTemplates x = AllByRecursion (Passes proper_block) x.0 × AllByRecursion (Passes proper_block) x.1
+
+  some_blocks : (found : Option (List Block)) → IsGoodOption (AllByRecursion (Passes proper_block)) found → AllByRecursion (Passes proper_block) (all_of found)
+  some_blocks None h = tt
+  some_blocks (Some blocks) h = h
+
+  insert_clause_gives : Gives (g.InsertClause Template Inner) (AllByRecursion (Passes proper_block))
+  insert_clause_gives = behind_gives terminal.Insert _ (AllByRecursion (Passes proper_block)) quad_pattern_gives
+
+  maybe_insert_gives : Gives (grammar.◌<$>◌ all_of (grammar.maybe (g.InsertClause Template Inner))) (AllByRecursion (Passes proper_block))
+  maybe_insert_gives = map_gives all_of _ (IsGoodOption (AllByRecursion (Passes proper_block))) _ (maybe_gives _ (AllByRecursion (Passes proper_block)) insert_clause_gives) some_blocks
+
+  templates_give : Gives (grammar.◌∣◌ (g.DeleteAndInsert Template Inner) (g.InsertAlone Template Inner)) GoodTemplates
+  templates_give = or_gives _ _ GoodTemplates
+      (then_gives _ _ (AllByRecursion (Passes proper_block)) GoodTemplates (behind_gives terminal.Delete _ (AllByRecursion (Passes proper_block)) quad_pattern_gives)
+      (λ delete h. then_gives _ _ (AllByRecursion (Passes proper_block)) GoodTemplates maybe_insert_gives (λ insert i. pure_gives (delete, insert) GoodTemplates (h, i))))
+      (then_gives _ _ (AllByRecursion (Passes proper_block)) GoodTemplates insert_clause_gives (λ insert i. pure_gives ([], insert) GoodTemplates (tt, i)))
+
+good_name : (found : Option Name) → IsGoodOption (Passes is_proper) found → proper_graph_name found ≡ true
+good_name None h = refl
+good_name (Some name) h = h
+
+good_modify : (name : Option Name) (templates : List Block × List Block) (group : Group) → IsGoodOption (Passes is_proper) name
+    → AllByRecursion (Passes proper_block) templates.0 → AllByRecursion (Passes proper_block) templates.1 → proper_group group ≡ true → proper_modify (modify_with name templates group) ≡ true
+good_modify name templates group n delete insert h =
+    and_from (proper_graph_name name) (proper_blocks templates.0 && (proper_blocks templates.1 && proper_group group)) (good_name name n)
+    (and_from (proper_blocks templates.0) (proper_blocks templates.1 && proper_group group) (all_pass proper_block templates.0 delete)
+    (and_from (proper_blocks templates.1) (proper_group group) (all_pass proper_block templates.1 insert) h))
+
+module _ (Template Inner : Derives (List Triples)) (Group' : Derives Group) (p : Gives Template (AllByRecursion (Passes proper_triples))) (i : Gives Inner (AllByRecursion (Passes proper_triples)))
+    (k : Gives Group' (Passes proper_group)) where
+  modify_gives : Gives (g.AModify Template Inner Group') (Passes proper_modify)
+  modify_gives = then_gives _ _ (IsGoodOption (Passes is_proper)) (Passes proper_modify) (maybe_gives _ (Passes is_proper) (behind_gives terminal.With _ (Passes is_proper) iri_gives))
+      (λ name n. then_gives _ _ (GoodTemplates Template Inner p i) (Passes proper_modify) (templates_give Template Inner p i)
+      (λ templates h. behind_gives terminal.Where _ (Passes proper_modify) (then_gives _ _ (Passes proper_group) (Passes proper_modify) k
+      (λ inside w. pure_gives (modify_with name templates inside) (Passes proper_modify) (good_modify name templates inside n h.0 h.1 w)))))
+
+  operation_gives : Gives (g.Update1 Template Inner Group') (Passes proper_operation)
   unfolding proper_operation
   operation_gives =
-      or_gives _ _ (Passes proper_operation) (on_graphs_gives terminal.Clear o.Clear (λ silent graphs. refl))
-      (or_gives _ _ (Passes proper_operation) (on_graphs_gives terminal.Drop o.Drop (λ silent graphs. refl))
-      (or_gives _ _ (Passes proper_operation) (between_gives terminal.Add o.Add (λ silent from to. refl))
-      (or_gives _ _ (Passes proper_operation) (between_gives terminal.Move o.Move (λ silent from to. refl))
-      (or_gives _ _ (Passes proper_operation) (between_gives terminal.Copy o.Copy (λ silent from to. refl))
-      (or_gives _ _ (Passes proper_operation) create_gives
-      (or_gives _ _ (Passes proper_operation) (data_give terminal.Insert o.InsertData (λ blocks. refl)) (data_give terminal.Delete o.DeleteData (λ blocks. refl))))))))
+      or_gives _ _ (Passes proper_operation) management_gives
+      (or_gives _ _ (Passes proper_operation) (quads_behind_give Template Inner p i terminal.Insert terminal.Data o.InsertData (λ blocks. refl))
+      (or_gives _ _ (Passes proper_operation) (quads_behind_give Template Inner p i terminal.Delete terminal.Data o.DeleteData (λ blocks. refl))
+      (or_gives _ _ (Passes proper_operation) (quads_behind_give Template Inner p i terminal.Delete terminal.Where o.DeleteWhere (λ blocks. refl))
+      (map_gives o.Modify _ (Passes proper_modify) (Passes proper_operation) modify_gives (λ m h. h)))))
 
   end_gives : Gives Ended Any
   unfolding Gives
   end_gives ts x us (inl d) w = the_gives terminal.Semicolon ts x us d w
   end_gives ts x us (inr d) w = (tt, rw (← d.0) w)
 
-  ended_operation_gives : Gives (EndedOperation (g.Update1 Template Inner)) (Passes proper_part)
+  ended_operation_gives : Gives (EndedOperation (g.Update1 Template Inner Group')) (Passes proper_part)
   ended_operation_gives = then_gives _ _ (Passes proper_operation) (Passes proper_part) operation_gives
       (λ operation h. then_gives _ _ Any (Passes proper_part) end_gives (λ _ _. pure_gives (part.Operation operation) (Passes proper_part) h))
 
-  part_gives : Gives (APart (g.Update1 Template Inner)) (Passes proper_part)
+  part_gives : Gives (APart (g.Update1 Template Inner Group')) (Passes proper_part)
   part_gives = or_gives _ _ (Passes proper_part) (map_gives part.Declaration _ Any (Passes proper_part) declaration_gives (λ a h. refl)) ended_operation_gives
 
-  parts_give : Gives (Star (grammar.one (APart (g.Update1 Template Inner)))) (AllByRecursion (Passes proper_part))
+  parts_give : Gives (Star (grammar.one (APart (g.Update1 Template Inner Group')))) (AllByRecursion (Passes proper_part))
   parts_give = star_gives _ (Passes proper_part) (one_gives _ (Passes proper_part) part_gives)
 
 parts_proper : (depth : ℕ) (ts : Lexemes) (parts : List Part) → AllFormed ts → PartsAt depth ts parts [] → list_all holds (map proper_part parts) ≡ true
 unfolding Gives
 parts_proper depth ts parts w d =
-    let all = parts_give (TriplesTemplate (Nodes_at (suc depth))) (TriplesTemplate (Nodes_at depth)) (triples_give (suc depth)) (triples_give depth) ts parts [] d w in
+    let all = parts_give (TriplesTemplate (Nodes_at (suc depth))) (TriplesTemplate (Nodes_at depth)) (GroupAt (suc depth)) (triples_give (suc depth)) (triples_give depth) (group_at_gives (suc depth)) ts parts [] d w in
     all_pass proper_part parts all.0
 
 pub requests_proper : RequestsAreProper

@@ -13,6 +13,8 @@ use Rattle.sparql_grammar.specs.declared.tree.Operation.{Operation}
 use Rattle.sparql_grammar.specs.declared.tree.Part.{Part}
 use Rattle.sparql_grammar.specs.declared.tree.Triples.{Triples}
 use Rattle.sparql_grammar.specs.Grammar.{Nodes_at, TriplesTemplate}
+use Rattle.sparql_grammar.specs.GroupGrammar.{GroupAt}
+use Rattle.sparql_grammar.specs.GroupReading.{group_at}
 use Rattle.sparql_terminals.specs.Lexemes.{Lexemes, Reading, Derives}
 use Rattle.sparql_grammar.specs.Nesting.{open_after, IsTooDeep, IsTooDeepAt}
 use Rattle.sparql_grammar.specs.OperationGrammar.{IsRequest, Update1}
@@ -22,9 +24,11 @@ use Rattle.sparql_grammar.specs.RequestLaws.{OneRequest}
 use Rattle.sparql_grammar.specs.Stops.{Explains, kind_of}
 use Rattle.sparql_terminals.specs.Terminals.{bracket}
 use Rattle.sparql_grammar.proofs.GrammarTriples.{triples_decides, triples_begin, closes_template}
+use Rattle.sparql_grammar.proofs.GroupWhole.{group_at_rule}
 use Rattle.sparql_grammar.proofs.OperationData.{closes_triples, IsTemplateRule}
 use Rattle.sparql_grammar.proofs.OperationNests.{PartsAt, parts_within}
-use Rattle.sparql_grammar.proofs.OperationParts.{operation_strict, parts_sound, parts_complete, parts_of, update_of}
+use Rattle.sparql_grammar.proofs.OperationParts.{parts_sound, parts_complete, parts_of, update_of}
+use Rattle.sparql_grammar.proofs.OperationTemplates.{operation_strict}
 
 closes_there : (k : Option Terminal) → closes_triples k ≡ true → closes_template k ≡ true
 closes_there (Some terminal.CloseBrace) h = refl
@@ -53,21 +57,24 @@ module _ (depth : ℕ) where
   abbrev Inner : Derives (List Triples)
   Inner = TriplesTemplate (Nodes_at depth)
 
-strict : (depth : ℕ) (ts : Lexemes) (x : Operation) (us : Lexemes) → Update1 (Template depth) (Inner depth) ts x us → length us < length ts
-strict depth = operation_strict (template depth) (inner depth) (Template depth) (Inner depth) (template_rule (suc depth)) (template_rule depth)
+  abbrev Op : Derives Operation
+  Op = Update1 Template Inner (GroupAt (suc depth))
+
+strict : (depth : ℕ) (ts : Lexemes) (x : Operation) (us : Lexemes) → Op depth ts x us → length us < length ts
+strict depth = operation_strict (template depth) (inner depth) (group_at (suc depth)) (Template depth) (Inner depth) (GroupAt (suc depth)) (template_rule (suc depth)) (template_rule depth) (group_at_rule (suc depth))
 
 request_sound : (depth : ℕ) (ts : Lexemes) (parts : List Part) → request (suc depth) ts ≡ Some (parts, []) → IsRequest ts parts
 unfolding request
 request_sound depth ts parts h =
-    let read = parts_sound (template depth) (inner depth) (Template depth) (Inner depth) (template_rule (suc depth)) (template_rule depth) ts parts [] h in
-    (depth, update_of (Update1 (Template depth) (Inner depth)) (strict depth) ts [] parts refl read)
+    let read = parts_sound (template depth) (inner depth) (group_at (suc depth)) (Template depth) (Inner depth) (GroupAt (suc depth)) (template_rule (suc depth)) (template_rule depth) (group_at_rule (suc depth)) ts parts [] h in
+    (depth, update_of (Op depth) (strict depth) ts [] parts refl read)
 
 request_complete : (depth : ℕ) (ts : Lexemes) (parts : List Part) → PartsAt depth ts parts [] → request (suc depth) ts ≡ Some (parts, [])
 unfolding request
-request_complete depth ts parts h = parts_complete (template depth) (inner depth) (Template depth) (Inner depth) (template_rule (suc depth)) (template_rule depth) ts parts h
+request_complete depth ts parts h = parts_complete (template depth) (inner depth) (group_at (suc depth)) (Template depth) (Inner depth) (GroupAt (suc depth)) (template_rule (suc depth)) (template_rule depth) (group_at_rule (suc depth)) ts parts h
 
 pub parts_are : (ts : Lexemes) (parts : List Part) → (d : IsRequest ts parts) → PartsAt d.0 ts parts []
-parts_are ts parts d = parts_of (Update1 (Template d.0) (Inner d.0)) (strict d.0) ts [] parts refl d.1
+parts_are ts parts d = parts_of (Op d.0) (strict d.0) ts [] parts refl d.1
 
 -- where so many brackets are open at most
 request_read_at : (depth : ℕ) (ts : Lexemes) (parts : List Part) → ((n : ℕ) → open_after 0 (take n ts) ≤ suc (suc depth)) → IsRequest ts parts → request (suc depth) ts ≡ Some (parts, [])

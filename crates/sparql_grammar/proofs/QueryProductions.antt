@@ -18,7 +18,7 @@ use Rattle.sparql_grammar.specs.declared.tree.QueryForm.{QueryForm}
 use Rattle.sparql_grammar.specs.declared.tree.QueryForm.TheVariants as form
 use Rattle.sparql_terminals.specs.Lexemes as lexemes
 use Rattle.sparql_terminals.specs.Lexemes.{Lexemes, Reading, sees, Derives, Test}
-use Rattle.sparql_grammar.specs.OperationGrammar.{Perhaps}
+use Rattle.sparql_grammar.specs.Grammar.{Perhaps}
 use Rattle.sparql_grammar.specs.PrologueGrammar.{Prologue}
 use Rattle.sparql_grammar.specs.PrologueReading.{sees_declaration}
 use Rattle.sparql_grammar.specs.QueryGrammar as g

@@ -1,5 +1,6 @@
 -- Triples as the grammar writes them (SPARQL 1.1 Query, section 19.8, by the numbers of its rules), with no look at the next lexeme.
-use Rattle.std.specs.Prelude.{ℕ, zero, suc, List, [], ◌∷◌, option_to_list}
+use Rattle.std.specs.Prelude.{ℕ, zero, suc, Bool, List, [], ◌∷◌, is_some, option_to_list}
+use Rattle.sparql_terminals.specs.declared.terminal.Terminal.{Terminal}
 use Rattle.sparql_terminals.specs.declared.terminal.Terminal.TheVariants as terminal
 use Rattle.sparql_grammar.specs.declared.tree.VarOrIri.{VarOrIri}
 use Rattle.sparql_grammar.specs.declared.tree.VarOrIri.TheVariants as i
@@ -14,6 +15,10 @@ use Rattle.rdf_grammar.specs.Terminals.{Piece}
 use Rattle.sparql_terminals.specs.Lexemes.{Derives}
 use Rattle.sparql_grammar.specs.Reading.{property_with, triples_with, all_of}
 use Rattle.sparql_terminals.specs.WordGrammar.{Iri, ALiteral}
+
+-- a word that may be missing, and whether it is there
+abbrev pub Perhaps : Terminal → Derives Bool
+Perhaps k = is_some <$> maybe (the k)
 
 -- 108: Var = VAR1 | VAR2
 abbrev pub Var : Derives Piece

@@ -3,16 +3,16 @@ use Rattle.std.specs.Prelude.{ℕ, zero, suc, List, ◌∷◌, ◌++◌, Option,
 use Rattle.rdf_grammar.specs.Derivations.{◌>>=◌, ◌>>◌, ◌<$>◌, ◌∣◌, pure, the, one, maybe, Star}
 use Rattle.sparql_terminals.specs.declared.terminal.Terminal.TheVariants as terminal
 use Rattle.sparql_expressions.specs.declared.tree.Expression.{Expression}
+use Rattle.sparql_expressions.specs.ExpressionGrammar.{Constraint, Expressions_at}
 use Rattle.sparql_grammar.specs.declared.tree.Element.{Element}
 use Rattle.sparql_grammar.specs.declared.tree.Element.TheVariants as e
 use Rattle.sparql_grammar.specs.declared.tree.Group.{Group}
 use Rattle.sparql_grammar.specs.declared.tree.Member.{Member}
 use Rattle.sparql_grammar.specs.declared.tree.Member.TheVariants as m
 use Rattle.sparql_grammar.specs.declared.tree.Triples.{Triples}
-use Rattle.sparql_grammar.specs.Grammar.{AVarOrIri}
+use Rattle.sparql_grammar.specs.Grammar.{AVarOrIri, Nodes_at, Perhaps, TriplesTemplate}
 use Rattle.sparql_grammar.specs.GroupReading.{group_with}
 use Rattle.sparql_terminals.specs.Lexemes.{Derives}
-use Rattle.sparql_grammar.specs.OperationGrammar.{Perhaps}
 
 -- TriplesBlock?, which is TriplesTemplate? (52) where no path stands: 55: TriplesBlock = TriplesSameSubjectPath ( "." TriplesBlock? )?
 abbrev pub MaybeBlock : Derives (List Triples) → Derives (Option Element)
@@ -82,3 +82,7 @@ module _ (Block : Derives (List Triples)) (Constraint' : Derives Expression) (Gr
 abbrev pub Groups_at : Derives (List Triples) → Derives Expression → ℕ → Derives Group
 Groups_at Block Constraint' zero ts x us = ⊥
 Groups_at Block Constraint' (suc depth) ts x us = GroupGraphPattern Block Constraint' (Groups_at Block Constraint' depth) ts x us
+
+-- A group in which the brackets of triples, the parentheses of constraints and other groups nest no deeper.
+abbrev pub GroupAt : ℕ → Derives Group
+GroupAt depth = Groups_at (TriplesTemplate (Nodes_at depth)) (Constraint (Expressions_at depth)) (suc depth)

@@ -7,6 +7,7 @@ use Rattle.rdf_grammar.specs.Readings.{any, one, optional, repeat}
 use Rattle.sparql_terminals.specs.declared.terminal.Terminal.{Terminal}
 use Rattle.sparql_terminals.specs.declared.terminal.Terminal.TheVariants as terminal
 use Rattle.sparql_expressions.specs.declared.tree.Expression.{Expression}
+use Rattle.sparql_expressions.specs.ExpressionReading.{constraint}
 use Rattle.sparql_grammar.specs.declared.tree.Element.{Element}
 use Rattle.sparql_grammar.specs.declared.tree.Element.TheVariants as e
 use Rattle.sparql_grammar.specs.declared.tree.Group.{Group}
@@ -14,8 +15,7 @@ use Rattle.sparql_grammar.specs.declared.tree.Member.{Member}
 use Rattle.sparql_grammar.specs.declared.tree.Member.TheVariants as m
 use Rattle.sparql_grammar.specs.declared.tree.Triples.{Triples}
 use Rattle.sparql_terminals.specs.Lexemes.{Reading, Test, sees, the}
-use Rattle.sparql_grammar.specs.OperationReading.{perhaps}
-use Rattle.sparql_grammar.specs.Reading.{sees_node, var_or_iri}
+use Rattle.sparql_grammar.specs.Reading.{in_data, node, perhaps, sees_node, triples_template, var_or_iri}
 
 -- ---- a group by what is written in it
 
@@ -124,3 +124,17 @@ module _ (block : Reading (List Triples)) (constraint : Reading Expression) (gro
 unfoldable pub group : Reading (List Triples) → Reading Expression → ℕ → Reading Group
 group block constraint zero = none
 group block constraint (suc depth) = group_graph_pattern block constraint (group block constraint depth)
+
+-- A group in which the brackets of triples, the parentheses of constraints and other groups nest no deeper.
+abbrev pub group_at : ℕ → Reading Group
+group_at depth = group (triples_template (node (suc depth))) (constraint depth) (suc depth)
+
+-- At most 100 brackets are open at once: a group, and the triples in it, or the parentheses of a constraint.
+abbrev pub in_filter : Reading Expression
+in_filter = constraint 99
+
+abbrev pub group_within : ℕ → Reading Group
+group_within = group in_data in_filter
+
+abbrev pub whole_group : Reading Group
+whole_group = group_within 100

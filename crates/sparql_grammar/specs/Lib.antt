@@ -10,6 +10,7 @@ pub mod PrologueGrammar
 pub mod PrologueReading
 pub mod Proper
 pub mod QuadGroups
+pub mod QuadLaws
 pub mod QueryGrammar
 pub mod QueryLaws
 pub mod QueryReading

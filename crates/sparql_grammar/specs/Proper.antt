@@ -3,6 +3,7 @@
 use Rattle.std.specs.Prelude.{Bool, true, false, ◌&&◌, ◌||◌, List, [], ◌∷◌, map, Option, Some, None}
 use Rattle.std.specs.List.{list_all}
 use Rattle.rdf_grammar.specs.Literals.{proper_literal}
+use Rattle.rdf_grammar.specs.declared.tree.Name.{Name}
 use Rattle.rdf_grammar.specs.Prologue.{is_proper}
 use Rattle.sparql_expressions.specs.ProperExpressions.{proper_expression}
 use Rattle.sparql_grammar.specs.declared.tree.Block.{Block}
@@ -16,6 +17,7 @@ use Rattle.sparql_grammar.specs.declared.tree.Group.{Group}
 use Rattle.sparql_grammar.specs.declared.tree.Member.{Member}
 use Rattle.sparql_grammar.specs.declared.tree.Member.TheOpen.{Group-F, Member-F}
 use Rattle.sparql_grammar.specs.declared.tree.Member.TheFolds.{fold-Group, fold-Member}
+use Rattle.sparql_grammar.specs.declared.tree.Modify.{Modify}
 use Rattle.sparql_grammar.specs.declared.tree.Node.{Node}
 use Rattle.sparql_grammar.specs.declared.tree.Node.TheOpen.{Node-F, Property-F}
 use Rattle.sparql_grammar.specs.declared.tree.Node.TheFolds.{fold-Node, fold-Property}
@@ -96,21 +98,7 @@ abbrev pub proper_graph_or_default : GraphOrDefault → Bool
 proper_graph_or_default one.Default = true
 proper_graph_or_default (one.Graph name) = is_proper name
 
-unfoldable pub proper_operation : Operation → Bool
-proper_operation (o.InsertData blocks) = list_all holds (map proper_block blocks)
-proper_operation (o.DeleteData blocks) = list_all holds (map proper_block blocks)
-proper_operation (o.Create silent graph) = is_proper graph
-proper_operation (o.Clear silent graphs) = proper_graph_ref_all graphs
-proper_operation (o.Drop silent graphs) = proper_graph_ref_all graphs
-proper_operation (o.Copy silent from to) = proper_graph_or_default from && proper_graph_or_default to
-proper_operation (o.Move silent from to) = proper_graph_or_default from && proper_graph_or_default to
-proper_operation (o.Add silent from to) = proper_graph_or_default from && proper_graph_or_default to
-
-abbrev pub proper_part : Part → Bool
-proper_part (p.Operation operation) = proper_operation operation
-proper_part _ = true
-
--- ---- groups and queries
+-- ---- groups
 
 -- triples that stand together are one or more, and so are groups with UNION between them
 abbrev pub proper_member_of : Member-F Bool Bool → Bool
@@ -127,6 +115,38 @@ proper_group = fold-Group Bool Bool proper_member_of proper_group_of
 
 abbrev pub proper_member : Member → Bool
 proper_member = fold-Member Bool Bool proper_member_of proper_group_of
+
+-- ---- operations
+
+abbrev pub proper_blocks : List Block → Bool
+proper_blocks blocks = list_all holds (map proper_block blocks)
+
+abbrev pub proper_graph_name : Option Name → Bool
+proper_graph_name None = true
+proper_graph_name (Some name) = is_proper name
+
+-- the name of WITH, both templates and the group
+abbrev pub proper_modify : Modify → Bool
+proper_modify m =
+    proper_graph_name m.with && (proper_blocks m.delete && (proper_blocks m.insert && proper_group m.group))
+
+unfoldable pub proper_operation : Operation → Bool
+proper_operation (o.InsertData blocks) = proper_blocks blocks
+proper_operation (o.DeleteData blocks) = proper_blocks blocks
+proper_operation (o.DeleteWhere blocks) = proper_blocks blocks
+proper_operation (o.Modify m) = proper_modify m
+proper_operation (o.Create silent graph) = is_proper graph
+proper_operation (o.Clear silent graphs) = proper_graph_ref_all graphs
+proper_operation (o.Drop silent graphs) = proper_graph_ref_all graphs
+proper_operation (o.Copy silent from to) = proper_graph_or_default from && proper_graph_or_default to
+proper_operation (o.Move silent from to) = proper_graph_or_default from && proper_graph_or_default to
+proper_operation (o.Add silent from to) = proper_graph_or_default from && proper_graph_or_default to
+
+abbrev pub proper_part : Part → Bool
+proper_part (p.Operation operation) = proper_operation operation
+proper_part _ = true
+
+-- ---- queries
 
 -- SELECT names a variable, or all
 abbrev pub proper_columns : Columns → Bool

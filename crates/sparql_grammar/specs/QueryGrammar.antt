@@ -1,19 +1,17 @@
 -- Queries as they are written (SPARQL 1.1 Query, section 19.8, by the numbers of its rules), with no look at the next lexeme.
-use Rattle.std.specs.Prelude.{ℕ, suc, List, [], ◌∷◌}
+use Rattle.std.specs.Prelude.{ℕ, List, [], ◌∷◌}
 use Rattle.rdf_grammar.specs.Derivations.{◌>>=◌, ◌>>◌, ◌<$>◌, ◌∣◌, pure, the, one, Star}
 use Rattle.rdf_grammar.specs.Terminals.{Piece}
 use Rattle.sparql_terminals.specs.declared.terminal.Terminal.TheVariants as terminal
-use Rattle.sparql_expressions.specs.ExpressionGrammar.{Constraint, Expressions_at}
 use Rattle.sparql_grammar.specs.declared.tree.Columns.{Columns}
 use Rattle.sparql_grammar.specs.declared.tree.Columns.TheVariants as c
 use Rattle.sparql_grammar.specs.declared.tree.Group.{Group}
 use Rattle.sparql_grammar.specs.declared.tree.Query.{Query}
 use Rattle.sparql_grammar.specs.declared.tree.QueryForm.{QueryForm}
 use Rattle.sparql_grammar.specs.declared.tree.QueryForm.TheVariants as form
-use Rattle.sparql_grammar.specs.Grammar.{Nodes_at, TriplesTemplate, Var}
-use Rattle.sparql_grammar.specs.GroupGrammar.{Groups_at}
+use Rattle.sparql_grammar.specs.Grammar.{Perhaps, Var}
+use Rattle.sparql_grammar.specs.GroupGrammar.{GroupAt}
 use Rattle.sparql_terminals.specs.Lexemes.{Lexemes, Derives}
-use Rattle.sparql_grammar.specs.OperationGrammar.{Perhaps}
 use Rattle.sparql_grammar.specs.PrologueGrammar.{Prologue}
 use Rattle.sparql_grammar.specs.QueryReading.{query_with}
 
@@ -58,5 +56,4 @@ module _ (Group' : Derives Group) where
 
 -- All of the lexemes are this query. Its brackets may nest as deep as they do.
 abbrev pub IsQuery : Lexemes → Query → Type 0
-IsQuery ts query =
-    (depth : ℕ) × AQuery (Groups_at (TriplesTemplate (Nodes_at depth)) (Constraint (Expressions_at depth)) (suc depth)) ts query []
+IsQuery ts query = (depth : ℕ) × AQuery (GroupAt depth) ts query []

@@ -1,13 +1,11 @@
 -- Queries (SPARQL 1.1 Query, section 19.8), a definition for each production. Where a production has alternatives the next lexeme
 -- chooses.
-use Rattle.std.specs.Prelude.{ℕ, List, ◌∷◌, Option, Some}
+use Rattle.std.specs.Prelude.{List, ◌∷◌, Option, Some}
 use Rattle.rdf_grammar.specs.Steps.{◌>>=◌, ◌>>◌, ◌<$>◌, pure, none}
 use Rattle.rdf_grammar.specs.Terminals.{Piece, peek}
 use Rattle.rdf_grammar.specs.Readings.{any, choose, is_more, one, repeat}
 use Rattle.sparql_terminals.specs.declared.terminal.Terminal.{Terminal}
 use Rattle.sparql_terminals.specs.declared.terminal.Terminal.TheVariants as terminal
-use Rattle.sparql_expressions.specs.declared.tree.Expression.{Expression}
-use Rattle.sparql_expressions.specs.ExpressionReading.{constraint}
 use Rattle.sparql_grammar.specs.declared.tree.Columns.{Columns}
 use Rattle.sparql_grammar.specs.declared.tree.Columns.TheVariants as c
 use Rattle.sparql_grammar.specs.declared.tree.Declaration.{Declaration}
@@ -15,10 +13,10 @@ use Rattle.sparql_grammar.specs.declared.tree.Group.{Group}
 use Rattle.sparql_grammar.specs.declared.tree.Query.{Query}
 use Rattle.sparql_grammar.specs.declared.tree.QueryForm.{QueryForm}
 use Rattle.sparql_grammar.specs.declared.tree.QueryForm.TheVariants as form
-use Rattle.sparql_grammar.specs.GroupReading.{group}
+use Rattle.sparql_grammar.specs.GroupReading.{whole_group}
 use Rattle.sparql_terminals.specs.Lexemes.{Reading, sees, value}
-use Rattle.sparql_grammar.specs.OperationReading.{in_data, perhaps}
 use Rattle.sparql_grammar.specs.PrologueReading.{prologue}
+use Rattle.sparql_grammar.specs.Reading.{perhaps}
 
 abbrev pub query_with : List Declaration → QueryForm → Query
 query_with prologue form = record { prologue = prologue; form = form }
@@ -76,16 +74,6 @@ module _ (group : Reading Group) where
     form ← query_form
     at_end
     pure (query_with prologue form)
-
--- At most 100 brackets are open at once: a group, and the triples in it, or the parentheses of a constraint.
-abbrev pub in_filter : Reading Expression
-in_filter = constraint 99
-
-abbrev pub group_within : ℕ → Reading Group
-group_within = group in_data in_filter
-
-abbrev pub whole_group : Reading Group
-whole_group = group_within 100
 
 abbrev pub whole_query : Reading Query
 whole_query = query whole_group

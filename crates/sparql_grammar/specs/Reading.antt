@@ -18,6 +18,10 @@ use Rattle.sparql_terminals.specs.Lexemes.{Reading, Test, sees, the, value}
 use Rattle.sparql_grammar.specs.Proper.{stands_alone}
 use Rattle.sparql_terminals.specs.WordReading.{iri, literal}
 
+-- a lexeme of this terminal, if it comes next, and whether it does
+abbrev pub perhaps : Terminal → Reading Bool
+perhaps k = λ ts. Some (sees k ts, if sees k ts then next ts else ts)
+
 -- VarOrIri = Var | iri
 abbrev pub var_or_iri_by : Option Terminal → Reading VarOrIri
 var_or_iri_by (Some terminal.Variable) = i.Variable <$> value terminal.Variable
@@ -171,3 +175,7 @@ module _ (node : Reading Node) where
     others ← repeat sees_another (one (the terminal.Dot >> same_subject))
     optional (sees terminal.Dot) (the terminal.Dot)
     pure (first ∷ others)
+
+-- At most 100 brackets are open at once: triples in braces.
+abbrev pub in_data : Reading (List Triples)
+in_data = triples_template (node 100)

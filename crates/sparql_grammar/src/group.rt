@@ -3,8 +3,8 @@
 ghost use Rattle.std.specs.Prelude.{◌≡◌, ◌≤◌, ◌<◌, length, OnOk};
 ghost use Rattle.rdf_grammar.specs.Readings.{Reads};
 ghost use Rattle.sparql_grammar.specs.GroupReading as spec;
-ghost use Rattle.sparql_grammar.specs.OperationReading.{in_data};
-ghost use Rattle.sparql_grammar.specs.QueryReading.{group_within, in_filter};
+ghost use Rattle.sparql_grammar.specs.GroupReading.{group_within, in_filter};
+ghost use Rattle.sparql_grammar.specs.Reading.{in_data};
 
 use crate::body::Body;
 use crate::grammar::{begins_node, triples_template, var_or_iri};

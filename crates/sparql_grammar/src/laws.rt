@@ -1,5 +1,6 @@
 //! What holds of each request, each query and their trees.
 ghost use Rattle.sparql_grammar.specs.GroupLaws.{FiltersStandApart, PatternsDivide, TriplesStandTogether};
+ghost use Rattle.sparql_grammar.specs.QuadLaws.{QuadsAreGroups, QuadsAreOneGroup};
 ghost use Rattle.sparql_grammar.specs.QueryLaws.{OneQuery, QueriesAreProper};
 ghost use Rattle.sparql_grammar.specs.RequestLaws.{OneRequest, RequestsAreProper};
 
@@ -36,4 +37,12 @@ pub fn filters_end_no_triples()
     ensures together { TriplesStandTogether }
     ensures divided { PatternsDivide }
     ensures apart { FiltersStandApart }
+{}
+
+/// Where lexemes are quads in braces (SPARQL 1.1 Query, section 19.8, rule 48: QuadPattern), they
+/// are also a group (rule 53: GroupGraphPattern), and one group alone. So what DELETE WHERE deletes
+/// is also the pattern that it asks for (SPARQL 1.1 Update, section 3.1.3.3).
+pub fn quads_are_groups()
+    ensures found { QuadsAreGroups }
+    ensures only { QuadsAreOneGroup }
 {}

@@ -14,7 +14,7 @@ mod tree;
 mod update;
 
 pub use laws::{
-    filters_end_no_triples, one_query_tree, one_request_tree, queries_are_proper,
+    filters_end_no_triples, one_query_tree, one_request_tree, quads_are_groups, queries_are_proper,
     requests_are_proper,
 };
 pub use query::parse_query;

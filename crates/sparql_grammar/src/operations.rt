@@ -2,13 +2,16 @@
 
 ghost use Rattle.std.specs.Prelude.{◌≡◌, ◌≤◌, ◌<◌, length, [], OnOk};
 ghost use Rattle.rdf_grammar.specs.Readings.{Reads};
+ghost use Rattle.sparql_terminals.specs.declared.terminal.Terminal.TheVariants as terminal;
+ghost use Rattle.sparql_grammar.specs.GroupReading.{whole_group};
 ghost use Rattle.sparql_grammar.specs.OperationReading as spec;
-ghost use Rattle.sparql_grammar.specs.Reading.{node, triples_template};
+ghost use Rattle.sparql_grammar.specs.Reading.{in_data, node, triples_template};
 ghost use Rattle.sparql_grammar.specs.declared.tree.Operation.TheVariants as operation;
 
 use crate::grammar::{begins_node, triples_template, var_or_iri};
+use crate::group::group;
 use crate::prologue::{begins_declaration, declaration};
-use crate::tree::{Block, GraphOrDefault, GraphRefAll, Name, Operation, Part, Triples};
+use crate::tree::{Block, GraphOrDefault, GraphRefAll, Modify, Name, Operation, Part, Triples};
 use rdf_grammar::{GrammarFault, MAX_OPEN, iri};
 use rdf_terms::Items;
 use sparql_terminals::{Parser, Terminal};
@@ -71,60 +74,70 @@ fn create<'a>(parser: &mut Parser<'_, 'a>) -> Result<Operation<'a>, GrammarFault
     Ok(Operation::Create { silent, graph })
 }
 
+// What CLEAR and DROP act on.
 #[tactic(auto, unfolding(crate::specs::OperationReading::on_graphs))]
-fn clear<'a>(parser: &mut Parser<'_, 'a>) -> Result<Operation<'a>, GrammarFault>
-    ensures reads { Reads (spec.on_graphs operation.Clear parser.old) result parser.new }
+fn on_graphs<'a>(parser: &mut Parser<'_, 'a>) -> Result<(bool, GraphRefAll<'a>), GrammarFault>
+    ensures reads { Reads (spec.on_graphs parser.old) result parser.new }
     ensures shorter { OnOk result (length parser.new < length parser.old) }
 {
     let silent = parser.eat(Terminal::Silent);
     let graphs = graph_ref_all(parser)?;
-    Ok(Operation::Clear { silent, graphs })
+    Ok((silent, graphs))
 }
 
-#[tactic(auto, unfolding(crate::specs::OperationReading::on_graphs))]
-fn drop<'a>(parser: &mut Parser<'_, 'a>) -> Result<Operation<'a>, GrammarFault>
-    ensures reads { Reads (spec.on_graphs operation.Drop parser.old) result parser.new }
-    ensures shorter { OnOk result (length parser.new < length parser.old) }
-{
-    let silent = parser.eat(Terminal::Silent);
-    let graphs = graph_ref_all(parser)?;
-    Ok(Operation::Drop { silent, graphs })
-}
-
+// Where COPY, MOVE and ADD take from and bring to.
 #[tactic(auto, unfolding(crate::specs::OperationReading::between))]
-fn copy<'a>(parser: &mut Parser<'_, 'a>) -> Result<Operation<'a>, GrammarFault>
-    ensures reads { Reads (spec.between operation.Copy parser.old) result parser.new }
+fn between<'a>(
+    parser: &mut Parser<'_, 'a>,
+) -> Result<(bool, GraphOrDefault<'a>, GraphOrDefault<'a>), GrammarFault>
+    ensures reads { Reads (spec.between parser.old) result parser.new }
     ensures shorter { OnOk result (length parser.new < length parser.old) }
 {
     let silent = parser.eat(Terminal::Silent);
     let from = graph_or_default(parser)?;
     parser.expect(Terminal::To)?;
     let to = graph_or_default(parser)?;
-    Ok(Operation::Copy { silent, from, to })
+    Ok((silent, from, to))
 }
 
-#[tactic(auto, unfolding(crate::specs::OperationReading::between))]
-fn move_between<'a>(parser: &mut Parser<'_, 'a>) -> Result<Operation<'a>, GrammarFault>
-    ensures reads { Reads (spec.between operation.Move parser.old) result parser.new }
+// An operation on whole graphs.
+#[tactic(auto, unfolding(crate::specs::OperationReading::management, rdf_grammar::specs::Readings::any))]
+fn management<'a>(parser: &mut Parser<'_, 'a>) -> Result<Operation<'a>, GrammarFault>
+    ensures reads { Reads (spec.management parser.old) result parser.new }
     ensures shorter { OnOk result (length parser.new < length parser.old) }
 {
-    let silent = parser.eat(Terminal::Silent);
-    let from = graph_or_default(parser)?;
-    parser.expect(Terminal::To)?;
-    let to = graph_or_default(parser)?;
-    Ok(Operation::Move { silent, from, to })
-}
-
-#[tactic(auto, unfolding(crate::specs::OperationReading::between))]
-fn add<'a>(parser: &mut Parser<'_, 'a>) -> Result<Operation<'a>, GrammarFault>
-    ensures reads { Reads (spec.between operation.Add parser.old) result parser.new }
-    ensures shorter { OnOk result (length parser.new < length parser.old) }
-{
-    let silent = parser.eat(Terminal::Silent);
-    let from = graph_or_default(parser)?;
-    parser.expect(Terminal::To)?;
-    let to = graph_or_default(parser)?;
-    Ok(Operation::Add { silent, from, to })
+    match parser.peek() {
+        Some(Terminal::Create) => {
+            parser.pass();
+            create(parser)
+        }
+        Some(Terminal::Clear) => {
+            parser.pass();
+            let (silent, graphs) = on_graphs(parser)?;
+            Ok(Operation::Clear { silent, graphs })
+        }
+        Some(Terminal::Drop) => {
+            parser.pass();
+            let (silent, graphs) = on_graphs(parser)?;
+            Ok(Operation::Drop { silent, graphs })
+        }
+        Some(Terminal::Copy) => {
+            parser.pass();
+            let (silent, from, to) = between(parser)?;
+            Ok(Operation::Copy { silent, from, to })
+        }
+        Some(Terminal::Move) => {
+            parser.pass();
+            let (silent, from, to) = between(parser)?;
+            Ok(Operation::Move { silent, from, to })
+        }
+        Some(Terminal::Add) => {
+            parser.pass();
+            let (silent, from, to) = between(parser)?;
+            Ok(Operation::Add { silent, from, to })
+        }
+        _ => Err(GrammarFault::Syntax),
+    }
 }
 
 #[tactic(auto, unfolding(crate::specs::OperationReading::triples))]
@@ -144,7 +157,7 @@ fn triples<'a>(
 
 #[tactic(auto, unfolding(crate::specs::OperationReading::default_block))]
 fn default_block<'a>(parser: &mut Parser<'_, 'a>) -> Result<Block<'a>, GrammarFault>
-    ensures reads { Reads (spec.default_block spec.in_data parser.old) result parser.new }
+    ensures reads { Reads (spec.default_block in_data parser.old) result parser.new }
     ensures shorter { OnOk result (length parser.new ≤ length parser.old) }
 {
     Ok(Block {
@@ -171,7 +184,7 @@ fn named_block<'a>(parser: &mut Parser<'_, 'a>) -> Result<Block<'a>, GrammarFaul
 
 #[tactic(auto, unfolding(crate::specs::OperationReading::quads))]
 fn quads<'a>(parser: &mut Parser<'_, 'a>) -> Result<Items<Block<'a>>, GrammarFault>
-    ensures reads { Reads (spec.quads spec.in_data spec.in_graph parser.old) result parser.new }
+    ensures reads { Reads (spec.quads in_data spec.in_graph parser.old) result parser.new }
     ensures shorter { OnOk result (length parser.new ≤ length parser.old) }
 {
     let mut blocks = Items::new(parser.alloc());
@@ -184,9 +197,9 @@ fn quads<'a>(parser: &mut Parser<'_, 'a>) -> Result<Items<Block<'a>>, GrammarFau
     Ok(blocks)
 }
 
-#[tactic(auto, unfolding(crate::specs::OperationReading::quad_data))]
-fn quad_data<'a>(parser: &mut Parser<'_, 'a>) -> Result<Items<Block<'a>>, GrammarFault>
-    ensures reads { Reads (spec.quad_data spec.in_data spec.in_graph parser.old) result parser.new }
+#[tactic(auto, unfolding(crate::specs::OperationReading::quad_pattern))]
+fn quad_pattern<'a>(parser: &mut Parser<'_, 'a>) -> Result<Items<Block<'a>>, GrammarFault>
+    ensures reads { Reads (spec.quad_pattern in_data spec.in_graph parser.old) result parser.new }
     ensures shorter { OnOk result (length parser.new < length parser.old) }
 {
     parser.expect(Terminal::OpenBrace)?;
@@ -198,71 +211,113 @@ fn quad_data<'a>(parser: &mut Parser<'_, 'a>) -> Result<Items<Block<'a>>, Gramma
 #[tactic(auto, unfolding(crate::specs::OperationReading::data_of))]
 fn insert_data<'a>(parser: &mut Parser<'_, 'a>) -> Result<Operation<'a>, GrammarFault>
     ensures reads { Reads
-        (spec.data_of spec.in_data spec.in_graph operation.InsertData parser.old)
+        (spec.data_of in_data spec.in_graph terminal.Insert operation.InsertData parser.old)
         result parser.new }
     ensures shorter { OnOk result (length parser.new < length parser.old) }
 {
+    parser.expect(Terminal::Insert)?;
     parser.expect(Terminal::Data)?;
-    Ok(Operation::InsertData(quad_data(parser)?))
+    Ok(Operation::InsertData(quad_pattern(parser)?))
 }
 
 #[tactic(auto, unfolding(crate::specs::OperationReading::data_of))]
 fn delete_data<'a>(parser: &mut Parser<'_, 'a>) -> Result<Operation<'a>, GrammarFault>
     ensures reads { Reads
-        (spec.data_of spec.in_data spec.in_graph operation.DeleteData parser.old)
+        (spec.data_of in_data spec.in_graph terminal.Delete operation.DeleteData parser.old)
         result parser.new }
     ensures shorter { OnOk result (length parser.new < length parser.old) }
 {
+    parser.expect(Terminal::Delete)?;
     parser.expect(Terminal::Data)?;
-    Ok(Operation::DeleteData(quad_data(parser)?))
+    Ok(Operation::DeleteData(quad_pattern(parser)?))
 }
 
-#[tactic(auto, unfolding(crate::specs::OperationReading::operation, rdf_grammar::specs::Readings::any))]
-fn operation<'a>(parser: &mut Parser<'_, 'a>) -> Result<Operation<'a>, GrammarFault>
-    ensures reads { Reads (spec.operation spec.in_data spec.in_graph parser.old) result parser.new }
+#[tactic(auto, unfolding(crate::specs::OperationReading::delete_where))]
+fn delete_where<'a>(parser: &mut Parser<'_, 'a>) -> Result<Operation<'a>, GrammarFault>
+    ensures reads { Reads (spec.delete_where in_data spec.in_graph parser.old) result parser.new }
+    ensures shorter { OnOk result (length parser.new < length parser.old) }
+{
+    parser.expect(Terminal::Delete)?;
+    parser.expect(Terminal::Where)?;
+    Ok(Operation::DeleteWhere(quad_pattern(parser)?))
+}
+
+#[tactic(auto, unfolding(crate::specs::OperationReading::insert_clause))]
+fn insert_clause<'a>(parser: &mut Parser<'_, 'a>) -> Result<Items<Block<'a>>, GrammarFault>
+    ensures reads { Reads (spec.insert_clause in_data spec.in_graph parser.old) result parser.new }
+    ensures shorter { OnOk result (length parser.new < length parser.old) }
+{
+    parser.expect(Terminal::Insert)?;
+    quad_pattern(parser)
+}
+
+// What is deleted, and what is inserted.
+#[tactic(auto, unfolding(crate::specs::OperationReading::templates, crate::specs::OperationReading::delete_clause))]
+fn templates<'a>(
+    parser: &mut Parser<'_, 'a>,
+) -> Result<(Items<Block<'a>>, Items<Block<'a>>), GrammarFault>
+    ensures reads { Reads (spec.templates in_data spec.in_graph parser.old) result parser.new }
     ensures shorter { OnOk result (length parser.new < length parser.old) }
 {
     match parser.peek() {
-        Some(Terminal::Insert) => {
-            parser.pass();
-            insert_data(parser)
-        }
         Some(Terminal::Delete) => {
-            parser.pass();
-            delete_data(parser)
+            parser.expect(Terminal::Delete)?;
+            let delete = quad_pattern(parser)?;
+            if !parser.sees(Terminal::Insert) {
+                return Ok((delete, Items::new(parser.alloc())));
+            }
+            Ok((delete, insert_clause(parser)?))
         }
-        Some(Terminal::Create) => {
-            parser.pass();
-            create(parser)
-        }
-        Some(Terminal::Clear) => {
-            parser.pass();
-            clear(parser)
-        }
-        Some(Terminal::Drop) => {
-            parser.pass();
-            drop(parser)
-        }
-        Some(Terminal::Copy) => {
-            parser.pass();
-            copy(parser)
-        }
-        Some(Terminal::Move) => {
-            parser.pass();
-            move_between(parser)
-        }
-        Some(Terminal::Add) => {
-            parser.pass();
-            add(parser)
-        }
-        _ => Err(GrammarFault::Syntax),
+        _ => Ok((Items::new(parser.alloc()), insert_clause(parser)?)),
+    }
+}
+
+#[tactic(auto, unfolding(crate::specs::OperationReading::modify, rdf_grammar::specs::Terminals::the))]
+fn modify<'a>(parser: &mut Parser<'_, 'a>) -> Result<Modify<'a>, GrammarFault>
+    ensures reads { Reads
+        (spec.modify in_data spec.in_graph whole_group parser.old) result parser.new }
+    ensures shorter { OnOk result (length parser.new < length parser.old) }
+{
+    let with = if parser.eat(Terminal::With) {
+        Some(iri(parser)?)
+    } else {
+        None
+    };
+    let (delete, insert) = templates(parser)?;
+    parser.expect(Terminal::Where)?;
+    Ok(Modify {
+        with,
+        delete,
+        insert,
+        group: group(parser, MAX_OPEN)?,
+    })
+}
+
+#[tactic(auto, unfolding(crate::specs::OperationReading::operation))]
+fn operation<'a>(parser: &mut Parser<'_, 'a>) -> Result<Operation<'a>, GrammarFault>
+    ensures reads { Reads
+        (spec.operation in_data spec.in_graph whole_group parser.old) result parser.new }
+    ensures shorter { OnOk result (length parser.new < length parser.old) }
+{
+    match parser.peek() {
+        Some(Terminal::Insert) => match parser.peek_second() {
+            Some(Terminal::Data) => insert_data(parser),
+            _ => Ok(Operation::Modify(modify(parser)?)),
+        },
+        Some(Terminal::Delete) => match parser.peek_second() {
+            Some(Terminal::Data) => delete_data(parser),
+            Some(Terminal::Where) => delete_where(parser),
+            _ => Ok(Operation::Modify(modify(parser)?)),
+        },
+        Some(Terminal::With) => Ok(Operation::Modify(modify(parser)?)),
+        _ => management(parser),
     }
 }
 
 #[tactic(auto, unfolding(crate::specs::OperationReading::ended_operation))]
 fn ended_operation<'a>(parser: &mut Parser<'_, 'a>) -> Result<Part<'a>, GrammarFault>
     ensures reads { Reads
-        (spec.ended_operation spec.in_data spec.in_graph parser.old) result parser.new }
+        (spec.ended_operation in_data spec.in_graph whole_group parser.old) result parser.new }
     ensures shorter { OnOk result (length parser.new < length parser.old) }
 {
     let operation = operation(parser)?;
@@ -274,7 +329,8 @@ fn ended_operation<'a>(parser: &mut Parser<'_, 'a>) -> Result<Part<'a>, GrammarF
 
 #[tactic(auto, unfolding(crate::specs::OperationReading::part))]
 fn part<'a>(parser: &mut Parser<'_, 'a>) -> Result<Part<'a>, GrammarFault>
-    ensures reads { Reads (spec.part spec.in_data spec.in_graph parser.old) result parser.new }
+    ensures reads { Reads
+        (spec.part in_data spec.in_graph whole_group parser.old) result parser.new }
     ensures shorter { OnOk result (length parser.new < length parser.old) }
 {
     if begins_declaration(parser.peek()) {

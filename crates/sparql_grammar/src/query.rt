@@ -3,7 +3,7 @@
 ghost use Rattle.std.specs.Prelude.{◌≡◌, ◌≤◌, ◌<◌, length, [], OnOk, IfOk, IfErr, IsErrAnd};
 ghost use Rattle.rdf_grammar.specs.Readings.{Reads};
 ghost use Rattle.sparql_grammar.specs.QueryReading as spec;
-ghost use Rattle.sparql_grammar.specs.QueryReading.{whole_group};
+ghost use Rattle.sparql_grammar.specs.GroupReading.{whole_group};
 ghost use Rattle.sparql_grammar.specs.QueryGrammar.{IsQuery};
 ghost use Rattle.sparql_grammar.specs.Nesting.{IsTooDeep};
 ghost use Rattle.sparql_grammar.specs.Stops.{ExplainsQuery};

@@ -76,8 +76,8 @@ never_graph text =
 never_keyword : (text : List ℕ) → is_either (keyword_terminal text) ≡ false
 never_keyword text =
     neither_way (is_word (codes "prefix") text) _ _ refl (neither_way (is_word (codes "base") text) _ _ refl (neither_way (is_word (codes "insert") text) _ _ refl
-    (neither_way (is_word (codes "delete") text) _ _ refl (neither_way (is_word (codes "data") text) _ _ refl (neither_way (is_word (codes "true") text) _ _ refl
-    (neither_way (is_word (codes "false") text) _ _ refl (never_graph text)))))))
+    (neither_way (is_word (codes "delete") text) _ _ refl (neither_way (is_word (codes "data") text) _ _ refl (neither_way (is_word (codes "with") text) _ _ refl
+    (neither_way (is_word (codes "true") text) _ _ refl (neither_way (is_word (codes "false") text) _ _ refl (never_graph text))))))))
 
 never_word : (text : List ℕ) → is_either (word_terminal text) ≡ false
 never_word text = neither_way (bytes_eq text (codes "a")) _ _ refl (never_keyword text)

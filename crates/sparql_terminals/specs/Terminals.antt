@@ -70,7 +70,7 @@ graph_terminal text =
     else if is_word (codes "add") text then terminal.Add
     else place_terminal text
 
--- declarations, data and truth values
+-- declarations, data, templates and truth values
 abbrev pub keyword_terminal : List ℕ → Terminal
 keyword_terminal text =
     if is_word (codes "prefix") text then terminal.Prefix
@@ -78,6 +78,7 @@ keyword_terminal text =
     else if is_word (codes "insert") text then terminal.Insert
     else if is_word (codes "delete") text then terminal.Delete
     else if is_word (codes "data") text then terminal.Data
+    else if is_word (codes "with") text then terminal.With
     else if is_word (codes "true") text then terminal.True
     else if is_word (codes "false") text then terminal.False
     else graph_terminal text

@@ -35,6 +35,7 @@ pub enum Terminal {
     Insert,
     Delete,
     Data,
+    With,
     Create,
     Clear,
     Drop,
@@ -213,6 +214,8 @@ fn keyword_terminal(text: &str) -> Terminal
         Terminal::Delete
     } else if is_word(text, "data") {
         Terminal::Data
+    } else if is_word(text, "with") {
+        Terminal::With
     } else if is_word(text, "true") {
         Terminal::True
     } else if is_word(text, "false") {
@@ -396,6 +399,7 @@ fn word(terminal: Terminal) -> Option<Word>
         | Terminal::Insert
         | Terminal::Delete
         | Terminal::Data
+        | Terminal::With
         | Terminal::Create
         | Terminal::Clear
         | Terminal::Drop

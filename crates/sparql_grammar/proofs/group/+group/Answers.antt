@@ -1,11 +1,10 @@
 use Rattle.std.proofs.Common.{arith, sym, ap, ◌∙◌}
 use Rattle.std.proofs.lemmas.Result.{err_from_is_err_and}
-use Rattle.rdf_grammar.proofs.Repeats.{grown_starts, grown_on, going_fails, fails_on, fails_first, fails_then, deeper}
+use Rattle.rdf_grammar.proofs.Repeats.{grown_starts, going_fails, fails_on, fails_first, fails_then, deeper}
 use Rattle.rdf_grammar.proofs.Terminals.{grown_behind, grown_fails_behind}
 use Rattle.sparql_terminals.specs.declared.terminal.Terminal.TheVariants as terminal
-use Rattle.sparql_grammar.specs.GroupReading.{begins_pattern, contents, group, group_or_union}
-use Rattle.sparql_grammar.specs.OperationReading.{in_data}
-use Rattle.sparql_grammar.specs.QueryReading.{group_within, in_filter}
+use Rattle.sparql_grammar.specs.GroupReading.{begins_pattern, contents, group, group_or_union, group_within, in_filter}
+use Rattle.sparql_grammar.specs.Reading.{in_data}
 use Rattle.sparql_terminals.specs.Terminals.{same_terminal}
 use Rattle.sparql_grammar.proofs.GroupTurns.{pattern_some, turn_reads, pattern_fails, block_fails, filled_starts, filled_on, contents_read}
 use Rattle.sparql_grammar.proofs.OperationTurns.{turn_shorter}

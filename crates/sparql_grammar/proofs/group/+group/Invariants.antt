@@ -4,8 +4,8 @@ use Rattle.rdf_grammar.specs.Readings.{one, repeat}
 use Rattle.rdf_grammar.proofs.Repeats.{Grown}
 use Rattle.sparql_terminals.specs.declared.terminal.Terminal.TheVariants as terminal
 use Rattle.sparql_terminals.specs.Lexemes.{sees, the}
-use Rattle.sparql_grammar.specs.OperationReading.{in_data}
-use Rattle.sparql_grammar.specs.QueryReading.{group_within, in_filter}
+use Rattle.sparql_grammar.specs.GroupReading.{group_within, in_filter}
+use Rattle.sparql_grammar.specs.Reading.{in_data}
 use Rattle.sparql_grammar.proofs.GroupTurns.{Filled}
 use Rattle.sparql_grammar.proofs.group.+group.Given as goal
 
