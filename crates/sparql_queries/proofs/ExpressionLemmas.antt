@@ -1,5 +1,5 @@
 -- A turn of each loop over expressions, and expressions of two parts.
-use Rattle.std.proofs.Common.{◌≡◌, ◌∙◌, ap, sym, subst, ℕ, ◌+◌, ◌<◌, List, [], ◌∷◌, ◌++◌, map, drop, length, get_or, suc, add-one, append_assoc, Option, Some, None, Bool, ◌&&◌, refl}
+use Rattle.std.proofs.Common.{◌≡◌, ◌∙◌, ap, sym, ℕ, ◌+◌, ◌<◌, List, [], ◌∷◌, ◌++◌, map, drop, length, get_or, suc, add-one, append_assoc, Option, Some, None, refl}
 use Rattle.std.specs.Prelude.{option_map}
 use Rattle.rdf_grammar.specs.declared.prologue.PrologueFault.{PrologueFault}
 use Rattle.rdf_grammar.specs.declared.prologue.PrologueFault.TheVariants.{UnknownPrefix, Relative, NoMemory}
@@ -9,9 +9,7 @@ use Rattle.sparql_expressions.specs.declared.tree.Expression as written
 use Rattle.sparql_expressions.specs.declared.tree.Expression.TheFolds.{fold-roll-Expression}
 use Rattle.sparql_expressions.specs.declared.tree.Expression.TheOpen.{Expression-F}
 use Rattle.sparql_expressions.specs.declared.tree.Expression.TheVariants as w
-use Rattle.sparql_queries.specs.Addends.{addend_in, each_value}
-use Rattle.sparql_grammar.specs.Proper.{holds}
-use Rattle.std.specs.List.{list_all}
+use Rattle.sparql_queries.specs.Addends.{addend_in}
 use Rattle.sparql_queries.specs.Expressions.{both, all, addend, expression_in, expression_of}
 use Rattle.sparql_trees.specs.declared.expression.Comparison.{Comparison}
 use Rattle.sparql_trees.specs.declared.expression.Expression.TheVariants as e

@@ -1,5 +1,5 @@
 -- A turn of each loop over groups and members, a group's FILTERs, and GRAPH's two parts.
-use Rattle.std.proofs.Common.{◌≡◌, ◌∙◌, ap, sym, subst, ℕ, suc, ◌+◌, ◌<◌, List, [], ◌∷◌, ◌++◌, map, drop, length, get_or, drop-cons, add-one, Option, Some, None, Result, Ok, Err, OnOk, Bool, true, false, leb, if◌then◌else◌, rules, refl}
+use Rattle.std.proofs.Common.{◌≡◌, ◌∙◌, ap, sym, subst, ℕ, suc, ◌+◌, ◌<◌, List, [], ◌∷◌, ◌++◌, map, drop, length, get_or, drop-cons, add-one, Option, Some, None, Result, Ok, Err, OnOk, Bool, true, false, leb, if◌then◌else◌, refl}
 use Rattle.std.specs.Option.{option_map}
 use Rattle.rdf_grammar.specs.Prologue.{Prologue}
 use Rattle.rdf_grammar.specs.Steps.{Outcome, Step, and_then, ◌>>=◌, pure}
@@ -7,6 +7,7 @@ use Rattle.rdf_grammar.specs.declared.prologue.PrologueFault.{PrologueFault}
 use Rattle.rdf_grammar.specs.declared.prologue.PrologueFault.TheVariants.{UnknownPrefix, Relative, NoMemory}
 use Rattle.sparql_drafts.specs.Kept.{Fails, Gives, Tells}
 use Rattle.sparql_grammar.specs.declared.tree.Group.{Group}
+use Rattle.sparql_grammar.specs.declared.tree.Member as written_member
 use Rattle.sparql_grammar.specs.declared.tree.Member.TheFolds.{fold-roll-Member, fold_out-Group}
 use Rattle.sparql_grammar.specs.declared.tree.Member.TheOpen.{Member-F}
 use Rattle.sparql_grammar.specs.declared.tree.Member.TheVariants as written
@@ -14,7 +15,7 @@ use Rattle.sparql_grammar.specs.declared.tree.VarOrIri as written_name
 use Rattle.sparql_queries.specs.Collected.{collected, collected_behind}
 use Rattle.sparql_queries.specs.Expressions.{all, expression_in}
 use Rattle.sparql_queries.specs.Faults.{place_of, grouped}
-use Rattle.sparql_queries.specs.Groups.{Does, Labels, asked, pattern_with, named, group, group_of, member_in, member_of}
+use Rattle.sparql_queries.specs.Groups.{Does, Labels, asked, graph_name, pattern_with, named, group, group_of, member_in, member_of}
 use Rattle.sparql_trees.specs.declared.expression.Expression.{Expression}
 use Rattle.sparql_trees.specs.declared.pattern.Member.{Member}
 use Rattle.sparql_trees.specs.declared.pattern.Member.TheVariants as member
@@ -83,13 +84,22 @@ unfolding said asked
 group_is p g s = ap (λ (does : Does Pattern). does s) (fold_out-Group (Does Member) (Does Pattern) (member_of p) (group_of p) g)
 
 -- a group is said where its members and its FILTERs are
-pub group_gives : (p q : Prologue) (g : Group) (s t u : Labels) (ms : Result (List Member) PrologueFault) (es : Result (List Expression) PrologueFault) (r : Result Pattern PrologueFault) → q ≡ p → t ≡ s
-    → Gives (collected (map (member_in q) g.members) t) ms u → Tells (all (map (expression_in p) g.filters)) es → r ≡ grouped ms es → Gives (group p g s) r u
-group_gives p q g s t u ms es r same kept h k is =
-    let at_p : Gives (collected (map (member_in p) g.members) t) ms u = subst (λ (x : Prologue). Gives (collected (map (member_in x) g.members) t) ms u) same h in
-    let at_s : Gives (collected (map (member_in p) g.members) s) ms u = subst (λ (l : Labels). Gives (collected (map (member_in p) g.members) l) ms u) kept at_p in
-    let gives : Gives (group p g s) (grouped ms es) u = rw group_is (said_gives (collected (map (member_in p) g.members) s) (all (map (expression_in p) g.filters)) u ms es at_s k) in
+pub group_gives : (p q : Prologue) (g : Group) (s u : Labels) (ms : Result (List Member) PrologueFault) (es : Result (List Expression) PrologueFault) (r : Result Pattern PrologueFault) → q ≡ p
+    → Gives (collected (map (member_in q) g.members) s) ms u → Tells (all (map (expression_in p) g.filters)) es → r ≡ grouped ms es → Gives (group p g s) r u
+group_gives p q g s u ms es r same h k is =
+    let at_p : Gives (collected (map (member_in p) g.members) s) ms u = subst (λ (x : Prologue). Gives (collected (map (member_in x) g.members) s) ms u) same h in
+    let gives : Gives (group p g s) (grouped ms es) u = rw group_is (said_gives (collected (map (member_in p) g.members) s) (all (map (expression_in p) g.filters)) u ms es at_p k) in
     subst (λ (x : Result Pattern PrologueFault). Gives (group p g s) x u) (sym is) gives
+
+-- a group without FILTERs is its members
+pub filterless : (p : Prologue) (members : List written_member.Member) (s u : Labels) (ms : List Member) → collected (map (member_in p) members) s ≡ Some (ms, u)
+    → group p (record { members = members; filters = [] }) s ≡ Some (pattern_with ms [], u)
+unfolding said
+filterless p members s u ms h =
+    group_is p (record { members = members; filters = [] }) s ∙ ap (λ (o : Outcome Labels (List Member)). said o (Some [])) h
+
+pub filterless_fails : (p : Prologue) (members : List written_member.Member) (s : Labels) (e : PrologueFault) → Fails (collected (map (member_in p) members) s) e → Fails (group p (record { members = members; filters = [] }) s) e
+filterless_fails p members s e h = rw group_is (members_fail (collected (map (member_in p) members) s) (Some []) e h)
 
 grouped_ok : (P : Type 0) (ms : Result (List Member) PrologueFault) (es : Result (List Expression) PrologueFault) → OnOk ms P → OnOk (grouped ms es) P
 grouped_ok P (Ok ms) (Ok es) h = h
@@ -109,21 +119,37 @@ graph_is p w g = ap (member_in p) (sym (written.rolls-Graph w g)) ∙ fold-roll-
 at_start : {A : Type 0} (f g : Does A) (s : Labels) → f ≡ g → f s ≡ g s
 at_start f g s e = ap (λ h. h s) e
 
-pub graph_said : (p q : Prologue) (w : written_name.VarOrIri) (g : Group) (s u v : Labels) (name : VarOrIri) (pattern : Pattern) → q ≡ p → named p w s ≡ Some (name, u) → group q g u ≡ Some (pattern, v)
+named_is : (p : Prologue) (w : written_name.VarOrIri) (s : Labels) (name : VarOrIri) → graph_name p w ≡ Some name → named p w s ≡ Some (name, s)
+unfolding named
+named_is p w s name h = ap (λ (o : Option VarOrIri). option_map (λ n. (n, s)) o) h
+
+named_as : (p : Prologue) (w : written_name.VarOrIri) (g : Group) (s : Labels) (name : VarOrIri) → graph_name p w ≡ Some name
+    → member_in p (written.Graph w g) s ≡ and_then (group p g s) (λ t. pure (member.Graph name t))
+named_as p w g s name h =
+    at_start (member_in p (written.Graph w g)) (member_of p (Member-F.Graph w (group p g))) s (graph_is p w g)
+    ∙ ap (λ (o : Outcome Labels VarOrIri). and_then o (λ n. group p g >>= (λ t. pure (member.Graph n t)))) (named_is p w s name h)
+
+pub graph_said : (p q : Prologue) (w : written_name.VarOrIri) (g : Group) (s v : Labels) (name : VarOrIri) (pattern : Pattern) → q ≡ p → graph_name p w ≡ Some name → group q g s ≡ Some (pattern, v)
     → member_in p (written.Graph w g) s ≡ Some (member.Graph name pattern, v)
-graph_said p q w g s u v name pattern same h k =
-    at_start (member_in p (written.Graph w g)) (member_of p (Member-F.Graph w (group p g))) s (graph_is p w g)
-    ∙ ap (λ (o : Outcome Labels VarOrIri). and_then o (λ n. group p g >>= (λ t. pure (member.Graph n t)))) h
-    ∙ ap (λ (o : Outcome Labels Pattern). and_then o (λ t. pure (member.Graph name t))) (subst (λ (x : Prologue). group x g u ≡ Some (pattern, v)) same k)
+graph_said p q w g s v name pattern same h k =
+    named_as p w g s name h ∙ ap (λ (o : Outcome Labels Pattern). and_then o (λ t. pure (member.Graph name t))) (subst (λ (x : Prologue). group x g s ≡ Some (pattern, v)) same k)
 
-none_said : (p : Prologue) (w : written_name.VarOrIri) (g : Group) (s u : Labels) (name : VarOrIri) → named p w s ≡ Some (name, u) → group p g u ≡ None → member_in p (written.Graph w g) s ≡ None
-none_said p w g s u name h k =
-    at_start (member_in p (written.Graph w g)) (member_of p (Member-F.Graph w (group p g))) s (graph_is p w g)
-    ∙ ap (λ (o : Outcome Labels VarOrIri). and_then o (λ n. group p g >>= (λ t. pure (member.Graph n t)))) h
-    ∙ ap (λ (o : Outcome Labels Pattern). and_then o (λ t. pure (member.Graph name t))) k
+none_said : (p : Prologue) (w : written_name.VarOrIri) (g : Group) (s : Labels) (name : VarOrIri) → graph_name p w ≡ Some name → group p g s ≡ None → member_in p (written.Graph w g) s ≡ None
+none_said p w g s name h k = named_as p w g s name h ∙ ap (λ (o : Outcome Labels Pattern). and_then o (λ t. pure (member.Graph name t))) k
 
-pub graph_fails : (p q : Prologue) (w : written_name.VarOrIri) (g : Group) (s u : Labels) (name : VarOrIri) (e : PrologueFault) → q ≡ p → named p w s ≡ Some (name, u) → Fails (group q g u) e
+pub graph_fails : (p q : Prologue) (w : written_name.VarOrIri) (g : Group) (s : Labels) (name : VarOrIri) (e : PrologueFault) → q ≡ p → graph_name p w ≡ Some name → Fails (group q g s) e
     → Fails (member_in p (written.Graph w g) s) e
-graph_fails p q w g s u name (NoMemory refused) same h k = tt
-graph_fails p q w g s u name (Relative start) same h k = none_said p w g s u name h (subst (λ (x : Prologue). group x g u ≡ None) same k)
-graph_fails p q w g s u name (UnknownPrefix start) same h k = k
+graph_fails p q w g s name (NoMemory refused) same h k = tt
+graph_fails p q w g s name (Relative start) same h k = none_said p w g s name h (subst (λ (x : Prologue). group x g s ≡ None) same k)
+graph_fails p q w g s name (UnknownPrefix start) same h k = k
+
+named_none : (p : Prologue) (w : written_name.VarOrIri) (s : Labels) → graph_name p w ≡ None → named p w s ≡ None
+unfolding named
+named_none p w s h = ap (λ (o : Option VarOrIri). option_map (λ n. (n, s)) o) h
+
+pub name_fails : (p : Prologue) (w : written_name.VarOrIri) (g : Group) (s : Labels) (e : PrologueFault) → Fails (graph_name p w) e → Fails (member_in p (written.Graph w g) s) e
+name_fails p w g s (NoMemory refused) h = tt
+name_fails p w g s (Relative start) h =
+    at_start (member_in p (written.Graph w g)) (member_of p (Member-F.Graph w (group p g))) s (graph_is p w g)
+    ∙ ap (λ (o : Outcome Labels VarOrIri). and_then o (λ n. group p g >>= (λ t. pure (member.Graph n t)))) (named_none p w s h)
+name_fails p w g s (UnknownPrefix start) h = h

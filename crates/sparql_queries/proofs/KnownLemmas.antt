@@ -1,5 +1,5 @@
 -- The names of a sum by those of its operands, and those of a group by its members and its FILTERs.
-use Rattle.std.proofs.Common.{◌≡◌, ◌∙◌, ap, sym, ℕ, List, [], ◌∷◌, map, Bool, ◌&&◌, Option, Some, None, refl, rules}
+use Rattle.std.proofs.Common.{◌≡◌, ◌∙◌, ap, sym, ℕ, List, [], ◌∷◌, map, Bool, ◌&&◌, Option, Some, None, refl}
 use Rattle.std.specs.List.{list_all}
 use Rattle.std.proofs.lemmas.List.Folds.{list_all-map}
 use Rattle.sparql_drafts.specs.Known.{is_none}
@@ -25,7 +25,7 @@ none_of_both (Some a) (Some b) = refl
 pub all_hold : {A : Type 0} (f : A → Bool) (xs : List A) → list_all holds (map f xs) ≡ list_all f xs
 all_hold f xs = list_all-map holds f xs
 
-known_group_is : (declared : List (List ℕ)) (g : Group) → known_group declared g ≡ (list_all holds (map (known_member declared) g.members) && list_all (known_expression declared) g.filters)
+pub known_group_is : (declared : List (List ℕ)) (g : Group) → known_group declared g ≡ (list_all holds (map (known_member declared) g.members) && list_all (known_expression declared) g.filters)
 known_group_is declared g = fold_out-Group Bool Bool (known_member_of declared) (known_group_of declared) g
 
 pub group_unknown : (declared : List (List ℕ)) (g : Group) (a b r : Option ℕ) → is_none a ≡ list_all holds (map (known_member declared) g.members) → is_none b ≡ list_all holds (map (known_expression declared) g.filters) → r ≡ first_place a b

@@ -1,5 +1,7 @@
+pub mod CallerLemmas
 pub mod ExpressionLemmas
 pub mod GroupLemmas
 pub mod KnownLemmas
 pub mod NameLemmas
+pub mod QuadLemmas
 pub mod QueryLemmas

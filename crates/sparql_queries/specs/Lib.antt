@@ -5,4 +5,5 @@ pub mod Faults
 pub mod Groups
 pub mod Known
 pub mod Queries
+pub mod Templates
 pub mod Variables

@@ -18,7 +18,7 @@ pub(crate) fn variable_name(alloc: Global, variable: &Slice<'_>) -> Result<Text,
     Text::new(alloc, characters.as_str())
 }
 
-fn var_or_iri(alloc: Global, name: &ReadName<'_>) -> Result<VarOrIri, NoMemory>
+pub(crate) fn var_or_iri(alloc: Global, name: &ReadName<'_>) -> Result<VarOrIri, NoMemory>
     ensures { IfOk result (λ made. made ≡ spec.var_or_iri name.now) }
 {
     Ok(match name {
@@ -38,7 +38,10 @@ fn var_or_term(alloc: Global, place: &ReadPlace<'_>) -> Result<VarOrTerm, NoMemo
     })
 }
 
-fn triple_pattern(alloc: Global, pattern: &QuadPattern<'_>) -> Result<TriplePattern, NoMemory>
+pub(crate) fn triple_pattern(
+    alloc: Global,
+    pattern: &QuadPattern<'_>,
+) -> Result<TriplePattern, NoMemory>
     ensures { IfOk result (λ made. made ≡ spec.triple_pattern pattern.now) }
 {
     Ok(TriplePattern {

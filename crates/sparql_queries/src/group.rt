@@ -24,14 +24,6 @@ use sparql_grammar::{Group, Member as Written, Triples, VarOrIri as WrittenName}
 use sparql_trees::{BasicGraphPattern, Expression, Member, Pattern, VarOrIri};
 use std::alloc::Global;
 
-/// The prologue, and the blank node labels of each basic graph pattern so far.
-#[derive(Drop)]
-pub(crate) struct Groups<'a> {
-    pub(crate) alloc: Global,
-    pub(crate) scope: Scope<'a>,
-    pub(crate) labels: Items<Items<Slice<'a>>>,
-}
-
 // Where a fault stands in the text; want of memory goes before the others.
 fn place_of(fault: &PrologueFault) -> usize
     ensures { result ≡ faults.place_of fault.now }
@@ -68,126 +60,163 @@ fn grouped(
     }
 }
 
-impl<'a> Groups<'a> {
-    // Triples that stand together.
-    #[tactic(auto, unfolding(crate::specs::Groups::basic))]
-    fn basic(&mut self, triples: &[Triples<'a>]) -> Result<BasicGraphPattern, PrologueFault>
-        requires known { let knows = names.known_triples (declared self.old.scope.prologue) in
-            IsTrue (list_all holds (map knows triples.now)) }
-        requires proper { IsTrue (list_all holds (map proper.proper_triples triples.now)) }
-        ensures gives { let says = spec.basic self.old.scope.prologue triples.now in
-            Gives (says self.old.labels) result self.new.labels }
-        ensures prologue { self.new.scope.prologue ≡ self.old.scope.prologue }
-    {
-        let quads = self.scope.basic_graph_pattern(triples)?;
-        let triples = triple_patterns(self.alloc, quads.patterns.as_slice())?;
-        self.labels.push(quads.labels)?;
-        Ok(BasicGraphPattern {
-            triples,
-            hidden: quads.blanks,
-        })
-    }
+// Triples that stand together.
+#[tactic(auto, unfolding(crate::specs::Groups::basic))]
+pub(crate) fn basic<'a>(
+    alloc: Global,
+    scope: &mut Scope<'a>,
+    labels: &mut Items<Items<Slice<'a>>>,
+    triples: &[Triples<'a>],
+) -> Result<BasicGraphPattern, PrologueFault>
+    requires known { let knows = names.known_triples (declared scope.old.prologue) in
+        IsTrue (list_all holds (map knows triples.now)) }
+    requires proper { IsTrue (list_all holds (map proper.proper_triples triples.now)) }
+    ensures gives { let says = spec.basic scope.old.prologue triples.now in
+        Gives (says labels.old) result labels.new }
+    ensures prologue { scope.new.prologue ≡ scope.old.prologue }
+{
+    let quads = scope.basic_graph_pattern(triples)?;
+    let triples = triple_patterns(alloc, quads.patterns.as_slice())?;
+    labels.push(quads.labels)?;
+    Ok(BasicGraphPattern {
+        triples,
+        hidden: quads.blanks,
+    })
+}
 
-    // What GRAPH names.
-    #[tactic(auto, unfolding(crate::specs::Groups::named))]
-    fn named(&mut self, name: &WrittenName<'a>) -> Result<VarOrIri, PrologueFault>
-        requires known { let knows = names.known_var_or_iri (declared self.old.scope.prologue) in
-            IsTrue (knows name.now) }
-        requires proper { IsTrue (proper.proper_var_or_iri name.now) }
-        ensures gives { let says = spec.named self.old.scope.prologue name.now in
-            Gives (says self.old.labels) result self.new.labels }
-        ensures prologue { self.new.scope.prologue ≡ self.old.scope.prologue }
-    {
-        match name {
-            WrittenName::Variable(name) => {
-                Ok(VarOrIri::Variable(variable_name(self.alloc, name)?))
-            }
-            WrittenName::Name(name) => Ok(VarOrIri::Iri(self.scope.iri(name)?)),
+// What GRAPH names.
+pub(crate) fn named<'a>(
+    alloc: Global,
+    scope: &mut Scope<'a>,
+    name: &WrittenName<'a>,
+) -> Result<VarOrIri, PrologueFault>
+    requires known { let knows = names.known_var_or_iri (declared scope.old.prologue) in
+        IsTrue (knows name.now) }
+    requires proper { IsTrue (proper.proper_var_or_iri name.now) }
+    ensures tells { Tells (spec.graph_name scope.old.prologue name.now) result }
+    ensures prologue { scope.new.prologue ≡ scope.old.prologue }
+{
+    match name {
+        WrittenName::Variable(name) => Ok(VarOrIri::Variable(variable_name(alloc, name)?)),
+        WrittenName::Name(name) => Ok(VarOrIri::Iri(scope.iri(name)?)),
+    }
+}
+
+// What FILTERs ask.
+fn asked<'a>(
+    alloc: Global,
+    scope: &mut Scope<'a>,
+    filters: &[Filter<'a>],
+) -> Result<Items<Expression>, PrologueFault>
+    requires known { let knows = known.known_expression (declared scope.old.prologue) in
+        IsTrue (list_all knows filters.now) }
+    requires proper { IsTrue (list_all proper_expression filters.now) }
+    ensures tells { let says = expression_in scope.old.prologue in
+        Tells (all (map says filters.now)) result }
+    ensures prologue { scope.new.prologue ≡ scope.old.prologue }
+{
+    expressions(alloc, scope, filters)
+}
+
+/// What a group says: names have their IRIs, and the blank nodes of each basic graph pattern are
+/// hidden variables, numbered from 0 by their places in the text (SPARQL 1.1 Query, sections 4.1 and
+/// 5). The blank node labels of each basic graph pattern come behind those that are there.
+///
+/// # Errors
+/// [`PrologueFault::Relative`] at the first relative reference without a base;
+/// [`PrologueFault::NoMemory`] where memory is wanting.
+#[cycle(group)]
+pub fn pattern_of<'a>(
+    alloc: Global,
+    scope: &mut Scope<'a>,
+    labels: &mut Items<Items<Slice<'a>>>,
+    group: &Group<'a>,
+) -> Result<Pattern, PrologueFault>
+    requires known { let knows = known.known_group (declared scope.old.prologue) in
+        IsTrue (knows group.now) }
+    requires proper { IsTrue (proper.proper_group group.now) }
+    ensures gives { let says = spec.group scope.old.prologue group.now in
+        Gives (says labels.old) result labels.new }
+    ensures prologue { OnOk result (scope.new.prologue ≡ scope.old.prologue) }
+{
+    let filters = asked(alloc, scope, group.filters.as_slice());
+    let members = members_of(alloc, scope, labels, group.members.as_slice());
+    grouped(members, filters)
+}
+
+#[cycle(group)]
+fn members_of<'a>(
+    alloc: Global,
+    scope: &mut Scope<'a>,
+    labels: &mut Items<Items<Slice<'a>>>,
+    members: &[Written<'a>],
+) -> Result<Items<Member>, PrologueFault>
+    requires known { let knows = known.known_member (declared scope.old.prologue) in
+        IsTrue (list_all holds (map knows members.now)) }
+    requires proper { IsTrue (list_all holds (map proper.proper_member members.now)) }
+    ensures gives { let says = collected (map (spec.member_in scope.old.prologue) members.now) in
+        Gives (says labels.old) result labels.new }
+    ensures prologue { OnOk result (scope.new.prologue ≡ scope.old.prologue) }
+{
+    let mut made = Items::new(alloc);
+    for member in members {
+        let one = member_of(alloc, scope, labels, member)?;
+        made.push(one)?;
+    }
+    Ok(made)
+}
+
+#[cycle(group)]
+fn patterns_of<'a>(
+    alloc: Global,
+    scope: &mut Scope<'a>,
+    labels: &mut Items<Items<Slice<'a>>>,
+    groups: &[Group<'a>],
+) -> Result<Items<Pattern>, PrologueFault>
+    requires known { let knows = known.known_group (declared scope.old.prologue) in
+        IsTrue (list_all holds (map knows groups.now)) }
+    requires proper { IsTrue (list_all holds (map proper.proper_group groups.now)) }
+    ensures gives { let says = collected (map (spec.group scope.old.prologue) groups.now) in
+        Gives (says labels.old) result labels.new }
+    ensures prologue { OnOk result (scope.new.prologue ≡ scope.old.prologue) }
+{
+    let mut made = Items::new(alloc);
+    for group in groups {
+        let one = pattern_of(alloc, scope, labels, group)?;
+        made.push(one)?;
+    }
+    Ok(made)
+}
+
+#[cycle(group)]
+#[tactic(auto, using(crate::proofs::GroupLemmas::graph_said, crate::proofs::GroupLemmas::graph_fails))]
+fn member_of<'a>(
+    alloc: Global,
+    scope: &mut Scope<'a>,
+    labels: &mut Items<Items<Slice<'a>>>,
+    member: &Written<'a>,
+) -> Result<Member, PrologueFault>
+    requires known { let knows = known.known_member (declared scope.old.prologue) in
+        IsTrue (knows member.now) }
+    requires proper { IsTrue (proper.proper_member member.now) }
+    ensures gives { let says = spec.member_in scope.old.prologue member.now in
+        Gives (says labels.old) result labels.new }
+    ensures prologue { OnOk result (scope.new.prologue ≡ scope.old.prologue) }
+{
+    match member {
+        Written::Triples(triples) => {
+            Ok(Member::Basic(basic(alloc, scope, labels, triples.as_slice())?))
         }
-    }
-
-    // What FILTERs ask.
-    fn asked(&mut self, filters: &[Filter<'a>]) -> Result<Items<Expression>, PrologueFault>
-        requires known { let knows = known.known_expression (declared self.old.scope.prologue) in
-            IsTrue (list_all knows filters.now) }
-        requires proper { IsTrue (list_all proper_expression filters.now) }
-        ensures tells { let says = expression_in self.old.scope.prologue in
-            Tells (all (map says filters.now)) result }
-        ensures prologue { self.new.scope.prologue ≡ self.old.scope.prologue }
-        ensures labels { self.new.labels ≡ self.old.labels }
-    {
-        expressions(self.alloc, &mut self.scope, filters)
-    }
-
-    /// What a group says.
-    #[cycle(group)]
-    pub(crate) fn group(&mut self, group: &Group<'a>) -> Result<Pattern, PrologueFault>
-        requires known { let knows = known.known_group (declared self.old.scope.prologue) in
-            IsTrue (knows group.now) }
-        requires proper { IsTrue (proper.proper_group group.now) }
-        ensures gives { let says = spec.group self.old.scope.prologue group.now in
-            Gives (says self.old.labels) result self.new.labels }
-        ensures prologue { OnOk result (self.new.scope.prologue ≡ self.old.scope.prologue) }
-    {
-        let filters = self.asked(group.filters.as_slice());
-        let members = self.members(group.members.as_slice());
-        grouped(members, filters)
-    }
-
-    #[cycle(group)]
-    fn members(&mut self, members: &[Written<'a>]) -> Result<Items<Member>, PrologueFault>
-        requires known { let knows = known.known_member (declared self.old.scope.prologue) in
-            IsTrue (list_all holds (map knows members.now)) }
-        requires proper { IsTrue (list_all holds (map proper.proper_member members.now)) }
-        ensures gives { let says = collected (map
-            (spec.member_in self.old.scope.prologue) members.now) in
-            Gives (says self.old.labels) result self.new.labels }
-        ensures prologue { OnOk result (self.new.scope.prologue ≡ self.old.scope.prologue) }
-    {
-        let mut made = Items::new(self.alloc);
-        for member in members {
-            let one = self.member(member)?;
-            made.push(one)?;
+        Written::Union(groups) => {
+            Ok(Member::Union(patterns_of(alloc, scope, labels, groups.as_slice())?))
         }
-        Ok(made)
-    }
-
-    #[cycle(group)]
-    fn groups(&mut self, groups: &[Group<'a>]) -> Result<Items<Pattern>, PrologueFault>
-        requires known { let knows = known.known_group (declared self.old.scope.prologue) in
-            IsTrue (list_all holds (map knows groups.now)) }
-        requires proper { IsTrue (list_all holds (map proper.proper_group groups.now)) }
-        ensures gives { let says = collected (map (spec.group self.old.scope.prologue) groups.now) in
-            Gives (says self.old.labels) result self.new.labels }
-        ensures prologue { OnOk result (self.new.scope.prologue ≡ self.old.scope.prologue) }
-    {
-        let mut made = Items::new(self.alloc);
-        for group in groups {
-            let one = self.group(group)?;
-            made.push(one)?;
+        Written::Optional(group) => {
+            Ok(Member::Optional(pattern_of(alloc, scope, labels, group)?))
         }
-        Ok(made)
-    }
-
-    #[cycle(group)]
-    #[tactic(auto, using(crate::proofs::GroupLemmas::graph_said, crate::proofs::GroupLemmas::graph_fails))]
-    fn member(&mut self, member: &Written<'a>) -> Result<Member, PrologueFault>
-        requires known { let knows = known.known_member (declared self.old.scope.prologue) in
-            IsTrue (knows member.now) }
-        requires proper { IsTrue (proper.proper_member member.now) }
-        ensures gives { let says = spec.member_in self.old.scope.prologue member.now in
-            Gives (says self.old.labels) result self.new.labels }
-        ensures prologue { OnOk result (self.new.scope.prologue ≡ self.old.scope.prologue) }
-    {
-        match member {
-            Written::Triples(triples) => Ok(Member::Basic(self.basic(triples.as_slice())?)),
-            Written::Union(groups) => Ok(Member::Union(self.groups(groups.as_slice())?)),
-            Written::Optional(group) => Ok(Member::Optional(self.group(group)?)),
-            Written::Graph(name, group) => {
-                let name = self.named(name)?;
-                let pattern = self.group(group)?;
-                Ok(Member::Graph(name, pattern))
-            }
+        Written::Graph(name, group) => {
+            let name = named(alloc, scope, name)?;
+            let pattern = pattern_of(alloc, scope, labels, group)?;
+            Ok(Member::Graph(name, pattern))
         }
     }
 }

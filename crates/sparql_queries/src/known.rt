@@ -101,8 +101,9 @@ fn unknown_addends<'a>(
     None
 }
 
+/// Where the first name of a group stands whose prefix isn't one of these.
 #[cycle(known)]
-fn unknown_group<'a>(declared: &IndexSet<Key<'a>>, group: &Group<'a>) -> Option<usize>
+pub fn unknown_group<'a>(declared: &IndexSet<Key<'a>>, group: &Group<'a>) -> Option<usize>
     ensures { is_none result ≡ spec.known_group declared.now.keys group.now }
 {
     let in_members = unknown_members(declared, group.members.as_slice());

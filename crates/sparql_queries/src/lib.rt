@@ -1,11 +1,17 @@
-//! What queries say: patterns with resolved terms, and columns (SPARQL 1.1 Query, sections 4, 5 and
-//! 16).
+//! What queries and updates say: patterns with resolved terms, columns, and templates (SPARQL 1.1
+//! Query, sections 4, 5 and 16; SPARQL 1.1 Update, section 3.1.3).
 #![tactic(auto)]
 
 mod basic;
 mod expression;
 mod group;
 mod known;
+mod quads;
 mod query;
+mod template;
 
+pub use group::pattern_of;
+pub use known::unknown_group;
+pub use quads::quads_pattern_of;
 pub use query::{Said, said_by};
+pub use template::quad_patterns;

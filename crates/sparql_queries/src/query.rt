@@ -12,7 +12,7 @@ ghost use Rattle.sparql_grammar.specs.Proper as proper;
 ghost use Rattle.sparql_queries.specs.Queries as spec;
 
 use crate::basic::variable_name;
-use crate::group::Groups;
+use crate::group::pattern_of;
 use crate::known::first_unknown;
 use rdf_grammar::PrologueFault;
 use rdf_terms::{Iri, Items, NoMemory, Text};
@@ -58,76 +58,73 @@ fn columns(alloc: Global, columns: &Columns<'_>, pattern: &Pattern) -> Result<It
     }
 }
 
-impl<'a> Groups<'a> {
-    // The declarations are in force from here on.
-    fn declare(&mut self, declarations: &[Declaration<'a>]) -> Result<(), PrologueFault>
-        ensures gives { let declares = each declaration declarations.now in
-            Gives (declares self.old.scope.prologue) result self.new.scope.prologue }
-        ensures declared { let before = declared self.old.scope.prologue in
-            OnOk result (declared self.new.scope.prologue
-            ≡ known.declared_by before declarations.now) }
-        ensures labels { self.new.labels ≡ self.old.labels }
-    {
-        for declaration in declarations {
-            self.scope.declare(declaration)?;
-        }
-        Ok(())
+// The declarations are in force from here on.
+fn declare<'a>(scope: &mut Scope<'a>, declarations: &[Declaration<'a>]) -> Result<(), PrologueFault>
+    ensures gives { let declares = each declaration declarations.now in
+        Gives (declares scope.old.prologue) result scope.new.prologue }
+    ensures declared { let before = declared scope.old.prologue in
+        OnOk result (declared scope.new.prologue ≡ known.declared_by before declarations.now) }
+{
+    for declaration in declarations {
+        scope.declare(declaration)?;
     }
+    Ok(())
+}
 
-    fn form(&mut self, form: &QueryForm<'a>) -> Result<Query, PrologueFault>
-        requires known { let knows = known.known_form (declared self.old.scope.prologue) in
-            IsTrue (knows form.now) }
-        requires proper { IsTrue (proper.proper_form form.now) }
-        ensures { let says = spec.form_in self.old.scope.prologue form.now in
-            Gives (says self.old.labels) result self.new.labels }
-    {
-        match form {
-            QueryForm::Ask(group) => Ok(Query::Ask(self.group(group)?)),
-            QueryForm::Select {
-                distinct,
-                columns: written,
-                group,
-            } => {
-                let pattern = self.group(group)?;
-                let columns = columns(self.alloc, written, &pattern)?;
-                Ok(Query::Select(Select {
-                    distinct: *distinct,
-                    columns,
-                    pattern,
-                }))
-            }
+fn form<'a>(
+    alloc: Global,
+    scope: &mut Scope<'a>,
+    labels: &mut Items<Items<Slice<'a>>>,
+    form: &QueryForm<'a>,
+) -> Result<Query, PrologueFault>
+    requires known { let knows = known.known_form (declared scope.old.prologue) in
+        IsTrue (knows form.now) }
+    requires proper { IsTrue (proper.proper_form form.now) }
+    ensures { let says = spec.form_in scope.old.prologue form.now in
+        Gives (says labels.old) result labels.new }
+{
+    match form {
+        QueryForm::Ask(group) => Ok(Query::Ask(pattern_of(alloc, scope, labels, group)?)),
+        QueryForm::Select {
+            distinct,
+            columns: written,
+            group,
+        } => {
+            let pattern = pattern_of(alloc, scope, labels, group)?;
+            let columns = columns(alloc, written, &pattern)?;
+            Ok(Query::Select(Select {
+                distinct: *distinct,
+                columns,
+                pattern,
+            }))
         }
-    }
-
-    // What a query says, from its prologue on.
-    #[tactic(auto, using(crate::proofs::QueryLemmas::then_fails))]
-    fn query(&mut self, query: &Written<'a>) -> Result<Query, PrologueFault>
-        requires known { let behind = known.declared_by
-            (declared self.old.scope.prologue) query.now.prologue in
-            IsTrue (known.known_form behind query.now.form) }
-        requires proper { IsTrue (proper.proper_form query.now.form) }
-        ensures { let said = spec.said_from self.old.scope.prologue query.now self.old.labels in
-            Gives said result self.new.labels }
-    {
-        self.declare(query.prologue.as_slice())?;
-        self.form(&query.form)
     }
 }
 
-// The prologue as it begins, and no labels.
-fn begun<'a>(alloc: Global, base: Option<&Iri>) -> Result<Groups<'a>, NoMemory>
-    ensures prologue { IfOk result (λ groups.
-        groups.scope.prologue ≡ prologue.start (option_copied base.entry)) }
-    ensures labels { IfOk result (λ groups. groups.labels ≡ []) }
+// What a query says, from its prologue on.
+#[tactic(auto, using(crate::proofs::QueryLemmas::then_fails))]
+fn said_in<'a>(
+    alloc: Global,
+    scope: &mut Scope<'a>,
+    labels: &mut Items<Items<Slice<'a>>>,
+    query: &Written<'a>,
+) -> Result<Query, PrologueFault>
+    requires known { let behind = known.declared_by
+        (declared scope.old.prologue) query.now.prologue in
+        IsTrue (known.known_form behind query.now.form) }
+    requires proper { IsTrue (proper.proper_form query.now.form) }
+    ensures { let said = spec.said_from scope.old.prologue query.now labels.old in
+        Gives said result labels.new }
 {
-    let base = copied(base)?;
-    let scope = Scope::new(alloc, base)?;
-    let labels = Items::new(alloc);
-    Ok(Groups {
-        alloc,
-        scope,
-        labels,
-    })
+    declare(scope, query.prologue.as_slice())?;
+    form(alloc, scope, labels, &query.form)
+}
+
+// The prologue as it begins.
+fn begun<'a>(alloc: Global, base: Option<&Iri>) -> Result<Scope<'a>, NoMemory>
+    ensures { IfOk result (λ scope. scope.prologue ≡ prologue.start (option_copied base.entry)) }
+{
+    Scope::new(alloc, copied(base)?)
 }
 
 // What a query says whose prefixes are declared.
@@ -143,13 +140,11 @@ fn said_where_known<'a>(
         × (spec.query_in (option_copied base.entry) query.now ≡ Some (said.query, said.labels)))
         (λ fault. spec.IsFaultOf (option_copied base.entry) query.now fault) }
 {
-    let mut groups = begun(alloc, base)?;
-    match groups.query(query) {
+    let mut scope = begun(alloc, base)?;
+    let mut labels = Items::new(alloc);
+    match said_in(alloc, &mut scope, &mut labels, query) {
         Err(fault) => Err(fault),
-        Ok(query) => Ok(Said {
-            query,
-            labels: groups.labels,
-        }),
+        Ok(query) => Ok(Said { query, labels }),
     }
 }
 
