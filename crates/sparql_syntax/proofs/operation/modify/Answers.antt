@@ -1,4 +1,4 @@
-use Rattle.std.proofs.Common.{rules, ◌≡◌, ◌∙◌, Some}
+use Rattle.std.proofs.Common.{rules, ◌∙◌}
 use Rattle.sparql_drafts.specs.Kept.{Fails}
 use Rattle.sparql_drafts.specs.declared.draft.Quads.{Quads}
 use Rattle.sparql_syntax.specs.Meaning.{modification}

@@ -4,7 +4,7 @@ use Rattle.sparql_syntax.specs.Rules.{pattern_labels}
 use Rattle.sparql_syntax.proofs.LabelLemmas.{repeats_later, repeats_there}
 use Rattle.sparql_syntax.proofs.rules.first_in_patterns.Goals as goal
 
-pub returns-in-Some : goal.returns-in-loop-draft
+pub returns-in-Some : goal.returns-in-Some
 returns-in-Some c =
     let drafts = c.args.drafts.now in
     let i = c.loop-draft.draft-index in
