@@ -1,5 +1,5 @@
 -- Where a step fails, so do those that it is part of.
-use Rattle.std.proofs.Common.{◌≡◌, ap, Option, None}
+use Rattle.std.proofs.Common.{ap, Option}
 use Rattle.std.specs.Option.{option_and_then, option_map}
 use Rattle.rdf_grammar.specs.declared.prologue.PrologueFault.{PrologueFault}
 use Rattle.rdf_grammar.specs.declared.prologue.PrologueFault.TheVariants.{UnknownPrefix, Relative, NoMemory}

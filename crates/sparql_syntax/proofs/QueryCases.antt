@@ -9,8 +9,9 @@ use Rattle.sparql_grammar.specs.declared.tree.QueryForm.{QueryForm}
 use Rattle.sparql_terminals.specs.Lexemes.{Lexeme, Lexemes, Outcome}
 use Rattle.sparql_grammar.specs.Nesting.{IsTooDeep}
 use Rattle.sparql_grammar.specs.QueryGrammar as grammar
+use Rattle.sparql_grammar.specs.GroupReading.{whole_group}
 use Rattle.sparql_grammar.specs.PrologueReading.{prologue}
-use Rattle.sparql_grammar.specs.QueryReading.{at_end, query, query_form, query_with, whole_group, whole_query}
+use Rattle.sparql_grammar.specs.QueryReading.{at_end, query, query_form, query_with, whole_query}
 use Rattle.sparql_grammar.proofs.QueryWhole.{query_found, query_stop_explained, query_unique}
 use Rattle.sparql_queries.specs.Groups.{Labels}
 use Rattle.sparql_queries.specs.Known.{known_query}

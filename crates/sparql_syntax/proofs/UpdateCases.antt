@@ -1,5 +1,5 @@
 -- Each text says something: it is a request, or it has a fault.
-use Rattle.std.proofs.Common.{◌≡◌, ◌⊎◌, inl, inr, ℕ, Bool, true, false, cond, List, [], map, Option, Result, Ok, Err, refl, sym, ap, subst, ◌∙◌}
+use Rattle.std.proofs.Common.{◌≡◌, ◌⊎◌, inl, inr, ℕ, Bool, true, false, cond, List, map, Option, Result, Ok, Err, refl, sym, ap, subst, ◌∙◌}
 use Rattle.std.specs.List.{list_any}
 use Rattle.sparql_grammar.specs.declared.tree.Part.{Part}
 use Rattle.sparql_grammar.specs.OperationGrammar.{IsRequest}

@@ -54,7 +54,7 @@ abbrev pub with_graph : Option Name → Prologue → Option (Option (List ℕ))
 with_graph None p = Some None
 with_graph (Some name) p = option_map Some (iri_of name p)
 
--- the template of DELETE, then that of INSERT; one that isn't there is of no block
+-- the template of DELETE, then that of INSERT; one that isn't there has no block
 abbrev pub templates : List Block → List Block → Prologue → Option (Quads × Quads)
 templates delete insert p = option_and_then (λ d. option_map (λ i. (d, i)) (quads_in insert p)) (quads_in delete p)
 
@@ -67,7 +67,7 @@ modification with delete insert g p =
     option_and_then (λ graph. option_and_then (λ quads. option_map (modification_of graph quads) (group p g [])) (templates delete insert p))
     (with_graph with p)
 
--- what is deleted is also the group (section 3.1.3.3)
+-- what DELETE WHERE deletes is also its group (section 3.1.3.3)
 unfoldable pub operation : Operation → Prologue → Option Draft
 operation (written.InsertData blocks) p = option_map InsertData (quads_in blocks p)
 operation (written.DeleteData blocks) p = option_map DeleteData (quads_in blocks p)

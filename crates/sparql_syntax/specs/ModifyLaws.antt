@@ -1,5 +1,5 @@
 -- DELETE WHERE by the group of the same text (SPARQL 1.1 Update, section 3.1.3.3).
-use Rattle.std.specs.Prelude.{◌≡◌, List, [], Option, Some, None}
+use Rattle.std.specs.Prelude.{◌≡◌, List, [], Some, None}
 use Rattle.rdf_grammar.specs.Prologue.{Prologue}
 use Rattle.sparql_drafts.specs.Meaning.{quads_in}
 use Rattle.sparql_grammar.specs.QuadGroups.{quads_group}

@@ -82,15 +82,15 @@ inserted_labels (draft.DeleteData quads) = []
 inserted_labels (draft.Modify m) = []
 inserted_labels (draft.Other other) = []
 
--- those of each basic graph pattern behind its WHERE
+-- the labels of each basic graph pattern behind its WHERE
 abbrev pub pattern_labels : Draft → Labels
 pattern_labels (draft.Modify m) = m.labels
 pattern_labels (draft.InsertData quads) = []
 pattern_labels (draft.DeleteData quads) = []
 pattern_labels (draft.Other other) = []
 
--- in INSERT DATA, which stood in an INSERT DATA before it, or in a basic graph pattern, which stood in one before it; what stands in a
--- template is another blank node under each solution
+-- some label stands in two INSERT DATA operations, or in two basic graph patterns; templates aren't asked, whose blank nodes are new under
+-- each solution
 abbrev pub reuses_label : List Draft → Bool
 reuses_label drafts = repeats_label [] (flat_map inserted_labels drafts) || repeats_label [] (flat_map pattern_labels drafts)
 
@@ -119,7 +119,7 @@ quad_by _ _ _ _ = None
 abbrev pub quad_of : QuadPattern → Option QuadParts
 quad_of p = quad_by (graph_of p.graph) (term_of p.subject) (predicate_of p.predicate) (term_of p.object)
 
--- variables and literals may stand as subjects of templates
+-- in templates any place may be a variable, and a literal a subject
 abbrev pub modify_of : Modification → Modify
 modify_of m = record { with = m.with; delete = template m.delete; insert = template m.insert; pattern = m.pattern }
 

@@ -1,15 +1,16 @@
 //! The static rules of data, templates and labels, asked of a whole request (SPARQL 1.1 Update,
 //! section 3.1; SPARQL 1.1 Query, sections 4.1.4, 19.6 and 19.8).
-ghost use Rattle.std.specs.Prelude.{◌≡◌, [], ◌==◌, is_some, map, not, Ok, Err, IfOk, MatchOption};
+ghost use Rattle.std.specs.Prelude.{◌≡◌, [], ◌==◌, false, is_some, map, not, Ok, Err, IfOk, MatchOption};
 ghost use Rattle.std.specs.List.{flat_map, list_any};
 ghost use Rattle.sparql_queries.specs.Faults as faults;
-ghost use Rattle.sparql_syntax.specs.Labels.{repeats_label};
+ghost use Rattle.sparql_syntax.specs.Labels.{all_known_behind, repeats_label};
 ghost use Rattle.sparql_syntax.specs.Rules as spec;
 
 use crate::draft::Draft;
 use crate::fault::SyntaxFaultKind;
 use crate::labels::{first_known, first_repeated, know};
 use indexmap::IndexSet;
+use rdf_grammar::Key;
 use rdf_terms::{NoMemory, Term};
 use sparql_drafts::{QuadPattern, Quads, VarOrIri, VarOrTerm};
 use std::alloc::Global;
@@ -212,17 +213,31 @@ fn first_in_data(alloc: Global, drafts: &[Draft<'_>]) -> Result<Option<usize>, N
     Ok(None)
 }
 
+// Where a label stands in a basic graph pattern of an operation that is known, or that stood in one
+// before. If none does, its labels are known from here on.
+fn repeated_in<'a>(
+    known: &mut IndexSet<Key<'a>>,
+    draft: &Draft<'a>,
+) -> Result<Option<usize>, NoMemory>
+    ensures found { let repeats = repeats_label known.old.keys (spec.pattern_labels draft.now) in
+        IfOk result (λ start. is_some start ≡ repeats) }
+    ensures knows { IfOk result (λ start. is_some start ≡ false
+        → known.new.keys ≡ all_known_behind known.old.keys (spec.pattern_labels draft.now)) }
+{
+    match draft {
+        Draft::Modify(modification) => first_repeated(known, modification.labels.as_slice()),
+        Draft::InsertData(_) | Draft::DeleteData(_) | Draft::Other(_) => Ok(None),
+    }
+}
+
 // Where a label stands in a basic graph pattern that stood in one before.
-#[tactic(auto, using(crate::proofs::LabelLemmas::repeats_behind))]
 fn first_in_patterns(alloc: Global, drafts: &[Draft<'_>]) -> Result<Option<usize>, NoMemory>
     ensures { IfOk result (λ start. is_some start
         ≡ repeats_label [] (flat_map spec.pattern_labels drafts.now)) }
 {
     let mut known = IndexSet::new(alloc);
     for draft in drafts {
-        if let Draft::Modify(modification) = draft
-            && let Some(start) = first_repeated(&mut known, modification.labels.as_slice())?
-        {
+        if let Some(start) = repeated_in(&mut known, draft)? {
             return Ok(Some(start));
         }
     }
