@@ -109,25 +109,23 @@ def many():
     solutions, quads, operations = 10_000, 1_000, 2_000
     load = "".join(f"<http://e/{number}> {P} {T} .\n" for number in range(solutions))
     template = " . ".join(f"?s {Q} {number} ; {OF} [ ]" for number in range(quads))
-    pairs = [
-        # all objects are replaced
-        (f"DELETE {{ ?x {P} {T} }} INSERT {{ ?x {P} {S} }} WHERE {{ ?x {P} {T} }}", solutions, solutions),
-        # each solution has two blank nodes of its own
-        (f"INSERT {{ GRAPH {G} {{ _:x {OF} ?x ; {Q} _:y }} }} WHERE {{ ?x {P} {S} }}", 2 * solutions, 0),
-        (f"DELETE WHERE {{ GRAPH {G} {{ ?x {Q} ?y }} }}", 0, solutions),
-        (f"INSERT {{ GRAPH {H} {{ {template} }} }} WHERE {{ OPTIONAL {{ }} {{ ?s {P} {S} FILTER(?s = <http://e/7>) }} }}", 2 * quads, 0),
-        (f"DELETE {{ GRAPH {H} {{ {' . '.join(f'?s {Q} {number}' for number in range(quads))} }} }} WHERE {{ GRAPH {H} {{ ?s {Q} 0 }} }}", 0, quads),
+    chain = (f"DELETE {{ ?x {Q} {number} }} INSERT {{ ?x {Q} {number + 1} }} WHERE {{ ?x {Q} {number} }}" for number in range(operations))
+    commands = [
         # each sees the one before it
-        (f"INSERT DATA {{ {S} {Q} 0 }} ; " + " ; ".join(f"DELETE {{ ?x {Q} {number} }} INSERT {{ ?x {Q} {number + 1} }} WHERE {{ ?x {Q} {number} }}" for number in range(operations)), 1, 0),
+        (f"%update\nINSERT DATA {{ {S} {Q} 0 }} ; {' ; '.join(chain)}", 1, 0),
+        (f"%load nquads\n{load.rstrip()}", solutions, 0),
+        # all objects are replaced
+        (f"%update\nDELETE {{ ?x {P} {T} }} INSERT {{ ?x {P} {S} }} WHERE {{ ?x {P} {T} }}", solutions, solutions),
+        # each solution has two blank nodes of its own
+        (f"%update\nINSERT {{ GRAPH {G} {{ _:x {OF} ?x ; {Q} _:y }} }} WHERE {{ ?x {P} {S} }}", 2 * solutions, 0),
+        (f"%update\nDELETE WHERE {{ GRAPH {G} {{ ?x {Q} ?y }} }}", 0, solutions),
+        (f"%update\nINSERT {{ GRAPH {H} {{ {template} }} }} WHERE {{ OPTIONAL {{ }} {{ ?s {P} {S} FILTER(?s = <http://e/7>) }} }}", 2 * quads, 0),
+        (f"%update\nDELETE {{ GRAPH {H} {{ {' . '.join(f'?s {Q} {number}' for number in range(quads))} }} }} WHERE {{ GRAPH {H} {{ ?s {Q} 0 }} }}", 0, quads),
     ]
-    script, answers = f"%load nquads\n{load}%end\n", f"ok +{solutions} -0\n"
-    for text, came, went in pairs:
-        script += f"%update\n{text}\n%end\n"
-        answers += f"ok +{came} -{went}\n"
-    script += "%undo\n" * len(pairs) + "%redo\n" * len(pairs)
-    answers += "".join(f"ok +{went} -{came}\n" for _, came, went in reversed(pairs))
-    answers += "".join(f"ok +{came} -{went}\n" for _, came, went in pairs)
-    # the counter: two for each solution of the second update, and one for each quad of the fourth's template
+    script = "".join(f"{command}\n%end\n" for command, _, _ in commands) + "%undo\n" * len(commands) + "%redo\n" * len(commands)
+    answers = "".join(f"ok +{came} -{went}\n" for _, came, went in commands)
+    answers += "".join(f"ok +{went} -{came}\n" for _, came, went in reversed(commands)) + answers
+    # the counter: two for each solution of the third update, and one for each quad of the fifth's template
     script += f"%update\nDELETE WHERE {{ ?s ?p ?o }} ; DELETE WHERE {{ GRAPH ?g {{ ?s ?p ?o }} }} ; INSERT {{ _:x {P} 1 }} WHERE {{ }}\n%end\n%print\n%graphs\n"
     answers += f"ok +1 -{2 * solutions + quads + 1}\n"
     answers += f'_:b{2 * solutions + quads} {P} "1"^^<http://www.w3.org/2001/XMLSchema#integer> .\nok 1\n{G}\n{H}\nok 2\n'

@@ -109,8 +109,8 @@ impl Draw {
 
     fn graph_slot(&mut self) -> Option<Slot> {
         match self.number() % 8 {
-            0 | 1 => Some(Slot::Variable(self.variable())),
-            2 | 3 => Some(Slot::Node(Node::Iri(self.name()))),
+            0..=2 => Some(Slot::Variable(Variable::C)),
+            3 | 4 => Some(Slot::Node(Node::Iri(self.name()))),
             _ => None,
         }
     }
@@ -136,15 +136,17 @@ impl Draw {
     fn asked(&mut self) -> Sketch {
         Sketch {
             graph: self.graph_slot(),
-            subject: self.asked_slot(),
+            subject: self.asked_slot(Variable::A),
             predicate: self.predicate_slot(),
-            object: self.asked_slot(),
+            object: self.asked_slot(Variable::B),
         }
     }
 
-    fn asked_slot(&mut self) -> Slot {
+    // Most often the usual variable of the place.
+    fn asked_slot(&mut self, usual: Variable) -> Slot {
         match self.number() % 16 {
-            0..=10 => Slot::Variable(self.variable()),
+            0..=8 => Slot::Variable(usual),
+            9 | 10 => Slot::Variable(self.variable()),
             11 | 12 => Slot::Any,
             13 => Slot::Node(Node::Text("x")),
             _ => Slot::Node(self.node()),
