@@ -1,13 +1,12 @@
 -- Laws of DELETE/INSERT.
-use Rattle.std.proofs.Common.{◌≡◌, ℕ, zero, suc, ◌+◌, ◌*◌, ◌<◌, Bool, true, false, ◌||◌, ◌&&◌, not, ltb, List, [], ◌∷◌, ◌++◌, length, map, refl, sym, ap, ◌∙◌, arith, Option, None, Some, Result, if◌then◌else◌}
-use Rattle.std.specs.FinSet as set
+use Rattle.std.proofs.Common.{◌≡◌, ℕ, suc, ◌+◌, ◌*◌, ◌<◌, Bool, true, false, ◌||◌, ◌&&◌, not, ltb, List, [], ◌∷◌, ◌++◌, length, map, refl, sym, ap, ◌∙◌, arith, Option, None, Some, Result, if◌then◌else◌}
 use Rattle.std.specs.FinSet.{contains, contains-difference, contains-from_list, contains-union, difference, from_list}
 use Rattle.std.specs.List.{cons_option, flat_map, list_any}
 use Rattle.std.specs.Option.{option_map}
 use Rattle.std.specs.Ordering.{eq_by_cmp}
 use Rattle.std.proofs.Math.Nat.{suc-mul}
 use Rattle.std.proofs.lemmas.Bool.{lt-ltb}
-use Rattle.rdf_terms.specs.Order.{quad_cmp, term_cmp}
+use Rattle.rdf_terms.specs.Order.{term_cmp}
 use Rattle.rdf_terms.specs.OrderLaws.{quad_cmp_total, term_cmp_total}
 use Rattle.rdf_terms.specs.Quad.{QuadParts, has_right_kinds, may_name_graph}
 use Rattle.rdf_terms.specs.Term.{is_iri_term, is_literal_term}
@@ -15,16 +14,16 @@ use Rattle.rdf_terms.specs.declared.quad.GraphName.{GraphName}
 use Rattle.rdf_terms.specs.declared.quad.GraphName.TheVariants.{Default, Named}
 use Rattle.rdf_terms.specs.declared.term.Term.{Term}
 use Rattle.rdf_terms.specs.declared.term.Term.TheVariants.{Blank, Iri, Literal}
-use Rattle.rdf_dataset.specs.Insertion.{graph_from, graph_names, names_in, quad_from, term_from, with_all, with_data}
+use Rattle.rdf_dataset.specs.Insertion.{graph_from, graph_names, names_in, quad_from, term_from, with_all}
 use Rattle.rdf_dataset.specs.State.{State, last_number, with_blanks}
 use Rattle.sparql_algebra.specs.Listing.{listing_of}
 use Rattle.sparql_algebra.specs.Solutions.{solutions}
 use Rattle.sparql_algebra.specs.Sorted.{sort, sorted_solutions}
 use Rattle.sparql_algebra.proofs.CallerLemmas.{translation-is}
 use Rattle.sparql_eval.specs.Graphs.{same_graph}
-use Rattle.sparql_eval.specs.Laws.{EachSolutionHasItsOwnBlankNodes, HasItsOwn, InsertDataIsModify, IsModified, ModifyDeletesThenInserts, data_of, empty_pattern, inserted_where_nothing, is_among}
-use Rattle.sparql_eval.specs.Operations.{answer, blanks_of, deletions, insertions, modified, solutions_of, step, unless, without_all}
-use Rattle.sparql_eval.specs.Templates.{all_instances, constant, graph_under, instance, instances, name_under, new_blank, quad_by, term_under}
+use Rattle.sparql_eval.specs.Laws.{EachSolutionHasItsOwnBlankNodes, InsertDataIsModify, IsModified, ModifyDeletesThenInserts, data_of, empty_pattern, is_among}
+use Rattle.sparql_eval.specs.Operations.{answer, deletions, insertions, modified, unless, without_all}
+use Rattle.sparql_eval.specs.Templates.{all_instances, graph_under, instance, instances, name_under, quad_by, term_under}
 use Rattle.sparql_eval.specs.declared.fault.ApplyFault.{ApplyFault}
 use Rattle.sparql_eval.specs.declared.fault.ApplyFault.TheVariants.{BlankNumbers}
 use Rattle.sparql_eval.proofs.LawLemmas.{any_join, not_silent}
