@@ -1,13 +1,14 @@
 -- Laws of DELETE/INSERT.
-use Rattle.std.proofs.Common.{◌≡◌, ℕ, zero, suc, ◌+◌, ◌*◌, ◌<◌, Bool, true, false, ◌||◌, ◌&&◌, not, ltb, List, [], ◌∷◌, ◌++◌, length, map, refl, sym, ap, ◌∙◌, arith, Option, None, Some, Result, if◌then◌else◌}
-use Rattle.std.specs.FinSet as set
+use Rattle.std.proofs.Common.{◌≡◌, ℕ, suc, ◌+◌, ◌*◌, ◌/◌, ◌<◌, Bool, true, false, ◌||◌, ◌&&◌, not, ltb, List, [], ◌∷◌, ◌++◌, length, map, refl, sym, ap, ◌∙◌, arith, Option, None, Some, Result, if◌then◌else◌}
 use Rattle.std.specs.FinSet.{contains, contains-difference, contains-from_list, contains-union, difference, from_list}
 use Rattle.std.specs.List.{cons_option, flat_map, list_any}
 use Rattle.std.specs.Option.{option_map}
 use Rattle.std.specs.Ordering.{eq_by_cmp}
 use Rattle.std.proofs.Math.Nat.{suc-mul}
+use Rattle.std.proofs.Math.Numerals.{suc-eq-add-one}
+use Rattle.std.proofs.lemmas.Nat.{div-mul-add}
 use Rattle.std.proofs.lemmas.Bool.{lt-ltb}
-use Rattle.rdf_terms.specs.Order.{quad_cmp, term_cmp}
+use Rattle.rdf_terms.specs.Order.{term_cmp}
 use Rattle.rdf_terms.specs.OrderLaws.{quad_cmp_total, term_cmp_total}
 use Rattle.rdf_terms.specs.Quad.{QuadParts, has_right_kinds, may_name_graph}
 use Rattle.rdf_terms.specs.Term.{is_iri_term, is_literal_term}
@@ -15,16 +16,16 @@ use Rattle.rdf_terms.specs.declared.quad.GraphName.{GraphName}
 use Rattle.rdf_terms.specs.declared.quad.GraphName.TheVariants.{Default, Named}
 use Rattle.rdf_terms.specs.declared.term.Term.{Term}
 use Rattle.rdf_terms.specs.declared.term.Term.TheVariants.{Blank, Iri, Literal}
-use Rattle.rdf_dataset.specs.Insertion.{graph_from, graph_names, names_in, quad_from, term_from, with_all, with_data}
+use Rattle.rdf_dataset.specs.Insertion.{graph_from, graph_names, names_in, quad_from, term_from, with_all}
 use Rattle.rdf_dataset.specs.State.{State, last_number, with_blanks}
 use Rattle.sparql_algebra.specs.Listing.{listing_of}
 use Rattle.sparql_algebra.specs.Solutions.{solutions}
 use Rattle.sparql_algebra.specs.Sorted.{sort, sorted_solutions}
 use Rattle.sparql_algebra.proofs.CallerLemmas.{translation-is}
 use Rattle.sparql_eval.specs.Graphs.{same_graph}
-use Rattle.sparql_eval.specs.Laws.{EachSolutionHasItsOwnBlankNodes, HasItsOwn, InsertDataIsModify, IsModified, ModifyDeletesThenInserts, data_of, empty_pattern, inserted_where_nothing, is_among}
-use Rattle.sparql_eval.specs.Operations.{answer, blanks_of, deletions, insertions, modified, solutions_of, step, unless, without_all}
-use Rattle.sparql_eval.specs.Templates.{all_instances, constant, graph_under, instance, instances, name_under, new_blank, quad_by, term_under}
+use Rattle.sparql_eval.specs.Laws.{EachSolutionHasItsOwnBlankNodes, InsertDataIsModify, IsModified, ModifyDeletesThenInserts, data_of, empty_pattern, first_of, is_among}
+use Rattle.sparql_eval.specs.Operations.{answer, deletions, insertions, modified, unless, without_all}
+use Rattle.sparql_eval.specs.Templates.{all_instances, graph_under, instance, instances, name_under, quad_by, term_under}
 use Rattle.sparql_eval.specs.declared.fault.ApplyFault.{ApplyFault}
 use Rattle.sparql_eval.specs.declared.fault.ApplyFault.TheVariants.{BlankNumbers}
 use Rattle.sparql_eval.proofs.LawLemmas.{any_join, not_silent}
@@ -89,18 +90,31 @@ append_more [] ys zs = refl
 append_more (x ∷ xs) ys zs = ap (λ l. x ∷ l) (append_more xs ys zs)
 
 module _ (variables : Variables) (home : GraphName) (blanks : ℕ) (quads : List QuadPattern) (m : Mapping) (behind : List Mapping) where
+  -- what comes from that solution on, whose numbers begin there, and from the next one on
+  abbrev from_on : ℕ → ℕ → List QuadParts
+  from_on here next = instances variables home blanks quads here m ++ all_instances variables home blanks quads next behind
+
   from_there : (first : ℕ) (before : List Mapping) → all_instances variables home blanks quads first (before ++ m ∷ behind)
-      ≡ all_instances variables home blanks quads first before
-      ++ (instances variables home blanks quads (first + length before * blanks) m ++ all_instances variables home blanks quads (first + length before * blanks + blanks) behind)
+      ≡ all_instances variables home blanks quads first before ++ from_on (first_of first blanks (length before)) (first_of first blanks (length before + 1))
   from_there first [] =
-      let same : first ≡ first + 0 * blanks = omega arith in
-      ap (λ n. instances variables home blanks quads n m ++ all_instances variables home blanks quads (n + blanks) behind) same
+      let here : first ≡ first + 0 * blanks = omega arith in
+      let next : first + blanks ≡ first + (0 + 1) * blanks = omega arith in
+      λ i. from_on (here i) (next i)
   from_there first (a ∷ before) =
-      let same : first + blanks + length before * blanks ≡ first + suc (length before) * blanks = omega (arith, suc-mul (length before) blanks) in
+      let here : first + blanks + length before * blanks ≡ first + suc (length before) * blanks = omega (arith, suc-mul (length before) blanks) in
+      let next : first + blanks + (length before + 1) * blanks ≡ first + (suc (length before) + 1) * blanks =
+      omega (arith, suc-mul (length before) blanks, suc-mul (suc (length before)) blanks, suc-eq-add-one (length before), suc-eq-add-one (suc (length before))) in
       ap (λ l. instances variables home blanks quads first a ++ l) (from_there (first + blanks) before)
       ∙ sym (append_more (instances variables home blanks quads first a) (all_instances variables home blanks quads (first + blanks) before)
-      (instances variables home blanks quads (first + blanks + length before * blanks) m ++ all_instances variables home blanks quads (first + blanks + length before * blanks + blanks) behind))
-      ∙ ap (λ n. all_instances variables home blanks quads first (a ∷ before) ++ (instances variables home blanks quads n m ++ all_instances variables home blanks quads (n + blanks) behind)) same
+      (from_on (first_of (first + blanks) blanks (length before)) (first_of (first + blanks) blanks (length before + 1))))
+      ∙ (λ i. all_instances variables home blanks quads first (a ∷ before) ++ from_on (here i) (next i))
+
+-- the place of a solution, and of a blank node, from its number
+number_tells : (first blanks i j k l : ℕ) → j < blanks → l < blanks → first + i * blanks + j ≡ first + k * blanks + l → (i ≡ k) × (j ≡ l)
+number_tells first blanks i j k l h g e =
+    let rest : i * blanks + j ≡ k * blanks + l = omega (arith, e) in
+    let place : i ≡ k = sym (div-mul-add i blanks j h) ∙ ap (λ n. n / blanks) rest ∙ div-mul-add k blanks l g in
+    (place, omega (arith, rest, ap (λ n. n * blanks) place))
 
 own_blank : (variables : Variables) (blanks first : ℕ) (m : Mapping) (j : ℕ) → j < blanks → term_under variables blanks first m (place.Hidden j) ≡ Some (Blank (first + j))
 own_blank variables blanks first m j h = ap (λ b. if b then Some (Blank (first + j)) else None) (lt-ltb j blanks h)
@@ -109,6 +123,7 @@ pub each_solution_has_its_own_blank_nodes : EachSolutionHasItsOwnBlankNodes
 each_solution_has_its_own_blank_nodes variables home blanks first quads before m behind = record {
   instances_are = from_there variables home blanks quads m behind first before;
   blanks_are = λ j h. own_blank variables blanks (first + length before * blanks) m j h;
+  apart = λ i j k h g e. number_tells first blanks (length before) j i k h g e;
 }
 
 -- ---- INSERT DATA

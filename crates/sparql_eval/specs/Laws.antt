@@ -76,12 +76,22 @@ pub record IsModified (s t : State) (m : Modification) : Type 0 where
 abbrev pub ModifyDeletesThenInserts : Type 0
 ModifyDeletesThenInserts = (s t : State) (m : Modification) → Leads s (Modify m) t → IsModified s t m
 
--- Solution i has its instances for itself, and blank node j of the template is under it the new one of number first + i * blanks + j.
+-- where the numbers of solution i begin, and that of blank node j of the template under it
+abbrev pub first_of : ℕ → ℕ → ℕ → ℕ
+first_of first blanks i = first + i * blanks
+
+abbrev pub number_of : ℕ → ℕ → ℕ → ℕ → ℕ
+number_of first blanks i j = first_of first blanks i + j
+
+-- In a template with so many blank nodes, numbered from `first`: the solution behind `before` has its own instances, and has blank node j of
+-- the template under its own number, which is no other blank node's and no other solution's.
 pub record HasItsOwn (variables : Variables) (home : GraphName) (blanks first : ℕ) (quads : List QuadPattern) (before : List Mapping) (m : Mapping) (behind : List Mapping) : Type 0 where
   pub instances_are : all_instances variables home blanks quads first (before ++ m ∷ behind)
       ≡ all_instances variables home blanks quads first before
-      ++ (instances variables home blanks quads (first + length before * blanks) m ++ all_instances variables home blanks quads (first + length before * blanks + blanks) behind)
-  pub blanks_are : (j : ℕ) → j < blanks → term_under variables blanks (first + length before * blanks) m (Hidden j) ≡ Some (Blank (first + length before * blanks + j))
+      ++ (instances variables home blanks quads (first_of first blanks (length before)) m
+      ++ all_instances variables home blanks quads (first_of first blanks (length before + 1)) behind)
+  pub blanks_are : (j : ℕ) → j < blanks → term_under variables blanks (first_of first blanks (length before)) m (Hidden j) ≡ Some (Blank (number_of first blanks (length before) j))
+  pub apart : (i j k : ℕ) → j < blanks → k < blanks → number_of first blanks (length before) j ≡ number_of first blanks i k → (length before ≡ i) × (j ≡ k)
 
 abbrev pub EachSolutionHasItsOwnBlankNodes : Type 0
 EachSolutionHasItsOwnBlankNodes = (variables : Variables) (home : GraphName) (blanks first : ℕ) (quads : List QuadPattern) (before : List Mapping) (m : Mapping) (behind : List Mapping)

@@ -1,4 +1,4 @@
--- The quads that templates stand for: each solution of the pattern gives instances of its own (SPARQL 1.1 Update, sections 3.1.3 and 4.2.4;
+-- The quads that templates stand for: each solution of a pattern gives instances of its own (SPARQL 1.1 Update, sections 3.1.3 and 4.2;
 -- SPARQL 1.1 Query, section 16.2).
 use Rattle.std.specs.Prelude.{ℕ, ◌+◌, nat_lt, List, [], ◌∷◌, ◌++◌, Option, Some, None, filter_map, if◌then◌else◌}
 use Rattle.std.specs.Option.{option_map}

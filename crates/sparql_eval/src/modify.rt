@@ -27,11 +27,7 @@ fn home_of(graph: &Option<Iri>) -> Result<GraphName, NoMemory>
 
 // Takes new blank nodes for each solution, and answers the first of their numbers, or `None` where
 // the counter would pass the last number.
-fn take_for_each<D: Source>(
-    solutions: usize,
-    blanks: u64,
-    view: &mut Staged<'_, D>,
-) -> Option<u64>
+fn take_for_each<D: Source>(solutions: usize, blanks: u64, view: &mut Staged<'_, D>) -> Option<u64>
     ensures { let count = solutions * blanks in MatchOption result
         ((last_number < view.old.now.next + count) × (view.new ≡ view.old))
         (λ first. (view.old.now.next + count ≤ last_number) × (first ≡ view.old.now.next)
@@ -62,7 +58,8 @@ fn change<D: Source>(
     let Some(first) = take_for_each(found.rows.len(), blanks, view) else {
         return Err(ApplyFault::BlankNumbers);
     };
-    let (deleted, inserted) = (operation.delete.quads.as_slice(), operation.insert.quads.as_slice());
+    let deleted = operation.delete.quads.as_slice();
+    let inserted = operation.insert.quads.as_slice();
     let gone = all_instances(alloc, found, home, 0, first, deleted)?;
     let come = all_instances(alloc, found, home, blanks, first, inserted)?;
     remove_all(gone.as_slice(), view)?;

@@ -7,13 +7,12 @@ use Rattle.sparql_eval.proofs.quads.insert_all.Goals as goal
 pub loop-quad-preserved : goal.loop-quad-preserved
 loop-quad-preserved g c =
     let next = c.in-Some.ensures.steps in
-    let came = ap (λ (s : Staging). s.now) c.in_ok-insert.ensures.ok in
     record {
       steps = tt;
       ends = tt;
       beneath = ap (λ (s : Staging). s.under) c.in_ok-insert.ensures.ok ∙ c.loop-quad.invariant.beneath;
-      left = coming_goes_on _ _ _ _ _ _ next.0 came c.loop-quad.invariant.left;
-      below = coming_below _ _ _ _ _ next.0 came c.loop-quad.invariant.below;
+      left = coming_goes_on _ _ _ _ _ _ next.0 (ap (λ (s : Staging). s.now) c.in_ok-insert.ensures.ok) c.loop-quad.invariant.left;
+      below = coming_below _ _ _ _ _ next.0 (ap (λ (s : Staging). s.now) c.in_ok-insert.ensures.ok) c.loop-quad.invariant.below;
       count = omega (arith, ap length next.0, next.1, c.loop-quad.invariant.count);
     }
 
