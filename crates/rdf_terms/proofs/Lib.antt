@@ -20,6 +20,7 @@ pub mod ResolutionLemmas
 pub mod RunLemmas
 pub mod SkipLemmas
 pub mod StepLemmas
+pub mod TableLemmas
 pub mod TagForms
 pub mod TagLemmas
 pub mod TagReadings

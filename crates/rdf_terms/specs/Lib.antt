@@ -24,6 +24,7 @@ pub mod ResolutionLaws
 pub mod Rewriting
 pub mod Runs
 pub mod Skips
+pub mod Table
 pub mod Tags
 pub mod Term
 pub mod TermText

@@ -23,6 +23,7 @@ mod resolution;
 mod resolution_laws;
 mod runs;
 mod skip;
+mod table;
 mod tag;
 mod term;
 mod text;
@@ -48,6 +49,7 @@ pub use resolution::resolve;
 pub use resolution_laws::{
     components_are_unique, dots_are_removed, dots_before_slashes, one_meaning, pieces_are_the_path,
 };
+pub use table::{TermId, TermTable, terms_are_held_once};
 pub use tag::tags_are_read;
 pub use term::{Term, compare_terms, same_term};
 pub use text::Text;
