@@ -4,11 +4,11 @@ use Rattle.std.proofs.lemmas.List.{map-append, take-append-drop}
 use Rattle.std.specs.Cmp.{nat_cmp_total}
 use Rattle.std.specs.FinSet as set
 use Rattle.std.specs.FinSet.{nat_cmp-IsAntisymmetric}
-use Rattle.rdf_orders.specs.Quads.{quad_of, quads_of}
-use Rattle.rdf_orders.specs.Contents.{Contents, ids_of, IsDisjoint, with_quad, without_quad, with_name, without_name, with_all, without_all}
+use Rattle.rdf_orders.specs.Quads.{IdQuads, quad_of, quads_of}
+use Rattle.rdf_orders.specs.Contents.{Contents, Ids, ids_of, IsDisjoint, with_quad, without_quad, with_name, without_name, with_all, without_all}
 use Rattle.rdf_orders.specs.Inside.Gains.{GainsSomeOf}
 use Rattle.rdf_orders.proofs.KeyLemmas.{id_quad_cmp_total, id_quad_cmp-IsAntisymmetric}
-use Rattle.rdf_orders.proofs.SetLemmas.{union_none, union_push, difference_none, difference_push, taken_back}
+use Rattle.rdf_orders.proofs.SetLemmas.{none_union, union_none, union_push, difference_none, difference_push, taken_back}
 
 -- ---- one more
 
@@ -48,7 +48,18 @@ without_one_name c keys names name = λ i. record {
   names = sym (difference_push nat_cmp_total nat_cmp-IsAntisymmetric c.names names name) i;
 }
 
+-- quads that came where there were none
+pub with_first_quads : (old : Contents) (quads : IdQuads) (names : Ids) (keys : List (List ℕ)) → old.quads ≡ set.empty → quads ≡ quads_of keys → names ≡ old.names → record { quads = quads; names = names } ≡ with_all old keys []
+with_first_quads old quads names keys none e same = λ i. record {
+  quads = (e ∙ sym (ap (λ s. set.union s (quads_of keys)) none ∙ none_union id_quad_cmp_total id_quad_cmp-IsAntisymmetric (quads_of keys))) i;
+  names = (same ∙ sym (union_none nat_cmp_total nat_cmp-IsAntisymmetric old.names)) i;
+}
+
 -- ---- taken back
+
+nothing_in_front : (xs ys : List ℕ) → [] ≡ xs ++ ys → xs ≡ []
+nothing_in_front [] ys e = refl
+nothing_in_front (x ∷ xs) ys e = cc
 
 pub refused_at_quad : (old new : Contents) (keys : List (List ℕ)) (names : List ℕ) (i : ℕ) → new ≡ with_all old (take i keys) [] → GainsSomeOf old new keys names
 refused_at_quad old new keys names i e = record {
@@ -60,6 +71,21 @@ refused_at_quad old new keys names i e = record {
   names_are = refl;
   is = e;
 }
+
+-- no name came in where a quad was refused
+pub refused_before_names : (old new : Contents) (keys : List (List ℕ)) (names : List ℕ) → GainsSomeOf old new keys [] → GainsSomeOf old new keys names
+refused_before_names old new keys names g = record {
+  keys_in = g.keys_in;
+  keys_out = g.keys_out;
+  names_in = [];
+  names_out = names;
+  keys_are = g.keys_are;
+  names_are = refl;
+  is = g.is ∙ ap (with_all old g.keys_in) (nothing_in_front g.names_in g.names_out g.names_are);
+}
+
+pub nothing_came : (old new : Contents) (keys : List (List ℕ)) → new ≡ old → GainsSomeOf old new keys []
+nothing_came old new keys e = refused_at_quad old new keys [] 0 (e ∙ sym (with_none old))
 
 pub refused_at_name : (old new : Contents) (keys : List (List ℕ)) (names : List ℕ) (i : ℕ) → new ≡ with_all old keys (take i names) → GainsSomeOf old new keys names
 refused_at_name old new keys names i e = record {

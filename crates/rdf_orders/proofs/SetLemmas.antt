@@ -57,6 +57,9 @@ module _ {K : Type 0} {R : K → K → Ordering} (o : IsTotalOrder R) (apart : I
   pub union_none : (s : set.FinSet R) → set.union s (of []) ≡ s
   union_none s = same_set o apart _ _ (λ q. contains-union o s (of []) q ∙ ap (λ b. set.contains s q || b) (contains-empty R q) ∙ or_false (set.contains s q))
 
+  pub none_union : (t : set.FinSet R) → set.union set.empty t ≡ t
+  none_union t = same_set o apart _ _ (λ q. contains-union o set.empty t q ∙ ap (λ b. b || set.contains t q) (contains-empty R q))
+
   pub difference_none : (s : set.FinSet R) → set.difference s (of []) ≡ s
   difference_none s = same_set o apart _ _ (λ q. contains-difference o s (of []) q ∙ ap (λ b. set.contains s q && not b) (contains-empty R q) ∙ and_not_false (set.contains s q))
 
@@ -113,7 +116,7 @@ module _ {K : Type 0} {R : K → K → Ordering} (o : IsTotalOrder R) (apart : I
   abbrev finds : K → List K → Bool
   finds x keys = list_any (eq_by_cmp R x) keys
 
-  tie_turned : (x q : K) → eq_by_cmp R x q ≡ eq_by_cmp R q x
+  pub tie_turned : (x q : K) → eq_by_cmp R x q ≡ eq_by_cmp R q x
   tie_turned x q = ap is_eq (o.antisymm x q) ∙ same_reversed (R q x)
 
   pub tree_has : (keys : List K) (x : K) → finds x keys ≡ set.contains (of keys) x

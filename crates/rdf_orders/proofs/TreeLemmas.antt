@@ -16,12 +16,12 @@ use Rattle.std.specs.FinSet.{contains-insert, contains-remove, contains-empty, c
 use Rattle.rdf_orders.specs.declared.order.Order.{Order}
 use Rattle.rdf_orders.specs.declared.order.Order.TheVariants.{Spo, Pos, Osp}
 use Rattle.rdf_orders.specs.declared.trees.Trees.{Trees}
-use Rattle.rdf_orders.specs.Quads.{IdQuad, IdQuads, key_in, quad_at, quad_of, key_cmp, id_quad_cmp}
+use Rattle.rdf_orders.specs.Quads.{IdQuad, IdQuads, key_in, quad_at, quad_of, quads_of, key_cmp, id_quad_cmp}
 use Rattle.rdf_orders.specs.Inside.Mirror.{is_key_of, has_key, quads_in, Mirrors, GainsSome, LosesKey}
 use Rattle.rdf_orders.specs.Contents.{ListsKeys}
 use Rattle.rdf_orders.specs.Listing.{ListsSorted}
 use Rattle.rdf_orders.proofs.KeyLemmas.{key_cmp_total, id_quad_cmp_total, id_quad_cmp-IsAntisymmetric, quad_at-key_in, same_from_eq, eq_from_same}
-use Rattle.rdf_orders.proofs.SetLemmas.{lists_sorted}
+use Rattle.rdf_orders.proofs.SetLemmas.{lists_sorted, tie_turned}
 use Rattle.rdf_orders.proofs.TestLemmas.{both, first_of_both, second_of_both, is_either, either_first, either_second, false_of_absurd, not_both, and_false, spread, or_of_cond, and_of_cond}
 
 -- ---- keys and quads
@@ -111,6 +111,30 @@ quads_held trees quads m =
 -- trees that hold a set hold the one that they are seen as
 pub mirrors_itself : (trees : Trees) (quads : IdQuads) → Mirrors trees quads → Mirrors trees (quads_in trees)
 mirrors_itself trees quads m = subst (Mirrors trees) (sym (quads_held trees quads m)) m
+
+-- ---- trees that are built at once
+
+-- a list of keys has the key of each of its quads
+pub keys_of_quads : (order : Order) (ks : List (List ℕ)) (k : List ℕ) → list_any (eq_by_cmp key_cmp k) (map (λ x. key_in order (quad_of x)) ks) ≡ is_key_of (quads_of ks) order k
+keys_of_quads order ks k = each ks ∙ ap (λ b. (length k == 4) && b) (sym (contains-from_list id_quad_cmp_total (map quad_of ks) (quad_at order k)))
+  where
+    each : (ks : List (List ℕ)) → list_any (eq_by_cmp key_cmp k) (map (λ x. key_in order (quad_of x)) ks) ≡ ((length k == 4) && list_any (eq_by_cmp id_quad_cmp (quad_at order k)) (map quad_of ks))
+    each [] = sym (and_false (length k == 4))
+    each (x ∷ ks) =
+        (λ i. (tie_turned key_cmp_total (slice_cmp-IsAntisymmetric nat_cmp-IsAntisymmetric) k (key_in order (quad_of x)) ∙ key_tie order (quad_of x) k) i || each ks i)
+        ∙ sym (spread (length k == 4) _ _)
+
+pub mirrors_of : (trees : Trees) (ks : List (List ℕ))
+    → ((k : List ℕ) → has_key Spo trees k ≡ list_any (eq_by_cmp key_cmp k) (map (λ x. key_in Spo (quad_of x)) ks))
+    → ((k : List ℕ) → has_key Pos trees k ≡ list_any (eq_by_cmp key_cmp k) (map (λ x. key_in Pos (quad_of x)) ks))
+    → ((k : List ℕ) → has_key Osp trees k ≡ list_any (eq_by_cmp key_cmp k) (map (λ x. key_in Osp (quad_of x)) ks))
+    → Mirrors trees (quads_of ks)
+mirrors_of trees ks spo pos osp = record { keys = λ order k. built order k ∙ keys_of_quads order ks k }
+  where
+    built : (order : Order) (k : List ℕ) → has_key order trees k ≡ list_any (eq_by_cmp key_cmp k) (map (λ x. key_in order (quad_of x)) ks)
+    built Spo = spo
+    built Pos = pos
+    built Osp = osp
 
 -- ---- what the calls leave
 

@@ -1,9 +1,9 @@
 //! A set of quads in three search trees, one for each order.
-ghost use Rattle.std.specs.Prelude.{◌≡◌, not, IfOk, OnOk, OnErr};
+ghost use Rattle.std.specs.Prelude.{◌≡◌, [], map, not, IsTrue, IfOk, OnOk, OnErr};
 ghost use Rattle.std.specs.FinSet as set;
-ghost use Rattle.std.specs.BTreeSet.{IsOrdered};
+ghost use Rattle.std.specs.BTreeSet.{IsFromIterResult, IsOrdered};
 ghost use Rattle.rdf_orders.specs.declared.order.Order.TheVariants.{Spo};
-ghost use Rattle.rdf_orders.specs.Quads.{IdQuads, key_cmp, key_in, quad_of};
+ghost use Rattle.rdf_orders.specs.Quads.{IdQuads, key_cmp, key_in, quad_of, quads_of};
 ghost use Rattle.rdf_orders.specs.Inside.Mirror.{tree_of, has_key, Mirrors, GainsBehind, GainsSome, LosesKey};
 
 use crate::order::{Key, Order};
@@ -19,6 +19,17 @@ pub(crate) struct Trees {
     pub(crate) osp: BTreeSet<Key>,
 }
 
+// The tree of an order with the keys of these quads.
+fn built(alloc: Global, order: Order, quads: &[Key]) -> Result<BTreeSet<Key>, NoMemory>
+    ensures { IfOk result (λ tree. IsFromIterResult key_cmp
+        (map (λ x. key_in order (quad_of x)) quads.now) tree) }
+{
+    let key_of = move |quad: &Key|
+        ensures { result ≡ key_in order (quad_of quad.now) }
+    { order.arrange(quad) };
+    Ok(quads.iter().map(key_of).collect(alloc)?)
+}
+
 impl Trees {
     /// No quads.
     pub(crate) fn new(alloc: Global) -> Trees
@@ -29,6 +40,24 @@ impl Trees {
             pos: BTreeSet::new(alloc),
             osp: BTreeSet::new(alloc),
         }
+    }
+
+    /// The quads with these keys in `Spo`: each tree is built at once.
+    pub(crate) fn of_quads(alloc: Global, quads: &[Key]) -> Result<Trees, NoMemory>
+        ensures { IfOk result (λ trees. Mirrors trees (quads_of quads.now)) }
+    {
+        Ok(Trees {
+            spo: built(alloc, Order::Spo, quads)?,
+            pos: built(alloc, Order::Pos, quads)?,
+            osp: built(alloc, Order::Osp, quads)?,
+        })
+    }
+
+    /// Whether there is no quad.
+    pub(crate) fn is_empty(&self) -> bool
+        ensures { IsTrue result → self.now.spo.keys ≡ [] }
+    {
+        self.spo.is_empty()
     }
 
     /// The keys in an order.
