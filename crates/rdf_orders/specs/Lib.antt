@@ -1,0 +1,5 @@
+pub mod Contents
+pub mod Inside
+pub mod Listing
+pub mod Quads
+pub mod Runs

@@ -1,0 +1,22 @@
+//! Sets of quads of numbers, kept in three orders: for each choice of bound places the quads wanted
+//! stand together in one of them. What a store keeps of a dataset (RDF 1.1 Concepts, section 4) once
+//! its terms have numbers.
+#![tactic(auto)]
+
+mod laws;
+mod look_ups;
+mod next;
+mod order;
+mod orders;
+mod quad_sets;
+#[cfg(test)]
+mod tests;
+mod trees;
+mod walk;
+
+pub use laws::matching_quads_stand_together;
+pub use look_ups::look_up;
+pub use order::{Key, Order};
+pub use orders::Orders;
+pub use quad_sets::QuadSets;
+pub use walk::Walk;

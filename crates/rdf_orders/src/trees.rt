@@ -1,0 +1,92 @@
+//! A set of quads in three search trees, one for each order.
+ghost use Rattle.std.specs.Prelude.{◌≡◌, not, IfOk, OnOk, OnErr};
+ghost use Rattle.std.specs.FinSet as set;
+ghost use Rattle.rdf_orders.specs.Quads.{IdQuads, quad_of};
+ghost use Rattle.rdf_orders.specs.Inside.Mirror.{tree_of, Mirrors, GainsBehind, GainsSome};
+
+use crate::order::{Key, Order};
+use rdf_terms::NoMemory;
+use std::alloc::Global;
+use std::collections::BTreeSet;
+
+/// The keys of the quads in each order. While one comes in, they may have come apart.
+#[derive(Drop)]
+pub(crate) struct Trees {
+    pub(crate) spo: BTreeSet<Key>,
+    pub(crate) pos: BTreeSet<Key>,
+    pub(crate) osp: BTreeSet<Key>,
+}
+
+impl Trees {
+    /// No quads.
+    pub(crate) fn new(alloc: Global) -> Trees
+        ensures { Mirrors result set.empty }
+    {
+        Trees {
+            spo: BTreeSet::new(alloc),
+            pos: BTreeSet::new(alloc),
+            osp: BTreeSet::new(alloc),
+        }
+    }
+
+    /// The keys in an order.
+    pub(crate) fn of(&self, order: Order) -> &BTreeSet<Key>
+        ensures { result.now ≡ tree_of order self.now }
+    {
+        match order {
+            Order::Spo => &self.spo,
+            Order::Pos => &self.pos,
+            Order::Osp => &self.osp,
+        }
+    }
+
+    /// Whether the quad is there.
+    pub(crate) fn contains(&self, quad: &Key) -> bool
+        ensures { (quads : IdQuads) → Mirrors self.now quads →
+            result ≡ set.contains quads (quad_of quad.now) }
+    {
+        self.spo.contains(quad)
+    }
+
+    /// Adds the quad in all three orders, and answers whether it is new. Where one of them is
+    /// refused, it is taken out of those before.
+    pub(crate) fn insert(&mut self, quad: &Key) -> Result<bool, NoMemory>
+        ensures ok { OnOk result ((quads : IdQuads) → Mirrors self.old quads →
+            Mirrors self.new (set.insert quads (quad_of quad.now))) }
+        ensures new { IfOk result (λ new. (quads : IdQuads) → Mirrors self.old quads →
+            new ≡ not (set.contains quads (quad_of quad.now))) }
+        ensures err { OnErr result ((quads : IdQuads) → Mirrors self.old quads →
+            Mirrors self.new quads) }
+    {
+        if !self.spo.insert(*quad)? {
+            return Ok(false);
+        }
+        if let Err(refused) = self.insert_behind(quad) {
+            self.remove(quad);
+            return Err(refused);
+        }
+        Ok(true)
+    }
+
+    // Adds the quad in the other two orders. Where the second is refused, it stays in the first.
+    fn insert_behind(&mut self, quad: &Key) -> Result<(), NoMemory>
+        ensures ok { OnOk result (GainsBehind self.old self.new (quad_of quad.now)) }
+        ensures err { OnErr result (GainsSome self.old self.new (quad_of quad.now)) }
+    {
+        self.pos.insert(Order::Pos.arrange(quad))?;
+        self.osp.insert(Order::Osp.arrange(quad))?;
+        Ok(())
+    }
+
+    /// Takes the quad out of all three orders, and answers whether it was there.
+    pub(crate) fn remove(&mut self, quad: &Key) -> bool
+        ensures quads { (quads : IdQuads) → Mirrors self.old quads →
+            Mirrors self.new (set.remove quads (quad_of quad.now)) }
+        ensures was { (quads : IdQuads) → Mirrors self.old quads →
+            result ≡ set.contains quads (quad_of quad.now) }
+    {
+        self.pos.remove(&Order::Pos.arrange(quad));
+        self.osp.remove(&Order::Osp.arrange(quad));
+        self.spo.remove(quad)
+    }
+}
