@@ -3,3 +3,5 @@
 
 #[cfg(test)]
 mod dataset;
+#[cfg(test)]
+mod look_ups;

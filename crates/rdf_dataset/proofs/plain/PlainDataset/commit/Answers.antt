@@ -3,7 +3,7 @@ use Rattle.std.proofs.lemmas.Result.{on_ok_weaker}
 use Rattle.rdf_dataset.specs.State.{Change, net_between}
 use Rattle.rdf_terms.specs.OrderLaws.{quad_cmp_total, term_cmp_total}
 use Rattle.rdf_dataset.proofs.StateLemmas.{leads_of, no_items}
-use Rattle.rdf_dataset.proofs.dataset.Dataset.commit.Goals as goal
+use Rattle.rdf_dataset.proofs.plain.PlainDataset.commit.Goals as goal
 
 pub go_to-requires : goal.go_to-requires
 go_to-requires c = (c.requires.begins.0, c.requires.begins.1, leads_of c.args.self.now c.requires.begins.0 _ _ _ _ c.net.inside.before c.net.inside.after (c.net.view_is ∙ c.requires.begins.2))

@@ -3,7 +3,7 @@ use Rattle.std.proofs.lemmas.Result.{on_ok_weaker}
 use Rattle.rdf_dataset.specs.State.{Change, net_between}
 use Rattle.rdf_terms.specs.OrderLaws.{quad_cmp_total, term_cmp_total}
 use Rattle.rdf_dataset.proofs.StateLemmas.{leads_back, no_items}
-use Rattle.rdf_dataset.proofs.dataset.Dataset.revert.Goals as goal
+use Rattle.rdf_dataset.proofs.plain.PlainDataset.revert.Goals as goal
 
 pub go_to-requires : goal.go_to-requires
 go_to-requires c = (c.requires.ends.0, c.requires.ends.1, leads_back c.requires.ends.0 c.args.self.now _ _ _ _ c.net.inside.before c.net.inside.after (c.net.view_is ∙ c.requires.ends.2))
