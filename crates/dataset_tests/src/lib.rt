@@ -5,3 +5,5 @@
 mod dataset;
 #[cfg(test)]
 mod look_ups;
+#[cfg(test)]
+mod orders;

@@ -1,0 +1,7 @@
+mod ContentsLemmas
+mod KeyLemmas
+mod LookUpLemmas
+mod NextLemmas
+mod SetLemmas
+mod TestLemmas
+mod TreeLemmas

@@ -9,8 +9,6 @@ mod next;
 mod order;
 mod orders;
 mod quad_sets;
-#[cfg(test)]
-mod tests;
 mod trees;
 mod walk;
 

@@ -49,13 +49,14 @@ impl QuadSets {
     pub fn keys(&self) -> &BTreeSet<Key>
         ensures { ListsKeys self.now.quads result.now.keys }
     {
-        &self.trees.spo
+        self.trees.rising()
     }
 
     /// The graph names, each once, in the order of their numbers.
     pub fn names(&self) -> &BTreeSet<u64>
         ensures { ListsIds self.now.names result.now.keys }
     {
+        let _ = self.names.len();
         &self.names
     }
 

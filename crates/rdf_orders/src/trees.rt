@@ -1,8 +1,10 @@
 //! A set of quads in three search trees, one for each order.
 ghost use Rattle.std.specs.Prelude.{◌≡◌, not, IfOk, OnOk, OnErr};
 ghost use Rattle.std.specs.FinSet as set;
-ghost use Rattle.rdf_orders.specs.Quads.{IdQuads, quad_of};
-ghost use Rattle.rdf_orders.specs.Inside.Mirror.{tree_of, Mirrors, GainsBehind, GainsSome};
+ghost use Rattle.std.specs.BTreeSet.{IsOrdered};
+ghost use Rattle.rdf_orders.specs.declared.order.Order.TheVariants.{Spo};
+ghost use Rattle.rdf_orders.specs.Quads.{IdQuads, key_cmp, key_in, quad_of};
+ghost use Rattle.rdf_orders.specs.Inside.Mirror.{tree_of, has_key, Mirrors, GainsBehind, GainsSome, LosesKey};
 
 use crate::order::{Key, Order};
 use rdf_terms::NoMemory;
@@ -38,6 +40,15 @@ impl Trees {
             Order::Pos => &self.pos,
             Order::Osp => &self.osp,
         }
+    }
+
+    /// The keys in `Spo`, which rise, as those of each tree do.
+    pub(crate) fn rising(&self) -> &BTreeSet<Key>
+        ensures is { result.now ≡ self.now.spo }
+        ensures rises { IsOrdered key_cmp result.now }
+    {
+        let _ = self.spo.len();
+        &self.spo
     }
 
     /// Whether the quad is there.
@@ -80,10 +91,8 @@ impl Trees {
 
     /// Takes the quad out of all three orders, and answers whether it was there.
     pub(crate) fn remove(&mut self, quad: &Key) -> bool
-        ensures quads { (quads : IdQuads) → Mirrors self.old quads →
-            Mirrors self.new (set.remove quads (quad_of quad.now)) }
-        ensures was { (quads : IdQuads) → Mirrors self.old quads →
-            result ≡ set.contains quads (quad_of quad.now) }
+        ensures keys { LosesKey self.old self.new (quad_of quad.now) }
+        ensures was { result ≡ has_key Spo self.old (key_in Spo (quad_of quad.now)) }
     {
         self.pos.remove(&Order::Pos.arrange(quad));
         self.osp.remove(&Order::Osp.arrange(quad));

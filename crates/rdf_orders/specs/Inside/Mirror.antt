@@ -40,3 +40,7 @@ pub record GainsSome (old new : Trees) (q : IdQuad) : Type 0 where
   pub first : new.spo ≡ old.spo
   pub stay : (order : Order) (k : List ℕ) → IsTrue (has_key order old k) → IsTrue (has_key order new k)
   pub come : (order : Order) (k : List ℕ) → IsTrue (has_key order new k) → IsTrue (is_eq (key_cmp (key_in order q) k) || has_key order old k)
+
+-- the key of the quad is in none of the trees any more, and each other key is where it was
+pub record LosesKey (old new : Trees) (q : IdQuad) : Type 0 where
+  pub keys : (order : Order) (k : List ℕ) → has_key order new k ≡ (not (is_eq (key_cmp (key_in order q) k)) && has_key order old k)
