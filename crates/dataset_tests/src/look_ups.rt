@@ -1,6 +1,6 @@
 //! Look-ups in a dataset and in sets of numbers: what they answer, and how much they look at.
 use rdf_dataset::{Dataset, Source, Staged};
-use rdf_terms::{GraphName, Iri, Literal, Quad, Term};
+use rdf_terms::{GraphName, Iri, Literal, Quad, Term, same_term};
 use std::alloc::Global;
 use std::test::Fail;
 
@@ -39,14 +39,14 @@ fn committed(alloc: Global, triples: Vec<Quad>) -> Option<Dataset> {
     Some(dataset)
 }
 
-// How many triples are looked at, and how many are found.
+// How many triples are looked at and found, or none where these differ.
 fn found(
     alloc: Global,
     dataset: &Dataset,
     subject: Option<Term>,
     predicate: Option<Term>,
     object: Option<Term>,
-) -> Option<(usize, usize)> {
+) -> Option<usize> {
     let mut out = Vec::new(alloc);
     let looked = Source::matches(
         dataset,
@@ -56,5 +56,64 @@ fn found(
         object.as_ref(),
         &mut out,
     );
-    Some((looked.ok()?, out.len()))
+    let looked = looked.ok()?;
+    if looked == out.len() {
+        Some(looked)
+    } else {
+        None
+    }
+}
+
+#[test]
+fn one_place_or_none(rt: HostRuntime) -> Result<(), Fail> {
+    let alloc = rt.alloc();
+    let dataset = load(alloc).ok_or("no memory")?;
+    assert_eq!(rt; found(alloc, &dataset, None, None, None), Some(3));
+    let subject = example(alloc, "e:s");
+    assert_eq!(rt; found(alloc, &dataset, subject, None, None), Some(2));
+    let predicate = example(alloc, "e:p");
+    assert_eq!(rt; found(alloc, &dataset, None, predicate, None), Some(2));
+    let object = string(alloc, "2");
+    assert_eq!(rt; found(alloc, &dataset, None, None, object), Some(1));
+    Ok(())
+}
+
+#[test]
+fn two_places_or_three(rt: HostRuntime) -> Result<(), Fail> {
+    let alloc = rt.alloc();
+    let dataset = load(alloc).ok_or("no memory")?;
+    let (subject, predicate) = (example(alloc, "e:s"), example(alloc, "e:p"));
+    assert_eq!(rt; found(alloc, &dataset, subject, predicate, None), Some(1));
+    let (predicate, object) = (example(alloc, "e:p"), string(alloc, "1"));
+    assert_eq!(rt; found(alloc, &dataset, None, predicate, object), Some(2));
+    let (subject, object) = (example(alloc, "e:s"), string(alloc, "2"));
+    assert_eq!(rt; found(alloc, &dataset, subject, None, object), Some(1));
+    let (subject, predicate) = (example(alloc, "e:s"), example(alloc, "e:p"));
+    let object = string(alloc, "2");
+    assert_eq!(rt; found(alloc, &dataset, subject, predicate, object), Some(0));
+    Ok(())
+}
+
+#[test]
+fn unknown_terms(rt: HostRuntime) -> Result<(), Fail> {
+    let alloc = rt.alloc();
+    let dataset = load(alloc).ok_or("no memory")?;
+    let unknown = string(alloc, "3");
+    assert_eq!(rt; found(alloc, &dataset, None, None, unknown), Some(0));
+    Ok(())
+}
+
+// Whether the quads are listed by their terms, though the last subject came first.
+fn is_sorted(alloc: Global, dataset: &Dataset) -> Option<bool> {
+    let quads = dataset.quads(alloc).ok()?;
+    let first = example(alloc, "e:s")?;
+    let last = example(alloc, "e:t")?;
+    Some(same_term(quads.first()?.subject(), &first) && same_term(quads.last()?.subject(), &last))
+}
+
+#[test]
+fn listed_by_terms(rt: HostRuntime) -> Result<(), Fail> {
+    let dataset = load(rt.alloc()).ok_or("no memory")?;
+    assert!(rt; is_sorted(rt.alloc(), &dataset) == Some(true));
+    Ok(())
 }

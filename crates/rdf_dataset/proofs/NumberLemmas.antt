@@ -229,10 +229,10 @@ pub wants_no_predicate : (table : List Term) (g : GraphName) (s p o : Option Ter
 wants_no_predicate table g s p o none k known =
     and_false (eq_by_cmp graph_cmp g (graph_at table k.graph)) (fits_place s (term_at table k.subject) && (fits_place p (term_at table k.predicate) && fits_place o (term_at table k.object)))
     (and_false (fits_place s (term_at table k.subject)) (fits_place p (term_at table k.predicate) && fits_place o (term_at table k.object))
-      (ap (λ b. b && fits_place o (term_at table k.object)) (none k.predicate known.predicate)))
+    (ap (λ b. b && fits_place o (term_at table k.object)) (none k.predicate known.predicate)))
 
 pub wants_no_object : (table : List Term) (g : GraphName) (s p o : Option Term) → WantsNone table o → WantsNoQuad table (matches g s p o)
 wants_no_object table g s p o none k known =
     and_false (eq_by_cmp graph_cmp g (graph_at table k.graph)) (fits_place s (term_at table k.subject) && (fits_place p (term_at table k.predicate) && fits_place o (term_at table k.object)))
     (and_false (fits_place s (term_at table k.subject)) (fits_place p (term_at table k.predicate) && fits_place o (term_at table k.object))
-      (and_false (fits_place p (term_at table k.predicate)) (fits_place o (term_at table k.object)) (none k.object known.object)))
+    (and_false (fits_place p (term_at table k.predicate)) (fits_place o (term_at table k.object)) (none k.object known.object)))

@@ -3,13 +3,11 @@ ghost use Rattle.std.specs.Prelude.{◌≡◌, ◌+◌, [], length, option_copie
 ghost use Rattle.std.specs.FinSet as set;
 ghost use Rattle.rdf_dataset.specs.Sorted.{AppendsOnce};
 ghost use Rattle.rdf_dataset.specs.State.{matches};
-ghost use Rattle.rdf_orders.specs.Quads.{matches as matches_numbers};
-ghost use Rattle.rdf_orders.specs.Runs.{AppendsOnce as AppendsKeys};
 ghost use Rattle.rdf_dataset.specs.Inside.Store.{AreNew, AreQuads, GainsSome, with_stored, without_stored};
 
 use crate::numbered::{append_all_quads, append_all_terms, append_quads};
-use crate::numbers::{Wanted, find_quad, find_term, find_wanted, number_quad, number_term};
-use rdf_orders::{Key, QuadSets, Walk, look_up};
+use crate::numbers::{find_quad, find_term, find_wanted, number_quad, number_term};
+use rdf_orders::QuadSets;
 use rdf_terms::{GraphName, NoMemory, Quad, Term, TermTable, terms_are_held_once};
 use std::alloc::Global;
 use std::marker::Model;
@@ -172,7 +170,14 @@ impl Store {
         };
         terms_are_held_once(&self.table);
         let mut keys = Vec::new(*out.allocator());
-        let looked = look_up_all(*out.allocator(), &self.sets, wanted, &mut keys)?;
+        let looked = self.sets.matches(
+            *out.allocator(),
+            wanted.graph,
+            wanted.subject,
+            wanted.predicate,
+            wanted.object,
+            &mut keys,
+        )?;
         append_quads(&self.table, keys.as_slice(), out)?;
         Ok(looked)
     }
@@ -195,31 +200,4 @@ impl Store {
         terms_are_held_once(&self.table);
         append_all_terms(&self.table, self.sets.names(), out)
     }
-}
-
-// Appends the keys of the quads wanted, and answers how many were looked at: just those.
-fn look_up_all(
-    alloc: Global,
-    sets: &QuadSets,
-    wanted: Wanted,
-    keys: &mut Vec<Key>,
-) -> Result<usize, NoMemory>
-    ensures found { OnOk result (AppendsKeys (set.retain sets.now.quads
-        (matches_numbers wanted.graph wanted.subject wanted.predicate wanted.object))
-        keys.old.items keys.new.items) }
-    ensures looked { IfOk result
-        (λ looked. length keys.new.items ≡ length keys.old.items + looked) }
-{
-    let mut walk = Walk::over(sets);
-    look_up(
-        alloc,
-        &mut walk,
-        wanted.graph,
-        wanted.subject,
-        wanted.predicate,
-        wanted.object,
-        keys,
-    )?;
-    let _ = keys.len();
-    Ok(walk.count())
 }
