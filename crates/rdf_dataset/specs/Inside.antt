@@ -1,3 +1,4 @@
 pub mod Delta
 pub mod Merging
 pub mod Places
+pub mod Store
