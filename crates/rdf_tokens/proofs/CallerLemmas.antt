@@ -7,4 +7,4 @@ pub use Rattle.rdf_tokens.proofs.TokenUnits.{name_unit, dotted_over, dotted_stop
 pub use Rattle.rdf_tokens.proofs.ValueIris.{iri_value_is, iri_value_allowed}
 pub use Rattle.rdf_tokens.proofs.ValueNames.{local_part_is, local_plain}
 pub use Rattle.rdf_tokens.proofs.ValuePnames.{pname_iri, has_scheme_after, local_allowed}
-pub use Rattle.rdf_tokens.proofs.ValueTexts.{text_value_is}
+pub use Rattle.rdf_tokens.proofs.ValueTexts.{text_value_is, text_value_utf8}

@@ -1,7 +1,10 @@
 -- The values of strings.
-use Rattle.std.proofs.Common.{◌≡◌, ◌≢◌, ℕ, suc, List, [], ◌∷◌, ◌++◌, Some, None, refl, sym, ap, ◌∙◌, inl, inr, append_assoc, arith}
-use Rattle.std.proofs.lemmas.Bool.{ne_eqb}
-use Rattle.std.specs.Str.{encode_utf8_all}
+use Rattle.std.proofs.Common.{◌≡◌, ◌≢◌, ◌==◌, ◌||◌, true, ℕ, suc, List, [], ◌∷◌, ◌++◌, Some, None, refl, sym, ap, ◌∙◌, inl, inr, append_assoc, arith}
+use Rattle.std.proofs.lemmas.Bool.{ne_eqb, cases_Bool, and_parts, and_from}
+use Rattle.std.specs.Str.{encode_utf8_all, IsUtf8}
+use lib.Utf8.{scalar, scalars}
+use Rattle.rdf_terms.specs.Characters.{short_escape}
+use Rattle.rdf_tokens.proofs.SliceLemmas.{scalars_parts}
 use Rattle.rdf_terms.specs.Escapes.{Writes, IsCharacter}
 use Rattle.rdf_terms.specs.Quoted.{IsStringCharacter}
 use Rattle.rdf_terms.specs.Reading.{expect}
@@ -110,3 +113,60 @@ text_value_is slice cs (inr h) =
     let b = string_body 39 slice cs (omega arith) h in
     let s = starts 39 slice cs h in
     value_from slice b.0 cs (second_body slice b.0 (ap (quoted_body 34) s.1 ∙ not_double s.0) b.1) b.2
+
+-- ---- texts of Unicode characters
+
+scalar_along : (x c : ℕ) → scalar x ≡ true → Some x ≡ Some c → scalar c ≡ true
+scalar_along x c h e = let is : x ≡ c = cc e in ap scalar (sym is) ∙ h
+
+short_scalar : (l c : ℕ) → scalar l ≡ true → short_escape l ≡ Some c → scalar c ≡ true
+unfolding short_escape
+short_scalar l c h e =
+    elim (cases_Bool (l == 116)) [
+      | inl tab ↦ scalar_along 9 c refl (rw tab at e)
+      | inr a ↦ elim (cases_Bool (l == 98)) [
+        | inl back ↦ scalar_along 8 c refl (rw (a, back) at e)
+        | inr b ↦ elim (cases_Bool (l == 110)) [
+          | inl feed ↦ scalar_along 10 c refl (rw (a, b, feed) at e)
+          | inr d ↦ elim (cases_Bool (l == 114)) [
+            | inl turn ↦ scalar_along 13 c refl (rw (a, b, d, turn) at e)
+            | inr f ↦ elim (cases_Bool (l == 102)) [
+              | inl form ↦ scalar_along 12 c refl (rw (a, b, d, f, form) at e)
+              | inr g ↦ elim (cases_Bool ((l == 34 || l == 39) || l == 92)) [
+                | inl same ↦ scalar_along l c h (rw (a, b, d, f, g, same) at e)
+                | inr none ↦ (let no : None ≡ Some c = rw (a, b, d, f, g, none) at e in absurd (cc no))
+              ]
+            ]
+          ]
+        ]
+      ]
+    ]
+
+written_scalars : (body cs : List ℕ) → scalars body ≡ true → Writes IsCharacter body cs → scalars cs ≡ true
+written_scalars body [] all w = refl
+written_scalars body (c ∷ cs) all w =
+    let parts = scalars_parts w.0 w.1 (ap scalars (sym w.2) ∙ all) in
+    and_from (scalar c) (scalars cs) (character w.0 c parts.0 w.3) (written_scalars w.1 cs parts.1 w.4)
+  where
+    character : (piece : List ℕ) (d : ℕ) → scalars piece ≡ true → IsCharacter piece d → scalar d ≡ true
+    character piece d s (inl itself) = (and_parts (scalar d) true (ap scalars (sym itself.0) ∙ s)).0
+    character piece d s (inr (inl escape)) = escape.scalar
+    character piece d s (inr (inr short)) =
+        let both = (and_parts (scalar 92) (scalars (short.0 ∷ [])) (ap scalars (sym short.1) ∙ s)).1 in
+        short_scalar short.0 d (and_parts (scalar short.0) true both).0 short.2
+
+string_scalars : (q : ℕ) (slice cs : List ℕ) → 92 ≢ q → scalars slice ≡ true → IsString q slice cs → scalars cs ≡ true
+string_scalars q slice cs apart all (inl h) =
+    let behind = (and_parts (scalar q) (scalars (h.0 ++ q ∷ [])) (ap scalars (sym h.1) ∙ all)).1 in
+    written_scalars h.0 cs (scalars_parts h.0 (q ∷ []) behind).0 (short_writes q h.0 cs h.2)
+string_scalars q slice cs apart all (inr h) =
+    let marks = scalars_parts (q ∷ q ∷ q ∷ []) (h.0 ++ q ∷ q ∷ q ∷ []) (ap scalars (sym h.1) ∙ all) in
+    written_scalars h.0 cs (scalars_parts h.0 (q ∷ q ∷ q ∷ []) marks.1).0 (long_writes q 0 h.0 cs (λ e. apart (sym e)) h.2)
+
+text_scalars : (slice cs : List ℕ) → scalars slice ≡ true → IsText slice cs → scalars cs ≡ true
+text_scalars slice cs all (inl h) = string_scalars 34 slice cs (omega arith) all h
+text_scalars slice cs all (inr h) = string_scalars 39 slice cs (omega arith) all h
+
+-- a string of Unicode characters stands for a text of them
+pub text_value_utf8 : (slice cs : List ℕ) → scalars slice ≡ true → IsText slice cs → IsUtf8 (text_value slice)
+text_value_utf8 slice cs all h = (cs, (text_scalars slice cs all h, text_value_is slice cs h))

@@ -1,4 +1,4 @@
--- The answer to a document is Relative just where a reference lacks a base.
+-- The answer to a document is Relative just where a reference lacks a base, and its quads are well formed.
 use Rattle.std.proofs.Common.{◌≡◌, ◌↔◌, ◌∙◌, ap, refl, sym, subst, inl, inr, ℕ, Bool, true, false, cond, if◌then◌else◌, ◌||◌, List, [], ◌∷◌, ◌++◌, map, Option, Some, None, Result, Ok, Err, ok_or, IsTrue, IfSome, is_some, true≢false}
 use Rattle.std.proofs.lemmas.Bool.{cases_Bool, and_parts}
 use Rattle.std.proofs.lemmas.List.Folds.{list_any-append}
@@ -19,14 +19,14 @@ use Rattle.rdf_turtle.specs.Bases.{lacks, lacks_node, lacks_property, lacks_stat
 use Rattle.rdf_turtle.specs.Known.{holds, known_node, known_property, known_statement, declared_behind, declares_first}
 use Rattle.rdf_turtle.specs.Document.{HasTree}
 use Rattle.rdf_turtle.specs.Inside.Proper.{proper_statement}
-use Rattle.rdf_turtle.specs.Meaning.{meaning, property, properties, has_properties, statement, document, triples_of}
+use Rattle.rdf_turtle.specs.Meaning.{answer, meaning, property, properties, has_properties, statement, document, triples_of}
 use Rattle.rdf_grammar.specs.Keys.{key_of, same_key}
 use Rattle.rdf_grammar.specs.Prologue.{Prologue, resolved, declares, moves_base}
 use Rattle.rdf_turtle.specs.State as state
 use Rattle.rdf_turtle.specs.State.{State, Does, start, told}
 use Rattle.rdf_grammar.specs.Steps.{Outcome, and_then}
 use Rattle.rdf_turtle.proofs.BaseLeaves.{lexemes_formed}
-use Rattle.rdf_turtle.proofs.BaseSteps.{Holds, Given, Any, IsIri, NoLiteral, Comes, Goes, NodeGoes, then_goes, resolved_goes, each_goes}
+use Rattle.rdf_turtle.proofs.BaseSteps.{Holds, Given, Any, IsIri, Fits, WellQuad, Comes, Goes, NodeGoes, then_goes, resolved_goes, each_goes}
 use Rattle.rdf_turtle.proofs.BaseTrees.{GoodStatement, GoodTriples, all_say, good_document, statements_proper}
 use Rattle.rdf_grammar.proofs.ScopePrefixes.{prefixes_are_replaced}
 
@@ -93,9 +93,9 @@ triples_go based declared node ps good known_subject known_ps =
     let rest : Bool = list_any holds (map (lacks_property based) ps) in
     let some : has_properties (meaning node).alone ps ≡ true = good.some in
     let whole : Goes based declared (g.term_flag || (g.inside_flag || rest)) Any (λ z. and_then ((meaning node).term z) (λ y. λ a. and_then ((meaning node).inside y a) (λ _ c. properties y ps c))) =
-    then_goes based declared g.term_flag (g.inside_flag || rest) (meaning node).term (λ y a. and_then ((meaning node).inside y a) (λ _ c. properties y ps c)) (λ x. true ≡ true → NoLiteral x) Any g.term
+    then_goes based declared g.term_flag (g.inside_flag || rest) (meaning node).term (λ y a. and_then ((meaning node).inside y a) (λ _ c. properties y ps c)) (Fits true) Any g.term
     (λ y h. then_goes based declared g.inside_flag rest ((meaning node).inside y) (λ _ c. properties y ps c) Any Any (g.inside y h)
-    (λ _ _. each_goes based declared (map property ps) (map (lacks_property based) ps) (all_say based declared ps good.properties known_ps) y (h refl))) in
+    (λ _ _. each_goes based declared (map property ps) (map (lacks_property based) ps) (all_say based declared ps good.properties known_ps) y (h.1 refl, h.0))) in
     rw some (subst (λ (b : Bool). Goes based declared b Any (λ z. and_then ((meaning node).term z) (λ y. λ a. and_then ((meaning node).inside y a) (λ _ c. properties y ps c))))
     (or_grouped g.term_flag g.inside_flag rest ∙ ap (λ (b : Bool). b || rest) g.both) whole)
 
@@ -104,10 +104,10 @@ statement_behind : (based : Bool) (declared : List (List ℕ)) (w : Statement) �
 unfolding statement known_statement
 statement_behind based declared (s.Prefix prefix reference) good k z h =
     then_behind based based declared (insert_key same_key declared (key_of prefix)) (lacks based reference) (told (resolved reference) z) (λ i. state.declared (declares (key_of prefix) i)) (resolved_goes based declared reference good z h)
-    (λ i iri u g. (record u { prologue = declares (key_of prefix) i u.prologue }, refl, declared_given based declared (key_of prefix) i u.prologue iri g))
+    (λ i iri u g. (record u { prologue = declares (key_of prefix) i u.prologue }, refl, (declared_given based declared (key_of prefix) i u.prologue iri g.0, g.1)))
 statement_behind based declared (s.Base reference) good k z h =
     then_behind based true declared declared (lacks based reference) (told (resolved reference) z) (λ i. state.declared (moves_base i)) (resolved_goes based declared reference good z h)
-    (λ i iri u g. (record u { prologue = moves_base i u.prologue }, refl, moved_given based declared i u.prologue iri g))
+    (λ i iri u g. (record u { prologue = moves_base i u.prologue }, refl, (moved_given based declared i u.prologue iri g.0, g.1)))
 statement_behind based declared (s.Triples node ps) good k z h =
     let both = and_parts (known_node declared node) (list_all holds (map (known_property declared) ps)) k in
     comes_behind based declared (lacks_statement based (s.Triples node ps)) (statement (s.Triples node ps) z) (triples_go based declared node ps good both.0 both.1 z h)
@@ -116,7 +116,7 @@ statement_behind based declared (s.Triples node ps) good k z h =
 
 abbrev Ended : Bool → Outcome State (Unit {0}) → Type 0
 Ended true o = o ≡ None
-Ended false o = (u : State) × (o ≡ Some (tt, u))
+Ended false o = (u : State) × (o ≡ Some (tt, u)) × AllByRecursion WellQuad u.quads
 
 chain : (based : Bool) (declared : List (List ℕ)) (flag rest : Bool) (o : Outcome State (Unit {0})) (f : Does (Unit {0})) → Behind based declared flag o → ((u : State) → Given based declared u → Ended rest (f u))
     → Ended (flag || rest) (and_then o (λ _. f))
@@ -129,7 +129,7 @@ known_first false c e = absurd (true≢false (sym e))
 
 document_ended : (ws : List Statement) → AllByRecursion GoodStatement ws → (based : Bool) (declared : List (List ℕ)) (z : State) → Given based declared z → declares_first declared ws ≡ true
     → Ended (lacks_base based ws) (document ws z)
-document_ended [] good based declared z h k = (z, refl)
+document_ended [] good based declared z h k = (z, refl, h.1)
 document_ended (w ∷ ws) good based declared z h k =
     let both = known_first (known_statement declared w) (declares_first (declared_behind declared w) ws) k in
     chain (based_behind based w) (declared_behind declared w) (lacks_statement based w) (lacks_base (based_behind based w) ws) (statement w z) (document ws)
@@ -137,7 +137,7 @@ document_ended (w ∷ ws) good based declared z h k =
     (λ u g. document_ended ws good.1 (based_behind based w) (declared_behind declared w) u g both.1)
 
 start_given : (base : Option (List ℕ)) → IfSome base (λ b. IsTrue (is_iri b)) → Given (is_some base) [] (start base)
-start_given base iri = record { base = refl; base_iri = iri; known = λ p e. absurd (true≢false (sym e)) }
+start_given base iri = (record { base = refl; base_iri = iri; known = λ p e. absurd (true≢false (sym e)) }, tt)
 
 abbrev Answered : Bool → Outcome State (Unit {0}) → Result (List QuadParts) TurtleFaultKind
 Answered known o = if known then ok_or (option_map (λ p. (p.1).quads) o) Relative else Err UnknownPrefix
@@ -161,6 +161,25 @@ unfolding triples_of
 relative_lacks_a_base base text tree iri has =
     let good = good_document has.lexemes tree (lexemes_formed text has.tokens has.lexemes has.list) has.reads in
     relative_by (declares_first [] tree) (lacks_base (is_some base) tree) (document tree (start base)) (λ k. document_ended tree good (is_some base) [] (start base) (start_given base iri) k)
+
+-- ---- well formed quads
+
+well_by : (known lacking : Bool) (o : Outcome State (Unit {0})) (quads : List QuadParts) → (known ≡ true → Ended lacking o) → Answered known o ≡ Ok quads → AllByRecursion WellQuad quads
+well_by false lacking o quads h e = absurd (cc e)
+well_by true true o quads h e = absurd (ok_err quads Relative (sym e ∙ ap (λ (x : Outcome State (Unit {0})). Answered true x) (h refl)))
+well_by true false o quads h e =
+    let end = h refl in
+    let is : Answered true o ≡ Ok (end.0).quads = ap (λ (x : Outcome State (Unit {0})). Answered true x) end.1 in
+    let same : Ok (end.0).quads ≡ Ok quads = sym is ∙ e in
+    let quads_same : (end.0).quads ≡ quads = cc same in
+    subst (λ (x : List QuadParts). AllByRecursion WellQuad x) quads_same end.2
+
+pub quads_well : (base : Option (List ℕ)) (text : List ℕ) (tree : List Statement) (quads : List QuadParts) → IfSome base (λ b. IsTrue (is_iri b)) → HasTree text tree → answer base tree ≡ Ok quads
+    → AllByRecursion WellQuad quads
+unfolding triples_of
+quads_well base text tree quads iri has e =
+    let good = good_document has.lexemes tree (lexemes_formed text has.tokens has.lexemes has.list) has.reads in
+    well_by (declares_first [] tree) (lacks_base (is_some base) tree) (document tree (start base)) quads (λ k. document_ended tree good (is_some base) [] (start base) (start_given base iri) k) e
 
 -- each tree of a text is proper
 pub tree_proper : (text : List ℕ) (tree : List Statement) → HasTree text tree → list_all holds (map proper_statement tree) ≡ true

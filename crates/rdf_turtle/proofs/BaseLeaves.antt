@@ -20,9 +20,9 @@ use Rattle.rdf_turtle.specs.Inside.Formed.{Formed}
 use Rattle.rdf_tokens.specs.Forms.{HasForm, IsLocal}
 use Rattle.rdf_turtle.specs.Terminals.{without_case, at_word_terminal, word_terminal, symbol_terminal, terminal_of, terminal_by}
 use Rattle.rdf_grammar.specs.Lexemes.{HaveForms}
-use Rattle.rdf_tokens.specs.Values.{iri_value, local_part, tag_value}
+use Rattle.rdf_tokens.specs.Values.{iri_value, local_part, tag_value, text_value}
 use Rattle.rdf_grammar.proofs.LexemeLemmas.{lexemes_have_forms}
-use Rattle.rdf_tokens.proofs.CallerLemmas.{scalars_parts, tag_form, iri_value_is, local_part_is}
+use Rattle.rdf_tokens.proofs.CallerLemmas.{scalars_parts, tag_form, iri_value_is, local_part_is, text_value_utf8}
 
 -- ---- lexemes of a text
 
@@ -63,6 +63,10 @@ is_tag_terminal terminal.AtWord = true
 is_tag_terminal terminal.AtPrefix = true
 is_tag_terminal terminal.AtBase = true
 is_tag_terminal _ = false
+
+abbrev is_text_terminal : Terminal → Bool
+is_text_terminal terminal.Text = true
+is_text_terminal _ = false
 
 abbrev Plain : (Terminal → Bool) → Type 0
 Plain p = (p terminal.A ≡ false) × (p terminal.True ≡ false) × (p terminal.False ≡ false) × (p terminal.Prefix ≡ false) × (p terminal.Base ≡ false) × (p terminal.Other ≡ false)
@@ -128,6 +132,19 @@ tag_kind kind.Var slice e h = clash _ e refl
 tag_kind kind.Word slice e h = clash _ e (never_word is_tag_terminal (encode_utf8_all slice) (refl, refl, refl, refl, refl, refl))
 tag_kind kind.Symbol slice e h = clash _ e (never_symbol is_tag_terminal (encode_utf8_all slice) (refl, refl, refl, refl, refl, refl, refl, refl, refl, refl, refl))
 
+text_kind : (k : Kind) (slice : List ℕ) → is_text_terminal (terminal_of k slice) ≡ true → HasForm k slice → HasForm kind.Text slice
+text_kind kind.Iri slice e h = clash _ e refl
+text_kind kind.Pname slice e h = clash _ e refl
+text_kind kind.BlankLabel slice e h = clash _ e refl
+text_kind kind.AtWord slice e h = clash _ e (never_at is_text_terminal (encode_utf8_all slice) refl refl refl)
+text_kind kind.Text slice e h = h
+text_kind kind.Integer slice e h = clash _ e refl
+text_kind kind.Decimal slice e h = clash _ e refl
+text_kind kind.Double slice e h = clash _ e refl
+text_kind kind.Var slice e h = clash _ e refl
+text_kind kind.Word slice e h = clash _ e (never_word is_text_terminal (encode_utf8_all slice) (refl, refl, refl, refl, refl, refl))
+text_kind kind.Symbol slice e h = clash _ e (never_symbol is_text_terminal (encode_utf8_all slice) (refl, refl, refl, refl, refl, refl, refl, refl, refl, refl, refl))
+
 -- ---- what they stand for
 
 written_scalars : (body cs : List ℕ) → scalars body ≡ true → Writes IsIriCharacter body cs → scalars cs ≡ true
@@ -160,3 +177,8 @@ local_formed t f e =
 pub tag_formed : (t : Lexeme) → Formed t → is_tag_terminal t.terminal ≡ true → is_tag (tag_value t.text) ≡ true
 tag_formed t f e =
     tag_form t.text (tag_kind f.kind t.text (ap is_tag_terminal (sym f.is) ∙ e) f.form)
+
+pub text_utf8 : (t : Lexeme) → Formed t → t.terminal ≡ terminal.Text → IsUtf8 (text_value t.text)
+text_utf8 t f e =
+    let form = text_kind f.kind t.text (ap is_text_terminal (sym f.is ∙ e)) f.form in
+    text_value_utf8 t.text form.0 f.scalar form.1

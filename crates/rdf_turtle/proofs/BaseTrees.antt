@@ -3,6 +3,9 @@ use Rattle.std.proofs.Common.{◌≡◌, ◌∙◌, ap, refl, sym, subst, inl, i
 use Rattle.std.proofs.lemmas.Bool.{and_parts, and_from}
 use Rattle.std.specs.Prelude.{option_to_list}
 use Rattle.std.specs.List.{list_any, list_all, AllByRecursion}
+use Rattle.std.specs.Str.{IsUtf8, encode_utf8_all}
+use Rattle.rdf_terms.specs.Literal.{is_tag}
+use Rattle.rdf_tokens.specs.Values.{text_value, tag_value}
 use Rattle.rdf_terms.specs.declared.term.Term.TheVariants as t
 use Rattle.rdf_turtle.specs.declared.terminal.Terminal.{Terminal}
 use Rattle.rdf_turtle.specs.declared.terminal.Terminal.TheVariants as terminal
@@ -37,9 +40,9 @@ use Rattle.rdf_grammar.specs.declared.word.Word.{Word}
 use Rattle.rdf_grammar.specs.declared.word.Word.TheVariants as w
 use Rattle.rdf_turtle.proofs.GrammarWords.{IsJust, Tag, is_iri, is_pname, is_text, is_caret, is_integer, is_decimal, is_double, is_true, is_false, value_is, behind_is, tag_is}
 use Rattle.rdf_turtle.specs.Inside.Formed.{Formed}
-use Rattle.rdf_turtle.proofs.BaseLeaves.{is_tag_terminal, iri_utf8, local_formed, tag_formed}
+use Rattle.rdf_turtle.proofs.BaseLeaves.{is_tag_terminal, iri_utf8, local_formed, tag_formed, text_utf8}
 use Rattle.rdf_tokens.proofs.CallerLemmas.{local_allowed}
-use Rattle.rdf_turtle.proofs.BaseSteps.{NameFormed, VerbFormed, LiteralFormed, Any, IsIri, NoLiteral, IsMore, NodeGoes, SomeGoes, SaysGoes, AllGo, AllSay, pure_goes, map_goes, wide_goes, iri_goes, literal_goes, labelled_goes, fresh_goes, each_goes, list_term_goes, list_inside_goes, property_goes}
+use Rattle.rdf_turtle.proofs.BaseSteps.{NameFormed, VerbFormed, LiteralFormed, Any, IsIri, WellTerm, SubjectTerm, Fits, IsMore, NodeGoes, SomeGoes, SaysGoes, AllGo, AllSay, pure_goes, map_goes, wide_goes, iri_goes, literal_goes, labelled_goes, fresh_goes, each_goes, list_term_goes, list_inside_goes, property_goes}
 
 -- ---- trees by what they are
 
@@ -99,8 +102,8 @@ verb_proper v.Type form = refl
 
 literal_proper : (x : Literal) → LiteralFormed x → proper_literal x ≡ true
 literal_proper (l.Plain text) form = refl
-literal_proper (l.Tagged text tag) form = form
-literal_proper (l.Typed text name) form = name_proper name form
+literal_proper (l.Tagged text tag) form = form.1
+literal_proper (l.Typed text name) form = name_proper name form.1
 literal_proper (l.Integer text) form = refl
 literal_proper (l.Decimal text) form = refl
 literal_proper (l.Double text) form = refl
@@ -142,7 +145,7 @@ name_says name form based declared k =
       term_flag = lacks_name based name;
       inside_flag = false;
       both = or-false (lacks_name based name);
-      term = map_goes based declared (lacks_name based name) (iri name) t.Iri IsIri (λ x. true ≡ true → NoLiteral x) (iri_goes based declared name form in_scope) (λ i h e. refl);
+      term = map_goes based declared (lacks_name based name) (iri name) t.Iri IsIri (Fits true) (iri_goes based declared name form in_scope) (λ i h. (h, λ e. refl));
       inside = λ x h. pure_goes based declared tt Any tt;
     })
 
@@ -152,7 +155,7 @@ label_says label based declared k =
       term_flag = false;
       inside_flag = false;
       both = refl;
-      term = wide_goes based declared false _ NoLiteral (λ x. true ≡ true → NoLiteral x) (labelled_goes based declared (key_of label)) (λ x h e. h);
+      term = wide_goes based declared false _ SubjectTerm (Fits true) (labelled_goes based declared (key_of label)) (λ x h. (h.1, λ e. h.0));
       inside = λ x h. pure_goes based declared tt Any tt;
     })
 
@@ -163,8 +166,8 @@ blank_says ps all based declared k =
       term_flag = false;
       inside_flag = list_any holds (map (lacks_property based) ps);
       both = refl;
-      term = wide_goes based declared false _ NoLiteral (λ x. true ≡ true → NoLiteral x) (fresh_goes based declared) (λ x h e. h);
-      inside = λ x h. each_goes based declared (map property ps) (map (lacks_property based) ps) (all_say based declared ps all in_scope) x (h refl);
+      term = wide_goes based declared false _ SubjectTerm (Fits true) (fresh_goes based declared) (λ x h. (h.1, λ e. h.0));
+      inside = λ x h. each_goes based declared (map property ps) (map (lacks_property based) ps) (all_say based declared ps all in_scope) x (h.1 refl, h.0);
     })
 
 collection_says : (xs : List Node) → AllByRecursion GoodNode xs → SubjectSays (n.Collection xs)
@@ -174,8 +177,8 @@ collection_says xs all based declared k =
       term_flag = false;
       inside_flag = list_any holds (map (lacks_node based) xs);
       both = refl;
-      term = wide_goes based declared false _ NoLiteral (λ x. true ≡ true → NoLiteral x) (list_term_goes based declared (map meaning xs)) (λ x h e. h);
-      inside = λ x h. list_inside_goes based declared (map meaning xs) (map (lacks_node based) xs) (all_go based declared xs all in_scope) x (h refl);
+      term = wide_goes based declared false _ SubjectTerm (Fits true) (list_term_goes based declared (map meaning xs)) (λ x h. (h.1, λ e. h.0));
+      inside = λ x h. list_inside_goes based declared (map meaning xs) (map (lacks_node based) xs) (all_go based declared xs all in_scope) x (h.1 refl, h.0);
     })
 
 literal_says : (x : Literal) → LiteralFormed x → NodeSays (n.Literal x)
@@ -186,7 +189,7 @@ literal_says x form based declared k =
         term_flag = lacks_literal based x;
         inside_flag = false;
         both = or-false (lacks_literal based x);
-        term = wide_goes based declared (lacks_literal based x) _ Any (λ y. false ≡ true → NoLiteral y) (literal_goes based declared x form in_scope) (λ y h e. absurd (true≢false (sym e)));
+        term = wide_goes based declared (lacks_literal based x) _ WellTerm (Fits false) (literal_goes based declared x form in_scope) (λ y h. (h, λ e. absurd (true≢false (sym e))));
         inside = λ y h. pure_goes based declared tt Any tt;
       }),
     )
@@ -314,8 +317,18 @@ reference_formed r h = subst (λ (x : Piece). NameFormed (Full x)) h.is (iri_utf
 prefixed_formed : (text : Piece) → IsOf terminal.Pname text → NameFormed (productions.prefixed text)
 prefixed_formed text h = subst (λ (x : Piece). NameFormed (productions.prefixed x)) h.is (local_formed h.lexeme h.formed h.terminal)
 
-tag_at : (k : Terminal) (form tag : Piece) → is_tag_terminal k ≡ true → IsOf k tag → LiteralFormed (l.Tagged form tag)
-tag_at k form tag e h = subst (λ (x : Piece). LiteralFormed (l.Tagged form x)) h.is (tag_formed h.lexeme h.formed (ap is_tag_terminal h.terminal ∙ e))
+abbrev IsTag : Piece → Type 0
+IsTag tag = is_tag (tag_value tag) ≡ true
+
+tag_at : (k : Terminal) (tag : Piece) → is_tag_terminal k ≡ true → IsOf k tag → IsTag tag
+tag_at k tag e h = subst IsTag h.is (tag_formed h.lexeme h.formed (ap is_tag_terminal h.terminal ∙ e))
+
+text_formed : (form : Piece) → IsOf terminal.Text form → IsUtf8 (text_value form)
+text_formed form h = subst (λ (x : Piece). IsUtf8 (text_value x)) h.is (text_utf8 h.lexeme h.formed h.terminal)
+
+-- the characters of a lexeme are a text
+own_formed : (k : Terminal) (form : Piece) → IsOf k form → IsUtf8 (encode_utf8_all form)
+own_formed k form h = subst (λ (x : Piece). IsUtf8 (encode_utf8_all x)) h.is (h.lexeme.text, (h.formed.scalar, refl))
 
 -- what derives no more gives the same
 by_gives : {A : Type 0} (P Q : Derives A) (Good : A → Type 0) → ((ts : Lexemes) (x : A) (us : Lexemes) → P ts x us → Q ts x us) → Gives Q Good → Gives P Good
@@ -334,29 +347,26 @@ iri_gives = or_gives _ _ NameFormed (map_gives Full _ _ NameFormed (word_gives w
 verb_gives : Gives g.AVerb VerbFormed
 verb_gives = or_gives _ _ VerbFormed (map_gives v.Name _ NameFormed VerbFormed iri_gives (λ a h. h)) (closed_gives terminal.A v.Type VerbFormed tt)
 
-abbrev IsTag : Piece → Type 0
-IsTag tag = LiteralFormed (l.Tagged [] tag)
-
 tag_of : (k : Terminal) → is_tag_terminal k ≡ true → Gives (grammar.value k) IsTag
 unfolding Gives
-tag_of k e ts x us d w = let r = value_gives k ts x us d w in (tag_at k [] x e r.0, r.1)
+tag_of k e ts x us d w = let r = value_gives k ts x us d w in (tag_at k x e r.0, r.1)
 
 tag_gives : Gives Tag IsTag
 tag_gives = or_gives _ _ IsTag (tag_of terminal.AtWord refl) (or_gives _ _ IsTag (tag_of terminal.AtPrefix refl) (tag_of terminal.AtBase refl))
 
-suffix_gives : (form : Piece) → Gives (productions.Suffix word form) LiteralFormed
-suffix_gives form =
-    or_gives _ _ LiteralFormed (map_gives (l.Tagged form) _ IsTag LiteralFormed (by_gives _ Tag IsTag tag_is tag_gives) (λ a h. h))
-    (or_gives _ _ LiteralFormed (behind_word w.Caret terminal.Caret is_caret _ LiteralFormed (map_gives (l.Typed form) _ NameFormed LiteralFormed iri_gives (λ a h. h))) (pure_gives (l.Plain form) LiteralFormed tt))
+suffix_gives : (form : Piece) → IsUtf8 (text_value form) → Gives (productions.Suffix word form) LiteralFormed
+suffix_gives form text =
+    or_gives _ _ LiteralFormed (map_gives (l.Tagged form) _ IsTag LiteralFormed (by_gives _ Tag IsTag tag_is tag_gives) (λ a h. (text, h)))
+    (or_gives _ _ LiteralFormed (behind_word w.Caret terminal.Caret is_caret _ LiteralFormed (map_gives (l.Typed form) _ NameFormed LiteralFormed iri_gives (λ a h. (text, h)))) (pure_gives (l.Plain form) LiteralFormed text))
 
 text_gives : Gives (productions.RDFLiteral word) LiteralFormed
-text_gives = then_gives _ _ _ LiteralFormed (word_gives w.Text terminal.Text is_text) (λ form h. suffix_gives form)
+text_gives = then_gives _ _ _ LiteralFormed (word_gives w.Text terminal.Text is_text) (λ form h. suffix_gives form (text_formed form h))
 
 number_gives : Gives (productions.NumericLiteral word) LiteralFormed
 number_gives =
-    or_gives _ _ LiteralFormed (map_gives l.Integer _ _ LiteralFormed (word_gives w.Integer terminal.Integer is_integer) (λ a h. tt))
-    (or_gives _ _ LiteralFormed (map_gives l.Decimal _ _ LiteralFormed (word_gives w.Decimal terminal.Decimal is_decimal) (λ a h. tt))
-    (map_gives l.Double _ _ LiteralFormed (word_gives w.Double terminal.Double is_double) (λ a h. tt)))
+    or_gives _ _ LiteralFormed (map_gives l.Integer _ _ LiteralFormed (word_gives w.Integer terminal.Integer is_integer) (own_formed terminal.Integer))
+    (or_gives _ _ LiteralFormed (map_gives l.Decimal _ _ LiteralFormed (word_gives w.Decimal terminal.Decimal is_decimal) (own_formed terminal.Decimal))
+    (map_gives l.Double _ _ LiteralFormed (word_gives w.Double terminal.Double is_double) (own_formed terminal.Double)))
 
 truth_gives : Gives (productions.BooleanLiteral word) LiteralFormed
 truth_gives =

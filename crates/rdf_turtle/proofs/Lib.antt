@@ -14,6 +14,7 @@ pub mod GrammarWhole
 pub mod GrammarWords
 pub mod PrologueSteps
 pub mod ProperLists
+pub mod ReadBackLemmas
 pub mod ScopeBlanks
 pub mod ScopeLoops
 pub mod ScopeSteps

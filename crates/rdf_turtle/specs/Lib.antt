@@ -11,6 +11,7 @@ pub mod Leaves
 pub mod Lexemes
 pub mod Meaning
 pub mod Nesting
+pub mod ReadBack
 pub mod State
 pub mod Terminals
 pub mod TokenFaults

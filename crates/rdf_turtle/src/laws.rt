@@ -1,6 +1,7 @@
 //! What holds of each document and its tree.
 ghost use Rattle.rdf_turtle.specs.Lexemes.{LexemesHaveForms};
 ghost use Rattle.rdf_turtle.specs.Leaves.{OneDocument, DocumentsHaveSubjects, LeavesAreLexemes};
+ghost use Rattle.rdf_turtle.specs.ReadBack.{QuadsAreWellFormed, NumbersComeInOrder, DocumentsAreReadBack};
 ghost use Rattle.rdf_turtle.specs.WrittenLaws.{WrittenTriplesAreTurtle};
 
 /// No lexemes are two documents (Turtle 1.1, section 6.5): the grammar has one tree at most for
@@ -26,6 +27,15 @@ pub fn leaves_are_lexemes()
 /// numbers come in order of first appearance, from 0.
 pub fn written_triples_are_turtle()
     ensures { WrittenTriplesAreTurtle }
+{}
+
+/// The quads of a document are well formed triples (RDF 1.1 Concepts, section 3.1), and its blank
+/// nodes have numbers in order of first appearance, from 0. So what is written of a document is
+/// read back: the canonical lines of its quads are a document of these very quads, in this order.
+pub fn documents_are_read_back()
+    ensures well_formed { QuadsAreWellFormed }
+    ensures in_order { NumbersComeInOrder }
+    ensures read_back { DocumentsAreReadBack }
 {}
 
 /// The lexemes of a text have the forms of its tokens.
