@@ -28,13 +28,13 @@ SameBag-flat_map g k xs ys h each f =
     sum_by-flat_map f g xs ∙ sum_by-cong (λ x. sum_by f (g x)) (λ x. sum_by f (k x)) xs (λ x. each x f)
     ∙ h (λ x. sum_by f (k x)) ∙ sym (sum_by-flat_map f k ys)
 
-SameBag-merges : (a : Mapping) (B D : List Mapping) → SameBag B D → SameBag (merges B a) (merges D a)
+pub SameBag-merges : (a : Mapping) (B D : List Mapping) → SameBag B D → SameBag (merges B a) (merges D a)
 SameBag-merges a B D h = SameBag-map (merge a) (filter (compatible a) B) (filter (compatible a) D) (SameBag-filter (compatible a) B D h)
 
 pub SameBag-joins : (A C B D : List Mapping) → SameBag A C → SameBag B D → SameBag (joins A B) (joins C D)
 SameBag-joins A C B D h k = SameBag-flat_map (merges B) (merges D) A C h (λ a. SameBag-merges a B D k)
 
-SameBag-or_alone : (a : Mapping) (xs ys : List Mapping) → SameBag xs ys → SameBag (or_alone a xs) (or_alone a ys)
+pub SameBag-or_alone : (a : Mapping) (xs ys : List Mapping) → SameBag xs ys → SameBag (or_alone a xs) (or_alone a ys)
 SameBag-or_alone a [] [] h = SameBag-refl (a ∷ [])
 SameBag-or_alone a [] (y ∷ ys) h = absurd (omega (arith, h (λ _. 1), sum_by-cons (λ (_ : Mapping). 1) y ys))
 SameBag-or_alone a (x ∷ xs) [] h = absurd (omega (arith, h (λ _. 1), sum_by-cons (λ (_ : Mapping). 1) x xs))

@@ -221,12 +221,12 @@ empty_solutions variables quads f =
     SameBag-map (take (length variables)) (assignments variables quads empty_group) (empty_mapping variables ∷ []) (only_empty variables quads) f
     ∙ ap (λ (m : Mapping). sum_by f (m ∷ [])) (take-replicate (length variables) (length variables) None (omega arith))
 
-compatible_empty : (n : ℕ) (a : Mapping) → compatible (replicate n None) a ≡ true
+pub compatible_empty : (n : ℕ) (a : Mapping) → compatible (replicate n None) a ≡ true
 compatible_empty zero a = refl
 compatible_empty (suc n) [] = refl
 compatible_empty (suc n) (x ∷ a) = compatible_empty n a
 
-merge_empty : (n : ℕ) (a : Mapping) → has_length n a ≡ true → merge (replicate n None) a ≡ a
+pub merge_empty : (n : ℕ) (a : Mapping) → has_length n a ≡ true → merge (replicate n None) a ≡ a
 merge_empty zero [] h = refl
 merge_empty zero (x ∷ a) h = cc
 merge_empty (suc n) [] h = cc

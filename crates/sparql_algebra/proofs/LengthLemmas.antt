@@ -82,7 +82,7 @@ merge_length (suc n) [] b h k = cc
 merge_length (suc n) (x ∷ a) [] h k = cc
 merge_length (suc n) (x ∷ a) (y ∷ b) h k = merge_length n a b h k
 
-set_length : (m : Mapping) (o : Option ℕ) (t : Term) → length (set_in m o t) ≡ length m
+pub set_length : (m : Mapping) (o : Option ℕ) (t : Term) → length (set_in m o t) ≡ length m
 set_length m (Some place) t = length-set m place (Some t)
 set_length m None t = refl
 

@@ -1,10 +1,13 @@
 -- A term that a place of a row refuses, it refuses in each row that grows from that one.
 use Rattle.std.proofs.Common.{◌≡◌, ℕ, zero, suc, Bool, true, false, cond, ◌&&◌, [], ◌∷◌, Option, Some, None, refl, sym, ap, ◌∙◌, is_some, subst}
 use Rattle.std.specs.Prelude.{slice_get, slice_set, option_and_then}
+use mathlib.Core.Bool.{true≢false}
+use Rattle.rdf_dataset.specs.State.{fits_place}
 use Rattle.rdf_terms.specs.Quad.{QuadParts}
 use Rattle.rdf_terms.specs.declared.term.Term.{Term}
-use Rattle.sparql_values.specs.Mapping.{Mapping, same_term}
-use Rattle.sparql_solve.specs.Matching.{assigned_at, assigned, matched, fits}
+use Rattle.sparql_values.specs.Mapping.{Mapping, same_term, value_at}
+use Rattle.sparql_algebra.proofs.CallerLemmas.{and_left, and_right, has_terms}
+use Rattle.sparql_solve.specs.Matching.{assigned_at, assigned, matched, fits, held}
 use Rattle.sparql_solve.specs.declared.place.Place.{Place}
 use Rattle.sparql_solve.specs.declared.place.Place.TheVariants.{Fixed, Column, Nowhere}
 use Rattle.sparql_solve.specs.declared.place.Places.{Places}
@@ -83,3 +86,37 @@ no_fit p m q h = by_predicate (assigned m p.predicate q.predicate) refl h
         option_and_then (λ k. option_and_then (λ l. assigned l p.object q.object) (assigned k p.subject q.subject)) o ≡ None
     by_predicate None e r = refl
     by_predicate (Some k) e r = by_subject k e (is_some (assigned m p.subject q.subject)) refl r
+
+-- ---- a triple that fits has the terms of the bound places
+
+at_column : (m : Mapping) (c : ℕ) (u : Term) → admits (slice_get m c) u ≡ true → fits_place (value_at m c) u ≡ true
+at_column [] c u h = refl
+at_column (Some t ∷ m) zero u h = h
+at_column (None ∷ m) zero u h = refl
+at_column (x ∷ m) (suc c) u h = at_column m c u h
+
+held_fits : (m : Mapping) (x : Place) (u : Term) → is_some (assigned m x u) ≡ true → fits_place (held m x) u ≡ true
+held_fits m (Fixed t) u h = sym (some_where (same_term t u) m) ∙ h
+held_fits m (Column c) u h = at_column m c u (sym (assigned_admits m c u (slice_get m c)) ∙ h)
+held_fits m Nowhere u h = cc
+
+abbrev pub terms_under : Places → Mapping → QuadParts → Bool
+terms_under p m = has_terms (held m p.subject) (held m p.predicate) (held m p.object)
+
+fit_terms : (p : Places) (m : Mapping) (q : QuadParts) → fits p m q ≡ true → terms_under p m q ≡ true
+fit_terms p m q h =
+    let rest : (is_some (assigned m p.subject q.subject) && is_some (assigned m p.object q.object)) ≡ true =
+    and_right (is_some (assigned m p.predicate q.predicate)) _ h in
+    ap (λ b. b && (fits_place (held m p.predicate) q.predicate && fits_place (held m p.object) q.object))
+    (held_fits m p.subject q.subject (and_left (is_some (assigned m p.subject q.subject)) _ rest))
+    ∙ ap (λ b. b && fits_place (held m p.object) q.object)
+    (held_fits m p.predicate q.predicate (and_left (is_some (assigned m p.predicate q.predicate)) _ h))
+    ∙ held_fits m p.object q.object (and_right (is_some (assigned m p.subject q.subject)) _ rest)
+
+-- a triple without them is no match
+pub no_terms : (p : Places) (m : Mapping) (q : QuadParts) → terms_under p m q ≡ false → matched p m q ≡ None
+no_terms p m q h = by_fit (fits p m q) refl
+  where
+    by_fit : (b : Bool) → fits p m q ≡ b → matched p m q ≡ None
+    by_fit true e = absurd (true≢false (sym (fit_terms p m q e) ∙ h))
+    by_fit false e = no_fit p m q e

@@ -1,5 +1,5 @@
 -- What a match of one triple pattern makes of a mapping, seen from a mapping that grows from it.
-use Rattle.std.proofs.Common.{◌≡◌, ℕ, ◌+◌, zero, suc, Bool, true, false, cond, ◌&&◌, ◌||◌, [], ◌∷◌, Option, Some, None, refl, sym, ap, ◌∙◌, eqb, is_some, length}
+use Rattle.std.proofs.Common.{◌≡◌, ℕ, ◌+◌, zero, suc, Bool, true, false, cond, ◌&&◌, ◌||◌, [], ◌∷◌, Option, Some, None, refl, sym, ap, ◌∙◌, eqb, length}
 use Rattle.std.proofs.Math.Dec.{eqb-zero-suc, eqb-suc-zero, eqb-suc-suc}
 use Rattle.std.specs.Prelude.{slice_get, option_and_then}
 use Rattle.rdf_terms.specs.Quad.{QuadParts}
@@ -7,8 +7,9 @@ use Rattle.rdf_terms.specs.declared.term.Term.{Term}
 use Rattle.sparql_trees.specs.declared.pattern.TriplePattern.{TriplePattern}
 use Rattle.sparql_trees.specs.declared.pattern.VarOrTerm.{VarOrTerm}
 use Rattle.sparql_trees.specs.declared.pattern.VarOrTerm.TheVariants as x
-use Rattle.sparql_values.specs.Mapping.{Variables, Mapping, same_term, same_value, value_at, value_in, column}
-use Rattle.sparql_algebra.specs.Solutions.{var_or_term, term_at, is_at, is_column, same_bool}
+use Rattle.sparql_values.specs.Mapping.{Variables, Mapping, same_term, value_at, value_in, column}
+use Rattle.sparql_algebra.specs.Solutions.{var_or_term, term_at, is_at, is_column}
+use Rattle.sparql_algebra.specs.Growth.{value_grows, grows}
 use Rattle.sparql_algebra.proofs.CallerLemmas.{and_false, and_swap, and_assoc, same_term_is}
 use Rattle.sparql_solve.specs.Matching.{place_by, place_of, places_of, assigned_at, assigned, matched}
 
@@ -33,25 +34,13 @@ opt_test : {A : Type 0} (b : Bool) (x : A) (f : A → Bool) → opt (cond b (Som
 opt_test true x f = refl
 opt_test false x f = refl
 
--- at one column: the value stays, or comes where the test says so
-abbrev pub slot : Option Term → Option Term → Bool → Bool
-slot (Some t) y b = same_value y (Some t)
-slot None y b = same_bool (is_some y) b
-
--- the second mapping is the first with more values, in just the columns of the test
-abbrev pub grows : (ℕ → Bool) → Mapping → Mapping → Bool
-grows test [] [] = true
-grows test [] (y ∷ w) = false
-grows test (x ∷ m) [] = false
-grows test (x ∷ m) (y ∷ w) = slot x y (test zero) && grows (λ c. test (suc c)) m w
-
 pub grows_cong : (f g : ℕ → Bool) (m w : Mapping) → ((c : ℕ) → f c ≡ g c) → grows f m w ≡ grows g m w
 grows_cong f g [] [] e = refl
 grows_cong f g [] (y ∷ w) e = refl
 grows_cong f g (x ∷ m) [] e = refl
 grows_cong f g (x ∷ m) (y ∷ w) e =
-    ap (λ b. slot x y b && grows (λ c. f (suc c)) m w) (e zero)
-    ∙ ap (λ b. slot x y (g zero) && b) (grows_cong (λ c. f (suc c)) (λ c. g (suc c)) m w (λ c. e (suc c)))
+    ap (λ b. value_grows x y b && grows (λ c. f (suc c)) m w) (e zero)
+    ∙ ap (λ b. value_grows x y (g zero) && b) (grows_cong (λ c. f (suc c)) (λ c. g (suc c)) m w (λ c. e (suc c)))
 
 abbrev pub is_term : Option Term → Term → Bool
 is_term None u = false
@@ -73,13 +62,13 @@ never_ends test x m c u (Some (Some t)) = opt_test (same_term t u) (x ∷ m) (λ
 
 shifted : (test : ℕ → Bool) (x y : Option Term) (m w : Mapping) (c : ℕ) (u : Term) (o : Option (Option Term)) →
     opt (assigned_at (x ∷ m) (suc c) u o) (λ k. grows test k (y ∷ w))
-    ≡ (slot x y (test zero) && opt (assigned_at m c u o) (λ k. grows (λ d. test (suc d)) k w))
-shifted test x y m w c u None = sym (and_false (slot x y (test zero)))
+    ≡ (value_grows x y (test zero) && opt (assigned_at m c u o) (λ k. grows (λ d. test (suc d)) k w))
+shifted test x y m w c u None = sym (and_false (value_grows x y (test zero)))
 shifted test x y m w c u (Some None) = refl
 shifted test x y m w c u (Some (Some t)) =
     opt_test (same_term t u) (x ∷ m) (λ k. grows test k (y ∷ w))
-    ∙ and_swap (same_term t u) (slot x y (test zero)) (grows (λ d. test (suc d)) m w)
-    ∙ ap (λ b. slot x y (test zero) && b) (sym (opt_test (same_term t u) m (λ k. grows (λ d. test (suc d)) k w)))
+    ∙ and_swap (same_term t u) (value_grows x y (test zero)) (grows (λ d. test (suc d)) m w)
+    ∙ ap (λ b. value_grows x y (test zero) && b) (sym (opt_test (same_term t u) m (λ k. grows (λ d. test (suc d)) k w)))
 
 column_grows : (test : ℕ → Bool) (m w : Mapping) (c : ℕ) (u : Term) →
     opt (assigned_at m c u (slice_get m c)) (λ k. grows test k w) ≡ (is_term (value_at w c) u && grows (λ d. eqb d c || test d) m w)
@@ -96,10 +85,10 @@ column_grows test (None ∷ m) (Some v ∷ w) zero u =
     ap (λ b. same_term v u && b) (grows_cong (λ d. test (suc d)) (λ d. eqb (suc d) zero || test (suc d)) m w (λ d. ap (λ b. b || test (suc d)) (sym (eqb-suc-zero d))))
 column_grows test (x ∷ m) (y ∷ w) (suc c) u =
     shifted test x y m w c u (slice_get m c)
-    ∙ ap (λ b. slot x y (test zero) && b) (column_grows (λ d. test (suc d)) m w c u)
-    ∙ and_swap (slot x y (test zero)) (is_term (value_at w c) u) (grows (λ d. eqb d c || test (suc d)) m w)
-    ∙ ap (λ b. is_term (value_at w c) u && (slot x y (b || test zero) && grows (λ d. eqb d c || test (suc d)) m w)) (sym (eqb-zero-suc c))
-    ∙ ap (λ b. is_term (value_at w c) u && (slot x y (eqb zero (suc c) || test zero) && b))
+    ∙ ap (λ b. value_grows x y (test zero) && b) (column_grows (λ d. test (suc d)) m w c u)
+    ∙ and_swap (value_grows x y (test zero)) (is_term (value_at w c) u) (grows (λ d. eqb d c || test (suc d)) m w)
+    ∙ ap (λ b. is_term (value_at w c) u && (value_grows x y (b || test zero) && grows (λ d. eqb d c || test (suc d)) m w)) (sym (eqb-zero-suc c))
+    ∙ ap (λ b. is_term (value_at w c) u && (value_grows x y (eqb zero (suc c) || test zero) && b))
     (grows_cong (λ d. eqb d c || test (suc d)) (λ d. eqb (suc d) (suc c) || test (suc d)) m w (λ d. ap (λ b. b || test (suc d)) (sym (eqb-suc-suc d c))))
 
 -- a variable by its column

@@ -3,6 +3,7 @@ pub mod FilterLemmas
 pub mod FitLemmas
 pub mod GrowthLemmas
 pub mod MatchingLemmas
+pub mod LookUpLemmas
 pub mod BasicLemmas
 pub mod StepLemmas
 pub mod DistinctLemmas

@@ -1,5 +1,5 @@
 -- How often the matches of a basic graph pattern hold a mapping.
-use Rattle.std.proofs.Common.{◌≡◌, ℕ, ◌+◌, ◌≤◌, Bool, true, false, cond, ◌&&◌, ◌||◌, List, [], ◌∷◌, Option, Some, None, refl, sym, ap, ◌∙◌, arith}
+use Rattle.std.proofs.Common.{◌≡◌, ℕ, ◌+◌, ◌≤◌, Bool, true, false, cond, ◌&&◌, ◌||◌, List, [], ◌∷◌, map, Option, Some, None, refl, sym, ap, ◌∙◌, arith}
 use Rattle.std.specs.List.{sum_by, count_by, filter_map, cons_option, list_all}
 use Rattle.std.proofs.lemmas.List.Sums.{sum_by-cons}
 use Rattle.rdf_terms.specs.Quad.{QuadParts}
@@ -7,16 +7,17 @@ use Rattle.rdf_terms.specs.declared.term.Term.{Term}
 use Rattle.sparql_trees.specs.declared.pattern.TriplePattern.{TriplePattern}
 use Rattle.sparql_values.specs.Mapping.{Variables, Mapping, same_term, same_value, same_mapping}
 use Rattle.sparql_algebra.specs.Solutions.{var_or_term, term_at, occurs, is_triple, holds, instance_lies}
+use Rattle.sparql_algebra.specs.Growth.{grows}
 use Rattle.sparql_algebra.proofs.CallerLemmas.{one, sum_by-cong, sum_by-flat_map, and_false, and_swap, and_assoc, sum_zero, sum_of_tests, at_most_once}
 use Rattle.sparql_solve.specs.Matching.{places_of, matched, matches_of, stepped, matching}
-use Rattle.sparql_solve.proofs.GrowthLemmas.{opt, opt_and, grows, is_term, is_instance, in_pattern, matched_grows}
+use Rattle.sparql_solve.proofs.GrowthLemmas.{opt, opt_and, is_term, is_instance, in_pattern, matched_grows}
 
-abbrev num : {A : Type 0} → Option A → (A → ℕ) → ℕ
+abbrev pub num : {A : Type 0} → Option A → (A → ℕ) → ℕ
 num None f = 0
 num (Some x) f = f x
 
 module _ {X Y : Type 0} where
-  sum_by-filter_map : (f : Y → ℕ) (h : X → Option Y) (xs : List X) → sum_by f (filter_map h xs) ≡ sum_by (λ x. num (h x) f) xs
+  pub sum_by-filter_map : (f : Y → ℕ) (h : X → Option Y) (xs : List X) → sum_by f (filter_map h xs) ≡ sum_by (λ x. num (h x) f) xs
   sum_by-filter_map f h [] = refl
   sum_by-filter_map f h (x ∷ xs) = by_case (h x) (sum_by-filter_map f h xs) ∙ sym (sum_by-cons (λ y. num (h y) f) x xs)
     where
@@ -89,7 +90,7 @@ module _ (vs : Variables) (g : List QuadParts) (set : IsSetOfTriples g) where
       ∙ ap one (sym (and_assoc (instance_lies vs g w p) L G))
 
   pub matching_counts : (w : Mapping) (ps : List TriplePattern) (ms : List Mapping) →
-      count_by (same_mapping w) (matching vs g ps ms) ≡ sum_by (λ m. one (reaches vs g ps m w)) ms
+      count_by (same_mapping w) (matching g (map (places_of vs) ps) ms) ≡ sum_by (λ m. one (reaches vs g ps m w)) ms
   matching_counts w [] ms = sum_by-cong (λ m. cond (same_mapping w m) 1 0) (λ m. one (reaches vs g [] m w)) ms (λ m. ap one (sym (grows_none m w)))
   matching_counts w (p ∷ ps) ms =
       let P = places_of vs p in

@@ -39,7 +39,7 @@ module _ (vs : Variables) (s : State) (g : GraphName) where
       let start : take (length vs) (replicate (length vs + 0) None) ≡ replicate (length vs) None =
       ap (λ k. take (length vs) (replicate k None)) (no_more (length vs)) ∙ take_own None (length vs) in
       subst (λ xs. SameBag xs (solutions vs d g empty_pattern)) (ap (λ (x : Mapping). x ∷ []) start ∙ sym e)
-      (basic_bag vs s g (record { triples = []; hidden = 0 }) (d.quads g) (d.quads g) (l.quads g) (l.quads g))
+      (basic_bag vs s g (record { triples = []; hidden = 0 }) (d.quads g) (l.quads g))
 
   -- ---- the members of a group
 

@@ -1,12 +1,15 @@
--- How the plain evaluator matches a basic graph pattern: one triple pattern after another.
+-- How a basic graph pattern is matched: one triple pattern after another, under each mapping so far.
 use Rattle.std.specs.Prelude.{ℕ, ◌+◌, Bool, ◌&&◌, cond, List, length, Option, Some, None, is_some, slice_get, slice_set, option_and_then}
 use Rattle.std.specs.List.{fold, filter_map, flat_map}
+use Rattle.std.specs.FinSet as set
 use Rattle.rdf_terms.specs.Quad.{QuadParts}
+use Rattle.rdf_terms.specs.declared.quad.GraphName.{GraphName}
+use Rattle.rdf_dataset.specs.State.{State, Quads, matches}
 use Rattle.rdf_terms.specs.declared.term.Term.{Term}
 use Rattle.sparql_trees.specs.declared.pattern.TriplePattern.{TriplePattern}
 use Rattle.sparql_trees.specs.declared.pattern.VarOrTerm.{VarOrTerm}
 use Rattle.sparql_trees.specs.declared.pattern.VarOrTerm.TheVariants as x
-use Rattle.sparql_values.specs.Mapping.{Variables, Mapping, same_term, column}
+use Rattle.sparql_values.specs.Mapping.{Variables, Mapping, same_term, column, value_at}
 use Rattle.sparql_algebra.specs.Solutions.{var_or_term}
 use Rattle.sparql_solve.specs.declared.place.Place.{Place}
 use Rattle.sparql_solve.specs.declared.place.Place.TheVariants.{Fixed, Column, Nowhere}
@@ -67,5 +70,18 @@ matches_of quads p m = filter_map (matched p m) quads
 abbrev pub stepped : List QuadParts → List Mapping → Places → List Mapping
 stepped quads ms p = flat_map (matches_of quads p) ms
 
-abbrev pub matching : Variables → List QuadParts → List TriplePattern → List Mapping → List Mapping
-matching vs quads ps ms = fold (λ ns p. stepped quads ns (places_of vs p)) ms ps
+-- the mappings that grow from these
+abbrev pub matching : List QuadParts → List Places → List Mapping → List Mapping
+matching quads ps ms = fold (stepped quads) ms ps
+
+-- ---- look-ups
+
+-- the term that the place has in the mapping
+abbrev pub held : Mapping → Place → Option Term
+held m (Fixed t) = Some t
+held m (Column c) = value_at m c
+held m Nowhere = None
+
+-- the quads of a graph that have the terms which the mapping has at the places
+abbrev pub quads_under : State → GraphName → Places → Mapping → Quads
+quads_under s g p m = set.retain s.quads (matches g (held m p.subject) (held m p.predicate) (held m p.object))

@@ -1,15 +1,16 @@
 //! Basic graph patterns: the rows under which every instance lies in the graph
-//! (SPARQL 1.1 Query, section 18.3.1).
+//! (SPARQL 1.1 Query, section 18.3.1), by look-ups.
 ghost use Rattle.std.specs.Prelude.{◌≡◌, IfOk, map, take, replicate, None, ◌∷◌, []};
 ghost use Rattle.sparql_algebra.specs.Solutions.{basic_solutions};
-ghost use Rattle.sparql_solve.specs.Matching.{fits, matched, matches_of, stepped, matching};
+ghost use Rattle.rdf_dataset.specs.Sorted.{ListsOnce};
+ghost use Rattle.sparql_solve.specs.Matching.{fits, matched, matches_of, stepped, matching, quads_under};
 ghost use Rattle.sparql_solve.specs.Steps.{Gives};
 
-use crate::place::{Places, places_of};
+use crate::place::{Places, all_places};
 use crate::rows::Row;
 use rdf_dataset::Source;
 use rdf_terms::{GraphName, NoMemory, Quad, Text};
-use sparql_trees::{BasicGraphPattern, TriplePattern};
+use sparql_trees::BasicGraphPattern;
 use std::alloc::Global;
 
 // Whether each place of the row may have its term of the triple.
@@ -63,32 +64,76 @@ fn matches_of_row(
     Ok(out)
 }
 
-fn step(alloc: Global, rows: &[Row], places: &Places, quads: &[Quad]) -> Result<Vec<Row>, NoMemory>
-    ensures { IfOk result (λ out. out.items ≡ stepped quads.now rows.now places.now) }
+// The quads of the graph that have the terms which the row has at the places.
+fn quads_under<S: Source>(
+    alloc: Global,
+    graph: &GraphName,
+    source: &S,
+    places: &Places,
+    row: &Row,
+) -> Result<Vec<Quad>, NoMemory>
+    ensures { IfOk result (λ found. ListsOnce (quads_under (S.contents source.now) graph.now
+        places.now row.now) found.items) }
+{
+    let mut found = Vec::new(alloc);
+    source.matches(
+        graph,
+        row.held(&places.subject),
+        row.held(&places.predicate),
+        row.held(&places.object),
+        &mut found,
+    )?;
+    Ok(found)
+}
+
+// The rows that one triple pattern makes of a row, by a look-up of its triples.
+fn look_up<S: Source>(
+    alloc: Global,
+    graph: &GraphName,
+    source: &S,
+    places: &Places,
+    row: &Row,
+) -> Result<Vec<Row>, NoMemory>
+    ensures { IfOk result (λ out. Gives (S.contents source.now) out.items
+        (λ d. matches_of (d.quads graph.now) places.now row.now)) }
+{
+    let quads = quads_under(alloc, graph, source, places, row)?;
+    matches_of_row(alloc, row, places, &quads)
+}
+
+fn step<S: Source>(
+    alloc: Global,
+    graph: &GraphName,
+    source: &S,
+    places: &Places,
+    rows: &[Row],
+) -> Result<Vec<Row>, NoMemory>
+    ensures { IfOk result (λ out. Gives (S.contents source.now) out.items
+        (λ d. stepped (d.quads graph.now) rows.now places.now)) }
 {
     let mut out = Vec::new(alloc);
     for row in rows {
-        let mut found = matches_of_row(alloc, row, places, quads)?;
+        let mut found = look_up(alloc, graph, source, places, row)?;
         out.append(&mut found)?;
     }
     Ok(out)
 }
 
-/// The rows of all columns that grow from these, one triple pattern after another.
-pub(crate) fn matching_rows(
+/// The rows of all columns that grow from these, one triple pattern after another, each looked up
+/// under each row so far.
+pub(crate) fn matching_rows<S: Source>(
     alloc: Global,
-    variables: &[Text],
+    graph: &GraphName,
+    source: &S,
+    patterns: &[Places],
     start: Vec<Row>,
-    patterns: &[TriplePattern],
-    quads: &[Quad],
 ) -> Result<Vec<Row>, NoMemory>
-    ensures { IfOk result
-        (λ out. out.items ≡ matching variables.now quads.now patterns.now start.items) }
+    ensures { IfOk result (λ out. Gives (S.contents source.now) out.items
+        (λ d. matching (d.quads graph.now) patterns.now start.items)) }
 {
     let mut rows = start;
-    for pattern in patterns {
-        let places = places_of(variables, pattern)?;
-        rows = step(alloc, &rows, &places, quads)?;
+    for places in patterns {
+        rows = step(alloc, graph, source, places, &rows)?;
     }
     Ok(rows)
 }
@@ -116,16 +161,9 @@ pub(crate) fn basic_rows<S: Source>(
     ensures { IfOk result (λ out. Gives (S.contents source.now) out.items
         (λ d. basic_solutions variables.now (d.quads graph.now) basic.now)) }
 {
-    let mut quads = Vec::new(alloc);
-    source.matches(graph, None, None, None, &mut quads)?;
+    let patterns = all_places(alloc, variables, basic.triples.as_slice())?;
     let mut start = Vec::new(alloc);
     start.push(Row::empty(alloc, variables.len(), basic.hidden)?)?;
-    let rows = matching_rows(
-        alloc,
-        variables,
-        start,
-        basic.triples.as_slice(),
-        quads.as_slice(),
-    )?;
+    let rows = matching_rows(alloc, graph, source, &patterns, start)?;
     cut_rows(alloc, rows, variables.len())
 }

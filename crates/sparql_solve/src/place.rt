@@ -1,5 +1,5 @@
 //! Where the places of a triple pattern get their terms.
-ghost use Rattle.std.specs.Prelude.{◌≡◌, ◌+◌, length, IfOk};
+ghost use Rattle.std.specs.Prelude.{◌≡◌, ◌+◌, length, IfOk, map};
 ghost use Rattle.sparql_algebra.specs.Solutions.{var_or_term};
 ghost use Rattle.sparql_solve.specs.Matching.{place_of, places_of};
 ghost use Rattle.sparql_trees.specs.declared.pattern.VarOrTerm.TheVariants.{Variable};
@@ -7,6 +7,7 @@ ghost use Rattle.sparql_trees.specs.declared.pattern.VarOrTerm.TheVariants.{Vari
 use rdf_terms::{NoMemory, Term, Text};
 use sparql_trees::{TriplePattern, VarOrIri, VarOrTerm};
 use sparql_values::column;
+use std::alloc::Global;
 
 /// Where a place of a triple pattern gets its term.
 #[derive(Drop)]
@@ -57,8 +58,8 @@ fn place_of_predicate(variables: &[Text], predicate: &VarOrIri) -> Result<Place,
     })
 }
 
-/// The places of a triple pattern, whose variables have the first columns.
-pub(crate) fn places_of(variables: &[Text], pattern: &TriplePattern) -> Result<Places, NoMemory>
+// The places of a triple pattern, whose variables have the first columns.
+fn places_of(variables: &[Text], pattern: &TriplePattern) -> Result<Places, NoMemory>
     ensures { IfOk result (λ places. places ≡ places_of variables.now pattern.now) }
 {
     Ok(Places {
@@ -66,4 +67,19 @@ pub(crate) fn places_of(variables: &[Text], pattern: &TriplePattern) -> Result<P
         predicate: place_of_predicate(variables, &pattern.predicate)?,
         object: place_of(variables, &pattern.object)?,
     })
+}
+
+/// The places of each triple pattern.
+pub(crate) fn all_places(
+    alloc: Global,
+    variables: &[Text],
+    patterns: &[TriplePattern],
+) -> Result<Vec<Places>, NoMemory>
+    ensures { IfOk result (λ out. out.items ≡ map (places_of variables.now) patterns.now) }
+{
+    let mut out = Vec::new(alloc);
+    for pattern in patterns {
+        out.push(places_of(variables, pattern)?)?;
+    }
+    Ok(out)
 }

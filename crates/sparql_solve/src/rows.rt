@@ -1,9 +1,9 @@
 //! Rows: mappings over the columns of a pattern (SPARQL 1.1 Query, section 18.1.4).
 ghost use Rattle.std.specs.Prelude.{◌≡◌, ◌+◌, ◌<◌, length, is_some, slice_get, slice_set, Some, IfOk, replicate, None, take, if◌then◌else◌, nat_lt, map};
-ghost use Rattle.std.specs.Option.{option_map};
+ghost use Rattle.std.specs.Option.{option_copied, option_map};
 ghost use Rattle.sparql_values.specs.Mapping.{agrees, first_of, compatible, merge, same_term, single, value_at, value_in};
 ghost use Rattle.sparql_algebra.specs.Order.{mapping_cmp};
-ghost use Rattle.sparql_solve.specs.Matching.{assigned, vacant};
+ghost use Rattle.sparql_solve.specs.Matching.{assigned, held, vacant};
 
 use crate::place::Place;
 use rdf_terms::{NoMemory, Term, Text};
@@ -166,6 +166,20 @@ impl Row {
             Some(index)
         } else {
             None
+        }
+    }
+
+    /// The term that the place has in the row.
+    pub(crate) fn held<'r>(&'r self, place: &'r Place) -> Option<&'r Term>
+        ensures { option_copied result ≡ held self.now place.now }
+    {
+        match place {
+            Place::Fixed(term) => Some(term),
+            Place::Column(column) => match self.index(*column) {
+                Some(index) => self.values[index].as_ref(),
+                None => None,
+            },
+            Place::Nowhere => None,
         }
     }
 

@@ -1,0 +1,57 @@
+-- What look-ups find under a mapping.
+use Rattle.std.proofs.Common.{◌≡◌, ℕ, ◌+◌, ◌<◌, Bool, true, false, cond, List, [], ◌∷◌, refl, sym, ap, ◌∙◌, subst, length, drop, get_or}
+use Rattle.std.specs.List.{sum_by}
+use Rattle.std.proofs.lemmas.List.{drop_more}
+use Rattle.rdf_terms.specs.Quad.{QuadParts}
+use Rattle.rdf_terms.specs.declared.quad.GraphName.{GraphName}
+use Rattle.rdf_dataset.specs.State.{State}
+use Rattle.rdf_dataset.specs.Sorted.{ListsOnce}
+use Rattle.sparql_values.specs.Mapping.{Mapping}
+use Rattle.sparql_algebra.specs.Bags.{SameBag}
+use Rattle.sparql_algebra.specs.Listing.{Listing, Lists, graph_quads}
+use Rattle.sparql_algebra.proofs.CallerLemmas.{sum_by-cong, sum_by-filter, SameBag-refl, SameBag-flat_map, found_quads}
+use Rattle.sparql_solve.specs.declared.place.Places.{Places}
+use Rattle.sparql_solve.specs.Matching.{matched, matches_of, stepped, matching, held, quads_under}
+use Rattle.sparql_solve.specs.Steps.{Gives}
+use Rattle.sparql_solve.proofs.FitLemmas.{terms_under, no_terms}
+use Rattle.sparql_solve.proofs.MatchingLemmas.{num, sum_by-filter_map}
+
+module _ (s : State) (g : GraphName) (p : Places) (m : Mapping) where
+  others : (f : Mapping → ℕ) (q : QuadParts) (b : Bool) → terms_under p m q ≡ b → cond b (num (matched p m q) f) 0 ≡ num (matched p m q) f
+  others f q true e = refl
+  others f q false e = sym (ap (λ o. num o f) (no_terms p m q e))
+
+  -- the triples with the terms of the bound places give what all of the graph give
+  found_matches : (found quads : List QuadParts) → ListsOnce (quads_under s g p m) found → ListsOnce (graph_quads s g) quads →
+      SameBag (matches_of found p m) (matches_of quads p m)
+  found_matches found quads h k f =
+      sum_by-filter_map f (matched p m) found
+      ∙ found_quads s g (held m p.subject) (held m p.predicate) (held m p.object) found quads h k (λ q. num (matched p m q) f)
+      ∙ sum_by-filter (λ q. num (matched p m q) f) (terms_under p m) quads
+      ∙ sum_by-cong (λ q. cond (terms_under p m q) (num (matched p m q) f) 0) (λ q. num (matched p m q) f) quads (λ q. others f q (terms_under p m q) refl)
+      ∙ sym (sum_by-filter_map f (matched p m) quads)
+
+  pub look_up_gives : (found given : List QuadParts) (out : List Mapping) → ListsOnce (quads_under s g p m) found → given ≡ found → out ≡ matches_of given p m →
+      Gives s out (λ d. matches_of (d.quads g) p m)
+  look_up_gives found given out h eg e d l =
+      subst (λ xs. SameBag xs (matches_of (d.quads g) p m)) (sym (e ∙ ap (λ (qs : List QuadParts). matches_of qs p m) eg))
+      (found_matches found (d.quads g) h (l.quads g))
+
+-- ---- one triple pattern after another
+
+SameBag-matching : (quads : List QuadParts) (ps : List Places) (ms ns : List Mapping) → SameBag ms ns → SameBag (matching quads ps ms) (matching quads ps ns)
+SameBag-matching quads [] ms ns h = h
+SameBag-matching quads (p ∷ ps) ms ns h =
+    SameBag-matching quads ps (stepped quads ms p) (stepped quads ns p)
+    (SameBag-flat_map (matches_of quads p) (matches_of quads p) ms ns h (λ m. SameBag-refl (matches_of quads p m)))
+
+pub matching_more : (s : State) (g : GraphName) (ps : List Places) (i : ℕ) (p : Places) (rows given after start : List Mapping) → i < length ps → p ≡ get_or ps i p →
+    ((d : Listing) → Lists s d → SameBag (matching (d.quads g) (drop i ps) rows) (matching (d.quads g) ps start)) → given ≡ rows →
+    Gives s after (λ d. stepped (d.quads g) given p) →
+    (d : Listing) → Lists s d → SameBag (matching (d.quads g) (drop (i + 1) ps) after) (matching (d.quads g) ps start)
+matching_more s g ps i p rows given after start lt here h eg r d l f =
+    let rest : List Places = drop (i + 1) ps in
+    let next : drop i ps ≡ p ∷ rest = drop_more ps i p lt ∙ ap (λ (q : Places). q ∷ rest) (sym here) in
+    let one : SameBag after (stepped (d.quads g) rows p) = subst (λ (xs : List Mapping). SameBag after (stepped (d.quads g) xs p)) eg (r d l) in
+    SameBag-matching (d.quads g) rest after (stepped (d.quads g) rows p) one f
+    ∙ ap (λ (qs : List Places). sum_by f (matching (d.quads g) qs rows)) (sym next) ∙ h d l f
