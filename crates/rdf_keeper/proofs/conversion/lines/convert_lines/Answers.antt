@@ -20,7 +20,7 @@ pub returns-in-Err-gather : goal.returns-in-Err-gather
 returns-in-Err-gather g c text e =
     let w = g.W.Write.contents c.args.writer.now in
     let now = g.W.Write.contents c.loop-quad.writer in
-    let left = g.R.Read.remaining c.next.new.reader in
+    let left = g.R.Read.remaining c.next.new.stream in
     let document = over (g.R.Read.remaining c.loop-quad.reader) c.loop-quad.document in
     let next = over left c.next.new.self in
     let step = subst (λ (a : Option Quad). Step document (Ok a) next) c.in-Ok-Some.field-0-is c.in-Ok-Some.ensures.step in
@@ -33,7 +33,7 @@ loop-quad-preserved g c =
     let start = fresh c.args.format (g.R.Read.remaining c.args.reader.now) in
     let w = g.W.Write.contents c.args.writer.now in
     let now = g.W.Write.contents c.loop-quad.writer in
-    let left = g.R.Read.remaining c.next.new.reader in
+    let left = g.R.Read.remaining c.next.new.stream in
     let document = over (g.R.Read.remaining c.loop-quad.reader) c.loop-quad.document in
     let next = over left c.next.new.self in
     let step = subst (λ (a : Option Quad). Step document (Ok a) next) c.in-Ok-Some.field-0-is c.in-Ok-Some.ensures.step in
@@ -44,7 +44,7 @@ pub returns-in-Ok-None : goal.returns-in-Ok-None
 returns-in-Ok-None g c text e =
     let w = g.W.Write.contents c.args.writer.now in
     let now = g.W.Write.contents c.loop-quad.writer in
-    let left = g.R.Read.remaining c.next.new.reader in
+    let left = g.R.Read.remaining c.next.new.stream in
     let document = over (g.R.Read.remaining c.loop-quad.reader) c.loop-quad.document in
     let next = over left c.next.new.self in
     let after = g.W.Write.contents c.finish.new.writer in
@@ -57,7 +57,7 @@ pub returns-in-Err-next : goal.returns-in-Err-next
 returns-in-Err-next g c text e =
     let w = g.W.Write.contents c.args.writer.now in
     let now = g.W.Write.contents c.loop-quad.writer in
-    let left = g.R.Read.remaining c.next.new.reader in
+    let left = g.R.Read.remaining c.next.new.stream in
     let document = over (g.R.Read.remaining c.loop-quad.reader) c.loop-quad.document in
     let next = over left c.next.new.self in
     let after = g.W.Write.contents c.finish-in-Err-next.new.writer in
