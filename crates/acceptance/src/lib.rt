@@ -7,6 +7,8 @@ mod fronts;
 #[cfg(test)]
 mod keeper;
 #[cfg(test)]
+mod once;
+#[cfg(test)]
 mod program;
 #[cfg(test)]
 mod sessions;

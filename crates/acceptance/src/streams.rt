@@ -4,25 +4,31 @@ use rdf_keeper::{ConvertFault, Format, Keeper, Settings, Status, convert, run};
 use std::alloc::Global;
 use std::test::Fail;
 
-const SCRIPT: &[u8] =
+pub(crate) const SCRIPT: &[u8] =
     b"%load nquads\n<http://e/s> <http://e/p> \"x\" .\n%end\n%print\n%undo\n%print\n";
 
-const ANSWERS: &[u8] = b"ok +1 -0\n<http://e/s> <http://e/p> \"x\" .\nok 1\nok +0 -1\nok 0\n";
+pub(crate) const ANSWERS: &[u8] =
+    b"ok +1 -0\n<http://e/s> <http://e/p> \"x\" .\nok 1\nok +0 -1\nok 0\n";
 
 // How many bytes of the answers are due where so many lines of the script are wholly read.
-const ANSWERED: [usize; 7] = [0, 0, 0, 9, 46, 55, 60];
+pub(crate) const ANSWERED: [usize; 7] = [0, 0, 0, 9, 46, 55, 60];
 
-const LINES: &[u8] =
+pub(crate) const LINES: &[u8] =
     b"<http://e/s> <http://e/p> \"a\\u0041\\\"b\"@EN-us <http://e/g> . # c\n_:x:y <http://e/p> _:z1 .\n<http://e/s><http://e/p>_:x:y.\n<http://e/s> <http://e/p> \"1\"^^<http://www.w3.org/2001/XMLSchema#string> .\n";
 
-const CONVERTED: &[u8] =
+pub(crate) const CONVERTED: &[u8] =
     b"<http://e/s> <http://e/p> \"aA\\\"b\"@en-us <http://e/g> .\n_:b0 <http://e/p> _:b1 .\n<http://e/s> <http://e/p> _:b0 .\n<http://e/s> <http://e/p> \"1\" .\n";
 
 // How many bytes of the converted lines are due where so many lines are wholly read.
-const CONVERTED_UP_TO: [usize; 5] = [0, 55, 80, 113, 145];
+pub(crate) const CONVERTED_UP_TO: [usize; 5] = [0, 55, 80, 113, 145];
 
 // What is due of an output where so many bytes of an input are read.
-fn due(input: &[u8], read: usize, ends: &[usize], output: &'static [u8]) -> Option<&'static [u8]> {
+pub(crate) fn due(
+    input: &[u8],
+    read: usize,
+    ends: &[usize],
+    output: &'static [u8],
+) -> Option<&'static [u8]> {
     let lines = input.get(..read)?.iter().filter(|b| **b == b'\n').count();
     output.get(..*ends.get(lines)?)
 }

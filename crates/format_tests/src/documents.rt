@@ -1,6 +1,6 @@
 //! Streams in pieces, and the lines of quads.
 
-use one_byte::{Ending, OneByteReader};
+use one_byte::{Ending, OnceFailing, OneByteReader};
 use rdf_lines::{
     FaultKind, LineFault, LineFormat, LineReader, read_lines, write_quad, write_sorted,
 };
@@ -27,16 +27,16 @@ fn told(next: Result<Option<Quad>, LineFault>) -> Result<Option<Option<(u64, u64
 }
 
 // The numbers in the next statement.
-fn next_numbers<R: Read + Drop>(lines: &mut LineReader<R>) -> Option<(u64, u64)> {
-    told(lines.next()).ok()??
+fn next_numbers<R: Read>(lines: &mut LineReader, stream: &mut R) -> Option<(u64, u64)> {
+    told(lines.next(stream)).ok()??
 }
 
-fn fails<R: Read + Drop>(lines: &mut LineReader<R>, line: u64, kind: FaultKind) -> bool {
-    told(lines.next()) == Err(LineFault { line, kind })
+fn fails<R: Read>(lines: &mut LineReader, stream: &mut R, line: u64, kind: FaultKind) -> bool {
+    told(lines.next(stream)) == Err(LineFault { line, kind })
 }
 
-fn ends<R: Read + Drop>(lines: &mut LineReader<R>) -> bool {
-    told(lines.next()) == Ok(None)
+fn ends<R: Read>(lines: &mut LineReader, stream: &mut R) -> bool {
+    told(lines.next(stream)) == Ok(None)
 }
 
 // A CR LF over a piece's end, an empty line, a comment, LF CR as two line ends, and a faulty seventh line.
@@ -45,39 +45,80 @@ const TEXT: &[u8] =
 
 #[test]
 fn one_byte_pieces(rt: HostRuntime) -> Result<(), Fail> {
-    let reader = OneByteReader {
+    let mut reader = OneByteReader {
         bytes: TEXT,
         ending: Ending::Nothing,
     };
-    let mut lines = LineReader::new(rt.alloc(), LineFormat::NQuads, reader)?;
-    assert!(rt; next_numbers(&mut lines) == Some((0, 1)));
-    assert!(rt; next_numbers(&mut lines) == Some((1, 0)));
-    assert!(rt; next_numbers(&mut lines) == Some((2, 0)));
-    assert!(rt; fails(&mut lines, 7, FaultKind::Relative));
-    assert!(rt; fails(&mut lines, 7, FaultKind::Failed));
+    let mut lines = LineReader::new(rt.alloc(), LineFormat::NQuads)?;
+    assert!(rt; next_numbers(&mut lines, &mut reader) == Some((0, 1)));
+    assert!(rt; next_numbers(&mut lines, &mut reader) == Some((1, 0)));
+    assert!(rt; next_numbers(&mut lines, &mut reader) == Some((2, 0)));
+    assert!(rt; fails(&mut lines, &mut reader, 7, FaultKind::Relative));
+    assert!(rt; fails(&mut lines, &mut reader, 7, FaultKind::Failed));
     Ok(())
 }
 
 #[test]
 fn read_fault(rt: HostRuntime) -> Result<(), Fail> {
-    let reader = OneByteReader {
+    let mut reader = OneByteReader {
         bytes: b"_:a <a:p> _:b .\n_:b <a:p> _:a .",
         ending: Ending::Failed,
     };
-    let mut lines = LineReader::new(rt.alloc(), LineFormat::NQuads, reader)?;
-    assert!(rt; next_numbers(&mut lines) == Some((0, 1)));
-    assert!(rt; fails(&mut lines, 2, FaultKind::Read));
-    assert!(rt; fails(&mut lines, 2, FaultKind::Failed));
+    let mut lines = LineReader::new(rt.alloc(), LineFormat::NQuads)?;
+    assert!(rt; next_numbers(&mut lines, &mut reader) == Some((0, 1)));
+    assert!(rt; fails(&mut lines, &mut reader, 2, FaultKind::Read));
+    assert!(rt; fails(&mut lines, &mut reader, 2, FaultKind::Failed));
+    Ok(())
+}
+
+// How many statements of TEXT come, and the line of the fault, where the call behind so many bytes fails.
+fn due(read: usize) -> Option<(usize, u64)> {
+    let bytes = TEXT.get(..read)?;
+    // the bytes that end a line: an LF behind a CR ends none
+    let ends = [16, 18, 21, 22, 38, 58];
+    let lines = ends.iter().filter(|end| **end <= bytes.len()).count();
+    let statements = [16, 38, 58]
+        .iter()
+        .filter(|end| **end <= bytes.len())
+        .count();
+    Some((statements, (lines as u64).saturating_add(1)))
+}
+
+// Whether a reader that fails once, at the call behind so many bytes, is told as a fault at once, and never read again.
+fn is_told(alloc: Global, read: usize, failure: Ending) -> Result<bool, Fail> {
+    let device = OneByteReader {
+        bytes: TEXT,
+        ending: Ending::Nothing,
+    };
+    let mut reader = OnceFailing::new(device, read as u64, failure);
+    let (statements, line) = due(read).ok_or("no such byte")?;
+    let mut lines = LineReader::new(alloc, LineFormat::NQuads)?;
+    for _ in 0..statements {
+        if next_numbers(&mut lines, &mut reader).is_none() {
+            return Ok(false);
+        }
+    }
+    let first = fails(&mut lines, &mut reader, line, FaultKind::Read);
+    let again = fails(&mut lines, &mut reader, line, FaultKind::Failed);
+    Ok(first && again && reader.calls == (read as u64).saturating_add(1))
+}
+
+#[test]
+fn each_read_fails_once(rt: HostRuntime) -> Result<(), Fail> {
+    for read in 0..=TEXT.len() {
+        assert!(rt; is_told(rt.alloc(), read, Ending::Interrupted)?, "{read}");
+        assert!(rt; is_told(rt.alloc(), read, Ending::Failed)?, "{read}");
+    }
     Ok(())
 }
 
 #[test]
 fn last_line_without_end(rt: HostRuntime) -> Result<(), Fail> {
-    let text = b"_:a <a:p> _:b .\r\n_:b <a:p> _:a .".as_slice();
-    let mut lines = LineReader::new(rt.alloc(), LineFormat::NTriples, text)?;
-    assert!(rt; next_numbers(&mut lines) == Some((0, 1)));
-    assert!(rt; next_numbers(&mut lines) == Some((1, 0)));
-    assert!(rt; ends(&mut lines) && ends(&mut lines));
+    let mut text = b"_:a <a:p> _:b .\r\n_:b <a:p> _:a .".as_slice();
+    let mut lines = LineReader::new(rt.alloc(), LineFormat::NTriples)?;
+    assert!(rt; next_numbers(&mut lines, &mut text) == Some((0, 1)));
+    assert!(rt; next_numbers(&mut lines, &mut text) == Some((1, 0)));
+    assert!(rt; ends(&mut lines, &mut text) && ends(&mut lines, &mut text));
     Ok(())
 }
 

@@ -1,6 +1,7 @@
 //! What a line is read as: its parts, and its faults.
-use rdf_lines::{FaultKind, LineFormat, Node, Object, Statement, read_line};
-use std::alloc::Global;
+use rdf_lines::{FaultKind, LineFault, LineFormat, Node, Object, Statement, read_line};
+use rdf_terms::NoMemory;
+use std::alloc::{AllocError, Global};
 use std::test::Fail;
 
 fn statement(alloc: Global, format: LineFormat, line: &str) -> Result<Statement, Fail> {
@@ -66,4 +67,27 @@ fn faults_and_comments(rt: HostRuntime) {
         assert!(rt; told(rt.alloc(), line) == wanted);
     }
     assert_eq!(rt; FaultKind::Relative.name(), "Relative");
+}
+
+// Whether a fault on line 7 displays this word and its line, and has this name.
+fn is_displayed(alloc: Global, kind: FaultKind, word: &str) -> Result<bool, Fail> {
+    let fault = LineFault { line: 7, kind };
+    let shown = format!(in alloc; "{fault}")?;
+    let wanted = format!(in alloc; "{word} line 7")?;
+    Ok(shown.as_str() == wanted.as_str() && fault.name() == word)
+}
+
+#[test]
+fn displayed(rt: HostRuntime) -> Result<(), Fail> {
+    for (kind, word) in [
+        (FaultKind::NotUtf8, "NotUtf8"),
+        (FaultKind::Syntax, "Syntax"),
+        (FaultKind::Relative, "Relative"),
+        (FaultKind::Read, "Read"),
+        (FaultKind::NoMemory(NoMemory::from(AllocError)), "NoMemory"),
+        (FaultKind::Failed, "Failed"),
+    ] {
+        assert!(rt; is_displayed(rt.alloc(), kind, word)?, "{word}");
+    }
+    Ok(())
 }

@@ -1,8 +1,8 @@
-//! A reader that gives one byte at a call, and a writer that takes one, until each ends or fails: for
-//! tests of what reads and writes.
+//! A reader that gives one byte at a call, and a writer that takes one, until each ends or fails, and
+//! devices that fail once: for tests of what reads and writes.
 #![tactic(auto)]
 
-ghost use Rattle.std.specs.Prelude.{◌≡◌, [], IfOk};
+ghost use Rattle.std.specs.Prelude.{◌≡◌, [], IfOk, MatchBool, ◌≢◌};
 
 use std::alloc::Global;
 use std::io;
@@ -97,5 +97,67 @@ impl Write for OneByteWriter {
 
     fn flush(&mut self) -> io::Result<()> {
         Ok(())
+    }
+}
+
+/// A reader or writer that fails at one call, and goes on as if it hadn't been made.
+#[derive(Drop)]
+pub struct OnceFailing<T: Drop> {
+    /// What reads or writes at the other calls.
+    pub device: T,
+    /// How many calls come before the one that fails.
+    pub before: u64,
+    /// What that one answers.
+    pub failure: Ending,
+    /// How many calls were made so far.
+    pub calls: u64,
+}
+
+impl<T: Drop> OnceFailing<T> {
+    /// A device that fails at the call behind so many.
+    pub fn new(device: T, before: u64, failure: Ending) -> OnceFailing<T>
+        ensures before { result.before ≡ before }
+        ensures failure { result.failure ≡ failure }
+        ensures calls { result.calls ≡ 0 }
+    {
+        OnceFailing {
+            device,
+            before,
+            failure,
+            calls: 0,
+        }
+    }
+
+    // Counts a call, and says whether it is the one that fails.
+    fn is_failing(&mut self) -> bool
+        ensures fails { MatchBool result (self.old.calls ≡ self.old.before)
+            (self.old.calls ≢ self.old.before) }
+        ensures before { self.new.before ≡ self.old.before }
+    {
+        let call = self.calls;
+        self.calls = call.saturating_add(1);
+        call == self.before
+    }
+}
+
+impl<R: Read + Drop> Read for OnceFailing<R> {
+    fn read(&mut self, buf: &mut [u8]) -> io::Result<usize> {
+        if self.is_failing() {
+            return self.failure.answer();
+        }
+        self.device.read(buf)
+    }
+}
+
+impl<W: Write + Drop> Write for OnceFailing<W> {
+    fn write(&mut self, buf: &[u8]) -> io::Result<usize> {
+        if self.is_failing() {
+            return self.failure.answer();
+        }
+        self.device.write(buf)
+    }
+
+    fn flush(&mut self) -> io::Result<()> {
+        self.device.flush()
     }
 }

@@ -37,7 +37,7 @@ pub fn convert<R: Read, W: Write>(
 ) -> Result<(), ConvertFault>
     ensures { (text : List ℕ) → R.remaining reader.old ≡ Some text →
         (out : List ℕ) × Appends (W.contents writer.old) (W.contents writer.new) out
-        × Converts format base text out result }
+        × Converts format base text (R.remaining reader.new) out result }
 {
     match format {
         Format::NQuads => convert_lines(alloc, LineFormat::NQuads, reader, writer),

@@ -119,9 +119,9 @@ fn convert_all<R: Read + Drop, W: Write>(
 ) -> Outcome
     ensures told { status_of result ≢ 2 }
     ensures written { (text : List ℕ) → R.remaining reader ≡ Some text →
-        (out : List ℕ) × (answer : Result (Unit {0}) ConvertFault)
+        (out : List ℕ) × (left : Option (List ℕ)) × (answer : Result (Unit {0}) ConvertFault)
         × Appends (W.contents writer.old) (W.contents writer.new) out
-        × Converts format base text out answer × (result ≡ outcome_of answer) }
+        × Converts format base text left out answer × (result ≡ outcome_of answer) }
 {
     outcome_of(convert(alloc, format, base, &mut reader, writer))
 }

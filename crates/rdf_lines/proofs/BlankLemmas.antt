@@ -41,7 +41,7 @@ module _ (labels : List (List ℕ)) where
       ∙ ap (λ l. l ++ map (number_of labels) (labels_in_graph s.graph)) (sym (map_on (number_of labels) (labels_in s.subject) (labels_in_object s.object)))
       ∙ sym (map_on (number_of labels) (labels_in s.subject ++ labels_in_object s.object) (labels_in_graph s.graph))
 
-  of_statements : (ss : List Statement) → flat_map blanks_of (map (quad_in labels) ss) ≡ map (number_of labels) (flat_map labels_of ss)
+  pub of_statements : (ss : List Statement) → flat_map blanks_of (map (quad_in labels) ss) ≡ map (number_of labels) (flat_map labels_of ss)
   of_statements [] = refl
   of_statements (s ∷ ss) = (λ i. of_statement s i ++ of_statements ss i) ∙ sym (map_on (number_of labels) (labels_of s) (flat_map labels_of ss))
 

@@ -10,7 +10,7 @@ use Rattle.rdf_lines.specs.declared.format.LineFormat.{LineFormat}
 use Rattle.rdf_lines.specs.Lines.{lines}
 use Rattle.rdf_lines.specs.Line.{Says}
 use Rattle.rdf_lines.specs.Labels.{all_noted, labels_of, quad_in}
-use Rattle.rdf_lines.specs.Document.{IsDocument, TellsFault, HasSaid}
+use Rattle.rdf_lines.specs.Document.{IsDocument, StopsBehind, TellsFault, HasSaid}
 use Rattle.rdf_lines.specs.Reader.{ReadsLine, FaultOf, fault}
 use Rattle.rdf_lines.proofs.FrontLemmas.{said_nothing, said_silent, said_statement, said_all}
 use Rattle.rdf_lines.specs.FaultName.{no_memory}
@@ -50,10 +50,10 @@ module _ (format : LineFormat) (text : List ℕ) where
 
   -- memory is wanting at a line
   pub at_line : (done : List Quad) (n : ℕ) (labels : List (List ℕ)) (rest line after : List ℕ) (f : LineFault) → SoFar done n labels rest → lines rest ≡ line ∷ lines after
-      → f.line ≡ n → f.kind ≡ no_memory → TellsFault format text f f.kind
+      → f.line ≡ n → f.kind ≡ no_memory → StopsBehind format text done f f.kind
   at_line done n labels rest line after f (front, e, said) cut is_line is_kind =
-      subst (TellsFault format text f) (sym is_kind)
-      (done, line, lines after, (front, labels, e ∙ ap (λ l. front ++ l) cut, subst (λ k. HasSaid format front k labels done) (sym is_line) said))
+      subst (StopsBehind format text done f) (sym is_kind)
+      (line, lines after, (front, labels, e ∙ ap (λ l. front ++ l) cut, subst (λ k. HasSaid format front k labels done) (sym is_line) said))
 
   faulty : (done : List Quad) (n : ℕ) (labels : List (List ℕ)) (rest line after : List ℕ) (f : LineFault) (kind : FaultKind) → SoFar done n labels rest → lines rest ≡ line ∷ lines after
       → f ≡ fault n kind → Says format line (Err kind) → IsDocument format text done (Some f)
@@ -62,16 +62,16 @@ module _ (format : LineFormat) (text : List ℕ) where
       (said_all format front n labels done said text (line ∷ lines after) (Some (fault n kind)) (e ∙ ap (λ l. front ++ l) cut) (inr (inr (kind, says, refl, refl))))
 
   pub at_fault : (done : List Quad) (n m : ℕ) (labels now : List (List ℕ)) (rest line after : List ℕ) (f : LineFault) → SoFar done n labels rest → lines rest ≡ line ∷ lines after
-      → ReadsLine format line n labels (Err f) m now → TellsFault format text f f.kind
+      → ReadsLine format line n labels (Err f) m now → StopsBehind format text done f f.kind
   at_fault done n m labels now rest line after f h cut r = elim r.2 [
     | inl own ↦ by f.kind own (λ i. record { line = r.0 i; kind = f.kind })
     | inr memory ↦ at_line done n labels rest line after f h cut r.0 memory
   ]
     where
-      by : (kind : FaultKind) → FaultOf format line kind → f ≡ fault n kind → TellsFault format text f kind
-      by NotUtf8 own e = (done, faulty done n labels rest line after f NotUtf8 h cut e own)
-      by Syntax own e = (done, faulty done n labels rest line after f Syntax h cut e own)
-      by Relative own e = (done, faulty done n labels rest line after f Relative h cut e own)
+      by : (kind : FaultKind) → FaultOf format line kind → f ≡ fault n kind → StopsBehind format text done f kind
+      by NotUtf8 own e = faulty done n labels rest line after f NotUtf8 h cut e own
+      by Syntax own e = faulty done n labels rest line after f Syntax h cut e own
+      by Relative own e = faulty done n labels rest line after f Relative h cut e own
       by Read own e = absurd own
       by (NoMemory _) own e = absurd own
       by FailedKind own e = absurd own
@@ -79,6 +79,14 @@ module _ (format : LineFormat) (text : List ℕ) where
   pub at_end : (done : List Quad) (n : ℕ) (labels : List (List ℕ)) (rest : List ℕ) → SoFar done n labels rest → rest ≡ [] → IsDocument format text done None
   at_end done n labels rest (front, e, said) is =
       said_all format front n labels done said text [] None (e ∙ ap (λ t. front ++ lines t) is) (refl, refl)
+
+pub tells : (format : LineFormat) (text : List ℕ) (quads : List Quad) (f : LineFault) (kind : FaultKind) → StopsBehind format text quads f kind → TellsFault format text f kind
+tells format text quads f NotUtf8 h = (quads, h)
+tells format text quads f Syntax h = (quads, h)
+tells format text quads f Relative h = (quads, h)
+tells format text quads f Read h = h
+tells format text quads f (NoMemory _) h = (quads, h.0, h.1, h.2)
+tells format text quads f FailedKind h = h
 
 pub is_nil : (xs : List ℕ) → (length xs == 0) ≡ true → xs ≡ []
 is_nil [] e = refl

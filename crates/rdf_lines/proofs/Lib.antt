@@ -1,5 +1,6 @@
 pub mod AbsoluteLemmas
 pub mod AnswerLemmas
+pub mod ApartLemmas
 pub mod BlankLabelLemmas
 pub mod BlankLemmas
 pub mod FrontLemmas

@@ -1,9 +1,10 @@
 -- Pieces and the lines in them.
-use Rattle.std.proofs.Common.{◌≡◌, ◌≢◌, ◌∙◌, ap, refl, sym, ℕ, ◌+◌, ◌-◌, ◌≤◌, ◌<◌, arith, Bool, true, false, cond, ◌&&◌, ◌||◌, List, [], ◌∷◌, ◌++◌, length, take, drop, append_assoc, append-nil, Option, Some, None, length-take, min, get_or, zero, suc, add-one, le_refl, length-drop, length-append, slice_range, take-append-drop, subst}
+use Rattle.std.proofs.Common.{◌≡◌, ◌≢◌, ◌∙◌, ap, refl, sym, ℕ, ◌+◌, ◌-◌, ◌≤◌, ◌<◌, arith, Bool, true, false, cond, ◌&&◌, ◌||◌, List, [], ◌∷◌, ◌++◌, length, take, drop, append_assoc, append-nil, Option, Some, None, length-take, get_or, zero, suc, add-one, le_refl, length-drop, length-append, slice_range, take-append-drop, subst}
 use Rattle.std.specs.Io.KnownBytes.{Consumes, prepend_known}
 use Rattle.std.proofs.lemmas.List.{drop-take, drop-drop, take_more, take_all, drop_all}
 use Rattle.rdf_lines.specs.Lines.{lines_behind, onto_first, is_line_feed, is_return}
 use Rattle.rdf_lines.specs.Pieces.{onto, Hold, feed_len, Held, TakesPart, HasLine, HasNoLine, ahead, room}
+use Rattle.rdf_lines.specs.declared.cut.Place.{Place}
 use Rattle.std.specs.Prelude.{Result, Ok, Err, is_ok, is_err}
 use Rattle.memchr.specs.Find.{NoneBefore, Nowhere, Passes, is_byte2}
 use Rattle.rdf_lines.specs.FaultName.{no_memory}
@@ -109,35 +110,29 @@ pub kept_ok : {A E X : Type 0} (r : Result A E) (x a b : X) → is_err r ≡ fal
 kept_ok (Ok v) x a b e h = h
 kept_ok (Err v) x a b e h = cc
 
-pub part_ended : (old new : Held) (behind : Bool) (line grown held rest part : List ℕ) (f i : ℕ) → held ≡ old.held → f ≡ feed_len behind held → rest ≡ drop f held
-    → NoneBefore (Passes (is_byte2 10 13) rest) 0 (length rest) i → Passes (is_byte2 10 13) rest i → part ≡ take i rest → grown ≡ line ++ part
-    → new ≡ record old { held = drop (f + i + 1) old.held } → TakesPart old behind line (Ok true) new (is_return (get_or rest i 0)) grown
-part_ended old new behind line grown held rest part f i is_held is_feed is_rest none here is_part is_grown is_new =
-    let P : List ℕ → Type 0 = λ h. (f ≡ feed_len behind h) → rest ≡ drop f h → (Hold behind (take (f + i + 1) h) (part ∷ []) [] (is_return (get_or rest i 0))) × (f + i + 1 ≤ length h) in
-    let main : P held = λ p q. (
-      let R : List ℕ → Type 0 = λ r. i < length r → NoEndBefore i r → is_end (get_or r i 0) ≡ true → part ≡ take i r → Hold behind (take (f + i + 1) held) (part ∷ []) [] (is_return (get_or r i 0)) in
-          let at_rest : R (drop f held) = λ l n e g tail.
-          ap (λ m. lines_behind behind (take m held ++ tail)) (let q : f + i + 1 ≡ f + suc i = omega arith in q) ∙ line_in behind held i f p l n e tail
-          ∙ ap (λ x. x ∷ lines_behind (is_return (get_or (drop f held) i 0)) tail) (sym g) in
-          subst R (sym q) at_rest none.high (λ j l. not_true _ (none.before j (omega arith) l)) here is_part,
-      (let l : length rest ≡ length held - f = ap length q ∙ length-drop f held in omega (arith, none.high)),
-    ) in
-    let facts = subst P is_held main in
-    let both = facts (is_feed ∙ ap (feed_len behind) is_held) (is_rest ∙ ap (drop f) is_held) in
-    (part, f + i + 1, is_new, both.0, is_grown, (let l : length part ≡ min i (length rest) = ap length is_part ∙ length-take i rest in omega arith), both.1)
+pub part_ended : (old new : Held) (behind : Bool) (line grown held : List ℕ) (p : Place) → held ≡ old.held → HasLine behind held p → grown ≡ line ++ slice_range held p.start p.end
+    → new ≡ record old { held = drop (p.end + 1) old.held } → TakesPart old behind line (Ok true) new p.by_return grown
+part_ended old new behind line grown held p is_held whole is_grown is_new =
+    let there = subst (λ (h : List ℕ). HasLine behind h p) is_held whole in (
+      slice_range held p.start p.end,
+      p.end + 1,
+      is_new,
+      subst (λ (h : List ℕ). Hold behind (take (p.end + 1) old.held) (slice_range h p.start p.end ∷ []) [] p.by_return) (sym is_held) there.2,
+      is_grown,
+      (let l = length-take (p.end - p.start) (drop p.start held) in omega (arith, l, there.0)),
+      (let l = there.1 in omega (arith, l)),
+    )
 
-pub part_open : (old new : Held) (behind : Bool) (line grown held rest : List ℕ) (f n : ℕ) → 0 < length old.held → held ≡ old.held → f ≡ feed_len behind held → rest ≡ drop f held
-    → Nowhere (Passes (is_byte2 10 13) rest) 0 (length rest) → grown ≡ line ++ rest → n ≡ length held
-    → new ≡ record old { held = drop n old.held } → TakesPart old behind line (Ok false) new false grown
-part_open old new behind line grown held rest f n some is_held is_feed is_rest none is_grown is_n is_new = (
-  rest,
-  is_new ∙ ap (λ (h : List ℕ). let r : Held = record old { held = h } in r) (drop_all n old.held (omega (arith, ap length is_held))),
-  subst (λ h. Hold behind h [] rest false) is_held
-      (subst (λ r. Hold behind held [] r false) (sym is_rest)
-      (front_in behind held f (omega (arith, ap length is_held)) is_feed (subst (λ r. NoEndBefore (length r) r) is_rest (λ j l. not_true _ (none j (omega arith) l))))),
-  is_grown,
-  (let l : length rest ≡ length held - f = ap length is_rest ∙ length-drop f held in omega (arith, ap length is_held)),
-)
+pub part_open : (old new : Held) (behind : Bool) (line grown held rest : List ℕ) (f n : ℕ) → 0 < length old.held → held ≡ old.held → HasNoLine behind held → f ≡ feed_len behind held → rest ≡ drop f held
+    → grown ≡ line ++ rest → n ≡ length held → new ≡ record old { held = drop n old.held } → TakesPart old behind line (Ok false) new false grown
+part_open old new behind line grown held rest f n some is_held none is_feed is_rest is_grown is_n is_new =
+    let same : rest ≡ drop (feed_len behind held) held = is_rest ∙ ap (λ (k : ℕ). drop k held) is_feed in (
+      rest,
+      is_new ∙ ap (λ (h : List ℕ). let r : Held = record old { held = h } in r) (drop_all n old.held (omega (arith, ap length is_held))),
+      subst (λ h. Hold behind h [] rest false) is_held (subst (λ r. Hold behind held [] r false) (sym same) (none (omega (arith, some, ap length is_held)))),
+      is_grown,
+      (let l : length rest ≡ length held - f = ap length is_rest ∙ length-drop f held in omega (arith, ap length is_held)),
+    )
 
 -- ---- a line over several pieces
 
@@ -158,11 +153,11 @@ dropped : (b : Option (List ℕ)) (xs : List ℕ) (n : ℕ) → Consumes (prepen
 dropped None xs n = tt
 dropped (Some ys) xs n = ap (λ l. l ++ ys) (sym (take-append-drop n xs)) ∙ append_assoc (take n xs) (drop n xs) ys
 
-pub advanced_by : (old new : Held) (n : ℕ) → new ≡ record old { held = drop n old.held } → Consumes (ahead old) (ahead new) (take n old.held)
-advanced_by old new n e = subst (λ (p : Held). Consumes (ahead old) (ahead p) (take n old.held)) (sym e) (dropped old.beyond old.held n)
+pub advanced_by : (beyond : Option (List ℕ)) (old new : Held) (n : ℕ) → new ≡ record old { held = drop n old.held } → Consumes (ahead old.held beyond) (ahead new.held beyond) (take n old.held)
+advanced_by beyond old new n e = subst (λ (p : Held). Consumes (ahead old.held beyond) (ahead p.held beyond) (take n old.held)) (sym e) (dropped beyond old.held n)
 
-emptied : (old new : Held) → new ≡ record old { held = [] } → Consumes (ahead old) (ahead new) old.held
-emptied old new e = subst (λ (p : Held). Consumes (ahead old) (ahead p) old.held) (sym e) (by old.beyond)
+emptied : (beyond : Option (List ℕ)) (old new : Held) → new ≡ record old { held = [] } → Consumes (ahead old.held beyond) (ahead new.held beyond) old.held
+emptied beyond old new e = subst (λ (p : Held). Consumes (ahead old.held beyond) (ahead p.held beyond) old.held) (sym e) (by beyond)
   where
     by : (b : Option (List ℕ)) → Consumes (prepend_known old.held b) (prepend_known [] b) old.held
     by None = tt
@@ -181,11 +176,11 @@ Hold-line : (b c d : Bool) (xs ys line part : List ℕ) → Hold b xs [] line c 
 Hold-line b c d xs ys line part p q tail =
     ap (lines_behind b) (append_assoc xs ys tail) ∙ p (ys ++ tail) ∙ ap (onto line) (q tail) ∙ onto-cons line part (lines_behind d tail)
 
-pub goes_on : (start : Option (List ℕ)) (b c d : Bool) (old new : Held) (read line grown : List ℕ) → Consumes start (ahead old) read → Hold b read [] line c → TakesPart old c line (Ok false) new d grown
-    → (more : List ℕ) × Consumes start (ahead new) more × Hold b more [] grown d
-goes_on start b c d old new read line grown p q t = (
+pub goes_on : (start beyond : Option (List ℕ)) (b c d : Bool) (old new : Held) (read line grown : List ℕ) → Consumes start (ahead old.held beyond) read → Hold b read [] line c → TakesPart old c line (Ok false) new d grown
+    → (more : List ℕ) × Consumes start (ahead new.held beyond) more × Hold b more [] grown d
+goes_on start beyond b c d old new read line grown p q t = (
   read ++ old.held,
-  Consumes-chain start (ahead old) (ahead new) read old.held p (emptied old new t.1),
+  Consumes-chain start (ahead old.held beyond) (ahead new.held beyond) read old.held p (emptied beyond old new t.1),
   subst (λ g. Hold b (read ++ old.held) [] g d) (sym t.3) (Hold-more b c d read old.held line t.0 q t.2),
 )
 
@@ -198,12 +193,12 @@ goes_on-room c d old new line grown t =
 pub goes_on-falls : (c d : Bool) (old new : Held) (line grown : List ℕ) → 0 < length old.held → TakesPart old c line (Ok false) new d grown → room new < room old
 goes_on-falls c d old new line grown h t = let a = ap room t.1 in omega (arith, a, h)
 
-pub comes_to_end : (start : Option (List ℕ)) (b c d : Bool) (old new : Held) (read line grown : List ℕ) → Consumes start (ahead old) read → Hold b read [] line c → TakesPart old c line (Ok true) new d grown
-    → (more : List ℕ) × Consumes start (ahead new) more × Hold b more (grown ∷ []) [] d
-comes_to_end start b c d old new read line grown p q t =
+pub comes_to_end : (start beyond : Option (List ℕ)) (b c d : Bool) (old new : Held) (read line grown : List ℕ) → Consumes start (ahead old.held beyond) read → Hold b read [] line c → TakesPart old c line (Ok true) new d grown
+    → (more : List ℕ) × Consumes start (ahead new.held beyond) more × Hold b more (grown ∷ []) [] d
+comes_to_end start beyond b c d old new read line grown p q t =
     let n = t.1 in (
       read ++ take n old.held,
-      Consumes-chain start (ahead old) (ahead new) read (take n old.held) p (advanced_by old new n t.2),
+      Consumes-chain start (ahead old.held beyond) (ahead new.held beyond) read (take n old.held) p (advanced_by beyond old new n t.2),
       subst (λ g. Hold b (read ++ take n old.held) (g ∷ []) [] d) (sym t.4) (Hold-line b c d read (take n old.held) line t.0 q t.3),
     )
 
@@ -235,27 +230,27 @@ skip_feed behind (b ∷ bs) f p = by (behind && is_line_feed b) refl f p
     by false is zero p = not_feed behind b bs is
     by false is (suc n) p = absurd (omega (arith, p))
 
-pub first_ended : (text line after rest : List ℕ) (i f : ℕ) → NoneBefore (Passes (is_byte2 10 13) text) 0 (length text) i → Passes (is_byte2 10 13) text i → line ≡ take i text → after ≡ drop (i + 1) text
-    → f ≡ feed_len (is_return (get_or text i 0)) after → rest ≡ drop f after → lines_behind false text ≡ line ∷ lines_behind false rest
-first_ended text line after rest i f none here is_line is_after is_feed is_rest =
-    ap (lines_behind false) (sym (take-append-drop (i + 1) text)) ∙ ap (λ n. lines_behind false (take n text ++ drop (i + 1) text)) (add-one i)
-    ∙ ended_front text i none.high (λ j l. not_true _ (none.before j (omega arith) l)) here (drop (i + 1) text)
-    ∙ ap (λ l. l ∷ lines_behind (is_return (get_or text i 0)) (drop (i + 1) text)) (sym is_line)
-    ∙ ap (λ t. line ∷ lines_behind (is_return (get_or text i 0)) t) (sym is_after)
-    ∙ ap (λ ls. line ∷ ls) (skip_feed (is_return (get_or text i 0)) after f is_feed ∙ ap (lines_behind false) (sym is_rest))
-
-pub first_open : (text line rest : List ℕ) (n : ℕ) → 0 < length text → Nowhere (Passes (is_byte2 10 13) text) 0 (length text) → n ≡ length text → line ≡ take n text → rest ≡ drop n text
+pub first_ended : (text line after rest : List ℕ) (p : Place) (f : ℕ) → HasLine false text p → line ≡ slice_range text p.start p.end → after ≡ drop (p.end + 1) text → f ≡ feed_len p.by_return after → rest ≡ drop f after
     → lines_behind false text ≡ line ∷ lines_behind false rest
+first_ended text line after rest p f whole is_line is_after is_feed is_rest =
+    ap (lines_behind false) (sym (take-append-drop (p.end + 1) text)) ∙ whole.2 (drop (p.end + 1) text) ∙ ap (λ l. l ∷ lines_behind p.by_return (drop (p.end + 1) text)) (sym is_line)
+    ∙ ap (λ t. line ∷ lines_behind p.by_return t) (sym is_after) ∙ ap (λ ls. line ∷ ls) (skip_feed p.by_return after f is_feed ∙ ap (lines_behind false) (sym is_rest))
+
+no_feed : (text : List ℕ) → feed_len false text ≡ 0
+no_feed [] = refl
+no_feed (b ∷ bs) = refl
+
+pub first_open : (text line rest : List ℕ) (n : ℕ) → 0 < length text → HasNoLine false text → n ≡ length text → line ≡ take n text → rest ≡ drop n text → lines_behind false text ≡ line ∷ lines_behind false rest
 first_open text line rest n some none is_n is_line is_rest =
     let all : line ≡ text = is_line ∙ take_all n text (omega (arith, is_n)) in
     let over : rest ≡ [] = is_rest ∙ drop_all n text (omega (arith, is_n)) in
-    ap (lines_behind false) (sym (append-nil text)) ∙ no_end text (λ j l. not_true _ (none j (omega arith) l)) [] ∙ onto-none text (not_nil text some)
-    ∙ ap (λ l. l ∷ []) (sym all) ∙ ap (λ t. line ∷ lines_behind false t) (sym over)
+    let front : Hold false text [] text false = subst (λ k. Hold false text [] (drop k text) false) (no_feed text) (none some) in
+    ap (lines_behind false) (sym (append-nil text)) ∙ front [] ∙ onto-none text (not_nil text some) ∙ ap (λ l. l ∷ []) (sym all) ∙ ap (λ t. line ∷ lines_behind false t) (sym over)
 
-pub stops : (start : Option (List ℕ)) (b c d : Bool) (old new : Held) (read line grown : List ℕ) → Consumes start (ahead old) read → Hold b read [] line c → TakesPart old c line (Err no_memory) new d grown
-    → (more : List ℕ) × Consumes start (ahead new) more × Hold b more [] grown d
-stops start b c d old new read line grown p q t =
-    (read, subst (λ (h : Held). Consumes start (ahead h) read) (sym t.0) p, subst (λ v. Hold b read [] grown v) (sym t.1) (subst (λ g. Hold b read [] g c) (sym t.2) q))
+pub stops : (start beyond : Option (List ℕ)) (b c d : Bool) (old new : Held) (read line grown : List ℕ) → Consumes start (ahead old.held beyond) read → Hold b read [] line c → TakesPart old c line (Err no_memory) new d grown
+    → (more : List ℕ) × Consumes start (ahead new.held beyond) more × Hold b more [] grown d
+stops start beyond b c d old new read line grown p q t =
+    (read, subst (λ (h : Held). Consumes start (ahead h.held beyond) read) (sym t.0) p, subst (λ v. Hold b read [] grown v) (sym t.1) (subst (λ g. Hold b read [] g c) (sym t.2) q))
 
 -- ---- a line that lies whole in a piece
 
@@ -277,10 +272,5 @@ line_at behind by piece rest f i is_feed is_rest none here is_by = (
 
 -- a piece that has no line whole
 pub front_only : (behind : Bool) (piece rest : List ℕ) (f : ℕ) → f ≡ feed_len behind piece → rest ≡ drop f piece → Nowhere (Passes (is_byte2 10 13) rest) 0 (length rest) → HasNoLine behind piece
-front_only behind [] rest f is_feed is_rest none = ([], behind, Hold-none behind)
-front_only behind (b ∷ bs) rest f is_feed is_rest none = (
-  rest,
-  false,
-  subst (λ r. Hold behind (b ∷ bs) [] r false) (sym is_rest)
-      (front_in behind (b ∷ bs) f (omega arith) is_feed (subst (λ r. NoEndBefore (length r) r) is_rest (λ j l. not_true _ (none j (omega arith) l)))),
-)
+front_only behind piece rest f is_feed is_rest none some =
+    subst (λ k. Hold behind piece [] (drop k piece) false) is_feed (front_in behind piece f some is_feed (subst (λ r. NoEndBefore (length r) r) is_rest (λ j l. not_true _ (none j (omega arith) l))))

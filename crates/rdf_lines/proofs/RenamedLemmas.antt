@@ -98,6 +98,12 @@ all_small (q ∷ quads) h =
 
 -- ---- a document's quads are the quads, renamed
 
+pub same_label : (labels : List (List ℕ)) (k l : List ℕ) → has labels k ≡ true → has labels l ≡ true → number_of labels k ≡ number_of labels l → k ≡ l
+same_label labels k l h j e = stands k h ∙ ap (λ n. get_or labels n []) e ∙ sym (stands l j)
+  where
+    stands : (l : List ℕ) → has labels l ≡ true → l ≡ get_or labels (number_of labels l) []
+    stands l h = (bytes_decides l (get_or labels (number_of labels l) [])).0 (passes_at_first (pointwise nat_eq l) labels [] (number_below labels l h))
+
 module _ (labels : List (List ℕ)) where
   abbrev rename : ℕ → ℕ
   rename n = number_of labels (label_of n)
@@ -133,12 +139,6 @@ module _ (labels : List (List ℕ)) where
   quads_again [] h = refl
   quads_again (q ∷ quads) h = λ i. quad_again q (quad_tests q h.0) i ∷ quads_again quads h.1 i
 
-  same_label : (k l : List ℕ) → has labels k ≡ true → has labels l ≡ true → number_of labels k ≡ number_of labels l → k ≡ l
-  same_label k l h j e = stands k h ∙ ap (λ n. get_or labels n []) e ∙ sym (stands l j)
-    where
-      stands : (l : List ℕ) → has labels l ≡ true → l ≡ get_or labels (number_of labels l) []
-      stands l h = (bytes_decides l (get_or labels (number_of labels l) [])).0 (passes_at_first (pointwise nat_eq l) labels [] (number_below labels l h))
-
   of_map : (ns : List ℕ) → AllByRecursion (λ l. has labels l ≡ true) (map label_of ns) → AllByRecursion (λ n. has labels (label_of n) ≡ true) ns
   of_map [] h = tt
   of_map (n ∷ ns) h = (h.0, of_map ns h.1)
@@ -150,7 +150,7 @@ module _ (labels : List (List ℕ)) where
       let has_n = subst (λ x. has labels (label_of x) ≡ true) is_n (at_place (λ x. has labels (label_of x) ≡ true) ns k n own at_k) in
       let small_m = subst (λ x. x < 2 ^ 64) is_m (at_place (λ x. x < 2 ^ 64) ns j m small at_j) in
       let small_n = subst (λ x. x < 2 ^ 64) is_n (at_place (λ x. x < 2 ^ 64) ns k n small at_k) in
-      label_of-injective m n small_m small_n (same_label (label_of m) (label_of n) has_m has_n e)
+      label_of-injective m n small_m small_n (same_label labels (label_of m) (label_of n) has_m has_n e)
 
 abbrev labels_for : List Quad → List (List ℕ)
 labels_for quads = all_noted [] (map label_of (flat_map blanks_of quads))

@@ -39,6 +39,13 @@ TellsFault format text fault Read = ⊥
 TellsFault format text fault Failed = ⊥
 TellsFault format text fault kind = (quads : List Quad) × IsDocument format text quads (Some fault)
 
+-- The same, with the quads of the lines before it.
+abbrev pub StopsBehind : LineFormat → List ℕ → List Quad → LineFault → FaultKind → Type 0
+StopsBehind format text quads fault (NoMemory _) = (line : List ℕ) × (behind : List (List ℕ)) × ReadsFront format text fault.line quads (line ∷ behind)
+StopsBehind format text quads fault Read = ⊥
+StopsBehind format text quads fault Failed = ⊥
+StopsBehind format text quads fault kind = IsDocument format text quads (Some fault)
+
 -- Each text is a document, and just one.
 abbrev pub EachTextIsOneDocument : Type 0
 EachTextIsOneDocument = (format : LineFormat) (text : List ℕ) → (quads : List Quad) × (ending : Option LineFault) × IsDocument format text quads ending

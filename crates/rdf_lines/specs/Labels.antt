@@ -29,6 +29,18 @@ labels_in_graph (Some node) = labels_in node
 abbrev pub labels_of : Statement → List (List ℕ)
 labels_of s = labels_in s.subject ++ labels_in_object s.object ++ labels_in_graph s.graph
 
+-- its nodes, in their order: blank nodes by their labels, and IRIs
+abbrev pub nodes_in_object : Object → List Node
+nodes_in_object (OfNode node) = node ∷ []
+nodes_in_object (OfLiteral literal) = []
+
+abbrev pub nodes_in_graph : Option Node → List Node
+nodes_in_graph None = []
+nodes_in_graph (Some node) = node ∷ []
+
+abbrev pub nodes_of : Statement → List Node
+nodes_of s = s.subject ∷ (nodes_in_object s.object ++ nodes_in_graph s.graph)
+
 -- the known labels, and this one if it is new
 abbrev pub noted : List (List ℕ) → List ℕ → List (List ℕ)
 noted known label = if list_any (pointwise nat_eq label) known then known else known ++ label ∷ []

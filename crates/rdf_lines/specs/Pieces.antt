@@ -1,4 +1,4 @@
--- A reader with the unread rest of its last piece, and what is taken of it.
+-- The unread rest of a stream's last piece, and what is taken of it.
 use Rattle.std.specs.Prelude.{◌≡◌, ◌≢◌, ℕ, ◌<◌, ◌≤◌, ◌+◌, ◌*◌, ◌&&◌, Bool, true, false, List, [], ◌∷◌, ◌++◌, length, take, drop, slice_range, if◌then◌else◌, Option, Result, Ok, Err}
 use Rattle.std.specs.Io.KnownBytes.{Consumes, IsAtEnd, prepend_known}
 use Rattle.rdf_lines.specs.Lines.{lines_behind, onto_first, is_line_feed}
@@ -11,14 +11,12 @@ use Rattle.rdf_lines.specs.declared.cut.Cut.TheVariants.{Line, Last, End}
 pub record Held : Type 0 where
   -- the rest of the piece
   pub held : List ℕ
-  -- what the reader has left, where it tells
-  pub beyond : Option (List ℕ)
   -- the read calls that are left
   pub calls : ℕ
 
--- what lies ahead
-abbrev pub ahead : Held → Option (List ℕ)
-ahead p = prepend_known p.held p.beyond
+-- what lies ahead: the rest of the piece, and then what the stream has left, where it tells
+abbrev pub ahead : List ℕ → Option (List ℕ) → Option (List ℕ)
+ahead held beyond = prepend_known held beyond
 
 -- a front of the first line
 abbrev pub onto : List ℕ → List (List ℕ) → List (List ℕ)
@@ -31,11 +29,11 @@ abbrev pub Hold : Bool → List ℕ → List (List ℕ) → List ℕ → Bool �
 Hold behind read whole front now = (tail : List ℕ) → lines_behind behind (read ++ tail) ≡ whole ++ onto front (lines_behind now tail)
 
 -- what a new piece brings
-abbrev pub Refills : Held → Result Bool FaultKind → Held → Type 0
-Refills old (Ok true) new = (0 < length new.held) × Consumes old.beyond new.beyond new.held
-Refills old (Ok false) new = (new.held ≡ []) × Consumes old.beyond new.beyond [] × IsAtEnd new.beyond
-Refills old (Err Read) new = (new.held ≡ []) × Consumes old.beyond new.beyond []
-Refills old (Err _) new = ⊥
+abbrev pub Refills : Option (List ℕ) → Result Bool FaultKind → Option (List ℕ) → List ℕ → Type 0
+Refills before (Ok true) after piece = (0 < length piece) × Consumes before after piece
+Refills before (Ok false) after piece = (piece ≡ []) × Consumes before after [] × IsAtEnd after
+Refills before (Err Read) after piece = (piece ≡ []) × Consumes before after []
+Refills before (Err _) after piece = ⊥
 
 -- what taking the next line leaves: the line, or the front of it
 abbrev pub TakesLine : Option (List ℕ) → Bool → Result Cut FaultKind → List ℕ → Option (List ℕ) → Bool → Type 0
@@ -46,16 +44,22 @@ TakesLine before behind (Err Read) line after now = (read : List ℕ) × Consume
 TakesLine before behind (Err (NoMemory _)) line after now = (read : List ℕ) × Consumes before after read × Hold behind read [] line now
 TakesLine before behind (Err _) line after now = ⊥
 
+-- where a read failed, no piece is held
+abbrev pub FailsEmpty : Result Cut FaultKind → List ℕ → Type 0
+FailsEmpty (Ok cut) held = Unit {0}
+FailsEmpty (Err Read) held = held ≡ []
+FailsEmpty (Err _) held = Unit {0}
+
 -- the bytes that reads can still bring, at most
 abbrev pub room : Held → ℕ
 room p = p.calls * 65536 + length p.held
 
 -- a piece is held, or the stream has ended
-abbrev pub Fills : Held → Result Bool FaultKind → Held → Type 0
-Fills old (Ok true) new = (0 < length new.held) × Consumes (ahead old) (ahead new) []
-Fills old (Ok false) new = Consumes (ahead old) (ahead new) [] × IsAtEnd (ahead new)
-Fills old (Err Read) new = Consumes (ahead old) (ahead new) []
-Fills old (Err _) new = ⊥
+abbrev pub Fills : Option (List ℕ) → Result Bool FaultKind → Option (List ℕ) → List ℕ → Type 0
+Fills before (Ok true) after piece = (0 < length piece) × Consumes before after []
+Fills before (Ok false) after piece = Consumes before after [] × IsAtEnd after
+Fills before (Err Read) after piece = (piece ≡ []) × Consumes before after []
+Fills before (Err _) after piece = ⊥
 
 -- how many bytes in front belong to the line end before them
 abbrev pub feed_len : Bool → List ℕ → ℕ
@@ -67,9 +71,9 @@ abbrev pub HasLine : Bool → List ℕ → Place → Type 0
 HasLine behind piece p =
     (p.start ≤ p.end) × (p.end < length piece) × Hold behind (take (p.end + 1) piece) (slice_range piece p.start p.end ∷ []) [] p.by_return
 
--- the piece has no line whole: all of it is the front of one
+-- the piece has no line whole: all of it, but for the rest of a line end, is the front of one
 abbrev pub HasNoLine : Bool → List ℕ → Type 0
-HasNoLine behind piece = (front : List ℕ) × (now : Bool) × Hold behind piece [] front now
+HasNoLine behind piece = 0 < length piece → Hold behind piece [] (drop (feed_len behind piece) piece) false
 
 -- the part of the line that the held piece has goes behind what the line had
 abbrev pub TakesPart : Held → Bool → List ℕ → Result Bool FaultKind → Held → Bool → List ℕ → Type 0

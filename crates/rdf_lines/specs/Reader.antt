@@ -1,5 +1,5 @@
--- A reader of lines as a machine, and what all its calls answer.
-use Rattle.std.specs.Prelude.{◌≡◌, ℕ, ◌+◌, ◌*◌, ◌^◌, ◌<◌, ◌⊎◌, Bool, true, false, List, [], ◌∷◌, ◌++◌, length, Option, Some, None, Result, Ok, Err}
+-- A reader of lines over its stream as a machine, and what all its calls answer.
+use Rattle.std.specs.Prelude.{◌≡◌, ℕ, ◌+◌, ◌<◌, ◌⊎◌, Bool, true, false, List, [], ◌∷◌, ◌++◌, length, Option, Some, None, Result, Ok, Err}
 use Rattle.std.specs.List.{AllByRecursion}
 use Rattle.std.specs.Io.KnownBytes.{Consumes, IsAtEnd}
 use Rattle.rdf_lines.specs.declared.fault.FaultKind.{FaultKind}
@@ -14,12 +14,12 @@ use Rattle.rdf_lines.specs.Lines.{lines_behind}
 use Rattle.rdf_lines.specs.Line.{Says}
 use Rattle.rdf_lines.specs.Labels.{quad_in, labels_of, all_noted}
 use Rattle.rdf_lines.specs.Document.{IsDocument, HasSaid, ReadsFront}
-use Rattle.rdf_lines.specs.Pieces.{Hold}
+use Rattle.rdf_lines.specs.Pieces.{Hold, ahead}
 use Rattle.rdf_lines.specs.FaultName.{no_memory}
 
 pub record LineState : Type 0 where
   pub format : LineFormat
-  -- what lies ahead, where the reader tells, and whether it stands behind a CR
+  -- what lies ahead, where the stream tells, and whether it stands behind a CR
   pub ahead : Option (List ℕ)
   pub behind_return : Bool
   -- the number of the next line, or of the faulty one
@@ -27,17 +27,37 @@ pub record LineState : Type 0 where
   -- the labels so far
   pub labels : List (List ℕ)
   pub state : State
-  -- the bytes that reads can still bring, at most
-  pub room : ℕ
 
--- what still keeps a loop going
-abbrev pub weight : LineState → ℕ
-weight s = s.room + going s.state
-  where
-    going : State → ℕ
-    going Reading = 1
-    going Ended = 0
-    going Failed = 0
+-- what a reader holds between two calls
+pub record Between : Type 0 where
+  pub format : LineFormat
+  -- the bytes that were read and aren't taken, and whether they stand behind a CR
+  pub held : List ℕ
+  pub behind_return : Bool
+  -- the number of the next line, or of the faulty one
+  pub number : ℕ
+  -- the labels so far
+  pub labels : List (List ℕ)
+  pub state : State
+  -- more than the quads that can still come
+  pub left : ℕ
+
+-- of what is left, one is for going on at all
+abbrev pub going : State → ℕ
+going Reading = 1
+going Ended = 0
+going Failed = 0
+
+-- the machine that it is over what the stream has left, where that tells
+abbrev pub over : Option (List ℕ) → Between → LineState
+over beyond b = record {
+  format = b.format;
+  ahead = ahead b.held beyond;
+  behind_return = b.behind_return;
+  number = b.number;
+  labels = b.labels;
+  state = b.state;
+}
 
 abbrev pub Answer : Type 0
 Answer = Result (Option Quad) LineFault
@@ -124,12 +144,13 @@ Agrees (Err f ∷ answers) quads ending =
     AllByRecursion (λ a. a ≡ Err (fault f.line FailedKind)) answers
     × (((quads ≡ []) × (ending ≡ Some f)) ⊎ ((f.kind ≡ Read) ⊎ (f.kind ≡ no_memory)))
 
--- a reader before its first call, with so many read calls
-abbrev pub starting : LineFormat → Option (List ℕ) → ℕ → LineState
-starting format text calls = record { format = format; ahead = text; behind_return = false; number = 1; labels = []; state = Reading; room = calls * 65536 }
-
+-- a machine before its first call
 abbrev pub fresh : LineFormat → Option (List ℕ) → LineState
-fresh format text = starting format text (2 ^ 40)
+fresh format text = record { format = format; ahead = text; behind_return = false; number = 1; labels = []; state = Reading }
+
+-- a reader before its first call, over any stream
+abbrev pub IsFresh : LineFormat → Between → Type 0
+IsFresh format b = (text : Option (List ℕ)) → over text b ≡ fresh format text
 
 -- The law: whatever pieces the text comes in, the answers of one call after another are its document.
 abbrev pub AnswersAreTheDocument : Type 0
@@ -164,12 +185,17 @@ abbrev pub FaultStops : Type 0
 FaultStops = (format : LineFormat) (text : List ℕ) (quads : List Quad) (f : LineFault) (old new : LineState) →
     HasRead format (Some text) quads old → Step old (Err f) new → StopsAt format text quads f
 
--- where a line was taken, or the end, less keeps a loop going
-abbrev pub FallsAtOk : LineState → Answer → LineState → Type 0
-FallsAtOk old (Ok quad) new = weight new < weight old
+-- where a read failed, nothing that was read is held back
+abbrev pub HoldsNothing : Answer → List ℕ → Type 0
+HoldsNothing (Ok quad) held = Unit {0}
+HoldsNothing (Err f) held = f.kind ≡ Read → held ≡ []
+
+-- where a line was taken, or the end, less is left
+abbrev pub FallsAtOk : Between → Answer → Between → Type 0
+FallsAtOk old (Ok quad) new = new.left < old.left
 FallsAtOk old (Err f) new = Unit {0}
 
--- where a quad was answered, less keeps a loop going
-abbrev pub FallsAtQuad : LineState → Answer → LineState → Type 0
-FallsAtQuad old (Ok (Some quad)) new = weight new < weight old
+-- where a quad was answered, less is left
+abbrev pub FallsAtQuad : Between → Answer → Between → Type 0
+FallsAtQuad old (Ok (Some quad)) new = new.left < old.left
 FallsAtQuad old answer new = Unit {0}

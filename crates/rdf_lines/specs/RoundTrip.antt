@@ -9,6 +9,8 @@ use Rattle.rdf_terms.specs.declared.term.Term.TheVariants as term
 use Rattle.rdf_terms.specs.declared.quad.GraphName.{GraphName}
 use Rattle.rdf_terms.specs.declared.quad.GraphName.TheVariants.{Default, Named}
 use Rattle.rdf_terms.specs.declared.quad.Quad.{Quad}
+use Rattle.rdf_lines.specs.declared.fault.LineFault.{LineFault}
+use Rattle.rdf_lines.specs.declared.format.LineFormat.{LineFormat}
 use Rattle.rdf_lines.specs.declared.format.LineFormat.TheVariants.{NQuads}
 use Rattle.rdf_lines.specs.declared.statement.Node.{Node}
 use Rattle.rdf_lines.specs.declared.statement.Node.TheVariants as node
@@ -107,3 +109,9 @@ abbrev pub NumberedSortedTextsAreReadBack : Type 0
 NumberedSortedTextsAreReadBack =
     (quads : List Quad) (text : List ℕ) → AllByRecursion (λ q. IsTrue (is_quad q)) quads → AreNumberedInOrder quads → IsSorted quad_cmp quads
     → IsSortedText quads text → IsDocument NQuads text quads None
+
+-- The quads of any document, written as lines and read again, are the very same.
+abbrev pub ReadDocumentsAreReadAgain : Type 0
+ReadDocumentsAreReadAgain =
+    (format : LineFormat) (text : List ℕ) (quads : List Quad) (ending : Option LineFault) → IsDocument format text quads ending → AllByRecursion (λ q. IsTrue (is_quad q)) quads
+    → IsDocument NQuads (flat_map quad_text quads) quads None

@@ -1,6 +1,6 @@
 //! Lines out of pieces.
 ghost use Rattle.std.specs.Prelude.{◌≡◌, ◌<◌, ◌≤◌, length, MatchOption};
-ghost use Rattle.rdf_lines.specs.Pieces.{ahead, room, feed_len, Fills, TakesPart, TakesLine, Spends, HasLine, HasNoLine};
+ghost use Rattle.rdf_lines.specs.Pieces.{ahead, room, feed_len, Fills, TakesPart, TakesLine, FailsEmpty, Spends, HasLine, HasNoLine};
 
 use crate::fault::FaultKind;
 use crate::pieces::Pieces;
@@ -19,12 +19,13 @@ pub enum Cut {
 }
 
 // Sees to it that a piece is held, and says whether there is one.
-fn fill<R: Read + Drop>(pieces: &mut Pieces<R>) -> Result<bool, FaultKind>
-    ensures fills { Fills pieces.old result pieces.new }
+fn fill<R: Read>(pieces: &mut Pieces, stream: &mut R) -> Result<bool, FaultKind>
+    ensures fills { Fills (ahead pieces.old.held (R.remaining stream.old)) result
+        (ahead pieces.new.held (R.remaining stream.new)) pieces.new.held }
     ensures room { room pieces.new ≤ room pieces.old }
 {
     if pieces.held().is_empty() {
-        pieces.refill()
+        pieces.refill(stream)
     } else {
         Ok(true)
     }
@@ -67,8 +68,8 @@ pub fn whole_line(piece: &[u8], behind_return: bool) -> Option<Place>
 }
 
 // Takes the front of a line, up to its end where the piece has it, and says whether it has.
-fn take_part<R: Read + Drop>(
-    pieces: &mut Pieces<R>,
+fn take_part(
+    pieces: &mut Pieces,
     behind_return: &mut bool,
     line: &mut Vec<u8>,
 ) -> Result<bool, FaultKind>
@@ -77,18 +78,17 @@ fn take_part<R: Read + Drop>(
         pieces.new behind_return.new line.new.items }
 {
     let held = pieces.held();
-    let len = held.len();
-    let feed = feed_len(held, *behind_return);
-    let rest = held.split_at(feed).1;
-    match memchr2(b'\n', b'\r', rest) {
-        Some(i) => {
-            line.extend_from_slice(rest.split_at(i).0)?;
-            *behind_return = rest[i] == b'\r';
-            pieces.advance(feed + i + 1);
+    match whole_line(held, *behind_return) {
+        Some(place) => {
+            line.extend_from_slice(&held[place.start..place.end])?;
+            *behind_return = place.by_return;
+            pieces.advance(place.end + 1);
             Ok(true)
         }
         None => {
-            line.extend_from_slice(rest)?;
+            let len = held.len();
+            let feed = feed_len(held, *behind_return);
+            line.extend_from_slice(held.split_at(feed).1)?;
             *behind_return = false;
             pieces.advance(len);
             Ok(false)
@@ -97,18 +97,20 @@ fn take_part<R: Read + Drop>(
 }
 
 /// Takes the next line.
-pub fn next_line<R: Read + Drop>(
-    pieces: &mut Pieces<R>,
+pub fn next_line<R: Read>(
+    pieces: &mut Pieces,
+    stream: &mut R,
     behind_return: &mut bool,
     line: &mut Vec<u8>,
 ) -> Result<Cut, FaultKind>
-    ensures line { TakesLine (ahead pieces.old) behind_return.old result line.new.items
-        (ahead pieces.new) behind_return.new }
+    ensures line { TakesLine (ahead pieces.old.held (R.remaining stream.old)) behind_return.old
+        result line.new.items (ahead pieces.new.held (R.remaining stream.new)) behind_return.new }
+    ensures empty { FailsEmpty result pieces.new.held }
     ensures room { Spends result (room pieces.old) (room pieces.new) }
 {
     line.clear();
     loop {
-        match fill(pieces) {
+        match fill(pieces, stream) {
             Ok(true) => match take_part(pieces, behind_return, line) {
                 Ok(true) => return Ok(Cut::Line),
                 Ok(false) => {}

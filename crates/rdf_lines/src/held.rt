@@ -1,16 +1,15 @@
 //! The statements of held bytes.
-ghost use Rattle.std.specs.Prelude.{◌≡◌, ◌<◌, ◌∷◌, length, MatchResult, None};
+ghost use Rattle.std.specs.Prelude.{◌≡◌, ◌<◌, [], ◌∷◌, length, MatchResult, None};
 ghost use Rattle.rdf_lines.specs.Lines.{lines};
 ghost use Rattle.rdf_lines.specs.LineEnds.{LinesAreTheText, NoOthersAreTheText};
-ghost use Rattle.rdf_lines.specs.Document.{IsDocument, TellsFault, EachTextIsOneDocument};
-ghost use Rattle.rdf_lines.specs.Blanks.{BlankNumbersAreBelow};
+ghost use Rattle.rdf_lines.specs.Document.{IsDocument, StopsBehind, TellsFault, EachTextIsOneDocument};
+ghost use Rattle.rdf_lines.specs.Blanks.{BlankNumbersAreBelow, NodesAreToldApart, NumbersComeInOrder};
 
-use crate::cut::feed_len;
+use crate::cut::{feed_len, whole_line};
 use crate::fault::{FaultKind, LineFault};
 use crate::format::LineFormat;
 use crate::labels::Labels;
 use crate::progress::Progress;
-use memchr::memchr2;
 use rdf_terms::Quad;
 use std::alloc::Global;
 
@@ -20,11 +19,11 @@ fn first_line(text: &[u8]) -> (&[u8], &[u8])
     ensures lines { lines text.now ≡ result.0.now ∷ lines result.1.now }
     ensures falls { length result.1.now < length text.now }
 {
-    match memchr2(b'\n', b'\r', text) {
-        Some(i) => {
-            let after = text.split_at(i + 1).1;
-            let feed = feed_len(after, text[i] == b'\r');
-            (text.split_at(i).0, after.split_at(feed).1)
+    match whole_line(text, false) {
+        Some(place) => {
+            let after = text.split_at(place.end + 1).1;
+            let feed = feed_len(after, place.by_return);
+            (&text[place.start..place.end], after.split_at(feed).1)
         }
         None => text.split_at(text.len()),
     }
@@ -41,11 +40,29 @@ pub fn read_lines(alloc: Global, format: LineFormat, bytes: &[u8]) -> Result<Vec
         (λ quads. IsDocument format bytes.now quads.items None)
         (λ fault. TellsFault format bytes.now fault fault.kind) }
 {
+    let mut quads = Vec::new(alloc);
+    match read_into(alloc, format, bytes, &mut quads) {
+        Ok(()) => Ok(quads),
+        Err(fault) => Err(fault),
+    }
+}
+
+// Reads the quads of a document. At a fault those of the lines before are there.
+fn read_into(
+    alloc: Global,
+    format: LineFormat,
+    bytes: &[u8],
+    quads: &mut Vec<Quad>,
+) -> Result<(), LineFault>
+    requires { quads.old.items ≡ [] }
+    ensures { MatchResult result
+        (λ _. IsDocument format bytes.now quads.new.items None)
+        (λ fault. StopsBehind format bytes.now quads.new.items fault fault.kind) }
+{
     let mut progress = Progress {
         number: 1,
         labels: Labels::new(alloc),
     };
-    let mut quads = Vec::new(alloc);
     let mut rest = bytes;
     while !rest.is_empty() {
         let (line, after) = first_line(rest);
@@ -65,7 +82,7 @@ pub fn read_lines(alloc: Global, format: LineFormat, bytes: &[u8]) -> Result<Vec
         }
         rest = after;
     }
-    Ok(quads)
+    Ok(())
 }
 
 /// The lines of a text, each with its end, are the text, and no others are (N-Triples, section 7,
@@ -84,4 +101,11 @@ pub fn each_text_is_one_document()
 /// The blank numbers of a document are just those below the number of its labels.
 pub fn blank_numbers_are_below()
     ensures { BlankNumbersAreBelow }
+{}
+
+/// Two labels of a document share a number just where they are equal, and its blank numbers come in order of first
+/// appearance (RDF 1.1 N-Quads, section 2.4).
+pub fn labels_are_told_apart()
+    ensures apart { NodesAreToldApart }
+    ensures order { NumbersComeInOrder }
 {}

@@ -22,14 +22,16 @@ mod written;
 pub use fault::{FaultKind, LineFault};
 pub use format::LineFormat;
 pub use held::{
-    blank_numbers_are_below, each_text_is_one_document, lines_are_the_text, read_lines,
+    blank_numbers_are_below, each_text_is_one_document, labels_are_told_apart, lines_are_the_text,
+    read_lines,
 };
 pub use line::{one_answer, read_line, some_answer, statements_are_sound};
 pub use reader::{LineReader, answers_are_the_document, each_answer_is_of_the_document};
 pub use round_trip::{
     documents_are_read_back, each_line_is_read_back, lines_differ,
     numbered_documents_are_read_back, numbered_sorted_texts_are_read_back,
-    sorted_texts_are_read_back,
+    read_documents_are_read_again, sorted_texts_are_read_back,
 };
+pub use state::State;
 pub use statement::{Node, Object, Statement};
 pub use write::{sorted_text_is_one, write_quad, write_sorted};

@@ -9,12 +9,14 @@ use std::io::Read;
 use std::marker::Model;
 
 /// The size of a piece.
-pub const PIECE: usize = 65536;
+const PIECE: usize = 65536;
 
-/// A reader, and the unread rest of its last piece.
+// After so many read calls a stream that hasn't ended is a read fault.
+const READ_CALLS: u64 = 1 << 40;
+
+/// The unread rest of a stream's last piece.
 #[derive(Drop)]
-pub struct Pieces<R: Read + Drop> {
-    reader: R,
+pub struct Pieces {
     buffer: Vec<u8>,
     start: usize,
     end: usize,
@@ -22,7 +24,7 @@ pub struct Pieces<R: Read + Drop> {
     calls: u64,
 }
 
-impl<R: Read + Drop> Model for Pieces<R> {
+impl Model for Pieces {
     ghost use Rattle.std.specs.Prelude.{◌≡◌, ◌≤◌, ◌^◌, length, slice_range, vec_len};
     ghost use Rattle.rdf_lines.specs.Pieces.{Held};
 
@@ -30,7 +32,6 @@ impl<R: Read + Drop> Model for Pieces<R> {
 
     ghost view = { λ p. record {
       held = slice_range p.buffer.items p.start p.end;
-      beyond = R.remaining p.reader;
       calls = p.calls;
     } };
 
@@ -38,22 +39,16 @@ impl<R: Read + Drop> Model for Pieces<R> {
         × (vec_len p.buffer ≡ 65536) × (p.calls ≤ 2 ^ 40) };
 }
 
-impl<R: Read + Drop> Pieces<R> {
-    /// The pieces of `reader`, which reads at most `calls` times.
-    pub fn new(alloc: Global, reader: R, calls: u64) -> Result<Self, NoMemory>
-        requires { calls ≤ 2 ^ 40 }
-        ensures { IfOk result (λ p. p ≡ record {
-          held = [];
-          beyond = R.remaining reader;
-          calls = calls;
-        }) }
+impl Pieces {
+    /// No piece yet. A stream is read at most 2^40 times.
+    pub fn new(alloc: Global) -> Result<Self, NoMemory>
+        ensures { IfOk result (λ p. p ≡ record { held = []; calls = 2 ^ 40 }) }
     {
         Ok(Pieces {
-            reader,
             buffer: vec![in alloc; 0; PIECE]?,
             start: 0,
             end: 0,
-            calls,
+            calls: READ_CALLS,
         })
     }
 
@@ -73,9 +68,10 @@ impl<R: Read + Drop> Pieces<R> {
     }
 
     /// Reads the next piece, where none is held. Says whether there is one.
-    pub fn refill(&mut self) -> Result<bool, FaultKind>
+    pub fn refill<R: Read>(&mut self, stream: &mut R) -> Result<bool, FaultKind>
         requires { self.old.held ≡ [] }
-        ensures piece { Refills self.old result self.new }
+        ensures piece { Refills (R.remaining stream.old) result (R.remaining stream.new)
+            self.new.held }
         ensures size { length self.new.held ≤ 65536 }
         ensures calls { OnOk result (self.new.calls + 1 ≡ self.old.calls) }
         ensures falls { self.new.calls ≤ self.old.calls }
@@ -87,7 +83,7 @@ impl<R: Read + Drop> Pieces<R> {
             return Err(FaultKind::Read);
         }
         self.calls -= 1;
-        match self.reader.read(self.buffer.as_mut_slice()) {
+        match stream.read(self.buffer.as_mut_slice()) {
             Ok(n) => {
                 self.end = n;
                 Ok(n > 0)

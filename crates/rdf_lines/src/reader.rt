@@ -1,6 +1,6 @@
 //! Statements from a reader, one at a time.
-ghost use Rattle.std.specs.Prelude.{◌≡◌, ◌≢◌, ◌<◌, ◌≤◌, ◌^◌, IfOk, MatchBool, Result, Ok, Err, Some, None, is_ok, if◌then◌else◌};
-ghost use Rattle.rdf_lines.specs.Reader.{Step, OneLine, fresh, starting, weight, FallsAtOk, FallsAtQuad, AnswersAreTheDocument, StartsWithNothing, QuadsAddUp, EndIsTheDocument, FaultStops};
+ghost use Rattle.std.specs.Prelude.{◌≡◌, ◌≢◌, IfOk, MatchBool, Result, Ok, Err, Some, None, is_ok, if◌then◌else◌};
+ghost use Rattle.rdf_lines.specs.Reader.{Step, OneLine, IsFresh, over, HoldsNothing, FallsAtOk, FallsAtQuad, AnswersAreTheDocument, StartsWithNothing, QuadsAddUp, EndIsTheDocument, FaultStops};
 ghost use Rattle.rdf_lines.specs.declared.state.State.TheVariants.{Reading, Failed};
 
 use crate::cut::{Cut, next_line, whole_line};
@@ -15,36 +15,34 @@ use std::alloc::Global;
 use std::io::Read;
 use std::marker::Model;
 
-// After so many read calls a stream that hasn't ended is a read fault.
-const READ_CALLS: u64 = 1 << 40;
-
-/// A reader of the statements of a stream. It holds the unread rest of a piece and the line that it is in.
+/// A reader of the statements of a stream, which is lent to each call. Between two calls it holds the unread rest of a
+/// piece of the stream, and the line that it is in.
 #[derive(Drop)]
-pub struct LineReader<R: Read + Drop> {
+pub struct LineReader {
     alloc: Global,
     format: LineFormat,
-    pieces: Pieces<R>,
+    pieces: Pieces,
     behind_return: bool,
     line: Vec<u8>,
     progress: Progress,
     state: State,
 }
 
-impl<R: Read + Drop> Model for LineReader<R> {
+impl Model for LineReader {
     ghost use Rattle.std.specs.Prelude.{◌≤◌, ◌+◌, ◌^◌};
-    ghost use Rattle.rdf_lines.specs.Reader.{LineState};
-    ghost use Rattle.rdf_lines.specs.Pieces.{ahead, room};
+    ghost use Rattle.rdf_lines.specs.Reader.{Between, going};
+    ghost use Rattle.rdf_lines.specs.Pieces.{room};
 
-    ghost Value = { LineState };
+    ghost Value = { Between };
 
     ghost view = { λ r. record {
       format = r.format;
-      ahead = ahead r.pieces;
+      held = r.pieces.held;
       behind_return = r.behind_return;
       number = r.progress.number;
       labels = r.progress.labels;
       state = r.state;
-      room = room r.pieces;
+      left = room r.pieces + going r.state;
     } };
 
     ghost invariant = { λ r. r.progress.number + room r.pieces ≤ 2 ^ 56 + 1 };
@@ -56,32 +54,19 @@ fn state_after(answer: &Result<Option<Quad>, LineFault>, next: State) -> State
     if answer.is_ok() { next } else { State::Failed }
 }
 
-impl<R: Read + Drop> LineReader<R> {
-    /// A reader of the lines that `reader` gives. It calls `reader` at most 2^40 times, and takes it for faulty where it
-    /// hasn't ended then.
+impl LineReader {
+    /// A reader of the lines of a stream. It reads the stream at most 2^40 times, and takes it for faulty where it hasn't
+    /// ended then.
     ///
     /// # Errors
     /// [`NoMemory`] where memory for its buffer is wanting.
-    pub fn new(alloc: Global, format: LineFormat, reader: R) -> Result<Self, NoMemory>
-        ensures { IfOk result (λ r. r ≡ fresh format (R.remaining reader)) }
-    {
-        LineReader::with_calls(alloc, format, reader, READ_CALLS)
-    }
-
-    // A reader that calls `reader` at most `calls` times.
-    pub(crate) fn with_calls(
-        alloc: Global,
-        format: LineFormat,
-        reader: R,
-        calls: u64,
-    ) -> Result<Self, NoMemory>
-        requires { calls ≤ 2 ^ 40 }
-        ensures { IfOk result (λ r. r ≡ starting format (R.remaining reader) calls) }
+    pub fn new(alloc: Global, format: LineFormat) -> Result<Self, NoMemory>
+        ensures { IfOk result (IsFresh format) }
     {
         Ok(LineReader {
             alloc,
             format,
-            pieces: Pieces::new(alloc, reader, calls)?,
+            pieces: Pieces::new(alloc)?,
             behind_return: false,
             line: Vec::new(alloc),
             progress: Progress {
@@ -93,9 +78,11 @@ impl<R: Read + Drop> LineReader<R> {
     }
 
     // Takes one line, which is copied only where the held piece hasn't the whole of it.
-    fn one_line(&mut self) -> Result<Option<Quad>, LineFault>
+    fn one_line<R: Read>(&mut self, stream: &mut R) -> Result<Option<Quad>, LineFault>
         requires { self.old.state ≡ Reading }
-        ensures line { OneLine self.old result self.new }
+        ensures line { OneLine (over (R.remaining stream.old) self.old) result
+            (over (R.remaining stream.new) self.new) }
+        ensures empty { HoldsNothing result self.new.held }
         ensures falls { FallsAtOk self.old result self.new }
     {
         match whole_line(self.pieces.held(), self.behind_return) {
@@ -107,17 +94,24 @@ impl<R: Read + Drop> LineReader<R> {
                 self.state = state_after(&answer, State::Reading);
                 answer
             }
-            None => self.gathered_line(),
+            None => self.gathered_line(stream),
         }
     }
 
     // Takes one line, gathered from the pieces.
-    fn gathered_line(&mut self) -> Result<Option<Quad>, LineFault>
+    fn gathered_line<R: Read>(&mut self, stream: &mut R) -> Result<Option<Quad>, LineFault>
         requires { self.old.state ≡ Reading }
-        ensures line { OneLine self.old result self.new }
+        ensures line { OneLine (over (R.remaining stream.old) self.old) result
+            (over (R.remaining stream.new) self.new) }
+        ensures empty { HoldsNothing result self.new.held }
         ensures falls { FallsAtOk self.old result self.new }
     {
-        match next_line(&mut self.pieces, &mut self.behind_return, &mut self.line) {
+        match next_line(
+            &mut self.pieces,
+            stream,
+            &mut self.behind_return,
+            &mut self.line,
+        ) {
             Ok(Cut::Line) => {
                 let answer = self
                     .progress
@@ -149,14 +143,16 @@ impl<R: Read + Drop> LineReader<R> {
         matches!(self.state, State::Reading)
     }
 
-    /// The quad of the next statement, or `None` at the end and from then on. Labels are numbered from 0 by first appearance.
+    /// The quad of the next statement of the stream, which is the same at each call, or `None` at the end and from then on. Labels are numbered from 0 by first appearance.
     ///
     /// # Errors
     /// A fault with the number of its line: [`FaultKind::NotUtf8`], [`FaultKind::Syntax`] or [`FaultKind::Relative`] where the
     /// next line that isn't blank is faulty; [`FaultKind::Read`] and [`FaultKind::NoMemory`] at the line that isn't wholly
     /// read; and [`FaultKind::Failed`], with the line of the fault before, from the first fault on.
-    pub fn next(&mut self) -> Result<Option<Quad>, LineFault>
-        ensures step { Step self.old result self.new }
+    pub fn next<R: Read>(&mut self, stream: &mut R) -> Result<Option<Quad>, LineFault>
+        ensures step { Step (over (R.remaining stream.old) self.old) result
+            (over (R.remaining stream.new) self.new) }
+        ensures empty { HoldsNothing result self.new.held }
         ensures falls { FallsAtQuad self.old result self.new }
     {
         match self.state {
@@ -165,7 +161,7 @@ impl<R: Read + Drop> LineReader<R> {
             State::Reading => {}
         }
         while self.is_reading() {
-            match self.one_line() {
+            match self.one_line(stream) {
                 Ok(None) => {}
                 Ok(Some(quad)) => return Ok(Some(quad)),
                 Err(fault) => return Err(fault),

@@ -1,5 +1,5 @@
 //! What is written is read back.
-ghost use Rattle.rdf_lines.specs.RoundTrip.{EachLineIsReadBack, LinesDiffer, DocumentsAreReadBack, SortedTextsAreReadBack, NumberedDocumentsAreReadBack, NumberedSortedTextsAreReadBack};
+ghost use Rattle.rdf_lines.specs.RoundTrip.{EachLineIsReadBack, LinesDiffer, DocumentsAreReadBack, SortedTextsAreReadBack, NumberedDocumentsAreReadBack, NumberedSortedTextsAreReadBack, ReadDocumentsAreReadAgain};
 
 /// The line of a quad, without its LF, says the quad's statement in N-Quads (N-Quads, section 2),
 /// and so nothing else ([`one_answer`](crate::one_answer)). A blank node's label is `b` and its
@@ -34,4 +34,9 @@ pub fn numbered_documents_are_read_back()
 /// of first appearance is a document with no fault, and its quads are the very same.
 pub fn numbered_sorted_texts_are_read_back()
     ensures { NumberedSortedTextsAreReadBack }
+{}
+
+/// The quads of any document of lines, written by [`write_quad`](crate::write_quad) and read again, are the very same.
+pub fn read_documents_are_read_again()
+    ensures { ReadDocumentsAreReadAgain }
 {}

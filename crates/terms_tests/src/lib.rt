@@ -2,6 +2,8 @@
 #![tactic(auto)]
 
 #[cfg(test)]
+mod characters;
+#[cfg(test)]
 mod resolution;
 #[cfg(test)]
 mod terms;

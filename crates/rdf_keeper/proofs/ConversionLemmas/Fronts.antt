@@ -42,18 +42,18 @@ consumed (Some ys) None xs read e c = absurd c
 consumed (Some ys) (Some rest) xs read e c = (rest, refl, (let same : ys ≡ xs = cc in sym same ∙ c))
 
 -- ---- a front of the bytes was read: these lines, with these statements, and the front of the next one
-abbrev Front : LineState → List ℕ → List Quad → Type 0
-Front s xs quads =
+abbrev Front : LineState → Option (List ℕ) → List ℕ → List Quad → Type 0
+Front s left xs quads =
     (read rest front : List ℕ) × (ls : List (List ℕ)) × (now : Bool) × (ss : List Statement)
-    × (xs ≡ read ++ rest) × Hold s.behind_return read ls front now × ReadsAll s.format s.number ls ss None × (quads ≡ quads_of s.labels ss)
+    × (xs ≡ read ++ rest) × Hold s.behind_return read ls front now × ReadsAll s.format s.number ls ss None × (quads ≡ quads_of s.labels ss) × (left ≡ Some rest)
 
-at_read : (s end : LineState) (xs : List ℕ) (f : LineFault) → f.kind ≡ Read → s.ahead ≡ Some xs → Reads s (Err f) end → Front s xs []
+at_read : (s end : LineState) (xs : List ℕ) (f : LineFault) → f.kind ≡ Read → s.ahead ≡ Some xs → Reads s (Err f) end → Front s end.ahead xs []
 at_read s end xs f is_read ahead (ls, still, line, state, number, why) = elim why [
   | inl own ↦ absurd (let P : FaultKind → Type 0 = λ k. FaultOf s.format own.0 k in subst P is_read own.2)
   | inr (inl failed) ↦
       let b = failed.1 in
       let c = consumed s.ahead end.ahead xs b.0 ahead b.2 in
-      (b.0, c.0, b.1, ls, end.behind_return, [], c.2, b.3, silent_lines s.format s.number ls still, refl)
+      (b.0, c.0, b.1, ls, end.behind_return, [], c.2, b.3, silent_lines s.format s.number ls still, refl, c.1)
   | inr (inr memory) ↦ (let bad : Read ≡ no_memory = sym is_read ∙ memory.2 in cc)
 ]
 
@@ -68,10 +68,10 @@ never_ended s mid end (q ∷ quads) f is calls step =
 -- from the lines behind a statement to those from it on
 module _ (s new mid end : LineState) (xs : List ℕ) (q : Quad) (quads : List Quad) (f : LineFault) where
   abbrev Later : Type 0
-  Later = (ys : List ℕ) → new.state ≡ Reading → new.ahead ≡ Some ys → Front new ys quads
+  Later = (ys : List ℕ) → new.state ≡ Reading → new.ahead ≡ Some ys → Front new end.ahead ys quads
 
   on_line : (ls : List (List ℕ)) (line : List ℕ) (st : Statement) → s.ahead ≡ Some xs → Later → AreSilent s.format ls → Taken s (ls ++ line ∷ []) new false → Says s.format line (Ok (Some st)) → new.labels ≡ all_noted s.labels (labels_of st)
-      → q ≡ quad_in new.labels st → new.number ≡ s.number + length ls + 1 → new.state ≡ Reading → new.format ≡ s.format → Front s xs (q ∷ quads)
+      → q ≡ quad_in new.labels st → new.number ≡ s.number + length ls + 1 → new.state ≡ Reading → new.format ≡ s.format → Front s end.ahead xs (q ∷ quads)
   on_line ls line st ahead behind still took says labels is_quad number state format =
       let c = consumed s.ahead new.ahead xs took.0 ahead took.1 in
       let later = behind c.0 state c.1 in
@@ -88,24 +88,26 @@ module _ (s new mid end : LineState) (xs : List ℕ) (q : Quad) (quads : List Qu
         subst (λ k. ReadsAll s.format s.number k (st ∷ later.5) None) (sym (append_assoc ls (line ∷ []) later.3))
             (silent_reads s.format s.number ls (line ∷ later.3) (st ∷ later.5) None still (inr (inl (st, later.5, says, refl, reads)))),
         ap (λ t. q ∷ t) later.9 ∙ ap (λ t. t ∷ quads_of new.labels later.5) is_quad ∙ ap (λ k. quad_in k st ∷ quads_of k later.5) labels ∙ sym (first_quad s.labels st later.5),
+        later.10,
       )
 
-  behind_quad : s.ahead ≡ Some xs → Calls new (found quads) mid → Step mid (Err f) end → Later → Reads s (Ok (Some q)) new → Front s xs (q ∷ quads)
+  behind_quad : s.ahead ≡ Some xs → Calls new (found quads) mid → Step mid (Err f) end → Later → Reads s (Ok (Some q)) new → Front s end.ahead xs (q ∷ quads)
   behind_quad ahead calls step behind (ls, line, st, false, still, took, says, labels, is_quad, number, state, format) = on_line ls line st ahead behind still took says labels is_quad number state format
   behind_quad ahead calls step behind (ls, line, st, true, still, took, says, labels, is_quad, number, state, format) = absurd (never_ended new mid end quads f state calls step)
 
-front : (quads : List Quad) (s mid end : LineState) (xs : List ℕ) (f : LineFault) → f.kind ≡ Read → s.state ≡ Reading → s.ahead ≡ Some xs → Calls s (found quads) mid → Step mid (Err f) end → Front s xs quads
+front : (quads : List Quad) (s mid end : LineState) (xs : List ℕ) (f : LineFault) → f.kind ≡ Read → s.state ≡ Reading → s.ahead ≡ Some xs → Calls s (found quads) mid → Step mid (Err f) end → Front s end.ahead xs quads
 front [] s mid end xs f is_read is ahead calls step =
     at_read s end xs f is_read ahead (subst (λ t. StepAt t s (Err f) end) is (subst (λ (m : LineState). Step m (Err f) end) calls step))
 front (q ∷ quads) s mid end xs f is_read is ahead calls step =
     behind_quad s calls.0 mid end xs q quads f ahead calls.2 step (λ ys state left. front quads calls.0 mid end ys f is_read state left calls.2 step) (subst (λ t. StepAt t s (Ok (Some q)) calls.0) is calls.1)
 
 pub before_read_fault : (format : LineFormat) (text : List ℕ) (quads : List Quad) (mid end : LineState) (f : LineFault) → f.kind ≡ Read → Calls (fresh format (Some text)) (found quads) mid → Step mid (Err f) end
-    → (read rest : List ℕ) × (text ≡ read ++ rest) × IsDocument format (whole_lines read) quads None
+    → (read rest : List ℕ) × (text ≡ read ++ rest) × (end.ahead ≡ Some rest) × IsDocument format (whole_lines read) quads None
 before_read_fault format text quads mid end f is_read calls step =
     let all = front quads (fresh format (Some text)) mid end text f is_read refl refl calls step in (
       all.0,
       all.1,
       all.6,
+      all.10,
       (all.5, subst (λ ls. ReadsAll format 1 ls all.5 None) (sym (lines_of_whole false all.0 all.3 all.2 all.4 all.7)) all.8, all.9),
     )

@@ -1,6 +1,7 @@
 -- What a conversion writes (RDF 1.1 N-Quads, sections 2 and 4): the canonical lines of a document's statements, in their order.
 use Rattle.std.specs.Prelude.{◌≡◌, ◌≢◌, ◌⊎◌, ℕ, Bool, true, false, ◌||◌, not, List, [], ◌∷◌, ◌++◌, if◌then◌else◌, Option, Some, None, Result, Ok, Err}
 use Rattle.std.specs.List.{flat_map}
+use Rattle.std.specs.Io.KnownBytes.{Consumes}
 use Rattle.rdf_lines.specs.declared.fault.LineFault.{LineFault}
 use Rattle.rdf_lines.specs.declared.format.LineFormat.{LineFormat}
 use Rattle.rdf_terms.specs.declared.quad.Quad.{Quad}
@@ -28,21 +29,22 @@ abbrev pub whole_lines : List ℕ → List ℕ
 whole_lines [] = []
 whole_lines (b ∷ bs) = if (is_line_feed b || is_return b) || not (is_empty (whole_lines bs)) then b ∷ whole_lines bs else []
 
--- What is written of a text of lines, and how it ends. No statement is left out, none is written twice.
-abbrev pub ConvertsLines : LineFormat → List ℕ → List ℕ → Result (Unit {0}) ConvertFault → Type 0
+-- What is written of a text of lines, of which this is left unread, and how it ends. No statement is left out, none is written
+-- twice.
+abbrev pub ConvertsLines : LineFormat → List ℕ → Option (List ℕ) → List ℕ → Result (Unit {0}) ConvertFault → Type 0
 -- Every line is sound: the lines of all statements.
-ConvertsLines format text out (Ok u) = (quads : List Quad) × lines.IsDocument format text quads None × (out ≡ lines_of quads)
+ConvertsLines format text left out (Ok u) = (quads : List Quad) × lines.IsDocument format text quads None × (out ≡ lines_of quads)
 -- A line is faulty: the lines of the statements before it.
-ConvertsLines format text out (Err (Document (InLine at))) = (quads : List Quad) × lines.IsDocument format text quads (Some at) × (out ≡ lines_of quads)
-ConvertsLines format text out (Err (Document (InTurtle at))) = ⊥
--- A read failed behind a front of the text: the lines of the statements of its whole lines.
-ConvertsLines format text out (Err Read) =
-    (read rest : List ℕ) × (quads : List Quad) × (text ≡ read ++ rest) × lines.IsDocument format (whole_lines read) quads None × (out ≡ lines_of quads)
+ConvertsLines format text left out (Err (Document (InLine at))) = (quads : List Quad) × lines.IsDocument format text quads (Some at) × (out ≡ lines_of quads)
+ConvertsLines format text left out (Err (Document (InTurtle at))) = ⊥
+-- A read failed: the lines of the statements of the lines that were wholly read.
+ConvertsLines format text left out (Err Read) =
+    (read : List ℕ) × (quads : List Quad) × Consumes (Some text) left read × lines.IsDocument format (whole_lines read) quads None × (out ≡ lines_of quads)
 -- A write failed: a proper front of the lines of the statements.
-ConvertsLines format text out (Err Write) =
+ConvertsLines format text left out (Err Write) =
     (quads : List Quad) × (ending : Option LineFault) × (more : List ℕ) × lines.IsDocument format text quads ending × (lines_of quads ≡ out ++ more) × (more ≢ [])
 -- Memory was wanting: the lines of the first statements.
-ConvertsLines format text out (Err (NoMemory _)) =
+ConvertsLines format text left out (Err (NoMemory _)) =
     (quads others : List Quad) × (ending : Option LineFault) × lines.IsDocument format text (quads ++ others) ending × (out ≡ lines_of quads)
 
 -- What is written of a text of Turtle against a base IRI, and how it ends.
@@ -61,8 +63,9 @@ ConvertsTurtle base text out (Err Write) =
 ConvertsTurtle base text out (Err (NoMemory _)) =
     (out ≡ []) ⊎ ((quads others : List Quad) × turtle.IsDocument base text (quads ++ others) × (out ≡ lines_of quads))
 
--- What is written of a text in a format, against a base IRI for which the line formats don't ask, and how it ends.
-abbrev pub Converts : Format → Option (List ℕ) → List ℕ → List ℕ → Result (Unit {0}) ConvertFault → Type 0
-Converts NQuads base text out answer = ConvertsLines line.NQuads text out answer
-Converts NTriples base text out answer = ConvertsLines line.NTriples text out answer
-Converts Turtle base text out answer = ConvertsTurtle base text out answer
+-- What is written of a text in a format, against a base IRI for which the line formats don't ask, of which this is left unread,
+-- and how it ends.
+abbrev pub Converts : Format → Option (List ℕ) → List ℕ → Option (List ℕ) → List ℕ → Result (Unit {0}) ConvertFault → Type 0
+Converts NQuads base text left out answer = ConvertsLines line.NQuads text left out answer
+Converts NTriples base text left out answer = ConvertsLines line.NTriples text left out answer
+Converts Turtle base text left out answer = ConvertsTurtle base text out answer

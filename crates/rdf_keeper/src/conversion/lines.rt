@@ -34,31 +34,17 @@ pub(crate) fn convert_lines<R: Read, W: Write>(
 ) -> Result<(), ConvertFault>
     ensures { (text : List ℕ) → R.remaining reader.old ≡ Some text →
         (out : List ℕ) × Appends (W.contents writer.old) (W.contents writer.new) out
-        × ConvertsLines format text out result }
-{
-    convert_from(alloc, format, reader, writer)
-}
-
-// Converts the lines that a reader gives that it takes over.
-fn convert_from<R: Read + Drop, W: Write>(
-    alloc: Global,
-    format: LineFormat,
-    reader: R,
-    writer: &mut W,
-) -> Result<(), ConvertFault>
-    ensures { (text : List ℕ) → R.remaining reader ≡ Some text →
-        (out : List ℕ) × Appends (W.contents writer.old) (W.contents writer.new) out
-        × ConvertsLines format text out result }
+        × ConvertsLines format text (R.remaining reader.new) out result }
 {
     answers_are_the_document();
     each_text_is_one_document();
-    let mut document = match LineReader::new(alloc, format, reader) {
+    let mut document = match LineReader::new(alloc, format) {
         Ok(document) => document,
         Err(refused) => return Err(ConvertFault::NoMemory(refused)),
     };
     let mut lines = Vec::new(alloc);
     loop {
-        match document.next() {
+        match document.next(reader) {
             Ok(Some(quad)) => match gather(alloc, &quad, &mut lines, writer) {
                 Ok(()) => drop(quad),
                 Err(fault) => {

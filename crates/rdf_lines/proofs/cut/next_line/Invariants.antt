@@ -5,7 +5,7 @@ use Rattle.rdf_lines.proofs.cut.next_line.Given as goal
 
 abbrev pub invariant-loop-pieces : goal.invariant-loop-pieces
 invariant-loop-pieces g l =
-    ((read : List ℕ) × Consumes (ahead l.fn.pieces) (ahead l.pieces) read × Hold l.fn.behind_return read [] l.line.items l.behind_return)
+    ((read : List ℕ) × Consumes (ahead l.fn.pieces.held (g.R.Read.remaining l.fn.stream)) (ahead l.pieces.held (g.R.Read.remaining l.stream)) read × Hold l.fn.behind_return read [] l.line.items l.behind_return)
     × (room l.pieces + length l.line.items ≤ room l.fn.pieces)
 
 abbrev pub decreases-loop-pieces : goal.decreases-loop-pieces
