@@ -13,12 +13,13 @@ mod streams;
 pub use conversion::{ConvertFault, DocumentFault, convert};
 pub use examples::the_worked_examples_hold;
 pub use law::{
-    a_script_has_one_output, printed_lines_are_documents, refused_answers_leave,
-    script_lines_are_the_text,
+    a_script_has_one_output, a_script_keeps_the_promise, printed_lines_are_documents,
+    refused_answers_leave, script_lines_are_the_text,
 };
 pub use program::start;
 pub use rdf_session::{
-    Answer, Counts, Format, Keeper, KeeperFault, a_load_is_insert_data, one_reply,
+    Answer, Counts, Format, Keeper, KeeperFault, a_load_is_insert_data,
+    a_load_takes_its_blank_numbers, commits_make_the_base, one_reply, one_result,
     standing_requests, the_headline, undo_gives_back,
 };
 pub use script::{Settings, Status, run};
