@@ -18,8 +18,7 @@ pub use law::{
 };
 pub use program::start;
 pub use rdf_session::{
-    Answer, Counts, Format, Keeper, KeeperFault, a_load_is_insert_data,
-    a_load_takes_its_blank_numbers, commits_make_the_base, one_reply, one_result,
+    Answer, Counts, Format, Keeper, KeeperFault, a_load_is_insert_data, one_reply,
     standing_requests, the_headline, undo_gives_back,
 };
 pub use script::{Settings, Status, run};

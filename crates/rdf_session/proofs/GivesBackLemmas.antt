@@ -87,9 +87,9 @@ redo_gives_again old mid later back after new request c d e w st quiet un calm r
     let here : after ≡ with_marks q.0 (at_place ((old.states.cursor + 1) - 1) (accepted st.0 old)) = q.1 ∙ ap (with_marks q.0) u.1 in
     let marks : after.states.marks ≡ q.0 = ap (λ (x : Session). x.states.marks) here in
     let again : new ≡ with_marks after.states.marks mid =
-        re.1 ∙ ap (λ (x : Session). at_place (x.states.cursor + 1) x) here
-        ∙ ap (λ j. with_marks q.0 (at_place (j + 1) (accepted st.0 old))) (back_one old.states.cursor)
-        ∙ ap (with_marks q.0) (sym st.2) ∙ ap (λ m. with_marks m mid) (sym marks) in
+    re.1 ∙ ap (λ (x : Session). at_place (x.states.cursor + 1) x) here
+    ∙ ap (λ j. with_marks q.0 (at_place (j + 1) (accepted st.0 old))) (back_one old.states.cursor)
+    ∙ ap (with_marks q.0) (sym st.2) ∙ ap (λ m. with_marks m mid) (sym marks) in
     let before : now after ≡ now old = ap now here ∙ now_undone st.0 old w in
     let there : now new ≡ st.0 = ap now again ∙ ap now st.2 ∙ now_accepted st.0 old w in
     (again, re.2 ∙ (λ i. counts_between (before i) (there i)) ∙ sym st.3)

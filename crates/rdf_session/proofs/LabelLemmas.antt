@@ -68,8 +68,8 @@ find_put name k (m ∷ ms) q =
 pub put_is : (name : List ℕ) (k : ℕ) (es : Pairs) → map.from_entries {R = order} (filter (λ m. not (is_named name m)) es ++ (name, k) ∷ []) ≡ map.insert (map.from_entries es) name k
 put_is name k es =
     same_map nat_list_cmp_total order_apart _ _ (λ q.
-      get-from_entries nat_list_cmp_total _ q ∙ find_put name k es q
-      ∙ sym (get-insert nat_list_cmp_total _ name k q ∙ ap (cond (same q name) (Some k)) (get-from_entries nat_list_cmp_total es q)))
+    get-from_entries nat_list_cmp_total _ q ∙ find_put name k es q
+    ∙ sym (get-insert nat_list_cmp_total _ name k q ∙ ap (cond (same q name) (Some k)) (get-from_entries nat_list_cmp_total es q)))
 
 find_upto : (k : ℕ) (es : Pairs) (q : List ℕ) → AreOnce es → map.find order q (filter (λ m. nat_le m.1 k) es) ≡ cond (is_upto k (map.find order q es)) (map.find order q es) None
 find_upto k [] q once = refl
@@ -95,8 +95,8 @@ find_upto k (m ∷ ms) q once =
 pub upto_is : (k : ℕ) (es : Pairs) → AreOnce es → map.from_entries {R = order} (filter (λ m. nat_le m.1 k) es) ≡ marks_upto k (map.from_entries es)
 upto_is k es once =
     same_map nat_list_cmp_total order_apart _ _ (λ q.
-      get-from_entries nat_list_cmp_total _ q ∙ find_upto k es q once
-      ∙ sym (get_upto (map.from_entries es) k q ∙ ap (λ o. cond (is_upto k o) o None) (get-from_entries nat_list_cmp_total es q)))
+    get-from_entries nat_list_cmp_total _ q ∙ find_upto k es q once
+    ∙ sym (get_upto (map.from_entries es) k q ∙ ap (λ o. cond (is_upto k o) o None) (get-from_entries nat_list_cmp_total es q)))
 
 -- ---- each name stands once
 

@@ -39,7 +39,8 @@ pub fn the_headline()
 
 /// After any commands with any replies, refusals and want of memory among them, each state is what
 /// its standing request makes, against the session's base IRI, of the state before, and the state now is what the requests up to the
-/// cursor make of the base, one after another.
+/// cursor make of the base, one after another. The base is the state at the last commit, or the one that the session began with;
+/// a commit leaves the state as it was, without a history.
 pub fn standing_requests()
     ensures each { (base_iri : Option (List ℕ)) (state : State)
         (events : List (Command × Reply)) (session : Session) →
@@ -50,6 +51,9 @@ pub fn standing_requests()
         Run (fresh base_iri state) events session →
         MakesAll base_iri (take session.states.cursor
         (requests_of nothing events).items) session.base (now session) }
+    ensures first_base { BaseIsTheFirst }
+    ensures last_base { BaseIsTheLastCommitted }
+    ensures committed { CommitKeepsTheState }
 {}
 
 /// After any commands with any replies the cursor and each mark lie in the list of states. Where the cursor lies there: the next
@@ -68,30 +72,15 @@ pub fn undo_gives_back()
     ensures refused { RefusalsLeave }
 {}
 
-/// A commit leaves the state as it was, without a history. After any commands with any replies the base is the state at the last
-/// commit, or the one that the session began with.
-pub fn commits_make_the_base()
-    ensures kept { CommitKeepsTheState }
-    ensures first { BaseIsTheFirst }
-    ensures last { BaseIsTheLastCommitted }
-{}
-
-/// A request has one result at each state, or is refused there, and never both.
-pub fn one_result()
-    ensures there { SomeResult }
-    ensures one { OneResult }
-    ensures never_both { ResultOrRefusal }
-{
-    rdf_lines::each_text_is_one_document();
-    rdf_turtle::one_meaning();
-    sparql_syntax::one_request();
-}
-
 /// Where no reply is that memory is wanting, a command has one reply, but for a line of a fault that is the reader's own
-/// choice; and it leads to one session. So has a query.
+/// choice; and it leads to one session. So has a query. A request has one result at each state, or is refused there, and never
+/// both.
 pub fn one_reply()
     ensures commands { OneReply }
     ensures queries { OneQueryReply }
+    ensures there { SomeResult }
+    ensures result { OneResult }
+    ensures never_both { ResultOrRefusal }
 {
     rdf_lines::each_text_is_one_document();
     rdf_turtle::one_meaning();
@@ -101,15 +90,11 @@ pub fn one_reply()
     sparql_algebra::one_answer();
 }
 
-/// A load does what INSERT DATA of its document's quads does, and is refused for want of blank numbers just where that is.
+/// A load does what INSERT DATA of its document's quads does, and is refused for want of blank numbers just where that is. The
+/// blank numbers of the document are just those below one number: so many the load takes, and these it wants.
 pub fn a_load_is_insert_data()
     ensures leads { LoadInserts }
     ensures refused { LoadIsRefusedAlike }
-{}
-
-/// The blank numbers of a document are just those below one number: so many a load takes, and it is refused for want of them
-/// just where they would bring the counter past 10^18.
-pub fn a_load_takes_its_blank_numbers()
     ensures limit { LimitIsTheCount }
     ensures takes { LoadTakesTheCount }
     ensures wants { LoadWantsTheCount }

@@ -568,8 +568,8 @@ history_cut =
       refl,
       refl,
       place_kept (codes "a") second 1 1
-      (place_other (codes "b") (codes "a") (marks_upto 1 first) 2 refl ∙ place_kept (codes "a") first 1 1 (place_marked (codes "a") before 1) (omega arith))
-      (omega arith),
+          (place_other (codes "b") (codes "a") (marks_upto 1 first) 2 refl ∙ place_kept (codes "a") first 1 1 (place_marked (codes "a") before 1) (omega arith))
+          (omega arith),
       place_past (codes "b") second 2 1 (place_marked (codes "b") (marks_upto 1 first) 2) (omega arith),
     )
 
