@@ -1,8 +1,7 @@
 -- The blank numbers of a document are just those below its limit.
 use Rattle.std.proofs.Common.{◌≡◌, ◌⊎◌, inl, inr, ℕ, zero, suc, ◌+◌, ◌<◌, ◌≤◌, Bool, true, false, not, ◌&&◌, List, [], ◌∷◌, ◌++◌, get_or, Option, None, refl, sym, ap, ◌∙◌, subst, arith, Contains, IsTrue}
-use Rattle.std.specs.Prelude.{max, ◌↔◌}
+use Rattle.std.specs.Prelude.{max}
 use Rattle.std.specs.List.{AllByRecursion, flat_map}
-use Rattle.std.proofs.Math.Nat.{le-max_left, le-max_right}
 use Rattle.std.proofs.lemmas.Bool.Decides.{leb_tells}
 use mathlib.Core.Bool.{true≢false}
 use Rattle.std.proofs.lemmas.List.Elements.{Contains-append_left, Contains-append_right, Contains-append_cases}
@@ -12,7 +11,6 @@ use Rattle.rdf_lines.specs.declared.format.LineFormat.{LineFormat}
 use Rattle.rdf_lines.specs.declared.format.LineFormat.TheVariants as line
 use Rattle.rdf_lines.specs.Document as lines
 use Rattle.rdf_turtle.specs.Blanks as turtle_blanks
-use Rattle.rdf_turtle.specs.Document as turtle
 use Rattle.rdf_terms.specs.Blanks.{blanks_in, blanks_in_graph, blanks_of}
 use Rattle.rdf_terms.specs.Quad.{QuadParts, has_right_kinds, may_name_graph}
 use Rattle.rdf_terms.specs.Term.{is_iri_term, is_literal_term}
@@ -23,8 +21,7 @@ use Rattle.rdf_terms.specs.declared.term.Term.TheVariants.{Blank, Iri, Literal}
 use Rattle.rdf_session.proofs.OneReplyLemmas.{Laws, one_document}
 use Rattle.rdf_session.specs.BlankCount.{HasBlankCount, LimitIsTheCount, LoadTakesTheCount, LoadWantsTheCount}
 use Rattle.rdf_session.specs.Documents.{IsDocument}
-use Rattle.rdf_session.specs.Request.{Load, IsRefused, blank_limit, graph_limit, loaded, quad_limit, term_limit}
-use Rattle.rdf_session.specs.declared.fault.KeeperFault.TheVariants.{BlankNumbers}
+use Rattle.rdf_session.specs.Request.{blank_limit, graph_limit, quad_limit, term_limit}
 use Rattle.rdf_session.specs.declared.format.Format.{Format}
 use Rattle.rdf_session.specs.declared.format.Format.TheVariants.{NQuads, NTriples, Turtle}
 

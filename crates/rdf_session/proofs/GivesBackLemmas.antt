@@ -1,5 +1,5 @@
 -- What undo, redo and rollback give back.
-use Rattle.std.proofs.Common.{◌≡◌, ℕ, zero, suc, ◌+◌, ◌-◌, ◌≤◌, List, [], ◌∷◌, ◌++◌, length, take, get_or, Option, Some, refl, sym, ap, ◌∙◌, subst, arith, length-append, length-take, add-one}
+use Rattle.std.proofs.Common.{◌≡◌, ℕ, zero, suc, ◌+◌, ◌-◌, ◌≤◌, List, [], ◌∷◌, ◌++◌, length, take, get_or, Some, refl, sym, ap, ◌∙◌, subst, arith, length-append, length-take, add-one}
 use Rattle.rdf_dataset.specs.State.{State}
 use Rattle.rdf_session.proofs.BetweenLemmas.{quiet_accepted, quiet_run}
 use Rattle.rdf_session.proofs.MarkLemmas.{lie_kept, lie_marked, lie_nowhere, place_kept, place_marked}

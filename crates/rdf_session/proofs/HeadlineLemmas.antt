@@ -12,7 +12,6 @@ use Rattle.rdf_session.specs.LoadLaws.{insertion}
 use Rattle.rdf_session.specs.Request.{Request, Load, Update, Makes}
 use Rattle.rdf_session.specs.Session.{Session, Command, Reply, Do, Undo, Redo, Mark, Rollback, Commit, Changed, Done, Refused, Step, fresh, nets_between, now}
 use Rattle.rdf_session.specs.Standing.{Run, Requests, Follows, MakesAll, kept_after, requests_of}
-use Rattle.rdf_session.specs.declared.fault.Counts.{Counts}
 use Rattle.sparql_eval.specs.Operations.{go_on, step, steps}
 use Rattle.sparql_eval.specs.declared.fault.ApplyFault.{ApplyFault}
 use Rattle.sparql_trees.specs.declared.operation.Operation.{Operation}

@@ -1,5 +1,5 @@
 -- A script's answers are the steps of a session.
-use Rattle.std.proofs.Common.{◌≡◌, inl, inr, ℕ, Bool, true, false, List, [], ◌∷◌, ◌++◌, refl, sym, ap, ◌∙◌, subst, None}
+use Rattle.std.proofs.Common.{◌≡◌, inl, inr, ℕ, Bool, true, false, List, [], ◌∷◌, refl, sym, ap, ◌∙◌, subst, None}
 use mathlib.Core.Bool.{true≢false}
 use Rattle.rdf_session.specs.Between.{IsQuiet, Quietly}
 use Rattle.rdf_session.specs.GivesBack.{UndoGivesBack, RedoGivesAgain}
@@ -12,7 +12,6 @@ use Rattle.rdf_keeper.specs.Script.Answers.{Answers, is_refused, reply_line}
 use Rattle.rdf_keeper.specs.Script.Commands.{Asked, act, ask, bad, commands, show, unended}
 use Rattle.rdf_keeper.specs.Script.Lines.{raw_lines, upto_last_end}
 use Rattle.rdf_keeper.specs.Script.Promised.{Tells, AreTold, AnswersAreSteps, ScriptsArePromised, IsQuietAnswer, AnswersQuietly, UndoneInAScript, RedoneInAScript}
-use Rattle.rdf_keeper.specs.Script.Runs.{Runs}
 use Rattle.rdf_keeper.specs.declared.script.status.Status.{Status}
 
 abbrev Events : Type 0

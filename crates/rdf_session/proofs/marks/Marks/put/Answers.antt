@@ -1,5 +1,4 @@
 use Rattle.rdf_session.specs.Inside.Marks.{pairs_of}
-use Rattle.std.specs.Prelude.{OnErr}
 use Rattle.rdf_session.proofs.LabelLemmas.{put_on_ok, put_whole, same_pairs}
 use Rattle.rdf_session.proofs.marks.Marks.put.Goals as goal
 
