@@ -13,6 +13,7 @@ use Rattle.rdf_keeper.specs.Script.Commands.{Asked, act, ask, bad, commands, sho
 use Rattle.rdf_keeper.specs.Script.Lines.{raw_lines, upto_last_end}
 use Rattle.rdf_keeper.specs.Script.Promised.{Tells, AreTold, AnswersAreSteps, ScriptsArePromised, IsQuietAnswer, AnswersQuietly, UndoneInAScript, RedoneInAScript}
 use Rattle.rdf_keeper.specs.declared.script.status.Status.{Status}
+use Rattle.rdf_keeper.specs.declared.script.status.Status.TheVariants.{Accepted, ReadFailed}
 
 abbrev Events : Type 0
 Events = List (Command × Reply)
@@ -61,10 +62,10 @@ pub scripts_are_promised : Headline → ScriptsArePromised
 scripts_are_promised headline base_iri start stop before after answers session status over =
     elim over.2 [
       | inl ended ↦
-          let run = answers_are_steps stop _ false (commands true None (raw_lines over.0)) (fresh base_iri start) answers session status ended.1 in
+          let run = answers_are_steps stop Accepted false (commands true None (raw_lines over.0)) (fresh base_iri start) answers session status ended.1 in
           (over.0, over.1, record { asked = _; theirs = inl refl; events = run.0; told = run.1; promise = headline base_iri start run.0 session run.2 })
       | inr front ↦
-          let run = answers_are_steps stop _ false (commands false None (raw_lines (upto_last_end over.0))) (fresh base_iri start) answers session status front in
+          let run = answers_are_steps stop ReadFailed false (commands false None (raw_lines (upto_last_end over.0))) (fresh base_iri start) answers session status front in
           (over.0, over.1, record { asked = _; theirs = inr refl; events = run.0; told = run.1; promise = headline base_iri start run.0 session run.2 })
     ]
 
