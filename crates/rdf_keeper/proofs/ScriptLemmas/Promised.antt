@@ -63,10 +63,10 @@ scripts_are_promised headline base_iri start stop before after answers session s
     elim over.2 [
       | inl ended ↦
           let run = answers_are_steps stop Accepted false (commands true None (raw_lines over.0)) (fresh base_iri start) answers session status ended.1 in
-          (over.0, over.1, record { asked = _; theirs = inl refl; events = run.0; told = run.1; promise = headline base_iri start run.0 session run.2 })
+          (over.0, over.1, record { asked = commands true None (raw_lines over.0); theirs = inl refl; events = run.0; told = run.1; promise = headline base_iri start run.0 session run.2 })
       | inr front ↦
           let run = answers_are_steps stop ReadFailed false (commands false None (raw_lines (upto_last_end over.0))) (fresh base_iri start) answers session status front in
-          (over.0, over.1, record { asked = _; theirs = inr refl; events = run.0; told = run.1; promise = headline base_iri start run.0 session run.2 })
+          (over.0, over.1, record { asked = commands false None (raw_lines (upto_last_end over.0)); theirs = inr refl; events = run.0; told = run.1; promise = headline base_iri start run.0 session run.2 })
     ]
 
 -- ---- what comes between
