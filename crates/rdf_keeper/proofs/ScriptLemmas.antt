@@ -7,6 +7,7 @@ pub mod OneListing
 pub mod OneOutput
 pub mod OneOutputOfBytes
 pub mod Printed
+pub mod Promised
 pub mod Refusals
 pub mod Runs
 pub mod Words

@@ -3,6 +3,7 @@ use Rattle.std.specs.Prelude.{◌≡◌, ℕ, List, [], ◌∷◌, true, false, 
 use Rattle.std.specs.FinSet as set
 use Rattle.rdf_terms.specs.Quad.{QuadParts}
 use Rattle.rdf_terms.specs.declared.quad.GraphName.TheVariants.{Default, Named}
+use Rattle.rdf_terms.specs.declared.term.Term.{Term}
 use Rattle.rdf_terms.specs.declared.term.Term.TheVariants.{Blank, Iri}
 use Rattle.rdf_dataset.specs.State.{State, empty_state}
 use Rattle.rdf_keeper.specs.Script.Answers.{reply_line}
@@ -118,6 +119,30 @@ abbrev pub Committed : Type 0
 Committed = IsAnswered (codes "%load nquads\n<e:s> <e:p> <e:o> .\n%end\n%commit\n%undo\n")
     (codes "ok +1 -0\n" ∷ codes "ok\n" ∷ codes "refused: NothingToUndo\n" ∷ []) Refused one_quad
 
+-- a document of one statement with a blank node, in a named graph, its quad, and the state of that quad alone
+abbrev pub named_document : List ℕ
+named_document = codes "_:b0 <e:p> <e:o> <e:g> .\n"
+
+abbrev pub graph_name : Term
+graph_name = Iri (codes "e:g")
+
+abbrev pub named_quad : QuadParts
+named_quad = record { graph = Named graph_name; subject = Blank 0; predicate = Iri (codes "e:p"); object = Iri (codes "e:o") }
+
+abbrev pub one_named : State
+one_named = record { quads = set.from_list (named_quad ∷ []); names = set.from_list (graph_name ∷ []); next = 1 }
+
+-- the graph comes with its quad and is shown as a change with it; an undo takes both back, and the blank number
+abbrev pub GraphShown : Type 0
+GraphShown = IsAnswered (codes "%load nquads\n_:b0 <e:p> <e:o> <e:g> .\n%end\n%graphs\n%changes\n%undo\n%graphs\n%changes\n")
+    (codes "ok +1 -0\n" ∷ codes "<e:g>\nok 1\n" ∷ codes "+ graph <e:g>\n+ _:b0 <e:p> <e:o> <e:g> .\nok 2\n" ∷ codes "ok +0 -1\n" ∷ codes "ok 0\n" ∷ codes "ok 0\n" ∷ [])
+    Accepted (empty_state 0)
+
+-- behind a commit nothing has changed, and all is there
+abbrev pub GraphCommitted : Type 0
+GraphCommitted = IsAnswered (codes "%load nquads\n_:b0 <e:p> <e:o> <e:g> .\n%end\n%commit\n%changes\n%graphs\n%print\n")
+    (codes "ok +1 -0\n" ∷ codes "ok\n" ∷ codes "ok 0\n" ∷ codes "<e:g>\nok 1\n" ∷ codes "_:b0 <e:p> <e:o> <e:g> .\nok 1\n" ∷ []) Accepted one_named
+
 -- a body that is open at the end isn't loaded
 abbrev pub OpenLoad : Type 0
 OpenLoad = IsAnswered (codes "%print\n%load nquads\n<e:s> <e:p> <e:o> .\n")
@@ -130,7 +155,9 @@ abbrev pub cut_history : History ℕ
 cut_history = pushed 3 (moved 1 (marked (codes "b") (pushed 2 (marked (codes "a") (pushed 1 nothing)))))
 
 abbrev pub HistoryCut : Type 0
-HistoryCut = (cut_history ≡ record { items = 1 ∷ 3 ∷ []; cursor = 2; marks = (codes "a", 1) ∷ [] }) × (place_of (codes "b") cut_history ≡ None)
+HistoryCut =
+    (cut_history.items ≡ 1 ∷ 3 ∷ []) × (cut_history.cursor ≡ 2)
+    × (place_of (codes "a") cut_history ≡ Some 1) × (place_of (codes "b") cut_history ≡ None)
 
 -- blank node 0 of a load becomes that of the counter
 abbrev pub blank_quad : ℕ → QuadParts

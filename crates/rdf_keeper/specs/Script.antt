@@ -7,6 +7,7 @@ pub mod Lines
 pub mod Listing
 pub mod OneOutput
 pub mod Printed
+pub mod Promised
 pub mod Refusals
 pub mod Runs
 pub mod Statuses

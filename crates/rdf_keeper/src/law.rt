@@ -1,5 +1,6 @@
 //! Laws over the definitions alone: that a script's lines are its text, that it has one output, that its refusals change nothing, and
 //! that what is printed is read back in each format.
+ghost use Rattle.rdf_keeper.specs.Script.Promised.{AnswersAreSteps, ScriptsArePromised, UndoneInAScript, RedoneInAScript};
 ghost use Rattle.rdf_keeper.specs.Script.Refusals.{RefusedAnswersLeave};
 ghost use Rattle.rdf_keeper.specs.Script.LineLaws.{LinesAreTheText, LinesAreEnded, OneCut};
 ghost use Rattle.rdf_keeper.specs.Script.Printed.{LinesAreDocuments, SortedTextsAreDocuments, PrintedLinesAreDocuments};
@@ -21,6 +22,21 @@ pub fn a_script_has_one_output()
     ensures bytes_of_bytes { OneTextOfBytes }
 {
     rdf_session::one_reply();
+}
+
+/// The promise of the whole, of scripts: over the bytes that are read the commands of a script,
+/// with the replies that its answers tell, are those of a session, so the promise of
+/// [`rdf_session::the_headline`] is kept of its end. An `%undo` that is accepted behind a request
+/// gives back the state before it, and a `%redo` behind that the state after, whatever queries,
+/// listings, marks and refusals come between.
+pub fn a_script_keeps_the_promise()
+    ensures steps { AnswersAreSteps }
+    ensures promise { ScriptsArePromised }
+    ensures undone { UndoneInAScript }
+    ensures redone { RedoneInAScript }
+{
+    rdf_session::the_headline();
+    rdf_session::undo_gives_back();
 }
 
 /// The lines of a script, one after another, are its text. An LF ends each of them but perhaps the last, and stands nowhere

@@ -3,6 +3,7 @@ use Rattle.std.proofs.Common.{◌+◌, ◌-◌, [], refl, arith}
 use Rattle.rdf_dataset.specs.State.{State}
 use Rattle.rdf_session.proofs.GivesBackLemmas.{length_pushed}
 use Rattle.rdf_session.proofs.HeadlineLemmas.{made_by}
+use Rattle.rdf_session.proofs.MarkLemmas.{place_marked}
 use Rattle.rdf_session.specs.ComesAbout.{MayBeAccepted, EachCommandRuns, each_command}
 use Rattle.rdf_session.specs.Request.{Load, Makes, loaded}
 use Rattle.rdf_session.specs.Session.{Session, accepted, at_place, counts_between, fresh, now, with_mark}
@@ -37,5 +38,5 @@ each_command_runs base start room =
     let last : Session = fresh base (now there) in
     let step : Makes base (Load NQuads []) start empty = ([], ([], (refl, refl), refl), omega (arith, room), refl) in
     let run : Run (fresh base start) (each_command (counts_between start empty) (counts_between (now named) (now undone)) (counts_between (now undone) (now redone)) (counts_between (now redone) (now there))) last =
-    (first, (empty, step, refl, refl), (named, refl, (undone, (omega arith, refl, refl), (redone, (omega arith, refl, refl), (there, (1, refl, omega arith, refl, refl), (last, refl, refl)))))) in
+    (first, (empty, step, refl, refl), (named, refl, (undone, (omega arith, refl, refl), (redone, (omega arith, refl, refl), (there, (1, place_marked [] first.states.marks 1, omega arith, refl, refl), (last, refl, refl)))))) in
     (last, counts_between start empty, counts_between (now named) (now undone), counts_between (now undone) (now redone), counts_between (now redone) (now there), run)

@@ -1,20 +1,15 @@
 -- What undo, redo and rollback give back.
-use Rattle.std.proofs.Common.{◌≡◌, ℕ, zero, suc, ◌+◌, ◌-◌, ◌≤◌, Bool, true, false, not, cond, List, [], ◌∷◌, ◌++◌, length, take, get_or, Option, Some, refl, sym, ap, ◌∙◌, subst, arith, length-append, length-take, add-one}
-use Rattle.std.specs.Prelude.{filter, find, nat_le, option_map}
-use Rattle.std.specs.Cmp.Lexicographic.{bytes_decides}
-use Rattle.std.proofs.lemmas.Bool.Decides.{leb_tells}
-use mathlib.Core.Logic.{inl, inr}
+use Rattle.std.proofs.Common.{◌≡◌, ℕ, zero, suc, ◌+◌, ◌-◌, ◌≤◌, List, [], ◌∷◌, ◌++◌, length, take, get_or, Some, refl, sym, ap, ◌∙◌, subst, arith, length-append, length-take, add-one}
 use Rattle.rdf_dataset.specs.State.{State}
-use Rattle.rdf_session.proofs.MarkLemmas.{lie_kept, lie_marked}
+use Rattle.rdf_session.proofs.BetweenLemmas.{quiet_accepted, quiet_run}
+use Rattle.rdf_session.proofs.MarkLemmas.{lie_kept, lie_marked, lie_nowhere, place_kept, place_marked}
+use Rattle.rdf_session.specs.Between.{Quietly}
 use Rattle.rdf_session.specs.GivesBack.{IsPlaced, IsWholeSession, Accepts, RunsAreWhole, UndoGivesBack, RedoGivesAgain, RollbackGivesBack}
 use Rattle.rdf_session.specs.Request.{Request}
-use Rattle.rdf_session.specs.History.{is_named, place_of}
+use Rattle.rdf_session.specs.History.{Marks, place_of}
 use Rattle.rdf_session.specs.Standing.{Run}
-use Rattle.rdf_session.specs.Session.{Session, Command, Reply, Do, Undo, Redo, Mark, Rollback, Commit, Changed, Done, Refused, Step, accepted, at_place, counts_between, fresh, now}
+use Rattle.rdf_session.specs.Session.{Session, Command, Reply, Do, Undo, Redo, Mark, Rollback, Commit, Changed, Done, Refused, Step, accepted, at_place, counts_between, fresh, now, with_marks}
 use Rattle.rdf_session.specs.declared.fault.Counts.{Counts}
-
-abbrev Marks : Type 0
-Marks = List (List ℕ × ℕ)
 
 -- ---- a session stays whole
 
@@ -36,14 +31,14 @@ step_whole old new (Mark name) Done w st = subst IsWholeSession (sym st) (record
 step_whole old new (Rollback name) (Changed counts) w st = subst IsWholeSession (sym st.3) (record { cursor = omega (arith, st.2, w.cursor); marks = w.marks })
 step_whole old new (Rollback name) Done w st = absurd st
 step_whole old new Commit (Changed counts) w st = absurd st
-step_whole old new Commit Done w st = subst IsWholeSession (sym st) (record { cursor = omega arith; marks = tt })
+step_whole old new Commit Done w st = subst IsWholeSession (sym st) (record { cursor = omega arith; marks = lie_nowhere 0 })
 
 run_whole : (old new : Session) (events : List (Command × Reply)) → IsWholeSession old → Run old events new → IsWholeSession new
 run_whole old new [] w run = subst IsWholeSession (sym run) w
 run_whole old new (event ∷ events) w run = run_whole run.0 new events (step_whole old run.0 event.0 event.1 w run.1) run.2
 
 pub runs_are_whole : RunsAreWhole
-runs_are_whole base_iri start events session run = run_whole (fresh base_iri start) session events (record { cursor = omega arith; marks = tt }) run
+runs_are_whole base_iri start events session run = run_whole (fresh base_iri start) session events (record { cursor = omega arith; marks = lie_nowhere 0 }) run
 
 -- ---- the states behind an accepted request
 
@@ -70,70 +65,37 @@ pub now_undone : (after : State) (s : Session) → IsPlaced s → now (at_place 
 now_undone after s w =
     ap (λ j. now (at_place j (accepted after s))) (back_one s.states.cursor) ∙ stands s.base s.states.items s.states.cursor s.states.cursor s.base after (omega arith) w
 
--- what an undo behind an accepted request leaves
-undone : (old mid new : Session) (request : Request) (c d : Counts) (w : IsPlaced old) (st : Step old (Do request) (Changed c) mid) → Step mid Undo (Changed d) new → new ≡ at_place ((old.states.cursor + 1) - 1) (accepted st.0 old)
-undone old mid new request c d w st un = un.1 ∙ ap (λ (x : Session). at_place (x.states.cursor - 1) x) st.2
+-- what an undo behind an accepted request leaves, whatever marks are put since
+undone : (old mid later new : Session) (request : Request) (c d : Counts) (st : Step old (Do request) (Changed c) mid) → Quietly mid later → Step later Undo (Changed d) new → (marks : Marks) × (new ≡ with_marks marks (at_place ((old.states.cursor + 1) - 1) (accepted st.0 old)))
+undone old mid later new request c d st quiet un =
+    let q = quiet_accepted old mid later request c st quiet in
+    (q.0, un.1 ∙ ap (λ (x : Session). at_place (x.states.cursor - 1) x) q.1)
 
 pub undo_gives_back : UndoGivesBack
-undo_gives_back old mid new request c d w st un =
-    let back : now new ≡ now old = ap now (undone old mid new request c d w st un) ∙ now_undone st.0 old w in
-    let there : now mid ≡ st.0 = ap now st.2 ∙ now_accepted st.0 old w in
+undo_gives_back old mid later new request c d w st quiet un =
+    let u = undone old mid later new request c d st quiet un in
+    let q = quiet_accepted old mid later request c st quiet in
+    let back : now new ≡ now old = ap now u.1 ∙ now_undone st.0 old w in
+    let there : now later ≡ st.0 = ap now q.1 ∙ now_accepted st.0 old w in
     let counts : d ≡ counts_between st.0 (now old) = un.2 ∙ (λ i. counts_between (there i) (back i)) in
     (back, ap (λ (x : Counts). x.added) counts ∙ sym (ap (λ (x : Counts). x.removed) st.3), ap (λ (x : Counts). x.removed) counts ∙ sym (ap (λ (x : Counts). x.added) st.3))
 
 pub redo_gives_again : RedoGivesAgain
-redo_gives_again old mid new last request c d e w st un re =
-    let here = undone old mid new request c d w st un in
-    let again : last ≡ mid = re.1 ∙ ap (λ (x : Session). at_place (x.states.cursor + 1) x) here ∙ ap (λ j. at_place (j + 1) (accepted st.0 old)) (back_one old.states.cursor) ∙ sym st.2 in
-    let back : now new ≡ now old = ap now here ∙ now_undone st.0 old w in
-    let there : now last ≡ st.0 = ap now (again ∙ st.2) ∙ now_accepted st.0 old w in
-    (again, re.2 ∙ (λ i. counts_between (back i) (there i)) ∙ sym st.3)
-
--- ---- marks
-
--- where the name is among the marks
-abbrev place : List ℕ → Marks → Option ℕ
-place name marks = option_map (λ m. m.1) (find (is_named name) marks)
-
-found_here : (name : List ℕ) (m : List ℕ × ℕ) (ms : Marks) → is_named name m ≡ true → place name (m ∷ ms) ≡ Some m.1
-found_here name m ms e = ap (λ v. option_map (λ (x : List ℕ × ℕ). x.1) (cond v (Some m) (find (is_named name) ms))) e
-
-found_on : (name : List ℕ) (m : List ℕ × ℕ) (ms : Marks) → is_named name m ≡ false → place name (m ∷ ms) ≡ place name ms
-found_on name m ms e = ap (λ v. option_map (λ (x : List ℕ × ℕ). x.1) (cond v (Some m) (find (is_named name) ms))) e
+redo_gives_again old mid later back after new request c d e w st quiet un calm re =
+    let u = undone old mid later back request c d st quiet un in
+    let q = quiet_run calm.0 back after calm.1 calm.2 in
+    let here : after ≡ with_marks q.0 (at_place ((old.states.cursor + 1) - 1) (accepted st.0 old)) = q.1 ∙ ap (with_marks q.0) u.1 in
+    let marks : after.states.marks ≡ q.0 = ap (λ (x : Session). x.states.marks) here in
+    let again : new ≡ with_marks after.states.marks mid =
+    re.1 ∙ ap (λ (x : Session). at_place (x.states.cursor + 1) x) here
+    ∙ ap (λ j. with_marks q.0 (at_place (j + 1) (accepted st.0 old))) (back_one old.states.cursor)
+    ∙ ap (with_marks q.0) (sym st.2) ∙ ap (λ m. with_marks m mid) (sym marks) in
+    let before : now after ≡ now old = ap now here ∙ now_undone st.0 old w in
+    let there : now new ≡ st.0 = ap now again ∙ ap now st.2 ∙ now_accepted st.0 old w in
+    (again, re.2 ∙ (λ i. counts_between (before i) (there i)) ∙ sym st.3)
 
 some_place : (j k : ℕ) → Some j ≡ Some k → j ≡ k
 some_place j k e = cc
-
--- a name at the cursor is there
-place_marked : (name : List ℕ) (marks : Marks) (k : ℕ) → place name (filter (λ m. not (is_named name m)) marks ++ (name, k) ∷ []) ≡ Some k
-place_marked name [] k = found_here name (name, k) [] ((bytes_decides name name).1 refl)
-place_marked name (m ∷ ms) k =
-    elim (is_named name m) as (λ v. is_named name m ≡ v → place name (cond (not v) (m ∷ filter (λ x. not (is_named name x)) ms) (filter (λ x. not (is_named name x)) ms) ++ (name, k) ∷ []) ≡ Some k) [
-      | true ↦ λ e. place_marked name ms k
-      | false ↦ λ e. found_on name m _ e ∙ place_marked name ms k
-    ] refl
-
--- a mark up to the cursor is kept
-place_kept : (name : List ℕ) (marks : Marks) (k j : ℕ) → place name marks ≡ Some k → k ≤ j → place name (filter (λ m. nat_le m.1 j) marks) ≡ Some k
-place_kept name [] k j e h = e
-place_kept name (m ∷ ms) k j e h =
-    elim (is_named name m) as (λ v. is_named name m ≡ v → Kept) [
-      | true ↦ λ is.
-          let same = some_place m.1 k (sym (found_here name m ms is) ∙ e) in
-          elim (leb_tells m.1 j) [
-            | inl t ↦ ap (λ v. place name (kept v)) t.0 ∙ found_here name m _ is ∙ ap Some same
-            | inr t ↦ absurd (omega (arith, t.1, same, h))
-          ]
-      | false ↦ λ is.
-          let later = place_kept name ms k j (sym (found_on name m ms is) ∙ e) h in
-          elim (nat_le m.1 j) as (λ v. place name (kept v) ≡ Some k) [ true ↦ found_on name m _ is ∙ later | false ↦ later ]
-    ] refl
-  where
-    kept : Bool → Marks
-    kept v = cond v (m ∷ filter (λ x. nat_le x.1 j) ms) (filter (λ x. nat_le x.1 j) ms)
-
-    Kept : Type 0
-    Kept = place name (kept (nat_le m.1 j)) ≡ Some k
 
 -- ---- a rollback
 

@@ -1,20 +1,17 @@
 -- The promise of the whole.
-use Rattle.std.proofs.Common.{◌≡◌, ℕ, ◌+◌, ◌-◌, List, [], ◌∷◌, ◌++◌, take, Option, Result, Ok, Err, refl, sym, ap, ◌∙◌, subst}
-use Rattle.std.specs.List.{AllByRecursion}
+use Rattle.std.proofs.Common.{◌≡◌, ℕ, List, [], ◌∷◌, ◌++◌, take, Option, Result, Ok, Err, refl, sym, ap, ◌∙◌, subst}
 use Rattle.rdf_dataset.specs.State.{State, net_between}
-use Rattle.rdf_session.proofs.GivesBackLemmas.{back_one, now_accepted, now_undone}
+use Rattle.rdf_session.proofs.GivesBackLemmas.{now_accepted, redo_gives_again, undo_gives_back}
 use Rattle.rdf_session.proofs.InsertionLemmas.{load_inserts}
 use Rattle.rdf_session.proofs.NetLemmas.{applied_is, turned_is}
 use Rattle.rdf_session.proofs.OneReplyLemmas.{Laws, never_refused, one_document}
 use Rattle.rdf_session.proofs.StandingLemmas.{Agrees, fresh_agrees, run_agrees, standing, step_agrees}
-use Rattle.rdf_session.specs.GivesBack.{IsPlaced}
-use Rattle.rdf_session.specs.Headline.{HasOperations, HaveOperations, MakeExactly, committed_by, committed, standing_since, still_standing, IsQuiet, Quietly, HaveEntries, Headline}
+use Rattle.rdf_session.specs.Headline.{HasOperations, HaveOperations, MakeExactly, committed_by, committed, standing_since, still_standing, HaveEntries, Headline}
 use Rattle.rdf_session.specs.History.{nothing}
 use Rattle.rdf_session.specs.LoadLaws.{insertion}
 use Rattle.rdf_session.specs.Request.{Request, Load, Update, Makes}
-use Rattle.rdf_session.specs.Session.{Session, Command, Reply, Do, Undo, Redo, Mark, Rollback, Commit, Changed, Done, Refused, Step, accepted, at_place, fresh, nets_between, now, with_mark}
+use Rattle.rdf_session.specs.Session.{Session, Command, Reply, Do, Undo, Redo, Mark, Rollback, Commit, Changed, Done, Refused, Step, fresh, nets_between, now}
 use Rattle.rdf_session.specs.Standing.{Run, Requests, Follows, MakesAll, kept_after, requests_of}
-use Rattle.rdf_session.specs.declared.fault.Counts.{Counts}
 use Rattle.sparql_eval.specs.Operations.{go_on, step, steps}
 use Rattle.sparql_eval.specs.declared.fault.ApplyFault.{ApplyFault}
 use Rattle.sparql_trees.specs.declared.operation.Operation.{Operation}
@@ -135,60 +132,6 @@ run_base base (event ∷ events) old new h a run =
     makes_on base (committed_by h event) (committed (kept_after h event) events) old.base mid.base new.base (base_after base old mid event.0 event.1 h a run.1)
     (run_base base events mid new (kept_after h event) (step_agrees base old mid event.0 event.1 h a run.1) run.2)
 
--- ---- marks and refusals leave all but the marks
-
-abbrev remarked : List (List ℕ × ℕ) → Session → Session
-remarked marks s = record { base_iri = s.base_iri; base = s.base; states = record { items = s.states.items; cursor = s.states.cursor; marks = marks } }
-
-quiet_step : (old new : Session) (c : Command) (r : Reply) → IsQuiet (c, r) → Step old c r new → (marks : List (List ℕ × ℕ)) × (new ≡ remarked marks old)
-quiet_step old new c (Refused fault) q st = (old.states.marks, st.1)
-quiet_step old new (Mark name) (Changed counts) q st = absurd st
-quiet_step old new (Mark name) Done q st = ((with_mark name old).states.marks, st)
-quiet_step old new (Do request) (Changed counts) q st = absurd q
-quiet_step old new (Do request) Done q st = absurd q
-quiet_step old new Undo (Changed counts) q st = absurd q
-quiet_step old new Undo Done q st = absurd q
-quiet_step old new Redo (Changed counts) q st = absurd q
-quiet_step old new Redo Done q st = absurd q
-quiet_step old new (Rollback name) (Changed counts) q st = absurd q
-quiet_step old new (Rollback name) Done q st = absurd q
-quiet_step old new Commit (Changed counts) q st = absurd q
-quiet_step old new Commit Done q st = absurd q
-
-quiet_run : (events : List (Command × Reply)) (old new : Session) → AllByRecursion IsQuiet events → Run old events new → (marks : List (List ℕ × ℕ)) × (new ≡ remarked marks old)
-quiet_run [] old new q run = (old.states.marks, run)
-quiet_run (event ∷ events) old new q run =
-    let first = quiet_step old run.0 event.0 event.1 q.0 run.1 in
-    let rest = quiet_run events run.0 new q.1 run.2 in
-    (rest.0, rest.1 ∙ ap (remarked rest.0) first.1)
-
-abbrev back_from : Session → Session
-back_from s = at_place (s.states.cursor - 1) s
-
-abbrev on_from : Session → Session
-on_from s = at_place (s.states.cursor + 1) s
-
--- the session behind an accepted request, and quiet commands
-quiet_accepted : (old mid later : Session) (request : Request) (c : Counts) (st : Step old (Do request) (Changed c) mid) → Quietly mid later → (marks : List (List ℕ × ℕ)) × (later ≡ remarked marks (accepted st.0 old))
-quiet_accepted old mid later request c st quiet =
-    let q = quiet_run quiet.0 mid later quiet.1 quiet.2 in (q.0, q.1 ∙ ap (remarked q.0) st.2)
-
-pub undo_later : (old mid later new : Session) (request : Request) (c d : Counts) → IsPlaced old
-    → Step old (Do request) (Changed c) mid → Quietly mid later → Step later Undo (Changed d) new → now new ≡ now old
-undo_later old mid later new request c d w st quiet un =
-    let q = quiet_accepted old mid later request c st quiet in
-    ap now un.1 ∙ ap (λ (x : Session). now (back_from x)) q.1 ∙ now_undone st.0 old w
-
-pub redo_later : (old mid later back after new : Session) (request : Request) (c d e : Counts)
-    → Step old (Do request) (Changed c) mid → Quietly mid later → Step later Undo (Changed d) back → Quietly back after → Step after Redo (Changed e) new → now new ≡ now mid
-redo_later old mid later back after new request c d e st quiet un calm re =
-    let q = quiet_accepted old mid later request c st quiet in
-    let r = quiet_run calm.0 back after calm.1 calm.2 in
-    ap now re.1
-    ∙ ap (λ (x : Session). now (on_from x)) (r.1 ∙ ap (remarked r.0) (un.1 ∙ ap back_from q.1))
-    ∙ ap (λ k. now (at_place (k + 1) (accepted st.0 old))) (back_one old.states.cursor)
-    ∙ ap now (sym st.2)
-
 -- ---- the same requests make the same state
 
 same_end : (ending : Ending) (t u : State) → ending ≡ Ok t → ending ≡ Ok u → t ≡ u
@@ -219,8 +162,9 @@ headline laws base start events session run =
       exactly = λ request c new st.
           subst (MakeExactly base (request ∷ []) (now session)) (sym (ap now st.2 ∙ now_accepted st.0 session a.within))
           (makes_exactly laws base request (now session) st.0 (subst (λ b. Makes b request (now session) st.0) a.base_iri st.1));
-      undone = λ request c d mid later new. undo_later session mid later new request c d a.within;
-      redone = λ request c d e mid later back after new. redo_later session mid later back after new request c d e;
+      undone = λ request c d mid later new st quiet un. (undo_gives_back session mid later new request c d a.within st quiet un).0;
+      redone = λ request c d e mid later back after new st quiet un calm re.
+          ap now (redo_gives_again session mid later back after new request c d e a.within st quiet un calm re).0;
       unchanged = λ command fault new st. st.1;
       rightly = λ request fault new st full operations theirs t leads.
           never_refused laws session request fault t st.0 full

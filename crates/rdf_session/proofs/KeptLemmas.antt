@@ -1,6 +1,6 @@
 -- Chains of nets: the states that they go through, and the steps of a session over them.
-use Rattle.std.proofs.Common.{◌≡◌, ℕ, zero, suc, ◌+◌, ◌-◌, ◌<◌, ◌≤◌, not, List, [], ◌∷◌, ◌++◌, length, take, get_or, Option, Some, refl, sym, ap, ◌∙◌, subst, arith, add-one, length-append, length-take}
-use Rattle.std.specs.Prelude.{filter, nat_le}
+use Rattle.std.proofs.Common.{◌≡◌, ℕ, zero, suc, ◌+◌, ◌-◌, ◌<◌, ◌≤◌, List, [], ◌∷◌, ◌++◌, length, take, get_or, Option, Some, refl, sym, ap, ◌∙◌, subst, arith, add-one, length-append, length-take}
+use Rattle.std.specs.FinMap as map
 use mathlib.Core.Bool.{true≢false, true, false}
 use Rattle.std.specs.FinSet as set
 use Rattle.std.specs.List.{AllByRecursion}
@@ -8,15 +8,12 @@ use Rattle.rdf_dataset.specs.State.{State, Change, IsSound, Begins, Ends, net_be
 use Rattle.rdf_session.proofs.MarkLemmas.{lie_kept, lie_marked}
 use Rattle.rdf_session.proofs.NetLemmas.{applied_is, turned_is, one_end}
 use Rattle.rdf_session.specs.GivesBack.{IsWholeSession}
-use Rattle.rdf_session.specs.History.{is_named, place_of}
+use Rattle.rdf_session.specs.History.{Marks, marks_upto, place_of}
 use Rattle.rdf_session.specs.Session.{Session, Step, Undo, Redo, Rollback, Changed, Refused, all_states, counts_between, now, accepted}
 use Rattle.rdf_session.specs.Inside.Kept.{before_all, states_after, AreNets, session_from, base_of, IsKept}
 use Rattle.rdf_session.specs.Session.{nets_between}
 use Rattle.rdf_session.specs.declared.fault.Counts.{Counts}
 use Rattle.rdf_session.specs.Faults.{no_memory}
-
-abbrev pub Marks : Type 0
-Marks = List (List ℕ × ℕ)
 
 abbrev pub Base : Type 0
 Base = Option (List ℕ)
@@ -117,7 +114,7 @@ module _ (iri : Base) (base s : State) (ns : List Change) (k : ℕ) (marks : Mar
   whole = subst IsWholeSession view (record { cursor = rw (length-states_after base ns) c.within; marks = rw (length-states_after base ns) c.marks_within })
 
   -- a name that is put at a place of the list lies there too
-  pub marked_kept : (name : List ℕ) (j : ℕ) → j ≤ length ns → IsKept base s ns k (filter (λ m. not (is_named name m)) marks ++ (name, j) ∷ [])
+  pub marked_kept : (name : List ℕ) (j : ℕ) → j ≤ length ns → IsKept base s ns k (map.insert marks name j)
   marked_kept name j h = record { sound = c.sound; nets = c.nets; current = c.current; within = c.within; marks_within = lie_marked _ j name marks h c.marks_within }
 
   pub now_is : s ≡ now o
@@ -186,11 +183,11 @@ module _ (iri : Base) (base s : State) (ns : List Change) (k : ℕ) (marks : Mar
   rollback_refused name t same = subst (λ x. Step x (Rollback name) (Refused no_memory) (session_from iri (base_of t ns k) ns k marks)) view (tt, ap (λ x. session_from iri (base_of x ns k) ns k marks) same ∙ session_at iri base s ns k marks c)
 
   -- an accepted request
-  pub accept_step : (t after : State) (counts : Counts) (e : Change) (ns' : List Change) (j : ℕ) (marks' : Marks) → IsSound after → e ≡ net_between s after → ((end : State) → e ≡ net_between s end → t ≡ end) → ns' ≡ take k ns ++ e ∷ [] → j ≡ k + 1 → marks' ≡ filter (λ m. nat_le m.1 k) marks → counts.added ≡ set.len e.added → counts.removed ≡ set.len e.removed → IsKept base t ns' j marks' × ((session_from iri (base_of t ns' j) ns' j marks' ≡ accepted after o) × (counts ≡ counts_between (now o) after))
+  pub accept_step : (t after : State) (counts : Counts) (e : Change) (ns' : List Change) (j : ℕ) (marks' : Marks) → IsSound after → e ≡ net_between s after → ((end : State) → e ≡ net_between s end → t ≡ end) → ns' ≡ take k ns ++ e ∷ [] → j ≡ k + 1 → marks' ≡ marks_upto k marks → counts.added ≡ set.len e.added → counts.removed ≡ set.len e.removed → IsKept base t ns' j marks' × ((session_from iri (base_of t ns' j) ns' j marks' ≡ accepted after o) × (counts ≡ counts_between (now o) after))
   accept_step t after counts e ns' j marks' sound n ends pn pj pm a r =
       let x = extended base ns k base e after c.nets c.within sound (n ∙ ap (λ y. net_between y after) c.current) in
       let on = ends after n in
-      let marks'' : Marks = filter (λ m. nat_le m.1 k) marks in
+      let marks'' : Marks = marks_upto k marks in
       let there : IsKept base t (take k ns ++ e ∷ []) (k + 1) marks'' = record {
         sound = c.sound;
         nets = x.0;
@@ -207,7 +204,7 @@ module _ (iri : Base) (base s : State) (ns : List Change) (k : ℕ) (marks : Mar
       )
 
   -- the same for each state that the net may lead to
-  pub accepted_any : (t : State) (counts : Counts) (e : Change) (ns' : List Change) (j : ℕ) (marks' : Marks) → Begins e (now o) → ((end : State) → e ≡ net_between s end → t ≡ end) → ns' ≡ take k ns ++ e ∷ [] → j ≡ k + 1 → marks' ≡ filter (λ m. nat_le m.1 k) marks → counts.added ≡ set.len e.added → counts.removed ≡ set.len e.removed → IsKept base t ns' j marks' × ((after : State) → e ≡ net_between (now o) after → (session_from iri (base_of t ns' j) ns' j marks' ≡ accepted after o) × (counts ≡ counts_between (now o) after))
+  pub accepted_any : (t : State) (counts : Counts) (e : Change) (ns' : List Change) (j : ℕ) (marks' : Marks) → Begins e (now o) → ((end : State) → e ≡ net_between s end → t ≡ end) → ns' ≡ take k ns ++ e ∷ [] → j ≡ k + 1 → marks' ≡ marks_upto k marks → counts.added ≡ set.len e.added → counts.removed ≡ set.len e.removed → IsKept base t ns' j marks' × ((after : State) → e ≡ net_between (now o) after → (session_from iri (base_of t ns' j) ns' j marks' ≡ accepted after o) × (counts ≡ counts_between (now o) after))
   unfolding begins_here
   accepted_any t counts e ns' j marks' b ends pn pj pm a r =
       let h = begins_here e b in

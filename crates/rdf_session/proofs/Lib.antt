@@ -1,15 +1,20 @@
 mod AnswerLemmas
+mod BetweenLemmas
+mod BlankCountLemmas
 mod ComesAboutLemmas
+mod CommitLemmas
 mod GivesBackLemmas
 mod HeadlineLemmas
 mod InsertionLemmas
 mod KeptLemmas
+mod LabelLemmas
 mod ListingLemmas
 mod LoadLemmas
-mod MarkLemmas
+pub mod MarkLemmas
 mod NetLemmas
 mod OneQueryLemmas
 mod OneReplyLemmas
+mod OneResultLemmas
 mod QueryLemmas
 mod RefusalLemmas
 mod StandingLemmas

@@ -290,7 +290,7 @@ module _ (laws : Laws) where
 
   -- ---- requests of both kinds
 
-  one_meaning : (base : Option (List ℕ)) (r : Request) (s t u : State) → Makes base r s t → Makes base r s u → t ≡ u
+  pub one_meaning : (base : Option (List ℕ)) (r : Request) (s t u : State) → Makes base r s t → Makes base r s u → t ≡ u
   one_meaning base (Load format text) s t u a b = a.3 ∙ ap (loaded s) (one_document format base text a.0 b.0 a.1 b.1) ∙ sym b.3
   one_meaning base (Update text) s t u a b = same_state _ t u a.2 (one_ending base text s a.0 b.0 (Ok u) a.1 b.1 b.2)
 

@@ -1,9 +1,10 @@
 -- The states and the standing requests of a session go on together.
-use Rattle.std.proofs.Common.{◌≡◌, ℕ, zero, suc, ◌+◌, ◌-◌, ◌≤◌, not, List, [], ◌∷◌, ◌++◌, length, take, get_or, Option, refl, sym, ap, ◌∙◌, subst, arith, length-append, length-take}
-use Rattle.std.specs.Prelude.{filter, find, nat_le, unwrap_or, option_map}
+use Rattle.std.proofs.Common.{◌≡◌, ℕ, zero, suc, ◌+◌, ◌-◌, ◌≤◌, List, [], ◌∷◌, ◌++◌, length, take, get_or, Option, refl, sym, ap, ◌∙◌, subst, arith, length-append, length-take}
+use Rattle.std.specs.FinMap as map
+use Rattle.std.specs.Prelude.{unwrap_or}
 use Rattle.rdf_dataset.specs.State.{State}
 use Rattle.rdf_session.specs.Request.{Request, Makes}
-use Rattle.rdf_session.specs.History.{nothing, pushed, moved, marked, place_of, is_named}
+use Rattle.rdf_session.specs.History.{Marks, nothing, pushed, moved, marked, marks_upto, place_of}
 use Rattle.rdf_session.specs.Session.{Session, Command, Reply, Do, Undo, Redo, Mark, Rollback, Commit, Changed, Done, Refused, Step, fresh, now}
 use Rattle.rdf_session.specs.Standing.{Run, Requests, kept_after, requests_of, Follows, MakesAll}
 
@@ -41,7 +42,7 @@ step_agrees iri old new (Do request) (Changed counts) h a st =
       base_iri = a.base_iri;
       follows = subst (λ k. Follows iri old.base (take k h.items ++ request ∷ []) (take old.states.cursor old.states.items ++ st.0 ∷ [])) (sym a.cursor) (follows_push iri old.base h.items old.states.items old.states.cursor old.base request st.0 a.follows a.within (subst (λ b. Makes b request (now old) st.0) a.base_iri st.1));
       cursor = ap (λ k. k + 1) a.cursor;
-      marks = ap (λ k. filter (λ m. nat_le m.1 k) h.marks) a.cursor ∙ ap (filter (λ m. nat_le m.1 old.states.cursor)) a.marks;
+      marks = ap (λ k. marks_upto k h.marks) a.cursor ∙ ap (marks_upto old.states.cursor) a.marks;
       within = length-push old.states.items old.states.cursor st.0 a.within;
     })
 step_agrees iri old new (Do request) Done h a st = absurd st
@@ -60,7 +61,7 @@ step_agrees iri old new (Mark name) Done h a st =
       base_iri = a.base_iri;
       follows = a.follows;
       cursor = a.cursor;
-      marks = ap (λ k. filter (λ m. not (is_named name m)) h.marks ++ (name, k) ∷ []) a.cursor ∙ ap (λ ms. filter (λ m. not (is_named name m)) ms ++ (name, old.states.cursor) ∷ []) a.marks;
+      marks = ap (map.insert h.marks name) a.cursor ∙ ap (λ (marks : Marks). map.insert marks name old.states.cursor) a.marks;
       within = a.within;
     })
 step_agrees iri old new (Rollback name) (Changed counts) h a st =
@@ -68,7 +69,7 @@ step_agrees iri old new (Rollback name) (Changed counts) h a st =
     (record {
       base_iri = a.base_iri;
       follows = a.follows;
-      cursor = ap (λ ms. unwrap_or (option_map (λ (m : List ℕ × ℕ). m.1) (find (is_named name) ms)) 0) a.marks ∙ ap (λ o. unwrap_or o 0) st.1;
+      cursor = ap (λ (marks : Marks). unwrap_or (map.get marks name) 0) a.marks ∙ ap (λ o. unwrap_or o 0) st.1;
       marks = a.marks;
       within = omega (arith, st.2, a.within);
     })

@@ -1,10 +1,11 @@
 -- What undo, redo and rollback give back, and what refusals leave.
 use Rattle.std.specs.Prelude.{◌≡◌, ℕ, ◌≤◌, List, [], ◌∷◌, length, Option}
 use Rattle.rdf_dataset.specs.State.{State}
+use Rattle.rdf_session.specs.Between.{Quietly}
 use Rattle.rdf_session.specs.History.{LieIn}
 use Rattle.rdf_session.specs.Standing.{Run}
 use Rattle.rdf_session.specs.Request.{Request}
-use Rattle.rdf_session.specs.Session.{Session, Command, Reply, Do, Undo, Redo, Mark, Rollback, Changed, Done, Refused, Step, counts_between, fresh, now}
+use Rattle.rdf_session.specs.Session.{Session, Command, Reply, Do, Undo, Redo, Mark, Rollback, Changed, Done, Refused, Step, counts_between, fresh, now, with_marks}
 use Rattle.rdf_session.specs.declared.fault.Counts.{Counts}
 use Rattle.rdf_session.specs.declared.fault.KeeperFault.{KeeperFault}
 
@@ -21,17 +22,19 @@ pub record IsWholeSession (s : Session) : Type 0 where
 abbrev pub RunsAreWhole : Type 0
 RunsAreWhole = (base_iri : Option (List ℕ)) (start : State) (events : List (Command × Reply)) (session : Session) → Run (fresh base_iri start) events session → IsWholeSession session
 
--- An undo behind an accepted request gives back quads, graph names and counter; its counts are those of the request, turned.
+-- The next undo behind an accepted request, whatever marks and refusals come between, gives back quads, graph names and counter;
+-- its counts are those of the request, turned.
 abbrev pub UndoGivesBack : Type 0
-UndoGivesBack = (old mid new : Session) (request : Request) (c d : Counts) → IsPlaced old
-    → Step old (Do request) (Changed c) mid → Step mid Undo (Changed d) new
+UndoGivesBack = (old mid later new : Session) (request : Request) (c d : Counts) → IsPlaced old
+    → Step old (Do request) (Changed c) mid → Quietly mid later → Step later Undo (Changed d) new
     → (now new ≡ now old) × (d.added ≡ c.removed) × (d.removed ≡ c.added)
 
--- A redo behind that gives again the session that the request had left, its history and marks too, with the request's counts.
+-- The next redo behind that, whatever marks and refusals come between, gives again the session that the request had left, its
+-- history too, with the marks that were put since; its counts are those of the request.
 abbrev pub RedoGivesAgain : Type 0
-RedoGivesAgain = (old mid new last : Session) (request : Request) (c d e : Counts) → IsPlaced old
-    → Step old (Do request) (Changed c) mid → Step mid Undo (Changed d) new → Step new Redo (Changed e) last
-    → (last ≡ mid) × (e ≡ c)
+RedoGivesAgain = (old mid later back after new : Session) (request : Request) (c d e : Counts) → IsPlaced old
+    → Step old (Do request) (Changed c) mid → Quietly mid later → Step later Undo (Changed d) back → Quietly back after
+    → Step after Redo (Changed e) new → (new ≡ with_marks after.states.marks mid) × (e ≡ c)
 
 -- the session after these requests, all accepted
 abbrev pub Accepts : Session → List Request → Session → Type 0

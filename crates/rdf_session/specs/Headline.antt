@@ -1,18 +1,18 @@
 -- The promise of the whole: what any commands with any replies leave.
 use Rattle.std.specs.Prelude.{◌≡◌, ◌≢◌, ℕ, List, [], ◌∷◌, ◌++◌, take, Option, Ok}
-use Rattle.std.specs.List.{AllByRecursion}
 use Rattle.rdf_dataset.specs.State.{State, Change, applied, net_between, turned}
 use Rattle.rdf_terms.specs.Quad.{QuadParts}
 use Rattle.sparql_eval.specs.Operations.{steps}
 use Rattle.sparql_syntax.specs.Update.{IsUpdate}
 use Rattle.sparql_trees.specs.declared.operation.Operation.{Operation}
 use Rattle.sparql_trees.specs.declared.operation.Request.{Request as UpdateRequest}
+use Rattle.rdf_session.specs.Between.{Quietly}
 use Rattle.rdf_session.specs.Documents.{IsDocument}
 use Rattle.rdf_session.specs.Faults.{no_memory}
 use Rattle.rdf_session.specs.History.{nothing}
 use Rattle.rdf_session.specs.LoadLaws.{insertion}
 use Rattle.rdf_session.specs.Request.{Request, Load, Update}
-use Rattle.rdf_session.specs.Session.{Session, Command, Reply, Do, Undo, Redo, Mark, Commit, Changed, Refused, Step, fresh, nets_between, now}
+use Rattle.rdf_session.specs.Session.{Session, Command, Reply, Do, Undo, Redo, Commit, Changed, Refused, Step, fresh, nets_between, now}
 use Rattle.rdf_session.specs.Standing.{Run, Requests, kept_after, requests_of}
 use Rattle.rdf_session.specs.declared.fault.Counts.{Counts}
 use Rattle.rdf_session.specs.declared.fault.KeeperFault.{KeeperFault}
@@ -59,18 +59,6 @@ standing_since events = take (requests_of nothing events).cursor (requests_of no
 -- The requests that still stand after these commands: those committed, and those since.
 abbrev pub still_standing : List (Command × Reply) → List Request
 still_standing events = committed nothing events ++ standing_since events
-
--- ---- what comes between
-
--- a mark, or a command that was refused
-abbrev pub IsQuiet : Command × Reply → Type 0
-IsQuiet (command, Refused fault) = Unit {0}
-IsQuiet (Mark name, reply) = Unit {0}
-IsQuiet (command, reply) = ⊥
-
--- from one session to the other by such commands alone, if any
-abbrev pub Quietly : Session → Session → Type 0
-Quietly old new = (events : List (Command × Reply)) × AllByRecursion IsQuiet events × Run old events new
 
 -- ---- entries
 

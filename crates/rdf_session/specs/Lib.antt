@@ -1,4 +1,7 @@
+pub mod Between
+pub mod BlankCount
 pub mod ComesAbout
+pub mod Commits
 pub mod Documents
 pub mod Faults
 pub mod GivesBack
@@ -9,6 +12,7 @@ pub mod Listing
 pub mod LoadLaws
 pub mod OneQueryReply
 pub mod OneReply
+pub mod OneResult
 pub mod Query
 pub mod Request
 pub mod Session

@@ -3,7 +3,7 @@ use Rattle.std.specs.Prelude.{◌≡◌, ℕ, ◌+◌, ◌-◌, ◌<◌, ◌≤�
 use Rattle.std.specs.FinSet as set
 use Rattle.std.specs.Coded.{Coded, code_by, coded×, coded_ℕ, coded_list, coded_option}
 use Rattle.rdf_dataset.specs.State.{State, Change, state_code, net_between}
-use Rattle.rdf_session.specs.History.{History, history_code, nothing, pushed, moved, marked, place_of}
+use Rattle.rdf_session.specs.History.{History, Marks, history_code, nothing, pushed, moved, marked, place_of}
 use Rattle.rdf_session.specs.Request.{Request, Makes, IsRefused}
 use Rattle.rdf_terms.specs.declared.fault.NoMemory.{NoMemory as NoMemoryFault}
 use Rattle.rdf_session.specs.declared.fault.Counts.{Counts}
@@ -51,6 +51,10 @@ at_place k s = record { base_iri = s.base_iri; base = s.base; states = moved k s
 
 abbrev pub with_mark : List ℕ → Session → Session
 with_mark name s = record { base_iri = s.base_iri; base = s.base; states = marked name s.states }
+
+-- with these marks alone
+abbrev pub with_marks : Marks → Session → Session
+with_marks marks s = record { base_iri = s.base_iri; base = s.base; states = record { items = s.states.items; cursor = s.states.cursor; marks = marks } }
 
 -- the sizes of the two quad sets of the net
 abbrev pub counts_between : State → State → Counts

@@ -1,16 +1,21 @@
-//! Laws over the definitions alone: the promise of the whole, and what holds after any list of commands, that undo gives back
-//! and redo gives again, that a command has one reply, and that a load is INSERT DATA.
+//! Laws over the definitions alone: the promise of the whole, and what holds after any list of
+//! commands, that undo gives back and redo gives again, which state is the base, that a command has
+//! one reply and a request one result, and that a load is INSERT DATA and takes just its blank
+//! numbers.
 ghost use Rattle.std.specs.Prelude.{◌≡◌, List, ℕ, Option, take};
 ghost use Rattle.rdf_dataset.specs.State.{State};
 ghost use Rattle.rdf_session.specs.History.{nothing};
 ghost use Rattle.rdf_session.specs.Session.{Session, Command, Reply, fresh, now};
 ghost use Rattle.rdf_session.specs.Standing.{Run, Follows, requests_of, MakesAll};
+ghost use Rattle.rdf_session.specs.BlankCount.{LimitIsTheCount, LoadTakesTheCount, LoadWantsTheCount};
 ghost use Rattle.rdf_session.specs.ComesAbout.{MayBeAccepted, EachCommandRuns};
+ghost use Rattle.rdf_session.specs.Commits.{CommitKeepsTheState, BaseIsTheFirst, BaseIsTheLastCommitted};
 ghost use Rattle.rdf_session.specs.GivesBack.{RunsAreWhole, UndoGivesBack, RedoGivesAgain, RollbackGivesBack, RefusalsLeave};
 ghost use Rattle.rdf_session.specs.Headline.{Headline};
 ghost use Rattle.rdf_session.specs.LoadLaws.{LoadInserts, LoadIsRefusedAlike};
 ghost use Rattle.rdf_session.specs.OneQueryReply.{OneQueryReply};
 ghost use Rattle.rdf_session.specs.OneReply.{OneReply};
+ghost use Rattle.rdf_session.specs.OneResult.{SomeResult, OneResult, ResultOrRefusal};
 ghost use Rattle.rdf_session.specs.UndoRedo.{UndoThenRedo, RedoThenUndo};
 
 /// The promise of the whole. For every state to start with, after any commands with any replies (loads, updates, undos, redos,
@@ -34,8 +39,10 @@ pub fn the_headline()
 }
 
 /// After any commands with any replies, refusals and want of memory among them, each state is what
-/// its standing request makes, against the session's base IRI, of the state before, and the state now is what the requests up to the
-/// cursor make of the base, one after another.
+/// its standing request makes, against the session's base IRI, of the state before, and the state
+/// now is what the requests up to the cursor make of the base, one after another. The base is the
+/// state at the last commit, or the one that the session began with; a commit leaves the state as
+/// it was, without a history.
 pub fn standing_requests()
     ensures each { (base_iri : Option (List ℕ)) (state : State)
         (events : List (Command × Reply)) (session : Session) →
@@ -46,13 +53,18 @@ pub fn standing_requests()
         Run (fresh base_iri state) events session →
         MakesAll base_iri (take session.states.cursor
         (requests_of nothing events).items) session.base (now session) }
+    ensures first_base { BaseIsTheFirst }
+    ensures last_base { BaseIsTheLastCommitted }
+    ensures committed { CommitKeepsTheState }
 {}
 
-/// After any commands with any replies the cursor and each mark lie in the list of states. Where the cursor lies there: an undo
-/// behind an accepted request gives back the state before it, in quads, graph names and counter, with the counts turned; a
-/// redo behind that gives the session again that the request had left, with the same counts; and a rollback to a mark that
-/// was put where the session stood gives back that state, whatever requests were accepted since. Anywhere in a history an
-/// undo and a redo behind it, or the other way, leave the session as it was. So does a refusal.
+/// After any commands with any replies the cursor and each mark lie in the list of states. Where
+/// the cursor lies there: the next undo behind an accepted request gives back the state before it,
+/// in quads, graph names and counter, with the counts turned; the next redo behind that gives the
+/// session again that the request had left, its history too, with the same counts. Marks and
+/// refusals may come between. A rollback to a mark that was put where the session stood gives back
+/// that state, whatever requests were accepted since. Anywhere in a history an undo and a redo
+/// behind it, or the other way, leave the session as it was. So does a refusal.
 pub fn undo_gives_back()
     ensures whole { RunsAreWhole }
     ensures undo { UndoGivesBack }
@@ -63,11 +75,15 @@ pub fn undo_gives_back()
     ensures refused { RefusalsLeave }
 {}
 
-/// Where no reply is that memory is wanting, a command has one reply, but for a line of a fault that is the reader's own
-/// choice; and it leads to one session. So has a query.
+/// Where no reply is that memory is wanting, a command has one reply, but for a line of a fault
+/// that is the reader's own choice; and it leads to one session. So has a query. A request has one
+/// result at each state, or is refused there, and never both.
 pub fn one_reply()
     ensures commands { OneReply }
     ensures queries { OneQueryReply }
+    ensures there { SomeResult }
+    ensures result { OneResult }
+    ensures never_both { ResultOrRefusal }
 {
     rdf_lines::each_text_is_one_document();
     rdf_turtle::one_meaning();
@@ -77,8 +93,19 @@ pub fn one_reply()
     sparql_algebra::one_answer();
 }
 
-/// A load does what INSERT DATA of its document's quads does, and is refused for want of blank numbers just where that is.
+/// A load does what INSERT DATA of its document's quads does, and is refused for want of blank
+/// numbers just where that is. The blank numbers of the document are just those below one number:
+/// so many the load takes, and these it wants.
 pub fn a_load_is_insert_data()
     ensures leads { LoadInserts }
     ensures refused { LoadIsRefusedAlike }
-{}
+    ensures limit { LimitIsTheCount }
+    ensures takes { LoadTakesTheCount }
+    ensures wants { LoadWantsTheCount }
+{
+    rdf_lines::each_text_is_one_document();
+    rdf_lines::blank_numbers_are_below();
+    rdf_turtle::one_meaning();
+    rdf_turtle::blank_numbers_are_below();
+    sparql_syntax::one_request();
+}

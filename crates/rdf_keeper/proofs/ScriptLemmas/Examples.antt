@@ -1,16 +1,18 @@
 -- The answers of the worked examples.
-use Rattle.std.proofs.Common.{◌≡◌, ◌≢◌, inl, inr, ℕ, ◌+◌, ◌≤◌, Bool, true, false, not, ◌&&◌, ◌||◌, cond, List, [], ◌∷◌, ◌++◌, get_or, nat_eq, None, refl, sym, ap, ◌∙◌, subst, arith, IsTrue}
+use Rattle.std.proofs.Common.{◌≡◌, ◌≢◌, inl, inr, ℕ, ◌+◌, ◌<◌, ◌≤◌, Bool, true, false, not, ◌&&◌, ◌||◌, cond, List, [], ◌∷◌, ◌++◌, get_or, drop, nat_eq, Some, None, Contains, refl, sym, ap, ◌∙◌, subst, arith, IsTrue}
 use mathlib.Core.Bool.{true≢false}
 use Rattle.std.specs.Prelude.{codes}
 use Rattle.std.specs.Fmt.{digits}
 use Rattle.std.specs.Cmp.{IsTotalOrder}
 use Rattle.std.specs.declared.cmp.Ordering.{Ordering}
+use Rattle.std.specs.FinMap as map
 use Rattle.std.specs.FinSet as set
 use Rattle.std.specs.FinSet.{IsAntisymmetric, same_set, contains, contains-empty, contains-union, contains-difference, difference, union, len, len-insert, len-empty}
 use Rattle.std.specs.List.Sorted.{IsStrictlySortedBy}
 use Rattle.std.proofs.lemmas.Bool.{and_from}
 use Rattle.std.proofs.lemmas.Bool.Decides.{Decides-eqb}
 use Rattle.rdf_terms.specs.Iri.{is_iri}
+use Rattle.rdf_terms.specs.Order.{quad_cmp, term_cmp}
 use Rattle.rdf_terms.specs.OrderLaws.{term_cmp_total, term_cmp-IsAntisymmetric, quad_cmp_total, quad_cmp-IsAntisymmetric}
 use Rattle.rdf_terms.specs.Quad.{is_quad}
 use Rattle.rdf_terms.proofs.ExampleLemmas.{ascii_iri}
@@ -19,18 +21,21 @@ use Rattle.rdf_lines.specs.declared.format.LineFormat.TheVariants as line
 use Rattle.rdf_lines.proofs.RenamedLemmas.{numbered_documents_are_read_back}
 use Rattle.rdf_session.specs.declared.fault.KeeperFault.{KeeperFault}
 use Rattle.rdf_dataset.specs.Sorted.{ListsSorted}
-use Rattle.rdf_dataset.specs.State.{State, empty_state, last_number}
+use Rattle.rdf_dataset.specs.State.{State, empty_state, last_number, net_between}
 use Rattle.rdf_keeper.specs.Script.Answers.{Answers, reply_line}
 use Rattle.rdf_keeper.specs.Script.Commands.{Asked, act, show, unended}
-use Rattle.rdf_keeper.specs.Examples.{IsAnswered, MayAnswer, NothingAnswered, LoadUndone, LoadTwice, LoadRedone, MarkReached, Committed, OpenLoad, begin, document, one_quad, quad, script}
+use Rattle.rdf_keeper.specs.Examples.{IsAnswered, MayAnswer, NothingAnswered, LoadUndone, LoadTwice, LoadRedone, MarkReached, Committed, GraphShown, GraphCommitted, OpenLoad, HistoryCut, begin, document, graph_name, named_document, named_quad, one_named, one_quad, quad, script}
 use Rattle.rdf_keeper.specs.Script.OneOutput.{FirmAnswers, IsFree, IsWhole, OneText}
 use Rattle.rdf_session.specs.Request.{Load, loaded}
+use Rattle.rdf_keeper.specs.Script.Listing.{ListsChange}
 use Rattle.rdf_keeper.specs.Script.Runs.{Runs, final}
+use Rattle.rdf_session.proofs.MarkLemmas.{place_kept, place_lost, place_marked, place_nowhere, place_other, place_past}
+use Rattle.rdf_session.specs.History.{marks_upto, place_of}
 use Rattle.rdf_session.specs.Session.{Session, Do, Undo, Redo, Mark, Rollback, Commit, Changed, Done, Refused as RefusedReply, accepted, at_place, counts_between, fresh, now, with_mark}
 use Rattle.rdf_session.specs.declared.fault.Counts.{Counts}
 use Rattle.rdf_session.specs.declared.fault.KeeperFault.TheVariants.{NoSuchMark, NothingToUndo, NothingToRedo}
 use Rattle.rdf_session.specs.declared.format.Format.TheVariants.{NQuads}
-use Rattle.rdf_keeper.specs.declared.script.command.Listing.TheVariants.{Quads}
+use Rattle.rdf_keeper.specs.declared.script.command.Listing.TheVariants.{Changes, Graphs, Quads}
 use Rattle.rdf_keeper.specs.declared.script.status.Status.{Status}
 use Rattle.rdf_keeper.specs.declared.script.status.Status.TheVariants.{Accepted, Refused}
 use Rattle.rdf_keeper.proofs.ScriptLemmas.OneOutputOfBytes.{run_of_bytes}
@@ -343,6 +348,12 @@ marked_session =
     ∷ entry (act (Rollback (codes "a"))) (codes "ok +0 -1\n") false (at_place 0 (accepted one_quad marked))
     ∷ entry (act (Rollback (codes "b"))) (codes "refused: NoSuchMark\n") true (at_place 0 (accepted one_quad marked)) ∷ []
 
+mark_there : place_of (codes "a") (accepted one_quad marked).states ≡ Some 0
+mark_there = place_kept (codes "a") marked.states.marks 0 0 (place_marked (codes "a") map.empty 0) (omega arith)
+
+no_mark_there : place_of (codes "b") (accepted one_quad marked).states ≡ None
+no_mark_there = place_lost (codes "b") marked.states.marks 0 (place_other (codes "a") (codes "b") map.empty 0 refl ∙ place_nowhere (codes "b"))
+
 is_marked : IsSession begin marked_session
 is_marked = (
   (Done, refl, refl, refl),
@@ -353,10 +364,10 @@ is_marked = (
     differs _ 0 refl,
     λ fault x. x.0,
     (
-      (Changed (count_of 0 1), (0, refl, omega arith, refl, counts_down), went_down, refl),
+      (Changed (count_of 0 1), (0, mark_there, omega arith, refl, counts_down), went_down, refl),
       differs _ 0 refl,
       λ fault x. x.0,
-      ((RefusedReply NoSuchMark, (refl, refl), refl, refl), differs _ 11 refl, λ fault x. x.0, tt),
+      ((RefusedReply NoSuchMark, (no_mark_there, refl), refl, refl), differs _ 11 refl, λ fault x. x.0, tt),
     ),
   ),
 )
@@ -384,6 +395,183 @@ is_committed = (
 
 pub committed : OneText → Committed
 committed one = answered one _ _ Refused one_quad tt (end_of begin committed_session, runs false begin committed_session is_committed, refl)
+
+-- ---- a named graph with a blank node
+
+abbrev all_named : set.FinSet quad_cmp
+all_named = set.from_list (named_quad ∷ [])
+
+abbrev all_names : set.FinSet term_cmp
+all_names = set.from_list (graph_name ∷ [])
+
+named_is_quad : IsTrue (is_quad named_quad)
+named_is_quad =
+    and_from (is_iri (codes "e:g")) (is_iri (codes "e:p") && is_iri (codes "e:o")) (ascii_iri (codes "e:g") refl refl refl)
+    (and_from (is_iri (codes "e:p")) (is_iri (codes "e:o")) (ascii_iri (codes "e:p") refl refl refl) (ascii_iri (codes "e:o") refl refl refl))
+
+only_zero : (front back : List ℕ) (number smaller : ℕ) → 0 ∷ [] ≡ front ++ number ∷ back → smaller < number → Contains front smaller
+only_zero [] back number smaller e lt = let first : 0 ≡ number = ap (λ ns. get_or ns 0 0) e in absurd (omega (arith, first, lt))
+only_zero (n ∷ ns) back number smaller e lt = nothing_there ns back number (ap (drop 1) e)
+
+says_named : lines.IsDocument line.NQuads named_document (named_quad ∷ []) None
+unfolding digits
+says_named = numbered_documents_are_read_back (named_quad ∷ []) (named_is_quad, tt) only_zero
+
+first_named : one_named ≡ loaded no_quads (named_quad ∷ [])
+first_named = λ i. record {
+  quads = sym (only_these quad_cmp_total quad_cmp-IsAntisymmetric all_named) i;
+  names = sym (only_these term_cmp_total term_cmp-IsAntisymmetric all_names) i;
+  next = 1;
+}
+
+named_added : 1 ≡ len (difference all_named set.empty)
+named_added = sym (ap len (all_more quad_cmp_total quad_cmp-IsAntisymmetric all_named) ∙ one_member quad_cmp_total quad_cmp-IsAntisymmetric named_quad)
+
+named_removed : 0 ≡ len (difference set.empty all_named)
+named_removed = sym (ap len (nothing_more quad_cmp_total quad_cmp-IsAntisymmetric all_named) ∙ len-empty _)
+
+named_up : count_of 1 0 ≡ counts_between no_quads one_named
+named_up = λ i. record { added = named_added i; removed = named_removed i }
+
+named_down : count_of 0 1 ≡ counts_between one_named no_quads
+named_down = λ i. record { added = named_removed i; removed = named_added i }
+
+abbrev load_named : Asked
+load_named = act (Do (Load NQuads named_document))
+
+load_graph : Answers load_named begin (codes "ok +1 -0\n") false (accepted one_named begin)
+load_graph = (Changed (count_of 1 0), (one_named, (named_quad ∷ [], says_named, omega arith, first_named), refl, named_up), went_up, refl)
+
+graphs_one : (s : Session) → now s ≡ one_named → Answers (show Graphs) s (codes "<e:g>\nok 1\n") false s
+unfolding digits
+graphs_one s e =
+    (refl, inl (codes "<e:g>\n" ∷ [], (graph_name ∷ [], subst (λ (x : State). ListsSorted x.names (graph_name ∷ [])) (sym e) (lists_one term_cmp_total term_cmp-IsAntisymmetric graph_name), refl), refl, refl))
+
+graphs_none : (s : Session) → now s ≡ no_quads → Answers (show Graphs) s (codes "ok 0\n") false s
+unfolding digits
+graphs_none s e = (refl, inl ([], ([], subst (λ (x : State). ListsSorted x.names []) (sym e) (lists_none term_cmp_total term_cmp-IsAntisymmetric), refl), refl, refl))
+
+print_named : (s : Session) → now s ≡ one_named → Answers (show Quads) s (codes "_:b0 <e:p> <e:o> <e:g> .\nok 1\n") false s
+unfolding digits
+print_named s e =
+    (refl, inl (named_document ∷ [], (named_quad ∷ [], subst (λ (x : State). ListsSorted x.quads (named_quad ∷ [])) (sym e) (lists_one quad_cmp_total quad_cmp-IsAntisymmetric named_quad), refl), refl, refl))
+
+abbrev named_lines : List (List ℕ)
+named_lines = codes "+ graph <e:g>\n" ∷ codes "+ _:b0 <e:p> <e:o> <e:g> .\n" ∷ []
+
+lists_named : ListsChange (net_between no_quads one_named) named_lines
+unfolding digits
+lists_named = (
+  [],
+  [],
+  graph_name ∷ [],
+  named_quad ∷ [],
+  subst (λ names. ListsSorted names []) (sym (nothing_more term_cmp_total term_cmp-IsAntisymmetric all_names)) (lists_none term_cmp_total term_cmp-IsAntisymmetric),
+  subst (λ quads. ListsSorted quads []) (sym (nothing_more quad_cmp_total quad_cmp-IsAntisymmetric all_named)) (lists_none quad_cmp_total quad_cmp-IsAntisymmetric),
+  subst (λ names. ListsSorted names (graph_name ∷ [])) (sym (all_more term_cmp_total term_cmp-IsAntisymmetric all_names)) (lists_one term_cmp_total term_cmp-IsAntisymmetric graph_name),
+  subst (λ quads. ListsSorted quads (named_quad ∷ [])) (sym (all_more quad_cmp_total quad_cmp-IsAntisymmetric all_named)) (lists_one quad_cmp_total quad_cmp-IsAntisymmetric named_quad),
+  refl,
+)
+
+changes_named : Answers (show Changes) (accepted one_named begin) (codes "+ graph <e:g>\n+ _:b0 <e:p> <e:o> <e:g> .\nok 2\n") false (accepted one_named begin)
+unfolding digits
+changes_named = (refl, inl (named_lines, lists_named, refl, refl))
+
+lists_unchanged : (t : State) → ListsChange (net_between t t) []
+lists_unchanged t =
+    let names = subst (λ x. ListsSorted x []) (sym (none_more term_cmp_total term_cmp-IsAntisymmetric t.names)) (lists_none term_cmp_total term_cmp-IsAntisymmetric) in
+    let quads = subst (λ x. ListsSorted x []) (sym (none_more quad_cmp_total quad_cmp-IsAntisymmetric t.quads)) (lists_none quad_cmp_total quad_cmp-IsAntisymmetric) in
+    ([], [], [], [], names, quads, names, quads, refl)
+
+changes_none : (s : Session) → now s ≡ s.base → Answers (show Changes) s (codes "ok 0\n") false s
+unfolding digits
+changes_none s e = (refl, inl ([], subst (λ t. ListsChange (net_between s.base t) []) (sym e) (lists_unchanged s.base), refl, refl))
+
+abbrev named_once : Session
+named_once = accepted one_named begin
+
+abbrev shown_session : List Entry
+shown_session =
+    entry load_named (codes "ok +1 -0\n") false named_once ∷ entry (show Graphs) (codes "<e:g>\nok 1\n") false named_once
+    ∷ entry (show Changes) (codes "+ graph <e:g>\n+ _:b0 <e:p> <e:o> <e:g> .\nok 2\n") false named_once
+    ∷ entry (act Undo) (codes "ok +0 -1\n") false (at_place 0 named_once) ∷ entry (show Graphs) (codes "ok 0\n") false (at_place 0 named_once)
+    ∷ entry (show Changes) (codes "ok 0\n") false (at_place 0 named_once) ∷ []
+
+is_shown : IsSession begin shown_session
+is_shown = (
+  load_graph,
+  differs _ 0 refl,
+  λ fault x. x.0,
+  (
+    graphs_one named_once refl,
+    differs _ 0 refl,
+    λ fault x. x,
+    (
+      changes_named,
+      differs _ 0 refl,
+      λ fault x. x,
+      (
+        (Changed (count_of 0 1), (omega arith, refl, named_down), went_down, refl),
+        differs _ 0 refl,
+        λ fault x. x.0,
+        (
+          graphs_none (at_place 0 named_once) refl,
+          differs _ 0 refl,
+          λ fault x. x,
+          (changes_none (at_place 0 named_once) refl, differs _ 0 refl, λ fault x. x, tt),
+        ),
+      ),
+    ),
+  ),
+)
+
+pub graph_shown : OneText → GraphShown
+graph_shown one = answered one _ _ Accepted no_quads tt (end_of begin shown_session, runs false begin shown_session is_shown, refl)
+
+abbrev named_base : Session
+named_base = fresh None one_named
+
+abbrev kept_session : List Entry
+kept_session =
+    entry load_named (codes "ok +1 -0\n") false named_once ∷ entry (act Commit) (codes "ok\n") false named_base
+    ∷ entry (show Changes) (codes "ok 0\n") false named_base ∷ entry (show Graphs) (codes "<e:g>\nok 1\n") false named_base
+    ∷ entry (show Quads) (codes "_:b0 <e:p> <e:o> <e:g> .\nok 1\n") false named_base ∷ []
+
+is_kept : IsSession begin kept_session
+is_kept = (
+  load_graph,
+  differs _ 0 refl,
+  λ fault x. x.0,
+  (
+    (Done, refl, refl, refl),
+    differs _ 0 refl,
+    λ fault x. x.0,
+    (
+      changes_none named_base refl,
+      differs _ 0 refl,
+      λ fault x. x,
+      (graphs_one named_base refl, differs _ 0 refl, λ fault x. x, (print_named named_base refl, differs _ 0 refl, λ fault x. x, tt)),
+    ),
+  ),
+)
+
+pub graph_committed : OneText → GraphCommitted
+graph_committed one = answered one _ _ Accepted one_named tt (end_of begin kept_session, runs false begin kept_session is_kept, refl)
+
+-- ---- marks of a history
+
+pub history_cut : HistoryCut
+history_cut =
+    let before = marks_upto 0 map.empty in
+    let first = map.insert before (codes "a") 1 in
+    let second = map.insert (marks_upto 1 first) (codes "b") 2 in (
+      refl,
+      refl,
+      place_kept (codes "a") second 1 1
+          (place_other (codes "b") (codes "a") (marks_upto 1 first) 2 refl ∙ place_kept (codes "a") first 1 1 (place_marked (codes "a") before 1) (omega arith))
+          (omega arith),
+      place_past (codes "b") second 2 1 (place_marked (codes "b") (marks_upto 1 first) 2) (omega arith),
+    )
 
 abbrev open_session : List Entry
 open_session = entry (show Quads) (codes "ok 0\n") false begin ∷ entry unended (codes "refused: NoEnd\n") true begin ∷ []

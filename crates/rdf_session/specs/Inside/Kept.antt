@@ -1,7 +1,7 @@
 -- What a keeper holds, seen as a session: the dataset is the state now, the entries are the nets between neighbours.
 use Rattle.std.specs.Prelude.{◌≡◌, ℕ, ◌≤◌, List, [], ◌∷◌, length, take, slice_index_or, Option}
 use Rattle.rdf_dataset.specs.State.{State, Change, IsSound, net_between, applied, turned}
-use Rattle.rdf_session.specs.History.{LieIn}
+use Rattle.rdf_session.specs.History.{LieIn, Marks}
 use Rattle.rdf_session.specs.Session.{Session}
 
 -- the state before the changes, from the one after them
@@ -20,7 +20,7 @@ AreNets s [] = Unit {0}
 AreNets s (n ∷ ns) = (n ≡ net_between s (applied n s)) × (IsSound (applied n s) × AreNets (applied n s) ns)
 
 -- the session with this base
-abbrev pub session_from : Option (List ℕ) → State → List Change → ℕ → List (List ℕ × ℕ) → Session
+abbrev pub session_from : Option (List ℕ) → State → List Change → ℕ → Marks → Session
 session_from base_iri base entries cursor marks =
     record { base_iri = base_iri; base = base; states = record { items = states_after base entries; cursor = cursor; marks = marks } }
 
@@ -28,7 +28,7 @@ abbrev pub base_of : State → List Change → ℕ → State
 base_of now entries cursor = before_all (take cursor entries) now
 
 -- the entries are the nets of the session, the dataset is at the cursor, and cursor and marks lie in the list
-pub record IsKept (base now : State) (entries : List Change) (cursor : ℕ) (marks : List (List ℕ × ℕ)) : Type 0 where
+pub record IsKept (base now : State) (entries : List Change) (cursor : ℕ) (marks : Marks) : Type 0 where
   pub sound : IsSound base
   pub nets : AreNets base entries
   pub current : now ≡ slice_index_or (base ∷ states_after base entries) cursor base

@@ -1,5 +1,5 @@
 use Rattle.std.proofs.Common.{refl}
-use Rattle.rdf_keeper.proofs.ScriptLemmas.Examples.{nothing_answered, load_undone, load_twice, load_redone, mark_reached, committed, open_load}
+use Rattle.rdf_keeper.proofs.ScriptLemmas.Examples.{nothing_answered, load_undone, load_twice, load_redone, mark_reached, committed, graph_shown, graph_committed, open_load, history_cut}
 use Rattle.rdf_keeper.proofs.examples.the_worked_examples_hold.Goals as goal
 
 pub returns-clause-nothing_asked : goal.returns-clause-nothing_asked
@@ -47,11 +47,17 @@ returns-clause-mark_reached c = mark_reached c.a_script_has_one_output.ensures.b
 pub returns-clause-committed : goal.returns-clause-committed
 returns-clause-committed c = committed c.a_script_has_one_output.ensures.bytes
 
+pub returns-clause-graph_shown : goal.returns-clause-graph_shown
+returns-clause-graph_shown c = graph_shown c.a_script_has_one_output.ensures.bytes
+
+pub returns-clause-graph_committed : goal.returns-clause-graph_committed
+returns-clause-graph_committed c = graph_committed c.a_script_has_one_output.ensures.bytes
+
 pub returns-clause-open_load : goal.returns-clause-open_load
 returns-clause-open_load c = open_load c.a_script_has_one_output.ensures.bytes
 
 pub returns-clause-history_cut : goal.returns-clause-history_cut
-returns-clause-history_cut c = (refl, refl)
+returns-clause-history_cut c = history_cut
 
 pub returns-clause-blank_numbers : goal.returns-clause-blank_numbers
 returns-clause-blank_numbers c = (refl, refl)
