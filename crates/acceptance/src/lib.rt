@@ -3,6 +3,8 @@
 #![tactic(auto)]
 
 #[cfg(test)]
+mod dialogue;
+#[cfg(test)]
 mod fronts;
 #[cfg(test)]
 mod keeper;

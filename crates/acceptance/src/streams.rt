@@ -5,13 +5,13 @@ use std::alloc::Global;
 use std::test::Fail;
 
 pub(crate) const SCRIPT: &[u8] =
-    b"%load nquads\n<http://e/s> <http://e/p> \"x\" .\n%end\n%print\n%undo\n%print\n";
+    b"%load nquads\n<http://e/s> <http://e/p> \"x\" .\n%end\n%mark a\n%print\n%update\nINSERT DATA { <http://e/s> <http://e/p> 1 }\n%end\n%changes\n%rollback a\n%undo\n%print\n";
 
 pub(crate) const ANSWERS: &[u8] =
-    b"ok +1 -0\n<http://e/s> <http://e/p> \"x\" .\nok 1\nok +0 -1\nok 0\n";
+    b"ok +1 -0\nok\n<http://e/s> <http://e/p> \"x\" .\nok 1\nok +1 -0\n+ <http://e/s> <http://e/p> \"1\"^^<http://www.w3.org/2001/XMLSchema#integer> .\n+ <http://e/s> <http://e/p> \"x\" .\nok 2\nok +0 -1\nok +0 -1\nok 0\n";
 
 // How many bytes of the answers are due where so many lines of the script are wholly read.
-pub(crate) const ANSWERED: [usize; 7] = [0, 0, 0, 9, 46, 55, 60];
+pub(crate) const ANSWERED: [usize; 13] = [0, 0, 0, 9, 12, 49, 49, 49, 58, 175, 184, 193, 198];
 
 pub(crate) const LINES: &[u8] =
     b"<http://e/s> <http://e/p> \"a\\u0041\\\"b\"@EN-us <http://e/g> . # c\n_:x:y <http://e/p> _:z1 .\n<http://e/s><http://e/p>_:x:y.\n<http://e/s> <http://e/p> \"1\"^^<http://www.w3.org/2001/XMLSchema#string> .\n";

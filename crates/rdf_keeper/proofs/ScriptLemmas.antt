@@ -1,11 +1,13 @@
 -- The lines of a script, its commands and its answers.
 pub mod Cuts
 pub mod Examples
+pub mod Feeds
 pub mod Lines
 pub mod Listing
 pub mod OneListing
 pub mod OneOutput
 pub mod OneOutputOfBytes
+pub mod Pieces
 pub mod Printed
 pub mod Promised
 pub mod Refusals

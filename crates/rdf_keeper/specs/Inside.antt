@@ -2,4 +2,5 @@
 pub mod Asks
 pub mod Held
 pub mod Outcomes
+pub mod Says
 pub mod Streams

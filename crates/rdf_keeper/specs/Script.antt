@@ -6,6 +6,7 @@ pub mod LineWords
 pub mod Lines
 pub mod Listing
 pub mod OneOutput
+pub mod Pieces
 pub mod Printed
 pub mod Promised
 pub mod Refusals

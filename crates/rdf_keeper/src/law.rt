@@ -1,9 +1,10 @@
-//! Laws over the definitions alone: that a script's lines are its text, that it has one output, that its refusals change nothing, and
+//! Laws over the definitions alone: that a script's lines are its text, that its pieces are the script, that it has one output, that its refusals change nothing, and
 //! that what is printed is read back in each format.
 ghost use Rattle.rdf_keeper.specs.Script.Promised.{AnswersAreSteps, ScriptsArePromised, UndoneInAScript, RedoneInAScript};
 ghost use Rattle.rdf_keeper.specs.Script.Refusals.{RefusedAnswersLeave};
 ghost use Rattle.rdf_keeper.specs.Script.LineLaws.{LinesAreTheText, LinesAreEnded, OneCut};
 ghost use Rattle.rdf_keeper.specs.Script.Printed.{LinesAreDocuments, SortedTextsAreDocuments, PrintedLinesAreDocuments};
+ghost use Rattle.rdf_keeper.specs.Script.Pieces.{PiecesAreTheText};
 ghost use Rattle.rdf_keeper.specs.Script.OneOutput.{OneOutput, OneOutputOfBytes, OneText, OneTextOfBytes};
 
 /// A refusal, of a script's line that is no command too, leaves the session as it was.
@@ -38,6 +39,12 @@ pub fn a_script_keeps_the_promise()
     rdf_session::the_headline();
     rdf_session::undo_gives_back();
 }
+
+/// In whatever pieces a script comes, the commands that come wholly with one piece after another are those of its whole lines,
+/// and with what is left where it ends they are its commands: what [`crate::Feed::take`] answers piece by piece.
+pub fn pieces_are_the_script()
+    ensures { PiecesAreTheText }
+{}
 
 /// The lines of a script, one after another, are its text. An LF ends each of them but perhaps the last, and stands nowhere
 /// else; and no other lines of this kind are the text.

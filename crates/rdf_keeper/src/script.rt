@@ -2,11 +2,14 @@
 
 mod answer;
 pub(crate) mod command;
+mod feed;
+mod gathered;
 mod item;
 mod line;
 mod listing;
 mod runner;
 mod status;
 
-pub use runner::{Settings, run};
+pub use feed::{Feed, Settings};
+pub use runner::run;
 pub use status::Status;

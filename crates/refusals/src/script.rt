@@ -2,9 +2,11 @@
 use rdf_keeper::{Keeper, Settings, Status, run};
 use std::alloc::Global;
 
-const SCRIPT: &[u8] = b"%load nquads\n<a:s> <a:p> \"x\" .\n%end\n%print\n%undo\n%print\n";
+const SCRIPT: &[u8] =
+    b"%load nquads\n<a:s> <a:p> \"x\" .\n%end\n%mark a\n%print\n%update\nINSERT DATA { <a:s> <a:p> 1 }\n%end\n%changes\n%rollback a\n%undo\n%print\n";
 
-const OUTPUT: &[u8] = b"ok +1 -0\n<a:s> <a:p> \"x\" .\nok 1\nok +0 -1\nok 0\n";
+const OUTPUT: &[u8] =
+    b"ok +1 -0\nok\n<a:s> <a:p> \"x\" .\nok 1\nok +1 -0\n+ <a:s> <a:p> \"1\"^^<http://www.w3.org/2001/XMLSchema#integer> .\n+ <a:s> <a:p> \"x\" .\nok 2\nok +0 -1\nok +0 -1\nok 0\n";
 
 /// Whether a script that is refused says so, and writes what it should when it is run again.
 pub fn outcome(alloc: Global) -> &'static str {

@@ -55,12 +55,12 @@ raw_ended : (front rest : List ℕ) → HasNoEnd front → raw_lines ((front ++ 
 raw_ended [] rest n = refl
 raw_ended (b ∷ bs) rest n = rw (not_end b n.0) (ap (onto_first b) (raw_ended bs rest n.1))
 
-raw_open : (line : List ℕ) → line ≢ [] → HasNoEnd line → raw_lines line ≡ line ∷ []
+pub raw_open : (line : List ℕ) → line ≢ [] → HasNoEnd line → raw_lines line ≡ line ∷ []
 raw_open [] some n = absurd (some refl)
 raw_open (b ∷ []) some n = rw (not_end b n.0) refl
 raw_open (b ∷ (c ∷ cs)) some n = rw (not_end b n.0) (ap (onto_first b) (raw_open (c ∷ cs) (some_byte c cs) n.1))
 
-cut_front : (line rest : List ℕ) → IsEnded line → raw_lines (line ++ rest) ≡ line ∷ raw_lines rest
+pub cut_front : (line rest : List ℕ) → IsEnded line → raw_lines (line ++ rest) ≡ line ∷ raw_lines rest
 cut_front line rest e = ap (λ l. raw_lines (l ++ rest)) e.1 ∙ raw_ended e.0 rest e.2 ∙ sym (ap (λ l. l ∷ raw_lines rest) e.1)
 
 pub one_cut : OneCut

@@ -106,21 +106,22 @@ ended_run stop refused (c ∷ cs) more s t answers status a w =
 
 -- what a whole session over bytes answers is a run over the commands of these bytes
 pub run_of_bytes : (stop : Bool) (text : List ℕ) (after : Option (List ℕ)) (s t : Session) (answers : List (List ℕ)) (status : Status) → RunsOver stop (Some text) after s answers t status → IsWhole status → AreFull answers → Runs FullAnswers stop Accepted false (commands true None (raw_lines text)) s answers t status
-run_of_bytes stop text None s t answers status a w f = absurd a.1
+run_of_bytes stop text None s t answers status a w f = absurd a.consumed
 run_of_bytes stop text (Some left) s t answers status a w f =
-    elim (a.2) [
+    let bytes = a.read ++ a.last in
+    elim (a.ends) [
       | inl x ↦
-          let all : text ≡ a.0 = a.1 ∙ ap (λ ys. a.0 ++ ys) x.0 ∙ append-nil a.0 in
+          let all : text ≡ bytes = a.consumed ∙ ap (λ ys. bytes ++ ys) x.0 ∙ append-nil bytes in
           subst (λ bs. Runs FullAnswers stop Accepted false (commands true None (raw_lines bs)) s answers t status) (sym all)
-          (full_run stop false Accepted (commands true None (raw_lines a.0)) s t answers status x.1 w f)
+          (full_run stop false Accepted (commands true None (raw_lines bytes)) s t answers status x.1 w f)
       | inr x ↦
-          let lines = front_lines a.0 left in
-          let front = front_commands None (raw_lines (upto_last_end a.0)) lines.0 in
-          let all : commands true None (raw_lines text) ≡ commands false None (raw_lines (upto_last_end a.0)) ++ front.0 =
-          ap (λ bs. commands true None (raw_lines bs)) a.1 ∙ ap (commands true None) lines.1 ∙ front.1 in
+          let lines = front_lines bytes left in
+          let front = front_commands None (raw_lines (upto_last_end bytes)) lines.0 in
+          let all : commands true None (raw_lines text) ≡ commands false None (raw_lines (upto_last_end bytes)) ++ front.0 =
+          ap (λ bs. commands true None (raw_lines bs)) a.consumed ∙ ap (commands true None) lines.1 ∙ front.1 in
           subst (λ cs. Runs FullAnswers stop Accepted false cs s answers t status) (sym all)
-          (ended_run stop false (commands false None (raw_lines (upto_last_end a.0))) front.0 s t answers status
-          (full_run stop false ReadFailed (commands false None (raw_lines (upto_last_end a.0))) s t answers status x w f) w)
+          (ended_run stop false (commands false None (raw_lines (upto_last_end bytes))) front.0 s t answers status
+          (full_run stop false ReadFailed (commands false None (raw_lines (upto_last_end bytes))) s t answers status x w f) w)
     ]
 
 pub one_output_of_bytes : OneOutput → OneOutputOfBytes

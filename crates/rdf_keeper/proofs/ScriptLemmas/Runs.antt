@@ -2,13 +2,13 @@
 use Rattle.std.proofs.Common.{◌≡◌, ◌≢◌, inl, inr, ℕ, Bool, true, false, ◌&&◌, ◌||◌, List, [], ◌∷◌, ◌++◌, refl, sym, ap, ◌∙◌, Option, Some, None, subst, append-nil}
 use Rattle.std.proofs.lemmas.List.Folds.{concat-append}
 use Rattle.std.specs.List.{concat}
-use Rattle.std.specs.Prelude.{Result, Ok, Err, is_err}
+use Rattle.std.specs.Prelude.{MatchResult, Result, Ok, Err, is_err}
 use Rattle.std.specs.Io.KnownBytes.{Appends}
 use Rattle.rdf_session.specs.Session.{Session}
 use Rattle.rdf_keeper.specs.Script.Commands.{Asked}
 use Rattle.rdf_keeper.specs.Script.Answers.{Answers}
 use Rattle.rdf_keeper.specs.Inside.Streams.{WritesTo}
-use Rattle.rdf_keeper.specs.Script.Runs.{Runs, final}
+use Rattle.rdf_keeper.specs.Script.Runs.{AnswerRelation, Answered, Serves}
 use Rattle.rdf_keeper.proofs.StreamLemmas.{Appends-chain}
 use Rattle.rdf_keeper.specs.declared.script.status.Status.{Status}
 use Rattle.rdf_keeper.specs.declared.script.status.Status.TheVariants.{Refused, WriteFailed}
@@ -23,25 +23,88 @@ pub wrote_err : (a b : Option (List ℕ)) (text : List ℕ) (r : Result (Unit {0
 wrote_err a b text (Ok u) e w = cc
 wrote_err a b text (Err f) e w = w
 
-module _ (stop : Bool) (last : Status) (refused : Bool) where
-  pub not_taken : (cs : List Asked) (s : Session) → Runs Answers stop last refused cs s [] s no_memory
-  not_taken [] s = (refl, refl, inr refl)
-  not_taken (c ∷ cs) s = inl (refl, refl, refl)
+-- ---- one command
 
-  pub at_end : (cs : List Asked) (s : Session) → cs ≡ [] → Runs Answers stop last refused cs s [] s (final last refused)
-  at_end cs s e = rw e (refl, refl, inl refl)
+module _ (stop refused : Bool) (c : Asked) (s mid : Session) (text : List ℕ) (r : Bool) (a : Answers c s text r mid) where
+  pub breaks_off : (front more : List ℕ) → text ≡ front ++ more → more ≢ [] → Answered stop refused (c ∷ []) s (front ∷ []) mid (Err WriteFailed)
+  breaks_off front more p n = inr (text, r, mid, a, inl (front, more, p, n, refl, refl, refl))
 
-  pub write_failed : (all : List Asked) (c : Asked) (cs : List Asked) (s mid : Session) (text front more : List ℕ) (r : Bool) → all ≡ c ∷ cs → Answers c s text r mid → text ≡ front ++ more → more ≢ [] → Runs Answers stop last refused all s (front ∷ []) mid WriteFailed
-  write_failed all c cs s mid text front more r e a p n = rw e (inr (text, r, mid, a, inl (front, more, p, n, refl, refl, refl)))
+  pub stops : (stop && r) ≡ true → Answered stop refused (c ∷ []) s (text ∷ []) mid (Err Refused)
+  stops h = inr (text, r, mid, a, inr (inl (h, refl, refl, refl)))
 
-  pub stopped : (all : List Asked) (c : Asked) (cs : List Asked) (s mid : Session) (text : List ℕ) (r : Bool) → all ≡ c ∷ cs → Answers c s text r mid → (stop && r) ≡ true → Runs Answers stop last refused all s (text ∷ []) mid Refused
-  stopped all c cs s mid text r e a h = rw e (inr (text, r, mid, a, inr (inl (h, refl, refl, refl))))
+  pub goes_on : (r' : Bool) → (stop && r) ≡ false → r' ≡ (refused || r) → Answered stop refused (c ∷ []) s (text ∷ []) mid (Ok r')
+  goes_on r' h e = inr (text, r, mid, a, inr (inr (h, [], refl, (refl, refl, inl (ap (λ v. Ok v) e)))))
 
-  pub goes_on : (all : List Asked) (c : Asked) (cs : List Asked) (s mid : Session) (text : List ℕ) (r r' : Bool) → all ≡ c ∷ cs → Answers c s text r mid → (stop && r) ≡ false → r' ≡ (refused || r) → (more : List (List ℕ)) (end : Session) (status : Status) → Runs Answers stop last r' cs mid more end status → Runs Answers stop last refused all s (text ∷ more) end status
-  goes_on all c cs s mid text r r' e a h q more end status run = rw e (inr (text, r, mid, a, inr (inr (h, more, refl, subst (λ b. Runs Answers stop last b cs mid more end status) q run))))
+-- ---- some commands, and more of them
 
-pub closed : (stop : Bool) (last : Status) (all : List Asked) (old new : Session) (answers answers' : List (List ℕ)) (status : Status) {status' : Status} → status' ≡ status → answers' ≡ answers → Runs Answers stop last false all old answers' new status → Runs Answers stop last false all old answers new status'
-closed stop last all old new answers answers' status e f run = rw (e, ← f) run
+not_taken : {O : Type 0} (May : AnswerRelation) (stop : Bool) (next : Bool → O) (ended : Status → O) (refused : Bool) (cs : List Asked) (s : Session) → Serves May stop next ended refused cs s [] s (ended no_memory)
+not_taken May stop next ended refused [] s = (refl, refl, inr refl)
+not_taken May stop next ended refused (c ∷ cs) s = inl (refl, refl, refl)
+
+pub no_room : (stop refused : Bool) (cs : List Asked) (s : Session) → Answered stop refused cs s [] s (Err no_memory)
+no_room stop refused cs s = not_taken Answers stop (λ r. Ok r) (λ st. Err st) refused cs s
+
+err_same : (x y : Status) → ◌≡◌ {A = Result Bool Status} (Err x) (Err y) → x ≡ y
+err_same x y e = cc
+
+module _ {O : Type 0} (stop : Bool) (next : Bool → O) (ended : Status → O) where
+  -- where the session goes on
+  pub serves_on : (refused q : Bool) (cs more : List Asked) (s t u : Session) (xs ys : List (List ℕ)) (o : O) → Answered stop refused cs s xs t (Ok q) → Serves Answers stop next ended q more t ys u o → Serves Answers stop next ended refused (cs ++ more) s (xs ++ ys) u o
+  serves_on refused q [] more s t u xs ys o a b =
+      elim (a.2) [
+        | inl e ↦ first_none xs ys s t u o q refused more a.0 a.1 (ok_same q refused e) b
+        | inr e ↦ cc
+      ]
+    where
+      ok_same : (x y : Bool) → ◌≡◌ {A = Result Bool Status} (Ok x) (Ok y) → x ≡ y
+      ok_same x y e = cc
+
+      first_none : (xs ys : List (List ℕ)) (s t u : Session) (o : O) (q refused : Bool) (more : List Asked) → xs ≡ [] → t ≡ s → q ≡ refused → Serves Answers stop next ended q more t ys u o → Serves Answers stop next ended refused more s (xs ++ ys) u o
+      first_none xs ys s t u o q refused more e f g b =
+          subst (λ zs. Serves Answers stop next ended refused more s (zs ++ ys) u o) (sym e)
+          (subst (λ v. Serves Answers stop next ended refused more v ys u o) f (subst (λ v. Serves Answers stop next ended v more t ys u o) g b))
+  serves_on refused q (c ∷ cs) more s t u xs ys o a b =
+      elim a [
+        | inl p ↦ absurd_ok q (p.2)
+        | inr p ↦ elim (p.4) [
+          | inl x ↦ absurd_ok q (x.6)
+          | inr (inl x) ↦ absurd_ok q (x.3)
+          | inr (inr x) ↦
+              inr (p.0, p.1, p.2, p.3, inr (inr (x.0, x.1 ++ ys, ap (λ zs. zs ++ ys) x.2, serves_on (refused || p.1) q cs more p.2 t u x.1 ys o x.3 b)))
+        ]
+      ]
+    where
+      absurd_ok : (q : Bool) {st : Status} {A : Type 0} → ◌≡◌ {A = Result Bool Status} (Ok q) (Err st) → A
+      absurd_ok q e = cc
+
+  -- where that is all
+  pub serves_done : (refused q : Bool) (cs : List Asked) (s t : Session) (xs : List (List ℕ)) → Answered stop refused cs s xs t (Ok q) → Serves Answers stop next ended refused cs s xs t (next q)
+  serves_done refused q cs s t xs a =
+      subst (λ ds. Serves Answers stop next ended refused ds s xs t (next q)) (append-nil cs)
+      (subst (λ ys. Serves Answers stop next ended refused (cs ++ []) s ys t (next q)) (append-nil xs) (serves_on refused q cs [] s t t xs [] (next q) a (refl, refl, inl refl)))
+
+  -- where it ended
+  pub serves_ended : (refused : Bool) (cs more : List Asked) (s t : Session) (xs : List (List ℕ)) (st : Status) → Answered stop refused cs s xs t (Err st) → Serves Answers stop next ended refused (cs ++ more) s xs t (ended st)
+  serves_ended refused [] more s t xs st a =
+      elim (a.2) [
+        | inl e ↦ cc
+        | inr e ↦ none_taken (err_same st no_memory e)
+      ]
+    where
+      none_taken : st ≡ no_memory → Serves Answers stop next ended refused more s xs t (ended st)
+      none_taken e =
+          subst (λ v. Serves Answers stop next ended refused more s xs t (ended v)) (sym e)
+          (subst (λ zs. Serves Answers stop next ended refused more s zs t (ended no_memory)) (sym a.0)
+          (subst (λ v. Serves Answers stop next ended refused more s [] v (ended no_memory)) (sym a.1) (not_taken Answers stop next ended refused more s)))
+  serves_ended refused (c ∷ cs) more s t xs st a =
+      elim a [
+        | inl p ↦ inl (p.0, p.1, ap ended (err_same st no_memory p.2))
+        | inr p ↦ elim (p.4) [
+          | inl x ↦ inr (p.0, p.1, p.2, p.3, inl (x.0, x.1, x.2, x.3, x.4, x.5, ap ended (err_same st WriteFailed x.6)))
+          | inr (inl x) ↦ inr (p.0, p.1, p.2, p.3, inr (inl (x.0, x.1, x.2, ap ended (err_same st Refused x.3))))
+          | inr (inr x) ↦ inr (p.0, p.1, p.2, p.3, inr (inr (x.0, x.1, x.2, serves_ended (refused || p.1) cs more p.2 t x.1 st x.3)))
+        ]
+      ]
 
 -- one more answer behind those that were written
 pub one_more : (before mid after : Option (List ℕ)) (answers : List (List ℕ)) (text : List ℕ) → Appends before mid (concat answers) → Appends mid after text → Appends before after (concat (answers ++ text ∷ []))
@@ -51,3 +114,14 @@ one_more before mid after answers text wrote writes =
 pub nothing_written : (a : Option (List ℕ)) → Appends a a []
 nothing_written None = tt
 nothing_written (Some xs) = sym (append-nil xs)
+
+pub one_written : (before after : Option (List ℕ)) (text : List ℕ) → Appends before after text → Appends before after (concat (text ∷ []))
+one_written before after text wrote = subst (Appends before after) (sym (append-nil text)) wrote
+
+-- the answers to more commands
+pub more_written : (before mid after : Option (List ℕ)) (xs ys : List (List ℕ)) → Appends before mid (concat xs) → Appends mid after (concat ys) → Appends before after (concat (xs ++ ys))
+more_written before mid after xs ys a b = subst (Appends before after) (sym (concat-append xs ys)) (Appends-chain before mid after (concat xs) (concat ys) a b)
+
+pub one_or_other : {A E : Type 0} (r : Result A E) (P P' : A → Type 0) (Q Q' : E → Type 0) → MatchResult r P Q → ((x : A) → P x → P' x) → ((e : E) → Q e → Q' e) → MatchResult r P' Q'
+one_or_other (Ok x) P P' Q Q' m f g = f x m
+one_or_other (Err e) P P' Q Q' m f g = g e m

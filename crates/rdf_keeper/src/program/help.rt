@@ -41,6 +41,11 @@ It prints
   ok 1
   ok +0 -1
 
+Each command is answered as soon as its last line was read, so a script may come over a pipe
+while it is written. A dialogue with bash's coprocess:
+  coproc rdfkeep run
+  echo %print >&${COPROC[1]}; read -r answer <&${COPROC[0]}; echo \"$answer\"
+
 Exit status: 0 all commands were accepted, 1 one was refused, 2 the words, the base or the data
 are wrong, 3 reading or writing failed, 4 memory was wanting.";
 

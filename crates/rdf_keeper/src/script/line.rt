@@ -2,18 +2,18 @@
 ghost use Rattle.std.specs.Prelude.{◌≡◌, [], ◌∷◌, ◌++◌, ◌<◌, ◌≤◌, length, nat_eq, MatchOption, IfSome, not};
 ghost use Rattle.std.specs.List.{position_from};
 ghost use Rattle.rdf_keeper.specs.Script.LineWords.{is_gap, words};
-ghost use Rattle.rdf_keeper.specs.Script.Lines.{bare, raw_lines};
+ghost use Rattle.rdf_keeper.specs.Script.Lines.{bare, upto_last_end};
+ghost use Rattle.rdf_keeper.specs.Inside.Says.{IsWholeLine};
 
-/// The first line with its end, and the rest.
-pub(crate) fn first_line(text: &[u8]) -> (&[u8], &[u8])
-    requires { 0 < length text.now }
-    ensures lines { raw_lines text.now ≡ result.0.now ∷ raw_lines result.1.now }
-    ensures parts { text.now ≡ result.0.now ++ result.1.now }
-    ensures falls { length result.1.now < length text.now }
+/// The first line that has its end, and the rest.
+pub(crate) fn whole_line(text: &[u8]) -> Option<(&[u8], &[u8])>
+    ensures line { MatchOption result (upto_last_end text.now ≡ [])
+        (λ r. IsWholeLine r.0.now × (text.now ≡ r.0.now ++ r.1.now)) }
+    ensures falls { IfSome result (λ r. length r.1.now < length text.now) }
 {
     match line_end(text) {
-        Some(i) => text.split_at(i + 1),
-        None => text.split_at(text.len()),
+        Some(i) => Some(text.split_at(i + 1)),
+        None => None,
     }
 }
 

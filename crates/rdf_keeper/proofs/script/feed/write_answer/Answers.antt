@@ -1,6 +1,6 @@
 use Rattle.std.proofs.lemmas.Result.{err_from_is_err_and}
 use Rattle.rdf_keeper.proofs.StreamLemmas.{first_fault}
-use Rattle.rdf_keeper.proofs.script.runner.write_answer.Goals as goal
+use Rattle.rdf_keeper.proofs.script.feed.write_answer.Goals as goal
 
 pub returns-in_err-write_whole : goal.returns-in_err-write_whole
 returns-in_err-write_whole g c =

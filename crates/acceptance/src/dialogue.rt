@@ -1,0 +1,159 @@
+//! Sessions that answer at once: dialogues, where nothing is asked before the last answer came, and what is read
+//! before a session ends.
+use one_byte::{Ending, OneByteReader};
+use rdf_keeper::{Feed, Keeper, Settings, Status, run};
+use std::alloc::Global;
+use std::cell::Cell;
+use std::io;
+use std::io::{ErrorKind, Read, Write};
+use std::test::Fail;
+
+// Gives a piece at a call, each only once as many answers have come as pieces were given; then the end.
+#[derive(Drop)]
+struct Asker<'a> {
+    pieces: &'a [&'static [u8]],
+    calls: &'a Cell<usize>,
+    answers: &'a Cell<usize>,
+    waits: bool,
+}
+
+impl Read for Asker<'_> {
+    fn read(&mut self, buf: &mut [u8]) -> io::Result<usize> {
+        let call = self.calls.get();
+        if self.waits && self.answers.get() < call {
+            return Err(io::Error::from(ErrorKind::Other));
+        }
+        self.calls.set(call.saturating_add(1));
+        match self.pieces.get(call) {
+            None => Ok(0),
+            Some(piece) => {
+                let mut piece = *piece;
+                piece.read(buf)
+            }
+        }
+    }
+}
+
+// Counts the answers of one line, and takes them.
+#[derive(Drop)]
+struct Listener<'a> {
+    answers: &'a Cell<usize>,
+    taken: Vec<u8>,
+}
+
+impl Write for Listener<'_> {
+    fn write(&mut self, buf: &[u8]) -> io::Result<usize> {
+        self.taken.extend_from_slice(buf)?;
+        let ends = buf.iter().filter(|b| **b == b'\n').count();
+        self.answers.set(self.answers.get().saturating_add(ends));
+        Ok(buf.len())
+    }
+
+    fn flush(&mut self) -> io::Result<()> {
+        Ok(())
+    }
+}
+
+// What a session over these pieces writes, its status, and how often it reads.
+fn held(
+    alloc: Global,
+    pieces: &[&'static [u8]],
+    waits: bool,
+    stop: bool,
+) -> (Vec<u8>, Status, usize) {
+    let calls = Cell::new(0);
+    let answers = Cell::new(0);
+    let mut keeper = Keeper::new(alloc, None);
+    let mut reader = Asker {
+        pieces,
+        calls: &calls,
+        answers: &answers,
+        waits,
+    };
+    let mut writer = Listener {
+        answers: &answers,
+        taken: Vec::new(alloc),
+    };
+    let settings = Settings { stop };
+    let status = run(alloc, &mut keeper, &mut reader, &mut writer, settings);
+    let Listener { taken, .. } = writer;
+    (taken, status, calls.get())
+}
+
+#[test]
+fn a_dialogue_comes_to_its_end(rt: HostRuntime) {
+    let pieces: [&'static [u8]; 4] = [
+        b"%load nquads\n<a:s> <a:p> \"x\" .\n%end\n",
+        b"%mark a\r\n",
+        b"%undo\n",
+        b"%frob",
+    ];
+    let (taken, status, calls) = held(rt.alloc(), &pieces, true, false);
+    assert_eq!(rt; taken.as_slice(), b"ok +1 -0\nok\nok +0 -1\n".as_slice());
+    assert!(rt; status == Status::ReadFailed && calls == 4);
+}
+
+#[test]
+fn nothing_is_read_after_the_refusal_that_stops(rt: HostRuntime) {
+    let pieces: [&'static [u8]; 2] = [b"%frob\n", b"%print\n"];
+    let (taken, status, calls) = held(rt.alloc(), &pieces, false, true);
+    assert_eq!(rt; taken.as_slice(), b"refused: BadCommand\n".as_slice());
+    assert!(rt; status == Status::Refused && calls == 1);
+}
+
+#[test]
+fn a_line_end_between_two_pieces(rt: HostRuntime) {
+    let pieces: [&'static [u8]; 4] = [
+        b"%update\r\nINSERT DATA { }\n%end\r",
+        b"\n%undo\r",
+        b"\n%un",
+        b"do",
+    ];
+    let (taken, status, calls) = held(rt.alloc(), &pieces, false, false);
+    assert_eq!(rt;
+        taken.as_slice(),
+        b"ok +0 -0\nok +0 -0\nrefused: NothingToUndo\n".as_slice()
+    );
+    assert!(rt; status == Status::Refused && calls == 5);
+}
+
+#[test]
+fn an_open_body_in_pieces_of_one_byte(rt: HostRuntime) {
+    let mut keeper = Keeper::new(rt.alloc(), None);
+    let mut reader = OneByteReader {
+        bytes: b"%print\n%update\nINSERT DATA { }\n",
+        ending: Ending::Nothing,
+    };
+    let mut output = Vec::new(rt.alloc());
+    let settings = Settings { stop: false };
+    let status = run(rt.alloc(), &mut keeper, &mut reader, &mut output, settings);
+    assert_eq!(rt; output.as_slice(), b"ok 0\nrefused: NoEnd\n".as_slice());
+    assert!(rt; status == Status::Refused);
+}
+
+// What a session that is fed these two pieces writes behind the first, and at its end.
+fn fed(alloc: Global, first: &[u8], second: &[u8]) -> Result<(usize, Vec<u8>, Status), Status> {
+    let mut keeper = Keeper::new(alloc, None);
+    let mut output = Vec::new(alloc);
+    let feed = Feed::new(alloc, Settings { stop: false });
+    let feed = feed.take(&mut keeper, first, &mut output)?;
+    let at_once = output.len();
+    let feed = feed.take(&mut keeper, second, &mut output)?;
+    let status = feed.end(&mut keeper, &mut output);
+    Ok((at_once, output, status))
+}
+
+#[test]
+fn a_session_is_fed(rt: HostRuntime) -> Result<(), Fail> {
+    let Ok((at_once, output, status)) = fed(rt.alloc(), b"%print\n%mar", b"k a\n%undo") else {
+        assert!(rt; false);
+        return Ok(());
+    };
+    assert_eq!(rt; at_once, 5usize);
+    assert_eq!(rt;
+        output.as_slice(),
+        b"ok 0\nok\nrefused: NothingToUndo\n".as_slice()
+    );
+    assert!(rt; status == Status::Refused);
+    Ok(())
+}
