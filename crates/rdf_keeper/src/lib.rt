@@ -13,8 +13,8 @@ mod streams;
 pub use conversion::{ConvertFault, DocumentFault, convert};
 pub use examples::the_worked_examples_hold;
 pub use law::{
-    a_script_has_one_output, a_script_keeps_the_promise, pieces_are_the_script, printed_lines_are_documents,
-    refused_answers_leave, script_lines_are_the_text,
+    a_script_has_one_output, a_script_keeps_the_promise, pieces_are_the_script,
+    printed_lines_are_documents, refused_answers_leave, script_lines_are_the_text,
 };
 pub use program::start;
 pub use rdf_session::{
