@@ -421,15 +421,3 @@ fn kept_once(alloc: Global) -> Option<bool> {
 fn terms_in_a_table(rt: HostRuntime) {
     assert!(rt; kept_once(rt.alloc()) == Some(true));
 }
-
-// The term that a table holds under the id of a term that was new to it.
-fn interned(alloc: Global, number: u64) -> Option<bool> {
-    let mut table = TermTable::new(alloc);
-    let id = table.intern(Term::Blank(number)).ok()?;
-    Some(same_term(table.term(id), &Term::Blank(number)))
-}
-
-#[test]
-fn terms_of_ids(rt: HostRuntime) {
-    assert!(rt; interned(rt.alloc(), 5) == Some(true));
-}
