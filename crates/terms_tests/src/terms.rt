@@ -400,36 +400,3 @@ fn tags_in_texts(rt: HostRuntime) {
     }
     assert!(rt; Cursor::new("1en").tag_end().is_none());
 }
-
-// Whether each of two terms has one id, however often it comes in, by which it is found again.
-fn kept_once(alloc: Global) -> Option<bool> {
-    let mut table = TermTable::new(alloc);
-    let first = table.intern(Term::Blank(7)).ok()?;
-    let second = table.intern(Term::Iri(Iri::new(alloc, "a:b").ok()?)).ok()?;
-    let again = table.intern(Term::Blank(7)).ok()?;
-    let other = Term::Iri(Iri::new(alloc, "a:b").ok()?);
-    terms_are_held_once(&table);
-    Some(
-        first == again
-            && first != second
-            && table.find(&other) == Some(second)
-            && table.find(&Term::Blank(8)).is_none(),
-    )
-}
-
-#[test]
-fn terms_in_a_table(rt: HostRuntime) {
-    assert!(rt; kept_once(rt.alloc()) == Some(true));
-}
-
-// The term that a table holds under the id of a term that was new to it.
-fn interned(alloc: Global, number: u64) -> Option<bool> {
-    let mut table = TermTable::new(alloc);
-    let id = table.intern(Term::Blank(number)).ok()?;
-    Some(same_term(table.term(id), &Term::Blank(number)))
-}
-
-#[test]
-fn terms_of_ids(rt: HostRuntime) {
-    assert!(rt; interned(rt.alloc(), 5) == Some(true));
-}
