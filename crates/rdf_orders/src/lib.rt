@@ -1,6 +1,6 @@
-//! Sets of quads of numbers, kept in three orders: for each choice of bound places the quads wanted
-//! stand together in one of them. What a store keeps of a dataset (RDF 1.1 Concepts, section 4) once
-//! its terms have numbers.
+//! Sets of quads of numbers, kept in three orders: for each choice of bound places the quads
+//! wanted stand together in one of them. What a store keeps of a dataset (RDF 1.1 Concepts,
+//! section 4) once its terms have numbers.
 #![tactic(auto)]
 
 mod laws;

@@ -58,8 +58,8 @@ impl<'a> Orders for Walk<'a> {
 }
 
 impl QuadSets {
-    /// Appends each quad that lies in the graph and has the numbers of the bound places once, by its
-    /// key in `Spo`, and answers how many were looked at: just those.
+    /// Appends each quad that lies in the graph and has the numbers of the bound places once, by
+    /// its key in `Spo`, and answers how many were looked at: just those.
     ///
     /// # Errors
     /// [`NoMemory`] where memory is wanting: nothing is appended then.
