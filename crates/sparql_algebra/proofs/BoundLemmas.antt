@@ -1,27 +1,27 @@
 -- What solutions bind.
-use Rattle.std.proofs.Common.{◌≡◌, ℕ, zero, suc, ◌+◌, Bool, true, false, cond, ◌&&◌, ◌||◌, List, [], ◌∷◌, map, filter, Option, Some, None, refl, sym, ap, ◌∙◌, subst, length, take, replicate, slice_set}
+use Rattle.std.proofs.Common.{◌≡◌, ℕ, zero, suc, ◌+◌, Bool, true, false, cond, ◌&&◌, List, [], ◌∷◌, map, filter, Option, Some, None, refl, sym, ap, ◌∙◌, subst, length, take, replicate, slice_set}
 use Rattle.std.specs.Bool.{IsTrue}
 use Rattle.std.specs.Option.{IfSome}
 use Rattle.std.specs.Ordering.{eq_by_cmp}
-use Rattle.std.specs.List.{AllByRecursion, flat_map, list_any, list_all}
+use Rattle.std.specs.List.{AllByRecursion, list_any, list_all}
 use Rattle.std.specs.FinSet.{contains, contains-items, items}
 use Rattle.rdf_terms.specs.Below.{IsTermBelow}
 use Rattle.rdf_terms.specs.Order.{quad_cmp}
 use Rattle.rdf_terms.specs.OrderLaws.{term_cmp_total, term_cmp-IsAntisymmetric, quad_cmp_total, quad_cmp-IsAntisymmetric}
 use Rattle.rdf_terms.specs.Quad.{QuadParts, has_right_kinds, is_graph, is_quad}
-use Rattle.rdf_terms.specs.Term.{is_term, is_literal_term}
+use Rattle.rdf_terms.specs.Term.{is_term}
 use Rattle.rdf_terms.specs.declared.term.Term.{Term}
 use Rattle.rdf_terms.specs.declared.term.Term.TheVariants as t
 use Rattle.rdf_terms.specs.declared.quad.GraphName.{GraphName}
 use Rattle.rdf_terms.specs.declared.quad.GraphName.TheVariants.{Named}
-use Rattle.rdf_dataset.specs.State.{State, IsSound}
+use Rattle.rdf_dataset.specs.State.{State}
 use Rattle.sparql_trees.specs.declared.pattern.Pattern.{Pattern}
 use Rattle.sparql_trees.specs.declared.pattern.VarOrIri.TheVariants as v
 use Rattle.sparql_algebra.specs.Algebra as algebra
 use Rattle.sparql_algebra.specs.Algebra.{Algebra, basic, join, left_join, union, graph, translation}
-use Rattle.sparql_algebra.specs.Bound.{stands_in, is_term_of, IsValueOf, IsValue, IsValueBelow, AllValues}
+use Rattle.sparql_algebra.specs.Bound.{stands_in, is_term_of, AllValues}
 use Rattle.sparql_algebra.specs.Laws.{SolutionsOfState, SolutionsOfTerms, SolutionsBelow}
-use Rattle.sparql_algebra.specs.Listing.{Listing, graph_quads, listed, listing_of}
+use Rattle.sparql_algebra.specs.Listing.{Listing, graph_quads, listing_of}
 use Rattle.sparql_algebra.specs.Results.{pattern_solutions}
 use Rattle.sparql_algebra.specs.Solutions.{distinct, solves, terms_of, all_mappings, assignments, merges, joins, or_alone, left_joins, satisfies, solutions}
 use Rattle.sparql_algebra.specs.Sorted.{sorted_solutions}
