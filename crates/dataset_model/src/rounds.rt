@@ -1,5 +1,4 @@
-//! Rounds of changes through views, each committed to a dataset and to a plain one, and perhaps taken
-//! back.
+//! Rounds of changes on a dataset through views, each ended by a commit and perhaps taken back.
 ghost use Rattle.std.specs.Prelude.{◌≡◌, IsTrue, IfSome};
 ghost use Rattle.rdf_dataset.specs.State.{State, Begins, Ends, net_between};
 
@@ -7,7 +6,7 @@ use crate::model::Model;
 use crate::steps::step;
 use crate::table::Table;
 use crate::trial::Trial;
-use rdf_dataset::{Dataset, Net, PlainDataset, Source, Staged};
+use rdf_dataset::{Dataset, Net, Source, Staged};
 use std::alloc::Global;
 
 const FIRST_NUMBER: u64 = 4;
@@ -19,10 +18,9 @@ pub fn steps_that_agree(alloc: Global) -> u32 {
     };
     let mut trial = Trial::new(alloc, table);
     let mut dataset = Dataset::starting_at(alloc, FIRST_NUMBER);
-    let mut plain = PlainDataset::starting_at(alloc, FIRST_NUMBER);
     let mut model = Model::new(alloc, FIRST_NUMBER);
     for _ in 0..20 {
-        if !round(&mut trial, &mut dataset, &mut plain, &mut model) {
+        if !round(&mut trial, &mut dataset, &mut model) {
             return trial.agreed;
         }
     }
@@ -30,34 +28,26 @@ pub fn steps_that_agree(alloc: Global) -> u32 {
 }
 
 // 16 changes on a view, 7 on a view over it, the commit of both, and a last step.
-fn round(
-    trial: &mut Trial,
-    dataset: &mut Dataset,
-    plain: &mut PlainDataset,
-    model: &mut Model,
-) -> bool
-    requires { plain.old ≡ dataset.old }
-    ensures { IsTrue result → plain.new ≡ dataset.new }
-{
+fn round(trial: &mut Trial, dataset: &mut Dataset, model: &mut Model) -> bool {
     let Some(kept) = model.copy(trial.alloc) else {
         return false;
     };
     let Some(net) = changed(trial, dataset, model) else {
         return false;
     };
-    if !commit(trial, dataset, plain, model, &net) {
+    if !commit(trial, dataset, model, &net) {
         return false;
     }
     match trial.number() % 4 {
         0 => {
             *model = kept;
-            revert(trial, dataset, plain, model, &net)
+            revert(trial, dataset, model, &net)
         }
         1 => {
             *model = kept;
-            turn_back(trial, dataset, plain, model, net)
+            turn_back(trial, dataset, model, net)
         }
-        _ => stand_still(trial, dataset, plain, model),
+        _ => stand_still(trial, dataset, model),
     }
 }
 
@@ -117,73 +107,35 @@ fn changed_above<D: Source>(trial: &mut Trial, source: &D, model: &mut Model) ->
     }
 }
 
-fn commit(
-    trial: &mut Trial,
-    dataset: &mut Dataset,
-    plain: &mut PlainDataset,
-    model: &Model,
-    net: &Net,
-) -> bool
-    requires begins { Begins net.now dataset.old }
-    requires same { plain.old ≡ dataset.old }
-    ensures ends { IsTrue result → Ends net.now dataset.new }
-    ensures same { IsTrue result → plain.new ≡ dataset.new }
+fn commit(trial: &mut Trial, dataset: &mut Dataset, model: &Model, net: &Net) -> bool
+    requires { Begins net.now dataset.old }
+    ensures { IsTrue result → Ends net.now dataset.new }
 {
-    let Ok(()) = dataset.commit(net) else {
-        return false;
-    };
-    let Ok(()) = plain.commit(net) else {
-        return false;
-    };
-    trial.counts_both(dataset, plain, model)
+    match dataset.commit(net) {
+        Ok(()) => trial.counts(dataset, model),
+        Err(_) => false,
+    }
 }
 
-fn revert(
-    trial: &mut Trial,
-    dataset: &mut Dataset,
-    plain: &mut PlainDataset,
-    model: &Model,
-    net: &Net,
-) -> bool
-    requires ends { Ends net.now dataset.old }
-    requires same { plain.old ≡ dataset.old }
-    ensures { IsTrue result → plain.new ≡ dataset.new }
+fn revert(trial: &mut Trial, dataset: &mut Dataset, model: &Model, net: &Net) -> bool
+    requires { Ends net.now dataset.old }
 {
-    let Ok(()) = dataset.revert(net) else {
-        return false;
-    };
-    let Ok(()) = plain.revert(net) else {
-        return false;
-    };
-    trial.counts_both(dataset, plain, model)
+    match dataset.revert(net) {
+        Ok(()) => trial.counts(dataset, model),
+        Err(_) => false,
+    }
 }
 
 // Commits the net the other way.
-fn turn_back(
-    trial: &mut Trial,
-    dataset: &mut Dataset,
-    plain: &mut PlainDataset,
-    model: &Model,
-    net: Net,
-) -> bool
-    requires ends { Ends net dataset.old }
-    requires same { plain.old ≡ dataset.old }
-    ensures { IsTrue result → plain.new ≡ dataset.new }
+fn turn_back(trial: &mut Trial, dataset: &mut Dataset, model: &Model, net: Net) -> bool
+    requires { Ends net dataset.old }
 {
     let back = net.reversed();
-    commit(trial, dataset, plain, model, &back)
+    commit(trial, dataset, model, &back)
 }
 
 // Commits the net that changes nothing.
-fn stand_still(
-    trial: &mut Trial,
-    dataset: &mut Dataset,
-    plain: &mut PlainDataset,
-    model: &Model,
-) -> bool
-    requires { plain.old ≡ dataset.old }
-    ensures { IsTrue result → plain.new ≡ dataset.new }
-{
+fn stand_still(trial: &mut Trial, dataset: &mut Dataset, model: &Model) -> bool {
     let nothing = Net::empty(trial.alloc, dataset.next_blank());
-    commit(trial, dataset, plain, model, &nothing)
+    commit(trial, dataset, model, &nothing)
 }

@@ -52,15 +52,4 @@ impl Trial {
         }
         same
     }
-
-    /// Counts a step where both sources hold what the model does.
-    pub fn counts_both<D: Source, E: Source>(
-        &mut self,
-        source: &D,
-        other: &E,
-        model: &Model,
-    ) -> bool {
-        let place = self.quad_number() as usize;
-        agree(self.alloc, other, model, &self.table, place) && self.counts(source, model)
-    }
 }

@@ -4,6 +4,4 @@
 #[cfg(test)]
 mod dataset;
 #[cfg(test)]
-mod look_ups;
-#[cfg(test)]
 mod orders;

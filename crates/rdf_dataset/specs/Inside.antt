@@ -1,4 +1,3 @@
 pub mod Delta
 pub mod Merging
 pub mod Places
-pub mod Store

@@ -1,14 +1,14 @@
-//! A dataset whose terms are kept once, and whose quads stand in three orders.
-ghost use Rattle.std.specs.Prelude.{◌≡◌, ◌≤◌, ◌+◌, [], length, option_copied, IsOk, IfOk, OnOk, OnErr};
+//! A dataset as sorted lists.
+ghost use Rattle.std.specs.Prelude.{◌≡◌, ◌≤◌, [], IsOk, OnOk, OnErr};
 ghost use Rattle.std.specs.FinSet as set;
 ghost use Rattle.rdf_dataset.specs.Inside.Delta.{Leads};
-ghost use Rattle.rdf_dataset.specs.Sorted.{AppendsOnce, ListsSorted};
-ghost use Rattle.rdf_dataset.specs.State.{State, IsSound, Begins, Ends, matches, net_between, empty_state, last_number};
+ghost use Rattle.rdf_dataset.specs.Sorted.{ListsSorted};
+ghost use Rattle.rdf_dataset.specs.State.{State, IsSound, Begins, Ends, net_between, empty_state, last_number};
 
+use crate::listing::append_matching;
 use crate::net::Net;
-use crate::sorted::Sorted;
+use crate::sorted::{Sorted, append_copies};
 use crate::source::Source;
-use crate::store::Store;
 use rdf_terms::{GraphName, NoMemory, Quad, Term};
 use std::alloc::Global;
 use std::marker::Model;
@@ -16,11 +16,13 @@ use std::marker::Model;
 /// A sound state: quads, graph names, and the number of the next blank node.
 #[derive(Drop)]
 pub struct Dataset {
-    store: Store,
-    next: u64,
+    pub(crate) quads: Sorted<Quad>,
+    pub(crate) names: Sorted<Term>,
+    pub(crate) next: u64,
 }
 
 impl Model for Dataset {
+    ghost use Rattle.std.specs.FinSet as set;
     ghost use Rattle.rdf_dataset.specs.State.{State, state_code, IsSound};
 
     ghost Value = { State };
@@ -28,14 +30,14 @@ impl Model for Dataset {
     ghost coded = { state_code };
 
     ghost view = { λ d. record {
-      quads = d.store.quads;
-      names = d.store.names;
+      quads = set.from_list d.quads;
+      names = set.from_list d.names;
       next = d.next;
     } };
 
     ghost invariant = { λ d. IsSound (record {
-      quads = d.store.quads;
-      names = d.store.names;
+      quads = set.from_list d.quads;
+      names = set.from_list d.names;
       next = d.next;
     }) };
 }
@@ -54,61 +56,24 @@ impl Dataset {
         ensures { result ≡ empty_state next }
     {
         Dataset {
-            store: Store::new(alloc),
+            quads: Sorted::new(alloc),
+            names: Sorted::new(alloc),
             next,
         }
     }
 
     /// The quads, each once, in order.
-    ///
-    /// # Errors
-    /// [`NoMemory`] where memory is wanting.
-    pub fn quads(&self, alloc: Global) -> Result<Vec<Quad>, NoMemory>
-        ensures { IfOk result (λ quads. ListsSorted self.now.quads quads.items) }
+    pub fn quads(&self) -> &[Quad]
+        ensures { ListsSorted self.now.quads result.now }
     {
-        self.is_sound();
-        let mut quads = Vec::new(alloc);
-        self.store.append_quads(&mut quads)?;
-        quads.sort_unstable();
-        Ok(quads)
+        self.quads.listing()
     }
 
     /// The graph names, each once, in order.
-    ///
-    /// # Errors
-    /// [`NoMemory`] where memory is wanting.
-    pub fn names_sorted(&self, alloc: Global) -> Result<Vec<Term>, NoMemory>
-        ensures { IfOk result (λ names. ListsSorted self.now.names names.items) }
+    pub fn names_sorted(&self) -> &[Term]
+        ensures { ListsSorted self.now.names result.now }
     {
-        let mut names = Vec::new(alloc);
-        self.store.append_names(&mut names)?;
-        names.sort_unstable();
-        Ok(names)
-    }
-
-    /// Appends each quad of the graph that has the terms of the bound places once, in any order, and
-    /// answers how many quads were looked at: just those.
-    ///
-    /// # Errors
-    /// [`NoMemory`] where memory is wanting: nothing is appended then.
-    pub fn matches(
-        &self,
-        graph: &GraphName,
-        subject: Option<&Term>,
-        predicate: Option<&Term>,
-        object: Option<&Term>,
-        out: &mut Vec<Quad>,
-    ) -> Result<usize, NoMemory>
-        ensures found { OnOk result (AppendsOnce
-            (set.retain self.now.quads (matches graph.now (option_copied subject.entry)
-            (option_copied predicate.entry) (option_copied object.entry)))
-            out.old.items out.new.items) }
-        ensures looked { IfOk result
-            (λ looked. length out.new.items ≡ length out.old.items + looked) }
-        ensures err { OnErr result (out.new.items ≡ out.old.items) }
-    {
-        self.is_sound();
-        self.store.matches(graph, subject, predicate, object, out)
+        self.names.listing()
     }
 
     /// Goes to the state where a net that begins here ends. It takes no memory where the net added
@@ -160,10 +125,10 @@ impl Dataset {
     fn is_sound(&self)
         ensures { IsSound self.now }
     {
-        let _ = &self.store;
+        let _ = &self.quads;
     }
 
-    // All insertions come first, and those that were made are taken back where one is refused.
+    // All growths come first, and what they made is taken back where one is refused.
     fn go_to(
         &mut self,
         added: &Sorted<Quad>,
@@ -180,10 +145,13 @@ impl Dataset {
         ensures err { OnErr result (self.new ≡ self.old) }
         ensures free { added.now ≡ [] → names_added.now ≡ [] → IsOk result }
     {
-        self.store
-            .insert_all(added.as_slice(), names_added.as_slice())?;
-        self.store
-            .remove_all(removed.as_slice(), names_removed.as_slice());
+        self.quads.unite(added)?;
+        if let Err(refused) = self.names.unite(names_added) {
+            self.quads.subtract(added);
+            return Err(refused);
+        }
+        self.quads.subtract(removed);
+        self.names.subtract(names_removed);
         self.next = next;
         Ok(())
     }
@@ -193,11 +161,11 @@ impl Source for Dataset {
     ghost contents = { λ d. d };
 
     fn contains(&self, quad: &Quad) -> bool {
-        self.store.contains(quad)
+        self.quads.contains(quad)
     }
 
     fn has_name(&self, name: &Term) -> bool {
-        self.store.has_name(name)
+        self.names.contains(name)
     }
 
     fn next_blank(&self) -> u64 {
@@ -205,7 +173,7 @@ impl Source for Dataset {
     }
 
     fn names(&self, out: &mut Vec<Term>) -> Result<(), NoMemory> {
-        self.store.append_names(out)
+        append_copies(out, self.names.as_slice())
     }
 
     fn matches(
@@ -216,6 +184,8 @@ impl Source for Dataset {
         object: Option<&Term>,
         out: &mut Vec<Quad>,
     ) -> Result<usize, NoMemory> {
-        Dataset::matches(self, graph, subject, predicate, object, out)
+        let quads = self.quads.as_slice();
+        append_matching(out, quads, graph, subject, predicate, object)?;
+        Ok(quads.len())
     }
 }

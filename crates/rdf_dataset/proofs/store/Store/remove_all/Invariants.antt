@@ -1,9 +1,0 @@
-use Rattle.std.proofs.Common.{◌≡◌, [], take}
-use Rattle.rdf_dataset.specs.Inside.Store.{without_stored}
-use Rattle.rdf_dataset.proofs.store.Store.remove_all.Given as goal
-
-abbrev pub invariant-loop-quad : goal.invariant-loop-quad
-invariant-loop-quad l = l.self ≡ without_stored l.fn.self (take l.quad-index l.quads) []
-
-abbrev pub invariant-loop-name : goal.invariant-loop-name
-invariant-loop-name l = l.self ≡ without_stored l.fn.self l.fn.quads (take l.name-index l.names)
