@@ -7,18 +7,10 @@ use std::alloc::Global;
 /// Whether quads, names and the counter are equal. Both list each quad and each name once.
 pub fn agree(alloc: Global, dataset: &Dataset, model: &Model) -> bool {
     dataset.next_blank() == model.next()
-        && as_many(alloc, dataset, model)
+        && dataset.quads().len() == model.facts().len()
+        && dataset.names_sorted().len() == model.names().len()
         && has_facts(alloc, dataset, model)
         && has_names(alloc, dataset, model)
-}
-
-fn as_many(alloc: Global, dataset: &Dataset, model: &Model) -> bool {
-    match (dataset.quads(alloc), dataset.names_sorted(alloc)) {
-        (Ok(quads), Ok(names)) => {
-            quads.len() == model.facts().len() && names.len() == model.names().len()
-        }
-        _ => false,
-    }
 }
 
 fn has_facts(alloc: Global, dataset: &Dataset, model: &Model) -> bool {
