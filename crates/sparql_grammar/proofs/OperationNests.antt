@@ -74,8 +74,8 @@ module _ (limit b : ℕ) where
   copy_keeps : Keeps bracket limit b g.Copy g.Copy
   copy_keeps = behind_keeps bracket limit b terminal.Copy _ _ refl (map_keeps bracket limit b (read.between_by o.Copy) _ _ between_keeps)
 
-  management_keeps : Keeps bracket limit b g.Management g.Management
-  management_keeps =
+  graph_operation_keeps : Keeps bracket limit b g.GraphOperation g.GraphOperation
+  graph_operation_keeps =
       or_keeps bracket limit b _ _ _ _ clear_keeps (or_keeps bracket limit b _ _ _ _ drop_keeps (or_keeps bracket limit b _ _ _ _ add_keeps
       (or_keeps bracket limit b _ _ _ _ move_keeps (or_keeps bracket limit b _ _ _ _ copy_keeps create_keeps))))
 
@@ -139,7 +139,7 @@ module _ (limit b : ℕ) (P Q I J : Derives (List Triples)) (p : Keeps bracket l
 
     operation_keeps : Keeps bracket limit b (g.Update1 P I A) (g.Update1 Q J B)
     operation_keeps =
-        or_keeps bracket limit b _ _ _ _ (management_keeps limit b)
+        or_keeps bracket limit b _ _ _ _ (graph_operation_keeps limit b)
         (or_keeps bracket limit b _ _ _ _ (data_keep terminal.Insert o.InsertData (the_keeps bracket limit b terminal.Insert refl))
         (or_keeps bracket limit b _ _ _ _ (data_keep terminal.Delete o.DeleteData (the_keeps bracket limit b terminal.Delete refl))
         (or_keeps bracket limit b _ _ _ _ delete_where_keeps (map_keeps bracket limit b o.Modify _ _ modify_keeps))))

@@ -251,52 +251,52 @@ module _ (operation : Bool → GraphOrDefault → GraphOrDefault → Operation) 
   from_to_decides = last (read.between_by operation) _ _ always between_decides
 
 -- what begins them
-abbrev pub begins_management : Option Terminal → Bool
-begins_management (Some terminal.Create) = true
-begins_management (Some terminal.Clear) = true
-begins_management (Some terminal.Drop) = true
-begins_management (Some terminal.Copy) = true
-begins_management (Some terminal.Move) = true
-begins_management (Some terminal.Add) = true
-begins_management _ = false
+abbrev pub begins_graph_operation : Option Terminal → Bool
+begins_graph_operation (Some terminal.Create) = true
+begins_graph_operation (Some terminal.Clear) = true
+begins_graph_operation (Some terminal.Drop) = true
+begins_graph_operation (Some terminal.Copy) = true
+begins_graph_operation (Some terminal.Move) = true
+begins_graph_operation (Some terminal.Add) = true
+begins_graph_operation _ = false
 
-management_sound : (k : Option Terminal) (ts : Lexemes) (x : Operation) (us : Lexemes) → next_terminal ts ≡ k → read.management_by k ts ≡ Some (x, us) → g.Management ts x us
-management_sound (Some terminal.Clear) ts x us q h = inl (keyword_sound terminal.Clear _ _ (on_decides o.Clear) ts x us q h)
-management_sound (Some terminal.Drop) ts x us q h = inr (inl (keyword_sound terminal.Drop _ _ (on_decides o.Drop) ts x us q h))
-management_sound (Some terminal.Add) ts x us q h = inr (inr (inl (keyword_sound terminal.Add _ _ (from_to_decides o.Add) ts x us q h)))
-management_sound (Some terminal.Move) ts x us q h = inr (inr (inr (inl (keyword_sound terminal.Move _ _ (from_to_decides o.Move) ts x us q h))))
-management_sound (Some terminal.Copy) ts x us q h = inr (inr (inr (inr (inl (keyword_sound terminal.Copy _ _ (from_to_decides o.Copy) ts x us q h)))))
-management_sound (Some terminal.Create) ts x us q h = inr (inr (inr (inr (inr (keyword_sound terminal.Create _ _ create_decides ts x us q h)))))
-management_sound _ ts x us q h = absurd (cc)
+graph_operation_sound : (k : Option Terminal) (ts : Lexemes) (x : Operation) (us : Lexemes) → next_terminal ts ≡ k → read.graph_operation_by k ts ≡ Some (x, us) → g.GraphOperation ts x us
+graph_operation_sound (Some terminal.Clear) ts x us q h = inl (keyword_sound terminal.Clear _ _ (on_decides o.Clear) ts x us q h)
+graph_operation_sound (Some terminal.Drop) ts x us q h = inr (inl (keyword_sound terminal.Drop _ _ (on_decides o.Drop) ts x us q h))
+graph_operation_sound (Some terminal.Add) ts x us q h = inr (inr (inl (keyword_sound terminal.Add _ _ (from_to_decides o.Add) ts x us q h)))
+graph_operation_sound (Some terminal.Move) ts x us q h = inr (inr (inr (inl (keyword_sound terminal.Move _ _ (from_to_decides o.Move) ts x us q h))))
+graph_operation_sound (Some terminal.Copy) ts x us q h = inr (inr (inr (inr (inl (keyword_sound terminal.Copy _ _ (from_to_decides o.Copy) ts x us q h)))))
+graph_operation_sound (Some terminal.Create) ts x us q h = inr (inr (inr (inr (inr (keyword_sound terminal.Create _ _ create_decides ts x us q h)))))
+graph_operation_sound _ ts x us q h = absurd (cc)
 
-management_complete : (ts : Lexemes) (x : Operation) (us : Lexemes) → g.Management ts x us → read.management_by (next_terminal ts) ts ≡ Some (x, us)
-management_complete ts x us (inl h) = let q = keyword_terminal terminal.Clear _ ts x us h in rw q (keyword_complete terminal.Clear _ _ (on_decides o.Clear) ts x us q h)
-management_complete ts x us (inr (inl h)) = let q = keyword_terminal terminal.Drop _ ts x us h in rw q (keyword_complete terminal.Drop _ _ (on_decides o.Drop) ts x us q h)
-management_complete ts x us (inr (inr (inl h))) = let q = keyword_terminal terminal.Add _ ts x us h in rw q (keyword_complete terminal.Add _ _ (from_to_decides o.Add) ts x us q h)
-management_complete ts x us (inr (inr (inr (inl h)))) = let q = keyword_terminal terminal.Move _ ts x us h in rw q (keyword_complete terminal.Move _ _ (from_to_decides o.Move) ts x us q h)
-management_complete ts x us (inr (inr (inr (inr (inl h))))) = let q = keyword_terminal terminal.Copy _ ts x us h in rw q (keyword_complete terminal.Copy _ _ (from_to_decides o.Copy) ts x us q h)
-management_complete ts x us (inr (inr (inr (inr (inr h))))) = let q = keyword_terminal terminal.Create _ ts x us h in rw q (keyword_complete terminal.Create _ _ create_decides ts x us q h)
+graph_operation_complete : (ts : Lexemes) (x : Operation) (us : Lexemes) → g.GraphOperation ts x us → read.graph_operation_by (next_terminal ts) ts ≡ Some (x, us)
+graph_operation_complete ts x us (inl h) = let q = keyword_terminal terminal.Clear _ ts x us h in rw q (keyword_complete terminal.Clear _ _ (on_decides o.Clear) ts x us q h)
+graph_operation_complete ts x us (inr (inl h)) = let q = keyword_terminal terminal.Drop _ ts x us h in rw q (keyword_complete terminal.Drop _ _ (on_decides o.Drop) ts x us q h)
+graph_operation_complete ts x us (inr (inr (inl h))) = let q = keyword_terminal terminal.Add _ ts x us h in rw q (keyword_complete terminal.Add _ _ (from_to_decides o.Add) ts x us q h)
+graph_operation_complete ts x us (inr (inr (inr (inl h)))) = let q = keyword_terminal terminal.Move _ ts x us h in rw q (keyword_complete terminal.Move _ _ (from_to_decides o.Move) ts x us q h)
+graph_operation_complete ts x us (inr (inr (inr (inr (inl h))))) = let q = keyword_terminal terminal.Copy _ ts x us h in rw q (keyword_complete terminal.Copy _ _ (from_to_decides o.Copy) ts x us q h)
+graph_operation_complete ts x us (inr (inr (inr (inr (inr h))))) = let q = keyword_terminal terminal.Create _ ts x us h in rw q (keyword_complete terminal.Create _ _ create_decides ts x us q h)
 
-pub management_strict : (ts : Lexemes) (x : Operation) (us : Lexemes) → g.Management ts x us → length us < length ts
-management_strict ts x us (inl h) = keyword_strict terminal.Clear _ _ (on_decides o.Clear) ts x us h
-management_strict ts x us (inr (inl h)) = keyword_strict terminal.Drop _ _ (on_decides o.Drop) ts x us h
-management_strict ts x us (inr (inr (inl h))) = keyword_strict terminal.Add _ _ (from_to_decides o.Add) ts x us h
-management_strict ts x us (inr (inr (inr (inl h)))) = keyword_strict terminal.Move _ _ (from_to_decides o.Move) ts x us h
-management_strict ts x us (inr (inr (inr (inr (inl h))))) = keyword_strict terminal.Copy _ _ (from_to_decides o.Copy) ts x us h
-management_strict ts x us (inr (inr (inr (inr (inr h))))) = keyword_strict terminal.Create _ _ create_decides ts x us h
+pub graph_operation_strict : (ts : Lexemes) (x : Operation) (us : Lexemes) → g.GraphOperation ts x us → length us < length ts
+graph_operation_strict ts x us (inl h) = keyword_strict terminal.Clear _ _ (on_decides o.Clear) ts x us h
+graph_operation_strict ts x us (inr (inl h)) = keyword_strict terminal.Drop _ _ (on_decides o.Drop) ts x us h
+graph_operation_strict ts x us (inr (inr (inl h))) = keyword_strict terminal.Add _ _ (from_to_decides o.Add) ts x us h
+graph_operation_strict ts x us (inr (inr (inr (inl h)))) = keyword_strict terminal.Move _ _ (from_to_decides o.Move) ts x us h
+graph_operation_strict ts x us (inr (inr (inr (inr (inl h))))) = keyword_strict terminal.Copy _ _ (from_to_decides o.Copy) ts x us h
+graph_operation_strict ts x us (inr (inr (inr (inr (inr h))))) = keyword_strict terminal.Create _ _ create_decides ts x us h
 
-pub management_begins : (ts : Lexemes) (x : Operation) (us : Lexemes) → g.Management ts x us → begins_management (next_terminal ts) ≡ true
-management_begins ts x us (inl h) = rw (keyword_terminal terminal.Clear _ ts x us h) refl
-management_begins ts x us (inr (inl h)) = rw (keyword_terminal terminal.Drop _ ts x us h) refl
-management_begins ts x us (inr (inr (inl h))) = rw (keyword_terminal terminal.Add _ ts x us h) refl
-management_begins ts x us (inr (inr (inr (inl h)))) = rw (keyword_terminal terminal.Move _ ts x us h) refl
-management_begins ts x us (inr (inr (inr (inr (inl h))))) = rw (keyword_terminal terminal.Copy _ ts x us h) refl
-management_begins ts x us (inr (inr (inr (inr (inr h))))) = rw (keyword_terminal terminal.Create _ ts x us h) refl
+pub graph_operation_begins : (ts : Lexemes) (x : Operation) (us : Lexemes) → g.GraphOperation ts x us → begins_graph_operation (next_terminal ts) ≡ true
+graph_operation_begins ts x us (inl h) = rw (keyword_terminal terminal.Clear _ ts x us h) refl
+graph_operation_begins ts x us (inr (inl h)) = rw (keyword_terminal terminal.Drop _ ts x us h) refl
+graph_operation_begins ts x us (inr (inr (inl h))) = rw (keyword_terminal terminal.Add _ ts x us h) refl
+graph_operation_begins ts x us (inr (inr (inr (inl h)))) = rw (keyword_terminal terminal.Move _ ts x us h) refl
+graph_operation_begins ts x us (inr (inr (inr (inr (inl h))))) = rw (keyword_terminal terminal.Copy _ ts x us h) refl
+graph_operation_begins ts x us (inr (inr (inr (inr (inr h))))) = rw (keyword_terminal terminal.Create _ ts x us h) refl
 
-pub management_decides : Decides read.management g.Management always
-unfolding read.management
-management_decides = record {
-  sound = λ ts x us h. management_sound (next_terminal ts) ts x us refl h;
-  complete = λ ts x us h _. management_complete ts x us h;
-  shorter = λ ts x us h. let e = management_strict ts x us h in omega arith;
+pub graph_operation_decides : Decides read.graph_operation g.GraphOperation always
+unfolding read.graph_operation
+graph_operation_decides = record {
+  sound = λ ts x us h. graph_operation_sound (next_terminal ts) ts x us refl h;
+  complete = λ ts x us h _. graph_operation_complete ts x us h;
+  shorter = λ ts x us h. let e = graph_operation_strict ts x us h in omega arith;
 }

@@ -88,9 +88,9 @@ from_to_gives : (k : Terminal) (operation : Bool → GraphOrDefault → GraphOrD
 from_to_gives k operation is = behind_gives k _ (Passes proper_operation) (map_gives (between_by operation) _ GoodBetween (Passes proper_operation) between_gives
     (λ x h. rw (is x.0 x.1 x.2) (and_from (proper_graph_or_default x.1) (proper_graph_or_default x.2) h.0 h.1)))
 
-management_gives : Gives g.Management (Passes proper_operation)
+graph_operation_gives : Gives g.GraphOperation (Passes proper_operation)
 unfolding proper_operation
-management_gives =
+graph_operation_gives =
     or_gives _ _ (Passes proper_operation) (on_gives terminal.Clear o.Clear (λ silent graphs. refl))
     (or_gives _ _ (Passes proper_operation) (on_gives terminal.Drop o.Drop (λ silent graphs. refl))
     (or_gives _ _ (Passes proper_operation) (from_to_gives terminal.Add o.Add (λ silent from to. refl))
@@ -184,7 +184,7 @@ module _ (Template Inner : Derives (List Triples)) (Group' : Derives Group) (p :
   operation_gives : Gives (g.Update1 Template Inner Group') (Passes proper_operation)
   unfolding proper_operation
   operation_gives =
-      or_gives _ _ (Passes proper_operation) management_gives
+      or_gives _ _ (Passes proper_operation) graph_operation_gives
       (or_gives _ _ (Passes proper_operation) (quads_behind_give Template Inner p i terminal.Insert terminal.Data o.InsertData (λ blocks. refl))
       (or_gives _ _ (Passes proper_operation) (quads_behind_give Template Inner p i terminal.Delete terminal.Data o.DeleteData (λ blocks. refl))
       (or_gives _ _ (Passes proper_operation) (quads_behind_give Template Inner p i terminal.Delete terminal.Where o.DeleteWhere (λ blocks. refl))

@@ -29,7 +29,7 @@ use Rattle.sparql_terminals.specs.WordReading.{iri}
 use Rattle.sparql_terminals.proofs.GrammarWords.{iri_decides}
 use Rattle.sparql_grammar.proofs.GroupProductions.{IsGroupRule}
 use Rattle.sparql_grammar.proofs.OperationData.{IsTemplateRule, quad_pattern_decides, quad_pattern_opens, data_decides}
-use Rattle.sparql_grammar.proofs.OperationProductions.{begins_management, management_begins, management_decides, management_strict}
+use Rattle.sparql_grammar.proofs.OperationProductions.{begins_graph_operation, graph_operation_begins, graph_operation_decides, graph_operation_strict}
 
 -- ---- what follows
 
@@ -168,13 +168,13 @@ module _ (template inner : Reading (List Triples)) (group : Reading Group) (Temp
   operation_sound (Some terminal.Insert) ts x us h = insertion_sound (read.second_terminal ts) ts x us h
   operation_sound (Some terminal.Delete) ts x us h = deletion_sound (read.second_terminal ts) ts x us h
   operation_sound (Some terminal.With) ts x us h = inr (inr (inr (inr (modified.sound ts x us h))))
-  operation_sound _ ts x us h = inl (management_decides.sound ts x us h)
+  operation_sound _ ts x us h = inl (graph_operation_decides.sound ts x us h)
 
-  by_management : (k : Option Terminal) (ts : Lexemes) → begins_management k ≡ true → read.operation_by template inner group k ts ≡ read.management ts
-  by_management (Some terminal.Insert) ts h = absurd (cc)
-  by_management (Some terminal.Delete) ts h = absurd (cc)
-  by_management (Some terminal.With) ts h = absurd (cc)
-  by_management _ ts h = refl
+  by_graph_operation : (k : Option Terminal) (ts : Lexemes) → begins_graph_operation k ≡ true → read.operation_by template inner group k ts ≡ read.graph_operation ts
+  by_graph_operation (Some terminal.Insert) ts h = absurd (cc)
+  by_graph_operation (Some terminal.Delete) ts h = absurd (cc)
+  by_graph_operation (Some terminal.With) ts h = absurd (cc)
+  by_graph_operation _ ts h = refl
 
   abbrev read_by : Option Terminal → Reading Operation
   read_by = read.operation_by template inner group
@@ -199,7 +199,7 @@ module _ (template inner : Reading (List Triples)) (group : Reading Group) (Temp
       at (Some name) d = ap (λ l. read_by l ts) (with_terminal ts name h.reads.mid d)
 
   operation_complete : (ts : Lexemes) (x : Operation) (us : Lexemes) → g.Update1 Template Inner Group' ts x us → read_by (next_terminal ts) ts ≡ Some (x, us)
-  operation_complete ts x us (inl h) = by_management (next_terminal ts) ts (management_begins ts x us h) ∙ management_decides.complete ts x us h refl
+  operation_complete ts x us (inl h) = by_graph_operation (next_terminal ts) ts (graph_operation_begins ts x us h) ∙ graph_operation_decides.complete ts x us h refl
   operation_complete ts x us (inr (inl h)) =
       by_insertion ts (Some terminal.Data) (the_terminal terminal.Insert ts h.mid h.first h.reads)
       (second_is terminal.Insert ts h.first h.mid h.reads ∙ the_terminal terminal.Data h.mid h.goes.mid h.goes.first h.goes.reads)
@@ -224,7 +224,7 @@ module _ (template inner : Reading (List Triples)) (group : Reading Group) (Temp
       omega (arith, ap length h.reads.2, ap length second.reads.2, ap length blocks.goes.1)
 
   pub operation_strict : (ts : Lexemes) (x : Operation) (us : Lexemes) → g.Update1 Template Inner Group' ts x us → length us < length ts
-  operation_strict ts x us (inl h) = management_strict ts x us h
+  operation_strict ts x us (inl h) = graph_operation_strict ts x us h
   operation_strict ts x us (inr (inl h)) = two_words terminal.Insert terminal.Data o.InsertData ts x us h
   operation_strict ts x us (inr (inr (inl h))) = two_words terminal.Delete terminal.Data o.DeleteData ts x us h
   operation_strict ts x us (inr (inr (inr (inl h)))) = two_words terminal.Delete terminal.Where o.DeleteWhere ts x us h
@@ -242,10 +242,10 @@ module _ (template inner : Reading (List Triples)) (group : Reading Group) (Temp
   templates_declare (Some terminal.Delete) h = refl
   templates_declare _ h = absurd (cc)
 
-  management_declares : (k : Option Terminal) → begins_management k ≡ true → begins_declaration k ≡ false
-  management_declares (Some terminal.Prefix) h = absurd (cc)
-  management_declares (Some terminal.Base) h = absurd (cc)
-  management_declares _ h = refl
+  graph_operation_declares : (k : Option Terminal) → begins_graph_operation k ≡ true → begins_declaration k ≡ false
+  graph_operation_declares (Some terminal.Prefix) h = absurd (cc)
+  graph_operation_declares (Some terminal.Base) h = absurd (cc)
+  graph_operation_declares _ h = refl
 
   modify_declares : (ts : Lexemes) (x : Modify) (us : Lexemes) → g.AModify Template Inner Group' ts x us → begins_declaration (next_terminal ts) ≡ false
   modify_declares ts x us h = at h.first h.reads
@@ -255,7 +255,7 @@ module _ (template inner : Reading (List Triples)) (group : Reading Group) (Temp
       at (Some name) d = rw (with_terminal ts name h.mid d) refl
 
   pub operation_begins : (ts : Lexemes) (x : Operation) (us : Lexemes) → g.Update1 Template Inner Group' ts x us → begins_declaration (next_terminal ts) ≡ false
-  operation_begins ts x us (inl h) = management_declares (next_terminal ts) (management_begins ts x us h)
+  operation_begins ts x us (inl h) = graph_operation_declares (next_terminal ts) (graph_operation_begins ts x us h)
   operation_begins ts x us (inr (inl h)) = rw (the_terminal terminal.Insert ts h.mid h.first h.reads) refl
   operation_begins ts x us (inr (inr (inl h))) = rw (the_terminal terminal.Delete ts h.mid h.first h.reads) refl
   operation_begins ts x us (inr (inr (inr (inl h)))) = rw (the_terminal terminal.Delete ts h.mid h.first h.reads) refl

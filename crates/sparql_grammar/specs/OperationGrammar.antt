@@ -86,8 +86,8 @@ abbrev pub Copy : Derives Operation
 Copy = the terminal.Copy >> between_by o.Copy <$> Between
 
 -- those of rule 30 that act on whole graphs
-abbrev pub Management : Derives Operation
-Management = Clear ∣ Drop ∣ Add ∣ Move ∣ Copy ∣ Create
+abbrev pub GraphOperation : Derives Operation
+GraphOperation = Clear ∣ Drop ∣ Add ∣ Move ∣ Copy ∣ Create
 
 -- ---- data and templates
 
@@ -186,7 +186,7 @@ module _ (template inner : Derives (List Triples)) (Group' : Derives Group) wher
   -- 30: Update1 = Load | Clear | Drop | Add | Move | Copy | Create | InsertData | DeleteData | DeleteWhere | Modify; LOAD is left out
   abbrev pub Update1 : Derives Operation
   Update1 =
-      Management ∣ DataOf template inner terminal.Insert o.InsertData ∣ DataOf template inner terminal.Delete o.DeleteData
+      GraphOperation ∣ DataOf template inner terminal.Insert o.InsertData ∣ DataOf template inner terminal.Delete o.DeleteData
       ∣ DeleteWhere template inner ∣ (o.Modify <$> AModify)
 
 -- 29: Update = Prologue ( Update1 ( ";" Update )? )?

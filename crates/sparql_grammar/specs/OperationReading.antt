@@ -93,17 +93,17 @@ between = do
   pure (silent, from, to)
 
 -- Create | Clear | Drop | Copy | Move | Add
-abbrev pub management_by : Option Terminal → Reading Operation
-management_by (Some terminal.Create) = any >> create
-management_by (Some terminal.Clear) = any >> on_graphs_by o.Clear <$> on_graphs
-management_by (Some terminal.Drop) = any >> on_graphs_by o.Drop <$> on_graphs
-management_by (Some terminal.Copy) = any >> between_by o.Copy <$> between
-management_by (Some terminal.Move) = any >> between_by o.Move <$> between
-management_by (Some terminal.Add) = any >> between_by o.Add <$> between
-management_by _ = none
+abbrev pub graph_operation_by : Option Terminal → Reading Operation
+graph_operation_by (Some terminal.Create) = any >> create
+graph_operation_by (Some terminal.Clear) = any >> on_graphs_by o.Clear <$> on_graphs
+graph_operation_by (Some terminal.Drop) = any >> on_graphs_by o.Drop <$> on_graphs
+graph_operation_by (Some terminal.Copy) = any >> between_by o.Copy <$> between
+graph_operation_by (Some terminal.Move) = any >> between_by o.Move <$> between
+graph_operation_by (Some terminal.Add) = any >> between_by o.Add <$> between
+graph_operation_by _ = none
 
-unfoldable pub management : Reading Operation
-management = peek >>= management_by
+unfoldable pub graph_operation : Reading Operation
+graph_operation = peek >>= graph_operation_by
 
 -- ---- data and templates
 
@@ -214,7 +214,7 @@ module _ (template inner : Reading (List Triples)) (group : Reading Group) where
   operation_by (Some terminal.Insert) = λ ts. insertion_by (second_terminal ts) ts
   operation_by (Some terminal.Delete) = λ ts. deletion_by (second_terminal ts) ts
   operation_by (Some terminal.With) = o.Modify <$> modify
-  operation_by _ = management
+  operation_by _ = graph_operation
 
   unfoldable pub operation : Reading Operation
   operation = peek >>= operation_by

@@ -101,9 +101,9 @@ fn between<'a>(
 }
 
 // An operation on whole graphs.
-#[tactic(auto, unfolding(crate::specs::OperationReading::management, rdf_grammar::specs::Readings::any))]
-fn management<'a>(parser: &mut Parser<'_, 'a>) -> Result<Operation<'a>, GrammarFault>
-    ensures reads { Reads (spec.management parser.old) result parser.new }
+#[tactic(auto, unfolding(crate::specs::OperationReading::graph_operation, rdf_grammar::specs::Readings::any))]
+fn graph_operation<'a>(parser: &mut Parser<'_, 'a>) -> Result<Operation<'a>, GrammarFault>
+    ensures reads { Reads (spec.graph_operation parser.old) result parser.new }
     ensures shorter { OnOk result (length parser.new < length parser.old) }
 {
     match parser.peek() {
@@ -310,7 +310,7 @@ fn operation<'a>(parser: &mut Parser<'_, 'a>) -> Result<Operation<'a>, GrammarFa
             _ => Ok(Operation::Modify(modify(parser)?)),
         },
         Some(Terminal::With) => Ok(Operation::Modify(modify(parser)?)),
-        _ => management(parser),
+        _ => graph_operation(parser),
     }
 }
 
