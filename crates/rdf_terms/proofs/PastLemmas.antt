@@ -1,16 +1,17 @@
 -- Over the characters that stand for themselves, found by their bytes.
-use Rattle.std.proofs.Common.{◌≡◌, ◌<◌, ◌≤◌, ◌||◌, ◌∙◌, ap, refl, sym, inl, inr, arith, ℕ, zero, suc, Bool, true, false, eqb, List, [], ◌∷◌, ◌++◌, length, take, drop, get_or, Option, Some, None, length-append, take-append-drop}
+use Rattle.std.proofs.Common.{◌≡◌, ◌<◌, ◌≤◌, ◌||◌, ◌∙◌, ap, refl, sym, subst, inl, inr, arith, ℕ, zero, suc, Bool, true, false, eqb, List, [], ◌∷◌, ◌++◌, length, take, drop, get_or, Option, Some, None, length-append, take-append-drop}
 use Rattle.std.proofs.lemmas.Bool.{cases_Bool, cases_lt, or_from, or_parts, eqb-true, or_cases, cond-true, lt-ltb}
 use Rattle.std.proofs.lemmas.List.{append-nil, take_all}
 use Rattle.std.proofs.lemmas.List.Folds.{list_any-append}
 use Rattle.std.proofs.lemmas.List.Quantifiers.{position-Some}
 use Rattle.std.proofs.lemmas.List.Sums.{fails_before_first}
-use Rattle.std.proofs.lemmas.Str.{IsCharBoundary-before_ascii, IsUtf8-take, chars-append, chars-nil, encodes-chars, encode_ascii}
+use Rattle.std.proofs.lemmas.Str.{IsCharBoundary-before_ascii, IsUtf8-take, IsUtf8-from_ascii, chars-IsAscii, chars-append, chars-nil, encodes-chars, encode_ascii}
+use Rattle.std.proofs.Math.Seq.{drop-cons}
 use Rattle.std.specs.Char.{encode_utf8}
 use Rattle.std.specs.List.{list_any, position, position_or_len}
-use Rattle.std.specs.Str.{chars, encode_utf8_all, IsCharBoundary, IsUtf8}
+use Rattle.std.specs.Str.{chars, encode_utf8_all, IsAscii, IsCharBoundary, IsUtf8}
 use Rattle.rdf_terms.specs.Reading.{LeadsTo}
-use Rattle.rdf_terms.specs.Runs.{IsPast, ends_run}
+use Rattle.rdf_terms.specs.Runs.{IsPast, IsStopped, ends_run}
 use Rattle.rdf_terms.proofs.OptionLemmas.{none_is}
 use Rattle.rdf_terms.proofs.RunLemmas.{IsOne, one_shorter}
 
@@ -76,6 +77,26 @@ past_none stops low bs now utf8 is e = (
   sym (ap (λ (t : List ℕ). now ++ t) chars-nil ∙ append-nil now),
   ap (list_any stops) (sym is) ∙ chars_lack stops low bs utf8 (whole_lacks stops bs e),
 )
+
+-- ---- and there one stands that passes, or nothing
+
+one_ascii : (b : ℕ) → b < 128 → IsAscii (b ∷ [])
+one_ascii b h zero = h
+one_ascii b h (suc i) = (let z : 0 < 128 = omega arith in z)
+
+stopped_at : (stops : ℕ → Bool) → IsLow stops → (b : ℕ) (bs : List ℕ) → stops b ≡ true → IsStopped stops (chars (b ∷ bs))
+stopped_at stops low b bs h =
+    let ascii = one_ascii b (low b h) in
+    let first : chars (b ∷ bs) ≡ b ∷ chars bs = chars-append (b ∷ []) bs (IsUtf8-from_ascii (b ∷ []) ascii) ∙ ap (λ (t : List ℕ). t ++ chars bs) (chars-IsAscii (b ∷ []) ascii) in
+    subst (IsStopped stops) (sym first) h
+
+pub stops_some : (stops : ℕ → Bool) → IsLow stops → (bs : List ℕ) (n : ℕ) → position stops bs ≡ Some n → IsStopped stops (chars (drop n bs))
+stops_some stops low bs n e =
+    let p = position-Some stops bs n 0 e in
+    subst (λ (t : List ℕ). IsStopped stops (chars t)) (sym (drop-cons bs n 0 p.0)) (stopped_at stops low (get_or bs n 0) (drop (suc n) bs) p.1)
+
+pub stops_none : (stops : ℕ → Bool) → IsStopped stops (chars [])
+stops_none stops = subst (IsStopped stops) (sym chars-nil) tt
 
 -- what ends a run in a string is ASCII, where its quote is
 pub ends_low : (quote : ℕ) → quote < 128 → IsLow (ends_run quote)

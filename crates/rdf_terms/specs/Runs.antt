@@ -1,10 +1,15 @@
 -- Runs of characters and of bytes that stand for themselves.
-use Rattle.std.specs.Prelude.{◌≡◌, ℕ, Bool, false, ◌==◌, ◌||◌, List, ◌++◌}
+use Rattle.std.specs.Prelude.{◌≡◌, ℕ, Bool, true, false, ◌==◌, ◌||◌, List, [], ◌∷◌, ◌++◌}
 use Rattle.std.specs.List.{list_any}
 
 -- the second place is reached from the first over characters none of which passes a test
 abbrev pub IsPast : (ℕ → Bool) → List ℕ → List ℕ → Type 0
 IsPast stops from to = (over : List ℕ) × (from ≡ over ++ to) × (list_any stops over ≡ false)
+
+-- a character that passes the test stands there, or none
+abbrev pub IsStopped : (ℕ → Bool) → List ℕ → Type 0
+IsStopped stops [] = Unit {0}
+IsStopped stops (c ∷ cs) = stops c ≡ true
 
 -- what doesn't stand for itself in a string between such quotes: the backslash, the quote, LF and CR (Turtle 1.1, section 6.5)
 abbrev pub ends_run : ℕ → ℕ → Bool

@@ -1,9 +1,9 @@
 //! A place in a text, seen as the list of the characters that follow it.
-ghost use Rattle.std.specs.Prelude.{◌≡◌, ℕ, List, [], ◌∷◌, MatchOption, MatchBool};
+ghost use Rattle.std.specs.Prelude.{◌≡◌, ◌<◌, ℕ, List, [], ◌∷◌, MatchOption, MatchBool};
 ghost use Rattle.std.specs.Str.{chars, encode_utf8_all};
 ghost use Rattle.rdf_terms.specs.Iri.{is_forbidden};
 ghost use Rattle.rdf_terms.specs.Reading.{LeadsTo, between, byte_count, expect};
-ghost use Rattle.rdf_terms.specs.Runs.{IsPast, ends_run};
+ghost use Rattle.rdf_terms.specs.Runs.{IsPast, IsStopped, ends_run};
 
 use crate::runs::{iri_stop, string_stop};
 use std::marker::Model;
@@ -81,7 +81,8 @@ impl<'a> Cursor<'a> {
 
     /// The place behind the characters that stand for themselves in an IRI, which begin here.
     pub(crate) fn past_iri_run(&self) -> Cursor<'a>
-        ensures { IsPast is_forbidden self.now result }
+        ensures over { IsPast is_forbidden self.now result }
+        ensures up_to { IsStopped is_forbidden result }
     {
         match iri_stop(self.rest.as_bytes()) {
             Some(stop) => Cursor {
@@ -94,7 +95,8 @@ impl<'a> Cursor<'a> {
     /// The place behind characters that stand for themselves in a string between such quotes, which
     /// begin here: all of them where the quote is ASCII.
     pub(crate) fn past_string_run(&self, quote: char) -> Cursor<'a>
-        ensures { IsPast (ends_run quote) self.now result }
+        ensures over { IsPast (ends_run quote) self.now result }
+        ensures up_to { quote < 128 → IsStopped (ends_run quote) result }
     {
         if !quote.is_ascii() {
             return self.fork();

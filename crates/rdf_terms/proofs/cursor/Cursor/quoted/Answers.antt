@@ -11,14 +11,14 @@ unfolding quoted_at
 returns-in_default c = rw (sym c.in_default.ensures) refl
 
 pub text_up_to-requires : goal.text_up_to-requires
-text_up_to-requires c = leads_past (ends_run c.args.quote) c.loop-text.rest c.past_string_run-stop.result c.past_string_run-stop.ensures
+text_up_to-requires c = leads_past (ends_run c.args.quote) c.loop-text.rest c.past_string_run-stop.result c.past_string_run-stop.ensures.over
 
 pub returns-in-Some-expect : goal.returns-in-Some-expect
 unfolding quoted_at quoted_body_at
 returns-in-Some-expect c =
     let past : RunsTo (string_character_at c.args.quote) c.args.quote (string_bytes c.push_str.new.self) c.past_string_run-stop.result (quoted_body_at c.args.quote c.in-Some.rest) =
     rw (c.in_ok-push_str.ensures.bytes, c.text_up_to.ensures)
-    (goes_past (string_character_at c.args.quote) c.args.quote (string_one c.args.quote (λ e. c.requires (sym e))) (ends_run c.args.quote) (string_character-run c.args.quote) (string_bytes c.loop-text.text) c.loop-text.rest c.past_string_run-stop.result _ c.past_string_run-stop.ensures c.loop-text.invariant) in
+    (goes_past (string_character_at c.args.quote) c.args.quote (string_one c.args.quote (λ e. c.requires (sym e))) (ends_run c.args.quote) (string_character-run c.args.quote) (string_bytes c.loop-text.text) c.loop-text.rest c.past_string_run-stop.result _ c.past_string_run-stop.ensures.over c.loop-text.invariant) in
     rw (c.in_ok-from_string.ensures, sym c.in-Some.ensures)
     (is_done (string_character_at c.args.quote) c.args.quote (string_bytes c.push_str.new.self) c.past_string_run-stop.result c.in-Some-expect.behind (quoted_body_at c.args.quote c.in-Some.rest) (sym c.in-Some-expect.ensures) past)
 
@@ -27,19 +27,19 @@ unfolding quoted_at quoted_body_at
 returns-in_default-string_character c =
     let past : RunsTo (string_character_at c.args.quote) c.args.quote (string_bytes c.push_str.new.self) c.past_string_run-stop.result (quoted_body_at c.args.quote c.in-Some.rest) =
     rw (c.in_ok-push_str.ensures.bytes, c.text_up_to.ensures)
-    (goes_past (string_character_at c.args.quote) c.args.quote (string_one c.args.quote (λ e. c.requires (sym e))) (ends_run c.args.quote) (string_character-run c.args.quote) (string_bytes c.loop-text.text) c.loop-text.rest c.past_string_run-stop.result _ c.past_string_run-stop.ensures c.loop-text.invariant) in
+    (goes_past (string_character_at c.args.quote) c.args.quote (string_one c.args.quote (λ e. c.requires (sym e))) (ends_run c.args.quote) (string_character-run c.args.quote) (string_bytes c.loop-text.text) c.loop-text.rest c.past_string_run-stop.result _ c.past_string_run-stop.ensures.over c.loop-text.invariant) in
     rw (sym c.in-Some.ensures)
     (fails (string_character_at c.args.quote) c.args.quote (string_bytes c.push_str.new.self) c.past_string_run-stop.result (quoted_body_at c.args.quote c.in-Some.rest) (sym c.in_default-string_character.ensures) (sym c.in_default-expect.ensures) past)
 
 pub loop-text-smaller : goal.loop-text-smaller
 loop-text-smaller c =
-    one_behind (string_character_at c.args.quote) c.args.quote (string_one c.args.quote (λ e. c.requires (sym e))) (ends_run c.args.quote) c.loop-text.rest c.past_string_run-stop.result c.in-Some-string_character.c c.in-Some-string_character.behind c.past_string_run-stop.ensures (sym c.in-Some-string_character.ensures)
+    one_behind (string_character_at c.args.quote) c.args.quote (string_one c.args.quote (λ e. c.requires (sym e))) (ends_run c.args.quote) c.loop-text.rest c.past_string_run-stop.result c.in-Some-string_character.c c.in-Some-string_character.behind c.past_string_run-stop.ensures.over (sym c.in-Some-string_character.ensures)
 
 pub loop-text-preserved : goal.loop-text-preserved
 unfolding quoted_body_at
 loop-text-preserved c =
     let past : RunsTo (string_character_at c.args.quote) c.args.quote (string_bytes c.push_str.new.self) c.past_string_run-stop.result (quoted_body_at c.args.quote c.in-Some.rest) =
     rw (c.in_ok-push_str.ensures.bytes, c.text_up_to.ensures)
-    (goes_past (string_character_at c.args.quote) c.args.quote (string_one c.args.quote (λ e. c.requires (sym e))) (ends_run c.args.quote) (string_character-run c.args.quote) (string_bytes c.loop-text.text) c.loop-text.rest c.past_string_run-stop.result _ c.past_string_run-stop.ensures c.loop-text.invariant) in
+    (goes_past (string_character_at c.args.quote) c.args.quote (string_one c.args.quote (λ e. c.requires (sym e))) (ends_run c.args.quote) (string_character-run c.args.quote) (string_bytes c.loop-text.text) c.loop-text.rest c.past_string_run-stop.result _ c.past_string_run-stop.ensures.over c.loop-text.invariant) in
     rw c.in_ok-push.ensures.bytes
     (goes_on (string_character_at c.args.quote) c.args.quote (string_one c.args.quote (λ e. c.requires (sym e))) (string_bytes c.push_str.new.self) c.past_string_run-stop.result c.in-Some-string_character.c c.in-Some-string_character.behind _ (sym c.in-Some-string_character.ensures) past)
