@@ -1,5 +1,5 @@
 -- Each text says something: it is a document, or it has a fault.
-use Rattle.std.proofs.Common.{◌≡◌, ◌⊎◌, inl, inr, ◌<◌, ℕ, List, [], ◌∷◌, Option, Some, None, Result, Ok, Err, refl, sym, subst, ◌∙◌, true≢false}
+use Rattle.std.proofs.Common.{length, ◌≡◌, ◌⊎◌, inl, inr, ◌<◌, ℕ, List, [], ◌∷◌, Option, Some, None, Result, Ok, Err, refl, sym, subst, ◌∙◌, true≢false}
 use Rattle.std.proofs.lemmas.Bool.{cases_Bool}
 use Rattle.std.proofs.lemmas.Str.{IsUtf8-from_is_utf8, is_utf8-from_IsUtf8}
 use Rattle.std.specs.Str.{chars, IsUtf8, is_utf8}
@@ -40,12 +40,12 @@ more_left ss us l ls e = let none : l ∷ ls ≡ [] = (some_pair ss us (l ∷ ls
 by_tree : (base : Option (List ℕ)) (text : List ℕ) (tokens : List Token) (lexemes : Lexemes) → HasTokens text tokens lexemes → ¬ (IsTooDeep lexemes) → (o : Outcome (List Statement)) → document 100 lexemes ≡ o
     → Meant base text
 by_tree base text tokens lexemes h shallow None e =
-    inr (record { line = 0; kind = fault.Syntax }, (tokens, lexemes, h, shallow, stop_explained lexemes refused.Syntax 0 shallow e))
+    inr (record { line = line_of text (length text); kind = fault.Syntax }, (tokens, lexemes, h, shallow, stop_explained lexemes refused.Syntax 0 shallow e, (length text, inr refl, refl)))
 by_tree base text tokens lexemes h shallow (Some (tree, [])) e =
     let found : HasTree text tree = record { tokens = tokens; lexemes = lexemes; list = h; shallow = shallow; reads = document_found lexemes tree e } in
     by_answer base text tree found (answer base tree) refl
 by_tree base text tokens lexemes h shallow (Some (tree, l ∷ ls)) e =
-    inr (record { line = 0; kind = fault.Syntax }, (tokens, lexemes, h, shallow, λ other is. more_left tree other l ls (sym e ∙ document_read lexemes other shallow is)))
+    inr (record { line = line_of text (length text); kind = fault.Syntax }, (tokens, lexemes, h, shallow, (λ other is. more_left tree other l ls (sym e ∙ document_read lexemes other shallow is)), (length text, inr refl, refl)))
 
 by_lexemes : (base : Option (List ℕ)) (text : List ℕ) (tokens : List Token) (lexemes : Lexemes) → HasTokens text tokens lexemes → Meant base text
 by_lexemes base text tokens lexemes h = elim (shallow_or_deep bracket lexemes) [

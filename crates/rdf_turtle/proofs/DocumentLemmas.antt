@@ -1,5 +1,5 @@
 -- A text says one thing: the quads of a document, or a fault.
-use Rattle.std.proofs.Common.{◌≡◌, ◌≢◌, cond, ok_or, ◌<◌, ◌⊎◌, inl, inr, ℕ, Bool, true, false, List, Option, Some, None, Result, Ok, Err, refl, sym, ap, subst, ◌∙◌}
+use Rattle.std.proofs.Common.{length, ◌≡◌, ◌≢◌, cond, ok_or, ◌<◌, ◌⊎◌, inl, inr, ℕ, Bool, true, false, List, Option, Some, None, Result, Ok, Err, refl, sym, ap, subst, ◌∙◌}
 use Rattle.std.specs.List.{slice_get}
 use Rattle.std.specs.Str.{chars}
 use Rattle.rdf_terms.specs.declared.quad.Quad.{Quad}
@@ -11,7 +11,7 @@ use Rattle.rdf_tokens.specs.declared.token.Token.{Token}
 use Rattle.rdf_grammar.specs.declared.prologue.PrologueFault.{PrologueFault}
 use Rattle.rdf_grammar.specs.declared.prologue.PrologueFault.TheVariants as names
 use Rattle.rdf_turtle.specs.declared.tree.Statement.{Statement}
-use Rattle.rdf_turtle.specs.Document.{HasTokens, HasTree, IsDocument, FaultIs, IsFaulty, TellsFault}
+use Rattle.rdf_turtle.specs.Document.{HasTokens, HasTree, IsDocument, IsPlace, FaultIs, IsFaulty, TellsFault}
 use Rattle.rdf_turtle.specs.DocumentLaws.{has_free_line, OneDocument, NeverBoth, OneFault}
 use Rattle.rdf_turtle.specs.Grammar as grammar
 use Rattle.rdf_turtle.specs.Terminals.{terminal_by, bracket}
@@ -192,19 +192,27 @@ fault_tells base text f k e h =
 not_deep : ◌≡◌ {A = TurtleFaultKind} fault.Syntax fault.TooDeep → ⊥
 not_deep e = cc
 
+-- where a token of this number begins, or the end
+is_place : (text : List ℕ) (ts : List Token) (place start : ℕ) → ((token : Token) → slice_get ts place ≡ Some token → start ≡ token.start) → (slice_get ts place ≡ None → start ≡ length text) → IsPlace text ts start
+is_place text ts place start at end = by (slice_get ts place) refl
+  where
+    by : (o : Option Token) → slice_get ts place ≡ o → IsPlace text ts start
+    by (Some token) e = inl (place, token, e, at token e)
+    by None e = inr (end e)
+
 -- the parser's fault is the text's
 stop_is : (base : Option (List ℕ)) (text : List ℕ) (ts : List Token) (ls : List Lexeme) (k : TurtleFaultKind) (place start line : ℕ) → HasTokens text ts ls
     → (IsTooDeep ls → k ≡ fault.TooDeep) → Explains ls k place → ((token : Token) → slice_get ts place ≡ Some token → start ≡ token.start)
-    → k ≢ no_memory → line ≡ line_of text start → FaultIs base text k line
-stop_is base text ts ls fault.TooDeep place start line h deep why at some l =
+    → (slice_get ts place ≡ None → start ≡ length text) → k ≢ no_memory → line ≡ line_of text start → FaultIs base text k line
+stop_is base text ts ls fault.TooDeep place start line h deep why at end some l =
     let found = got ts place (subst (λ (n : ℕ). place < n) (same_lengths terminal_by (chars text) ts ls h.pieces) why.within) in
     (ts, ls, found.0, place, h, why, found.1, l ∙ ap (line_of text) (at found.0 found.1))
-stop_is base text ts ls fault.Syntax place start line h deep why at some l = (ts, ls, h, λ d. not_deep (deep d), why)
-stop_is base text ts ls (fault.NoMemory _) place start line h deep why at some l = absurd (some refl)
-stop_is base text ts ls fault.NotUtf8 place start line h deep why at some l = absurd why
-stop_is base text ts ls fault.Token place start line h deep why at some l = absurd why
-stop_is base text ts ls fault.UnknownPrefix place start line h deep why at some l = absurd why
-stop_is base text ts ls fault.Relative place start line h deep why at some l = absurd why
+stop_is base text ts ls fault.Syntax place start line h deep why at end some l = (ts, ls, h, (λ d. not_deep (deep d)), why, (start, is_place text ts place start at end, l))
+stop_is base text ts ls (fault.NoMemory _) place start line h deep why at end some l = absurd (some refl)
+stop_is base text ts ls fault.NotUtf8 place start line h deep why at end some l = absurd why
+stop_is base text ts ls fault.Token place start line h deep why at end some l = absurd why
+stop_is base text ts ls fault.UnknownPrefix place start line h deep why at end some l = absurd why
+stop_is base text ts ls fault.Relative place start line h deep why at end some l = absurd why
 
 same_or_not : (k : TurtleFaultKind) → (k ≡ no_memory) ⊎ (k ≢ no_memory)
 same_or_not (fault.NoMemory _) = inl refl
@@ -217,10 +225,10 @@ same_or_not fault.Relative = inr (λ e. cc)
 
 pub stop_tells : (base : Option (List ℕ)) (text : List ℕ) (ts : List Token) (ls : List Lexeme) (k : TurtleFaultKind) (place start : ℕ) (f : TurtleFault) → HasTokens text ts ls
     → (IsTooDeep ls → k ≡ fault.TooDeep) → Explains ls k place → ((token : Token) → slice_get ts place ≡ Some token → start ≡ token.start)
-    → f.kind ≡ k → (k ≢ no_memory → f.line ≡ line_of text start) → (k ≡ no_memory → f.line ≡ 0) → TellsFault base text f f.kind
-stop_tells base text ts ls k place start f h deep why at e l none = elim (same_or_not k) [
+    → (slice_get ts place ≡ None → start ≡ length text) → f.kind ≡ k → (k ≢ no_memory → f.line ≡ line_of text start) → (k ≡ no_memory → f.line ≡ 0) → TellsFault base text f f.kind
+stop_tells base text ts ls k place start f h deep why at end e l none = elim (same_or_not k) [
   | inl m ↦ memory_tells base text f (e ∙ m) (none m)
-  | inr n ↦ fault_tells base text f k e (stop_is base text ts ls k place start f.line h deep why at n (l n))
+  | inr n ↦ fault_tells base text f k e (stop_is base text ts ls k place start f.line h deep why at end n (l n))
 ]
 
 -- the fault of the triples is the text's

@@ -1,5 +1,5 @@
 -- What the bytes of a text say as Turtle (Turtle 1.1, sections 6 and 7): the quads of a document, or a fault.
-use Rattle.std.specs.Prelude.{◌≡◌, ℕ, List, Option, Some, Ok, Err}
+use Rattle.std.specs.Prelude.{◌≡◌, ◌⊎◌, ℕ, List, length, Option, Some, Ok, Err}
 use Rattle.std.specs.Str.{chars, IsUtf8, IsValidUpTo}
 use Rattle.std.specs.List.{slice_get}
 use Rattle.rdf_terms.specs.declared.quad.Quad.{Quad}
@@ -33,6 +33,10 @@ pub record HasTree (text : List ℕ) (tree : List Statement) : Type 0 where
 abbrev pub IsDocument : Option (List ℕ) → List ℕ → List Quad → Type 0
 IsDocument base text quads = (tree : List Statement) × HasTree text tree × (answer base tree ≡ Ok quads)
 
+-- where one of the tokens begins, or the end of the text
+abbrev pub IsPlace : List ℕ → List Token → ℕ → Type 0
+IsPlace text tokens place = ((number : ℕ) × (token : Token) × (slice_get tokens number ≡ Some token) × (place ≡ token.start)) ⊎ (place ≡ length text)
+
 -- Why a text is no document, and the line of the place that shows it. The first reason that applies is the fault, and of one
 -- reason the first place.
 abbrev pub FaultIs : Option (List ℕ) → List ℕ → TurtleFaultKind → ℕ → Type 0
@@ -44,10 +48,11 @@ FaultIs base text fault.Token line = IsUtf8 text × ((place : ℕ) × Says (char
 FaultIs base text fault.TooDeep line =
     (tokens : List Token) × (lexemes : List Lexeme) × (opener : Token) × (place : ℕ) × HasTokens text tokens lexemes
     × IsTooDeepAt lexemes place × (slice_get tokens place ≡ Some opener) × (line ≡ line_of text opener.start)
--- the tokens are no document of the grammar
+-- the tokens are no document of the grammar; the line is that of one of them, or of the end
 FaultIs base text fault.Syntax line =
     (tokens : List Token) × (lexemes : List Lexeme) × HasTokens text tokens lexemes × ¬ (IsTooDeep lexemes)
     × ((tree : List Statement) → ¬ (grammar.IsDocument lexemes tree))
+    × ((place : ℕ) × IsPlace text tokens place × (line ≡ line_of text place))
 -- a prefix is used before it is declared
 FaultIs base text fault.UnknownPrefix line = (tree : List Statement) × HasTree text tree × (answer base tree ≡ Err fault.UnknownPrefix)
 -- a reference without a base

@@ -1,4 +1,4 @@
-use Rattle.std.proofs.Common.{rules, ◌≡◌, ◌≢◌, Some, Ok, slice_get}
+use Rattle.std.proofs.Common.{rules, length, ◌≡◌, ◌≢◌, None, Some, Ok, slice_get}
 use Rattle.std.specs.Str.{chars}
 use Rattle.rdf_turtle.specs.declared.fault.TurtleFaultKind.TheVariants as fault
 use Rattle.rdf_tokens.specs.declared.token.Token.{Token as Held}
@@ -21,11 +21,12 @@ returns-in-Err-parse_document c base =
     let deep : IsTooDeep c.in-Ok.lexemes → c.in-Err-parse_document.kind ≡ fault.TooDeep = search rules in
     let why : Explains c.in-Ok.lexemes c.in-Err-parse_document.kind c.in-Err-parse_document.place = search rules in
     let at : (token : Held) → slice_get c.in_ok-tokens.tokens.items c.in-Err-parse_document.place ≡ Some token → c.start_of-start.result ≡ token.start = search rules in
+    let end : slice_get c.in_ok-tokens.tokens.items c.in-Err-parse_document.place ≡ None → c.start_of-start.result ≡ length c.args.text.now = search rules in
     let kind : c.fault_at-in-Err-parse_document.result.kind ≡ c.in-Err-parse_document.kind = search rules in
     let line : c.in-Err-parse_document.kind ≢ no_memory → c.fault_at-in-Err-parse_document.result.line ≡ line_of c.args.text.now c.start_of-start.result = search rules in
     let none : c.in-Err-parse_document.kind ≡ no_memory → c.fault_at-in-Err-parse_document.result.line ≡ 0 = search rules in
     stop_tells base c.args.text.now c.in_ok-tokens.tokens.items c.in-Ok.lexemes c.in-Err-parse_document.kind c.in-Err-parse_document.place c.start_of-start.result c.fault_at-in-Err-parse_document.result
-    held deep why at kind line none
+    held deep why at end kind line none
 
 pub returns : goal.returns
 returns c =
