@@ -1,5 +1,5 @@
--- The leaves of a tree are lexemes, and its subjects are no literals.
-use Rattle.std.proofs.Common.{◌≡◌, ℕ, zero, suc, List, [], ◌∷◌, ◌++◌, map, Option, Some, None, refl, sym, ◌∙◌, ap, inl, inr, append_assoc, true, false}
+-- The leaves of a tree are the lexemes that carry content, in order, and its subjects are no literals.
+use Rattle.std.proofs.Common.{◌≡◌, ℕ, zero, suc, Bool, List, [], ◌∷◌, ◌++◌, map, Option, Some, None, refl, sym, subst, ◌∙◌, ap, inl, inr, append_assoc, append-nil, true, false}
 use Rattle.std.specs.Prelude.{option_to_list}
 use Rattle.std.specs.List.{AllByRecursion}
 use Rattle.rdf_turtle.specs.declared.terminal.Terminal.{Terminal}
@@ -18,7 +18,7 @@ use Rattle.rdf_turtle.specs.declared.tree.Node.TheFolds.{fold-roll-Node, fold-ro
 use Rattle.rdf_turtle.specs.declared.tree.Property.{Property}
 use Rattle.rdf_turtle.specs.declared.tree.Statement.{Statement}
 use Rattle.rdf_turtle.specs.declared.tree.Statement.TheVariants as s
-use Rattle.rdf_tokens.specs.Values.{local_part}
+use Rattle.rdf_tokens.specs.Values.{prefix_part, local_part}
 use Rattle.rdf_grammar.specs.Terminals.{Piece}
 use Rattle.rdf_grammar.specs.Derivations as grammar
 use Rattle.rdf_grammar.specs.Derivations.{Then, Star, stop, more}
@@ -28,31 +28,163 @@ use Rattle.rdf_grammar.specs.Productions as productions
 use Rattle.rdf_grammar.specs.declared.word.Word.{Word}
 use Rattle.rdf_grammar.specs.declared.word.Word.TheVariants as w
 use Rattle.rdf_turtle.proofs.GrammarWords.{IsJust, Tag, is_iri, is_pname, is_text, is_caret, is_integer, is_decimal, is_double, is_true, is_false, value_is, behind_is, tag_is}
-use Rattle.rdf_turtle.specs.Leaves.{Leaf, leaf, leaf_by, Stands, AllStand, joined, name_leaves, verb_leaves, literal_leaves, node_leaves_of, property_leaves_of, node_leaves, property_leaves, statement_leaves, document_leaves, IsSubject, HasSubject}
+use Rattle.rdf_turtle.specs.Leaves.{Leaf, leaf, content, takes_tag, contents, joined, name_leaves, verb_leaves, literal_leaves, node_leaves_of, property_leaves_of, node_leaves, property_leaves, statement_leaves, document_leaves, IsSubject, HasSubject}
 
--- these lexemes are the last of all
-pub record Within (all ts : Lexemes) : Type 0 where
-  pub front : Lexemes
-  pub is : all ≡ front ++ ts
+-- ---- what lexemes carry
 
--- what is derived there is good, and leaves lexemes that are the last of all
-Gives : {A : Type 0} → Lexemes → Derives A → (A → Type 0) → Type 0
-Gives {A} all P Good = (ts : Lexemes) (x : A) (us : Lexemes) → P ts x us → Within all ts → Good x × Within all us
+-- whether the last lexeme is a text; without one, whether one stands before
+abbrev last : Bool → Lexemes → Bool
+last b [] = b
+last b (t ∷ ts) = last (takes_tag t.terminal) ts
 
-within_next : (all ts us : Lexemes) (t : Lexeme) → ts ≡ t ∷ us → Within all ts → Within all us
-within_next all ts us t e w = record { front = w.front ++ t ∷ []; is = w.is ∙ ap (λ l. w.front ++ l) e ∙ sym (append_assoc w.front (t ∷ []) us) }
+contents-append : (f h : Lexemes) (b : Bool) → contents b (f ++ h) ≡ contents b f ++ contents (last b f) h
+contents-append [] h b = refl
+contents-append (t ∷ f) h b =
+    ap (λ (xs : List Leaf). content b t.terminal t.text ++ xs) (contents-append f h (takes_tag t.terminal))
+    ∙ sym (append_assoc (content b t.terminal t.text) (contents (takes_tag t.terminal) f) (contents (last (takes_tag t.terminal) f) h))
 
-stands_at : (all ts us : Lexemes) (t : Lexeme) → ts ≡ t ∷ us → Within all ts → Stands all (leaf_by t.terminal t.text)
-stands_at all ts us t e w = record { front = w.front; lexeme = t; behind = us; place = w.is ∙ ap (λ l. w.front ++ l) e; is = refl }
+last-append : (f h : Lexemes) (b : Bool) → last b (f ++ h) ≡ last (last b f) h
+last-append [] h b = refl
+last-append (t ∷ f) h b = last-append f h (takes_tag t.terminal)
 
-stands_as : (all : Lexemes) (x y : Leaf) → x ≡ y → Stands all x → Stands all y
-stands_as all x y e s = rw (← e) s
+-- the lexemes carry these, behind a text or not
+abbrev Says : List Leaf → Lexemes → Type 0
+Says xs f = (b : Bool) → contents b f ≡ xs
 
-all_joined : (all : Lexemes) (xs ys : List Leaf) → AllStand all xs → AllStand all ys → AllStand all (xs ++ ys)
-all_joined all [] ys a b = b
-all_joined all (x ∷ xs) ys a b = (a.0, all_joined all xs ys a.1 b)
+both_say : (xs ys : List Leaf) (f h : Lexemes) → Says xs f → Says ys h → Says (xs ++ ys) (f ++ h)
+both_say xs ys f h p q = λ b. contents-append f h b ∙ ap (λ (zs : List Leaf). zs ++ contents (last b f) h) (p b) ∙ ap (λ (zs : List Leaf). xs ++ zs) (q (last b f))
 
--- the leaves of a node, by what it is
+say_by : (xs ys : List Leaf) (f : Lexemes) → xs ≡ ys → Says ys f → Says xs f
+say_by xs ys f e h = λ b. h b ∙ sym e
+
+-- a terminal that carries nothing
+abbrev Sign : Terminal → Type 0
+Sign k = (b : Bool) (text : Piece) → content b k text ≡ []
+
+sign_before : (k : Terminal) (t : Lexeme) (xs : List Leaf) (f : Lexemes) → Sign k → t.terminal ≡ k → Says xs f → Says xs (t ∷ f)
+sign_before k t xs f sign is h = λ b. ap (λ (j : Terminal). content b j t.text ++ contents (takes_tag t.terminal) f) is ∙ ap (λ (zs : List Leaf). zs ++ contents (takes_tag t.terminal) f) (sign b t.text) ∙ h (takes_tag t.terminal)
+
+sign_behind : (k : Terminal) (t : Lexeme) (xs : List Leaf) (f : Lexemes) → Sign k → t.terminal ≡ k → Says xs f → Says xs (f ++ t ∷ [])
+sign_behind k t xs f sign is h = say_by xs (xs ++ []) (f ++ t ∷ []) (sym (append-nil xs)) (both_say xs [] f (t ∷ []) h (sign_before k t [] [] sign is (λ b. refl)))
+
+-- the one lexeme, of this terminal and with these characters
+record IsValue (k : Terminal) (piece : Piece) (f : Lexemes) : Type 0 where
+  lexeme : Lexeme
+  terminal : lexeme.terminal ≡ k
+  text : lexeme.text ≡ piece
+  is : f ≡ lexeme ∷ []
+
+value_carries : (k : Terminal) (text : Piece) (f : Lexemes) → IsValue k text f → (b : Bool) → contents b f ≡ content b k text
+value_carries k text f h = λ b. ap (λ (x : Lexemes). contents b x) h.is ∙ append-nil (content b h.lexeme.terminal h.lexeme.text) ∙ ap (λ (j : Terminal). content b j h.lexeme.text) h.terminal ∙ ap (λ (x : Piece). content b k x) h.text
+
+value_says : (k : Terminal) (text : Piece) (xs : List Leaf) (f : Lexemes) → IsValue k text f → ((b : Bool) → content b k text ≡ xs) → Says xs f
+value_says k text xs f h carries = λ b. value_carries k text f h b ∙ carries b
+
+-- ---- derivations
+
+-- the lexemes of a tree, before the rest
+record Found {A : Type 0} (Good : A → Lexemes → Type 0) (ts : Lexemes) (x : A) (us : Lexemes) : Type 0 where
+  front : Lexemes
+  is : ts ≡ front ++ us
+  good : Good x front
+
+Gives : {A : Type 0} → Derives A → (A → Lexemes → Type 0) → Type 0
+Gives {A} P Good = (ts : Lexemes) (x : A) (us : Lexemes) → P ts x us → Found Good ts x us
+
+wide_gives : {A : Type 0} (P : Derives A) (Good Best : A → Lexemes → Type 0) → Gives P Good → ((x : A) (f : Lexemes) → Good x f → Best x f) → Gives P Best
+unfolding Gives
+wide_gives P Good Best p h ts x us d = let r = p ts x us d in record { front = r.front; is = r.is; good = h x r.front r.good }
+
+pure_gives : {A : Type 0} (a : A) (Good : A → Lexemes → Type 0) → Good a [] → Gives (grammar.pure a) Good
+unfolding Gives
+pure_gives {A} a Good h ts x us d = record { front = []; is = d.1; good = subst (λ (y : A). Good y []) d.0 h }
+
+or_gives : {A : Type 0} (P Q : Derives A) (Good : A → Lexemes → Type 0) → Gives P Good → Gives Q Good → Gives (grammar.◌∣◌ P Q) Good
+unfolding Gives
+or_gives P Q Good p q ts x us (inl d) = p ts x us d
+or_gives P Q Good p q ts x us (inr d) = q ts x us d
+
+value_gives : (k : Terminal) → Gives (grammar.value k) (IsValue k)
+unfolding Gives
+value_gives k ts x us d = record { front = d.0 ∷ []; is = d.3; good = record { lexeme = d.0; terminal = d.1; text = d.2; is = refl } }
+
+map_gives : {A B : Type 0} (f : A → B) (P : Derives A) (Good : A → Lexemes → Type 0) (Best : B → Lexemes → Type 0) → Gives P Good
+    → ((a : A) (front : Lexemes) → Good a front → Best (f a) front) → Gives (grammar.◌<$>◌ f P) Best
+unfolding Gives
+map_gives {A} {B} f P Good Best p h ts x us d =
+    let r = p ts d.first d.mid d.reads in
+    record { front = r.front; is = r.is ∙ ap (λ (z : Lexemes). r.front ++ z) d.goes.1; good = subst (λ (y : B). Best y r.front) d.goes.0 (h d.first r.front r.good) }
+
+-- behind a lexeme of this terminal
+behind_gives : {A : Type 0} (k : Terminal) (P : Derives A) (Good Best : A → Lexemes → Type 0) → Gives P Good
+    → ((x : A) (t : Lexeme) (front : Lexemes) → t.terminal ≡ k → Good x front → Best x (t ∷ front)) → Gives (grammar.◌>>◌ (grammar.the k) P) Best
+unfolding Gives
+behind_gives k P Good Best p h ts x us d =
+    let t = d.reads.0 in
+    let r = p d.mid x us d.goes in
+    record { front = t ∷ r.front; is = d.reads.2 ∙ ap (λ (z : Lexemes). t ∷ z) r.is; good = h x t r.front d.reads.1 r.good }
+
+-- with a lexeme of this terminal behind it
+closed_gives : {A : Type 0} (k : Terminal) (P : Derives A) (Good Best : A → Lexemes → Type 0) → Gives P Good
+    → ((x : A) (t : Lexeme) (front : Lexemes) → t.terminal ≡ k → Good x front → Best x (front ++ t ∷ []))
+    → Gives (Then P (λ x. grammar.◌>>◌ (grammar.the k) (grammar.pure x))) Best
+unfolding Gives
+closed_gives {A} k P Good Best p h ts x us d =
+    let r = p ts d.first d.mid d.reads in
+    let t = d.goes.reads.0 in
+    let whole : ts ≡ r.front ++ t ∷ us = r.is ∙ ap (λ (z : Lexemes). r.front ++ z) (d.goes.reads.2 ∙ ap (λ (z : Lexemes). t ∷ z) d.goes.goes.1) in
+    record {
+      front = r.front ++ t ∷ [];
+      is = whole ∙ sym (append_assoc r.front (t ∷ []) us);
+      good = subst (λ (y : A). Best y (r.front ++ t ∷ [])) d.goes.goes.0 (h d.first t r.front d.goes.reads.1 r.good);
+    }
+
+-- one after the other
+then_gives : {A B C : Type 0} (P : Derives A) (Q : Derives B) (f : A → B → C) (Good : A → Lexemes → Type 0) (Fine : B → Lexemes → Type 0) (Best : C → Lexemes → Type 0) → Gives P Good → Gives Q Fine
+    → ((a : A) (b : B) (front behind : Lexemes) → Good a front → Fine b behind → Best (f a b) (front ++ behind)) → Gives (Then P (λ a. Then Q (λ b. grammar.pure (f a b)))) Best
+unfolding Gives
+then_gives {C = C} P Q f Good Fine Best p q h ts x us d =
+    let r = p ts d.first d.mid d.reads in
+    let e = d.goes in
+    let s = q d.mid e.first e.mid e.reads in
+    let whole : ts ≡ r.front ++ (s.front ++ us) = r.is ∙ ap (λ (z : Lexemes). r.front ++ z) (s.is ∙ ap (λ (z : Lexemes). s.front ++ z) e.goes.1) in
+    record {
+      front = r.front ++ s.front;
+      is = whole ∙ sym (append_assoc r.front s.front us);
+      good = subst (λ (y : C). Best y (r.front ++ s.front)) e.goes.0 (h d.first e.first r.front s.front r.good s.good);
+    }
+
+abbrev IsOption : {A : Type 0} → (A → Lexemes → Type 0) → Option A → Lexemes → Type 0
+IsOption Good None f = f ≡ []
+IsOption Good (Some x) f = Good x f
+
+maybe_gives : {A : Type 0} (P : Derives A) (Good : A → Lexemes → Type 0) → Gives P Good → Gives (grammar.maybe P) (IsOption Good)
+unfolding Gives
+maybe_gives P Good p ts None us d = record { front = []; is = d; good = refl }
+maybe_gives P Good p ts (Some x) us d = let r = p ts x us d in record { front = r.front; is = r.is; good = r.good }
+
+star_gives : {A : Type 0} (P : Derives (List A)) (Good : List A → Lexemes → Type 0) → Good [] [] → ((xs ys : List A) (f h : Lexemes) → Good xs f → Good ys h → Good (xs ++ ys) (f ++ h))
+    → Gives P Good → Gives (Star P) Good
+unfolding Gives
+star_gives P Good none both p ts xs us stop = record { front = []; is = refl; good = none }
+star_gives P Good none both p ts xs us (more {mid = mid} {x = x} {xs = ys} r s) =
+    let a = p ts x mid r in
+    let b = star_gives P Good none both p mid ys us s in
+    record {
+      front = a.front ++ b.front;
+      is = a.is ∙ ap (λ (z : Lexemes). a.front ++ z) b.is ∙ sym (append_assoc a.front b.front us);
+      good = both x ys a.front b.front a.good b.good;
+    }
+
+-- what derives no more gives the same
+by_gives : {A : Type 0} (P Q : Derives A) (Good : A → Lexemes → Type 0) → ((ts : Lexemes) (x : A) (us : Lexemes) → P ts x us → Q ts x us) → Gives Q Good → Gives P Good
+unfolding Gives
+by_gives P Q Good there q ts x us d = q ts x us (there ts x us d)
+
+word_gives : (w : Word) (k : Terminal) → IsJust w k → Gives (productions.value word w) (IsValue k)
+word_gives w k is = by_gives _ _ (IsValue k) (value_is w k is) (value_gives k)
+
+-- ---- the leaves of a node, by what it is
 
 leaves-Name : (name : Name) → node_leaves (n.Name name) ≡ name_leaves name
 leaves-Name name = ap node_leaves (sym (n.rolls-Name name)) ∙ fold-roll-Node (List Leaf) (List Leaf) node_leaves_of property_leaves_of (Node-F.Name name)
@@ -72,274 +204,333 @@ leaves-Literal x = ap node_leaves (sym (n.rolls-Literal x)) ∙ fold-roll-Node (
 leaves-property : (verb : Verb) (objects : List Node) → property_leaves (g.property_with verb objects) ≡ verb_leaves verb ++ joined (map node_leaves objects)
 leaves-property verb objects = fold-roll-Property (List Leaf) (List Leaf) node_leaves_of property_leaves_of (record { verb = verb; objects = objects })
 
-stand_by : (all : Lexemes) (xs ys : List Leaf) → xs ≡ ys → AllStand all ys → AllStand all xs
-stand_by all xs ys e h = rw e h
-
-module _ (all : Lexemes) where
-  then_gives : {A B : Type 0} (P : Derives A) (F : A → Derives B) (Good : A → Type 0) (Best : B → Type 0) → Gives all P Good → ((a : A) → Good a → Gives all (F a) Best) → Gives all (Then P F) Best
-  unfolding Gives
-  then_gives P F Good Best p f ts x us d w = let r = p ts d.first d.mid d.reads w in f d.first r.0 d.mid x us d.goes r.1
-
-  pure_gives : {A : Type 0} (a : A) (Good : A → Type 0) → Good a → Gives all (grammar.pure a) Good
-  unfolding Gives
-  pure_gives a Good h ts x us d w = (rw (← d.0) h, rw (← d.1) w)
-
-  or_gives : {A : Type 0} (P Q : Derives A) (Good : A → Type 0) → Gives all P Good → Gives all Q Good → Gives all (grammar.◌∣◌ P Q) Good
-  unfolding Gives
-  or_gives P Q Good p q ts x us (inl d) w = p ts x us d w
-  or_gives P Q Good p q ts x us (inr d) w = q ts x us d w
-
-  abbrev Any : Unit {0} → Type 0
-  Any u = Unit {0}
-
-  the_gives : (k : Terminal) → Gives all (grammar.the k) Any
-  unfolding Gives
-  the_gives k ts x us d w = (tt, within_next all ts us d.0 d.2 w)
-
-  abbrev IsLeaf : (Piece → Leaf) → Piece → Type 0
-  IsLeaf f text = Stands all (f text)
-
-  value_gives : (k : Terminal) → Gives all (grammar.value k) (IsLeaf (leaf_by k))
-  unfolding Gives
-  value_gives k ts x us d w = (stands_as all (leaf_by d.0.terminal d.0.text) (leaf_by k x) (ap (λ h. leaf_by h d.0.text) d.1 ∙ ap (leaf_by k) d.2) (stands_at all ts us d.0 d.3 w), within_next all ts us d.0 d.3 w)
-
-  map_gives : {A B : Type 0} (f : A → B) (P : Derives A) (Good : A → Type 0) (Best : B → Type 0) → Gives all P Good → ((a : A) → Good a → Best (f a)) → Gives all (grammar.◌<$>◌ f P) Best
-  map_gives f P Good Best p h = then_gives P _ Good Best p (λ a x. pure_gives (f a) Best (h a x))
-
-  behind_gives : {A : Type 0} (k : Terminal) (P : Derives A) (Good : A → Type 0) → Gives all P Good → Gives all (grammar.◌>>◌ (grammar.the k) P) Good
-  behind_gives k P Good p = then_gives (grammar.the k) _ Any Good (the_gives k) (λ _ _. p)
-
-  -- something, and a lexeme behind it
-  closed_gives : {A : Type 0} (k : Terminal) (x : A) (Good : A → Type 0) → Good x → Gives all (grammar.◌>>◌ (grammar.the k) (grammar.pure x)) Good
-  closed_gives k x Good h = behind_gives k _ Good (pure_gives x Good h)
-
-  abbrev IsGoodOption : {A : Type 0} → (A → Type 0) → Option A → Type 0
-  IsGoodOption Good None = Unit {0}
-  IsGoodOption Good (Some x) = Good x
-
-  maybe_gives : {A : Type 0} (P : Derives A) (Good : A → Type 0) → Gives all P Good → Gives all (grammar.maybe P) (IsGoodOption Good)
-  unfolding Gives
-  maybe_gives P Good p ts None us d w = (tt, rw (← d) w)
-  maybe_gives P Good p ts (Some x) us d w = p ts x us d w
-
-  good_joined : {A : Type 0} (Good : A → Type 0) (xs ys : List A) → AllByRecursion Good xs → AllByRecursion Good ys → AllByRecursion Good (xs ++ ys)
-  good_joined Good [] ys a b = b
-  good_joined Good (x ∷ xs) ys a b = (a.0, good_joined Good xs ys a.1 b)
-
-  star_gives : {A : Type 0} (P : Derives (List A)) (Good : A → Type 0) → Gives all P (AllByRecursion Good) → Gives all (Star P) (AllByRecursion Good)
-  unfolding Gives
-  star_gives P Good p ts xs us stop w = (tt, w)
-  star_gives P Good p ts xs us (more {mid = mid} {x = x} {xs = ys} r s) w =
-      let a = p ts x mid r w in
-      let b = star_gives P Good p mid ys us s a.1 in
-      (good_joined Good x ys a.0 b.0, b.1)
-
-  one_gives : {A : Type 0} (P : Derives A) (Good : A → Type 0) → Gives all P Good → Gives all (grammar.one P) (AllByRecursion Good)
-  one_gives P Good p = map_gives (λ x. x ∷ []) P Good (AllByRecursion Good) p (λ a h. (h, tt))
-
-  -- what derives no more gives the same
-  by_gives : {A : Type 0} (P Q : Derives A) (Good : A → Type 0) → ((ts : Lexemes) (x : A) (us : Lexemes) → P ts x us → Q ts x us) → Gives all Q Good → Gives all P Good
-  unfolding Gives
-  by_gives P Q Good there q ts x us d w = q ts x us (there ts x us d) w
-
-  word_gives : (w : Word) (k : Terminal) → IsJust w k → Gives all (productions.value word w) (IsLeaf (leaf_by k))
-  word_gives w k is = by_gives _ _ (IsLeaf (leaf_by k)) (value_is w k is) (value_gives k)
-
-  behind_word : {A : Type 0} (w : Word) (k : Terminal) → IsJust w k → (P : Derives A) (Good : A → Type 0) → Gives all P Good → Gives all (grammar.◌>>◌ (productions.the word w) P) Good
-  behind_word w k is P Good p = by_gives _ _ Good (behind_is w k P is) (behind_gives k P Good p)
-
-  -- ---- the productions
-
-  abbrev GoodName : Name → Type 0
-  GoodName x = AllStand all (name_leaves x)
-
-  abbrev GoodVerb : Verb → Type 0
-  GoodVerb x = AllStand all (verb_leaves x)
-
-  abbrev GoodLiteral : Literal → Type 0
-  GoodLiteral x = AllStand all (literal_leaves x)
-
-  abbrev GoodNode : Node → Type 0
-  GoodNode x = AllStand all (node_leaves x)
-
-  abbrev GoodProperty : Property → Type 0
-  GoodProperty x = AllStand all (property_leaves x)
-
-  abbrev GoodStatement : Statement → Type 0
-  GoodStatement x = AllStand all (statement_leaves x) × HasSubject x
-
-  iri_gives : Gives all g.Iri GoodName
-  iri_gives = or_gives _ _ GoodName (map_gives Full _ _ GoodName (word_gives w.Iri terminal.Iri is_iri) (λ a h. (h, tt))) (map_gives productions.prefixed _ _ GoodName (word_gives w.Pname terminal.Pname is_pname) (λ a h. (h, tt)))
-
-  verb_gives : Gives all g.AVerb GoodVerb
-  verb_gives = or_gives _ _ GoodVerb (map_gives v.Name _ _ GoodVerb iri_gives (λ a h. h)) (closed_gives terminal.A v.Type GoodVerb tt)
-
-  tag_gives : Gives all Tag (IsLeaf (leaf terminal.AtWord))
-  tag_gives = or_gives _ _ (IsLeaf (leaf terminal.AtWord)) (value_gives terminal.AtWord) (or_gives _ _ (IsLeaf (leaf terminal.AtWord)) (value_gives terminal.AtPrefix) (value_gives terminal.AtBase))
-
-  suffix_gives : (form : Piece) → IsLeaf (leaf terminal.Text) form → Gives all (productions.Suffix word form) GoodLiteral
-  suffix_gives form f =
-      or_gives _ _ GoodLiteral (map_gives (l.Tagged form) _ _ GoodLiteral (by_gives _ Tag _ tag_is tag_gives) (λ a h. (f, (h, tt))))
-      (or_gives _ _ GoodLiteral (behind_word w.Caret terminal.Caret is_caret _ GoodLiteral (map_gives (l.Typed form) _ _ GoodLiteral iri_gives (λ a h. (f, h)))) (pure_gives (l.Plain form) GoodLiteral (f, tt)))
-
-  text_gives : Gives all (productions.RDFLiteral word) GoodLiteral
-  text_gives = then_gives _ _ _ GoodLiteral (word_gives w.Text terminal.Text is_text) suffix_gives
-
-  number_gives : Gives all (productions.NumericLiteral word) GoodLiteral
-  number_gives =
-      or_gives _ _ GoodLiteral (map_gives l.Integer _ _ GoodLiteral (word_gives w.Integer terminal.Integer is_integer) (λ a h. (h, tt)))
-      (or_gives _ _ GoodLiteral (map_gives l.Decimal _ _ GoodLiteral (word_gives w.Decimal terminal.Decimal is_decimal) (λ a h. (h, tt)))
-      (map_gives l.Double _ _ GoodLiteral (word_gives w.Double terminal.Double is_double) (λ a h. (h, tt))))
-
-  truth_gives : Gives all (productions.BooleanLiteral word) GoodLiteral
-  truth_gives =
-      or_gives _ _ GoodLiteral (map_gives (l.Boolean true) _ _ GoodLiteral (word_gives w.True terminal.True is_true) (λ a h. tt))
-      (map_gives (l.Boolean false) _ _ GoodLiteral (word_gives w.False terminal.False is_false) (λ a h. tt))
-
-  literal_gives : Gives all g.ALiteral GoodLiteral
-  literal_gives = or_gives _ _ GoodLiteral text_gives (or_gives _ _ GoodLiteral number_gives truth_gives)
-
-  nodes_stand : (xs : List Node) → AllByRecursion GoodNode xs → AllStand all (joined (map node_leaves xs))
-  nodes_stand [] h = tt
-  nodes_stand (x ∷ xs) h = all_joined all (node_leaves x) (joined (map node_leaves xs)) h.0 (nodes_stand xs h.1)
-
-  properties_stand : (ps : List Property) → AllByRecursion GoodProperty ps → AllStand all (joined (map property_leaves ps))
-  properties_stand [] h = tt
-  properties_stand (p ∷ ps) h = all_joined all (property_leaves p) (joined (map property_leaves ps)) h.0 (properties_stand ps h.1)
-
-  module _ (P : Derives Node) (p : Gives all P GoodNode) where
-    objects_give : Gives all (g.Objects P) (AllByRecursion GoodNode)
-    objects_give = then_gives _ _ GoodNode _ p (λ first h. then_gives _ _ (AllByRecursion GoodNode) _ (star_gives _ GoodNode (one_gives _ GoodNode (behind_gives terminal.Comma P GoodNode p)))
-        (λ others hs. pure_gives (first ∷ others) (AllByRecursion GoodNode) (h, hs)))
-
-    property_gives : Gives all (g.VerbObjects P) GoodProperty
-    property_gives = then_gives _ _ GoodVerb _ verb_gives (λ verb h. then_gives _ _ (AllByRecursion GoodNode) _ objects_give
-        (λ objects hs. pure_gives (g.property_with verb objects) GoodProperty (stand_by all _ _ (leaves-property verb objects) (all_joined all (verb_leaves verb) (joined (map node_leaves objects)) h (nodes_stand objects hs)))))
-
-    some_property : (o : Option Property) → IsGoodOption GoodProperty o → AllByRecursion GoodProperty (option_to_list o)
-    some_property None h = tt
-    some_property (Some x) h = (h, tt)
-
-    predicate_object_list_gives : Gives all (g.PredicateObjectList P) (AllByRecursion GoodProperty)
-    predicate_object_list_gives = then_gives _ _ GoodProperty _ property_gives (λ first h. then_gives _ _ (AllByRecursion GoodProperty) _
-        (star_gives _ GoodProperty (behind_gives terminal.Semicolon _ (AllByRecursion GoodProperty) (map_gives option_to_list _ (IsGoodOption GoodProperty) (AllByRecursion GoodProperty) (maybe_gives _ GoodProperty property_gives) some_property)))
-        (λ others hs. pure_gives (first ∷ others) (AllByRecursion GoodProperty) (h, hs)))
-
-    anonymous_gives : Gives all (g.Anonymous P) (AllByRecursion GoodProperty)
-    anonymous_gives = behind_gives terminal.OpenBracket _ (AllByRecursion GoodProperty) (closed_gives terminal.CloseBracket [] (AllByRecursion GoodProperty) tt)
-
-    blank_node_property_list_gives : Gives all (g.BlankNodePropertyList P) (AllByRecursion GoodProperty)
-    blank_node_property_list_gives = behind_gives terminal.OpenBracket _ (AllByRecursion GoodProperty) (then_gives _ _ (AllByRecursion GoodProperty) _ predicate_object_list_gives (λ ps h. closed_gives terminal.CloseBracket ps (AllByRecursion GoodProperty) h))
-
-    collection_gives : Gives all (g.Collection P) (AllByRecursion GoodNode)
-    collection_gives = behind_gives terminal.Open _ (AllByRecursion GoodNode) (then_gives _ _ (AllByRecursion GoodNode) _ (star_gives _ GoodNode (one_gives P GoodNode p)) (λ items h. closed_gives terminal.Close items (AllByRecursion GoodNode) h))
-
-    good_name : (name : Name) → GoodName name → GoodNode (n.Name name)
-    good_name name h = stand_by all _ _ (leaves-Name name) h
-
-    good_label : (label : Piece) → IsLeaf (leaf_by terminal.BlankLabel) label → GoodNode (n.Label label)
-    good_label label h = stand_by all _ _ (leaves-Label label) (h, tt)
-
-    good_blank : (ps : List Property) → AllByRecursion GoodProperty ps → GoodNode (n.Blank ps)
-    good_blank ps h = stand_by all _ _ (leaves-Blank ps) (properties_stand ps h)
-
-    good_collection : (xs : List Node) → AllByRecursion GoodNode xs → GoodNode (n.Collection xs)
-    good_collection xs h = stand_by all _ _ (leaves-Collection xs) (nodes_stand xs h)
-
-    good_literal : (x : Literal) → GoodLiteral x → GoodNode (n.Literal x)
-    good_literal x h = stand_by all _ _ (leaves-Literal x) h
-
-    abbrev GoodSubject : Node → Type 0
-    GoodSubject x = GoodNode x × IsSubject x
-
-    subject_gives : Gives all (g.Subject P) GoodSubject
-    subject_gives =
-        or_gives _ _ GoodSubject (map_gives n.Name _ _ GoodSubject iri_gives (λ a h. (good_name a h, tt)))
-        (or_gives _ _ GoodSubject (or_gives _ _ GoodSubject (map_gives n.Label _ _ GoodSubject (value_gives terminal.BlankLabel) (λ a h. (good_label a h, tt))) (map_gives n.Blank _ _ GoodSubject anonymous_gives (λ ps h. (good_blank ps h, tt))))
-        (map_gives n.Collection _ _ GoodSubject collection_gives (λ items h. (good_collection items h, tt))))
-
-    object_gives : Gives all (g.Object P) GoodNode
-    object_gives =
-        or_gives _ _ GoodNode (map_gives n.Name _ _ GoodNode iri_gives good_name)
-        (or_gives _ _ GoodNode (or_gives _ _ GoodNode (map_gives n.Label _ _ GoodNode (value_gives terminal.BlankLabel) good_label) (map_gives n.Blank _ _ GoodNode anonymous_gives good_blank))
-        (or_gives _ _ GoodNode (map_gives n.Collection _ _ GoodNode collection_gives good_collection)
-        (or_gives _ _ GoodNode (map_gives n.Blank _ _ GoodNode blank_node_property_list_gives good_blank) (map_gives n.Literal _ _ GoodNode literal_gives good_literal))))
-
-  objects_at_give : (depth : ℕ) → Gives all (g.Objects_at depth) GoodNode
-  unfolding Gives
-  objects_at_give zero ts x us d w = absurd d
-  objects_at_give (suc depth) ts x us d w = object_gives (g.Objects_at depth) (objects_at_give depth) ts x us d w
-
-  -- ---- statements
-
-  abbrev IsNamespace : Piece → Type 0
-  IsNamespace prefix = Stands all (terminal.Pname, prefix ∷ [] ∷ [])
-
-  namespace_gives : Gives all (productions.namespace word) IsNamespace
-  unfolding Gives
-  namespace_gives ts x us d w =
-      let e : leaf_by d.0.terminal d.0.text ≡ (terminal.Pname, x ∷ [] ∷ []) = ap (λ k. leaf_by k d.0.text) (is_pname d.0.terminal d.1) ∙ ap (λ p. (terminal.Pname, p ∷ local_part d.0.text ∷ [])) d.3 ∙ ap (λ p. (terminal.Pname, x ∷ p ∷ [])) d.2 in
-      (stands_as all (leaf_by d.0.terminal d.0.text) (terminal.Pname, x ∷ [] ∷ []) e (stands_at all ts us d.0 d.4 w), within_next all ts us d.0 d.4 w)
-
-  abbrev GoodBound : Piece × Piece → Type 0
-  GoodBound b = GoodStatement (g.bound b)
-
-  binding_gives : Gives all g.Binding GoodStatement
-  binding_gives = map_gives g.bound _ GoodBound GoodStatement
-      (then_gives _ _ IsNamespace GoodBound namespace_gives (λ prefix h. then_gives _ _ (IsLeaf (leaf terminal.Iri)) GoodBound (word_gives w.Iri terminal.Iri is_iri)
-      (λ reference i. pure_gives (prefix, reference) GoodBound ((h, (i, tt)), tt))))
-      (λ b h. h)
-
-  base_gives : Gives all g.Base GoodStatement
-  base_gives = map_gives s.Base _ (IsLeaf (leaf terminal.Iri)) GoodStatement (value_gives terminal.Iri) (λ a h. ((h, tt), tt))
-
-  dotted_gives : (P : Derives Statement) → Gives all P GoodStatement → Gives all (g.Dotted P) GoodStatement
-  dotted_gives P p = then_gives _ _ GoodStatement _ p (λ x h. closed_gives terminal.Dot x GoodStatement h)
-
-  directive_gives : Gives all g.Directive GoodStatement
-  directive_gives =
-      or_gives _ _ GoodStatement (behind_gives terminal.AtPrefix _ GoodStatement (dotted_gives _ binding_gives)) (or_gives _ _ GoodStatement (behind_gives terminal.AtBase _ GoodStatement (dotted_gives _ base_gives))
-      (or_gives _ _ GoodStatement (behind_gives terminal.Prefix _ GoodStatement binding_gives) (behind_gives terminal.Base _ GoodStatement base_gives)))
-
-  some_properties : (o : Option (List Property)) → IsGoodOption (AllByRecursion GoodProperty) o → AllByRecursion GoodProperty (g.all_of o)
-  some_properties None h = tt
-  some_properties (Some ps) h = h
-
-  module _ (I P : Derives Node) (i : Gives all I GoodNode) (p : Gives all P GoodNode) where
-    about_gives : Gives all (g.About I P) GoodStatement
-    about_gives = then_gives _ _ (GoodSubject I i) _ (subject_gives I i) (λ subject h. then_gives _ _ (AllByRecursion GoodProperty) _ (predicate_object_list_gives P p)
-        (λ ps hs. pure_gives (s.Triples subject ps) GoodStatement (all_joined all (node_leaves subject) (joined (map property_leaves ps)) h.0 (properties_stand ps hs), h.1)))
-
-    about_blank_gives : Gives all (g.AboutBlank I P) GoodStatement
-    about_blank_gives = then_gives _ _ (AllByRecursion GoodProperty) _ (blank_node_property_list_gives I i) (λ inside h. then_gives _ _ (IsGoodOption (AllByRecursion GoodProperty)) _ (maybe_gives _ (AllByRecursion GoodProperty) (predicate_object_list_gives P p))
-        (λ ps hs. pure_gives (s.Triples (n.Blank inside) (g.all_of ps)) GoodStatement
-        (all_joined all (node_leaves (n.Blank inside)) (joined (map property_leaves (g.all_of ps))) (stand_by all _ _ (leaves-Blank inside) (properties_stand inside h)) (properties_stand (g.all_of ps) (some_properties ps hs)), tt)))
-
-    statement_gives : Gives all (g.AStatement I P) GoodStatement
-    statement_gives = or_gives _ _ GoodStatement directive_gives (dotted_gives _ (or_gives _ _ GoodStatement about_gives about_blank_gives))
-
-  document_gives : (depth : ℕ) → Gives all (g.Document depth) (AllByRecursion GoodStatement)
-  document_gives depth = star_gives _ GoodStatement (one_gives _ GoodStatement (statement_gives (g.Objects_at depth) (g.Objects_at (suc depth)) (objects_at_give depth) (objects_at_give (suc depth))))
-
-  statements_stand : (ss : List Statement) → AllByRecursion GoodStatement ss → AllStand all (document_leaves ss)
-  statements_stand [] h = tt
-  statements_stand (s ∷ ss) h = all_joined all (statement_leaves s) (document_leaves ss) h.0.0 (statements_stand ss h.1)
-
-  subjects_stand : (ss : List Statement) → AllByRecursion GoodStatement ss → AllByRecursion HasSubject ss
-  subjects_stand [] h = tt
-  subjects_stand (s ∷ ss) h = (h.0.1, subjects_stand ss h.1)
-
-good_document : (ts : Lexemes) (ss : List Statement) → g.IsDocument ts ss → AllByRecursion (GoodStatement ts) ss
+-- ---- names and literals
+
+abbrev SaysName : Name → Lexemes → Type 0
+SaysName x f = Says (name_leaves x) f
+
+abbrev SaysVerb : Verb → Lexemes → Type 0
+SaysVerb x f = Says (verb_leaves x) f
+
+abbrev SaysLiteral : Literal → Lexemes → Type 0
+SaysLiteral x f = Says (literal_leaves x) f
+
+iri_gives : Gives g.Iri SaysName
+iri_gives =
+    or_gives _ _ SaysName (map_gives Full _ (IsValue terminal.Iri) SaysName (word_gives w.Iri terminal.Iri is_iri) (λ a f h. value_says terminal.Iri a _ f h (λ b. refl)))
+    (map_gives productions.prefixed _ (IsValue terminal.Pname) SaysName (word_gives w.Pname terminal.Pname is_pname) (λ a f h. value_says terminal.Pname a _ f h (λ b. refl)))
+
+-- `a`
+a_says : (t : Lexeme) → t.terminal ≡ terminal.A → Says (verb_leaves v.Type) (t ∷ [])
+a_says t is = λ b. ap (λ (j : Terminal). content b j t.text ++ []) is
+
+verb_gives : Gives g.AVerb SaysVerb
+verb_gives =
+    or_gives _ _ SaysVerb (map_gives v.Name _ SaysName SaysVerb iri_gives (λ a f h. h))
+    (behind_gives terminal.A _ (λ x f. (x ≡ v.Type) × (f ≡ [])) SaysVerb (pure_gives v.Type (λ x f. (x ≡ v.Type) × (f ≡ [])) (refl, refl))
+    (λ x t f is h. subst (λ (y : Verb). SaysVerb y (t ∷ f)) (sym h.0) (subst (λ (z : Lexemes). SaysVerb v.Type (t ∷ z)) (sym h.1) (a_says t is))))
+
+-- the tag behind a text
+abbrev IsTagOf : Piece → Lexemes → Type 0
+IsTagOf tag f = contents true f ≡ leaf terminal.AtWord tag ∷ []
+
+tag_gives : Gives Tag IsTagOf
+tag_gives =
+    or_gives _ _ IsTagOf (wide_gives _ (IsValue terminal.AtWord) IsTagOf (value_gives terminal.AtWord) (λ x f h. value_carries terminal.AtWord x f h true))
+    (or_gives _ _ IsTagOf (wide_gives _ (IsValue terminal.AtPrefix) IsTagOf (value_gives terminal.AtPrefix) (λ x f h. value_carries terminal.AtPrefix x f h true))
+    (wide_gives _ (IsValue terminal.AtBase) IsTagOf (value_gives terminal.AtBase) (λ x f h. value_carries terminal.AtBase x f h true)))
+
+-- the leaves behind the text of a literal
+abbrev rest_leaves : Literal → List Leaf
+rest_leaves (l.Tagged form tag) = leaf terminal.AtWord tag ∷ []
+rest_leaves (l.Typed form datatype) = name_leaves datatype
+rest_leaves _ = []
+
+abbrev SaysBehind : Piece → Literal → Lexemes → Type 0
+SaysBehind form x f = (contents true f ≡ rest_leaves x) × (literal_leaves x ≡ leaf terminal.Text form ∷ rest_leaves x)
+
+abbrev SaysType : Piece → Literal → Lexemes → Type 0
+SaysType form x f = Says (rest_leaves x) f × (literal_leaves x ≡ leaf terminal.Text form ∷ rest_leaves x)
+
+caret_gives : (form : Piece) → Gives (grammar.◌>>◌ (productions.the word w.Caret) (grammar.◌<$>◌ (l.Typed form) g.Iri)) (SaysBehind form)
+caret_gives form =
+    by_gives _ _ (SaysBehind form) (behind_is w.Caret terminal.Caret _ is_caret) (behind_gives terminal.Caret _ (SaysType form) (SaysBehind form)
+    (map_gives (l.Typed form) _ SaysName (SaysType form) iri_gives (λ a f h. (h, refl)))
+    (λ x t f is h. (sign_before terminal.Caret t (rest_leaves x) f (λ b text. refl) is h.0 true, h.1)))
+
+suffix_gives : (form : Piece) → Gives (productions.Suffix word form) (SaysBehind form)
+suffix_gives form =
+    or_gives _ _ (SaysBehind form) (map_gives (l.Tagged form) _ IsTagOf (SaysBehind form) (by_gives _ Tag IsTagOf tag_is tag_gives) (λ a f h. (h, refl)))
+    (or_gives _ _ (SaysBehind form) (caret_gives form) (pure_gives (l.Plain form) (SaysBehind form) (refl, refl)))
+
+text_says : (form : Piece) (x : Literal) (f h : Lexemes) → IsValue terminal.Text form f → SaysBehind form x h → SaysLiteral x (f ++ h)
+text_says form x f h v rest = λ b.
+    ap (λ (z : Lexemes). contents b (z ++ h)) v.is ∙ ap (λ (j : Terminal). content b j v.lexeme.text ++ contents (takes_tag j) h) v.terminal
+    ∙ ap (λ (p : Piece). leaf terminal.Text p ∷ contents true h) v.text ∙ ap (λ (xs : List Leaf). leaf terminal.Text form ∷ xs) rest.0 ∙ sym rest.1
+
+text_gives : Gives (productions.RDFLiteral word) SaysLiteral
 unfolding Gives
-good_document ts ss d = (document_gives ts d.0 ts ss [] d.1 (record { front = []; is = refl })).0
+text_gives ts x us d =
+    let r = word_gives w.Text terminal.Text is_text ts d.first d.mid d.reads in
+    let s = suffix_gives d.first d.mid x us d.goes in
+    record {
+      front = r.front ++ s.front;
+      is = r.is ∙ ap (λ (z : Lexemes). r.front ++ z) s.is ∙ sym (append_assoc r.front s.front us);
+      good = text_says d.first x r.front s.front r.good s.good;
+    }
+
+number_gives : Gives (productions.NumericLiteral word) SaysLiteral
+number_gives =
+    or_gives _ _ SaysLiteral (map_gives l.Integer _ (IsValue terminal.Integer) SaysLiteral (word_gives w.Integer terminal.Integer is_integer) (λ a f h. value_says terminal.Integer a _ f h (λ b. refl)))
+    (or_gives _ _ SaysLiteral (map_gives l.Decimal _ (IsValue terminal.Decimal) SaysLiteral (word_gives w.Decimal terminal.Decimal is_decimal) (λ a f h. value_says terminal.Decimal a _ f h (λ b. refl)))
+    (map_gives l.Double _ (IsValue terminal.Double) SaysLiteral (word_gives w.Double terminal.Double is_double) (λ a f h. value_says terminal.Double a _ f h (λ b. refl))))
+
+truth_gives : Gives (productions.BooleanLiteral word) SaysLiteral
+truth_gives =
+    or_gives _ _ SaysLiteral (map_gives (l.Boolean true) _ (IsValue terminal.True) SaysLiteral (word_gives w.True terminal.True is_true) (λ a f h. value_says terminal.True a _ f h (λ b. refl)))
+    (map_gives (l.Boolean false) _ (IsValue terminal.False) SaysLiteral (word_gives w.False terminal.False is_false) (λ a f h. value_says terminal.False a _ f h (λ b. refl)))
+
+literal_gives : Gives g.ALiteral SaysLiteral
+literal_gives = or_gives _ _ SaysLiteral text_gives (or_gives _ _ SaysLiteral number_gives truth_gives)
+
+-- ---- nodes
+
+abbrev SaysNode : Node → Lexemes → Type 0
+SaysNode x f = Says (node_leaves x) f
+
+abbrev SaysNodes : List Node → Lexemes → Type 0
+SaysNodes xs f = Says (joined (map node_leaves xs)) f
+
+abbrev SaysProperty : Property → Lexemes → Type 0
+SaysProperty x f = Says (property_leaves x) f
+
+abbrev SaysProperties : List Property → Lexemes → Type 0
+SaysProperties ps f = Says (joined (map property_leaves ps)) f
+
+joined-append : {A : Type 0} (leaves : A → List Leaf) (xs ys : List A) → joined (map leaves (xs ++ ys)) ≡ joined (map leaves xs) ++ joined (map leaves ys)
+joined-append leaves [] ys = refl
+joined-append leaves (x ∷ xs) ys =
+    ap (λ (zs : List Leaf). leaves x ++ zs) (joined-append leaves xs ys) ∙ sym (append_assoc (leaves x) (joined (map leaves xs)) (joined (map leaves ys)))
+
+lists_say : {A : Type 0} (leaves : A → List Leaf) (xs ys : List A) (f h : Lexemes) → Says (joined (map leaves xs)) f → Says (joined (map leaves ys)) h → Says (joined (map leaves (xs ++ ys))) (f ++ h)
+lists_say leaves xs ys f h p q = say_by _ _ (f ++ h) (joined-append leaves xs ys) (both_say (joined (map leaves xs)) (joined (map leaves ys)) f h p q)
+
+one_says : {A : Type 0} (leaves : A → List Leaf) (x : A) (f : Lexemes) → Says (leaves x) f → Says (joined (map leaves (x ∷ []))) f
+one_says leaves x f h = say_by _ (leaves x) f (append-nil (leaves x)) h
+
+module _ (P : Derives Node) (p : Gives P SaysNode) where
+  objects_give : Gives (g.Objects P) SaysNodes
+  objects_give =
+      then_gives P _ (λ first others. first ∷ others) SaysNode SaysNodes SaysNodes p
+      (star_gives _ SaysNodes (λ b. refl) (lists_say node_leaves)
+      (map_gives (λ x. x ∷ []) _ SaysNode SaysNodes (behind_gives terminal.Comma P SaysNode SaysNode p (λ x t f is h. sign_before terminal.Comma t _ f (λ b text. refl) is h)) (one_says node_leaves)))
+      (λ first others f h q r. both_say (node_leaves first) _ f h q r)
+
+  property_gives : Gives (g.VerbObjects P) SaysProperty
+  property_gives =
+      then_gives g.AVerb (g.Objects P) g.property_with SaysVerb SaysNodes SaysProperty verb_gives objects_give
+      (λ verb objects f h q r. say_by _ _ (f ++ h) (leaves-property verb objects) (both_say (verb_leaves verb) _ f h q r))
+
+  some_property : (o : Option Property) (f : Lexemes) → IsOption SaysProperty o f → SaysProperties (option_to_list o) f
+  some_property None f h = λ b. ap (λ (z : Lexemes). contents b z) h
+  some_property (Some x) f h = one_says property_leaves x f h
+
+  predicate_object_list_gives : Gives (g.PredicateObjectList P) SaysProperties
+  predicate_object_list_gives =
+      then_gives (g.VerbObjects P) _ (λ first others. first ∷ others) SaysProperty SaysProperties SaysProperties property_gives
+      (star_gives _ SaysProperties (λ b. refl) (lists_say property_leaves)
+      (behind_gives terminal.Semicolon _ SaysProperties SaysProperties (map_gives option_to_list _ (IsOption SaysProperty) SaysProperties (maybe_gives _ SaysProperty property_gives) some_property)
+      (λ x t f is h. sign_before terminal.Semicolon t _ f (λ b text. refl) is h)))
+      (λ first others f h q r. both_say (property_leaves first) _ f h q r)
+
+  -- brackets round something
+  anonymous_gives : Gives (g.Anonymous P) SaysProperties
+  anonymous_gives =
+      behind_gives terminal.OpenBracket _ SaysProperties SaysProperties
+      (behind_gives terminal.CloseBracket _ SaysProperties SaysProperties (pure_gives [] SaysProperties (λ b. refl)) (λ x t f is h. sign_before terminal.CloseBracket t _ f (λ b text. refl) is h))
+      (λ x t f is h. sign_before terminal.OpenBracket t _ f (λ b text. refl) is h)
+
+  blank_node_property_list_gives : Gives (g.BlankNodePropertyList P) SaysProperties
+  blank_node_property_list_gives =
+      behind_gives terminal.OpenBracket _ SaysProperties SaysProperties
+      (closed_gives terminal.CloseBracket _ SaysProperties SaysProperties predicate_object_list_gives (λ x t f is h. sign_behind terminal.CloseBracket t _ f (λ b text. refl) is h))
+      (λ x t f is h. sign_before terminal.OpenBracket t _ f (λ b text. refl) is h)
+
+  collection_gives : Gives (g.Collection P) SaysNodes
+  collection_gives =
+      behind_gives terminal.Open _ SaysNodes SaysNodes
+      (closed_gives terminal.Close _ SaysNodes SaysNodes (star_gives _ SaysNodes (λ b. refl) (lists_say node_leaves) (map_gives (λ x. x ∷ []) P SaysNode SaysNodes p (one_says node_leaves)))
+      (λ x t f is h. sign_behind terminal.Close t _ f (λ b text. refl) is h))
+      (λ x t f is h. sign_before terminal.Open t _ f (λ b text. refl) is h)
+
+  name_says : (name : Name) (f : Lexemes) → SaysName name f → SaysNode (n.Name name) f
+  name_says name f h = say_by _ _ f (leaves-Name name) h
+
+  label_says : (label : Piece) (f : Lexemes) → IsValue terminal.BlankLabel label f → SaysNode (n.Label label) f
+  label_says label f h = say_by _ _ f (leaves-Label label) (value_says terminal.BlankLabel label _ f h (λ b. refl))
+
+  blank_says : (ps : List Property) (f : Lexemes) → SaysProperties ps f → SaysNode (n.Blank ps) f
+  blank_says ps f h = say_by _ _ f (leaves-Blank ps) h
+
+  collection_says : (xs : List Node) (f : Lexemes) → SaysNodes xs f → SaysNode (n.Collection xs) f
+  collection_says xs f h = say_by _ _ f (leaves-Collection xs) h
+
+  literal_says : (x : Literal) (f : Lexemes) → SaysLiteral x f → SaysNode (n.Literal x) f
+  literal_says x f h = say_by _ _ f (leaves-Literal x) h
+
+  abbrev SaysSubject : Node → Lexemes → Type 0
+  SaysSubject x f = SaysNode x f × IsSubject x
+
+  subject_gives : Gives (g.Subject P) SaysSubject
+  subject_gives =
+      or_gives _ _ SaysSubject (map_gives n.Name _ SaysName SaysSubject iri_gives (λ a f h. (name_says a f h, tt)))
+      (or_gives _ _ SaysSubject (or_gives _ _ SaysSubject (map_gives n.Label _ (IsValue terminal.BlankLabel) SaysSubject (value_gives terminal.BlankLabel) (λ a f h. (label_says a f h, tt)))
+      (map_gives n.Blank _ SaysProperties SaysSubject anonymous_gives (λ ps f h. (blank_says ps f h, tt))))
+      (map_gives n.Collection _ SaysNodes SaysSubject collection_gives (λ xs f h. (collection_says xs f h, tt))))
+
+  object_gives : Gives (g.Object P) SaysNode
+  object_gives =
+      or_gives _ _ SaysNode (map_gives n.Name _ SaysName SaysNode iri_gives name_says)
+      (or_gives _ _ SaysNode (or_gives _ _ SaysNode (map_gives n.Label _ (IsValue terminal.BlankLabel) SaysNode (value_gives terminal.BlankLabel) label_says) (map_gives n.Blank _ SaysProperties SaysNode anonymous_gives blank_says))
+      (or_gives _ _ SaysNode (map_gives n.Collection _ SaysNodes SaysNode collection_gives collection_says)
+      (or_gives _ _ SaysNode (map_gives n.Blank _ SaysProperties SaysNode blank_node_property_list_gives blank_says) (map_gives n.Literal _ SaysLiteral SaysNode literal_gives literal_says))))
+
+objects_at_give : (depth : ℕ) → Gives (g.Objects_at depth) SaysNode
+unfolding Gives
+objects_at_give zero ts x us d = absurd d
+objects_at_give (suc depth) ts x us d = object_gives (g.Objects_at depth) (objects_at_give depth) ts x us d
+
+-- ---- statements
+
+-- behind no text they carry the leaves, and a text isn't the last
+record SaysStatement (x : Statement) (f : Lexemes) : Type 0 where
+  says : contents false f ≡ statement_leaves x
+  ends : last false f ≡ false
+  subject : HasSubject x
+
+-- the same, wherever they stand
+record SaysBound (x : Statement) (f : Lexemes) : Type 0 where
+  says : Says (statement_leaves x) f
+  ends : last false f ≡ false
+  subject : HasSubject x
+
+-- the word of a directive
+directive_says : (k : Terminal) (x : Statement) (t : Lexeme) (f : Lexemes) → ((text : Piece) → content false k text ≡ []) → takes_tag k ≡ false → t.terminal ≡ k → SaysBound x f → SaysStatement x (t ∷ f)
+directive_says k x t f sign plain is h = record {
+  says = ap (λ (j : Terminal). content false j t.text ++ contents (takes_tag t.terminal) f) is ∙ ap (λ (zs : List Leaf). zs ++ contents (takes_tag t.terminal) f) (sign t.text) ∙ h.says (takes_tag t.terminal);
+  ends = ap (λ (b : Bool). last b f) (ap takes_tag is ∙ plain) ∙ h.ends;
+  subject = h.subject;
+}
+
+-- a dot ends a statement
+dot_says : (x : Statement) (t : Lexeme) (f : Lexemes) → t.terminal ≡ terminal.Dot → Says (statement_leaves x) f × HasSubject x → SaysBound x (f ++ t ∷ [])
+dot_says x t f is h = record {
+  says = sign_behind terminal.Dot t (statement_leaves x) f (λ b text. refl) is h.0;
+  ends = last-append f (t ∷ []) false ∙ ap takes_tag is;
+  subject = h.1;
+}
+
+bound_says : (x : Statement) (f : Lexemes) → SaysBound x f → SaysStatement x f
+bound_says x f h = record { says = h.says false; ends = h.ends; subject = h.subject }
+
+abbrev SaysPrefix : Piece → Lexemes → Type 0
+SaysPrefix prefix f = Says ((terminal.Pname, prefix ∷ [] ∷ []) ∷ []) f
+
+prefix_says : (t : Lexeme) (x : Piece) → word t.terminal ≡ Some w.Pname → local_part t.text ≡ [] → prefix_part t.text ≡ x → SaysPrefix x (t ∷ [])
+prefix_says t x is none prefix = λ b.
+    ap (λ (k : Terminal). content b k t.text ++ []) (is_pname t.terminal is) ∙ ap (λ (p : Piece). (terminal.Pname, p ∷ local_part t.text ∷ []) ∷ []) prefix
+    ∙ ap (λ (p : Piece). (terminal.Pname, x ∷ p ∷ []) ∷ []) none
+
+namespace_gives : Gives (productions.namespace word) SaysPrefix
+unfolding Gives
+namespace_gives ts x us d = record { front = d.0 ∷ []; is = d.4; good = prefix_says d.0 x d.1 d.2 d.3 }
+
+-- a reference is the last
+reference_ends : (f h : Lexemes) (reference : Piece) → IsValue terminal.Iri reference h → last false (f ++ h) ≡ false
+reference_ends f h reference v = last-append f h false ∙ ap (λ (z : Lexemes). last (last false f) z) v.is ∙ ap takes_tag v.terminal
+
+binding_gives : Gives g.Binding SaysBound
+binding_gives = map_gives g.bound _ (λ b f. SaysBound (g.bound b) f) SaysBound
+    (then_gives _ _ (λ prefix reference. (prefix, reference)) SaysPrefix (IsValue terminal.Iri) (λ b f. SaysBound (g.bound b) f) namespace_gives (word_gives w.Iri terminal.Iri is_iri)
+    (λ prefix reference f h q r. record {
+      says = both_say _ (leaf terminal.Iri reference ∷ []) f h q (value_says terminal.Iri reference _ h r (λ b. refl));
+      ends = reference_ends f h reference r;
+      subject = tt;
+    }))
+    (λ b f h. h)
+
+base_gives : Gives g.Base SaysBound
+base_gives = map_gives s.Base _ (IsValue terminal.Iri) SaysBound (value_gives terminal.Iri)
+    (λ a f h. record { says = value_says terminal.Iri a _ f h (λ b. refl); ends = reference_ends [] f a h; subject = tt })
+
+dotted_gives : (P : Derives Statement) → Gives P (λ x f. Says (statement_leaves x) f × HasSubject x) → Gives (g.Dotted P) SaysBound
+dotted_gives P p = closed_gives terminal.Dot P (λ x f. Says (statement_leaves x) f × HasSubject x) SaysBound p (λ x t f is h. dot_says x t f is h)
+
+bound_dotted : (P : Derives Statement) → Gives P SaysBound → Gives (g.Dotted P) SaysBound
+bound_dotted P p = dotted_gives P (wide_gives P SaysBound _ p (λ x f h. (h.says, h.subject)))
+
+directive_gives : Gives g.Directive SaysStatement
+directive_gives =
+    or_gives _ _ SaysStatement (behind_gives terminal.AtPrefix _ SaysBound SaysStatement (bound_dotted _ binding_gives) (λ x t f is h. directive_says terminal.AtPrefix x t f (λ text. refl) refl is h))
+    (or_gives _ _ SaysStatement (behind_gives terminal.AtBase _ SaysBound SaysStatement (bound_dotted _ base_gives) (λ x t f is h. directive_says terminal.AtBase x t f (λ text. refl) refl is h))
+    (or_gives _ _ SaysStatement (behind_gives terminal.Prefix _ SaysBound SaysStatement binding_gives (λ x t f is h. directive_says terminal.Prefix x t f (λ text. refl) refl is h))
+    (behind_gives terminal.Base _ SaysBound SaysStatement base_gives (λ x t f is h. directive_says terminal.Base x t f (λ text. refl) refl is h))))
+
+some_properties : (o : Option (List Property)) (f : Lexemes) → IsOption SaysProperties o f → SaysProperties (g.all_of o) f
+some_properties None f h = λ b. ap (λ (z : Lexemes). contents b z) h
+some_properties (Some ps) f h = h
+
+abbrev SaysTriples : Statement → Lexemes → Type 0
+SaysTriples x f = Says (statement_leaves x) f × HasSubject x
+
+module _ (I P : Derives Node) (i : Gives I SaysNode) (p : Gives P SaysNode) where
+  about_gives : Gives (g.About I P) SaysTriples
+  about_gives = then_gives _ _ (λ subject ps. s.Triples subject ps) (SaysSubject I i) SaysProperties SaysTriples (subject_gives I i) (predicate_object_list_gives P p)
+      (λ subject ps f h q r. (both_say (node_leaves subject) _ f h q.0 r, q.1))
+
+  about_blank_gives : Gives (g.AboutBlank I P) SaysTriples
+  about_blank_gives = then_gives _ _ (λ inside ps. s.Triples (n.Blank inside) (g.all_of ps)) SaysProperties (IsOption SaysProperties) SaysTriples (blank_node_property_list_gives I i)
+      (maybe_gives _ SaysProperties (predicate_object_list_gives P p))
+      (λ inside ps f h q r. (both_say (node_leaves (n.Blank inside)) _ f h (blank_says I i inside f q) (some_properties ps h r), tt))
+
+  statement_gives : Gives (g.AStatement I P) SaysStatement
+  statement_gives =
+      or_gives _ _ SaysStatement directive_gives
+      (wide_gives _ SaysBound SaysStatement (dotted_gives _ (or_gives _ _ SaysTriples about_gives about_blank_gives)) bound_says)
+
+-- ---- documents
+
+record SaysDocument (xs : List Statement) (f : Lexemes) : Type 0 where
+  says : contents false f ≡ document_leaves xs
+  ends : last false f ≡ false
+  subjects : AllByRecursion HasSubject xs
+
+subjects_joined : (xs ys : List Statement) → AllByRecursion HasSubject xs → AllByRecursion HasSubject ys → AllByRecursion HasSubject (xs ++ ys)
+subjects_joined [] ys a b = b
+subjects_joined (x ∷ xs) ys a b = (a.0, subjects_joined xs ys a.1 b)
+
+documents_say : (xs ys : List Statement) (f h : Lexemes) → SaysDocument xs f → SaysDocument ys h → SaysDocument (xs ++ ys) (f ++ h)
+documents_say xs ys f h a b = record {
+  says = contents-append f h false ∙ ap (λ (c : Bool). contents false f ++ contents c h) a.ends ∙ ap (λ (zs : List Leaf). zs ++ contents false h) a.says
+      ∙ ap (λ (zs : List Leaf). document_leaves xs ++ zs) b.says ∙ sym (joined-append statement_leaves xs ys);
+  ends = last-append f h false ∙ ap (λ (c : Bool). last c h) a.ends ∙ b.ends;
+  subjects = subjects_joined xs ys a.subjects b.subjects;
+}
+
+document_gives : (depth : ℕ) → Gives (g.Document depth) SaysDocument
+document_gives depth =
+    star_gives _ SaysDocument (record { says = refl; ends = refl; subjects = tt }) documents_say
+    (map_gives (λ x. x ∷ []) _ SaysStatement SaysDocument (statement_gives (g.Objects_at depth) (g.Objects_at (suc depth)) (objects_at_give depth) (objects_at_give (suc depth)))
+    (λ x f h. record { says = h.says ∙ sym (append-nil (statement_leaves x)); ends = h.ends; subjects = (h.subject, tt) }))
+
+whole_document : (ts : Lexemes) (ss : List Statement) → g.IsDocument ts ss → SaysDocument ss ts
+unfolding Gives
+whole_document ts ss d =
+    let r = document_gives d.0 ts ss [] d.1 in
+    subst (SaysDocument ss) (sym (r.is ∙ append-nil r.front)) r.good
 
 pub documents_have_subjects : (ts : Lexemes) (ss : List Statement) → g.IsDocument ts ss → AllByRecursion HasSubject ss
-documents_have_subjects ts ss d = subjects_stand ts ss (good_document ts ss d)
+documents_have_subjects ts ss d = (whole_document ts ss d).subjects
 
-pub leaves_are_lexemes : (ts : Lexemes) (ss : List Statement) → g.IsDocument ts ss → AllStand ts (document_leaves ss)
-leaves_are_lexemes ts ss d = statements_stand ts ss (good_document ts ss d)
-
--- what holds of each lexeme's leaf holds of the leaves that stand among them
-pub leaves_have : (ts : Lexemes) (Q : Leaf → Type 0) → ((t : Lexeme) (front behind : Lexemes) → ts ≡ front ++ t ∷ behind → Q (leaf_by t.terminal t.text)) → (xs : List Leaf) → AllStand ts xs → AllByRecursion Q xs
-leaves_have ts Q q [] h = tt
-leaves_have ts Q q (x ∷ xs) h = (rw (← h.0.is) (q h.0.lexeme h.0.front h.0.behind h.0.place), leaves_have ts Q q xs h.1)
+pub leaves_are_lexemes : (ts : Lexemes) (ss : List Statement) → g.IsDocument ts ss → document_leaves ss ≡ contents false ts
+leaves_are_lexemes ts ss d = sym (whole_document ts ss d).says

@@ -1,9 +1,9 @@
--- The pieces of the text that stand in a tree, and the lexemes that they are.
-use Rattle.std.specs.Prelude.{◌≡◌, List, [], ◌∷◌, ◌++◌, map}
+-- What a tree holds of the text, and what the lexemes carry: the same leaves, in the same order (Turtle 1.1, section 6.5).
+use Rattle.std.specs.Prelude.{◌≡◌, Bool, true, false, List, [], ◌∷◌, ◌++◌, map}
 use Rattle.std.specs.List.{AllByRecursion}
 use Rattle.rdf_turtle.specs.declared.terminal.Terminal.{Terminal}
 use Rattle.rdf_turtle.specs.declared.terminal.Terminal.TheVariants as terminal
-use Rattle.rdf_turtle.specs.Lexemes.{Lexeme, Lexemes}
+use Rattle.rdf_turtle.specs.Lexemes.{Lexemes}
 use Rattle.rdf_grammar.specs.declared.tree.Name.{Name}
 use Rattle.rdf_grammar.specs.declared.tree.Name.TheVariants.{Full, Prefixed}
 use Rattle.rdf_turtle.specs.declared.tree.Verb.{Verb}
@@ -28,23 +28,41 @@ Leaf = Terminal × List Piece
 abbrev pub leaf : Terminal → Piece → Leaf
 leaf k text = (k, text ∷ [])
 
--- behind a text each word with an at sign is a tag
-abbrev pub leaf_by : Terminal → Piece → Leaf
-leaf_by terminal.Pname text = (terminal.Pname, prefix_part text ∷ local_part text ∷ [])
-leaf_by terminal.AtPrefix text = leaf terminal.AtWord text
-leaf_by terminal.AtBase text = leaf terminal.AtWord text
-leaf_by k text = leaf k text
+-- ---- lexemes
 
--- one of the lexemes is this leaf
-pub record Stands (ts : Lexemes) (x : Leaf) : Type 0 where
-  pub front : Lexemes
-  pub lexeme : Lexeme
-  pub behind : Lexemes
-  pub place : ts ≡ front ++ lexeme ∷ behind
-  pub is : leaf_by lexeme.terminal lexeme.text ≡ x
+-- behind it each word with an at sign is a tag
+abbrev pub takes_tag : Terminal → Bool
+takes_tag terminal.Text = true
+takes_tag _ = false
 
-abbrev pub AllStand : Lexemes → List Leaf → Type 0
-AllStand ts leaves = AllByRecursion (Stands ts) leaves
+-- `@prefix` or `@base`: a tag behind a text, else the word of a directive
+abbrev pub at_word : Bool → Piece → List Leaf
+at_word true text = leaf terminal.AtWord text ∷ []
+at_word false text = []
+
+-- What a lexeme carries, behind a text or not: names, labels, texts, tags, numbers, truth values and `a`. Brackets, signs and the
+-- words of directives carry nothing.
+abbrev pub content : Bool → Terminal → Piece → List Leaf
+content behind terminal.Iri text = leaf terminal.Iri text ∷ []
+content behind terminal.Pname text = (terminal.Pname, prefix_part text ∷ local_part text ∷ []) ∷ []
+content behind terminal.BlankLabel text = leaf terminal.BlankLabel text ∷ []
+content behind terminal.Text text = leaf terminal.Text text ∷ []
+content behind terminal.AtWord text = leaf terminal.AtWord text ∷ []
+content behind terminal.AtPrefix text = at_word behind text
+content behind terminal.AtBase text = at_word behind text
+content behind terminal.Integer text = leaf terminal.Integer text ∷ []
+content behind terminal.Decimal text = leaf terminal.Decimal text ∷ []
+content behind terminal.Double text = leaf terminal.Double text ∷ []
+content behind terminal.True text = leaf terminal.True text ∷ []
+content behind terminal.False text = leaf terminal.False text ∷ []
+content behind terminal.A text = (terminal.A, []) ∷ []
+content behind _ text = []
+
+abbrev pub contents : Bool → Lexemes → List Leaf
+contents behind [] = []
+contents behind (t ∷ ts) = content behind t.terminal t.text ++ contents (takes_tag t.terminal) ts
+
+-- ---- trees
 
 abbrev pub joined : List (List Leaf) → List Leaf
 joined [] = []
@@ -56,7 +74,7 @@ name_leaves (Prefixed prefix local) = (terminal.Pname, prefix ∷ local ∷ []) 
 
 abbrev pub verb_leaves : Verb → List Leaf
 verb_leaves (v.Name name) = name_leaves name
-verb_leaves v.Type = []
+verb_leaves v.Type = (terminal.A, []) ∷ []
 
 abbrev pub literal_leaves : Literal → List Leaf
 literal_leaves (l.Plain form) = leaf terminal.Text form ∷ []
@@ -65,7 +83,8 @@ literal_leaves (l.Typed form datatype) = leaf terminal.Text form ∷ name_leaves
 literal_leaves (l.Integer form) = leaf terminal.Integer form ∷ []
 literal_leaves (l.Decimal form) = leaf terminal.Decimal form ∷ []
 literal_leaves (l.Double form) = leaf terminal.Double form ∷ []
-literal_leaves (l.Boolean value word) = []
+literal_leaves (l.Boolean true word) = leaf terminal.True word ∷ []
+literal_leaves (l.Boolean false word) = leaf terminal.False word ∷ []
 
 abbrev pub property_leaves_of : Property-F (List Leaf) (List Leaf) → List Leaf
 property_leaves_of p = verb_leaves p.verb ++ joined p.objects
@@ -108,5 +127,6 @@ OneDocument = (ts : Lexemes) (one other : List Statement) → IsDocument ts one 
 abbrev pub DocumentsHaveSubjects : Type 0
 DocumentsHaveSubjects = (ts : Lexemes) (document : List Statement) → IsDocument ts document → AllByRecursion HasSubject document
 
+-- the leaves of a document are the lexemes that carry content, in order, each once
 abbrev pub LeavesAreLexemes : Type 0
-LeavesAreLexemes = (ts : Lexemes) (document : List Statement) → IsDocument ts document → AllStand ts (document_leaves document)
+LeavesAreLexemes = (ts : Lexemes) (document : List Statement) → IsDocument ts document → document_leaves document ≡ contents false ts

@@ -15,8 +15,8 @@ pub fn documents_have_subjects()
     ensures { DocumentsHaveSubjects }
 {}
 
-/// Each name, label and literal of a document's tree is written by one of its lexemes, and by one
-/// of the right terminal.
+/// The leaves of a document's tree are the lexemes that carry content, in order, each once
+/// (Turtle 1.1, section 6.5): its names, labels, literals and `a`, each with its terminal.
 pub fn leaves_are_lexemes()
     ensures { LeavesAreLexemes }
 {}
