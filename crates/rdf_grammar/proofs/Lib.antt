@@ -6,6 +6,7 @@ pub mod KeyEntries
 pub mod LexemeLemmas
 pub mod LiteralLemmas
 pub mod Nests
+pub mod NumberingLemmas
 pub mod ProductionNests
 pub mod Productions
 pub mod PrologueIris

@@ -4,6 +4,7 @@ pub mod Lexemes
 pub mod Literals
 pub mod Nesting
 pub mod Numbering
+pub mod NumberingLaws
 pub mod ProductionLaws
 pub mod ProductionReadings
 pub mod Productions
