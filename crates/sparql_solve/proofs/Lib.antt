@@ -5,6 +5,7 @@ pub mod GrowthLemmas
 pub mod MatchingLemmas
 pub mod LookUpLemmas
 pub mod BasicLemmas
+pub mod UnderLemmas
 pub mod StepLemmas
 pub mod DistinctLemmas
 pub mod ResultLemmas

@@ -1,2 +1,3 @@
+pub mod LookUps
 pub mod Matching
 pub mod Steps

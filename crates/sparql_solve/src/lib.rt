@@ -5,11 +5,13 @@
 mod evaluator;
 mod filters;
 mod joins;
+mod laws;
 mod matching;
 mod order;
 mod place;
 mod results;
 mod rows;
 
+pub use laws::look_ups_are_merges;
 pub use results::{Solutions, ask, select, solve, sorted_solutions};
 pub use rows::Row;
