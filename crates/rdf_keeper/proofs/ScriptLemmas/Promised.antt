@@ -1,5 +1,5 @@
 -- A script's answers are the steps of a session.
-use Rattle.std.proofs.Common.{◌≡◌, inl, inr, ℕ, Bool, true, false, List, [], ◌∷◌, refl, sym, ap, ◌∙◌, subst, None}
+use Rattle.std.proofs.Common.{◌≡◌, inl, inr, ℕ, Bool, true, false, List, [], ◌∷◌, ◌++◌, refl, sym, ap, ◌∙◌, subst, None}
 use mathlib.Core.Bool.{true≢false}
 use Rattle.rdf_session.specs.Between.{IsQuiet, Quietly}
 use Rattle.rdf_session.specs.GivesBack.{UndoGivesBack, RedoGivesAgain}
@@ -60,13 +60,14 @@ answers_are_steps stop last refused (c ∷ cs) old answers new status (inr (text
 
 pub scripts_are_promised : Headline → ScriptsArePromised
 scripts_are_promised headline base_iri start stop before after answers session status over =
-    elim over.2 [
+    let read = over.read ++ over.last in
+    elim over.ends [
       | inl ended ↦
-          let run = answers_are_steps stop Accepted false (commands true None (raw_lines over.0)) (fresh base_iri start) answers session status ended.1 in
-          (over.0, over.1, record { asked = commands true None (raw_lines over.0); theirs = inl refl; events = run.0; told = run.1; promise = headline base_iri start run.0 session run.2 })
+          let run = answers_are_steps stop Accepted false (commands true None (raw_lines read)) (fresh base_iri start) answers session status ended.1 in
+          (read, over.consumed, record { asked = commands true None (raw_lines read); theirs = inl refl; events = run.0; told = run.1; promise = headline base_iri start run.0 session run.2 })
       | inr front ↦
-          let run = answers_are_steps stop ReadFailed false (commands false None (raw_lines (upto_last_end over.0))) (fresh base_iri start) answers session status front in
-          (over.0, over.1, record { asked = commands false None (raw_lines (upto_last_end over.0)); theirs = inr refl; events = run.0; told = run.1; promise = headline base_iri start run.0 session run.2 })
+          let run = answers_are_steps stop ReadFailed false (commands false None (raw_lines (upto_last_end read))) (fresh base_iri start) answers session status front in
+          (read, over.consumed, record { asked = commands false None (raw_lines (upto_last_end read)); theirs = inr refl; events = run.0; told = run.1; promise = headline base_iri start run.0 session run.2 })
     ]
 
 -- ---- what comes between
