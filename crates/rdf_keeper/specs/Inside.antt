@@ -2,5 +2,6 @@
 pub mod Asks
 pub mod Held
 pub mod Outcomes
+pub mod Starts
 pub mod Says
 pub mod Streams

@@ -1,8 +1,14 @@
 //! The whole program, over its words, its standard input, output and error.
-ghost use Rattle.std.specs.Prelude.{◌≡◌, ◌≢◌, ◌≤◌, ℕ, List, [], Option, Some, Result};
+ghost use Rattle.std.specs.Prelude.{◌≡◌, ◌≢◌, ◌≤◌, ℕ, List, [], Option, Some, Result, IfOk, OnOk, OnErr};
+ghost use Rattle.std.specs.List.{concat};
+ghost use Rattle.std.specs.Option.{option_copied};
 ghost use Rattle.std.specs.Io.KnownBytes.{Appends};
 ghost use Rattle.rdf_keeper.specs.Conversion.Converts.{Converts};
 ghost use Rattle.rdf_keeper.specs.Inside.Outcomes.{status_of, outcome_of};
+ghost use Rattle.rdf_keeper.specs.Inside.Starts.{BeginsWithData, outcome_after};
+ghost use Rattle.rdf_keeper.specs.Script.Runs.{RunsOver};
+ghost use Rattle.rdf_keeper.specs.declared.script.status.Status.{Status};
+ghost use Rattle.rdf_session.specs.Session.{Session};
 ghost use Rattle.rdf_keeper.specs.declared.conversion.fault.ConvertFault.{ConvertFault};
 
 mod help;
@@ -23,7 +29,9 @@ use std::io::{Read, Write};
 use std::rt::Files;
 
 // The base that the words give, if any.
-fn base_of(alloc: Global, word: Option<&str>) -> Result<Option<Iri>, Outcome> {
+fn base_of(alloc: Global, word: Option<&str>) -> Result<Option<Iri>, Outcome>
+    ensures { IfOk result (λ base. base ≡ option_copied word.entry) }
+{
     match word {
         None => Ok(None),
         Some(text) => match Iri::new(alloc, text) {
@@ -41,7 +49,10 @@ fn begin<T: Files>(
     keeper: &mut Keeper,
     path: &str,
     format: Format,
-) -> Result<(), Outcome> {
+) -> Result<(), Outcome>
+    ensures ok { OnOk result (BeginsWithData format keeper.old keeper.new) }
+    ensures err { OnErr result (keeper.new ≡ keeper.old) }
+{
     let Ok(mut file) = fs::open(rt, path) else {
         return Err(Outcome::ReadFailed);
     };
@@ -69,7 +80,11 @@ fn run_all<R: Read + Drop, W: Write>(
     writer: &mut W,
     settings: Settings,
 ) -> Outcome
-    ensures { status_of result ≢ 2 }
+    ensures told { status_of result ≢ 2 }
+    ensures ran { (answers : List (List ℕ)) × (left : Option (List ℕ)) × (end : Session) × (status : Status)
+        × Appends (W.contents writer.old) (W.contents writer.new) (concat answers)
+        × RunsOver settings.stop (R.remaining reader) left keeper answers end status
+        × (result ≡ outcome_after status) }
 {
     match run(alloc, &mut keeper, &mut reader, writer, settings) {
         Status::Accepted => Outcome::Done,
