@@ -1,4 +1,4 @@
-//! Look-ups in three orders, and refusals that leave all three as they were.
+//! Look-ups in three orders.
 use rdf_orders::{Key, Order, QuadSets, Walk, look_up};
 use rdf_terms::NoMemory;
 use std::alloc::Global;
@@ -37,37 +37,5 @@ fn other_bound_places(rt: HostRuntime) -> Result<(), NoMemory> {
     );
     assert!(rt; out.as_slice() == [[0, 1, 2, 3], [0, 1, 2, 4], [0, 5, 2, 3]].as_slice());
     assert_eq!(rt; sets.matches(alloc, 1, None, None, None, &mut out)?, 0);
-    Ok(())
-}
-
-// A hundred quads of one graph.
-fn hundred(alloc: Global) -> Result<Vec<Key>, NoMemory> {
-    let mut quads = Vec::new(alloc);
-    for number in 0..100u64 {
-        quads.push([0, number, 1, number % 7])?;
-    }
-    Ok(quads)
-}
-
-// How many of the three orders have a quad, how many quads there are, and whether graph 0 is there.
-fn seen(sets: &QuadSets) -> (usize, usize, bool) {
-    let mut orders = 0;
-    for order in [Order::Spo, Order::Pos, Order::Osp] {
-        if sets.next_in(order, &[0], None).is_some() {
-            orders += 1;
-        }
-    }
-    (orders, sets.keys().len(), sets.has_name(0))
-}
-
-#[test]
-fn committed_or_refused(rt: HostRuntime) -> Result<(), NoMemory> {
-    let quads = hundred(rt.alloc())?;
-    let mut sets = QuadSets::new(rt.alloc());
-    if sets.commit(&quads, &[], &[0], &[]).is_ok() {
-        assert!(rt; seen(&sets) == (3, 100, true));
-        assert!(rt; sets.revert(&quads, &[], &[0], &[]).is_ok());
-    }
-    assert!(rt; seen(&sets) == (0, 0, false));
     Ok(())
 }
