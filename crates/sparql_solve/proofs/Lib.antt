@@ -6,6 +6,7 @@ pub mod MatchingLemmas
 pub mod LookUpLemmas
 pub mod BasicLemmas
 pub mod UnderLemmas
+pub mod SideLemmas
 pub mod StepLemmas
 pub mod DistinctLemmas
 pub mod ResultLemmas

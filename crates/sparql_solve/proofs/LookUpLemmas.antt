@@ -1,5 +1,5 @@
 -- What look-ups find under a mapping.
-use Rattle.std.proofs.Common.{◌≡◌, ℕ, ◌+◌, ◌<◌, Bool, true, false, cond, List, [], ◌∷◌, refl, sym, ap, ◌∙◌, subst, length, drop, get_or}
+use Rattle.std.proofs.Common.{◌≡◌, ℕ, ◌+◌, ◌<◌, Bool, true, false, cond, List, [], ◌∷◌, ◌++◌, map, refl, sym, ap, ◌∙◌, subst, length, take, drop, get_or}
 use Rattle.std.specs.List.{sum_by}
 use Rattle.std.proofs.lemmas.List.{drop_more}
 use Rattle.rdf_terms.specs.Quad.{QuadParts}
@@ -9,9 +9,12 @@ use Rattle.rdf_dataset.specs.Sorted.{ListsOnce}
 use Rattle.sparql_values.specs.Mapping.{Mapping}
 use Rattle.sparql_algebra.specs.Bags.{SameBag}
 use Rattle.sparql_algebra.specs.Listing.{Listing, Lists, graph_quads}
-use Rattle.sparql_algebra.proofs.CallerLemmas.{sum_by-cong, sum_by-filter, SameBag-refl, SameBag-flat_map, found_quads}
+use Rattle.sparql_algebra.proofs.CallerLemmas.{sum_by-cong, sum_by-filter, SameBag-refl, SameBag-map, SameBag-flat_map, found_quads}
+use Rattle.sparql_solve.specs.declared.look_ups.LookUp.{LookUp}
 use Rattle.sparql_solve.specs.declared.place.Places.{Places}
+use Rattle.sparql_solve.specs.LookUps.{widened}
 use Rattle.sparql_solve.specs.Matching.{matched, matches_of, stepped, matching, held, quads_under}
+use Rattle.sparql_solve.specs.Sides.{found_in}
 use Rattle.sparql_solve.specs.Steps.{Gives}
 use Rattle.sparql_solve.proofs.FitLemmas.{terms_under, no_terms}
 use Rattle.sparql_solve.proofs.MatchingLemmas.{num, sum_by-filter_map}
@@ -55,3 +58,15 @@ matching_more s g ps i p rows given after start lt here h eg r d l f =
     let one : SameBag after (stepped (d.quads g) rows p) = subst (λ (xs : List Mapping). SameBag after (stepped (d.quads g) xs p)) eg (r d l) in
     SameBag-matching (d.quads g) rest after (stepped (d.quads g) rows p) one f
     ∙ ap (λ (qs : List Places). sum_by f (matching (d.quads g) qs rows)) (sym next) ∙ h d l f
+
+-- ---- under one row, in one graph
+
+pub in_graph_gives : (s : State) (g : GraphName) (l : LookUp) (m wide values : Mapping) (n : ℕ) (given : List Places) (first start rows out : List Mapping) →
+    given ≡ l.places → start ≡ first ++ wide ∷ [] → first ≡ [] → wide ≡ widened l.hidden m → Gives s rows (λ d. matching (d.quads g) given start) →
+    out ≡ map (take n) rows → n ≡ length values → values ≡ m → Gives s out (λ d. found_in d l g m)
+in_graph_gives s g l m wide values n given first start rows out eg es ef ew h eo en ev d k f =
+    ap (sum_by f) (eo ∙ ap (λ (i : ℕ). map (take i) rows) (en ∙ ap length ev))
+    ∙ SameBag-map (take (length m)) rows (matching (d.quads g) given start) (h d k) f
+    ∙ ap (λ (ps : List Places). sum_by f (map (take (length m)) (matching (d.quads g) ps start))) eg
+    ∙ ap (λ (ms : List Mapping). sum_by f (map (take (length m)) (matching (d.quads g) l.places ms)))
+    (es ∙ ap (λ (ms : List Mapping). ms ++ wide ∷ []) ef ∙ ap (λ (w : Mapping). w ∷ []) ew)

@@ -15,31 +15,22 @@ use Rattle.sparql_trees.specs.declared.pattern.Member.TheVariants as m
 use Rattle.sparql_trees.specs.declared.pattern.Pattern.{Pattern}
 use Rattle.sparql_trees.specs.declared.pattern.VarOrIri.{VarOrIri}
 use Rattle.sparql_trees.specs.declared.pattern.VarOrIri.TheVariants as v
-use Rattle.sparql_algebra.specs.Algebra.{Algebra, empty_pattern, union, graph, Element, joined, optional, filtered, extended, element, group_of, translation, union_of}
+use Rattle.sparql_algebra.specs.Algebra.{Algebra, empty_pattern, union, graph, Element, filtered, extended, element, group_of, translation, union_of}
 use Rattle.sparql_algebra.specs.Bags.{SameBag}
 use Rattle.sparql_algebra.specs.Listing.{Listing, Lists}
 use Rattle.sparql_values.specs.Mapping.{Variables, Mapping, same_term, single}
 use Rattle.sparql_algebra.specs.Solutions.{joins, satisfies, solutions}
-use Rattle.sparql_algebra.proofs.CallerLemmas.{SameBag-refl, SameBag-filter, SameBag-joins, SameBag-left_joins, SameBag-flat_map, filter_always, names_same, translation-is, element-Union, element-Optional, element-Graph}
-use Rattle.sparql_solve.specs.Steps.{Gives, GivesMore, rows_after, element_solutions, over_names, over_groups}
-use Rattle.sparql_solve.proofs.BasicLemmas.{basic_bag}
+use Rattle.sparql_algebra.proofs.CallerLemmas.{SameBag-refl, SameBag-filter, SameBag-joins, SameBag-flat_map, filter_always, names_same, translation-is, element-Union, empty_solutions}
+use Rattle.sparql_solve.specs.declared.sides.Side.{Side}
+use Rattle.sparql_solve.specs.Sides.{IsSideOf, rows_after}
+use Rattle.sparql_solve.specs.Steps.{Gives, GivesMore, element_solutions, over_names, over_groups}
+use Rattle.sparql_solve.proofs.SideLemmas.{after_side}
 
 -- ---- the empty pattern
 
-take_own : (x : Option Term) (n : ℕ) → take n (replicate n x) ≡ replicate n x
-take_own x zero = refl
-take_own x (suc n) = ap (λ l. x ∷ l) (take_own x n)
-
-no_more : (n : ℕ) → n + 0 ≡ n
-no_more n = omega arith
-
 module _ (vs : Variables) (s : State) (g : GraphName) where
   pub unit_gives : (rows : List Mapping) → rows ≡ replicate (length vs) None ∷ [] → Gives s rows (λ d. solutions vs d g empty_pattern)
-  unit_gives rows e d l =
-      let start : take (length vs) (replicate (length vs + 0) None) ≡ replicate (length vs) None =
-      ap (λ k. take (length vs) (replicate k None)) (no_more (length vs)) ∙ take_own None (length vs) in
-      subst (λ xs. SameBag xs (solutions vs d g empty_pattern)) (ap (λ (x : Mapping). x ∷ []) start ∙ sym e)
-      (basic_bag vs s g (record { triples = []; hidden = 0 }) (d.quads g) (l.quads g))
+  unit_gives rows e d l f = ap (sum_by f) e ∙ sym (empty_solutions vs (d.quads g) f)
 
   -- ---- the members of a group
 
@@ -48,24 +39,16 @@ module _ (vs : Variables) (s : State) (g : GraphName) where
   extended_push G [] x = refl
   extended_push G (y ∷ xs) x = extended_push (extended G (element y)) xs x
 
-  after_one : (d : Listing) (G : Algebra) (k : Element) (rows right : List Mapping) → SameBag rows (solutions vs d g G) →
-      SameBag right (element_solutions vs d g k) → SameBag (rows_after vs rows right k) (solutions vs d g (extended G k))
-  after_one d G (joined A) rows right h r = SameBag-joins rows (solutions vs d g G) right (solutions vs d g A) h r
-  after_one d G (optional F A) rows right h r = SameBag-left_joins (satisfies vs F) rows (solutions vs d g G) right (solutions vs d g A) h r
-
-  pub members_more : (ms : List Member) (i : ℕ) (x : Member) (rows right left other out : List Mapping) → i < length ms → x ≡ get_or ms i x →
-      Gives s rows (λ d. solutions vs d g (group_of (map element (take i ms)))) → Gives s right (λ d. element_solutions vs d g (element x)) →
-      left ≡ rows → other ≡ right → out ≡ rows_after vs left other (element x) →
+  pub members_more : (ms : List Member) (i : ℕ) (x : Member) (rows left out : List Mapping) (right : Side) → i < length ms → x ≡ get_or ms i x →
+      Gives s rows (λ d. solutions vs d g (group_of (map element (take i ms)))) → IsSideOf vs s right (λ d. element_solutions vs d g (element x)) →
+      left ≡ rows → Gives s out (λ d. rows_after vs d left right (element x)) →
       Gives s out (λ d. solutions vs d g (group_of (map element (take (i + 1) ms))))
-  members_more ms i x rows right left other out lt here h r el eo e d l =
+  members_more ms i x rows left out right lt here h r el e d l f =
       let more : take (i + 1) ms ≡ take i ms ++ x ∷ [] = take_more ms i x lt ∙ ap (λ (y : Member). take i ms ++ y ∷ []) (sym here) in
-      let is : out ≡ rows_after vs rows right (element x) =
-      e ∙ ap (λ xs. rows_after vs xs other (element x)) el ∙ ap (λ xs. rows_after vs rows xs (element x)) eo in
-      let P : List Member → Type 0 = λ ps. SameBag out (solutions vs d g (group_of (map element ps))) in
-      let R : Algebra → Type 0 = λ A. SameBag out (solutions vs d g A) in
-      let Q : List Mapping → Type 0 = λ o. SameBag o (solutions vs d g (extended (group_of (map element (take i ms))) (element x))) in
-      subst P (sym more) (subst R (sym (extended_push empty_pattern (take i ms) x))
-      (subst Q (sym is) (after_one d (group_of (map element (take i ms))) (element x) rows right (h d l) (r d l))))
+      e d l f ∙ ap (λ (xs : List Mapping). sum_by f (rows_after vs d xs right (element x))) el
+      ∙ after_side vs d g (group_of (map element (take i ms))) rows right (h d l) (element x) (r d l) f
+      ∙ ap (λ A. sum_by f (solutions vs d g A)) (sym (extended_push empty_pattern (take i ms) x))
+      ∙ ap (λ (ps : List Member). sum_by f (solutions vs d g (group_of (map element ps)))) (sym more)
 
   under_filters : (d : Listing) (F : List Expression) (A : Algebra) (rows : List Mapping) → SameBag rows (solutions vs d g A) →
       SameBag (filter (satisfies vs F) rows) (solutions vs d g (filtered F A))
@@ -81,23 +64,11 @@ module _ (vs : Variables) (s : State) (g : GraphName) where
       subst (λ A. SameBag out (solutions vs d g A)) (sym (translation-is p))
       (subst (λ xs. SameBag xs (solutions vs d g (filtered p.filters G))) (sym is) (under_filters d p.filters G rows inner))
 
-  -- OPTIONAL's group alone, without its filters
-  pub optional_gives : (member : Member) (p : Pattern) (ms : List Member) (out : List Mapping) → member ≡ m.Optional p → ms ≡ p.members →
-      Gives s out (λ d. solutions vs d g (group_of (map element ms))) → Gives s out (λ d. element_solutions vs d g (element member))
-  optional_gives member p ms out em es h d l =
-      subst (λ k. SameBag out (element_solutions vs d g k)) (sym (ap element em ∙ element-Optional p))
-      (subst (λ (xs : List Member). SameBag out (solutions vs d g (group_of (map element xs)))) es (h d l))
-
   pub groups_give : (member : Member) (ps given : List Pattern) (out : List Mapping) → member ≡ m.Union ps → given ≡ ps →
       Gives s out (λ d. solutions vs d g (union_of (map translation given))) → Gives s out (λ d. element_solutions vs d g (element member))
   groups_give member ps given out em eg h d l =
       subst (λ k. SameBag out (element_solutions vs d g k)) (sym (ap element em ∙ element-Union ps))
       (subst (λ (qs : List Pattern). SameBag out (solutions vs d g (union_of (map translation qs)))) eg (h d l))
-
-  pub graph_gives : (member : Member) (name : VarOrIri) (p : Pattern) (out : List Mapping) → member ≡ m.Graph name p →
-      ((active : GraphName) → Gives s out (λ d. solutions vs d active (graph name (translation p)))) → Gives s out (λ d. element_solutions vs d g (element member))
-  graph_gives member name p out em h d l =
-      subst (λ k. SameBag out (element_solutions vs d g k)) (sym (ap element em ∙ element-Graph name p)) (h g d l)
 
   -- ---- UNION
 

@@ -1,3 +1,4 @@
 pub mod LookUps
 pub mod Matching
+pub mod Sides
 pub mod Steps

@@ -10,7 +10,7 @@ use Rattle.sparql_values.specs.Mapping.{Variables, Mapping, single}
 use Rattle.sparql_algebra.specs.Algebra.{Algebra, Element, joined, optional, translation}
 use Rattle.sparql_algebra.specs.Bags.{SameBag}
 use Rattle.sparql_algebra.specs.Listing.{Listing, Lists}
-use Rattle.sparql_algebra.specs.Solutions.{joins, left_joins, satisfies, solutions}
+use Rattle.sparql_algebra.specs.Solutions.{joins, solutions}
 
 -- however the state is listed, the rows are these solutions, each as often
 abbrev pub Gives : State → List Mapping → (Listing → List Mapping) → Type 0
@@ -19,11 +19,6 @@ Gives s rows F = (d : Listing) → Lists s d → SameBag rows (F d)
 -- the rows, and with them what is still to come
 abbrev pub GivesMore : State → List Mapping → (Listing → List Mapping) → (Listing → List Mapping) → Type 0
 GivesMore s rows rest F = (d : Listing) → Lists s d → SameBag (rows ++ rest d) (F d)
-
--- the rows after an element whose own rows are the right ones
-abbrev pub rows_after : Variables → List Mapping → List Mapping → Element → List Mapping
-rows_after vs rows right (joined A) = joins rows right
-rows_after vs rows right (optional F A) = left_joins rows right (satisfies vs F)
 
 module _ (vs : Variables) (d : Listing) where
   -- the solutions of an element alone, without its condition

@@ -1,22 +1,24 @@
-//! The plain evaluator: whole lists of rows, joined pair by pair (SPARQL 1.1 Query, section 18.6).
-ghost use Rattle.std.specs.Prelude.{◌≡◌, ◌++◌, ◌∷◌, [], IfOk, OnOk, map, replicate, length, None, cond};
+//! The evaluator: a group's members from left to right (SPARQL 1.1 Query, section 18.6). A basic
+//! graph pattern is looked up under each row so far; every other member is evaluated alone.
+ghost use Rattle.std.specs.Prelude.{◌≡◌, ◌++◌, ◌∷◌, [], IfOk, IfSome, OnOk, Some, map, replicate, length, None, cond};
 ghost use Rattle.std.specs.List.{list_any};
+ghost use Rattle.std.specs.Option.{option_copied};
 ghost use Rattle.rdf_terms.specs.declared.quad.GraphName.TheVariants.{Named};
 ghost use Rattle.rdf_terms.specs.declared.quad.GraphName.{GraphName};
-ghost use Rattle.rdf_dataset.specs.Sorted.{ListsOnce};
 ghost use Rattle.sparql_algebra.specs.Algebra.{element, graph, group_of, translation, union_of};
-ghost use Rattle.sparql_algebra.specs.Listing.{Listing, Lists};
 ghost use Rattle.sparql_values.specs.Mapping.{same_term, single};
 ghost use Rattle.sparql_algebra.specs.Solutions.{joins, solutions};
-ghost use Rattle.sparql_solve.specs.Steps.{Gives, rows_after, element_solutions, over_names, over_groups};
+ghost use Rattle.sparql_solve.specs.Sides.{HoldsJust, IsJoined, IsSideOf, lone, rows_after};
+ghost use Rattle.sparql_solve.specs.Steps.{Gives, element_solutions, over_groups, over_names};
 
 use crate::filters::filtered_rows;
-use crate::joins::{join, left_join};
-use crate::matching::basic_rows;
+use crate::joins::join;
+use crate::look_ups::{Graphs, graph_names, graphs_of, is_named, look_up_in};
 use crate::rows::Row;
+use crate::sides::{Side, join_side, left_join_side};
 use rdf_dataset::Source;
-use rdf_terms::{GraphName, NoMemory, Term, Text, Vocabulary};
-use sparql_trees::{Member, Pattern, VarOrIri};
+use rdf_terms::{GraphName, Items, NoMemory, Term, Text, Vocabulary};
+use sparql_trees::{BasicGraphPattern, Member, Pattern, VarOrIri};
 use std::alloc::Global;
 
 // The solution of the empty pattern: the row that binds nothing.
@@ -28,35 +30,26 @@ fn unit_rows(alloc: Global, variables: &[Text]) -> Result<Vec<Row>, NoMemory>
     Ok(rows)
 }
 
-// The names of the graphs.
-fn graph_names<S: Source>(alloc: Global, source: &S) -> Result<Vec<Term>, NoMemory>
-    ensures { IfOk result
-        (λ names. ListsOnce (S.contents source.now).names names.items) }
-{
-    let mut names = Vec::new(alloc);
-    source.names(&mut names)?;
-    Ok(names)
-}
-
-// The rows after a member of the group, whose own rows are the right ones. The filters of OPTIONAL's
-// own group are its condition.
-fn rows_after(
+// The rows after a member of the group, whose side this is. The filters of OPTIONAL's own group are
+// its condition.
+fn rows_after<S: Source>(
     alloc: Global,
     variables: &[Text],
     vocabulary: &Vocabulary,
+    source: &S,
     rows: &[Row],
-    right: &[Row],
+    right: &Side,
     member: &Member,
 ) -> Result<Vec<Row>, NoMemory>
-    ensures { IfOk result (λ out. out.items
-        ≡ rows_after variables.now rows.now right.now (element member.now)) }
+    ensures { IfOk result (λ out. Gives (S.contents source.now) out.items
+        (λ d. rows_after variables.now d rows.now right.now (element member.now))) }
 {
     match member {
         Member::Optional(pattern) => {
             let filters = pattern.filters.as_slice();
-            left_join(alloc, variables, vocabulary, rows, right, filters)
+            left_join_side(alloc, variables, vocabulary, source, rows, right, filters)
         }
-        _ => join(alloc, rows, right),
+        _ => join_side(alloc, variables, source, rows, right),
     }
 }
 
@@ -78,12 +71,34 @@ fn push_bound_rows(
     Ok(())
 }
 
-// Whether a graph has the name.
-fn is_named<S: Source>(source: &S, name: &Term) -> bool
-    ensures { (d : Listing) → Lists (S.contents source.now) d →
-        result ≡ list_any (same_term name.now) d.names }
+// The only member, where it isn't OPTIONAL.
+fn lone_joined(members: &[Member]) -> Option<&Member>
+    ensures only { IfSome (option_copied result) (λ member. lone members.now ≡ Some member) }
+    ensures joined { IfSome (option_copied result) (λ member. IsJoined (element member)) }
 {
-    source.has_name(name)
+    let [member] = members else {
+        return None;
+    };
+    match member {
+        Member::Optional(_) => None,
+        _ => Some(member),
+    }
+}
+
+// The basic graph pattern that is all that the group holds.
+fn lone_basic(pattern: &Pattern) -> Option<&BasicGraphPattern>
+    ensures { IfSome (option_copied result) (λ basic. HoldsJust pattern.now basic) }
+{
+    if !pattern.filters.is_empty() {
+        return None;
+    }
+    let [member] = pattern.members.as_slice() else {
+        return None;
+    };
+    match member {
+        Member::Basic(basic) => Some(basic),
+        _ => None,
+    }
 }
 
 /// The solutions of a group in a graph: those of its members under its own filters.
@@ -120,8 +135,8 @@ fn member_list_rows<S: Source>(
 {
     let mut rows = unit_rows(alloc, variables)?;
     for member in members {
-        let right = member_rows(alloc, variables, vocabulary, graph, source, member)?;
-        rows = rows_after(alloc, variables, vocabulary, &rows, &right, member)?;
+        let right = side_of(alloc, variables, vocabulary, graph, source, member)?;
+        rows = rows_after(alloc, variables, vocabulary, source, &rows, &right, member)?;
     }
     Ok(rows)
 }
@@ -259,34 +274,76 @@ fn graph_rows<S: Source>(
     }
 }
 
-// The solutions of a member alone, of OPTIONAL without its group's filters.
+// The side of GRAPH, whichever graph is the active one.
 #[cycle(evaluate)]
-fn member_rows<S: Source>(
+fn graph_side<S: Source>(
+    alloc: Global,
+    variables: &[Text],
+    vocabulary: &Vocabulary,
+    name: &VarOrIri,
+    source: &S,
+    pattern: &Pattern,
+) -> Result<Side, NoMemory>
+    ensures { IfOk result (λ side. (active : GraphName) → IsSideOf variables.now
+        (S.contents source.now) side
+        (λ d. solutions variables.now d active (graph name.now (translation pattern.now)))) }
+{
+    if let Some(basic) = lone_basic(pattern) {
+        let graphs = graphs_of(source, name)?;
+        return Ok(Side::LookUp(look_up_in(alloc, variables, graphs, basic)?));
+    }
+    let rows = graph_rows(alloc, variables, vocabulary, name, source, pattern)?;
+    Ok(Side::Rows(Items::from_vec(rows)))
+}
+
+// The side of OPTIONAL, without its group's filters.
+#[cycle(evaluate)]
+fn optional_side<S: Source>(
+    alloc: Global,
+    variables: &[Text],
+    vocabulary: &Vocabulary,
+    graph: &GraphName,
+    source: &S,
+    members: &[Member],
+) -> Result<Side, NoMemory>
+    ensures { IfOk result (λ side. IsSideOf variables.now (S.contents source.now) side
+        (λ d. solutions variables.now d graph.now (group_of (map element members.now)))) }
+{
+    if let Some(member) = lone_joined(members) {
+        return side_of(alloc, variables, vocabulary, graph, source, member);
+    }
+    let alone = member_list_rows(alloc, variables, vocabulary, graph, source, members)?;
+    Ok(Side::Rows(Items::from_vec(alone)))
+}
+
+// The side of a member, of OPTIONAL without its group's filters.
+#[cycle(evaluate)]
+fn side_of<S: Source>(
     alloc: Global,
     variables: &[Text],
     vocabulary: &Vocabulary,
     graph: &GraphName,
     source: &S,
     member: &Member,
-) -> Result<Vec<Row>, NoMemory>
-    ensures { IfOk result (λ out. Gives (S.contents source.now) out.items
+) -> Result<Side, NoMemory>
+    ensures { IfOk result (λ side. IsSideOf variables.now (S.contents source.now) side
         (λ d. element_solutions variables.now d graph.now (element member.now))) }
 {
     match member {
-        Member::Basic(basic) => basic_rows(alloc, variables, graph, source, basic),
-        Member::Union(groups) => union_rows(
-            alloc,
-            variables,
-            vocabulary,
-            graph,
-            source,
-            groups.as_slice(),
-        ),
+        Member::Basic(basic) => {
+            let graphs = Graphs::One(graph.copy()?);
+            Ok(Side::LookUp(look_up_in(alloc, variables, graphs, basic)?))
+        }
+        Member::Union(groups) => {
+            let groups = groups.as_slice();
+            let rows = union_rows(alloc, variables, vocabulary, graph, source, groups)?;
+            Ok(Side::Rows(Items::from_vec(rows)))
+        }
         Member::Optional(pattern) => {
             let members = pattern.members.as_slice();
-            member_list_rows(alloc, variables, vocabulary, graph, source, members)
+            optional_side(alloc, variables, vocabulary, graph, source, members)
         }
-        Member::Graph(name, pattern) => graph_rows(
+        Member::Graph(name, pattern) => graph_side(
             alloc, variables, vocabulary, name, source, pattern,
         ),
     }

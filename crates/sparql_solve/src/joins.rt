@@ -33,8 +33,8 @@ pub(crate) fn join(alloc: Global, left: &[Row], right: &[Row]) -> Result<Vec<Row
     Ok(out)
 }
 
-// The row alone where it has no merge.
-fn or_alone(alloc: Global, row: &Row, mut merged: Vec<Row>) -> Result<Vec<Row>, NoMemory>
+/// The row alone where it has no merge.
+pub(crate) fn or_alone(alloc: Global, row: &Row, mut merged: Vec<Row>) -> Result<Vec<Row>, NoMemory>
     ensures { IfOk result (λ out. out.items ≡ or_alone row.now merged.items) }
 {
     if merged.is_empty() {

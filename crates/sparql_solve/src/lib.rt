@@ -6,11 +6,13 @@ mod evaluator;
 mod filters;
 mod joins;
 mod laws;
+mod look_ups;
 mod matching;
 mod order;
 mod place;
 mod results;
 mod rows;
+mod sides;
 
 pub use laws::look_ups_are_merges;
 pub use results::{Solutions, ask, select, solve, sorted_solutions};

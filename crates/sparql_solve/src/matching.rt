@@ -1,16 +1,14 @@
 //! Basic graph patterns: the rows under which every instance lies in the graph
 //! (SPARQL 1.1 Query, section 18.3.1), by look-ups.
-ghost use Rattle.std.specs.Prelude.{◌≡◌, IfOk, map, take, replicate, None, ◌∷◌, []};
-ghost use Rattle.sparql_algebra.specs.Solutions.{basic_solutions};
+ghost use Rattle.std.specs.Prelude.{◌≡◌, IfOk, map, take};
 ghost use Rattle.rdf_dataset.specs.Sorted.{ListsOnce};
 ghost use Rattle.sparql_solve.specs.Matching.{fits, matched, matches_of, stepped, matching, quads_under};
 ghost use Rattle.sparql_solve.specs.Steps.{Gives};
 
-use crate::place::{Places, all_places};
+use crate::place::Places;
 use crate::rows::Row;
 use rdf_dataset::Source;
-use rdf_terms::{GraphName, NoMemory, Quad, Text};
-use sparql_trees::BasicGraphPattern;
+use rdf_terms::{GraphName, NoMemory, Quad};
 use std::alloc::Global;
 
 // Whether each place of the row may have its term of the triple.
@@ -147,23 +145,4 @@ pub(crate) fn cut_rows(alloc: Global, rows: Vec<Row>, columns: usize) -> Result<
         out.push(row.cut(columns))?;
     }
     Ok(out)
-}
-
-/// The solutions of a basic graph pattern in a graph: the part of the visible variables of each row
-/// under which all instances lie there.
-pub(crate) fn basic_rows<S: Source>(
-    alloc: Global,
-    variables: &[Text],
-    graph: &GraphName,
-    source: &S,
-    basic: &BasicGraphPattern,
-) -> Result<Vec<Row>, NoMemory>
-    ensures { IfOk result (λ out. Gives (S.contents source.now) out.items
-        (λ d. basic_solutions variables.now (d.quads graph.now) basic.now)) }
-{
-    let patterns = all_places(alloc, variables, basic.triples.as_slice())?;
-    let mut start = Vec::new(alloc);
-    start.push(Row::empty(alloc, variables.len(), basic.hidden)?)?;
-    let rows = matching_rows(alloc, graph, source, &patterns, start)?;
-    cut_rows(alloc, rows, variables.len())
 }

@@ -3,6 +3,7 @@ ghost use Rattle.std.specs.Prelude.{◌≡◌, ◌+◌, ◌<◌, length, is_some
 ghost use Rattle.std.specs.Option.{option_copied, option_map};
 ghost use Rattle.sparql_values.specs.Mapping.{agrees, first_of, compatible, merge, same_term, single, value_at, value_in};
 ghost use Rattle.sparql_algebra.specs.Order.{mapping_cmp};
+ghost use Rattle.sparql_solve.specs.LookUps.{widened};
 ghost use Rattle.sparql_solve.specs.Matching.{assigned, held, vacant};
 
 use crate::place::Place;
@@ -104,6 +105,16 @@ impl Row {
             values.push(copy_value(value)?)?;
         }
         Ok(Row { values })
+    }
+
+    /// A copy with so many columns more, which have nothing.
+    pub(crate) fn widened(&self, alloc: Global, hidden: u64) -> Result<Row, NoMemory>
+        ensures { IfOk result (λ row. row ≡ widened hidden self.now) }
+    {
+        let mut row = self.copy(alloc)?;
+        let mut more = Row::empty(alloc, 0, hidden)?;
+        row.values.append(&mut more.values)?;
+        Ok(row)
     }
 
     /// The row of so many columns, with nothing in each.
@@ -234,7 +245,8 @@ impl Row {
         }
     }
 
-    fn value_in(&self, column: Option<usize>) -> Result<Option<Term>, NoMemory>
+    /// A copy of what stands at the column, if there is one.
+    pub(crate) fn value_in(&self, column: Option<usize>) -> Result<Option<Term>, NoMemory>
         ensures { IfOk result (λ value. value ≡ value_in self.now column) }
     {
         match column {

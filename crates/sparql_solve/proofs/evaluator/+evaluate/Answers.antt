@@ -1,10 +1,13 @@
-use Rattle.std.proofs.Common.{[], ◌∷◌, ap, refl}
+use Rattle.std.proofs.Common.{[], ◌∷◌, map, ap, refl}
 use Rattle.std.proofs.lemmas.Result.{IfOk-weaker}
 use Rattle.rdf_terms.specs.declared.quad.GraphName.TheVariants.{Named}
-use Rattle.sparql_algebra.specs.Algebra.{translation}
+use Rattle.sparql_algebra.specs.Algebra.{element, graph, group_of, translation}
 use Rattle.sparql_values.specs.Mapping.{single}
 use Rattle.sparql_algebra.specs.Solutions.{joins, solutions}
-use Rattle.sparql_solve.proofs.StepLemmas.{unit_gives, members_more, more_gives, union_gives, union_none, joined_gives, all_names_give, group_gives, groups_give, optional_gives, variable_gives}
+use Rattle.sparql_solve.specs.declared.look_ups.Graphs.TheVariants.{One}
+use Rattle.sparql_solve.specs.Steps.{element_solutions}
+use Rattle.sparql_solve.proofs.SideLemmas.{basic_look_up, graph_look_up, rows_side, lone_side, optional_member, graph_member}
+use Rattle.sparql_solve.proofs.StepLemmas.{unit_gives, members_more, more_gives, union_gives, union_none, joined_gives, all_names_give, group_gives, groups_give, variable_gives}
 use Rattle.sparql_solve.proofs.evaluator.+evaluate.Goals as goal
 
 pub member_list_rows-loop-member-init : goal.member_list_rows-loop-member-init
@@ -14,9 +17,8 @@ member_list_rows-loop-member-init g t c =
 pub member_list_rows-loop-member-preserved : goal.member_list_rows-loop-member-preserved
 member_list_rows-loop-member-preserved g t c =
     members_more c.args.variables.now (g.S.Source.contents c.args.source.now) c.args.graph.now c.args.members.now c.loop-member.member-index
-    c.member-item.result c.loop-member.rows.items c.in_ok-right.right.items c.deref.result.now c.deref-in-loop-member.result.now c.in_ok-rows-2.rows.items
-    c.loop-member-test.true c.member-item.is c.loop-member.invariant c.in_ok-right.ensures c.deref.ensures.value c.deref-in-loop-member.ensures.value
-    c.in_ok-rows-2.ensures
+    c.member-item.result c.loop-member.rows.items c.deref.result.now c.in_ok-rows-2.rows.items c.in_ok-right.right c.loop-member-test.true
+    c.member-item.is c.loop-member.invariant c.in_ok-right.ensures c.deref.ensures.value c.in_ok-rows-2.ensures
 
 pub group_rows-returns : goal.group_rows-returns
 group_rows-returns g t c =
@@ -66,16 +68,50 @@ graph_rows-returns-in-Variable g t c =
     c.in-Variable.is h)
     c.all_graph_rows.ensures
 
-pub member_rows-returns-in-Union : goal.member_rows-returns-in-Union
-member_rows-returns-in-Union g t c =
-    IfOk-weaker c.union_rows.result _ _
-    (λ out h. groups_give c.args.variables.now (g.S.Source.contents c.args.source.now) c.args.graph.now c.args.member.now c.in-Union.groups
-    c.as_slice.result.now out.items c.in-Union.is c.as_slice.ensures h)
-    c.union_rows.ensures
+pub side_of-returns-in_ok-look_up_in-in-Basic : goal.side_of-returns-in_ok-look_up_in-in-Basic
+side_of-returns-in_ok-look_up_in-in-Basic g t c =
+    basic_look_up c.args.variables.now (g.S.Source.contents c.args.source.now) c.args.graph.now c.args.member.now c.in-Basic.basic
+    (One c.in_ok-copy-in-Basic.field-0) c.in_ok-copy-in-Basic.field-0 c.in_ok-look_up_in-in-Basic.field-0 c.in-Basic.is refl c.in_ok-copy-in-Basic.ensures c.in_ok-look_up_in-in-Basic.ensures
 
-pub member_rows-returns-in-Optional : goal.member_rows-returns-in-Optional
-member_rows-returns-in-Optional g t c =
-    IfOk-weaker c.member_list_rows.result _ _
-    (λ out h. optional_gives c.args.variables.now (g.S.Source.contents c.args.source.now) c.args.graph.now c.args.member.now c.in-Optional.pattern
-    c.as_slice-members.result.now out.items c.in-Optional.is c.as_slice-members.ensures h)
-    c.member_list_rows.ensures
+pub side_of-returns-in_ok-rows-in-Union : goal.side_of-returns-in_ok-rows-in-Union
+side_of-returns-in_ok-rows-in-Union g t c =
+    rows_side c.args.variables.now (g.S.Source.contents c.args.source.now) c.in_ok-rows-in-Union.rows.items c.from_vec.result
+    (λ d. element_solutions c.args.variables.now d c.args.graph.now (element c.args.member.now))
+    (groups_give c.args.variables.now (g.S.Source.contents c.args.source.now) c.args.graph.now c.args.member.now c.in-Union.groups
+    c.as_slice-groups.result.now c.in_ok-rows-in-Union.rows.items c.in-Union.is c.as_slice-groups.ensures c.in_ok-rows-in-Union.ensures) c.from_vec.ensures
+
+pub side_of-returns-in-Optional : goal.side_of-returns-in-Optional
+side_of-returns-in-Optional g t c =
+    IfOk-weaker c.optional_side.result _ _
+    (λ out h. optional_member c.args.variables.now (g.S.Source.contents c.args.source.now) c.args.graph.now c.args.member.now c.in-Optional.pattern
+    c.as_slice-members.result.now out c.in-Optional.is c.as_slice-members.ensures h)
+    c.optional_side.ensures
+
+pub side_of-returns-in-Graph : goal.side_of-returns-in-Graph
+side_of-returns-in-Graph g t c =
+    IfOk-weaker c.graph_side.result _ _
+    (λ out h. graph_member c.args.variables.now (g.S.Source.contents c.args.source.now) c.args.graph.now c.args.member.now c.in-Graph.name
+    c.in-Graph.pattern out c.in-Graph.is h)
+    c.graph_side.ensures
+
+pub graph_side-returns-in-Some : goal.graph_side-returns-in-Some
+graph_side-returns-in-Some g t c =
+    graph_look_up c.args.variables.now (g.S.Source.contents c.args.source.now) c.args.name.now c.args.pattern.now c.in-Some.basic.now
+    c.in_ok-graphs.graphs c.in_ok-look_up_in.field-0 c.in-Some.ensures c.in_ok-graphs.ensures c.in_ok-look_up_in.ensures
+
+pub graph_side-returns : goal.graph_side-returns
+graph_side-returns g t c active =
+    rows_side c.args.variables.now (g.S.Source.contents c.args.source.now) c.in_ok-rows.rows.items c.from_vec.result
+    (λ d. solutions c.args.variables.now d active (graph c.args.name.now (translation c.args.pattern.now))) (c.in_ok-rows.ensures active) c.from_vec.ensures
+
+pub optional_side-returns-in-Some : goal.optional_side-returns-in-Some
+optional_side-returns-in-Some g t c =
+    IfOk-weaker c.side_of.result _ _
+    (λ out h. lone_side c.args.variables.now (g.S.Source.contents c.args.source.now) c.args.graph.now c.args.members.now c.in-Some.member.now out
+    c.in-Some.ensures.only c.in-Some.ensures.joined h)
+    c.side_of.ensures
+
+pub optional_side-returns : goal.optional_side-returns
+optional_side-returns g t c =
+    rows_side c.args.variables.now (g.S.Source.contents c.args.source.now) c.in_ok-alone.alone.items c.from_vec.result
+    (λ d. solutions c.args.variables.now d c.args.graph.now (group_of (map element c.args.members.now))) c.in_ok-alone.ensures c.from_vec.ensures

@@ -1,0 +1,12 @@
+use Rattle.std.proofs.Common.{ap, sym, ◌∙◌}
+use Rattle.std.specs.List.{sum_by}
+use Rattle.std.proofs.lemmas.Result.{IfOk-weaker}
+use Rattle.sparql_solve.specs.declared.sides.Side.{Side}
+use Rattle.sparql_solve.specs.Sides.{joins_with}
+use Rattle.sparql_solve.proofs.sides.join_side.Goals as goal
+
+pub returns-in-LookUp : goal.returns-in-LookUp
+returns-in-LookUp g c =
+    IfOk-weaker c.join_look_up.result _ _
+    (λ out h d l f. h d l f ∙ ap (λ (right : Side). sum_by f (joins_with c.args.variables.now d c.args.left.now right)) (sym c.in-LookUp.is))
+    c.join_look_up.ensures

@@ -1,0 +1,204 @@
+//! Basic graph patterns looked up under the rows of the left side (SPARQL 1.1 Query, sections 13.3,
+//! 18.3.1 and 18.5).
+ghost use Rattle.std.specs.Prelude.{◌≡◌, IfOk};
+ghost use Rattle.std.specs.List.{flat_map, list_any};
+ghost use Rattle.rdf_terms.specs.declared.term.Term.{Term};
+ghost use Rattle.rdf_dataset.specs.Sorted.{ListsOnce};
+ghost use Rattle.sparql_values.specs.Mapping.{same_term};
+ghost use Rattle.sparql_algebra.specs.Bags.{SameBag};
+ghost use Rattle.sparql_algebra.specs.Listing.{Listing, Lists};
+ghost use Rattle.sparql_solve.specs.LookUps.{looked_up};
+ghost use Rattle.sparql_solve.specs.Sides.{found, found_in, found_under, graph_where, graphs_of, look_up_in, tried};
+ghost use Rattle.sparql_solve.specs.Steps.{Gives};
+
+use crate::matching::{cut_rows, matching_rows};
+use crate::place::{Places, all_places};
+use crate::rows::Row;
+use rdf_dataset::Source;
+use rdf_terms::{GraphName, Items, NoMemory, Term, Text};
+use sparql_trees::{BasicGraphPattern, VarOrIri};
+use sparql_values::column;
+use std::alloc::Global;
+
+/// Where a basic graph pattern is looked up.
+#[derive(Drop)]
+pub enum Graphs {
+    /// In this graph.
+    One(GraphName),
+    /// Nowhere: no graph has the name.
+    Missing,
+    /// In each graph that has a name, to which this variable is bound.
+    Each(Text),
+}
+
+/// The look-ups of a basic graph pattern, one triple pattern after another.
+#[derive(Drop)]
+pub struct LookUp {
+    pub graphs: Graphs,
+    /// Those of each triple pattern.
+    pub places: Items<Places>,
+    /// How many hidden variables there are.
+    pub hidden: u64,
+}
+
+/// Whether a graph has the name.
+pub(crate) fn is_named<S: Source>(source: &S, name: &Term) -> bool
+    ensures { (d : Listing) → Lists (S.contents source.now) d →
+        result ≡ list_any (same_term name.now) d.names }
+{
+    source.has_name(name)
+}
+
+/// The names of the graphs.
+pub(crate) fn graph_names<S: Source>(alloc: Global, source: &S) -> Result<Vec<Term>, NoMemory>
+    ensures { IfOk result
+        (λ names. ListsOnce (S.contents source.now).names names.items) }
+{
+    let mut names = Vec::new(alloc);
+    source.names(&mut names)?;
+    Ok(names)
+}
+
+// The graph of the name, where there is one.
+fn graph_of_name<S: Source>(source: &S, name: Term) -> Graphs
+    ensures { (d : Listing) → Lists (S.contents source.now) d →
+        result ≡ graph_where (list_any (same_term name) d.names) name }
+{
+    if is_named(source, &name) {
+        Graphs::One(GraphName::Named(name))
+    } else {
+        Graphs::Missing
+    }
+}
+
+/// The graphs that stand behind GRAPH.
+pub(crate) fn graphs_of<S: Source>(source: &S, name: &VarOrIri) -> Result<Graphs, NoMemory>
+    ensures { IfOk result (λ graphs. (d : Listing) → Lists (S.contents source.now) d →
+        graphs ≡ graphs_of d.names name.now) }
+{
+    Ok(match name {
+        VarOrIri::Variable(variable) => Graphs::Each(variable.copy()?),
+        VarOrIri::Iri(iri) => graph_of_name(source, Term::Iri(iri.copy()?)),
+    })
+}
+
+/// The look-ups of a basic graph pattern in these graphs.
+pub(crate) fn look_up_in(
+    alloc: Global,
+    variables: &[Text],
+    graphs: Graphs,
+    basic: &BasicGraphPattern,
+) -> Result<LookUp, NoMemory>
+    ensures { IfOk result (λ look_up. look_up ≡ look_up_in variables.now graphs basic.now) }
+{
+    let places = Items::from_vec(all_places(alloc, variables, basic.triples.as_slice())?);
+    let hidden = basic.hidden;
+    Ok(LookUp {
+        graphs,
+        places,
+        hidden,
+    })
+}
+
+// What is found under the row in one graph.
+fn rows_in_graph<S: Source>(
+    alloc: Global,
+    graph: &GraphName,
+    source: &S,
+    look_up: &LookUp,
+    row: &Row,
+) -> Result<Vec<Row>, NoMemory>
+    ensures { IfOk result (λ out. Gives (S.contents source.now) out.items
+        (λ d. found_in d look_up.now graph.now row.now)) }
+{
+    let mut start = Vec::new(alloc);
+    start.push(row.widened(alloc, look_up.hidden)?)?;
+    let rows = matching_rows(alloc, graph, source, look_up.places.as_slice(), start)?;
+    cut_rows(alloc, rows, row.values().len())
+}
+
+// The names that a graph's variable may have, which has this value so far.
+fn tried_names<S: Source>(
+    alloc: Global,
+    source: &S,
+    value: Option<Term>,
+) -> Result<Vec<Term>, NoMemory>
+    ensures { IfOk result (λ names. (d : Listing) → Lists (S.contents source.now) d →
+        SameBag names.items (tried d.names value)) }
+{
+    match value {
+        None => graph_names(alloc, source),
+        Some(name) => {
+            let mut names = Vec::new(alloc);
+            if is_named(source, &name) {
+                names.push(name)?;
+            }
+            Ok(names)
+        }
+    }
+}
+
+// What is found under the row in the graph of the name, to which the variable is bound first.
+fn rows_under_name<S: Source>(
+    alloc: Global,
+    variables: &[Text],
+    variable: &Text,
+    name: &Term,
+    source: &S,
+    look_up: &LookUp,
+    row: &Row,
+) -> Result<Vec<Row>, NoMemory>
+    ensures { IfOk result (λ out. Gives (S.contents source.now) out.items
+        (λ d. found_under variables.now d look_up.now variable.now row.now name.now)) }
+{
+    let bound = Row::single(alloc, variables, variable, name)?;
+    if row.is_compatible(&bound) {
+        let graph = GraphName::Named(name.copy()?);
+        let row = row.merged(alloc, &bound)?;
+        return rows_in_graph(alloc, &graph, source, look_up, &row);
+    }
+    Ok(Vec::new(alloc))
+}
+
+// What is found under the row in the graphs of these names.
+fn rows_under_names<S: Source>(
+    alloc: Global,
+    variables: &[Text],
+    variable: &Text,
+    names: &[Term],
+    source: &S,
+    look_up: &LookUp,
+    row: &Row,
+) -> Result<Vec<Row>, NoMemory>
+    ensures { IfOk result (λ out. Gives (S.contents source.now) out.items
+        (λ d. flat_map (found_under variables.now d look_up.now variable.now row.now) names.now)) }
+{
+    let mut out = Vec::new(alloc);
+    for name in names {
+        let mut found = rows_under_name(alloc, variables, variable, name, source, look_up, row)?;
+        out.append(&mut found)?;
+    }
+    Ok(out)
+}
+
+/// What is found under the row.
+pub(crate) fn found_rows<S: Source>(
+    alloc: Global,
+    variables: &[Text],
+    source: &S,
+    look_up: &LookUp,
+    row: &Row,
+) -> Result<Vec<Row>, NoMemory>
+    ensures { IfOk result (λ out. Gives (S.contents source.now) out.items
+        (λ d. found variables.now d look_up.now row.now)) }
+{
+    match &look_up.graphs {
+        Graphs::One(graph) => rows_in_graph(alloc, graph, source, look_up, row),
+        Graphs::Missing => Ok(Vec::new(alloc)),
+        Graphs::Each(variable) => {
+            let value = row.value_in(column(variables, variable))?;
+            let names = tried_names(alloc, source, value)?;
+            rows_under_names(alloc, variables, variable, &names, source, look_up, row)
+        }
+    }
+}
