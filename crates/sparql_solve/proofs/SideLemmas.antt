@@ -1,5 +1,5 @@
 -- What is looked up under each left row gives the joins with the right side's solutions.
-use Rattle.std.proofs.Common.{◌≡◌, ℕ, ◌+◌, ◌*◌, ◌≤◌, zero, suc, Bool, true, false, cond, ◌&&◌, List, [], ◌∷◌, ◌++◌, map, filter, Option, Some, None, refl, sym, ap, ◌∙◌, subst, length, drop, replicate, arith, append-nil}
+use Rattle.std.proofs.Common.{◌≡◌, ℕ, ◌+◌, ◌*◌, ◌≤◌, zero, suc, Bool, true, false, cond, ◌&&◌, List, [], ◌∷◌, ◌++◌, map, filter, Option, Some, None, refl, sym, ap, ◌∙◌, length, drop, replicate, arith, append-nil}
 use Rattle.std.specs.Prelude.{slice_set}
 use Rattle.std.specs.List.{flat_map, sum_by, count_by, list_any, list_all}
 use Rattle.std.proofs.lemmas.List.{drop_all, length-replicate}
@@ -17,18 +17,18 @@ use Rattle.sparql_trees.specs.declared.pattern.Member.TheVariants as m
 use Rattle.sparql_trees.specs.declared.pattern.Pattern.{Pattern}
 use Rattle.sparql_trees.specs.declared.pattern.VarOrIri.{VarOrIri}
 use Rattle.sparql_trees.specs.declared.pattern.VarOrIri.TheVariants as v
-use Rattle.sparql_values.specs.Mapping.{Variables, Mapping, same_term, column, value_at, value_in, value_of, set_in, single, empty_mapping, agrees, compatible, merge}
+use Rattle.sparql_values.specs.Mapping.{Variables, Mapping, same_term, column, value_at, value_in, value_of, set_in, single, empty_mapping, compatible, merge}
 use Rattle.sparql_algebra.specs.Algebra.{Algebra, basic, join, graph, empty_pattern, Element, joined, optional, filtered, extended, element, group_of, translation}
 use Rattle.sparql_algebra.specs.Bags.{SameBag}
 use Rattle.sparql_algebra.specs.Listing.{Listing, Lists}
 use Rattle.sparql_algebra.specs.Solutions.{basic_solutions, merges, joins, or_alone, left_joins, satisfies, solutions}
-use Rattle.sparql_algebra.proofs.CallerLemmas.{one, sum_by-cong, sum_by-flat_map, SameBag-refl, SameBag-trans, SameBag-filter, SameBag-merges, SameBag-joins, SameBag-or_alone, SameBag-left_joins, SameBag-flat_map, has_length, length_from, length_to, set_length, solutions_length, sum_where, sum_zero, and_false, same_term_is, name_once, names_same, translation-is, element-Basic, element-Optional, element-Graph, empty_solutions, empty_joins, joins_commute, joins_associate}
+use Rattle.sparql_algebra.proofs.CallerLemmas.{one, sum_by-cong, sum_by-flat_map, SameBag-refl, SameBag-trans, SameBag-filter, SameBag-merges, SameBag-joins, SameBag-or_alone, SameBag-left_joins, SameBag-flat_map, has_length, length_from, length_to, set_length, solutions_length, sum_where, sum_zero, same_term_is, name_once, names_same, translation-is, element-Basic, element-Optional, element-Graph, empty_solutions, empty_joins, joins_commute, joins_associate}
 use Rattle.sparql_solve.specs.declared.look_ups.Graphs.{Graphs}
-use Rattle.sparql_solve.specs.declared.look_ups.Graphs.TheVariants.{One, Missing, Each}
+use Rattle.sparql_solve.specs.declared.look_ups.Graphs.TheVariants.{One, Each}
 use Rattle.sparql_solve.specs.declared.look_ups.LookUp.{LookUp}
 use Rattle.sparql_solve.specs.declared.sides.Side.{Side}
 use Rattle.sparql_solve.specs.declared.sides.Side.TheVariants as side
-use Rattle.sparql_solve.specs.Sides.{graph_where, graphs_of, look_up_in, tried, found_in, found_under, found_among, found, partners, rows_after, IsSideOf, lone, IsJoined, HoldsJust}
+use Rattle.sparql_solve.specs.Sides.{graph_where, graphs_of, look_up_in, tried, found_in, found_under, found_among, found, partners, rows_after, IsSideOf, where_joined, lone_joined, HoldsJust}
 use Rattle.sparql_solve.specs.Steps.{Gives, GivesMore, element_solutions}
 use Rattle.sparql_solve.proofs.BasicLemmas.{set_of_triples}
 use Rattle.sparql_solve.proofs.UnderLemmas.{sum_merges, looked_up_bag}
@@ -271,23 +271,29 @@ module _ (vs : Variables) (s : State) where
       ap (λ (xs : List Mapping). sum_by f (merges xs m)) e ∙ SameBag-merges m rows (F d) (h d l) f
 
   -- OPTIONAL's group of one member
-  lone_is : (members : List Member) (x : Member) → lone members ≡ Some x → members ≡ x ∷ []
+  lone_is : (members : List Member) (x : Member) → lone_joined members ≡ Some x → members ≡ x ∷ []
   lone_is [] x h = cc
-  lone_is (y ∷ []) x h = let is : y ≡ x = cc in ap (λ (z : Member). z ∷ []) is
+  lone_is (y ∷ []) x h = by_kind (element y) h
+    where
+      by_kind : (k : Element) → where_joined y k ≡ Some x → (y ∷ []) ≡ (x ∷ [])
+      by_kind (joined A) e = let is : y ≡ x = cc in ap (λ (z : Member). z ∷ []) is
+      by_kind (optional F A) e = cc
   lone_is (y ∷ z ∷ xs) x h = cc
 
-  joined_bag : (d : Listing) (g : GraphName) (k : Element) → IsJoined k → SameBag (element_solutions vs d g k) (solutions vs d g (extended empty_pattern k))
-  joined_bag d g (joined A) h f = sym (unit_bag vs d g A f)
-  joined_bag d g (optional F A) h f = absurd h
+  joined_bag : (d : Listing) (g : GraphName) (x y : Member) (k : Element) → where_joined x k ≡ Some y →
+      SameBag (element_solutions vs d g k) (solutions vs d g (extended empty_pattern k))
+  joined_bag d g x y (joined A) h f = sym (unit_bag vs d g A f)
+  joined_bag d g x y (optional F A) h f = cc
 
-  pub lone_side : (g : GraphName) (members : List Member) (x : Member) (right : Side) → lone members ≡ Some x → IsJoined (element x) →
+  pub lone_side : (g : GraphName) (members : List Member) (x : Member) (right : Side) → lone_joined members ≡ Some x →
       IsSideOf vs s right (λ d. element_solutions vs d g (element x)) → IsSideOf vs s right (λ d. solutions vs d g (group_of (map element members)))
-  lone_side g members x right e h r d l m w f =
+  lone_side g members x right e r d l m w f =
+      let is : members ≡ x ∷ [] = lone_is members x e in
       r d l m w f
-      ∙ SameBag-merges m (element_solutions vs d g (element x)) (solutions vs d g (extended empty_pattern (element x))) (joined_bag d g (element x) h) f
-      ∙ ap (λ (ms : List Member). sum_by f (merges (solutions vs d g (group_of (map element ms))) m)) (sym (lone_is members x e))
+      ∙ SameBag-merges m (element_solutions vs d g (element x)) (solutions vs d g (extended empty_pattern (element x)))
+      (joined_bag d g x x (element x) (ap lone_joined (sym is) ∙ e)) f
+      ∙ ap (λ (ms : List Member). sum_by f (merges (solutions vs d g (group_of (map element ms))) m)) (sym is)
 
-  -- the members so far, and one more
   pub optional_member : (g : GraphName) (member : Member) (p : Pattern) (members : List Member) (right : Side) → member ≡ m.Optional p → members ≡ p.members →
       IsSideOf vs s right (λ d. solutions vs d g (group_of (map element members))) → IsSideOf vs s right (λ d. element_solutions vs d g (element member))
   optional_member g member p members right em es h d l m w f =

@@ -1,12 +1,11 @@
 -- The right side of a join: solutions that were found alone, or what is looked up under each left solution.
-use Rattle.std.specs.Prelude.{◌≡◌, ℕ, ⊤, Bool, List, [], ◌∷◌, length, Option, Some, None, cond, map, filter}
+use Rattle.std.specs.Prelude.{◌≡◌, ℕ, Bool, List, [], ◌∷◌, length, Option, Some, None, cond, map, filter}
 use Rattle.std.specs.List.{flat_map, list_any}
 use Rattle.rdf_terms.specs.declared.term.Term.{Term}
 use Rattle.rdf_terms.specs.declared.term.Term.TheVariants as t
 use Rattle.rdf_terms.specs.declared.quad.GraphName.{GraphName}
 use Rattle.rdf_terms.specs.declared.quad.GraphName.TheVariants.{Named}
 use Rattle.rdf_dataset.specs.State.{State}
-use Rattle.sparql_trees.specs.declared.expression.Expression.{Expression}
 use Rattle.sparql_trees.specs.declared.pattern.BasicGraphPattern.{BasicGraphPattern}
 use Rattle.sparql_trees.specs.declared.pattern.Member.{Member}
 use Rattle.sparql_trees.specs.declared.pattern.Member.TheVariants as m
@@ -85,15 +84,15 @@ IsSideOf vs s right F =
 
 -- ---- groups of one member
 
--- the only one, where there is one alone
-abbrev pub lone : List Member → Option Member
-lone [] = None
-lone (x ∷ []) = Some x
-lone (x ∷ y ∷ xs) = None
+abbrev pub where_joined : Member → Element → Option Member
+where_joined x (joined A) = Some x
+where_joined x (optional F A) = None
 
-abbrev pub IsJoined : Element → Type 0
-IsJoined (joined A) = ⊤
-IsJoined (optional F A) = ⊥
+-- the only one, where there is one alone that isn't optional
+abbrev pub lone_joined : List Member → Option Member
+lone_joined [] = None
+lone_joined (x ∷ []) = where_joined x (element x)
+lone_joined (x ∷ y ∷ xs) = None
 
 -- the group holds just this basic graph pattern, and no filters
 pub record HoldsJust (p : Pattern) (b : BasicGraphPattern) : Type 0 where

@@ -5,10 +5,11 @@ ghost use Rattle.std.specs.List.{list_any};
 ghost use Rattle.std.specs.Option.{option_copied};
 ghost use Rattle.rdf_terms.specs.declared.quad.GraphName.TheVariants.{Named};
 ghost use Rattle.rdf_terms.specs.declared.quad.GraphName.{GraphName};
+ghost use Rattle.sparql_trees.specs.declared.pattern.BasicGraphPattern.{BasicGraphPattern};
 ghost use Rattle.sparql_algebra.specs.Algebra.{element, graph, group_of, translation, union_of};
 ghost use Rattle.sparql_values.specs.Mapping.{same_term, single};
 ghost use Rattle.sparql_algebra.specs.Solutions.{joins, solutions};
-ghost use Rattle.sparql_solve.specs.Sides.{HoldsJust, IsJoined, IsSideOf, lone, rows_after};
+ghost use Rattle.sparql_solve.specs.Sides.{HoldsJust, IsSideOf, lone_joined, rows_after};
 ghost use Rattle.sparql_solve.specs.Steps.{Gives, element_solutions, over_groups, over_names};
 
 use crate::filters::filtered_rows;
@@ -73,8 +74,7 @@ fn push_bound_rows(
 
 // The only member, where it isn't OPTIONAL.
 fn lone_joined(members: &[Member]) -> Option<&Member>
-    ensures only { IfSome (option_copied result) (λ member. lone members.now ≡ Some member) }
-    ensures joined { IfSome (option_copied result) (λ member. IsJoined (element member)) }
+    ensures { option_copied result ≡ lone_joined members.now }
 {
     let [member] = members else {
         return None;
@@ -87,7 +87,9 @@ fn lone_joined(members: &[Member]) -> Option<&Member>
 
 // The basic graph pattern that is all that the group holds.
 fn lone_basic(pattern: &Pattern) -> Option<&BasicGraphPattern>
-    ensures { IfSome (option_copied result) (λ basic. HoldsJust pattern.now basic) }
+    ensures just { IfSome (option_copied result) (λ basic. HoldsJust pattern.now basic) }
+    ensures all { (basic : BasicGraphPattern) → HoldsJust pattern.now basic →
+        option_copied result ≡ Some basic }
 {
     if !pattern.filters.is_empty() {
         return None;

@@ -1,4 +1,4 @@
-use Rattle.std.proofs.Common.{[], ◌∷◌, map, ap, refl}
+use Rattle.std.proofs.Common.{[], ◌∷◌, map, ap, refl, sym}
 use Rattle.std.proofs.lemmas.Result.{IfOk-weaker}
 use Rattle.rdf_terms.specs.declared.quad.GraphName.TheVariants.{Named}
 use Rattle.sparql_algebra.specs.Algebra.{element, graph, group_of, translation}
@@ -97,7 +97,7 @@ side_of-returns-in-Graph g t c =
 pub graph_side-returns-in-Some : goal.graph_side-returns-in-Some
 graph_side-returns-in-Some g t c =
     graph_look_up c.args.variables.now (g.S.Source.contents c.args.source.now) c.args.name.now c.args.pattern.now c.in-Some.basic.now
-    c.in_ok-graphs.graphs c.in_ok-look_up_in.field-0 c.in-Some.ensures c.in_ok-graphs.ensures c.in_ok-look_up_in.ensures
+    c.in_ok-graphs.graphs c.in_ok-look_up_in.field-0 c.in-Some.ensures.just c.in_ok-graphs.ensures c.in_ok-look_up_in.ensures
 
 pub graph_side-returns : goal.graph_side-returns
 graph_side-returns g t c active =
@@ -108,7 +108,7 @@ pub optional_side-returns-in-Some : goal.optional_side-returns-in-Some
 optional_side-returns-in-Some g t c =
     IfOk-weaker c.side_of.result _ _
     (λ out h. lone_side c.args.variables.now (g.S.Source.contents c.args.source.now) c.args.graph.now c.args.members.now c.in-Some.member.now out
-    c.in-Some.ensures.only c.in-Some.ensures.joined h)
+    (sym c.in-Some.ensures) h)
     c.side_of.ensures
 
 pub optional_side-returns : goal.optional_side-returns
