@@ -9,3 +9,4 @@ pub mod UnderLemmas
 pub mod StepLemmas
 pub mod DistinctLemmas
 pub mod ResultLemmas
+pub mod KeyLemmas

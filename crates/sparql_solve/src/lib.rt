@@ -5,6 +5,7 @@
 mod evaluator;
 mod filters;
 mod joins;
+mod keys;
 mod laws;
 mod matching;
 mod order;
@@ -12,6 +13,7 @@ mod place;
 mod results;
 mod rows;
 
+pub use keys::runs_give_merges;
 pub use laws::look_ups_are_merges;
 pub use results::{Solutions, ask, select, solve, sorted_solutions};
 pub use rows::Row;
