@@ -2,6 +2,8 @@
 #![tactic(auto)]
 
 #[cfg(test)]
+mod joins;
+#[cfg(test)]
 mod look_ups;
 #[cfg(test)]
 mod readings;

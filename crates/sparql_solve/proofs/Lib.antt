@@ -10,3 +10,4 @@ pub mod SideLemmas
 pub mod StepLemmas
 pub mod DistinctLemmas
 pub mod ResultLemmas
+pub mod KeyLemmas

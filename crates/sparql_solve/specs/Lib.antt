@@ -1,3 +1,4 @@
+pub mod Keys
 pub mod LookUps
 pub mod Matching
 pub mod Sides

@@ -5,6 +5,7 @@
 mod evaluator;
 mod filters;
 mod joins;
+mod keys;
 mod laws;
 mod look_ups;
 mod matching;
@@ -14,6 +15,7 @@ mod results;
 mod rows;
 mod sides;
 
+pub use keys::runs_give_merges;
 pub use laws::look_ups_are_merges;
 pub use results::{Solutions, ask, select, solve, sorted_solutions};
 pub use rows::Row;

@@ -1,0 +1,19 @@
+use Rattle.std.proofs.Common.{ap, ◌∙◌, filter}
+use Rattle.sparql_values.specs.Mapping.{Mapping}
+use Rattle.sparql_algebra.specs.Solutions.{left_joins, merges, or_alone, satisfies}
+use Rattle.sparql_solve.proofs.KeyLemmas.{rows_of, one_merged, more_joined}
+use Rattle.sparql_solve.proofs.joins.left_join.Goals as goal
+
+pub loop-row-preserved : goal.loop-row-preserved
+loop-row-preserved c =
+    let kept = satisfies c.args.variables.now c.args.filters.now in
+    let merged =
+    one_merged c.args.left.now c.args.right.now (rows_of c.in_ok-index.index.items) (rows_of c.as_slice-in-loop-row.result.now) c.in_ok-merged.merged.items
+    c.in_ok-columns.columns.items c.as_slice.result.now c.as_slice-in-loop-row-2.result.now c.loop-row.row-index c.row-item.result c.loop-row-test.true
+    c.row-item.is c.in_ok-columns.ensures c.as_slice.ensures.value c.as_slice-in-loop-row-2.ensures.value c.in_ok-index.ensures
+    (ap rows_of c.as_slice-in-loop-row.ensures.value) c.in_ok-merged.ensures in
+    more_joined (λ (m : Mapping). or_alone m (filter kept (merges c.args.right.now m))) c.args.left.now c.loop-row.row-index c.row-item.result
+    c.loop-row.out.items c.in_ok-found.found.items c.append.new.self.items (left_joins c.args.left.now c.args.right.now kept) c.loop-row-test.true
+    c.row-item.is c.loop-row.invariant
+    (c.in_ok-found.ensures ∙ ap (or_alone c.row-item.result) (c.in_ok-kept.ensures ∙ ap (filter kept) merged))
+    c.in_ok-append.ensures.items

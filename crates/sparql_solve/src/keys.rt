@@ -1,0 +1,96 @@
+//! Rows by key: by their values at the columns that each row of both sides of a join binds.
+ghost use Rattle.std.specs.Prelude.{◌≡◌, IfOk, IsSortedByKey, map};
+ghost use Rattle.std.specs.List.{list_all};
+ghost use Rattle.sparql_algebra.specs.Order.{mapping_cmp};
+ghost use Rattle.sparql_solve.specs.Keys.{IsIndex, RunsGiveMerges, all_bind, binds, key, key_cmp, key_columns, run};
+
+use crate::rows::Row;
+use rdf_terms::NoMemory;
+use std::alloc::Global;
+use std::cmp::Ordering;
+
+// Whether each of the rows has a term at the column.
+fn each_binds(rows: &[Row], column: usize) -> bool
+    ensures { result ≡ list_all (binds column) rows.now }
+{
+    rows.iter().all(|row| row.value(column).is_some())
+}
+
+fn all_bind(left: &[Row], right: &[Row], column: usize) -> bool
+    ensures { result ≡ all_bind left.now right.now column }
+{
+    each_binds(left, column) && each_binds(right, column)
+}
+
+/// The columns at which each row of both sides has a term.
+pub(crate) fn key_columns(
+    alloc: Global,
+    left: &[Row],
+    right: &[Row],
+) -> Result<Vec<usize>, NoMemory>
+    ensures { IfOk result (λ columns. columns.items ≡ key_columns left.now right.now) }
+{
+    let mut columns = Vec::new(alloc);
+    if let Some(first) = left.first() {
+        for column in 0..first.values().len() {
+            if all_bind(left, right, column) {
+                columns.push(column)?;
+            }
+        }
+    }
+    Ok(columns)
+}
+
+// By the values at the columns from the left.
+fn compare_keys(row: &Row, other: &Row, columns: &[usize]) -> Ordering
+    ensures { result ≡ key_cmp columns.now row.now other.now }
+{
+    for column in columns {
+        let by_value = row.value(*column).cmp(&other.value(*column));
+        if by_value.is_ne() {
+            return by_value;
+        }
+    }
+    Ordering::Equal
+}
+
+fn references<'r>(alloc: Global, rows: &'r [Row]) -> Result<Vec<&'r Row>, NoMemory>
+    ensures { IfOk result (λ all. map (λ r. r.now) all.items ≡ rows.now) }
+{
+    Ok(rows.iter().collect(alloc)?)
+}
+
+/// The rows in the order of their keys, those of one key in the order in which they came.
+pub(crate) fn index_of<'r>(
+    alloc: Global,
+    rows: &'r [Row],
+    columns: &[usize],
+) -> Result<Vec<&'r Row>, NoMemory>
+    ensures { IfOk result (λ index.
+        IsIndex columns.now rows.now (map (λ r. r.now) index.items)) }
+{
+    let mut index = references(alloc, rows)?;
+    if columns.is_empty() {
+        return Ok(index);
+    }
+    index.sort_by(|row, other| compare_keys(row, other, columns))?;
+    Ok(index)
+}
+
+/// The rows of an index that have the key of a row.
+pub(crate) fn run_of<'i, 'r>(row: &Row, index: &'i [&'r Row], columns: &[usize]) -> &'i [&'r Row]
+    requires { IsSortedByKey (key columns.now) mapping_cmp (map (λ r. r.now) index.now) }
+    ensures { map (λ r. r.now) result.now ≡ run columns.now (map (λ r. r.now) index.now) row.now }
+{
+    let start = index.partition_point(|other| compare_keys(other, row, columns).is_lt());
+    let rest = &index[start..];
+    let len = rest.partition_point(|other| compare_keys(other, row, columns).is_le());
+    &rest[..len]
+}
+
+/// In an index of right mappings by the key columns of both sides, the run of a left mapping's key
+/// gives all of its merges, in the order in which the right mappings came (SPARQL 1.1 Query,
+/// sections 18.3 and 18.5).
+pub fn runs_give_merges()
+    ensures { RunsGiveMerges }
+{}
