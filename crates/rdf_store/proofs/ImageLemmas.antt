@@ -1,15 +1,14 @@
 -- What a function makes of the members of a set.
-use Rattle.std.proofs.Common.{◌≡◌, ℕ, suc, ◌+◌, ◌≤◌, Bool, true, false, cond, not, ◌&&◌, ◌||◌, List, [], ◌∷◌, map, length, refl, sym, ap, subst, ◌∙◌, arith, inl, inr}
+use Rattle.std.proofs.Common.{◌≡◌, ℕ, suc, ◌+◌, ◌≤◌, Bool, true, false, cond, not, ◌&&◌, List, [], ◌∷◌, map, length, refl, sym, ap, subst, ◌∙◌, arith, inl, inr}
 use mathlib.Core.Bool.{true≢false}
-use Rattle.std.proofs.lemmas.List.{length-map}
 use Rattle.std.specs.declared.cmp.Ordering.{Ordering}
 use Rattle.std.specs.Ordering.{eq_by_cmp, is_eq}
 use Rattle.std.specs.Cmp.{IsTotalOrder, Equal-is, tied_itself, both_ways}
 use Rattle.std.specs.List.{list_any}
 use Rattle.std.specs.FinSet as set
-use Rattle.std.specs.FinSet.{IsAntisymmetric, same_set, contains-items, contains-empty, contains-insert, contains-remove, contains-union, contains-difference, contains-from_list, contains-retain, len-empty, len-insert}
+use Rattle.std.specs.FinSet.{IsAntisymmetric, same_set, contains-items, contains-empty, contains-insert, contains-remove, contains-union, contains-from_list, contains-retain, len-empty, len-insert}
 use Rattle.rdf_orders.specs.Listing.{ListsOnce}
-use Rattle.rdf_orders.proofs.TestLemmas.{both, first_of_both, second_of_both, is_either, either_first, either_second, cases}
+use Rattle.rdf_orders.proofs.TestLemmas.{both, first_of_both, second_of_both, is_either, either_first, either_second}
 use Rattle.rdf_store.specs.Inside.Numbers.{image}
 
 -- a member that the function takes to b

@@ -1,13 +1,13 @@
 -- Numbers that look-ups want.
-use Rattle.std.proofs.Common.{◌≡◌, ℕ, Bool, true, false, ◌&&◌, List, refl, sym, ap, subst, ◌∙◌, eq-eqb}
-use Rattle.std.specs.Prelude.{◌==◌, Option, None, Some, IsTrue}
+use Rattle.std.proofs.Common.{◌≡◌, ℕ, true, ◌&&◌, List, refl, sym, ap, subst, ◌∙◌, eq-eqb}
+use Rattle.std.specs.Prelude.{Option, None, Some, IsTrue}
 use Rattle.std.proofs.lemmas.Bool.{eqb-true}
 use Rattle.std.specs.Ordering.{eq_by_cmp}
 use Rattle.std.specs.Cmp.{both_ways}
 use Rattle.rdf_terms.specs.declared.term.Term.{Term}
 use Rattle.rdf_terms.specs.declared.quad.GraphName.{GraphName}
 use Rattle.rdf_terms.specs.Quad.{QuadParts}
-use Rattle.rdf_terms.specs.Order.{term_cmp, graph_cmp}
+use Rattle.rdf_terms.specs.Order.{graph_cmp}
 use Rattle.rdf_terms.specs.OrderLaws.{term_cmp_total, term_cmp-IsAntisymmetric, graph_cmp_total, graph_cmp-IsAntisymmetric}
 use Rattle.rdf_terms.specs.Table.{IsIdOf, AreHeldOnce}
 use Rattle.rdf_orders.specs.Quads as ids

@@ -1,19 +1,17 @@
 -- What operations on numbers make of the quads and names that they stand for.
-use Rattle.std.proofs.Common.{◌≡◌, ℕ, Bool, true, false, ◌&&◌, ◌||◌, not, List, [], ◌∷◌, ◌++◌, map, length, refl, sym, ap, subst, ◌∙◌, inl, inr}
+use Rattle.std.proofs.Common.{◌≡◌, ℕ, Bool, true, false, ◌&&◌, not, List, [], ◌∷◌, ◌++◌, map, refl, sym, ap, subst, ◌∙◌, inl, inr}
 use mathlib.Core.Bool.{true≢false}
-use Rattle.std.specs.Prelude.{Option, IsTrue}
+use Rattle.std.specs.Prelude.{IsTrue}
 use Rattle.std.specs.Ordering.{eq_by_cmp, nat_cmp}
 use Rattle.std.specs.Cmp.{nat_cmp_total}
-use Rattle.std.proofs.lemmas.List.{length-map, map-append}
 use Rattle.std.specs.FinSet as set
-use Rattle.std.specs.FinSet.{nat_cmp-IsAntisymmetric, contains-insert, contains-remove, contains-union, contains-difference, contains-empty, contains-retain, same_set}
+use Rattle.std.specs.FinSet.{nat_cmp-IsAntisymmetric, contains-insert, contains-remove, contains-union, contains-empty, contains-retain, same_set}
 use Rattle.rdf_terms.specs.declared.term.Term.{Term}
 use Rattle.rdf_terms.specs.Quad.{QuadParts}
 use Rattle.rdf_terms.specs.Order.{term_cmp, quad_cmp}
 use Rattle.rdf_terms.specs.OrderLaws.{term_cmp_total, term_cmp-IsAntisymmetric, quad_cmp_total, quad_cmp-IsAntisymmetric}
 use Rattle.rdf_terms.specs.Table.{IsIdOf, AreHeldOnce}
-use Rattle.rdf_orders.specs.Quads as ids
-use Rattle.rdf_orders.specs.Quads.{IdQuad, IdQuads, id_quad_cmp, quad_of, quads_of}
+use Rattle.rdf_orders.specs.Quads.{IdQuad, id_quad_cmp, quad_of, quads_of}
 use Rattle.rdf_orders.specs.Contents as contents
 use Rattle.rdf_orders.specs.Contents.{Contents, Ids, ids_of, IsDisjoint, empty_contents}
 use Rattle.rdf_orders.specs.Listing.{ListsOnce}
@@ -21,8 +19,8 @@ use Rattle.rdf_orders.proofs.KeyLemmas.{id_quad_cmp_total, id_quad_cmp-IsAntisym
 use Rattle.rdf_orders.proofs.TestLemmas.{is_either, first_of_both, second_of_both}
 use Rattle.rdf_orders.proofs.SetLemmas.{difference_none, difference_push}
 use Rattle.rdf_store.specs.Stored.{Stored, empty_stored, with_quad, without_quad, with_name, without_name, with_all, without_all}
-use Rattle.rdf_store.specs.Inside.Numbers.{IsNumbered, IsGrown, IsKept, AreKept, AreKeys, AreIds, Matched, image, shown, parts_at, parts_of, term_at}
-use Rattle.rdf_store.proofs.ImageLemmas.{IsAlone, Preimage, from_image, in_image, same_of_eq, eq_of_same, image-empty, image-insert, image-from_list, image-union, image-retain, image-same, image-lacks, image-contains, image-remove, image_listed}
+use Rattle.rdf_store.specs.Inside.Numbers.{IsNumbered, IsGrown, IsKept, AreKept, AreKeys, AreIds, image, shown, parts_at, parts_of, term_at}
+use Rattle.rdf_store.proofs.ImageLemmas.{IsAlone, from_image, in_image, same_of_eq, image-empty, image-insert, image-from_list, image-union, image-retain, image-same, image-lacks, image-contains, image-remove, image_listed}
 use Rattle.rdf_store.proofs.ListLemmas.{matched_map, matched_members}
 use Rattle.rdf_store.proofs.NumberLemmas.{numbered_grown, numbered_is, numbered_kept, numbered_once, term_is, id_kept}
 

@@ -1,5 +1,5 @@
 -- The numbers of terms, graphs and quads in a table, and what is kept of quads and names by their numbers.
-use Rattle.std.specs.Prelude.{◌≡◌, ◌≢◌, ℕ, ◌==◌, List, [], ◌∷◌, map, ⊤, Bool, Option, IsTrue, slice_get, unwrap_or, if◌then◌else◌}
+use Rattle.std.specs.Prelude.{◌≡◌, ◌≢◌, ℕ, ◌==◌, List, [], ◌∷◌, map, ⊤, Option, IsTrue, slice_get, unwrap_or, if◌then◌else◌}
 use Rattle.std.specs.declared.cmp.Ordering.{Ordering}
 use Rattle.std.specs.Ordering.{eq_by_cmp}
 use Rattle.std.specs.FinSet as set
@@ -13,7 +13,7 @@ use Rattle.rdf_terms.specs.Table.{IsIdOf}
 use Rattle.rdf_orders.specs.Quads as ids
 use Rattle.rdf_orders.specs.Quads.{IdQuad, quad_of}
 use Rattle.rdf_orders.specs.Contents.{Contents}
-use Rattle.rdf_store.specs.Stored.{Stored, matches, fits_place}
+use Rattle.rdf_store.specs.Stored.{Stored, fits_place}
 
 -- ---- numbers
 

@@ -1,7 +1,7 @@
-use Rattle.std.proofs.Common.{◌∙◌, ap, sym, subst}
+use Rattle.std.proofs.Common.{◌∙◌, ap, sym}
 use Rattle.std.specs.FinSet as set
 use Rattle.rdf_store.specs.Stored.{Stored, without_name}
-use Rattle.rdf_store.specs.Inside.Numbers.{AreKept, shown}
+use Rattle.rdf_store.specs.Inside.Numbers.{shown}
 use Rattle.rdf_store.proofs.StoreLemmas.{has_shown, name_lacks, kept_without_name, shown_without_name, remove_absent_name}
 use Rattle.rdf_store.proofs.store.Store.drop_name.Goals as goal
 

@@ -1,7 +1,7 @@
 use Rattle.std.proofs.Common.{◌∙◌}
 use Rattle.rdf_terms.specs.Table.{IsIdOf}
 use Rattle.rdf_orders.specs.Quads.{quad_of}
-use Rattle.rdf_store.specs.Inside.Numbers.{IsGrown, IsNumbered, AreKeys, AreIds}
+use Rattle.rdf_store.specs.Inside.Numbers.{IsNumbered}
 use Rattle.rdf_store.proofs.ResultLemmas.{on_err_of}
 use Rattle.rdf_store.proofs.ListLemmas.{matched_nothing}
 use Rattle.rdf_store.proofs.NumberLemmas.{grown_then}

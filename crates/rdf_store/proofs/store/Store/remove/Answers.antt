@@ -1,7 +1,7 @@
-use Rattle.std.proofs.Common.{◌∙◌, ap, sym, subst}
+use Rattle.std.proofs.Common.{◌∙◌, ap, sym}
 use Rattle.std.specs.FinSet as set
 use Rattle.rdf_store.specs.Stored.{Stored, without_quad}
-use Rattle.rdf_store.specs.Inside.Numbers.{AreKept, shown}
+use Rattle.rdf_store.specs.Inside.Numbers.{shown}
 use Rattle.rdf_store.proofs.StoreLemmas.{contains_shown, quad_lacks, kept_without_quad, shown_without_quad, remove_absent_quad}
 use Rattle.rdf_store.proofs.store.Store.remove.Goals as goal
 
