@@ -1,13 +1,11 @@
-//! A dataset as sorted lists.
-ghost use Rattle.std.specs.Prelude.{◌≡◌, ◌≤◌, [], IsOk, OnOk, OnErr};
+//! A dataset.
+ghost use Rattle.std.specs.Prelude.{◌≡◌, ◌≤◌, IsOk, IfOk, OnOk, OnErr};
 ghost use Rattle.std.specs.FinSet as set;
-ghost use Rattle.rdf_dataset.specs.Inside.Delta.{Leads};
 ghost use Rattle.rdf_dataset.specs.Sorted.{ListsSorted};
 ghost use Rattle.rdf_dataset.specs.State.{State, IsSound, Begins, Ends, net_between, empty_state, last_number};
 
-use crate::listing::append_matching;
 use crate::net::Net;
-use crate::sorted::{Sorted, append_copies};
+use crate::plain::PlainDataset;
 use crate::source::Source;
 use rdf_terms::{GraphName, NoMemory, Quad, Term};
 use std::alloc::Global;
@@ -16,30 +14,17 @@ use std::marker::Model;
 /// A sound state: quads, graph names, and the number of the next blank node.
 #[derive(Drop)]
 pub struct Dataset {
-    pub(crate) quads: Sorted<Quad>,
-    pub(crate) names: Sorted<Term>,
-    pub(crate) next: u64,
+    plain: PlainDataset,
 }
 
 impl Model for Dataset {
-    ghost use Rattle.std.specs.FinSet as set;
-    ghost use Rattle.rdf_dataset.specs.State.{State, state_code, IsSound};
+    ghost use Rattle.rdf_dataset.specs.State.{State, state_code};
 
     ghost Value = { State };
 
     ghost coded = { state_code };
 
-    ghost view = { λ d. record {
-      quads = set.from_list d.quads;
-      names = set.from_list d.names;
-      next = d.next;
-    } };
-
-    ghost invariant = { λ d. IsSound (record {
-      quads = set.from_list d.quads;
-      names = set.from_list d.names;
-      next = d.next;
-    }) };
+    ghost view = { λ d. d.plain };
 }
 
 impl Dataset {
@@ -56,24 +41,28 @@ impl Dataset {
         ensures { result ≡ empty_state next }
     {
         Dataset {
-            quads: Sorted::new(alloc),
-            names: Sorted::new(alloc),
-            next,
+            plain: PlainDataset::starting_at(alloc, next),
         }
     }
 
     /// The quads, each once, in order.
-    pub fn quads(&self) -> &[Quad]
-        ensures { ListsSorted self.now.quads result.now }
+    ///
+    /// # Errors
+    /// [`NoMemory`] where memory is wanting.
+    pub fn quads(&self) -> Result<Vec<Quad>, NoMemory>
+        ensures { IfOk result (λ quads. ListsSorted self.now.quads quads.items) }
     {
-        self.quads.listing()
+        self.plain.quads()
     }
 
     /// The graph names, each once, in order.
-    pub fn names_sorted(&self) -> &[Term]
-        ensures { ListsSorted self.now.names result.now }
+    ///
+    /// # Errors
+    /// [`NoMemory`] where memory is wanting.
+    pub fn names_sorted(&self) -> Result<Vec<Term>, NoMemory>
+        ensures { IfOk result (λ names. ListsSorted self.now.names names.items) }
     {
-        self.names.listing()
+        self.plain.names_sorted()
     }
 
     /// Goes to the state where a net that begins here ends. It takes no memory where the net added
@@ -88,14 +77,7 @@ impl Dataset {
         ensures err { OnErr result (self.new ≡ self.old) }
         ensures free { net.now.added ≡ set.empty → net.now.names_added ≡ set.empty → IsOk result }
     {
-        self.is_sound();
-        self.go_to(
-            &net.quads.added,
-            &net.quads.removed,
-            &net.names.added,
-            &net.names.removed,
-            net.after,
-        )
+        self.plain.commit(net)
     }
 
     /// Goes back to the state where a net that ends here begins. It takes no memory where the net
@@ -111,49 +93,7 @@ impl Dataset {
         ensures free { net.now.removed ≡ set.empty → net.now.names_removed ≡ set.empty →
             IsOk result }
     {
-        self.is_sound();
-        self.go_to(
-            &net.quads.removed,
-            &net.quads.added,
-            &net.names.removed,
-            &net.names.added,
-            net.before,
-        )
-    }
-
-    // Each dataset is sound.
-    fn is_sound(&self)
-        ensures { IsSound self.now }
-    {
-        let _ = &self.quads;
-    }
-
-    // All growths come first, and what they made is taken back where one is refused.
-    fn go_to(
-        &mut self,
-        added: &Sorted<Quad>,
-        removed: &Sorted<Quad>,
-        names_added: &Sorted<Term>,
-        names_removed: &Sorted<Term>,
-        next: u64,
-    ) -> Result<(), NoMemory>
-        requires { (t : State) × IsSound t
-            × Leads self.old t added.now removed.now names_added.now names_removed.now next }
-        ensures ok { OnOk result ((t : State) →
-            Leads self.old t added.now removed.now names_added.now names_removed.now next →
-            self.new ≡ t) }
-        ensures err { OnErr result (self.new ≡ self.old) }
-        ensures free { added.now ≡ [] → names_added.now ≡ [] → IsOk result }
-    {
-        self.quads.unite(added)?;
-        if let Err(refused) = self.names.unite(names_added) {
-            self.quads.subtract(added);
-            return Err(refused);
-        }
-        self.quads.subtract(removed);
-        self.names.subtract(names_removed);
-        self.next = next;
-        Ok(())
+        self.plain.revert(net)
     }
 }
 
@@ -161,19 +101,19 @@ impl Source for Dataset {
     ghost contents = { λ d. d };
 
     fn contains(&self, quad: &Quad) -> bool {
-        self.quads.contains(quad)
+        self.plain.contains(quad)
     }
 
     fn has_name(&self, name: &Term) -> bool {
-        self.names.contains(name)
+        self.plain.has_name(name)
     }
 
     fn next_blank(&self) -> u64 {
-        self.next
+        self.plain.next_blank()
     }
 
     fn names(&self, out: &mut Vec<Term>) -> Result<(), NoMemory> {
-        append_copies(out, self.names.as_slice())
+        self.plain.names(out)
     }
 
     fn matches(
@@ -184,8 +124,6 @@ impl Source for Dataset {
         object: Option<&Term>,
         out: &mut Vec<Quad>,
     ) -> Result<usize, NoMemory> {
-        let quads = self.quads.as_slice();
-        append_matching(out, quads, graph, subject, predicate, object)?;
-        Ok(quads.len())
+        self.plain.matches(graph, subject, predicate, object, out)
     }
 }

@@ -63,6 +63,13 @@ impl<T: Item> Sorted<T> {
         self.items.as_slice()
     }
 
+    /// The same items as a list.
+    pub(crate) fn into_listing(self) -> Vec<T>
+        ensures { ListsSorted (set.from_list {R = T.order} self) result.items }
+    {
+        self.items
+    }
+
     // Where the item stands, or where it would go.
     fn search(&self, item: &T) -> Result<usize, usize>
         ensures found { IfOk result (IsFoundAt T.order self.now item.now) }

@@ -4,7 +4,7 @@ use Rattle.rdf_dataset.specs.State.{State}
 use Rattle.rdf_dataset.specs.Sorted.{ListsOnce}
 use Rattle.rdf_terms.specs.OrderLaws.{term_cmp_total, term_cmp-IsAntisymmetric}
 use Rattle.rdf_dataset.proofs.SortedLemmas.{lists_once}
-use Rattle.rdf_dataset.proofs.dataset.DatasetSource.names.Goals as goal
+use Rattle.rdf_dataset.proofs.plain.PlainDatasetSource.names.Goals as goal
 
 pub returns-clause-ok : goal.returns-clause-ok
 returns-clause-ok c =

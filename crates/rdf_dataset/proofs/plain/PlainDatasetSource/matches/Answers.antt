@@ -5,7 +5,7 @@ use Rattle.rdf_dataset.specs.State.{State, matches}
 use Rattle.rdf_dataset.specs.Sorted.{ListsOnce}
 use Rattle.rdf_terms.specs.OrderLaws.{quad_cmp_total, quad_cmp-IsAntisymmetric}
 use Rattle.rdf_dataset.proofs.ListingLemmas.{lists_matching, filter_short}
-use Rattle.rdf_dataset.proofs.dataset.DatasetSource.matches.Goals as goal
+use Rattle.rdf_dataset.proofs.plain.PlainDatasetSource.matches.Goals as goal
 
 pub returns-clause-found : goal.returns-clause-found
 returns-clause-found c =
