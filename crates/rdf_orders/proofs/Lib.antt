@@ -1,7 +1,7 @@
 mod ContentsLemmas
-mod KeyLemmas
+pub mod KeyLemmas
 mod LookUpLemmas
 mod NextLemmas
-mod SetLemmas
-mod TestLemmas
+pub mod SetLemmas
+pub mod TestLemmas
 mod TreeLemmas

@@ -214,8 +214,8 @@ impl QuadSets {
         Ok(())
     }
 
-    // Takes the quads and the names out.
-    fn remove_all(&mut self, quads: &[Key], names: &[u64])
+    /// Takes quads and names out, those of them that are there. It takes no memory.
+    pub fn remove_all(&mut self, quads: &[Key], names: &[u64])
         ensures { self.new ≡ without_all self.old quads.now names.now }
     {
         for quad in quads {

@@ -1,0 +1,88 @@
+-- Listings of what a store shows, by the numbers that its sets list.
+use Rattle.std.proofs.Common.{◌≡◌, ℕ, ◌+◌, ◌<◌, ◌≤◌, ◌-◌, zero, suc, Bool, true, List, [], ◌∷◌, ◌++◌, map, length, refl, sym, ap, subst, ◌∙◌, arith, length-append, append-nil, get_or}
+use Rattle.std.specs.Prelude.{All, IsTrue}
+use Rattle.std.proofs.lemmas.List.{length-map}
+use Rattle.std.proofs.lemmas.List.Elements.{All-map}
+use Rattle.std.specs.declared.cmp.Ordering.{Ordering}
+use Rattle.std.specs.Ordering.{eq_by_cmp, nat_cmp}
+use Rattle.std.specs.Cmp.{IsTotalOrder, nat_cmp_total}
+use Rattle.std.specs.FinSet as set
+use Rattle.std.specs.FinSet.{IsAntisymmetric, nat_cmp-IsAntisymmetric, contains-insert, len-empty}
+use Rattle.rdf_terms.specs.declared.term.Term.{Term}
+use Rattle.rdf_terms.specs.Quad.{QuadParts}
+use Rattle.rdf_terms.specs.Order.{quad_cmp}
+use Rattle.rdf_terms.specs.Table.{IsIdOf, AreHeldOnce}
+use Rattle.rdf_orders.specs.declared.order.Order.TheVariants.{Spo}
+use Rattle.rdf_orders.specs.Quads.{IdQuad, id_quad_cmp, key_in, quad_of}
+use Rattle.rdf_orders.specs.Contents.{Contents, ListsKeys, ListsIds}
+use Rattle.rdf_orders.specs.Listing.{ListsOnce}
+use Rattle.rdf_orders.specs.Runs as runs
+use Rattle.rdf_orders.proofs.KeyLemmas.{id_quad_cmp_total, id_quad_cmp-IsAntisymmetric, contains_kept}
+use Rattle.rdf_orders.proofs.TestLemmas.{first_of_both, either_first, either_second}
+use Rattle.rdf_store.specs.Listing.{AppendsOnce}
+use Rattle.rdf_store.specs.Stored.{Stored}
+use Rattle.rdf_store.specs.Inside.Numbers.{IsNumbered, IsKept, AreKept, shown, parts_at, parts_of, term_at}
+use Rattle.rdf_store.proofs.ImageLemmas.{eq_of_same}
+use Rattle.rdf_store.proofs.StoreLemmas.{quads_listed, names_listed, kept_listed, none_kept}
+
+-- each item of a list is in its set
+item_in : {K : Type 0} {R : K → K → Ordering} → IsTotalOrder R → IsAntisymmetric R → (xs : List K) → All (λ x. set.contains (set.from_list {R = R} xs) x ≡ true) xs
+item_in o apart [] k d lt = absurd (omega arith)
+item_in o apart (x ∷ xs) zero d lt = contains-insert o (set.from_list xs) x x ∙ either_first _ _ (eq_of_same o apart x x refl)
+item_in {R = R} o apart (x ∷ xs) (suc k) d lt =
+    let within : k < length xs = omega arith in
+    contains-insert o (set.from_list xs) x (get_or xs k d) ∙ either_second (eq_by_cmp R (get_or xs k d) x) _ (item_in o apart xs k d within)
+
+parts_of_keys : (table : List Term) (found : List IdQuad) → map (parts_of table) (map (key_in Spo) found) ≡ map (parts_at table) found
+parts_of_keys table [] = refl
+parts_of_keys table (q ∷ found) = ap (λ l. parts_at table q ∷ l) (parts_of_keys table found)
+
+module _ (table : List Term) (c : Contents) (s : Stored) (kept : AreKept table c) (is : shown table c ≡ s) where
+  kept_keys : (members : set.FinSet id_quad_cmp) (found : List IdQuad) → ((k : IdQuad) → set.contains members k ≡ true → set.contains c.quads k ≡ true) → ListsOnce members found
+      → All (λ key. IsKept table (quad_of key)) (map (key_in Spo) found)
+  kept_keys members found some l = All-map (λ key. IsKept table (quad_of key)) (key_in Spo) found
+      (λ k d lt. kept.quads (get_or found k d) (some (get_or found k d) (subst (λ z. set.contains z (get_or found k d) ≡ true) l.all (item_in id_quad_cmp_total id_quad_cmp-IsAntisymmetric found k d lt))))
+
+  pub listed_kept : (keys : List (List ℕ)) → ListsKeys c.quads keys → All (λ key. IsKept table (quad_of key)) keys
+  listed_kept keys l = subst (All (λ key. IsKept table (quad_of key))) (sym l.are_keys) (kept_keys c.quads l.found (λ k h. h) l.sorted.lists)
+
+  pub listed_ids_kept : (numbers : List ℕ) → ListsIds c.names numbers → All (λ id. IsIdOf table id (term_at table id)) numbers
+  listed_ids_kept numbers l k d lt = kept.names (get_or numbers k d) (subst (λ z. set.contains z (get_or numbers k d) ≡ true) l.lists.all (item_in nat_cmp_total nat_cmp-IsAntisymmetric numbers k d lt))
+
+  pub found_kept : (test : IdQuad → Bool) (start keys keys' : List (List ℕ)) → start ≡ [] → runs.AppendsOnce (set.retain c.quads test) start keys → keys' ≡ keys → All (λ key. IsKept table (quad_of key)) keys'
+  found_kept test start keys keys' none a e = subst (All (λ key. IsKept table (quad_of key))) (sym (e ∙ a.appended ∙ ap (λ ks. ks ++ map (key_in Spo) a.found) none))
+      (kept_keys (set.retain c.quads test) a.found (λ k h. first_of_both _ _ (sym (contains_kept c.quads test k) ∙ h)) a.each_once)
+
+  module _ (once : AreHeldOnce table) where
+    pub counted : (keys : List (List ℕ)) → ListsKeys c.quads keys → length keys ≡ set.len s.quads
+    counted keys l =
+        ap length l.are_keys ∙ length-map l.found (key_in Spo) ∙ sym (length-map l.found (parts_at table))
+        ∙ (quads_listed table c kept once l.found l.sorted.lists).once ∙ ap (λ (v : Stored). set.len v.quads) is
+
+    pub quads_appended : (keys : List (List ℕ)) (old new : List QuadParts) → ListsKeys c.quads keys → new ≡ old ++ map (parts_of table) keys → AppendsOnce s.quads old new
+    quads_appended keys old new l e = record {
+      found = map (parts_at table) l.found;
+      appended = e ∙ ap (λ ks. old ++ ks) (ap (map (parts_of table)) l.are_keys ∙ parts_of_keys table l.found);
+      each_once = subst (λ (v : Stored). ListsOnce v.quads (map (parts_at table) l.found)) is (quads_listed table c kept once l.found l.sorted.lists);
+    }
+
+    pub names_appended : (numbers : List ℕ) (old new : List Term) → ListsIds c.names numbers → new ≡ old ++ map (term_at table) numbers → AppendsOnce s.names old new
+    names_appended numbers old new l e = record {
+      found = map (term_at table) numbers;
+      appended = e;
+      each_once = subst (λ (v : Stored). ListsOnce v.names (map (term_at table) numbers)) is (names_listed table c kept once numbers l.lists);
+    }
+
+    pub matches_appended : (test : IdQuad → Bool) (wanted : QuadParts → Bool) → ((k : IdQuad) (q : QuadParts) → IsNumbered table k q → test k ≡ wanted q)
+        → (start keys keys' : List (List ℕ)) (old new : List QuadParts) → start ≡ [] → runs.AppendsOnce (set.retain c.quads test) start keys → keys' ≡ keys
+        → new ≡ old ++ map (parts_of table) keys' → AppendsOnce (set.retain s.quads wanted) old new
+    matches_appended test wanted same start keys keys' old new none a k e = record {
+      found = map (parts_at table) a.found;
+      appended = e ∙ ap (λ ks. old ++ ks) (ap (map (parts_of table)) (k ∙ a.appended ∙ ap (λ ks. ks ++ map (key_in Spo) a.found) none) ∙ parts_of_keys table a.found);
+      each_once = subst (λ (v : Stored). ListsOnce (set.retain v.quads wanted) (map (parts_at table) a.found)) is (kept_listed table c kept once test wanted same a.found a.each_once);
+    }
+
+  pub none_appended : (wanted : QuadParts → Bool) → ((k : IdQuad) (q : QuadParts) → IsNumbered table k q → ¬ IsTrue (wanted q)) → (old : List QuadParts) → AppendsOnce (set.retain s.quads wanted) old old
+  none_appended wanted none old =
+      let nothing = sym (none_kept table c kept wanted none) ∙ ap (λ (v : Stored). set.retain v.quads wanted) is in
+      record { found = []; appended = sym (append-nil old); each_once = record { all = nothing; once = sym (len-empty quad_cmp) ∙ ap set.len nothing } }

@@ -1,0 +1,9 @@
+use Rattle.rdf_store.proofs.NumberLemmas.{grown_then}
+use Rattle.rdf_store.proofs.StepLemmas.{next_key}
+use Rattle.rdf_store.proofs.numbers.number_quads.Goals as goal
+
+pub loop-quad-preserved : goal.loop-quad-preserved
+loop-quad-preserved c = record {
+  numbers = next_key _ _ c.loop-quad.keys.items _ c.args.quads.now c.loop-quad.quad-index _ _ c.loop-quad.invariant.numbers c.in_ok-key.ensures.grown c.in_ok-key.ensures.number c.in_ok-push.ensures.items c.loop-quad-test.true c.quad-item.is;
+  grown = grown_then _ _ _ c.loop-quad.invariant.grown c.in_ok-key.ensures.grown;
+}

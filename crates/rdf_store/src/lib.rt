@@ -1,0 +1,11 @@
+//! Quads and graph names, kept by the numbers of their terms: a table of terms, and three orders of
+//! quads of numbers behind it. Callers speak of quads and terms alone (RDF 1.1 Concepts, section
+//! 4).
+#![tactic(auto)]
+
+mod look_ups;
+mod numbers;
+mod pattern;
+mod store;
+
+pub use store::Store;

@@ -1,0 +1,158 @@
+//! Listings of what a store holds.
+ghost use Rattle.std.specs.Prelude.{◌≡◌, ◌+◌, ◌++◌, ◌∷◌, [], All, length, map, option_copied, IfOk, OnOk, OnErr};
+ghost use Rattle.std.specs.FinSet as set;
+ghost use Rattle.rdf_terms.specs.Table.{IsIdOf};
+ghost use Rattle.rdf_orders.specs.Quads.{quad_of};
+ghost use Rattle.rdf_store.specs.Listing.{AppendsOnce};
+ghost use Rattle.rdf_store.specs.Stored.{matches};
+ghost use Rattle.rdf_store.specs.Inside.Numbers.{IsKept, parts_of, term_at};
+
+use crate::numbers::quad_from;
+use crate::pattern::{Pattern, pattern_of};
+use crate::store::Store;
+use rdf_orders::Key;
+use rdf_terms::{GraphName, NoMemory, Quad, Term, TermId, TermTable, terms_are_held_once};
+use std::collections::BTreeSet;
+
+// Appends the quad that has a key in `Spo`.
+fn append_quad(table: &TermTable, key: &Key, out: &mut Vec<Quad>) -> Result<(), NoMemory>
+    requires { IsKept table.now (quad_of key.now) }
+    ensures ok { OnOk result (out.new.items
+        ≡ out.old.items ++ parts_of table.now key.now ∷ []) }
+    ensures err { OnErr result (out.new.items ≡ out.old.items) }
+{
+    let quad = quad_from(table, key)?;
+    out.push(quad)?;
+    Ok(())
+}
+
+// Appends the term that has a number.
+fn append_term(table: &TermTable, number: u64, out: &mut Vec<Term>) -> Result<(), NoMemory>
+    requires { IsIdOf table.now number (term_at table.now number) }
+    ensures ok { OnOk result (out.new.items
+        ≡ out.old.items ++ term_at table.now number ∷ []) }
+    ensures err { OnErr result (out.new.items ≡ out.old.items) }
+{
+    let term = table.term(TermId(number)).copy()?;
+    out.push(term)?;
+    Ok(())
+}
+
+// Appends the quads that have these keys in `Spo`, or changes nothing.
+fn append_all(table: &TermTable, keys: &[Key], out: &mut Vec<Quad>) -> Result<(), NoMemory>
+    requires { All (λ key. IsKept table.now (quad_of key)) keys.now }
+    ensures ok { OnOk result (out.new.items
+        ≡ out.old.items ++ map (parts_of table.now) keys.now) }
+    ensures err { OnErr result (out.new.items ≡ out.old.items) }
+{
+    let before = out.len();
+    for key in keys {
+        if let Err(refused) = append_quad(table, key, out) {
+            out.truncate(before);
+            return Err(refused);
+        }
+    }
+    Ok(())
+}
+
+// Appends the quads that have the keys in `Spo` of a tree, or changes nothing.
+fn append_tree(table: &TermTable, keys: &BTreeSet<Key>, out: &mut Vec<Quad>) -> Result<(), NoMemory>
+    requires { All (λ key. IsKept table.now (quad_of key)) keys.now.keys }
+    ensures ok { OnOk result (out.new.items
+        ≡ out.old.items ++ map (parts_of table.now) keys.now.keys) }
+    ensures err { OnErr result (out.new.items ≡ out.old.items) }
+{
+    let before = out.len();
+    for key in keys {
+        if let Err(refused) = append_quad(table, key, out) {
+            out.truncate(before);
+            return Err(refused);
+        }
+    }
+    Ok(())
+}
+
+// Appends the terms that have the numbers of a tree, or changes nothing.
+fn append_terms(
+    table: &TermTable,
+    numbers: &BTreeSet<u64>,
+    out: &mut Vec<Term>,
+) -> Result<(), NoMemory>
+    requires { All (λ id. IsIdOf table.now id (term_at table.now id)) numbers.now.keys }
+    ensures ok { OnOk result (out.new.items
+        ≡ out.old.items ++ map (term_at table.now) numbers.now.keys) }
+    ensures err { OnErr result (out.new.items ≡ out.old.items) }
+{
+    let before = out.len();
+    for number in numbers {
+        if let Err(refused) = append_term(table, *number, out) {
+            out.truncate(before);
+            return Err(refused);
+        }
+    }
+    Ok(())
+}
+
+impl Store {
+    /// Appends each quad once, in any order.
+    ///
+    /// # Errors
+    /// [`NoMemory`] where memory is wanting: nothing is appended then.
+    pub fn append_quads(&self, out: &mut Vec<Quad>) -> Result<(), NoMemory>
+        ensures ok { OnOk result (AppendsOnce self.now.quads out.old.items out.new.items) }
+        ensures err { OnErr result (out.new.items ≡ out.old.items) }
+    {
+        terms_are_held_once(&self.table);
+        append_tree(&self.table, self.sets.keys(), out)
+    }
+
+    /// Appends each graph name once, in any order.
+    ///
+    /// # Errors
+    /// [`NoMemory`] where memory is wanting: nothing is appended then.
+    pub fn append_names(&self, out: &mut Vec<Term>) -> Result<(), NoMemory>
+        ensures ok { OnOk result (AppendsOnce self.now.names out.old.items out.new.items) }
+        ensures err { OnErr result (out.new.items ≡ out.old.items) }
+    {
+        terms_are_held_once(&self.table);
+        append_terms(&self.table, self.sets.names(), out)
+    }
+
+    /// Appends each quad of the graph that has the terms of the bound places once, in any order,
+    /// and answers how many were looked at: just those.
+    ///
+    /// # Errors
+    /// [`NoMemory`] where memory is wanting: nothing is appended then.
+    pub fn matches(
+        &self,
+        graph: &GraphName,
+        subject: Option<&Term>,
+        predicate: Option<&Term>,
+        object: Option<&Term>,
+        out: &mut Vec<Quad>,
+    ) -> Result<usize, NoMemory>
+        ensures found { OnOk result (AppendsOnce (set.retain self.now.quads (matches graph.now
+            (option_copied subject.entry) (option_copied predicate.entry)
+            (option_copied object.entry))) out.old.items out.new.items) }
+        ensures looked { IfOk result
+            (λ looked. length out.new.items ≡ length out.old.items + looked) }
+        ensures err { OnErr result (out.new.items ≡ out.old.items) }
+    {
+        terms_are_held_once(&self.table);
+        let Some(pattern) = pattern_of(&self.table, graph, subject, predicate, object) else {
+            return Ok(0);
+        };
+        let Pattern {
+            graph,
+            subject,
+            predicate,
+            object,
+        } = pattern;
+        let mut keys = Vec::new(self.alloc);
+        let looked = self
+            .sets
+            .matches(self.alloc, graph, subject, predicate, object, &mut keys)?;
+        append_all(&self.table, &keys, out)?;
+        Ok(looked)
+    }
+}
