@@ -1,30 +1,45 @@
 //! A dataset.
-ghost use Rattle.std.specs.Prelude.{◌≡◌, ◌≤◌, IsOk, IfOk, OnOk, OnErr};
+ghost use Rattle.std.specs.Prelude.{◌≡◌, ◌≤◌, ◌+◌, [], length, option_copied, IsOk, IfOk, OnOk, OnErr};
 ghost use Rattle.std.specs.FinSet as set;
-ghost use Rattle.rdf_dataset.specs.Sorted.{ListsSorted};
-ghost use Rattle.rdf_dataset.specs.State.{State, IsSound, Begins, Ends, net_between, empty_state, last_number};
+ghost use Rattle.rdf_dataset.specs.Inside.Delta.{Leads};
+ghost use Rattle.rdf_dataset.specs.Sorted.{AppendsOnce, ListsSorted};
+ghost use Rattle.rdf_dataset.specs.State.{State, IsSound, Begins, Ends, net_between, empty_state, last_number, matches};
 
 use crate::net::Net;
-use crate::plain::PlainDataset;
+use crate::sorted::{Sorted, in_order};
 use crate::source::Source;
+use rdf_store::Store;
 use rdf_terms::{GraphName, NoMemory, Quad, Term};
 use std::alloc::Global;
 use std::marker::Model;
 
-/// A sound state: quads, graph names, and the number of the next blank node.
+/// A sound state: quads, graph names, and the number of the next blank node. Each term is kept once,
+/// also when its quads are gone, and a look-up looks only at the quads that it finds.
 #[derive(Drop)]
 pub struct Dataset {
-    plain: PlainDataset,
+    store: Store,
+    next: u64,
+    alloc: Global,
 }
 
 impl Model for Dataset {
-    ghost use Rattle.rdf_dataset.specs.State.{State, state_code};
+    ghost use Rattle.rdf_dataset.specs.State.{State, state_code, IsSound};
 
     ghost Value = { State };
 
     ghost coded = { state_code };
 
-    ghost view = { λ d. d.plain };
+    ghost view = { λ d. record {
+      quads = d.store.quads;
+      names = d.store.names;
+      next = d.next;
+    } };
+
+    ghost invariant = { λ d. IsSound (record {
+      quads = d.store.quads;
+      names = d.store.names;
+      next = d.next;
+    }) };
 }
 
 impl Dataset {
@@ -41,7 +56,9 @@ impl Dataset {
         ensures { result ≡ empty_state next }
     {
         Dataset {
-            plain: PlainDataset::starting_at(alloc, next),
+            store: Store::new(alloc),
+            next,
+            alloc,
         }
     }
 
@@ -52,7 +69,9 @@ impl Dataset {
     pub fn quads(&self) -> Result<Vec<Quad>, NoMemory>
         ensures { IfOk result (λ quads. ListsSorted self.now.quads quads.items) }
     {
-        self.plain.quads()
+        let mut quads = Vec::new(self.alloc);
+        self.store.append_quads(&mut quads)?;
+        Ok(in_order(quads))
     }
 
     /// The graph names, each once, in order.
@@ -62,7 +81,9 @@ impl Dataset {
     pub fn names_sorted(&self) -> Result<Vec<Term>, NoMemory>
         ensures { IfOk result (λ names. ListsSorted self.now.names names.items) }
     {
-        self.plain.names_sorted()
+        let mut names = Vec::new(self.alloc);
+        self.store.append_names(&mut names)?;
+        Ok(in_order(names))
     }
 
     /// Goes to the state where a net that begins here ends. It takes no memory where the net added
@@ -77,7 +98,14 @@ impl Dataset {
         ensures err { OnErr result (self.new ≡ self.old) }
         ensures free { net.now.added ≡ set.empty → net.now.names_added ≡ set.empty → IsOk result }
     {
-        self.plain.commit(net)
+        self.is_sound();
+        self.go_to(
+            &net.quads.added,
+            &net.quads.removed,
+            &net.names.added,
+            &net.names.removed,
+            net.after,
+        )
     }
 
     /// Goes back to the state where a net that ends here begins. It takes no memory where the net
@@ -93,7 +121,45 @@ impl Dataset {
         ensures free { net.now.removed ≡ set.empty → net.now.names_removed ≡ set.empty →
             IsOk result }
     {
-        self.plain.revert(net)
+        self.is_sound();
+        self.go_to(
+            &net.quads.removed,
+            &net.quads.added,
+            &net.names.removed,
+            &net.names.added,
+            net.before,
+        )
+    }
+
+    // Each dataset is sound.
+    fn is_sound(&self)
+        ensures { IsSound self.now }
+    {
+        let _ = &self.store;
+    }
+
+    // All growths come first; where they are refused, nothing has changed.
+    fn go_to(
+        &mut self,
+        added: &Sorted<Quad>,
+        removed: &Sorted<Quad>,
+        names_added: &Sorted<Term>,
+        names_removed: &Sorted<Term>,
+        next: u64,
+    ) -> Result<(), NoMemory>
+        requires { (t : State) × IsSound t
+            × Leads self.old t added.now removed.now names_added.now names_removed.now next }
+        ensures ok { OnOk result ((t : State) →
+            Leads self.old t added.now removed.now names_added.now names_removed.now next →
+            self.new ≡ t) }
+        ensures err { OnErr result (self.new ≡ self.old) }
+        ensures free { added.now ≡ [] → names_added.now ≡ [] → IsOk result }
+    {
+        let store = &mut self.store;
+        store.insert_all(added.as_slice(), names_added.as_slice())?;
+        store.remove_all(removed.as_slice(), names_removed.as_slice());
+        self.next = next;
+        Ok(())
     }
 }
 
@@ -101,21 +167,22 @@ impl Source for Dataset {
     ghost contents = { λ d. d };
 
     fn contains(&self, quad: &Quad) -> bool {
-        self.plain.contains(quad)
+        self.store.contains(quad)
     }
 
     fn has_name(&self, name: &Term) -> bool {
-        self.plain.has_name(name)
+        self.store.has_name(name)
     }
 
     fn next_blank(&self) -> u64 {
-        self.plain.next_blank()
+        self.next
     }
 
     fn names(&self, out: &mut Vec<Term>) -> Result<(), NoMemory> {
-        self.plain.names(out)
+        self.store.append_names(out)
     }
 
+    /// The same, and the answer is just the number of the quads appended.
     fn matches(
         &self,
         graph: &GraphName,
@@ -123,7 +190,15 @@ impl Source for Dataset {
         predicate: Option<&Term>,
         object: Option<&Term>,
         out: &mut Vec<Quad>,
-    ) -> Result<usize, NoMemory> {
-        self.plain.matches(graph, subject, predicate, object, out)
+    ) -> Result<usize, NoMemory>
+        ensures found { OnOk result (AppendsOnce
+            (set.retain self.now.quads (matches graph.now (option_copied subject.entry)
+            (option_copied predicate.entry) (option_copied object.entry)))
+            out.old.items out.new.items) }
+        ensures looked { IfOk result
+            (λ looked. length out.new.items ≡ length out.old.items + looked) }
+        ensures err { OnErr result (out.new.items ≡ out.old.items) }
+    {
+        self.store.matches(graph, subject, predicate, object, out)
     }
 }
