@@ -103,7 +103,7 @@ fn three(alloc: Global) -> Option<Dataset> {
 #[test]
 fn new_datasets(rt: HostRuntime) {
     let empty = Dataset::new(rt.alloc());
-    assert!(rt; empty.quads().is_empty() && empty.names_sorted().is_empty());
+    assert!(rt; sizes_of(&empty) == Some((0, 0)));
     assert_eq!(rt; empty.next_blank(), 0);
 }
 
@@ -149,6 +149,13 @@ fn counters(rt: HostRuntime) {
     assert!(rt; view.take_blanks(18_446_744_073_709_551_615).is_none());
     assert!(rt; view.take_blanks(0) == Some(1_000_000_000_000_000_000));
     assert_eq!(rt; dataset.next_blank(), 999_999_999_999_999_999);
+}
+
+// How many quads and how many names are listed.
+fn sizes_of(dataset: &Dataset) -> Option<(usize, usize)> {
+    let quads = dataset.quads().ok()?;
+    let names = dataset.names_sorted().ok()?;
+    Some((quads.len(), names.len()))
 }
 
 // The quads of the default graph, as they are listed.
@@ -241,10 +248,10 @@ fn committed_and_reverted(
     requires { Begins net.now dataset.old }
 {
     dataset.commit(net)?;
-    assert!(rt; dataset.quads().len() == 1 && dataset.names_sorted().len() == 1);
+    assert!(rt; sizes_of(dataset) == Some((1, 1)));
     assert!(rt; has(alloc, dataset, 3, 1) == Some(true) && dataset.has_name(&Term::Blank(3)));
     dataset.revert(net)?;
-    assert!(rt; dataset.quads().is_empty() && dataset.names_sorted().is_empty());
+    assert!(rt; sizes_of(dataset) == Some((0, 0)));
     Ok(())
 }
 

@@ -4,4 +4,6 @@
 #[cfg(test)]
 mod dataset;
 #[cfg(test)]
+mod look_ups;
+#[cfg(test)]
 mod orders;

@@ -4,4 +4,5 @@ mod KeepLemmas
 mod ListingLemmas
 mod SortedLemmas
 mod StateLemmas
+mod StoredLemmas
 mod TreeLemmas

@@ -1,28 +1,28 @@
-//! A dataset as sorted lists.
-ghost use Rattle.std.specs.Prelude.{◌≡◌, ◌≤◌, [], IsOk, OnOk, OnErr};
+//! A dataset.
+ghost use Rattle.std.specs.Prelude.{◌≡◌, ◌≤◌, ◌+◌, [], length, option_copied, IsOk, IfOk, OnOk, OnErr};
 ghost use Rattle.std.specs.FinSet as set;
 ghost use Rattle.rdf_dataset.specs.Inside.Delta.{Leads};
-ghost use Rattle.rdf_dataset.specs.Sorted.{ListsSorted};
-ghost use Rattle.rdf_dataset.specs.State.{State, IsSound, Begins, Ends, net_between, empty_state, last_number};
+ghost use Rattle.rdf_dataset.specs.Sorted.{AppendsOnce, ListsSorted};
+ghost use Rattle.rdf_dataset.specs.State.{State, IsSound, Begins, Ends, net_between, empty_state, last_number, matches};
 
-use crate::listing::append_matching;
 use crate::net::Net;
-use crate::sorted::{Sorted, append_copies};
+use crate::sorted::{Sorted, in_order};
 use crate::source::Source;
+use rdf_store::Store;
 use rdf_terms::{GraphName, NoMemory, Quad, Term};
 use std::alloc::Global;
 use std::marker::Model;
 
-/// A sound state: quads, graph names, and the number of the next blank node.
+/// A sound state: quads, graph names, and the number of the next blank node. Each term is kept once,
+/// also when its quads are gone, and a look-up looks only at the quads that it finds.
 #[derive(Drop)]
 pub struct Dataset {
-    pub(crate) quads: Sorted<Quad>,
-    pub(crate) names: Sorted<Term>,
-    pub(crate) next: u64,
+    store: Store,
+    next: u64,
+    alloc: Global,
 }
 
 impl Model for Dataset {
-    ghost use Rattle.std.specs.FinSet as set;
     ghost use Rattle.rdf_dataset.specs.State.{State, state_code, IsSound};
 
     ghost Value = { State };
@@ -30,14 +30,14 @@ impl Model for Dataset {
     ghost coded = { state_code };
 
     ghost view = { λ d. record {
-      quads = set.from_list d.quads;
-      names = set.from_list d.names;
+      quads = d.store.quads;
+      names = d.store.names;
       next = d.next;
     } };
 
     ghost invariant = { λ d. IsSound (record {
-      quads = set.from_list d.quads;
-      names = set.from_list d.names;
+      quads = d.store.quads;
+      names = d.store.names;
       next = d.next;
     }) };
 }
@@ -56,24 +56,34 @@ impl Dataset {
         ensures { result ≡ empty_state next }
     {
         Dataset {
-            quads: Sorted::new(alloc),
-            names: Sorted::new(alloc),
+            store: Store::new(alloc),
             next,
+            alloc,
         }
     }
 
     /// The quads, each once, in order.
-    pub fn quads(&self) -> &[Quad]
-        ensures { ListsSorted self.now.quads result.now }
+    ///
+    /// # Errors
+    /// [`NoMemory`] where memory is wanting.
+    pub fn quads(&self) -> Result<Vec<Quad>, NoMemory>
+        ensures { IfOk result (λ quads. ListsSorted self.now.quads quads.items) }
     {
-        self.quads.listing()
+        let mut quads = Vec::new(self.alloc);
+        self.store.append_quads(&mut quads)?;
+        Ok(in_order(quads))
     }
 
     /// The graph names, each once, in order.
-    pub fn names_sorted(&self) -> &[Term]
-        ensures { ListsSorted self.now.names result.now }
+    ///
+    /// # Errors
+    /// [`NoMemory`] where memory is wanting.
+    pub fn names_sorted(&self) -> Result<Vec<Term>, NoMemory>
+        ensures { IfOk result (λ names. ListsSorted self.now.names names.items) }
     {
-        self.names.listing()
+        let mut names = Vec::new(self.alloc);
+        self.store.append_names(&mut names)?;
+        Ok(in_order(names))
     }
 
     /// Goes to the state where a net that begins here ends. It takes no memory where the net added
@@ -125,10 +135,10 @@ impl Dataset {
     fn is_sound(&self)
         ensures { IsSound self.now }
     {
-        let _ = &self.quads;
+        let _ = &self.store;
     }
 
-    // All growths come first, and what they made is taken back where one is refused.
+    // All growths come first; where they are refused, nothing has changed.
     fn go_to(
         &mut self,
         added: &Sorted<Quad>,
@@ -145,13 +155,9 @@ impl Dataset {
         ensures err { OnErr result (self.new ≡ self.old) }
         ensures free { added.now ≡ [] → names_added.now ≡ [] → IsOk result }
     {
-        self.quads.unite(added)?;
-        if let Err(refused) = self.names.unite(names_added) {
-            self.quads.subtract(added);
-            return Err(refused);
-        }
-        self.quads.subtract(removed);
-        self.names.subtract(names_removed);
+        let store = &mut self.store;
+        store.insert_all(added.as_slice(), names_added.as_slice())?;
+        store.remove_all(removed.as_slice(), names_removed.as_slice());
         self.next = next;
         Ok(())
     }
@@ -161,11 +167,11 @@ impl Source for Dataset {
     ghost contents = { λ d. d };
 
     fn contains(&self, quad: &Quad) -> bool {
-        self.quads.contains(quad)
+        self.store.contains(quad)
     }
 
     fn has_name(&self, name: &Term) -> bool {
-        self.names.contains(name)
+        self.store.has_name(name)
     }
 
     fn next_blank(&self) -> u64 {
@@ -173,9 +179,10 @@ impl Source for Dataset {
     }
 
     fn names(&self, out: &mut Vec<Term>) -> Result<(), NoMemory> {
-        append_copies(out, self.names.as_slice())
+        self.store.append_names(out)
     }
 
+    /// The same, and the answer is just the number of the quads appended.
     fn matches(
         &self,
         graph: &GraphName,
@@ -183,9 +190,15 @@ impl Source for Dataset {
         predicate: Option<&Term>,
         object: Option<&Term>,
         out: &mut Vec<Quad>,
-    ) -> Result<usize, NoMemory> {
-        let quads = self.quads.as_slice();
-        append_matching(out, quads, graph, subject, predicate, object)?;
-        Ok(quads.len())
+    ) -> Result<usize, NoMemory>
+        ensures found { OnOk result (AppendsOnce
+            (set.retain self.now.quads (matches graph.now (option_copied subject.entry)
+            (option_copied predicate.entry) (option_copied object.entry)))
+            out.old.items out.new.items) }
+        ensures looked { IfOk result
+            (λ looked. length out.new.items ≡ length out.old.items + looked) }
+        ensures err { OnErr result (out.new.items ≡ out.old.items) }
+    {
+        self.store.matches(graph, subject, predicate, object, out)
     }
 }

@@ -9,6 +9,7 @@ mod insertion;
 mod item;
 mod listing;
 mod net;
+mod plain;
 mod sorted;
 mod source;
 mod staged;
@@ -17,5 +18,6 @@ mod tree_delta;
 
 pub use dataset::Dataset;
 pub use net::Net;
+pub use plain::PlainDataset;
 pub use source::Source;
 pub use staged::Staged;

@@ -246,8 +246,8 @@ impl Keeper {
             × (out.new.items ≡ out.old.items ++ concat lines) × (count ≡ length lines)) }
         ensures err { OnErr result (out.new.items ≡ out.old.items) }
     {
-        let quads = self.dataset.quads();
-        write_lines(self.alloc, quads, out)?;
+        let quads = self.dataset.quads()?;
+        write_lines(self.alloc, &quads, out)?;
         Ok(quads.len() as u64)
     }
 
@@ -258,7 +258,7 @@ impl Keeper {
     pub fn names(&self) -> Result<Vec<Term>, NoMemoryFault>
         ensures { IfOk result (λ names. ListsSorted (now self.now).names names.items) }
     {
-        copies(self.alloc, self.dataset.names_sorted())
+        self.dataset.names_sorted()
     }
 
     /// The number of the next blank node now. It takes no memory. Each state of any keeper is sound, and its cursor and
@@ -270,16 +270,6 @@ impl Keeper {
     {
         Source::next_blank(&self.dataset)
     }
-}
-
-fn copies(alloc: Global, terms: &[Term]) -> Result<Vec<Term>, NoMemoryFault>
-    ensures { IfOk result (λ all. all.items ≡ terms.now) }
-{
-    let mut all = Vec::new(alloc);
-    for term in terms {
-        all.push(term.copy()?)?;
-    }
-    Ok(all)
 }
 
 fn counts_of(net: &Net) -> Counts

@@ -10,6 +10,7 @@
 #![tactic(auto)]
 
 mod conversions;
+mod datasets;
 mod patterns;
 mod queries;
 mod retry;
@@ -22,7 +23,7 @@ use std::alloc::Global;
 use std::io;
 use std::io::Read;
 
-const PARTS: [u8; 7] = *b"1234567";
+const PARTS: [u8; 8] = *b"12345678";
 
 fn main(rt: HostRuntime) -> io::Result<()> {
     let alloc = rt.alloc();
@@ -48,7 +49,8 @@ fn outcome(alloc: Global, part: u8) -> &'static str {
         b'4' => patterns::outcome(alloc),
         b'5' => queries::outcome(alloc),
         b'6' => script::outcome(alloc),
-        _ => conversions::outcome(alloc),
+        b'7' => conversions::outcome(alloc),
+        _ => datasets::outcome(alloc),
     }
 }
 

@@ -7,10 +7,16 @@ use std::alloc::Global;
 /// Whether quads, names and the counter are equal. Both list each quad and each name once.
 pub fn agree(alloc: Global, dataset: &Dataset, model: &Model) -> bool {
     dataset.next_blank() == model.next()
-        && dataset.quads().len() == model.facts().len()
-        && dataset.names_sorted().len() == model.names().len()
+        && sizes(dataset) == Some((model.facts().len(), model.names().len()))
         && has_facts(alloc, dataset, model)
         && has_names(alloc, dataset, model)
+}
+
+// How many quads and how many names are listed.
+fn sizes(dataset: &Dataset) -> Option<(usize, usize)> {
+    let quads = dataset.quads().ok()?;
+    let names = dataset.names_sorted().ok()?;
+    Some((quads.len(), names.len()))
 }
 
 fn has_facts(alloc: Global, dataset: &Dataset, model: &Model) -> bool {

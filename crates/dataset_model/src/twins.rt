@@ -1,0 +1,122 @@
+//! The same nets on a dataset and on a plain one. Both are compared with the model and with each other.
+ghost use Rattle.std.specs.Prelude.{◌≡◌, IsTrue, IfSome};
+ghost use Rattle.rdf_dataset.specs.State.{Begins, Ends};
+
+use crate::compare::agree;
+use crate::model::Model;
+use crate::steps::step;
+use crate::table::Table;
+use crate::trial::Trial;
+use rdf_dataset::{Dataset, Net, PlainDataset, Staged};
+use rdf_terms::{same_quad, same_term};
+use std::alloc::Global;
+
+const FIRST_NUMBER: u64 = 4;
+
+/// A dataset and the plain one.
+#[derive(Drop)]
+struct Twins {
+    dataset: Dataset,
+    plain: PlainDataset,
+}
+
+/// The number of the commits, reverts and look-ups that agreed: 250 rounds of two.
+pub fn steps_alike(alloc: Global) -> u32 {
+    let Some(table) = Table::new(alloc) else {
+        return 0;
+    };
+    let mut trial = Trial::new(alloc, table);
+    let mut twins = Twins {
+        dataset: Dataset::starting_at(alloc, FIRST_NUMBER),
+        plain: PlainDataset::starting_at(alloc, FIRST_NUMBER),
+    };
+    let mut model = Model::new(alloc, FIRST_NUMBER);
+    for _ in 0..250 {
+        if !round(&mut trial, &mut twins, &mut model) {
+            return trial.agreed;
+        }
+    }
+    trial.agreed
+}
+
+// A commit, and then its revert or look-ups.
+fn round(trial: &mut Trial, twins: &mut Twins, model: &mut Model) -> bool
+    requires { twins.old.dataset ≡ twins.old.plain }
+    ensures { IsTrue result → twins.new.dataset ≡ twins.new.plain }
+{
+    let Some(kept) = model.copy(trial.alloc) else {
+        return false;
+    };
+    let Some(net) = changes(trial, &twins.dataset, model) else {
+        return false;
+    };
+    if !twins.commit(&net) || !twins.counts(trial, model) {
+        return false;
+    }
+    if trial.number() % 3 > 0 {
+        return twins.counts(trial, model);
+    }
+    *model = kept;
+    twins.revert(&net) && twins.counts(trial, model)
+}
+
+// The net of five changes.
+fn changes(trial: &mut Trial, dataset: &Dataset, model: &mut Model) -> Option<Net>
+    ensures { IfSome result (λ net. Begins net dataset.now) }
+{
+    let mut staged = Staged::over(trial.alloc, dataset);
+    for _ in 0..5 {
+        if !step(trial, &mut staged, model) {
+            return None;
+        }
+    }
+    match staged.into_net() {
+        Ok(net) => Some(net),
+        Err(_) => None,
+    }
+}
+
+impl Twins {
+    fn commit(&mut self, net: &Net) -> bool
+        requires same { self.old.dataset ≡ self.old.plain }
+        requires begins { Begins net.now self.old.dataset }
+        ensures same { IsTrue result → self.new.dataset ≡ self.new.plain }
+        ensures ends { IsTrue result → Ends net.now self.new.dataset }
+    {
+        self.dataset.commit(net).is_ok() && self.plain.commit(net).is_ok()
+    }
+
+    fn revert(&mut self, net: &Net) -> bool
+        requires same { self.old.dataset ≡ self.old.plain }
+        requires ends { Ends net.now self.old.dataset }
+        ensures { IsTrue result → self.new.dataset ≡ self.new.plain }
+    {
+        self.dataset.revert(net).is_ok() && self.plain.revert(net).is_ok()
+    }
+
+    // Counts a step where both hold what the model does, and list the same.
+    fn counts(&self, trial: &mut Trial, model: &Model) -> bool {
+        let place = trial.quad_number() as usize;
+        agree(trial.alloc, &self.plain, model, &trial.table, place)
+            && trial.counts(&self.dataset, model)
+            && self.list_the_same_quads()
+            && self.list_the_same_names()
+    }
+
+    fn list_the_same_quads(&self) -> bool {
+        let (Ok(quads), Ok(others)) = (self.dataset.quads(), self.plain.quads()) else {
+            return false;
+        };
+        let mut pairs = quads.iter().zip(others.iter());
+        quads.len() == others.len() && pairs.all(|(quad, other)| same_quad(quad, other))
+    }
+
+    fn list_the_same_names(&self) -> bool {
+        let (Ok(names), Ok(others)) = (self.dataset.names_sorted(), self.plain.names_sorted())
+        else {
+            return false;
+        };
+        let mut pairs = names.iter().zip(others.iter());
+        names.len() == others.len() && pairs.all(|(name, other)| same_term(name, other))
+    }
+}
