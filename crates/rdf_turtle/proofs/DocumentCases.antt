@@ -32,7 +32,8 @@ Meant base text = ((quads : List Quad) × IsDocument base text quads) ⊎ ((f : 
 by_answer : (base : Option (List ℕ)) (text : List ℕ) (tree : List Statement) → HasTree text tree → (r : Result (List Quad) TurtleFaultKind) → answer base tree ≡ r → Meant base text
 by_answer base text tree h (Ok quads) e = inl (quads, (tree, h, e))
 by_answer base text tree h (Err k) e =
-    inr (record { line = 0; kind = k }, name_is base text tree k 0 h e (answer_kind (declares_first [] tree) (triples_of base tree) k e))
+    let found = name_is base text tree k h e (answer_kind (declares_first [] tree) (triples_of base tree) k e) in
+    inr (record { line = found.0; kind = k }, found.1)
 
 more_left : (ss us : List Statement) (l : Lexeme) (ls : Lexemes) → ◌≡◌ {A = Outcome (List Statement)} (Some (ss, l ∷ ls)) (Some (us, [])) → ⊥
 more_left ss us l ls e = let none : l ∷ ls ≡ [] = (some_pair ss us (l ∷ ls) [] e).1 in cc

@@ -1,7 +1,8 @@
 -- A text says one thing: the quads of a document, or a fault.
-use Rattle.std.proofs.Common.{length, ◌≡◌, ◌≢◌, cond, ok_or, ◌<◌, ◌⊎◌, inl, inr, ℕ, Bool, true, false, List, Option, Some, None, Result, Ok, Err, refl, sym, ap, subst, ◌∙◌}
+use Rattle.std.proofs.Common.{Bor, ◌≡◌, ◌≢◌, cond, ok_or, ◌<◌, ◌⊎◌, inl, inr, ℕ, Bool, true, false, List, Option, Some, None, is_some, Result, Ok, Err, refl, sym, ap, subst, ◌∙◌}
 use Rattle.std.specs.List.{slice_get}
-use Rattle.std.specs.Str.{chars}
+use Rattle.std.specs.Option.{option_copied}
+use Rattle.std.specs.Str.{chars, IsUtf8}
 use Rattle.rdf_terms.specs.declared.quad.Quad.{Quad}
 use Rattle.rdf_turtle.specs.declared.fault.TurtleFault.{TurtleFault}
 use Rattle.rdf_turtle.specs.declared.fault.TurtleFaultKind.{TurtleFaultKind}
@@ -11,12 +12,14 @@ use Rattle.rdf_tokens.specs.declared.token.Token.{Token}
 use Rattle.rdf_grammar.specs.declared.prologue.PrologueFault.{PrologueFault}
 use Rattle.rdf_grammar.specs.declared.prologue.PrologueFault.TheVariants as names
 use Rattle.rdf_turtle.specs.declared.tree.Statement.{Statement}
-use Rattle.rdf_turtle.specs.Document.{HasTokens, HasTree, IsDocument, IsPlace, FaultIs, IsFaulty, TellsFault}
+use Rattle.rdf_turtle.specs.Document.{HasTokens, HasTree, IsDocument, start_or_end, start_of, IsPlace, FaultIs, IsFaulty, TellsFault}
+use Rattle.rdf_turtle.specs.FaultyNames.{first_unbound, first_lacking}
 use Rattle.rdf_turtle.specs.DocumentLaws.{has_free_line, OneDocument, NeverBoth, OneFault}
 use Rattle.rdf_turtle.specs.Grammar as grammar
 use Rattle.rdf_turtle.specs.Terminals.{terminal_by, bracket}
 use Rattle.rdf_tokens.specs.Lines.{line_of}
 use Rattle.rdf_turtle.specs.Inside.Kept.{IsFaultOf, IsNameFault}
+use Rattle.rdf_turtle.specs.Inside.NamePlaces.{IsAtFirst}
 use Rattle.rdf_turtle.specs.Meaning.{answer}
 use Rattle.rdf_turtle.specs.Nesting.{IsTooDeep, IsTooDeepAt}
 use Rattle.rdf_turtle.specs.Inside.Stops.{Explains}
@@ -120,6 +123,13 @@ clash_bool b e f = cc
 free : (k : TurtleFaultKind) (m n : ℕ) → has_free_line k ≡ true → Same k k m n
 free k m n e = (refl, λ f. absurd (clash_bool (has_free_line k) e f))
 
+-- a lexeme that is found in the same way has the same line
+same_start : (text : List ℕ) (a b : List Statement) (h : HasTree text a) (k : HasTree text b) (found : List Lexeme → ℕ)
+    → line_of text (start_of text h.tokens (found h.lexemes)) ≡ line_of text (start_of text k.tokens (found k.lexemes))
+same_start text a b h k found =
+    let e = one_tokens text h.tokens k.tokens h.lexemes k.lexemes h.list k.list in
+    ap (λ (x : List Token). line_of text (start_of text x (found h.lexemes))) e.0 ∙ ap (λ (x : List Lexeme). line_of text (start_of text k.tokens (found x))) e.1
+
 other_kind : fault.UnknownPrefix ≡ fault.Relative → ⊥
 other_kind e = cc
 
@@ -156,7 +166,7 @@ same_kind base text fault.UnknownPrefix fault.NotUtf8 m n h i = absurd (i.0 h.1.
 same_kind base text fault.UnknownPrefix fault.Token m n h i = absurd (no_token text i.1.0 i.1.1 (listed_tree text (h.0, h.1)))
 same_kind base text fault.UnknownPrefix fault.TooDeep m n h i = absurd (not_shallow text i.0 i.1 i.3 i.4 i.5 (shallow_tree text (h.0, h.1)))
 same_kind base text fault.UnknownPrefix fault.Syntax m n h i = absurd (no_tree text i.0 i.1 i.2 i.4 (h.0, h.1))
-same_kind base text fault.UnknownPrefix fault.UnknownPrefix m n h i = free fault.UnknownPrefix m n refl
+same_kind base text fault.UnknownPrefix fault.UnknownPrefix m n h i = (refl, λ f. h.3 ∙ same_start text h.0 i.0 h.1 i.1 first_unbound ∙ sym i.3)
 same_kind base text fault.UnknownPrefix fault.Relative m n h i = absurd (other_kind (clash base text h.0 i.0 fault.UnknownPrefix fault.Relative h.1 i.1 h.2 i.2))
 same_kind base text fault.UnknownPrefix (fault.NoMemory _) m n h i = absurd i
 same_kind base text fault.Relative fault.NotUtf8 m n h i = absurd (i.0 h.1.list.utf8)
@@ -164,7 +174,7 @@ same_kind base text fault.Relative fault.Token m n h i = absurd (no_token text i
 same_kind base text fault.Relative fault.TooDeep m n h i = absurd (not_shallow text i.0 i.1 i.3 i.4 i.5 (shallow_tree text (h.0, h.1)))
 same_kind base text fault.Relative fault.Syntax m n h i = absurd (no_tree text i.0 i.1 i.2 i.4 (h.0, h.1))
 same_kind base text fault.Relative fault.UnknownPrefix m n h i = absurd (other_kind (clash base text i.0 h.0 fault.UnknownPrefix fault.Relative i.1 h.1 i.2 h.2))
-same_kind base text fault.Relative fault.Relative m n h i = free fault.Relative m n refl
+same_kind base text fault.Relative fault.Relative m n h i = (refl, λ f. h.3 ∙ same_start text h.0 i.0 h.1 i.1 (first_lacking (is_some base)) ∙ sym i.3)
 same_kind base text fault.Relative (fault.NoMemory _) m n h i = absurd i
 same_kind base text (fault.NoMemory _) k m n h i = absurd h
 
@@ -192,27 +202,26 @@ fault_tells base text f k e h =
 not_deep : ◌≡◌ {A = TurtleFaultKind} fault.Syntax fault.TooDeep → ⊥
 not_deep e = cc
 
--- where a token of this number begins, or the end
-is_place : (text : List ℕ) (ts : List Token) (place start : ℕ) → ((token : Token) → slice_get ts place ≡ Some token → start ≡ token.start) → (slice_get ts place ≡ None → start ≡ length text) → IsPlace text ts start
-is_place text ts place start at end = by (slice_get ts place) refl
+-- where the token of this number begins, or the end
+is_place : (text : List ℕ) (ts : List Token) (place : ℕ) → IsPlace text ts (start_of text ts place)
+is_place text ts place = by (slice_get ts place) refl
   where
-    by : (o : Option Token) → slice_get ts place ≡ o → IsPlace text ts start
-    by (Some token) e = inl (place, token, e, at token e)
-    by None e = inr (end e)
+    by : (o : Option Token) → slice_get ts place ≡ o → IsPlace text ts (start_or_end text (slice_get ts place))
+    by (Some token) e = inl (place, token, e, ap (start_or_end text) e)
+    by None e = inr (ap (start_or_end text) e)
 
 -- the parser's fault is the text's
-stop_is : (base : Option (List ℕ)) (text : List ℕ) (ts : List Token) (ls : List Lexeme) (k : TurtleFaultKind) (place start line : ℕ) → HasTokens text ts ls
-    → (IsTooDeep ls → k ≡ fault.TooDeep) → Explains ls k place → ((token : Token) → slice_get ts place ≡ Some token → start ≡ token.start)
-    → (slice_get ts place ≡ None → start ≡ length text) → k ≢ no_memory → line ≡ line_of text start → FaultIs base text k line
-stop_is base text ts ls fault.TooDeep place start line h deep why at end some l =
+stop_is : (base : Option (List ℕ)) (text : List ℕ) (ts : List Token) (ls : List Lexeme) (k : TurtleFaultKind) (place line : ℕ) → HasTokens text ts ls
+    → (IsTooDeep ls → k ≡ fault.TooDeep) → Explains ls k place → k ≢ no_memory → line ≡ line_of text (start_of text ts place) → FaultIs base text k line
+stop_is base text ts ls fault.TooDeep place line h deep why some l =
     let found = got ts place (subst (λ (n : ℕ). place < n) (same_lengths terminal_by (chars text) ts ls h.pieces) why.within) in
-    (ts, ls, found.0, place, h, why, found.1, l ∙ ap (line_of text) (at found.0 found.1))
-stop_is base text ts ls fault.Syntax place start line h deep why at end some l = (ts, ls, h, (λ d. not_deep (deep d)), why, (start, is_place text ts place start at end, l))
-stop_is base text ts ls (fault.NoMemory _) place start line h deep why at end some l = absurd (some refl)
-stop_is base text ts ls fault.NotUtf8 place start line h deep why at end some l = absurd why
-stop_is base text ts ls fault.Token place start line h deep why at end some l = absurd why
-stop_is base text ts ls fault.UnknownPrefix place start line h deep why at end some l = absurd why
-stop_is base text ts ls fault.Relative place start line h deep why at end some l = absurd why
+    (ts, ls, found.0, place, h, why, found.1, l ∙ ap (λ (o : Option Token). line_of text (start_or_end text o)) found.1)
+stop_is base text ts ls fault.Syntax place line h deep why some l = (ts, ls, h, (λ d. not_deep (deep d)), why, (start_of text ts place, is_place text ts place, l))
+stop_is base text ts ls (fault.NoMemory _) place line h deep why some l = absurd (some refl)
+stop_is base text ts ls fault.NotUtf8 place line h deep why some l = absurd why
+stop_is base text ts ls fault.Token place line h deep why some l = absurd why
+stop_is base text ts ls fault.UnknownPrefix place line h deep why some l = absurd why
+stop_is base text ts ls fault.Relative place line h deep why some l = absurd why
 
 same_or_not : (k : TurtleFaultKind) → (k ≡ no_memory) ⊎ (k ≢ no_memory)
 same_or_not (fault.NoMemory _) = inl refl
@@ -223,12 +232,12 @@ same_or_not fault.Syntax = inr (λ e. cc)
 same_or_not fault.UnknownPrefix = inr (λ e. cc)
 same_or_not fault.Relative = inr (λ e. cc)
 
-pub stop_tells : (base : Option (List ℕ)) (text : List ℕ) (ts : List Token) (ls : List Lexeme) (k : TurtleFaultKind) (place start : ℕ) (f : TurtleFault) → HasTokens text ts ls
-    → (IsTooDeep ls → k ≡ fault.TooDeep) → Explains ls k place → ((token : Token) → slice_get ts place ≡ Some token → start ≡ token.start)
-    → (slice_get ts place ≡ None → start ≡ length text) → f.kind ≡ k → (k ≢ no_memory → f.line ≡ line_of text start) → (k ≡ no_memory → f.line ≡ 0) → TellsFault base text f f.kind
-stop_tells base text ts ls k place start f h deep why at end e l none = elim (same_or_not k) [
+pub stop_tells : (base : Option (List ℕ)) (text : List ℕ) (ts : List Token) (ls : List Lexeme) (k : TurtleFaultKind) (place : ℕ) (f : TurtleFault) → HasTokens text ts ls
+    → (IsTooDeep ls → k ≡ fault.TooDeep) → Explains ls k place → f.kind ≡ k → (k ≢ no_memory → f.line ≡ line_of text (start_of text ts place)) → (k ≡ no_memory → f.line ≡ 0)
+    → TellsFault base text f f.kind
+stop_tells base text ts ls k place f h deep why e l none = elim (same_or_not k) [
   | inl m ↦ memory_tells base text f (e ∙ m) (none m)
-  | inr n ↦ fault_tells base text f k e (stop_is base text ts ls k place start f.line h deep why at end n (l n))
+  | inr n ↦ fault_tells base text f k e (stop_is base text ts ls k place f.line h deep why n (l n))
 ]
 
 -- the fault of the triples is the text's
@@ -238,13 +247,45 @@ answer_kind true None k e = inr (err_same k fault.Relative (sym e))
 answer_kind true (Some x) k e = absurd (ok_err x k e)
 answer_kind false o k e = inl (err_same k fault.UnknownPrefix (sym e))
 
-pub name_is : (base : Option (List ℕ)) (text : List ℕ) (tree : List Statement) (k : TurtleFaultKind) (line : ℕ) → HasTree text tree → answer base tree ≡ Err k
-    → (k ≡ fault.UnknownPrefix) ⊎ (k ≡ fault.Relative) → FaultIs base text k line
-name_is base text tree k line h e (inl u) = subst (λ (x : TurtleFaultKind). FaultIs base text x line) (sym u) (tree, h, e ∙ ap (λ (x : TurtleFaultKind). Err x) u)
-name_is base text tree k line h e (inr r) = subst (λ (x : TurtleFaultKind). FaultIs base text x line) (sym r) (tree, h, e ∙ ap (λ (x : TurtleFaultKind). Err x) r)
+-- at its line
+pub name_is : (base : Option (List ℕ)) (text : List ℕ) (tree : List Statement) (k : TurtleFaultKind) → HasTree text tree → answer base tree ≡ Err k
+    → (k ≡ fault.UnknownPrefix) ⊎ (k ≡ fault.Relative) → (line : ℕ) × FaultIs base text k line
+name_is base text tree k h e (inl u) =
+    let line : ℕ = line_of text (start_of text h.tokens (first_unbound h.lexemes)) in
+    (line, subst (λ (x : TurtleFaultKind). FaultIs base text x line) (sym u) (tree, h, e ∙ ap (λ (x : TurtleFaultKind). Err x) u, refl))
+name_is base text tree k h e (inr r) =
+    let line : ℕ = line_of text (start_of text h.tokens (first_lacking (is_some base) h.lexemes)) in
+    (line, subst (λ (x : TurtleFaultKind). FaultIs base text x line) (sym r) (tree, h, e ∙ ap (λ (x : TurtleFaultKind). Err x) r, refl))
 
-pub name_tells : (base : Option (List ℕ)) (text : List ℕ) (tree : List Statement) (e : PrologueFault) (f : TurtleFault) → HasTree text tree → IsFaultOf (answer base tree) e → IsNameFault text e f
-    → TellsFault base text f f.kind
-name_tells base text tree (names.NoMemory m) f h is named = memory_tells base text f named.0 named.1
-name_tells base text tree (names.UnknownPrefix start) f h is named = fault_tells base text f fault.UnknownPrefix named.0 (tree, h, is)
-name_tells base text tree (names.Relative start) f h is named = fault_tells base text f fault.Relative named.0 (tree, h, is)
+pub name_tells : (base : Option (List ℕ)) (text : List ℕ) (tree : List Statement) (h : HasTree text tree) (told e : PrologueFault) (f : TurtleFault) → IsFaultOf (answer base tree) told
+    → IsAtFirst text h.tokens h.lexemes (is_some base) told e → IsNameFault text e f → TellsFault base text f f.kind
+name_tells base text tree h told (names.NoMemory m) f is at named = memory_tells base text f named.0 named.1
+name_tells base text tree h (names.UnknownPrefix start) (names.UnknownPrefix place) f is at named = fault_tells base text f fault.UnknownPrefix named.0 (tree, h, is, named.1 ∙ ap (line_of text) at)
+name_tells base text tree h (names.Relative start) (names.Relative place) f is at named = fault_tells base text f fault.Relative named.0 (tree, h, is, named.1 ∙ ap (line_of text) at)
+name_tells base text tree h (names.UnknownPrefix start) (names.Relative place) f is at named = absurd at
+name_tells base text tree h (names.Relative start) (names.UnknownPrefix place) f is at named = absurd at
+name_tells base text tree h (names.NoMemory m) (names.UnknownPrefix place) f is at named = absurd at
+name_tells base text tree h (names.NoMemory m) (names.Relative place) f is at named = absurd at
+
+-- ---- what the reader goes by
+
+abbrev pub has_tree : (text : List ℕ) (ts : List Token) (read ls : List Lexeme) (tree : List Statement) → IsUtf8 text → Says (chars text) (Ok ts) → AreLexemes (chars text) ts ls → read ≡ ls
+    → (¬ (IsTooDeep read)) × grammar.IsDocument read tree → HasTree text tree
+has_tree text ts read ls tree utf8 list pieces e h = record {
+  tokens = ts;
+  lexemes = ls;
+  list = record { utf8 = utf8; list = list; pieces = pieces };
+  shallow = λ d. h.0 (subst IsTooDeep (sym e) d);
+  reads = subst (λ (x : List Lexeme). grammar.IsDocument x tree) e h.1;
+}
+
+pub some_copied : {T : Type 0} (o : Option (Bor T)) (b : Bool) → b ≡ is_some o → b ≡ is_some (option_copied o)
+some_copied (Some x) b e = e
+some_copied None b e = e
+
+pub moved : (t u : List ℕ) (ts us : List Token) (ls ms : List Lexeme) (b d : Bool) (e f : PrologueFault) → t ≡ u → ts ≡ us → ls ≡ ms → b ≡ d → IsAtFirst t ts ls b e f → IsAtFirst u us ms d e f
+moved t u ts us ls ms b d e f p q r s h =
+    subst (λ (x : List ℕ). IsAtFirst x us ms d e f) p
+    (subst (λ (x : List Token). IsAtFirst t x ms d e f) q
+    (subst (λ (x : List Lexeme). IsAtFirst t ts x d e f) r
+    (subst (λ (x : Bool). IsAtFirst t ts ls x e f) s h)))

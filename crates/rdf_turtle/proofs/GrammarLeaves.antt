@@ -28,7 +28,7 @@ use Rattle.rdf_grammar.specs.Productions as productions
 use Rattle.rdf_grammar.specs.declared.word.Word.{Word}
 use Rattle.rdf_grammar.specs.declared.word.Word.TheVariants as w
 use Rattle.rdf_turtle.proofs.GrammarWords.{IsJust, Tag, is_iri, is_pname, is_text, is_caret, is_integer, is_decimal, is_double, is_true, is_false, value_is, behind_is, tag_is}
-use Rattle.rdf_turtle.specs.Leaves.{Leaf, leaf, content, takes_tag, contents, joined, name_leaves, verb_leaves, literal_leaves, node_leaves_of, property_leaves_of, node_leaves, property_leaves, statement_leaves, document_leaves, IsSubject, HasSubject}
+use Rattle.rdf_turtle.specs.Leaves.{Leaf, leaf, directive, content, takes_tag, contents, joined, name_leaves, verb_leaves, literal_leaves, node_leaves_of, property_leaves_of, node_leaves, property_leaves, statement_leaves, document_leaves, IsSubject, HasSubject}
 
 -- ---- what lexemes carry
 
@@ -408,30 +408,43 @@ record SaysStatement (x : Statement) (f : Lexemes) : Type 0 where
   ends : last false f ≡ false
   subject : HasSubject x
 
--- the same, wherever they stand
-record SaysBound (x : Statement) (f : Lexemes) : Type 0 where
-  says : Says (statement_leaves x) f
+-- behind these leaves they carry the rest, wherever they stand
+record SaysRest (words : List Leaf) (x : Statement) (f : Lexemes) : Type 0 where
+  rest : List Leaf
+  says : Says rest f
+  whole : words ++ rest ≡ statement_leaves x
+  subject : HasSubject x
+
+-- the same, and a text isn't the last
+record SaysBound (words : List Leaf) (x : Statement) (f : Lexemes) : Type 0 where
+  rest : List Leaf
+  says : Says rest f
+  whole : words ++ rest ≡ statement_leaves x
   ends : last false f ≡ false
   subject : HasSubject x
 
 -- the word of a directive
-directive_says : (k : Terminal) (x : Statement) (t : Lexeme) (f : Lexemes) → ((text : Piece) → content false k text ≡ []) → takes_tag k ≡ false → t.terminal ≡ k → SaysBound x f → SaysStatement x (t ∷ f)
-directive_says k x t f sign plain is h = record {
-  says = ap (λ (j : Terminal). content false j t.text ++ contents (takes_tag t.terminal) f) is ∙ ap (λ (zs : List Leaf). zs ++ contents (takes_tag t.terminal) f) (sign t.text) ∙ h.says (takes_tag t.terminal);
+directive_says : (k : Terminal) (words : List Leaf) (x : Statement) (t : Lexeme) (f : Lexemes) → ((text : Piece) → content false k text ≡ words) → takes_tag k ≡ false → t.terminal ≡ k → SaysBound words x f
+    → SaysStatement x (t ∷ f)
+directive_says k words x t f sign plain is h = record {
+  says = ap (λ (j : Terminal). content false j t.text ++ contents (takes_tag t.terminal) f) is ∙ ap (λ (zs : List Leaf). zs ++ contents (takes_tag t.terminal) f) (sign t.text)
+      ∙ ap (λ (zs : List Leaf). words ++ zs) (h.says (takes_tag t.terminal)) ∙ h.whole;
   ends = ap (λ (b : Bool). last b f) (ap takes_tag is ∙ plain) ∙ h.ends;
   subject = h.subject;
 }
 
 -- a dot ends a statement
-dot_says : (x : Statement) (t : Lexeme) (f : Lexemes) → t.terminal ≡ terminal.Dot → Says (statement_leaves x) f × HasSubject x → SaysBound x (f ++ t ∷ [])
-dot_says x t f is h = record {
-  says = sign_behind terminal.Dot t (statement_leaves x) f (λ b text. refl) is h.0;
+dot_says : (words : List Leaf) (x : Statement) (t : Lexeme) (f : Lexemes) → t.terminal ≡ terminal.Dot → SaysRest words x f → SaysBound words x (f ++ t ∷ [])
+dot_says words x t f is h = record {
+  rest = h.rest;
+  says = sign_behind terminal.Dot t h.rest f (λ b text. refl) is h.says;
+  whole = h.whole;
   ends = last-append f (t ∷ []) false ∙ ap takes_tag is;
-  subject = h.1;
+  subject = h.subject;
 }
 
-bound_says : (x : Statement) (f : Lexemes) → SaysBound x f → SaysStatement x f
-bound_says x f h = record { says = h.says false; ends = h.ends; subject = h.subject }
+bound_says : (x : Statement) (f : Lexemes) → SaysBound [] x f → SaysStatement x f
+bound_says x f h = record { says = h.says false ∙ h.whole; ends = h.ends; subject = h.subject }
 
 abbrev SaysPrefix : Piece → Lexemes → Type 0
 SaysPrefix prefix f = Says ((terminal.Pname, prefix ∷ [] ∷ []) ∷ []) f
@@ -449,32 +462,41 @@ namespace_gives ts x us d = record { front = d.0 ∷ []; is = d.4; good = prefix
 reference_ends : (f h : Lexemes) (reference : Piece) → IsValue terminal.Iri reference h → last false (f ++ h) ≡ false
 reference_ends f h reference v = last-append f h false ∙ ap (λ (z : Lexemes). last (last false f) z) v.is ∙ ap takes_tag v.terminal
 
-binding_gives : Gives g.Binding SaysBound
-binding_gives = map_gives g.bound _ (λ b f. SaysBound (g.bound b) f) SaysBound
-    (then_gives _ _ (λ prefix reference. (prefix, reference)) SaysPrefix (IsValue terminal.Iri) (λ b f. SaysBound (g.bound b) f) namespace_gives (word_gives w.Iri terminal.Iri is_iri)
+-- behind the word of a prefix's declaration, and of a base's
+abbrev SaysBinding : Statement → Lexemes → Type 0
+SaysBinding = SaysBound (directive terminal.Prefix ∷ [])
+
+abbrev SaysBase : Statement → Lexemes → Type 0
+SaysBase = SaysBound (directive terminal.Base ∷ [])
+
+binding_gives : Gives g.Binding SaysBinding
+binding_gives = map_gives g.bound _ (λ b f. SaysBinding (g.bound b) f) SaysBinding
+    (then_gives _ _ (λ prefix reference. (prefix, reference)) SaysPrefix (IsValue terminal.Iri) (λ b f. SaysBinding (g.bound b) f) namespace_gives (word_gives w.Iri terminal.Iri is_iri)
     (λ prefix reference f h q r. record {
-      says = both_say _ (leaf terminal.Iri reference ∷ []) f h q (value_says terminal.Iri reference _ h r (λ b. refl));
+      rest = (terminal.Pname, prefix ∷ [] ∷ []) ∷ leaf terminal.Iri reference ∷ [];
+      says = both_say ((terminal.Pname, prefix ∷ [] ∷ []) ∷ []) (leaf terminal.Iri reference ∷ []) f h q (value_says terminal.Iri reference _ h r (λ b. refl));
+      whole = refl;
       ends = reference_ends f h reference r;
       subject = tt;
     }))
     (λ b f h. h)
 
-base_gives : Gives g.Base SaysBound
-base_gives = map_gives s.Base _ (IsValue terminal.Iri) SaysBound (value_gives terminal.Iri)
-    (λ a f h. record { says = value_says terminal.Iri a _ f h (λ b. refl); ends = reference_ends [] f a h; subject = tt })
+base_gives : Gives g.Base SaysBase
+base_gives = map_gives s.Base _ (IsValue terminal.Iri) SaysBase (value_gives terminal.Iri)
+    (λ a f h. record { rest = leaf terminal.Iri a ∷ []; says = value_says terminal.Iri a _ f h (λ b. refl); whole = refl; ends = reference_ends [] f a h; subject = tt })
 
-dotted_gives : (P : Derives Statement) → Gives P (λ x f. Says (statement_leaves x) f × HasSubject x) → Gives (g.Dotted P) SaysBound
-dotted_gives P p = closed_gives terminal.Dot P (λ x f. Says (statement_leaves x) f × HasSubject x) SaysBound p (λ x t f is h. dot_says x t f is h)
+dotted_gives : (words : List Leaf) (P : Derives Statement) → Gives P (SaysRest words) → Gives (g.Dotted P) (SaysBound words)
+dotted_gives words P p = closed_gives terminal.Dot P (SaysRest words) (SaysBound words) p (λ x t f is h. dot_says words x t f is h)
 
-bound_dotted : (P : Derives Statement) → Gives P SaysBound → Gives (g.Dotted P) SaysBound
-bound_dotted P p = dotted_gives P (wide_gives P SaysBound _ p (λ x f h. (h.says, h.subject)))
+bound_dotted : (words : List Leaf) (P : Derives Statement) → Gives P (SaysBound words) → Gives (g.Dotted P) (SaysBound words)
+bound_dotted words P p = dotted_gives words P (wide_gives P (SaysBound words) _ p (λ x f h. record { rest = h.rest; says = h.says; whole = h.whole; subject = h.subject }))
 
 directive_gives : Gives g.Directive SaysStatement
 directive_gives =
-    or_gives _ _ SaysStatement (behind_gives terminal.AtPrefix _ SaysBound SaysStatement (bound_dotted _ binding_gives) (λ x t f is h. directive_says terminal.AtPrefix x t f (λ text. refl) refl is h))
-    (or_gives _ _ SaysStatement (behind_gives terminal.AtBase _ SaysBound SaysStatement (bound_dotted _ base_gives) (λ x t f is h. directive_says terminal.AtBase x t f (λ text. refl) refl is h))
-    (or_gives _ _ SaysStatement (behind_gives terminal.Prefix _ SaysBound SaysStatement binding_gives (λ x t f is h. directive_says terminal.Prefix x t f (λ text. refl) refl is h))
-    (behind_gives terminal.Base _ SaysBound SaysStatement base_gives (λ x t f is h. directive_says terminal.Base x t f (λ text. refl) refl is h))))
+    or_gives _ _ SaysStatement (behind_gives terminal.AtPrefix _ SaysBinding SaysStatement (bound_dotted _ _ binding_gives) (λ x t f is h. directive_says terminal.AtPrefix _ x t f (λ text. refl) refl is h))
+    (or_gives _ _ SaysStatement (behind_gives terminal.AtBase _ SaysBase SaysStatement (bound_dotted _ _ base_gives) (λ x t f is h. directive_says terminal.AtBase _ x t f (λ text. refl) refl is h))
+    (or_gives _ _ SaysStatement (behind_gives terminal.Prefix _ SaysBinding SaysStatement binding_gives (λ x t f is h. directive_says terminal.Prefix _ x t f (λ text. refl) refl is h))
+    (behind_gives terminal.Base _ SaysBase SaysStatement base_gives (λ x t f is h. directive_says terminal.Base _ x t f (λ text. refl) refl is h))))
 
 some_properties : (o : Option (List Property)) (f : Lexemes) → IsOption SaysProperties o f → SaysProperties (g.all_of o) f
 some_properties None f h = λ b. ap (λ (z : Lexemes). contents b z) h
@@ -496,7 +518,9 @@ module _ (I P : Derives Node) (i : Gives I SaysNode) (p : Gives P SaysNode) wher
   statement_gives : Gives (g.AStatement I P) SaysStatement
   statement_gives =
       or_gives _ _ SaysStatement directive_gives
-      (wide_gives _ SaysBound SaysStatement (dotted_gives _ (or_gives _ _ SaysTriples about_gives about_blank_gives)) bound_says)
+      (wide_gives _ (SaysBound []) SaysStatement
+      (dotted_gives [] _ (wide_gives _ SaysTriples (SaysRest []) (or_gives _ _ SaysTriples about_gives about_blank_gives) (λ x f h. record { rest = statement_leaves x; says = h.0; whole = refl; subject = h.1 })))
+      bound_says)
 
 -- ---- documents
 

@@ -4,6 +4,7 @@ pub mod BaseSteps
 pub mod BaseTrees
 pub mod DocumentCases
 pub mod DocumentLemmas
+pub mod FaultyNameLemmas
 pub mod GrammarLeaves
 pub mod GrammarLists
 pub mod GrammarNests

@@ -1,7 +1,7 @@
 -- Relative references need a base (Turtle 1.1, sections 2.4 and 6.3).
-use Rattle.std.specs.Prelude.{◌≡◌, ◌↔◌, ℕ, Bool, true, false, ◌&&◌, ◌||◌, not, List, [], ◌∷◌, map, Option, Err, IsTrue, IfSome, is_some}
+use Rattle.std.specs.Prelude.{◌≡◌, ◌↔◌, ℕ, Bool, true, false, ◌||◌, List, [], ◌∷◌, map, Option, Err, IsTrue, IfSome, is_some}
 use Rattle.std.specs.List.{list_any}
-use Rattle.rdf_terms.specs.Iri.{has_scheme, is_iri}
+use Rattle.rdf_terms.specs.Iri.{is_iri}
 use Rattle.rdf_grammar.specs.declared.tree.Name.{Name}
 use Rattle.rdf_grammar.specs.declared.tree.Name.TheVariants.{Full, Prefixed}
 use Rattle.rdf_turtle.specs.declared.tree.Verb.{Verb}
@@ -16,17 +16,14 @@ use Rattle.rdf_turtle.specs.declared.tree.Statement.{Statement}
 use Rattle.rdf_turtle.specs.declared.tree.Statement.TheVariants as s
 use Rattle.rdf_turtle.specs.declared.fault.TurtleFaultKind.TheVariants.{Relative}
 use Rattle.rdf_turtle.specs.Document.{HasTree}
+use Rattle.rdf_turtle.specs.FaultyNames.{lacks}
 use Rattle.rdf_turtle.specs.Known.{holds, declares_first}
 use Rattle.rdf_turtle.specs.Meaning.{answer}
-use Rattle.rdf_tokens.specs.Values.{iri_value}
 
 -- somewhere in the tree a reference stands that has no scheme, and no base is in force
 module _ (based : Bool) where
-  abbrev pub lacks : List ℕ → Bool
-  lacks reference = not based && not (has_scheme (iri_value reference))
-
   abbrev pub lacks_name : Name → Bool
-  lacks_name (Full reference) = lacks reference
+  lacks_name (Full reference) = lacks based reference
   lacks_name (Prefixed prefix local) = false
 
   abbrev pub lacks_verb : Verb → Bool
@@ -54,8 +51,8 @@ module _ (based : Bool) where
   lacks_property = fold-Property Bool Bool lacks_node_of lacks_property_of
 
   abbrev pub lacks_statement : Statement → Bool
-  lacks_statement (s.Prefix prefix reference) = lacks reference
-  lacks_statement (s.Base reference) = lacks reference
+  lacks_statement (s.Prefix prefix reference) = lacks based reference
+  lacks_statement (s.Base reference) = lacks based reference
   lacks_statement (s.Triples node ps) = lacks_node node || list_any holds (map lacks_property ps)
 
 -- a base is in force from its declaration on

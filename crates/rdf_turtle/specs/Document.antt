@@ -1,11 +1,12 @@
 -- What the bytes of a text say as Turtle (Turtle 1.1, sections 6 and 7): the quads of a document, or a fault.
-use Rattle.std.specs.Prelude.{◌≡◌, ◌⊎◌, ℕ, List, length, Option, Some, Ok, Err}
+use Rattle.std.specs.Prelude.{◌≡◌, ◌⊎◌, ℕ, List, length, Option, Some, None, Ok, Err, is_some}
 use Rattle.std.specs.Str.{chars, IsUtf8, IsValidUpTo}
 use Rattle.std.specs.List.{slice_get}
 use Rattle.rdf_terms.specs.declared.quad.Quad.{Quad}
 use Rattle.rdf_turtle.specs.declared.fault.TurtleFault.{TurtleFault}
 use Rattle.rdf_turtle.specs.declared.fault.TurtleFaultKind.{TurtleFaultKind}
 use Rattle.rdf_turtle.specs.declared.fault.TurtleFaultKind.TheVariants as fault
+use Rattle.rdf_turtle.specs.FaultyNames.{first_unbound, first_lacking}
 use Rattle.rdf_turtle.specs.Lexemes.{Lexeme, AreLexemes}
 use Rattle.rdf_tokens.specs.declared.token.Token.{Token}
 use Rattle.rdf_turtle.specs.declared.tree.Statement.{Statement}
@@ -33,6 +34,15 @@ pub record HasTree (text : List ℕ) (tree : List Statement) : Type 0 where
 abbrev pub IsDocument : Option (List ℕ) → List ℕ → List Quad → Type 0
 IsDocument base text quads = (tree : List Statement) × HasTree text tree × (answer base tree ≡ Ok quads)
 
+-- where a token begins, or the end of the text where there is none
+abbrev pub start_or_end : List ℕ → Option Token → ℕ
+start_or_end text (Some token) = token.start
+start_or_end text None = length text
+
+-- where the token of this number begins, or the end of the text
+abbrev pub start_of : List ℕ → List Token → ℕ → ℕ
+start_of text tokens number = start_or_end text (slice_get tokens number)
+
 -- where one of the tokens begins, or the end of the text
 abbrev pub IsPlace : List ℕ → List Token → ℕ → Type 0
 IsPlace text tokens place = ((number : ℕ) × (token : Token) × (slice_get tokens number ≡ Some token) × (place ≡ token.start)) ⊎ (place ≡ length text)
@@ -53,10 +63,14 @@ FaultIs base text fault.Syntax line =
     (tokens : List Token) × (lexemes : List Lexeme) × HasTokens text tokens lexemes × ¬ (IsTooDeep lexemes)
     × ((tree : List Statement) → ¬ (grammar.IsDocument lexemes tree))
     × ((place : ℕ) × IsPlace text tokens place × (line ≡ line_of text place))
--- a prefix is used before it is declared
-FaultIs base text fault.UnknownPrefix line = (tree : List Statement) × HasTree text tree × (answer base tree ≡ Err fault.UnknownPrefix)
--- a reference without a base
-FaultIs base text fault.Relative line = (tree : List Statement) × HasTree text tree × (answer base tree ≡ Err fault.Relative)
+-- a prefix is used before it is declared, in the line of the first name with such a prefix
+FaultIs base text fault.UnknownPrefix line =
+    (tree : List Statement) × (has : HasTree text tree) × (answer base tree ≡ Err fault.UnknownPrefix)
+    × (line ≡ line_of text (start_of text has.tokens (first_unbound has.lexemes)))
+-- a reference without a base, in the line of the first
+FaultIs base text fault.Relative line =
+    (tree : List Statement) × (has : HasTree text tree) × (answer base tree ≡ Err fault.Relative)
+    × (line ≡ line_of text (start_of text has.tokens (first_lacking (is_some base) has.lexemes)))
 FaultIs base text (fault.NoMemory _) line = ⊥
 
 abbrev pub IsFaulty : Option (List ℕ) → List ℕ → TurtleFault → Type 0

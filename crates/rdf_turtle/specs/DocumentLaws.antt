@@ -3,14 +3,12 @@ use Rattle.std.specs.Prelude.{◌≡◌, ◌⊎◌, ℕ, Bool, true, false, List
 use Rattle.rdf_terms.specs.declared.quad.Quad.{Quad}
 use Rattle.rdf_turtle.specs.declared.fault.TurtleFault.{TurtleFault}
 use Rattle.rdf_turtle.specs.declared.fault.TurtleFaultKind.{TurtleFaultKind}
-use Rattle.rdf_turtle.specs.declared.fault.TurtleFaultKind.TheVariants.{Syntax, UnknownPrefix, Relative}
+use Rattle.rdf_turtle.specs.declared.fault.TurtleFaultKind.TheVariants.{Syntax}
 use Rattle.rdf_turtle.specs.Document.{IsDocument, IsFaulty}
 
 -- The kinds of faults whose line is the reader's own choice.
 abbrev pub has_free_line : TurtleFaultKind → Bool
 has_free_line Syntax = true
-has_free_line UnknownPrefix = true
-has_free_line Relative = true
 has_free_line kind = false
 
 -- the same fault, but for a line that is free

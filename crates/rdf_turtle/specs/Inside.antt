@@ -3,6 +3,7 @@ pub mod Cells
 pub mod Formed
 pub mod Kept
 pub mod LinedFaults
+pub mod NamePlaces
 pub mod Proper
 pub mod Reading
 pub mod Room

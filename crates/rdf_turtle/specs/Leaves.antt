@@ -35,21 +35,27 @@ abbrev pub takes_tag : Terminal → Bool
 takes_tag terminal.Text = true
 takes_tag _ = false
 
--- `@prefix` or `@base`: a tag behind a text, else the word of a directive
-abbrev pub at_word : Bool → Piece → List Leaf
-at_word true text = leaf terminal.AtWord text ∷ []
-at_word false text = []
+-- the word of a directive, whatever its case
+abbrev pub directive : Terminal → Leaf
+directive k = (k, [])
 
--- What a lexeme carries, behind a text or not: names, labels, texts, tags, numbers, truth values and `a`. Brackets, signs and the
--- words of directives carry nothing.
+-- `@prefix` or `@base`: a tag behind a text, else the word of a directive, as the other word for it
+abbrev pub at_word : Bool → Terminal → Piece → List Leaf
+at_word true k text = leaf terminal.AtWord text ∷ []
+at_word false k text = directive k ∷ []
+
+-- What a lexeme carries, behind a text or not: names, labels, texts, tags, numbers, truth values, `a` and the words of directives.
+-- Brackets and signs carry nothing.
 abbrev pub content : Bool → Terminal → Piece → List Leaf
 content behind terminal.Iri text = leaf terminal.Iri text ∷ []
 content behind terminal.Pname text = (terminal.Pname, prefix_part text ∷ local_part text ∷ []) ∷ []
 content behind terminal.BlankLabel text = leaf terminal.BlankLabel text ∷ []
 content behind terminal.Text text = leaf terminal.Text text ∷ []
 content behind terminal.AtWord text = leaf terminal.AtWord text ∷ []
-content behind terminal.AtPrefix text = at_word behind text
-content behind terminal.AtBase text = at_word behind text
+content behind terminal.AtPrefix text = at_word behind terminal.Prefix text
+content behind terminal.AtBase text = at_word behind terminal.Base text
+content behind terminal.Prefix text = directive terminal.Prefix ∷ []
+content behind terminal.Base text = directive terminal.Base ∷ []
 content behind terminal.Integer text = leaf terminal.Integer text ∷ []
 content behind terminal.Decimal text = leaf terminal.Decimal text ∷ []
 content behind terminal.Double text = leaf terminal.Double text ∷ []
@@ -103,8 +109,8 @@ abbrev pub property_leaves : Property → List Leaf
 property_leaves = fold-Property (List Leaf) (List Leaf) node_leaves_of property_leaves_of
 
 abbrev pub statement_leaves : Statement → List Leaf
-statement_leaves (s.Prefix prefix reference) = (terminal.Pname, prefix ∷ [] ∷ []) ∷ leaf terminal.Iri reference ∷ []
-statement_leaves (s.Base reference) = leaf terminal.Iri reference ∷ []
+statement_leaves (s.Prefix prefix reference) = directive terminal.Prefix ∷ (terminal.Pname, prefix ∷ [] ∷ []) ∷ leaf terminal.Iri reference ∷ []
+statement_leaves (s.Base reference) = directive terminal.Base ∷ leaf terminal.Iri reference ∷ []
 statement_leaves (s.Triples subject properties) = node_leaves subject ++ joined (map property_leaves properties)
 
 abbrev pub document_leaves : List Statement → List Leaf

@@ -3,6 +3,8 @@ pub mod Blanks
 pub mod Document
 pub mod DocumentLaws
 pub mod FaultName
+pub mod FaultyNameLaws
+pub mod FaultyNames
 pub mod Grammar
 pub mod GrammarFaults
 pub mod Inside

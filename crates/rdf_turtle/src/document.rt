@@ -1,16 +1,21 @@
 //! Turtle documents, from bytes to quads.
-ghost use Rattle.std.specs.Prelude.{◌≡◌, ◌≢◌, ℕ, List, length, Option, Some, None, IfSome, MatchResult, slice_get};
+ghost use Rattle.std.specs.Prelude.{◌≡◌, ◌≢◌, ℕ, List, Option, IfSome, MatchResult};
 ghost use Rattle.std.specs.Option.{option_copied};
 ghost use Rattle.std.specs.Str.{IsUtf8};
 ghost use Rattle.rdf_tokens.specs.declared.token.Token.{Token as Held};
 ghost use Rattle.rdf_turtle.specs.Bases.{RelativeLacksABase};
-ghost use Rattle.rdf_turtle.specs.Document.{HasTokens, HasTree, IsDocument, TellsFault};
+ghost use Rattle.rdf_turtle.specs.Document as spec;
+ghost use Rattle.rdf_turtle.specs.Document.{HasTokens, IsDocument, TellsFault};
 ghost use Rattle.rdf_turtle.specs.FaultName.{no_memory};
+ghost use Rattle.rdf_turtle.specs.Grammar as grammar;
 ghost use Rattle.rdf_turtle.specs.Inside.Kept.{IsNameFault};
+ghost use Rattle.rdf_turtle.specs.Inside.NamePlaces.{IsAtFirst};
+ghost use Rattle.rdf_turtle.specs.Nesting.{IsTooDeep};
 ghost use Rattle.rdf_turtle.specs.DocumentLaws.{SomeMeaning, OneDocument, NeverBoth, OneFault};
 ghost use Rattle.rdf_tokens.specs.Lines.{line_of};
 
 use crate::fault::{TurtleFault, TurtleFaultKind};
+use crate::faulty_name::{first_lacking, first_unbound};
 use crate::lexeme::Lexeme;
 use crate::meaning::triples_of;
 use crate::read::{Stop, parse_document};
@@ -35,6 +40,16 @@ fn fault_at(text: &[u8], kind: TurtleFaultKind, place: usize) -> TurtleFault
     TurtleFault { line, kind }
 }
 
+// The byte where the token of that number starts, or the end of the text.
+fn start_of(text: &[u8], tokens: &[Token], number: usize) -> usize
+    ensures { result ≡ spec.start_of text.now tokens.now number }
+{
+    match tokens.get(number) {
+        Some(token) => token.start,
+        None => text.len(),
+    }
+}
+
 // The fault of a name, at the line where it stands.
 fn name_fault(text: &[u8], fault: PrologueFault) -> TurtleFault
     ensures { IsNameFault text.now fault result }
@@ -50,41 +65,49 @@ fn name_fault(text: &[u8], fault: PrologueFault) -> TurtleFault
     }
 }
 
-// The byte where the token of that number starts, or the end of the text.
-fn start_of(text: &[u8], tokens: &[Token], number: usize) -> usize
-    ensures found { (token : Held) → slice_get tokens.now number ≡ Some token →
-        result ≡ token.start }
-    ensures end { slice_get tokens.now number ≡ None → result ≡ length text.now }
+// The same fault, at the first name that has it, against a base or none.
+fn at_first(
+    alloc: Global,
+    text: &[u8],
+    tokens: &[Token],
+    lexemes: &[Lexeme<'_>],
+    based: bool,
+    fault: PrologueFault,
+) -> PrologueFault
+    ensures { IsAtFirst text.now tokens.now lexemes.now based fault result }
 {
-    match tokens.get(number) {
-        Some(token) => token.start,
-        None => text.len(),
+    match fault {
+        PrologueFault::UnknownPrefix(_) => match first_unbound(alloc, lexemes) {
+            Ok(number) => PrologueFault::UnknownPrefix(start_of(text, tokens, number)),
+            Err(refusal) => PrologueFault::NoMemory(refusal),
+        },
+        PrologueFault::Relative(_) => match first_lacking(alloc, based, lexemes) {
+            Ok(number) => PrologueFault::Relative(start_of(text, tokens, number)),
+            Err(refusal) => PrologueFault::NoMemory(refusal),
+        },
+        PrologueFault::NoMemory(refusal) => PrologueFault::NoMemory(refusal),
     }
 }
 
-// The tree of a text that is UTF-8. Its tokens are let go when the tree stands.
-fn read_tree<'a>(alloc: Global, text: &'a str) -> Result<Items<Statement<'a>>, TurtleFault>
-    requires { IsUtf8 text.now }
+// The tree of the lexemes of a text.
+fn read_tree<'a>(
+    alloc: Global,
+    text: &[u8],
+    tokens: &[Token],
+    lexemes: &[Lexeme<'a>],
+) -> Result<Items<Statement<'a>>, TurtleFault>
+    requires { HasTokens text.now tokens.now lexemes.now }
     ensures { MatchResult result
-        (λ tree. HasTree text.now tree)
+        (λ tree. ¬ (IsTooDeep lexemes.now) × grammar.IsDocument lexemes.now tree)
         (λ fault. (base : Option (List ℕ)) → TellsFault base text.now fault fault.kind) }
 {
-    let tokens = tokens(alloc, text)?;
-    let lexemes = match lexemes(alloc, text, tokens.as_slice()) {
-        Ok(lexemes) => lexemes,
-        Err(refusal) => {
-            let kind = TurtleFaultKind::NoMemory(refusal);
-            return Err(fault_at(text.as_bytes(), kind, 0));
-        }
-    };
-    let tree = match parse_document(alloc, lexemes.as_slice()) {
-        Ok(tree) => tree,
+    match parse_document(alloc, lexemes) {
+        Ok(tree) => Ok(tree),
         Err(Stop { kind, place }) => {
-            let start = start_of(text.as_bytes(), tokens.as_slice(), place);
-            return Err(fault_at(text.as_bytes(), kind, start));
+            let start = start_of(text, tokens, place);
+            Err(fault_at(text, kind, start))
         }
-    };
-    Ok(tree)
+    }
 }
 
 // The lexemes of a text that is UTF-8, where it has a token list and memory isn't wanting. Its
@@ -116,6 +139,34 @@ fn straight_quads(alloc: Global, text: &str, base: Option<&Iri>) -> Option<Vec<Q
     Some(quads)
 }
 
+// The quads of a text that is UTF-8, or its first fault. Its tokens are held to the end, for the line.
+fn read_with_faults(alloc: Global, text: &str, base: Option<&Iri>) -> Result<Vec<Quad>, TurtleFault>
+    requires { IsUtf8 text.now }
+    ensures { MatchResult result
+        (λ quads. IsDocument (option_copied base.entry) text.now quads.items)
+        (λ fault. TellsFault (option_copied base.entry) text.now fault fault.kind) }
+{
+    let bytes = text.as_bytes();
+    let tokens = tokens(alloc, text)?;
+    let lexemes = match lexemes(alloc, text, tokens.as_slice()) {
+        Ok(lexemes) => lexemes,
+        Err(refusal) => return Err(fault_at(bytes, TurtleFaultKind::NoMemory(refusal), 0)),
+    };
+    let tree = match read_tree(alloc, bytes, tokens.as_slice(), lexemes.as_slice()) {
+        Ok(tree) => tree,
+        Err(fault) => return Err(fault),
+    };
+    match triples_of(alloc, base, tree.into_vec()) {
+        Ok(quads) => Ok(quads),
+        Err(fault) => {
+            let (tokens, lexemes) = (tokens.as_slice(), lexemes.as_slice());
+            let based = base.is_some();
+            let fault = at_first(alloc, bytes, tokens, lexemes, based, fault);
+            Err(name_fault(bytes, fault))
+        }
+    }
+}
+
 // The quads of a text that is UTF-8. A faulty one is read once more, for the first fault.
 fn read_text(alloc: Global, text: &str, base: Option<&Iri>) -> Result<Vec<Quad>, TurtleFault>
     requires { IsUtf8 text.now }
@@ -123,16 +174,9 @@ fn read_text(alloc: Global, text: &str, base: Option<&Iri>) -> Result<Vec<Quad>,
         (λ quads. IsDocument (option_copied base.entry) text.now quads.items)
         (λ fault. TellsFault (option_copied base.entry) text.now fault fault.kind) }
 {
-    if let Some(quads) = straight_quads(alloc, text, base) {
-        return Ok(quads);
-    }
-    let tree = match read_tree(alloc, text) {
-        Ok(tree) => tree,
-        Err(fault) => return Err(fault),
-    };
-    match triples_of(alloc, base, tree.into_vec()) {
-        Ok(quads) => Ok(quads),
-        Err(fault) => Err(name_fault(text.as_bytes(), fault)),
+    match straight_quads(alloc, text, base) {
+        Some(quads) => Ok(quads),
+        None => read_with_faults(alloc, text, base),
     }
 }
 

@@ -1,4 +1,5 @@
 //! What holds of each document and its tree.
+ghost use Rattle.rdf_turtle.specs.FaultyNameLaws.{UnboundIsFound, LackingIsFound};
 ghost use Rattle.rdf_turtle.specs.Lexemes.{LexemesHaveForms};
 ghost use Rattle.rdf_turtle.specs.Leaves.{OneDocument, DocumentsHaveSubjects, LeavesAreLexemes};
 ghost use Rattle.rdf_turtle.specs.ReadBack.{QuadsAreWellFormed, NumbersComeInOrder, DocumentsAreReadBack};
@@ -16,9 +17,18 @@ pub fn documents_have_subjects()
 {}
 
 /// The leaves of a document's tree are the lexemes that carry content, in order, each once
-/// (Turtle 1.1, section 6.5): its names, labels, literals and `a`, each with its terminal.
+/// (Turtle 1.1, section 6.5): its names, labels, literals, `a` and the words of directives, each with its
+/// terminal.
 pub fn leaves_are_lexemes()
     ensures { LeavesAreLexemes }
+{}
+
+/// In a document a prefix is used before it is declared just where the line of that fault is that of such
+/// a name, and a reference lacks a base just where it is that of such a reference: the search for the first
+/// comes to the end of the lexemes where there is none.
+pub fn faulty_names_are_found()
+    ensures unbound { UnboundIsFound }
+    ensures lacking { LackingIsFound }
 {}
 
 /// N-Triples is a subset of Turtle (RDF 1.1 N-Triples, section 1): the canonical lines of triples

@@ -3,6 +3,7 @@
 
 mod document;
 mod fault;
+mod faulty_name;
 mod grammar;
 mod known;
 mod laws;
@@ -19,8 +20,8 @@ mod tree;
 pub use document::{one_meaning, read_turtle};
 pub use fault::{TurtleFault, TurtleFaultKind};
 pub use laws::{
-    documents_are_read_back, documents_have_subjects, leaves_are_lexemes, lexemes_have_forms,
-    one_document, written_triples_are_turtle,
+    documents_are_read_back, documents_have_subjects, faulty_names_are_found, leaves_are_lexemes,
+    lexemes_have_forms, one_document, written_triples_are_turtle,
 };
 pub use lexeme::Lexeme;
 pub use meaning::blank_numbers_are_below;
