@@ -20,6 +20,7 @@ pub mod SortLemmas
 pub mod SoundLemmas
 pub mod StatementSteps
 pub mod StepLemmas
+pub mod SuffixSteps
 pub mod TermLemmas
 pub mod WrittenLabelLemmas
 pub mod WrittenLineLemmas

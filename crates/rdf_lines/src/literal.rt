@@ -1,5 +1,5 @@
 //! Literals and objects.
-ghost use Rattle.std.specs.Prelude.{◌≡◌, IfOk};
+ghost use Rattle.std.specs.Prelude.{◌≡◌, ◌∷◌, IfOk};
 ghost use Rattle.rdf_lines.specs.Reading as reading;
 
 use crate::name::{first_is, skip_white};
@@ -8,18 +8,15 @@ use crate::written::WrittenObject;
 use rdf_terms::{Cursor, Iri, Literal, NoMemory, Text};
 use std::alloc::Global;
 
-/// The literal of a string whose tag stands here, and the place behind the tag.
-#[tactic(auto, unfolding(crate::specs::Reading::tagged_at, crate::specs::Reading::tag_at, crate::specs::Reading::name_at, crate::specs::Reading::tagged_literal))]
+/// The literal of a string whose tag stands here, behind its `@`, and the place behind the tag.
+#[tactic(auto, unfolding(crate::specs::Reading::tagged_at, crate::specs::Reading::tag_at, crate::specs::Reading::name_at, crate::specs::Reading::tagged_literal, rdf_terms::specs::Reading::expect))]
 fn tagged<'a>(
     alloc: Global,
     lexical: Text,
-    at: &Cursor<'a>,
+    name: &Cursor<'a>,
 ) -> Result<Option<(WrittenObject, Cursor<'a>)>, NoMemory>
-    ensures { IfOk result (λ r. r ≡ reading.tagged_at lexical at.now) }
+    ensures { IfOk result (λ r. r ≡ reading.tagged_at lexical (64 ∷ name.now)) }
 {
-    let Some(name) = at.expect('@') else {
-        return Ok(None);
-    };
     let Some(rest) = name.tag_end() else {
         return Ok(None);
     };
@@ -29,18 +26,15 @@ fn tagged<'a>(
     Ok(Some((WrittenObject::Literal(literal), rest)))
 }
 
-/// The literal of a string whose `^^` stands here, and the place behind its datatype.
-#[tactic(auto, unfolding(crate::specs::Reading::typed_at))]
+/// The literal of a string whose `^^` stands here, behind the first `^`, and the place behind its datatype.
+#[tactic(auto, unfolding(crate::specs::Reading::typed_at, rdf_terms::specs::Reading::expect))]
 fn typed<'a>(
     alloc: Global,
     lexical: Text,
-    at: &Cursor<'a>,
+    one: &Cursor<'a>,
 ) -> Result<Option<(WrittenObject, Cursor<'a>)>, NoMemory>
-    ensures { IfOk result (λ r. r ≡ reading.typed_at lexical at.now) }
+    ensures { IfOk result (λ r. r ≡ reading.typed_at lexical (94 ∷ one.now)) }
 {
-    let Some(one) = at.expect('^') else {
-        return Ok(None);
-    };
     let Some(both) = one.expect('^') else {
         return Ok(None);
     };
@@ -51,7 +45,7 @@ fn typed<'a>(
 }
 
 /// A literal, and the place behind it.
-#[tactic(auto, unfolding(crate::specs::Reading::literal_at, crate::specs::Reading::suffix_at))]
+#[tactic(auto, using(crate::proofs::SuffixSteps::suffix_tag, crate::proofs::SuffixSteps::suffix_type, crate::proofs::SuffixSteps::suffix_none), unfolding(crate::specs::Reading::literal_at))]
 fn literal<'a>(
     alloc: Global,
     at: &Cursor<'a>,
@@ -62,11 +56,11 @@ fn literal<'a>(
         return Ok(None);
     };
     let suffix = skip_white(&rest);
-    if first_is(&suffix, '@') {
-        return tagged(alloc, lexical, &suffix);
+    if let Some(name) = suffix.expect('@') {
+        return tagged(alloc, lexical, &name);
     }
-    if first_is(&suffix, '^') {
-        return typed(alloc, lexical, &suffix);
+    if let Some(one) = suffix.expect('^') {
+        return typed(alloc, lexical, &one);
     }
     let literal = Literal::from_text(lexical, Iri::xsd_string(alloc)?);
     Ok(Some((WrittenObject::Literal(literal), rest)))
