@@ -1,0 +1,26 @@
+#!/usr/bin/env python3
+"""Times rdflib on what query_catalogue.py wrote: query_rdflib.py FOLDER NAME..
+
+It prints a line for each query: its name, the seconds of Graph.query up to the last row, the best of three, and how many rows
+there are.
+"""
+import pathlib
+import sys
+import time
+
+from rdflib import Graph
+
+
+def main(folder, *names):
+    folder, graph = pathlib.Path(folder), Graph()
+    graph.parse(str(folder / "data"), format="nt")
+    for name in names:
+        text, rounds = (folder / f"{name}.rq").read_text(), []
+        for _ in range(3):
+            begun = time.perf_counter()
+            rows = len(list(graph.query(text)))
+            rounds.append(time.perf_counter() - begun)
+        print(name, min(rounds), rows)
+
+
+main(*sys.argv[1:])
