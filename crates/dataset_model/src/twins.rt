@@ -50,7 +50,10 @@ fn round(trial: &mut Trial, twins: &mut Twins, model: &mut Model) -> bool
     let Some(net) = changes(trial, &twins.dataset, model) else {
         return false;
     };
-    if !twins.commit(&net) || !twins.counts(trial, model) {
+    if !twins.commit(&net) {
+        return false;
+    }
+    if !twins.counts(trial, model) {
         return false;
     }
     if trial.number() % 3 > 0 {
@@ -60,15 +63,25 @@ fn round(trial: &mut Trial, twins: &mut Twins, model: &mut Model) -> bool
     twins.revert(&net) && twins.counts(trial, model)
 }
 
+// Five changes on a view.
+fn vary(trial: &mut Trial, staged: &mut Staged<'_, Dataset>, model: &mut Model) -> bool
+    ensures { staged.new.under ≡ staged.old.under }
+{
+    for _ in 0..5 {
+        if !step(trial, staged, model) {
+            return false;
+        }
+    }
+    true
+}
+
 // The net of five changes.
 fn changes(trial: &mut Trial, dataset: &Dataset, model: &mut Model) -> Option<Net>
     ensures { IfSome result (λ net. Begins net dataset.now) }
 {
     let mut staged = Staged::over(trial.alloc, dataset);
-    for _ in 0..5 {
-        if !step(trial, &mut staged, model) {
-            return None;
-        }
+    if !vary(trial, &mut staged, model) {
+        return None;
     }
     match staged.into_net() {
         Ok(net) => Some(net),
@@ -83,7 +96,13 @@ impl Twins {
         ensures same { IsTrue result → self.new.dataset ≡ self.new.plain }
         ensures ends { IsTrue result → Ends net.now self.new.dataset }
     {
-        self.dataset.commit(net).is_ok() && self.plain.commit(net).is_ok()
+        let Ok(()) = self.dataset.commit(net) else {
+            return false;
+        };
+        let Ok(()) = self.plain.commit(net) else {
+            return false;
+        };
+        true
     }
 
     fn revert(&mut self, net: &Net) -> bool
@@ -91,7 +110,13 @@ impl Twins {
         requires ends { Ends net.now self.old.dataset }
         ensures { IsTrue result → self.new.dataset ≡ self.new.plain }
     {
-        self.dataset.revert(net).is_ok() && self.plain.revert(net).is_ok()
+        let Ok(()) = self.dataset.revert(net) else {
+            return false;
+        };
+        let Ok(()) = self.plain.revert(net) else {
+            return false;
+        };
+        true
     }
 
     // Counts a step where both hold what the model does, and list the same.

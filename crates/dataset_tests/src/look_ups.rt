@@ -1,5 +1,5 @@
 //! What look-ups in a dataset of three quads answer.
-ghost use Rattle.std.specs.Prelude.{ℕ, IfSome};
+ghost use Rattle.std.specs.Prelude.{◌≡◌, ℕ, IfSome};
 ghost use Rattle.rdf_dataset.specs.State.{IsTermBelow, IsQuadBelow, Begins};
 
 use rdf_dataset::{Dataset, Net, Source, Staged};
@@ -43,14 +43,34 @@ fn quad(alloc: Global, subject: &str, predicate: &str, object: &str) -> Option<Q
     Quad::new(GraphName::Default, subject, predicate, object)
 }
 
+// Puts a quad into a view.
+fn insert(
+    alloc: Global,
+    view: &mut Staged<'_, Dataset>,
+    subject: &str,
+    predicate: &str,
+    object: &str,
+) -> Option<bool>
+    ensures { view.new.under ≡ view.old.under }
+{
+    let quad = quad(alloc, subject, predicate, object)?;
+    view.insert(quad).ok()
+}
+
+fn insert_three(alloc: Global, view: &mut Staged<'_, Dataset>) -> Option<bool>
+    ensures { view.new.under ≡ view.old.under }
+{
+    insert(alloc, view, T, P, "1")?;
+    insert(alloc, view, S, P, "1")?;
+    insert(alloc, view, S, Q, "2")
+}
+
 // The net of three insertions.
 fn load(alloc: Global, dataset: &Dataset) -> Option<Net>
     ensures { IfSome result (λ net. Begins net dataset.now) }
 {
     let mut view = Staged::over(alloc, dataset);
-    view.insert(quad(alloc, T, P, "1")?).ok()?;
-    view.insert(quad(alloc, S, P, "1")?).ok()?;
-    view.insert(quad(alloc, S, Q, "2")?).ok()?;
+    insert_three(alloc, &mut view)?;
     match view.into_net() {
         Ok(net) => Some(net),
         Err(_) => None,

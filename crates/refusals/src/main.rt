@@ -10,7 +10,6 @@
 #![tactic(auto)]
 
 mod conversions;
-mod datasets;
 mod patterns;
 mod queries;
 mod retry;
@@ -23,7 +22,7 @@ use std::alloc::Global;
 use std::io;
 use std::io::Read;
 
-const PARTS: [u8; 8] = *b"12345678";
+const PARTS: [u8; 7] = *b"1234567";
 
 fn main(rt: HostRuntime) -> io::Result<()> {
     let alloc = rt.alloc();
@@ -49,8 +48,7 @@ fn outcome(alloc: Global, part: u8) -> &'static str {
         b'4' => patterns::outcome(alloc),
         b'5' => queries::outcome(alloc),
         b'6' => script::outcome(alloc),
-        b'7' => conversions::outcome(alloc),
-        _ => datasets::outcome(alloc),
+        _ => conversions::outcome(alloc),
     }
 }
 
