@@ -1,6 +1,6 @@
 #!/usr/bin/env bash
 # Asks seven queries of 10^5 quads with rdfkeep, rdflib and roqet, in one go, and prints what each takes, loading apart, and
-# the most memory of each process. rdfkeep's times are means of several in one session, rdflib's the best of three, roqet's
+# the most memory of each process. rdfkeep's times are means of twenty in one session, rdflib's the best of three, roqet's
 # one run less one that only loads. Each must find as many rows.
 # Usage: bench/query.sh [RDFKEEP [COUNT [SEED]]], where RDFKEEP is the built program and COUNT the number of quads
 # (apt-get install python3-rdflib rasqal-utils time).
@@ -25,36 +25,35 @@ import sys
 import time
 
 work, rdfkeep, *names = sys.argv[1:]
+session = subprocess.Popen([rdfkeep, "run", "--data", f"{work}/data"], stdin=subprocess.PIPE, stdout=subprocess.PIPE)
 
 
-def run(times, text):
-    """The seconds of a session that asks a query so many times, and its last answer."""
-    with open(f"{work}/script", "w") as script:
-        script.write(("%query\n" + text + "%end\n") * times)
+def ask(text):
+    """The seconds from a query's first byte to the last of its answer, and how many rows there are."""
     begun = time.perf_counter()
-    said = subprocess.run([rdfkeep, "run", "--data", f"{work}/data", f"{work}/script"], capture_output=True, text=True)
-    took = time.perf_counter() - begun
-    if said.returncode:
-        raise SystemExit(f"rdfkeep: {said.stdout[-100:]!r} {said.stderr[:100]!r}")
-    return took, said.stdout.rsplit("\n", 2)[-2] if times else ""
+    session.stdin.write(b"%query\n" + text + b"%end\n")
+    session.stdin.flush()
+    for line in session.stdout:
+        if line.startswith(b"ok "):
+            return time.perf_counter() - begun, int(line[3:])
+    raise SystemExit("rdfkeep gives no answer")
 
 
-start = min(run(0, "")[0] for _ in range(3))
-print("rdfkeep begins with the data in %.2f s, which the times below leave out" % start)
+ask(b"ASK { }\n")
 with open(f"{work}/rdfkeep", "w") as out:
     for name in names:
-        text = open(f"{work}/{name}.rq").read()
-        once = run(1, text)[0] - start
-        times = max(1, min(100, int(1 / max(once, 0.001))))
-        took, answer = min(run(times, text) for _ in range(3))
-        print(name, max(took - start, 0.00001) / times, answer.removeprefix("ok "), file=out)
+        text = open(f"{work}/{name}.rq", "rb").read()
+        times, rows = zip(*(ask(text) for _ in range(20)))
+        print(name, sum(times) / len(times), rows[0], file=out)
+session.stdin.close()
+session.wait()
 PY
 for name in "${names[@]}"; do printf '%%query\n%s\n%%end\n' "$(cat "$work/$name.rq")"; done > "$work/script"
 /usr/bin/time -f %M -o "$work/rdfkeep.peak" "$rdfkeep" run --data "$work/data" "$work/script" > /dev/null
 /usr/bin/time -f %M -o "$work/rdflib.peak" "$python" "$here/query_rdflib.py" "$work" "${names[@]}" > "$work/rdflib"
 
 # roqet loads the data anew for each query
-printf 'ASK { }\n' > "$work/load.rq"
+printf 'SELECT ?o { <a:none> <a:none> ?o }\n' > "$work/load.rq"
 for name in load "${names[@]}"; do
     /usr/bin/time -f '%e %M' -o "$work/$name.time" timeout 120 roqet -q -i sparql -D "$work/data" -F ntriples -r csv "$work/$name.rq" > "$work/$name.csv" || true
     rows=$(($(wc -l < "$work/$name.csv") - 1))
