@@ -1,20 +1,19 @@
 //! Turtle documents, from bytes to quads.
-ghost use Rattle.std.specs.Prelude.{◌≡◌, ◌≢◌, ℕ, List, length, Option, Some, None, IfSome, MatchResult, slice_get};
+ghost use Rattle.std.specs.Prelude.{◌≡◌, ◌≢◌, ℕ, List, length, Option, Some, None, MatchResult, slice_get};
 ghost use Rattle.std.specs.Option.{option_copied};
 ghost use Rattle.std.specs.Str.{IsUtf8};
 ghost use Rattle.rdf_tokens.specs.declared.token.Token.{Token as Held};
 ghost use Rattle.rdf_turtle.specs.Bases.{RelativeLacksABase};
-ghost use Rattle.rdf_turtle.specs.Document.{HasTokens, HasTree, IsDocument, TellsFault};
+ghost use Rattle.rdf_turtle.specs.Document.{HasTree, IsDocument, TellsFault};
 ghost use Rattle.rdf_turtle.specs.FaultName.{no_memory};
 ghost use Rattle.rdf_turtle.specs.Inside.Kept.{IsNameFault};
 ghost use Rattle.rdf_turtle.specs.DocumentLaws.{SomeMeaning, OneDocument, NeverBoth, OneFault};
 ghost use Rattle.rdf_tokens.specs.Lines.{line_of};
 
 use crate::fault::{TurtleFault, TurtleFaultKind};
-use crate::lexeme::Lexeme;
 use crate::meaning::triples_of;
 use crate::read::{Stop, parse_document};
-use crate::straight::straight_triples;
+use crate::straight::straight_quads;
 use crate::token_list::tokens;
 use crate::tree::Statement;
 use rdf_grammar::{PrologueFault, lexemes};
@@ -85,35 +84,6 @@ fn read_tree<'a>(alloc: Global, text: &'a str) -> Result<Items<Statement<'a>>, T
         }
     };
     Ok(tree)
-}
-
-// The lexemes of a text that is UTF-8, where it has a token list and memory isn't wanting. Its
-// tokens are let go.
-fn straight_lexemes<'a>(alloc: Global, text: &'a str) -> Option<Items<Lexeme<'a>>>
-    requires { IsUtf8 text.now }
-    ensures { IfSome result (λ lexemes. (tokens : List Held) × HasTokens text.now tokens lexemes) }
-{
-    let Ok(tokens) = tokens(alloc, text) else {
-        return None;
-    };
-    let Ok(lexemes) = lexemes(alloc, text, tokens.as_slice()) else {
-        return None;
-    };
-    Some(lexemes)
-}
-
-// The quads of a text that is UTF-8, where it has no fault and memory isn't wanting.
-fn straight_quads(alloc: Global, text: &str, base: Option<&Iri>) -> Option<Vec<Quad>>
-    requires { IsUtf8 text.now }
-    ensures { IfSome result (λ quads. IsDocument (option_copied base.entry) text.now quads.items) }
-{
-    let Some(lexemes) = straight_lexemes(alloc, text) else {
-        return None;
-    };
-    let Some(quads) = straight_triples(alloc, base, lexemes.as_slice()) else {
-        return None;
-    };
-    Some(quads)
 }
 
 // The quads of a text that is UTF-8. A faulty one is read once more, for the first fault.
