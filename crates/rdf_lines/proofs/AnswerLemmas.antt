@@ -12,7 +12,7 @@ use Rattle.rdf_lines.specs.Grammar.{Reads}
 use Rattle.rdf_lines.specs.Line.{IsAbsolute, Says, Tells}
 use Rattle.rdf_lines.specs.Reading.{is_end, statement_at}
 use Rattle.rdf_lines.specs.Written.{absolute_statement}
-use Rattle.rdf_lines.proofs.LineLemmas.{meant, line_at, line_sound, one_reading, no_reading, end_sound}
+use Rattle.rdf_lines.proofs.LineLemmas.{meant, line_at, line_sound, one_reading, no_reading, end_sound, end_complete}
 use Rattle.rdf_lines.proofs.AbsoluteLemmas.{Ready, absolute_sound, not_absolute, statement_ready}
 
 -- what one answer says of the line, against another
@@ -79,6 +79,16 @@ answer_of_line f line =
 
 pub tells_nothing : (f : LineFormat) (line text : List ℕ) → IsUtf8 line → text ≡ line → is_end (chars text) ≡ true → Tells f line (Ok None)
 tells_nothing f line text u t h = (u, end_sound (chars line) (ap (λ (x : List ℕ). is_end (chars x)) (sym t) ∙ h), tt)
+
+-- memory is wanting only where the line says something
+pub tells_memory : (f : LineFormat) (line text : List ℕ) → text ≡ line → is_end (chars text) ≡ false → ¬ (Says f line (Ok None))
+tells_memory f line text t h k = true≢false (sym (end_complete (chars line) k.1) ∙ ap (λ (x : List ℕ). is_end (chars x)) (sym t) ∙ h)
+
+some_none : (s : Statement) → ◌≡◌ {A = Result (Option Statement) FaultKind} (Ok (Some s)) (Ok None) → ⊥
+some_none s e = cc
+
+pub speaks : (f : LineFormat) (line : List ℕ) (s : Statement) → Says f line (Ok (Some s)) → ¬ (Says f line (Ok None))
+speaks f line s h k = some_none s (answers_agree f line (Ok (Some s)) (Ok None) h k)
 
 pub tells_syntax : (f : LineFormat) (line text : List ℕ) → IsUtf8 line → text ≡ line → is_end (chars text) ≡ false → statement_at f (chars text) ≡ None → Tells f line (Err Syntax)
 tells_syntax f line text u t h e =

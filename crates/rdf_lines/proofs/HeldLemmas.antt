@@ -50,10 +50,10 @@ module _ (format : LineFormat) (text : List ℕ) where
 
   -- memory is wanting at a line
   pub at_line : (done : List Quad) (n : ℕ) (labels : List (List ℕ)) (rest line after : List ℕ) (f : LineFault) → SoFar done n labels rest → lines rest ≡ line ∷ lines after
-      → f.line ≡ n → f.kind ≡ no_memory → StopsBehind format text done f f.kind
-  at_line done n labels rest line after f (front, e, said) cut is_line is_kind =
+      → f.line ≡ n → f.kind ≡ no_memory → ¬ (Says format line (Ok None)) → StopsBehind format text done f f.kind
+  at_line done n labels rest line after f (front, e, said) cut is_line is_kind speaks =
       subst (StopsBehind format text done f) (sym is_kind)
-      (line, lines after, (front, labels, e ∙ ap (λ l. front ++ l) cut, subst (λ k. HasSaid format front k labels done) (sym is_line) said))
+      (line, lines after, (front, labels, e ∙ ap (λ l. front ++ l) cut, subst (λ k. HasSaid format front k labels done) (sym is_line) said), speaks)
 
   faulty : (done : List Quad) (n : ℕ) (labels : List (List ℕ)) (rest line after : List ℕ) (f : LineFault) (kind : FaultKind) → SoFar done n labels rest → lines rest ≡ line ∷ lines after
       → f ≡ fault n kind → Says format line (Err kind) → IsDocument format text done (Some f)
@@ -65,7 +65,7 @@ module _ (format : LineFormat) (text : List ℕ) where
       → ReadsLine format line n labels (Err f) m now → StopsBehind format text done f f.kind
   at_fault done n m labels now rest line after f h cut r = elim r.2 [
     | inl own ↦ by f.kind own (λ i. record { line = r.0 i; kind = f.kind })
-    | inr memory ↦ at_line done n labels rest line after f h cut r.0 memory
+    | inr memory ↦ at_line done n labels rest line after f h cut r.0 memory.0 memory.1
   ]
     where
       by : (kind : FaultKind) → FaultOf format line kind → f ≡ fault n kind → StopsBehind format text done f kind
@@ -85,7 +85,7 @@ tells format text quads f NotUtf8 h = (quads, h)
 tells format text quads f Syntax h = (quads, h)
 tells format text quads f Relative h = (quads, h)
 tells format text quads f Read h = h
-tells format text quads f (NoMemory _) h = (quads, h.0, h.1, h.2)
+tells format text quads f (NoMemory _) h = (quads, h.0, h.1, h.2, h.3)
 tells format text quads f FailedKind h = h
 
 pub is_nil : (xs : List ℕ) → (length xs == 0) ≡ true → xs ≡ []

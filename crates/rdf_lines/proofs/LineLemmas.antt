@@ -37,7 +37,7 @@ pub end_sound : (cs : List ℕ) → is_end cs ≡ true → Ends cs
 unfolding is_end
 end_sound cs e = (skip_white cs, gap_skip cs, empty_sound (skip_white cs) e)
 
-end_complete : (cs : List ℕ) → Ends cs → is_end cs ≡ true
+pub end_complete : (cs : List ℕ) → Ends cs → is_end cs ≡ true
 unfolding is_end
 end_complete cs h = ap is_empty_or_comment (skip_gap cs h.0 h.1 (end_white h.0 h.2)) ∙ empty_complete h.0 h.2
 

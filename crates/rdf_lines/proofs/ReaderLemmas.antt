@@ -28,7 +28,7 @@ pub line_taken : (old new : LineState) (line : List ℕ) (ended : Bool) (answer 
 line_taken old new line ended (Ok None) t r f s = (line ∷ [], ended, ((r.0, tt), t, s, (let e = r.1 in omega (arith, e)), r.2, f))
 line_taken old new line ended (Ok (Some q)) t r f s = ([], line, r.0, ended, tt, t, r.1, r.2, r.3, (let e = r.4 in omega (arith, e)), s, f)
 line_taken old new line ended (Err e) t r f s =
-    ([], tt, (let l = r.0 in omega (arith, l)), s, r.1 ∙ sym r.0, elim r.2 [ inl own ↦ inl (line, ended, own, t) | inr memory ↦ inr (inr (line, ended, memory, t)) ])
+    ([], tt, (let l = r.0 in omega (arith, l)), s, r.1 ∙ sym r.0, elim r.2 [ inl own ↦ inl (line, ended, own, t) | inr memory ↦ inr (inr (line, ended, memory.0, t)) ])
 
 pub no_line : (old new : LineState) → (read : List ℕ) × Consumes old.ahead new.ahead read × Hold old.behind_return read [] [] new.behind_return × IsAtEnd new.ahead
     → new.state ≡ Ended → new.number ≡ old.number → new.labels ≡ old.labels → new.format ≡ old.format → OneLine old (Ok None) new

@@ -31,17 +31,19 @@ HasSaid format front number labels quads =
 abbrev pub ReadsFront : LineFormat → List ℕ → ℕ → List Quad → List (List ℕ) → Type 0
 ReadsFront format text number quads behind = (front : List (List ℕ)) × (labels : List (List ℕ)) × (lines text ≡ front ++ behind) × HasSaid format front number labels quads
 
--- A fault that a reader of a whole text answers, by its kind: that of the document, or want of memory at a line whose
--- forerunners were all read.
+-- A fault that a reader of a whole text answers, by its kind: that of the document, or want of memory at a line that says
+-- something, and whose forerunners were all read.
 abbrev pub TellsFault : LineFormat → List ℕ → LineFault → FaultKind → Type 0
-TellsFault format text fault (NoMemory _) = (quads : List Quad) × (line : List ℕ) × (behind : List (List ℕ)) × ReadsFront format text fault.line quads (line ∷ behind)
+TellsFault format text fault (NoMemory _) =
+    (quads : List Quad) × (line : List ℕ) × (behind : List (List ℕ)) × ReadsFront format text fault.line quads (line ∷ behind) × ¬ (Says format line (Ok None))
 TellsFault format text fault Read = ⊥
 TellsFault format text fault Failed = ⊥
 TellsFault format text fault kind = (quads : List Quad) × IsDocument format text quads (Some fault)
 
 -- The same, with the quads of the lines before it.
 abbrev pub StopsBehind : LineFormat → List ℕ → List Quad → LineFault → FaultKind → Type 0
-StopsBehind format text quads fault (NoMemory _) = (line : List ℕ) × (behind : List (List ℕ)) × ReadsFront format text fault.line quads (line ∷ behind)
+StopsBehind format text quads fault (NoMemory _) =
+    (line : List ℕ) × (behind : List (List ℕ)) × ReadsFront format text fault.line quads (line ∷ behind) × ¬ (Says format line (Ok None))
 StopsBehind format text quads fault Read = ⊥
 StopsBehind format text quads fault Failed = ⊥
 StopsBehind format text quads fault kind = IsDocument format text quads (Some fault)

@@ -44,14 +44,14 @@ Says format line (Err Read) = ⊥
 Says format line (Err (NoMemory _)) = ⊥
 Says format line (Err Failed) = ⊥
 
--- An answer of a reader: want of memory tells nothing of the line.
+-- An answer of a reader: want of memory tells only that the line says something.
 abbrev pub Tells : LineFormat → List ℕ → Result (Option Statement) FaultKind → Type 0
 Tells format line (Ok reading) = Says format line (Ok reading)
 Tells format line (Err NotUtf8) = Says format line (Err NotUtf8)
 Tells format line (Err Syntax) = Says format line (Err Syntax)
 Tells format line (Err Relative) = Says format line (Err Relative)
 Tells format line (Err Read) = ⊥
-Tells format line (Err (NoMemory _)) = Unit {0}
+Tells format line (Err (NoMemory _)) = ¬ (Says format line (Ok None))
 Tells format line (Err Failed) = ⊥
 
 -- no line says two things

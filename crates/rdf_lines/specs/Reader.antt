@@ -99,7 +99,7 @@ abbrev pub ReadsLine : LineFormat → List ℕ → ℕ → List (List ℕ) → A
 ReadsLine format line n labels (Ok None) m now = Says format line (Ok None) × (m ≡ n + 1) × (now ≡ labels)
 ReadsLine format line n labels (Ok (Some quad)) m now =
     (s : Statement) × Says format line (Ok (Some s)) × (now ≡ all_noted labels (labels_of s)) × (quad ≡ quad_in now s) × (m ≡ n + 1)
-ReadsLine format line n labels (Err f) m now = (f.line ≡ n) × (m ≡ n) × (FaultOf format line f.kind ⊎ (f.kind ≡ no_memory))
+ReadsLine format line n labels (Err f) m now = (f.line ≡ n) × (m ≡ n) × (FaultOf format line f.kind ⊎ ((f.kind ≡ no_memory) × ¬ (Says format line (Ok None))))
 
 -- One call of next while the reader reads. Silent lines come first, then:
 abbrev pub Reads : LineState → Answer → LineState → Type 0

@@ -34,7 +34,8 @@ fn first_line(text: &[u8]) -> (&[u8], &[u8])
 ///
 /// # Errors
 /// The first faulty line, with its number from 1, and the first of these that applies to it: [`FaultKind::NotUtf8`],
-/// [`FaultKind::Syntax`], [`FaultKind::Relative`]; or [`FaultKind::NoMemory`] at any line. Never `Read` or `Failed`.
+/// [`FaultKind::Syntax`], [`FaultKind::Relative`]; or [`FaultKind::NoMemory`] at any line that isn't blank. Never `Read` or
+/// `Failed`.
 pub fn read_lines(alloc: Global, format: LineFormat, bytes: &[u8]) -> Result<Vec<Quad>, LineFault>
     ensures { MatchResult result
         (λ quads. IsDocument format bytes.now quads.items None)

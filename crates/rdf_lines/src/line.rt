@@ -138,7 +138,7 @@ fn statement(
 /// # Errors
 /// [`FaultKind::NotUtf8`] where the line is no UTF-8; else [`FaultKind::Syntax`] where it has no reading (N-Triples,
 /// section 7; N-Quads, section 4), as an N-Triples line with a graph label; else [`FaultKind::Relative`] where an IRI
-/// has no scheme, a datatype too. [`FaultKind::NoMemory`] where memory is wanting, and no other.
+/// has no scheme, a datatype too. [`FaultKind::NoMemory`] where memory is wanting, never at a blank line; and no other.
 pub fn read_line(
     alloc: Global,
     format: LineFormat,

@@ -3,6 +3,7 @@ use Rattle.rdf_terms.specs.declared.quad.Quad.{Quad}
 use Rattle.rdf_lines.specs.declared.fault.LineFault.{LineFault}
 use Rattle.rdf_lines.specs.Document.{StopsBehind}
 use Rattle.rdf_lines.specs.Reader.{ReadsLine}
+use Rattle.rdf_lines.proofs.AnswerLemmas.{speaks}
 use Rattle.rdf_lines.proofs.HeldLemmas.{past_silence, past_statement, at_fault, at_line, at_end, is_nil}
 use Rattle.rdf_lines.proofs.held.read_into.Goals as goal
 
@@ -41,6 +42,8 @@ pub returns-in-Err-push : goal.returns-in-Err-push
 returns-in-Err-push c =
     let now = c.loop-rest in
     let fault : LineFault = record { line = now.progress.number; kind = c.from.result } in
+    let line = c.first_line.result.0.now in
+    let read = subst (λ (a : Option Quad). ReadsLine c.args.format line now.progress.number now.progress.labels (Ok a) c.line.new.self.number c.line.new.self.labels) c.in-Ok-Some.field-0-is c.in-Ok-Some.ensures in
     let same : c.push.new.self.items ≡ now.quads.items = search rules in
     subst (λ (quads : List Quad). StopsBehind c.args.format c.args.bytes.now quads fault c.from.result) (sym same)
-    (at_line c.args.format c.args.bytes.now now.quads.items now.progress.number now.progress.labels now.rest.now c.first_line.result.0.now c.first_line.result.1.now fault now.invariant.0 c.first_line.ensures.lines refl c.from.ensures)
+    (at_line c.args.format c.args.bytes.now now.quads.items now.progress.number now.progress.labels now.rest.now c.first_line.result.0.now c.first_line.result.1.now fault now.invariant.0 c.first_line.ensures.lines refl c.from.ensures (speaks c.args.format line read.0 read.1))
