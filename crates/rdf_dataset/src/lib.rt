@@ -9,6 +9,7 @@ mod insertion;
 mod item;
 mod listing;
 mod net;
+mod quad_edits;
 mod sorted;
 mod source;
 mod staged;

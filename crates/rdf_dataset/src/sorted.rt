@@ -6,7 +6,7 @@ ghost use Rattle.std.specs.List.Sorted.{IsStrictlySortedBy};
 ghost use Rattle.std.specs.declared.cmp.Ordering.TheVariants.{Less};
 ghost use Rattle.rdf_dataset.specs.Inside.Places.{IsFoundAt, IsGapAt};
 ghost use Rattle.rdf_dataset.specs.Inside.Merging.{PopsGreatest};
-ghost use Rattle.rdf_dataset.specs.Sorted.{ListsSorted};
+ghost use Rattle.rdf_dataset.specs.Sorted.{ListsOnce, ListsSorted};
 
 use crate::item::Item;
 use rdf_terms::NoMemory;
@@ -108,6 +108,16 @@ impl<T: Item> Sorted<T> {
         let more = more.copy()?;
         merge_into(&mut self.items, more.items)
     }
+}
+
+/// A list of the members of a set, brought in order.
+pub(crate) fn in_order<T: Item>(items: Vec<T>) -> Vec<T>
+    ensures { (members : set.FinSet T.order) → ListsOnce members items.items →
+        ListsSorted members result.items }
+{
+    let mut items = items;
+    items.sort_unstable();
+    items
 }
 
 /// Appends equal items, or changes nothing.
