@@ -1,7 +1,7 @@
 #!/usr/bin/env bash
 # Renames a class in 10^5 quads, that of every fiftieth subject, by DELETE and INSERT under a pattern, takes it back and
 # makes it again, with rdfkeep and with rdflib, in one go, and prints what each takes: of rdfkeep the mean of forty in one
-# session, the class going back and forth, of rdflib the best of five. rdflib takes back by the rollback of its
+# session over a pipe, of rdflib the best of five. rdflib takes back by the rollback of its
 # AuditableStore, and makes the update again, since it has no redo.
 # Usage: bench/modify.sh [RDFKEEP [COUNT [SEED]]], where RDFKEEP is the built program and COUNT the number of quads
 # (apt-get install python3-rdflib).
@@ -18,14 +18,6 @@ trap 'rm -rf "$work"' EXIT
 
 python3 "$here/modify_catalogue.py" "$work" "$count" "$seed"
 printf 'input: %s quads, of which %s are renamed, seed %s\n' "$count" "$(cat "$work/renamed")" "$seed"
-: > "$work/start.script"
-for _ in {1..20}; do
-    for change in rename back; do
-        echo %update; cat "$work/$change"; echo %end
-    done
-done > "$work/update.script"
-{ cat "$work/update.script"; for _ in {1..40}; do echo %undo; done; } > "$work/undo.script"
-{ cat "$work/undo.script"; for _ in {1..40}; do echo %redo; done; } > "$work/redo.script"
 
 python3 - "$work" "$rdfkeep" <<'PY'
 import subprocess
@@ -33,25 +25,27 @@ import sys
 import time
 
 work, rdfkeep = sys.argv[1:]
-renamed = open(f"{work}/renamed").read().strip()
-scripts, times = ["start", "update", "undo", "redo"], 40
+renamed = int(open(f"{work}/renamed").read())
+session = subprocess.Popen([rdfkeep, "run", "--data", f"{work}/data"], stdin=subprocess.PIPE, stdout=subprocess.PIPE)
 
 
-def seconds(place):
-    """One run of a script of so many commands of each kind up to this one, each of which renames."""
+def seconds(command, answer):
+    """The time from a command's first byte to its answer."""
     begun = time.perf_counter()
-    said = subprocess.run([rdfkeep, "run", "--data", f"{work}/data", f"{work}/{scripts[place]}.script"], capture_output=True, text=True)
-    took = time.perf_counter() - begun
-    if said.stdout != f"ok +{renamed} -{renamed}\n" * (times * place):
-        raise SystemExit(f"rdfkeep, {scripts[place]}: {said.stdout[:100]!r} {said.stderr[:100]!r}")
-    return took
+    session.stdin.write(command)
+    session.stdin.flush()
+    said = session.stdout.readline().decode()
+    if said != answer + "\n":
+        raise SystemExit(f"rdfkeep: {said!r}")
+    return time.perf_counter() - begun
 
 
-# the best of five rounds in turn
-best = [min(rounds) for rounds in zip(*([seconds(place) for place in range(4)] for _ in range(5)))]
+seconds(b"%changes\n", "ok 0")
+rename = b"%update\n" + open(f"{work}/rename", "rb").read() + b"%end\n"
+answer = f"ok +{renamed} -{renamed}"
+rounds = [[seconds(it, answer) for it in (rename, b"%undo\n", b"%redo\n", b"%undo\n")] for _ in range(40)]
 with open(f"{work}/rdfkeep", "w") as out:
-    print(*((after - before) / times for before, after in zip(best, best[1:])), file=out)
-print("rdfkeep begins with the data in %.2f s, which the times below leave out" % best[0])
+    print(*(sum(times) / len(times) for times in list(zip(*rounds))[:3]), file=out)
 PY
 
 "$python" "$here/modify_rdflib.py" "$work" > "$work/rdflib"
