@@ -8,7 +8,7 @@ ghost use Rattle.sparql_grammar.specs.Proper as proper;
 ghost use Rattle.sparql_grammar.specs.Proper.{holds};
 ghost use Rattle.sparql_grammar.specs.QuadGroups.{quads_group};
 ghost use Rattle.sparql_syntax.specs.Blanks.{BlankNumbersAreBelow};
-ghost use Rattle.sparql_drafts.specs.Kept.{Gives, Tells};
+ghost use Rattle.rdf_grammar.specs.Kept.{Gives, Tells};
 ghost use Rattle.sparql_syntax.specs.Kept.{IsFaultOf};
 ghost use Rattle.sparql_syntax.specs.Known as known;
 ghost use Rattle.sparql_syntax.specs.Known.{declared_behind, declares_first};
