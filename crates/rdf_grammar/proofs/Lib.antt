@@ -5,6 +5,7 @@ pub mod Depths
 pub mod KeyEntries
 pub mod LexemeLemmas
 pub mod LiteralLemmas
+pub mod Members
 pub mod Nests
 pub mod NumberingLemmas
 pub mod ProductionNests

@@ -51,10 +51,6 @@ module _ {T : Type 0} (bracket : T → Bracket) where
     unfolding Keeps
     value_keeps k plain ts x us d h = (d, let a = after limit b d.0 us (rw d.3 at h) in rw (ap (open_behind b) d.1 ∙ plain) at a)
 
-    pub namespace_keeps : (k : T) → open_behind b k ≡ b → Keeps limit b (grammar.namespace k) (grammar.namespace k)
-    unfolding Keeps
-    namespace_keeps k plain ts x us d h = (d, let a = after limit b d.0 us (rw d.4 at h) in rw (ap (open_behind b) d.1 ∙ plain) at a)
-
     pub map_keeps : {A B : Type 0} (f : A → B) (P Q : Derives (Lexeme T) A) → Keeps limit b P Q → Keeps limit b (grammar.◌<$>◌ f P) (grammar.◌<$>◌ f Q)
     map_keeps f P Q p = then_keeps P Q _ _ p (λ a. pure_keeps (f a))
 

@@ -1,7 +1,5 @@
 -- Lexemes of a terminal: they are read as they are derived, and a loop may wait for one.
 use Rattle.std.proofs.Common.{◌≡◌, ◌<◌, ◌≤◌, Bool, true, false, List, [], ◌∷◌, ◌++◌, length, Option, Some, None, refl, sym, ◌∙◌, ap, arith, cond}
-use Rattle.std.specs.Prelude.{◌&&◌}
-use Rattle.rdf_tokens.specs.Values.{prefix_part, local_part}
 use Rattle.rdf_grammar.specs.declared.fault.GrammarFault.{GrammarFault}
 use Rattle.rdf_grammar.specs.declared.lexeme.Lexeme.{Lexeme}
 use Rattle.rdf_grammar.specs.Steps as steps
@@ -116,32 +114,6 @@ module _ {T : Type 0} (same : T → T → Bool) (apart : TellsApart same) where
     sound = value_sound k;
     complete = λ ts v us d h. ap (terminal.value same k) d.3 ∙ value_front k d.0 us d.1 ∙ ap (λ n. Some (n, us)) d.2;
     shorter = λ ts v us d. omega (arith, ap length d.3);
-  }
-
-  -- ---- prefixed names without a local part
-
-  namespace_at : (k : T) (t : Lexeme T) (ts : Lexemes T) (a b : Bool) (v : Piece) (us : Lexemes T) → same t.terminal k ≡ a → is_nil (local_part t.text) ≡ b
-      → cond (a && b) (got (prefix_part t.text) ts) None ≡ got v us → (t.terminal ≡ k) × (local_part t.text ≡ []) × (prefix_part t.text ≡ v) × (ts ≡ us)
-  namespace_at k t ts true true v us p q h = let x = some_pair (prefix_part t.text) v ts us h in (apart.is t.terminal k p, is_nil_is (local_part t.text) q, x.0, x.1)
-  namespace_at k t ts true false v us p q h = absurd (cc)
-  namespace_at k t ts false b v us p q h = absurd (cc)
-
-  namespace_sound : (k : T) (ts : Lexemes T) (v : Piece) (us : Lexemes T) → terminal.namespace same k ts ≡ Some (v, us) → grammar.namespace k ts v us
-  unfolding terminal.namespace
-  namespace_sound k [] v us h = absurd (cc)
-  namespace_sound k (t ∷ ts) v us h =
-      let x = namespace_at k t ts (same t.terminal k) (is_nil (local_part t.text)) v us refl refl h in
-      (t, x.0, x.1, x.2, ap (λ l. t ∷ l) x.3)
-
-  namespace_front : (k : T) (t : Lexeme T) (us : Lexemes T) → t.terminal ≡ k → local_part t.text ≡ [] → terminal.namespace same k (t ∷ us) ≡ Some (prefix_part t.text, us)
-  unfolding terminal.namespace
-  namespace_front k t us e f = rw (e, apart.alike k, f) refl
-
-  pub namespace_decides : (k : T) → Decides (terminal.namespace same k) (grammar.namespace k) always
-  namespace_decides k = record {
-    sound = namespace_sound k;
-    complete = λ ts v us d h. ap (terminal.namespace same k) d.4 ∙ namespace_front k d.0 us d.1 d.2 ∙ ap (λ n. Some (n, us)) d.3;
-    shorter = λ ts v us d. omega (arith, ap length d.4);
   }
 
   -- ---- behind a terminal

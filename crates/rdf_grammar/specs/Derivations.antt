@@ -1,6 +1,5 @@
 -- What a grammar derives: relations between lexemes, a tree and the lexemes left. Nothing looks ahead here.
 use Rattle.std.specs.Prelude.{◌≡◌, List, [], ◌∷◌, ◌++◌, Option, ◌⊎◌, MatchOption}
-use Rattle.rdf_tokens.specs.Values.{prefix_part, local_part}
 use Rattle.rdf_grammar.specs.declared.lexeme.Lexeme.{Lexeme}
 use Rattle.rdf_grammar.specs.Terminals.{Piece}
 
@@ -40,11 +39,6 @@ the {T} k ts v us = (t : Lexeme T) × (t.terminal ≡ k) × (ts ≡ t ∷ us)
 -- a lexeme of this terminal, with its characters
 abbrev pub value : {T : Type 0} → T → Derives (Lexeme T) Piece
 value {T} k ts v us = (t : Lexeme T) × (t.terminal ≡ k) × (t.text ≡ v) × (ts ≡ t ∷ us)
-
--- a prefixed name of this terminal of which the local part is empty (139s: PNAME_NS), with its prefix
-abbrev pub namespace : {T : Type 0} → T → Derives (Lexeme T) Piece
-namespace {T} k ts v us =
-    (t : Lexeme T) × (t.terminal ≡ k) × (local_part t.text ≡ []) × (prefix_part t.text ≡ v) × (ts ≡ t ∷ us)
 
 -- the list of the one tree that P derives
 abbrev pub one : {X A : Type 0} → Derives X A → Derives X (List A)

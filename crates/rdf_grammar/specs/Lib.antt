@@ -1,4 +1,6 @@
 pub mod Derivations
+pub mod Holds
+pub mod Kept
 pub mod Keys
 pub mod Lexemes
 pub mod Literals

@@ -1,8 +1,7 @@
 -- Terminals: what the next lexeme is.
-use Rattle.std.specs.Prelude.{◌≡◌, ℕ, Bool, true, false, ◌&&◌, if◌then◌else◌, List, [], ◌∷◌, Option, Some, None}
-use Rattle.rdf_tokens.specs.Values.{prefix_part, local_part}
+use Rattle.std.specs.Prelude.{◌≡◌, ℕ, Bool, true, false, if◌then◌else◌, List, [], ◌∷◌, Option, Some, None}
 use Rattle.rdf_grammar.specs.declared.lexeme.Lexeme.{Lexeme}
-use Rattle.rdf_grammar.specs.Readings.{Reading, next, is_nil}
+use Rattle.rdf_grammar.specs.Readings.{Reading, next}
 
 -- the characters of a piece of the text
 abbrev pub Piece : Type 0
@@ -43,7 +42,3 @@ module _ {T : Type 0} (same : T → T → Bool) where
   -- a lexeme of this terminal, and its characters
   unfoldable pub value : T → Reading (Lexeme T) Piece
   value k = λ ts. if sees k ts then Some (next_text ts, next ts) else None
-
-  -- a prefixed name of this terminal of which the local part is empty (139s: PNAME_NS), and its prefix
-  unfoldable pub namespace : T → Reading (Lexeme T) Piece
-  namespace k = λ ts. if sees k ts && is_nil (local_part (next_text ts)) then Some (prefix_part (next_text ts), next ts) else None

@@ -154,28 +154,6 @@ impl<'l, 'a, T: Terminal> Parser<'l, 'a, T> {
             }
         }
     }
-    /// Takes the next lexeme, a prefixed name of this terminal with no local part, for its prefix.
-    ///
-    /// # Errors
-    /// `Syntax` where it isn't; it is then still the next.
-    #[tactic(auto, unfolding(crate::specs::Terminals::namespace))]
-    pub fn namespace(&mut self, terminal: T) -> Result<Slice<'a>, GrammarFault>
-        ensures reads { Reads (spec.namespace T.same terminal self.old) result self.new }
-        ensures fault { IfErr result (λ e. e ≡ Syntax) }
-        ensures kept { OnErr result (self.new ≡ self.old) }
-        ensures shorter { OnOk result (length self.new < length self.old) }
-    {
-        match self.lexemes {
-            [] => Err(GrammarFault::Syntax),
-            [lexeme, rest @ ..] => {
-                if !lexeme.terminal.same(terminal) || !has_no_local_part(&lexeme.text) {
-                    return Err(GrammarFault::Syntax);
-                }
-                self.lexemes = rest;
-                Ok(prefix_part(&lexeme.text))
-            }
-        }
-    }
 }
 
 impl<'l, 'a, T: Words> Parser<'l, 'a, T> {

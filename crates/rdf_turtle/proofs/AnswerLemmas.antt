@@ -3,7 +3,8 @@ use Rattle.std.proofs.Common.{◌≡◌, ℕ, List, [], true, Option, refl}
 use Rattle.rdf_grammar.specs.declared.prologue.PrologueFault.{PrologueFault}
 use Rattle.rdf_grammar.specs.declared.prologue.PrologueFault.TheVariants.{UnknownPrefix, Relative, NoMemory}
 use Rattle.rdf_turtle.specs.declared.tree.Statement.{Statement}
-use Rattle.rdf_turtle.specs.Inside.Kept.{Fails, IsFaultOf}
+use Rattle.rdf_grammar.specs.Kept.{Fails}
+use Rattle.rdf_turtle.specs.Inside.Kept.{IsFaultOf}
 use Rattle.rdf_turtle.specs.Known.{declares_first}
 use Rattle.rdf_turtle.specs.Meaning.{answer, document, triples_of}
 use Rattle.rdf_turtle.specs.State.{start}

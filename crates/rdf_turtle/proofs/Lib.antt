@@ -14,7 +14,6 @@ pub mod GrammarStatements
 pub mod GrammarWhole
 pub mod GrammarWords
 pub mod PrologueSteps
-pub mod ProperLists
 pub mod ReadBackLemmas
 pub mod ScopeBlanks
 pub mod ScopeLoops

@@ -6,7 +6,7 @@ use Rattle.rdf_grammar.specs.declared.prologue.PrologueFault.{PrologueFault}
 use Rattle.rdf_grammar.specs.declared.prologue.PrologueFault.TheVariants.{UnknownPrefix, Relative, NoMemory}
 use Rattle.rdf_grammar.specs.declared.tree.Name.{Name}
 use Rattle.rdf_grammar.specs.declared.tree.Name.TheVariants.{Full}
-use Rattle.rdf_turtle.specs.Inside.Kept.{Gives}
+use Rattle.rdf_grammar.specs.Kept.{Gives}
 use Rattle.rdf_turtle.specs.Meaning.{iri, literal}
 use Rattle.rdf_grammar.specs.Prologue.{Prologue, declared, knows, iri_of, resolved}
 use Rattle.rdf_grammar.specs.PrologueFaults.{Explains}

@@ -1,5 +1,5 @@
 -- A turn of each loop of the reading.
-use Rattle.std.proofs.Common.{◌≡◌, ◌∙◌, ap, refl, sym, ℕ, suc, ◌+◌, ◌<◌, List, ◌∷◌, map, drop, length, get_or, drop-cons, add-one, Some, cond, Bool, true, false, true≢false}
+use Rattle.std.proofs.Common.{◌≡◌, ◌∙◌, ap, refl, sym, ℕ, suc, ◌+◌, ◌<◌, List, ◌∷◌, map, drop, length, get_or, add-one, Some, cond, Bool, true, false, true≢false}
 use Rattle.std.proofs.lemmas.Option.{same_Some}
 use Rattle.rdf_terms.specs.declared.term.Term.{Term}
 use Rattle.rdf_terms.specs.Vocabulary.{rdf_first, rdf_rest}
@@ -9,17 +9,8 @@ use Rattle.rdf_turtle.specs.Inside.Cells as cells
 use Rattle.rdf_turtle.specs.Known.{known_statement, declared_behind, declares_first}
 use Rattle.rdf_turtle.specs.Meaning.{Meaning, meaning, object, behind}
 use Rattle.rdf_turtle.specs.State.{State, fresh, says}
-use Rattle.rdf_grammar.specs.Steps.{Step, and_then, each}
+use Rattle.rdf_grammar.proofs.Members.{drop_is}
 use Rattle.rdf_turtle.proofs.ScopeSteps.{then_parts}
-
-drop_is : {A : Type 0} (xs : List A) (i : ℕ) (x : A) → i < length xs → x ≡ get_or xs i x → drop i xs ≡ x ∷ drop (suc i) xs
-drop_is {A = A} xs i x l is = drop-cons xs i x l ∙ ap (λ (y : A). y ∷ drop (suc i) xs) (sym is)
-
--- a step for each member
-pub next_step : {S A B : Type 0} (f : B → Step S (Unit {0})) (g : A → B) (xs : List A) (i : ℕ) (x : A) (s u : S) → i < length xs → x ≡ get_or xs i x → f (g x) s ≡ Some (tt, u)
-    → each f (map g (drop i xs)) s ≡ each f (map g (drop (i + 1) xs)) u
-next_step {A = A} f g xs i x s u l is h =
-    rw add-one (ap (λ (ys : List A). each f (map g ys) s) (drop_is xs i x l is) ∙ ap (λ o. and_then o (λ _. each f (map g (drop (suc i) xs)))) h)
 
 cell_step : (cell next : Term) (m : Meaning) (ms : List Meaning) (s u : State) → cells.next_cell cell rdf_rest rdf_first m s ≡ Some (next, u) → behind cell (m ∷ ms) s ≡ behind next ms u
 cell_step cell next m ms s u h =

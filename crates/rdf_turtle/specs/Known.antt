@@ -10,12 +10,10 @@ use Rattle.rdf_turtle.specs.declared.tree.Node.TheFolds.{fold-Node, fold-Propert
 use Rattle.rdf_turtle.specs.declared.tree.Property.{Property}
 use Rattle.rdf_turtle.specs.declared.tree.Statement.{Statement}
 use Rattle.rdf_turtle.specs.declared.tree.Statement.TheVariants as s
+pub use Rattle.rdf_grammar.specs.Holds.{holds}
 use Rattle.rdf_grammar.specs.Keys.{key_of, same_key}
 use Rattle.rdf_grammar.specs.Literals.{known_literal}
 use Rattle.rdf_grammar.specs.Prologue.{knows}
-
-abbrev pub holds : Bool → Bool
-holds b = b
 
 -- each prefix that stands in the tree is one of these
 module _ (declared : List (List ℕ)) where

@@ -2,7 +2,7 @@
 ghost use Rattle.std.specs.Prelude.{◌≡◌, ◌+◌, false, length, IfOk, OnOk, IsTrue};
 ghost use Rattle.rdf_terms.specs.Term.{is_literal_term};
 ghost use Rattle.rdf_grammar.specs.Keys.{key_of};
-ghost use Rattle.rdf_turtle.specs.Inside.Kept.{Gives};
+ghost use Rattle.rdf_grammar.specs.Kept.{Gives};
 ghost use Rattle.rdf_turtle.specs.Meaning as meaning;
 ghost use Rattle.rdf_grammar.specs.Literals.{known_literal, proper_literal};
 ghost use Rattle.rdf_grammar.specs.Prologue as prologue;

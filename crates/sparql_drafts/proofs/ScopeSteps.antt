@@ -12,7 +12,7 @@ use Rattle.rdf_grammar.proofs.LiteralLemmas.{reference_lacking, name_lacking, li
 use Rattle.rdf_grammar.specs.declared.tree.Literal.{Literal}
 use Rattle.rdf_grammar.specs.Literals.{ExplainsLiteral, known_literal, literal_of}
 use Rattle.rdf_terms.specs.Literal.{LiteralParts}
-use Rattle.sparql_drafts.specs.Kept.{Gives, Tells}
+use Rattle.rdf_grammar.specs.Kept.{Gives, Tells}
 use Rattle.sparql_drafts.specs.Meaning.{iri, literal}
 use Rattle.sparql_drafts.specs.State.{State, told}
 

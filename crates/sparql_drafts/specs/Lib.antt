@@ -1,6 +1,5 @@
 pub mod Blanks
 pub mod Drafts
-pub mod Kept
 pub mod Known
 pub mod Meaning
 pub mod Room

@@ -5,7 +5,7 @@ ghost use Rattle.rdf_grammar.specs.Prologue.{declared};
 ghost use Rattle.rdf_grammar.specs.Steps.{each};
 ghost use Rattle.sparql_grammar.specs.Proper as proper;
 ghost use Rattle.sparql_grammar.specs.Proper.{holds};
-ghost use Rattle.sparql_drafts.specs.Kept.{Gives, Tells};
+ghost use Rattle.rdf_grammar.specs.Kept.{Gives, Tells};
 ghost use Rattle.sparql_drafts.specs.Known as known;
 ghost use Rattle.sparql_drafts.specs.Meaning as spec;
 ghost use Rattle.sparql_drafts.specs.Room.{HasRoom, TakesAtMost, SaysAtLeast, IsPaired};

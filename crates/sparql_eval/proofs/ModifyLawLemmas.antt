@@ -25,7 +25,8 @@ use Rattle.sparql_algebra.proofs.CallerLemmas.{translation-is}
 use Rattle.sparql_eval.specs.Graphs.{same_graph}
 use Rattle.sparql_eval.specs.Laws.{EachSolutionHasItsOwnBlankNodes, InsertDataIsModify, IsModified, ModifyDeletesThenInserts, data_of, empty_pattern, first_of, is_among}
 use Rattle.sparql_eval.specs.Operations.{answer, deletions, insertions, modified, unless, without_all}
-use Rattle.sparql_eval.specs.Templates.{all_instances, graph_under, instance, instances, name_under, quad_by, term_under}
+use Rattle.sparql_eval.specs.Templates.{all_instances, graph_under, instance, instances, name_under, term_under}
+use Rattle.sparql_trees.specs.Quads.{quad_by}
 use Rattle.sparql_eval.specs.declared.fault.ApplyFault.{ApplyFault}
 use Rattle.sparql_eval.specs.declared.fault.ApplyFault.TheVariants.{BlankNumbers}
 use Rattle.sparql_eval.proofs.LawLemmas.{any_join, not_silent}

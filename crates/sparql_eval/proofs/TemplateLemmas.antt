@@ -13,7 +13,8 @@ use Rattle.rdf_terms.specs.declared.term.Term.{Term}
 use Rattle.rdf_terms.specs.declared.term.Term.TheVariants.{Blank, Iri, Literal}
 use Rattle.sparql_algebra.specs.Bound.{AllValues, IsValueBelow}
 use Rattle.sparql_algebra.proofs.CallerLemmas.{of_variable}
-use Rattle.sparql_eval.specs.Templates.{all_instances, constant, graph_under, instance, instances, name_under, new_blank, quad_by, term_under}
+use Rattle.sparql_eval.specs.Templates.{all_instances, constant, graph_under, instance, instances, name_under, new_blank, term_under}
+use Rattle.sparql_trees.specs.Quads.{quad_by}
 use Rattle.sparql_trees.specs.declared.pattern.VarOrIri.{VarOrIri}
 use Rattle.sparql_trees.specs.declared.pattern.VarOrIri.TheVariants as name
 use Rattle.sparql_trees.specs.declared.pattern.VarOrTerm.{VarOrTerm}

@@ -2,11 +2,12 @@
 -- SPARQL 1.1 Query, section 16.2).
 use Rattle.std.specs.Prelude.{ℕ, ◌+◌, nat_lt, List, [], ◌∷◌, ◌++◌, Option, Some, None, filter_map, if◌then◌else◌}
 use Rattle.std.specs.Option.{option_map}
-use Rattle.rdf_terms.specs.Quad.{QuadParts, has_right_kinds}
+use Rattle.rdf_terms.specs.Quad.{QuadParts}
 use Rattle.rdf_terms.specs.declared.quad.GraphName.{GraphName}
 use Rattle.rdf_terms.specs.declared.quad.GraphName.TheVariants.{Named}
 use Rattle.rdf_terms.specs.declared.term.Term.{Term}
 use Rattle.rdf_terms.specs.declared.term.Term.TheVariants.{Blank, Iri, Literal}
+use Rattle.sparql_trees.specs.Quads.{quad_by}
 use Rattle.sparql_trees.specs.declared.pattern.VarOrIri.{VarOrIri}
 use Rattle.sparql_trees.specs.declared.pattern.VarOrIri.TheVariants as name
 use Rattle.sparql_trees.specs.declared.pattern.VarOrTerm.{VarOrTerm}
@@ -42,13 +43,6 @@ graph_under variables home m None = Some home
 graph_under variables home m (Some graph) = option_map Named (name_under variables m graph)
 
 -- ---- instances
-
--- the quad of these, where each is there and of a right kind
-abbrev pub quad_by : Option GraphName → Option Term → Option Term → Option Term → Option QuadParts
-quad_by (Some g) (Some s) (Some p) (Some o) =
-    let parts : QuadParts = record { graph = g; subject = s; predicate = p; object = o } in
-    if has_right_kinds parts then Some parts else None
-quad_by _ _ _ _ = None
 
 -- in an operation whose pattern has these variables, and which has this default graph, for a template with so many blank nodes
 module _ (variables : Variables) (home : GraphName) (blanks : ℕ) where

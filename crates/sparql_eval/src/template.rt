@@ -1,7 +1,8 @@
 //! What templates stand for under the solutions of a pattern (SPARQL 1.1 Update, section 3.1.3).
 ghost use Rattle.std.specs.Prelude.{◌≡◌, ◌+◌, ◌*◌, ◌≤◌, ◌++◌, length, IfOk, OnOk};
 ghost use Rattle.rdf_dataset.specs.State.{last_number};
-ghost use Rattle.sparql_eval.specs.Templates.{all_instances, constant, graph_under, instance, instances, name_under, new_blank, quad_by, term_under};
+ghost use Rattle.sparql_eval.specs.Templates.{all_instances, constant, graph_under, instance, instances, name_under, new_blank, term_under};
+ghost use Rattle.sparql_trees.specs.Quads.{quad_by};
 ghost use Rattle.sparql_values.specs.Mapping.{value_at, value_of};
 
 use rdf_terms::{GraphName, NoMemory, Quad, Term, Text};

@@ -1,16 +1,17 @@
 -- Where no more than so many brackets are open at once, no expression nests deeper.
-use Rattle.std.proofs.Common.{◌≡◌, ℕ, zero, suc, ◌+◌, ◌-◌, ◌≤◌, List, refl, ◌∙◌, ap, arith}
+use Rattle.std.proofs.Common.{◌≡◌, ℕ, zero, suc, ◌+◌, ◌-◌, ◌≤◌, List, refl, arith}
 use Rattle.rdf_grammar.specs.Nesting.{open_behind}
 use Rattle.rdf_grammar.specs.Derivations as grammar
 use Rattle.rdf_grammar.specs.Derivations.{Then, Star}
 use Rattle.rdf_grammar.specs.declared.tree.Literal.TheVariants as l
-use Rattle.rdf_grammar.proofs.Nests.{Keeps, then_keeps, pure_keeps, or_keeps, map_keeps, behind_keeps, word_keeps, leaf_keeps, star_keeps, one_keeps, value_keeps, enclosed, Below, after}
+use Rattle.rdf_grammar.proofs.Nests.{Keeps, then_keeps, pure_keeps, or_keeps, map_keeps, behind_keeps, word_keeps, leaf_keeps, star_keeps, one_keeps, value_keeps, enclosed}
 use Rattle.rdf_grammar.proofs.ProductionNests as shared
 use Rattle.sparql_terminals.specs.declared.terminal.Terminal.{Terminal}
 use Rattle.sparql_terminals.specs.declared.terminal.Terminal.TheVariants as terminal
-use Rattle.sparql_terminals.specs.Lexemes.{Lexemes, Derives}
+use Rattle.sparql_terminals.specs.Lexemes.{Derives}
 use Rattle.sparql_terminals.specs.Terminals.{bracket, word}
 use Rattle.sparql_terminals.proofs.GrammarWords.{plain}
+use Rattle.sparql_terminals.proofs.Shifts.{kept, keeps, then_shifts, the_shifts, closed}
 use Rattle.sparql_trees.specs.declared.expression.Comparison.TheVariants as c
 use Rattle.sparql_trees.specs.declared.expression.Function.TheVariants as f
 use Rattle.sparql_trees.specs.declared.expression.Sign.TheVariants.{Plus, Minus}
@@ -18,34 +19,6 @@ use Rattle.sparql_expressions.specs.declared.tree.Expression.{Expression}
 use Rattle.sparql_expressions.specs.declared.tree.Expression.TheVariants as e
 use Rattle.sparql_expressions.specs.ExpressionGrammar as g
 use Rattle.sparql_expressions.specs.ExpressionReading.{chain, sum}
-
--- ---- between an opener and its closer
-
--- from where b are open to where c are open, what P derives Q derives
-unfoldable Shifts : {A : Type 0} → ℕ → ℕ → ℕ → Derives A → Derives A → Type 0
-Shifts {A} limit b c P Q = (ts : Lexemes) (x : A) (us : Lexemes) → P ts x us → Below bracket limit b ts → Q ts x us × Below bracket limit c us
-
-kept : {A : Type 0} (limit b : ℕ) (P Q : Derives A) → Keeps bracket limit b P Q → Shifts limit b b P Q
-unfolding Keeps Shifts
-kept limit b P Q p ts x us d h = p ts x us d h
-
-keeps : {A : Type 0} (limit b : ℕ) (P Q : Derives A) → Shifts limit b b P Q → Keeps bracket limit b P Q
-unfolding Keeps Shifts
-keeps limit b P Q p ts x us d h = p ts x us d h
-
-then_shifts : {A B : Type 0} (limit b c e : ℕ) (P Q : Derives A) (F G : A → Derives B) → Shifts limit b c P Q → ((a : A) → Shifts limit c e (F a) (G a)) → Shifts limit b e (Then P F) (Then Q G)
-unfolding Shifts
-then_shifts limit b c e P Q F G p f ts x us d h =
-    let r = p ts d.first d.mid d.reads h in
-    let q = f d.first d.mid x us d.goes r.1 in
-    (record { first = d.first; mid = d.mid; reads = r.0; goes = q.0 }, q.1)
-
-lexeme_shifts : (limit b c : ℕ) (k : Terminal) → open_behind bracket b k ≡ c → Shifts limit b c (grammar.the k) (grammar.the k)
-unfolding Shifts
-lexeme_shifts limit b c k e ts x us d h = (d, let a = after bracket limit b d.0 us (rw d.2 at h) in rw (ap (open_behind bracket b) d.1 ∙ e) at a)
-
-closed : {A : Type 0} (limit b : ℕ) (x : A) → Shifts limit (b + 1) b (grammar.◌>>◌ (grammar.the terminal.Close) (grammar.pure x)) (grammar.◌>>◌ (grammar.the terminal.Close) (grammar.pure x))
-closed limit b x = then_shifts limit (b + 1) b b _ _ _ _ (lexeme_shifts limit (b + 1) b terminal.Close (omega arith)) (λ _. kept limit b _ _ (pure_keeps bracket limit b x))
 
 -- ---- words
 
@@ -90,9 +63,9 @@ module _ (limit b : ℕ) (P Q : Derives Expression) (p : Keeps bracket limit (b 
 
   same_term_keeps : Kept (g.SameTerm P) (g.SameTerm Q)
   same_term_keeps = behind_keeps bracket limit b terminal.SameTerm _ _ refl (keeps limit b _ _
-      (then_shifts limit b (b + 1) b _ _ _ _ (lexeme_shifts limit b (b + 1) terminal.Open refl) (λ _. then_shifts limit (b + 1) (b + 1) b _ _ _ _ (kept limit (b + 1) _ _ p)
-      (λ left. then_shifts limit (b + 1) (b + 1) b _ _ _ _ (lexeme_shifts limit (b + 1) (b + 1) terminal.Comma refl)
-      (λ _. then_shifts limit (b + 1) (b + 1) b _ _ _ _ (kept limit (b + 1) _ _ p) (λ right. closed limit b (e.SameTerm left right)))))))
+      (then_shifts limit b (b + 1) b _ _ _ _ (the_shifts limit b (b + 1) terminal.Open refl) (λ _. then_shifts limit (b + 1) (b + 1) b _ _ _ _ (kept limit (b + 1) _ _ p)
+      (λ left. then_shifts limit (b + 1) (b + 1) b _ _ _ _ (the_shifts limit (b + 1) (b + 1) terminal.Comma refl)
+      (λ _. then_shifts limit (b + 1) (b + 1) b _ _ _ _ (kept limit (b + 1) _ _ p) (λ right. closed limit b terminal.Close (e.SameTerm left right) (omega arith)))))))
 
   function_call_keeps : Kept (g.FunctionCall P) (g.FunctionCall Q)
   function_call_keeps = then_keeps bracket limit b _ _ _ _ (function_keeps limit b) (λ function. map_keeps bracket limit b (e.Call function) _ _ bracketted_keeps)

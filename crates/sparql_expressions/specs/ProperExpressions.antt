@@ -1,14 +1,12 @@
 -- What each tree of an expression is: its names and tags are whole (SPARQL 1.1 Query, section 19.8).
 use Rattle.std.specs.Prelude.{Bool, true, ◌&&◌}
 use Rattle.std.specs.List.{list_all}
+pub use Rattle.rdf_grammar.specs.Holds.{holds}
 use Rattle.rdf_grammar.specs.Literals.{proper_literal}
 use Rattle.rdf_grammar.specs.Prologue.{is_proper}
 use Rattle.sparql_expressions.specs.declared.tree.Expression.{Expression}
 use Rattle.sparql_expressions.specs.declared.tree.Expression.TheOpen.{Expression-F}
 use Rattle.sparql_expressions.specs.declared.tree.Expression.TheFolds.{fold-Expression}
-
-abbrev pub holds : Bool → Bool
-holds b = b
 
 abbrev pub proper_expression_of : Expression-F Bool → Bool
 proper_expression_of (Expression-F.Or xs) = list_all holds xs

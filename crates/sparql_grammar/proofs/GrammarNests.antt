@@ -1,10 +1,8 @@
 -- Where no more than so many brackets are open at once, no triples nest deeper.
-use Rattle.std.proofs.Common.{◌≡◌, ℕ, zero, suc, ◌+◌, ◌-◌, ◌≤◌, [], ◌∷◌, refl, ◌∙◌, ap, arith}
+use Rattle.std.proofs.Common.{◌≡◌, ℕ, zero, suc, ◌+◌, ◌-◌, ◌≤◌, [], ◌∷◌, refl, arith}
 use Rattle.std.specs.Prelude.{is_some, option_to_list}
-use Rattle.rdf_grammar.specs.Nesting.{open_behind}
 use Rattle.rdf_grammar.specs.Derivations as grammar
-use Rattle.rdf_grammar.specs.Derivations.{Then, Star}
-use Rattle.rdf_grammar.proofs.Nests.{Keeps, then_keeps, pure_keeps, or_keeps, the_keeps, map_keeps, behind_keeps, word_keeps, leaf_keeps, maybe_keeps, star_keeps, one_keeps, Below, after}
+use Rattle.rdf_grammar.proofs.Nests.{Keeps, then_keeps, pure_keeps, or_keeps, the_keeps, map_keeps, behind_keeps, word_keeps, leaf_keeps, maybe_keeps, star_keeps, one_keeps}
 use Rattle.rdf_grammar.proofs.ProductionNests as shared
 use Rattle.sparql_terminals.specs.declared.terminal.Terminal.{Terminal}
 use Rattle.sparql_terminals.specs.declared.terminal.Terminal.TheVariants as terminal
@@ -12,12 +10,13 @@ use Rattle.sparql_grammar.specs.declared.tree.Node.{Node}
 use Rattle.sparql_grammar.specs.declared.tree.Node.TheVariants as n
 use Rattle.sparql_grammar.specs.declared.tree.VarOrIri.TheVariants as i
 use Rattle.sparql_grammar.specs.declared.tree.Verb.TheVariants as v
-use Rattle.sparql_terminals.specs.Lexemes.{Lexemes, Derives}
+use Rattle.sparql_terminals.specs.Lexemes.{Derives}
 use Rattle.sparql_terminals.specs.Terminals.{bracket, word}
 use Rattle.sparql_grammar.specs.Reading as read
 use Rattle.sparql_terminals.specs.WordGrammar.{Iri, ALiteral}
 use Rattle.sparql_grammar.specs.Grammar as g
 use Rattle.sparql_terminals.proofs.GrammarWords.{plain}
+use Rattle.sparql_terminals.proofs.Shifts.{kept, keeps, then_shifts, value_shifts, closed}
 
 module _ (limit b : ℕ) where
   pub perhaps_keeps : (k : Terminal) → Keeps bracket limit b (grammar.the k) (grammar.the k) → Keeps bracket limit b (g.Perhaps k) (g.Perhaps k)
@@ -53,44 +52,12 @@ module _ (limit b : ℕ) where
 
 -- ---- brackets
 
--- from where b are open to where c are open, what P derives Q derives
-unfoldable Shifts : {A : Type 0} → ℕ → ℕ → ℕ → Derives A → Derives A → Type 0
-Shifts {A} limit b c P Q = (ts : Lexemes) (x : A) (us : Lexemes) → P ts x us → Below bracket limit b ts → Q ts x us × Below bracket limit c us
-
-kept : {A : Type 0} (limit b : ℕ) (P Q : Derives A) → Keeps bracket limit b P Q → Shifts limit b b P Q
-unfolding Keeps Shifts
-kept limit b P Q p ts x us d h = p ts x us d h
-
-keeps : {A : Type 0} (limit b : ℕ) (P Q : Derives A) → Shifts limit b b P Q → Keeps bracket limit b P Q
-unfolding Keeps Shifts
-keeps limit b P Q p ts x us d h = p ts x us d h
-
-then_shifts : {A B : Type 0} (limit b c e : ℕ) (P Q : Derives A) (F G : A → Derives B) → Shifts limit b c P Q → ((a : A) → Shifts limit c e (F a) (G a)) → Shifts limit b e (Then P F) (Then Q G)
-unfolding Shifts
-then_shifts limit b c e P Q F G p f ts x us d h =
-    let r = p ts d.first d.mid d.reads h in
-    let q = f d.first d.mid x us d.goes r.1 in
-    (record { first = d.first; mid = d.mid; reads = r.0; goes = q.0 }, q.1)
-
-opens : (limit b : ℕ) (k : Terminal) → open_behind bracket b k ≡ b + 1 → Shifts limit b (b + 1) (grammar.value k) (grammar.value k)
-unfolding Shifts
-opens limit b k e ts x us d h = (d, let a = after bracket limit b d.0 us (rw d.3 at h) in rw (ap (open_behind bracket b) d.1 ∙ e) at a)
-
-closes : (limit b : ℕ) (k : Terminal) → open_behind bracket (b + 1) k ≡ b → Shifts limit (b + 1) b (grammar.the k) (grammar.the k)
-unfolding Shifts
-closes limit b k e ts x us d h = (d, let a = after bracket limit (b + 1) d.0 us (rw d.2 at h) in rw (ap (open_behind bracket (b + 1)) d.1 ∙ e) at a)
-
--- the closer, and the tree behind it
-closed : {A : Type 0} (limit b : ℕ) (k : Terminal) (x : A) → open_behind bracket (b + 1) k ≡ b
-    → Shifts limit (b + 1) b (Then (grammar.the k) (λ _. grammar.pure x)) (Then (grammar.the k) (λ _. grammar.pure x))
-closed limit b k x e = then_shifts limit (b + 1) b b _ _ _ _ (closes limit b k e) (λ _. kept limit b _ _ (pure_keeps bracket limit b x))
-
 module _ (limit b : ℕ) where
   anon_keeps : Keeps bracket limit b g.Anon g.Anon
-  anon_keeps = keeps limit b _ _ (then_shifts limit b (b + 1) b _ _ _ _ (opens limit b terminal.OpenBracket refl) (λ opener. closed limit b terminal.CloseBracket (n.Blank opener []) (omega arith)))
+  anon_keeps = keeps limit b _ _ (then_shifts limit b (b + 1) b _ _ _ _ (value_shifts limit b (b + 1) terminal.OpenBracket refl) (λ opener. closed limit b terminal.CloseBracket (n.Blank opener []) (omega arith)))
 
   nil_keeps : Keeps bracket limit b g.Nil g.Nil
-  nil_keeps = keeps limit b _ _ (then_shifts limit b (b + 1) b _ _ _ _ (opens limit b terminal.Open refl) (λ opener. closed limit b terminal.Close (n.Collection opener []) (omega arith)))
+  nil_keeps = keeps limit b _ _ (then_shifts limit b (b + 1) b _ _ _ _ (value_shifts limit b (b + 1) terminal.Open refl) (λ opener. closed limit b terminal.Close (n.Collection opener []) (omega arith)))
 
   term_keeps : Keeps bracket limit b g.VarOrTerm g.VarOrTerm
   term_keeps = or_keeps bracket limit b _ _ _ _ (leaf_keeps bracket limit b n.Variable terminal.Variable refl) (or_keeps bracket limit b _ _ _ _ (map_keeps bracket limit b n.Name _ _ (iri_keeps limit b))
@@ -100,12 +67,12 @@ module _ (limit b : ℕ) where
 -- what stands in brackets
 module _ (limit b : ℕ) (P Q : Derives Node) (p : Keeps bracket limit (b + 1) P Q) where
   blank_keeps : Keeps bracket limit b (g.BlankNodePropertyList P) (g.BlankNodePropertyList Q)
-  blank_keeps = keeps limit b _ _ (then_shifts limit b (b + 1) b _ _ _ _ (opens limit b terminal.OpenBracket refl)
+  blank_keeps = keeps limit b _ _ (then_shifts limit b (b + 1) b _ _ _ _ (value_shifts limit b (b + 1) terminal.OpenBracket refl)
       (λ opener. then_shifts limit (b + 1) (b + 1) b _ _ _ _ (kept limit (b + 1) _ _ (not_empty_keeps limit (b + 1) P Q p))
       (λ ps. closed limit b terminal.CloseBracket (n.Blank opener ps) (omega arith))))
 
   collection_keeps : Keeps bracket limit b (g.Collection P) (g.Collection Q)
-  collection_keeps = keeps limit b _ _ (then_shifts limit b (b + 1) b _ _ _ _ (opens limit b terminal.Open refl)
+  collection_keeps = keeps limit b _ _ (then_shifts limit b (b + 1) b _ _ _ _ (value_shifts limit b (b + 1) terminal.Open refl)
       (λ opener. then_shifts limit (b + 1) (b + 1) b _ _ _ _ (kept limit (b + 1) _ _ p)
       (λ first. then_shifts limit (b + 1) (b + 1) b _ _ _ _ (kept limit (b + 1) _ _ (star_keeps bracket limit (b + 1) _ _ (one_keeps bracket limit (b + 1) P Q p)))
       (λ others. closed limit b terminal.Close (n.Collection opener (first ∷ others)) (omega arith)))))

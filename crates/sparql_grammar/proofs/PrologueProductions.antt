@@ -2,10 +2,11 @@
 use Rattle.std.proofs.Common.{◌≡◌, ℕ, ◌<◌, true, false, List, length, Option, Some, refl, ap, arith, inl, inr}
 use Rattle.rdf_grammar.specs.Terminals.{next_terminal}
 use Rattle.rdf_grammar.specs.Derivations as grammar
-use Rattle.rdf_grammar.proofs.Combinators.{one_decides, seq, last}
-use Rattle.rdf_grammar.proofs.Decides.{always, Decides, pure_decides, repeat_decides}
-use Rattle.rdf_grammar.proofs.Nests.{Keeps, then_keeps, pure_keeps, or_keeps, value_keeps, namespace_keeps, behind_keeps, leaf_keeps, star_keeps, one_keeps}
-use Rattle.rdf_grammar.proofs.Terminals.{value_decides, namespace_decides}
+use Rattle.rdf_grammar.proofs.Combinators.{one_decides, last}
+use Rattle.rdf_grammar.proofs.Decides.{always, Decides, repeat_decides}
+use Rattle.rdf_grammar.proofs.Nests.{Keeps, or_keeps, map_keeps, behind_keeps, leaf_keeps, star_keeps, one_keeps}
+use Rattle.rdf_grammar.proofs.ProductionNests as shared
+use Rattle.rdf_grammar.proofs.Terminals.{value_decides}
 use Rattle.sparql_terminals.specs.declared.terminal.Terminal.{Terminal}
 use Rattle.sparql_terminals.specs.declared.terminal.Terminal.TheVariants as terminal
 use Rattle.sparql_grammar.specs.declared.tree.Declaration.{Declaration}
@@ -13,18 +14,18 @@ use Rattle.sparql_grammar.specs.declared.tree.Declaration.TheVariants as d
 use Rattle.sparql_terminals.specs.Lexemes.{Lexemes, Derives, Test}
 use Rattle.sparql_grammar.specs.PrologueGrammar.{BaseDecl, PrefixDecl, Prologue}
 use Rattle.sparql_grammar.specs.PrologueReading as read
-use Rattle.sparql_terminals.specs.Terminals.{same_terminal, apart, bracket}
-use Rattle.sparql_terminals.proofs.Gives.{Gives, Any, then_gives, or_gives, value_gives, namespace_gives, map_gives, behind_gives}
+use Rattle.sparql_terminals.specs.Terminals.{same_terminal, apart, bracket, word}
+use Rattle.sparql_terminals.specs.WordGrammar.{Binding}
+use Rattle.sparql_terminals.proofs.GrammarWords.{binding_decides, plain}
+use Rattle.sparql_terminals.proofs.Gives.{Gives, Any, or_gives, value_gives, map_gives, behind_gives}
+use Rattle.sparql_terminals.proofs.WordGives.{binding_gives}
 use Rattle.sparql_terminals.proofs.Keywords.{keyword_sound, keyword_complete, keyword_terminal, keyword_strict}
 
 -- ---- declarations
 
-abbrev PrefixRest : Derives Declaration
-PrefixRest = grammar.◌>>=◌ (grammar.namespace terminal.Pname) (λ prefix. grammar.◌>>=◌ (grammar.value terminal.Iri) (λ reference. grammar.pure (d.Prefix prefix reference)))
-
-prefix_decides : Decides read.prefix PrefixRest always
+prefix_decides : Decides read.prefix (grammar.◌<$>◌ read.bound Binding) always
 unfolding read.prefix
-prefix_decides = seq _ _ _ _ always (namespace_decides same_terminal apart terminal.Pname) (λ prefix. seq _ _ _ _ always (value_decides same_terminal apart terminal.Iri) (λ reference. pure_decides (d.Prefix prefix reference) always))
+prefix_decides = last read.bound _ _ always binding_decides
 
 base_decides : Decides read.base (grammar.◌<$>◌ d.Base (grammar.value terminal.Iri)) always
 unfolding read.base
@@ -74,8 +75,7 @@ module _ (limit b : ℕ) where
   base_keeps = behind_keeps bracket limit b terminal.Base _ _ refl (leaf_keeps bracket limit b d.Base terminal.Iri refl)
 
   prefix_keeps : Keeps bracket limit b PrefixDecl PrefixDecl
-  prefix_keeps = behind_keeps bracket limit b terminal.Prefix _ _ refl (then_keeps bracket limit b _ _ _ _ (namespace_keeps bracket limit b terminal.Pname refl)
-      (λ prefix. then_keeps bracket limit b _ _ _ _ (value_keeps bracket limit b terminal.Iri refl) (λ reference. pure_keeps bracket limit b (d.Prefix prefix reference))))
+  prefix_keeps = behind_keeps bracket limit b terminal.Prefix _ _ refl (map_keeps bracket limit b read.bound _ _ (shared.binding_keeps word bracket plain limit b))
 
   pub declaration_keeps : Keeps bracket limit b ADeclaration ADeclaration
   declaration_keeps = or_keeps bracket limit b _ _ _ _ base_keeps prefix_keeps
@@ -89,8 +89,7 @@ base_gives : Gives BaseDecl Any
 base_gives = behind_gives terminal.Base _ Any (map_gives d.Base _ _ Any (value_gives terminal.Iri) (λ a h. tt))
 
 prefix_gives : Gives PrefixDecl Any
-prefix_gives = behind_gives terminal.Prefix _ Any (then_gives _ _ Any Any (namespace_gives terminal.Pname)
-    (λ prefix _. map_gives (d.Prefix prefix) _ _ Any (value_gives terminal.Iri) (λ a h. tt)))
+prefix_gives = behind_gives terminal.Prefix _ Any (map_gives read.bound _ _ Any binding_gives (λ b h. tt))
 
 pub declaration_gives : Gives ADeclaration Any
 declaration_gives = or_gives _ _ Any base_gives prefix_gives

@@ -1,24 +1,26 @@
 -- Prologues (SPARQL 1.1 Query, section 19.8), a definition for each production. The next lexeme chooses.
 use Rattle.std.specs.Prelude.{Bool, true, false, List, Option, Some}
-use Rattle.rdf_grammar.specs.Steps.{◌>>=◌, ◌>>◌, ◌<$>◌, pure, none}
-use Rattle.rdf_grammar.specs.Terminals.{peek, next_terminal}
+use Rattle.rdf_grammar.specs.Steps.{◌>>=◌, ◌>>◌, ◌<$>◌, none}
+use Rattle.rdf_grammar.specs.Terminals.{Piece, peek, next_terminal}
 use Rattle.rdf_grammar.specs.Readings.{any, one, repeat}
 use Rattle.sparql_terminals.specs.declared.terminal.Terminal.{Terminal}
 use Rattle.sparql_terminals.specs.declared.terminal.Terminal.TheVariants as terminal
 use Rattle.sparql_grammar.specs.declared.tree.Declaration.{Declaration}
 use Rattle.sparql_grammar.specs.declared.tree.Declaration.TheVariants as d
-use Rattle.sparql_terminals.specs.Lexemes.{Reading, Test, value, namespace}
+use Rattle.sparql_terminals.specs.Lexemes.{Reading, Test, value}
+use Rattle.sparql_terminals.specs.WordReading.{binding}
 
 -- IRIREF
 unfoldable pub base : Reading Declaration
 base = d.Base <$> value terminal.Iri
 
+-- a prefix, and what it is bound to
+abbrev pub bound : Piece × Piece → Declaration
+bound b = d.Prefix b.0 b.1
+
 -- PNAME_NS IRIREF
 unfoldable pub prefix : Reading Declaration
-prefix = do
-  prefix ← namespace terminal.Pname
-  reference ← value terminal.Iri
-  pure (d.Prefix prefix reference)
+prefix = bound <$> binding
 
 -- what begins a declaration
 abbrev pub begins_declaration : Option Terminal → Bool

@@ -2,6 +2,7 @@
 -- Query, section 19.8).
 use Rattle.std.specs.Prelude.{Bool, true, false, ◌&&◌, ◌||◌, List, [], ◌∷◌, map, Option, Some, None}
 use Rattle.std.specs.List.{list_all}
+pub use Rattle.rdf_grammar.specs.Holds.{holds}
 use Rattle.rdf_grammar.specs.Literals.{proper_literal}
 use Rattle.rdf_grammar.specs.declared.tree.Name.{Name}
 use Rattle.rdf_grammar.specs.Prologue.{is_proper}
@@ -34,9 +35,6 @@ use Rattle.sparql_grammar.specs.declared.tree.VarOrIri.{VarOrIri}
 use Rattle.sparql_grammar.specs.declared.tree.VarOrIri.TheVariants as place
 use Rattle.sparql_grammar.specs.declared.tree.Verb.{Verb}
 use Rattle.sparql_grammar.specs.declared.tree.Verb.TheVariants as v
-
-abbrev pub holds : Bool → Bool
-holds b = b
 
 abbrev pub is_filled : {A : Type 0} → List A → Bool
 is_filled [] = false

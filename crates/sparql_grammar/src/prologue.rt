@@ -5,7 +5,7 @@ ghost use Rattle.rdf_grammar.specs.Readings.{Reads};
 ghost use Rattle.sparql_grammar.specs.PrologueReading as spec;
 
 use crate::tree::Declaration;
-use rdf_grammar::GrammarFault;
+use rdf_grammar::{GrammarFault, binding};
 use rdf_terms::Items;
 use sparql_terminals::{Parser, Terminal};
 
@@ -22,8 +22,7 @@ fn prefix<'a>(parser: &mut Parser<'_, 'a>) -> Result<Declaration<'a>, GrammarFau
     ensures reads { Reads (spec.prefix parser.old) result parser.new }
     ensures shorter { OnOk result (length parser.new < length parser.old) }
 {
-    let prefix = parser.namespace(Terminal::Pname)?;
-    let reference = parser.value(Terminal::Iri)?;
+    let (prefix, reference) = binding(parser)?;
     Ok(Declaration::Prefix(prefix, reference))
 }
 

@@ -3,7 +3,7 @@ use Rattle.std.proofs.Common.{◌≡◌, ◌∙◌, ap, sym, ℕ, ◌+◌, ◌<�
 use Rattle.std.specs.Prelude.{option_map}
 use Rattle.rdf_grammar.specs.declared.prologue.PrologueFault.{PrologueFault}
 use Rattle.rdf_grammar.specs.declared.prologue.PrologueFault.TheVariants.{UnknownPrefix, Relative, NoMemory}
-use Rattle.sparql_drafts.specs.Kept.{Fails}
+use Rattle.rdf_grammar.specs.Kept.{Fails}
 use Rattle.rdf_grammar.specs.Prologue.{Prologue}
 use Rattle.sparql_expressions.specs.declared.tree.Expression as written
 use Rattle.sparql_expressions.specs.declared.tree.Expression.TheFolds.{fold-roll-Expression}
@@ -16,7 +16,7 @@ use Rattle.sparql_trees.specs.declared.expression.Expression.TheVariants as e
 use Rattle.sparql_trees.specs.declared.expression.Expression.{Expression}
 use Rattle.sparql_trees.specs.declared.expression.Function.{Function}
 use Rattle.sparql_trees.specs.declared.expression.Sign.{Sign}
-use Rattle.sparql_queries.proofs.GroupLemmas.{drop_is}
+use Rattle.rdf_grammar.proofs.Members.{drop_is}
 
 -- these, and behind them the parts, where all are there
 abbrev pub all_behind : {A : Type 0} → List A → List (Option A) → Option (List A)

@@ -1,11 +1,12 @@
 -- A turn of each loop over groups and members, a group's FILTERs, and GRAPH's two parts.
-use Rattle.std.proofs.Common.{◌≡◌, ◌∙◌, ap, sym, subst, ℕ, suc, ◌+◌, ◌<◌, List, [], ◌∷◌, ◌++◌, map, drop, length, get_or, drop-cons, add-one, Option, Some, None, Result, Ok, Err, OnOk, Bool, true, false, leb, if◌then◌else◌, refl}
+use Rattle.std.proofs.Common.{◌≡◌, ◌∙◌, ap, sym, subst, ℕ, suc, ◌+◌, ◌<◌, List, [], ◌∷◌, ◌++◌, map, drop, length, get_or, add-one, Option, Some, None, Result, Ok, Err, OnOk, Bool, true, false, leb, if◌then◌else◌, refl}
 use Rattle.std.specs.Option.{option_map}
 use Rattle.rdf_grammar.specs.Prologue.{Prologue}
 use Rattle.rdf_grammar.specs.Steps.{Outcome, Step, and_then, ◌>>=◌, pure}
 use Rattle.rdf_grammar.specs.declared.prologue.PrologueFault.{PrologueFault}
 use Rattle.rdf_grammar.specs.declared.prologue.PrologueFault.TheVariants.{UnknownPrefix, Relative, NoMemory}
-use Rattle.sparql_drafts.specs.Kept.{Fails, Gives, Tells}
+use Rattle.rdf_grammar.specs.Kept.{Fails, Gives, Tells}
+use Rattle.rdf_grammar.proofs.Members.{drop_is}
 use Rattle.sparql_grammar.specs.declared.tree.Group.{Group}
 use Rattle.sparql_grammar.specs.declared.tree.Member as written_member
 use Rattle.sparql_grammar.specs.declared.tree.Member.TheFolds.{fold-roll-Member, fold_out-Group}
@@ -21,9 +22,6 @@ use Rattle.sparql_trees.specs.declared.pattern.Member.{Member}
 use Rattle.sparql_trees.specs.declared.pattern.Member.TheVariants as member
 use Rattle.sparql_trees.specs.declared.pattern.Pattern.{Pattern}
 use Rattle.sparql_trees.specs.declared.pattern.VarOrIri.{VarOrIri}
-
-pub drop_is : {A : Type 0} (xs : List A) (i : ℕ) (x : A) → i < length xs → x ≡ get_or xs i x → drop i xs ≡ x ∷ drop (suc i) xs
-drop_is {A = A} xs i x l is = drop-cons xs i x l ∙ ap (λ (y : A). y ∷ drop (suc i) xs) (sym is)
 
 -- what the next item gives, and the items behind it
 pub next_collected : {S A B : Type 0} (f : B → Step S A) (xs : List B) (i : ℕ) (x : B) (found : List A) (a : A) (s u : S) → i < length xs → x ≡ get_or xs i x → f x s ≡ Some (a, u)

@@ -6,7 +6,7 @@ use Rattle.rdf_grammar.specs.Prologue.{Prologue}
 use Rattle.rdf_grammar.specs.Steps.{Outcome, Step, and_then, pure}
 use Rattle.rdf_grammar.specs.declared.prologue.PrologueFault.{PrologueFault}
 use Rattle.rdf_grammar.specs.declared.prologue.PrologueFault.TheVariants.{UnknownPrefix, Relative, NoMemory}
-use Rattle.sparql_drafts.specs.Kept.{Fails}
+use Rattle.rdf_grammar.specs.Kept.{Fails}
 use Rattle.sparql_grammar.specs.GroupReading.{together}
 use Rattle.sparql_grammar.specs.QuadGroups.{members_by, quads_group}
 use Rattle.sparql_grammar.specs.declared.tree.Block.{Block}
@@ -19,7 +19,8 @@ use Rattle.sparql_grammar.specs.declared.tree.Triples.{Triples}
 use Rattle.sparql_grammar.specs.declared.tree.VarOrIri as written_name
 use Rattle.sparql_queries.specs.Collected.{collected, collected_behind}
 use Rattle.sparql_queries.specs.Groups.{Does, Labels, basic, graph_name, group, group_of, member_in, member_of, pattern_with}
-use Rattle.sparql_queries.proofs.GroupLemmas.{drop_is, filterless, filterless_fails, graph_said, graph_fails, name_fails}
+use Rattle.rdf_grammar.proofs.Members.{drop_is}
+use Rattle.sparql_queries.proofs.GroupLemmas.{filterless, filterless_fails, graph_said, graph_fails, name_fails}
 use Rattle.sparql_trees.specs.declared.pattern.BasicGraphPattern.{BasicGraphPattern}
 use Rattle.sparql_trees.specs.declared.pattern.Member.{Member}
 use Rattle.sparql_trees.specs.declared.pattern.Member.TheVariants as member

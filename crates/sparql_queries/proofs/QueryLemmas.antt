@@ -5,7 +5,7 @@ use Rattle.rdf_grammar.specs.Prologue as prologue
 use Rattle.rdf_grammar.specs.Prologue.{Prologue}
 use Rattle.rdf_grammar.specs.declared.prologue.PrologueFault.{PrologueFault}
 use Rattle.rdf_grammar.specs.declared.prologue.PrologueFault.TheVariants.{UnknownPrefix, Relative, NoMemory}
-use Rattle.sparql_drafts.specs.Kept.{Fails}
+use Rattle.rdf_grammar.specs.Kept.{Fails}
 use Rattle.sparql_grammar.specs.declared.tree.Query as written
 use Rattle.sparql_trees.specs.declared.query.Query.{Query}
 use Rattle.sparql_queries.specs.Groups.{Labels}

@@ -3,7 +3,7 @@ ghost use Rattle.std.specs.Prelude.{◌≡◌, IsTrue, map, option_map};
 ghost use Rattle.std.specs.List.{list_all};
 ghost use Rattle.rdf_grammar.specs.Literals.{known_literal, literal_of, proper_literal};
 ghost use Rattle.rdf_grammar.specs.Prologue.{declared, iri_of, is_proper, knows};
-ghost use Rattle.sparql_drafts.specs.Kept.{Tells};
+ghost use Rattle.rdf_grammar.specs.Kept.{Tells};
 ghost use Rattle.sparql_expressions.specs.ProperExpressions as proper;
 ghost use Rattle.sparql_grammar.specs.Proper.{holds};
 ghost use Rattle.sparql_queries.specs.Addends as addends;

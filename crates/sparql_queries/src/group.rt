@@ -2,7 +2,7 @@
 ghost use Rattle.std.specs.Prelude.{◌≡◌, [], OnOk, IsTrue, map};
 ghost use Rattle.std.specs.List.{list_all};
 ghost use Rattle.rdf_grammar.specs.Prologue.{declared};
-ghost use Rattle.sparql_drafts.specs.Kept.{Gives, Tells};
+ghost use Rattle.rdf_grammar.specs.Kept.{Gives, Tells};
 ghost use Rattle.sparql_drafts.specs.Known as names;
 ghost use Rattle.sparql_expressions.specs.ProperExpressions.{proper_expression};
 ghost use Rattle.sparql_grammar.specs.Proper as proper;

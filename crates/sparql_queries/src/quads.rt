@@ -2,7 +2,7 @@
 ghost use Rattle.std.specs.Prelude.{◌≡◌, OnOk, IsTrue, map};
 ghost use Rattle.std.specs.List.{list_all};
 ghost use Rattle.rdf_grammar.specs.Prologue.{declared};
-ghost use Rattle.sparql_drafts.specs.Kept.{Gives};
+ghost use Rattle.rdf_grammar.specs.Kept.{Gives};
 ghost use Rattle.sparql_drafts.specs.Known as known;
 ghost use Rattle.sparql_grammar.specs.GroupReading.{together};
 ghost use Rattle.sparql_grammar.specs.Proper as proper;

@@ -4,7 +4,7 @@ ghost use Rattle.std.specs.Option.{option_copied};
 ghost use Rattle.rdf_grammar.specs.Prologue as prologue;
 ghost use Rattle.rdf_grammar.specs.Prologue.{declared};
 ghost use Rattle.rdf_grammar.specs.Steps.{each};
-ghost use Rattle.sparql_drafts.specs.Kept.{Gives};
+ghost use Rattle.rdf_grammar.specs.Kept.{Gives};
 ghost use Rattle.sparql_drafts.specs.Meaning.{declaration};
 ghost use Rattle.sparql_queries.specs.Variables.{variable_name as named};
 ghost use Rattle.sparql_queries.specs.Known as known;

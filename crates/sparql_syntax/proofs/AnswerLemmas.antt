@@ -7,7 +7,7 @@ use Rattle.rdf_grammar.specs.declared.prologue.PrologueFault.{PrologueFault}
 use Rattle.rdf_grammar.specs.declared.prologue.PrologueFault.TheVariants.{UnknownPrefix, Relative, NoMemory}
 use Rattle.sparql_grammar.specs.declared.tree.Part.{Part}
 use Rattle.sparql_syntax.specs.declared.draft.Draft.{Draft}
-use Rattle.sparql_drafts.specs.Kept.{Tells}
+use Rattle.rdf_grammar.specs.Kept.{Tells}
 use Rattle.sparql_syntax.specs.Kept.{IsFaultOf}
 use Rattle.sparql_syntax.specs.Known.{declares_first}
 use Rattle.sparql_syntax.specs.Meaning.{drafts, drafts_of, answer}

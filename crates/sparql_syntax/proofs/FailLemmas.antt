@@ -3,7 +3,7 @@ use Rattle.std.proofs.Common.{ap, Option}
 use Rattle.std.specs.Option.{option_and_then, option_map}
 use Rattle.rdf_grammar.specs.declared.prologue.PrologueFault.{PrologueFault}
 use Rattle.rdf_grammar.specs.declared.prologue.PrologueFault.TheVariants.{UnknownPrefix, Relative, NoMemory}
-use Rattle.sparql_drafts.specs.Kept.{Fails}
+use Rattle.rdf_grammar.specs.Kept.{Fails}
 
 pub then_fails : {A B : Type 0} (f : A → Option B) (o : Option A) (e : PrologueFault) → Fails o e → Fails (option_and_then f o) e
 then_fails f o (NoMemory refused) h = tt

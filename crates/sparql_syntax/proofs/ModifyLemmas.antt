@@ -5,7 +5,7 @@ use Rattle.std.specs.Option.{option_and_then, option_map}
 use Rattle.rdf_grammar.specs.Prologue.{Prologue}
 use Rattle.rdf_grammar.specs.declared.prologue.PrologueFault.{PrologueFault}
 use Rattle.rdf_grammar.specs.declared.tree.Name.{Name}
-use Rattle.sparql_drafts.specs.Kept.{Fails}
+use Rattle.rdf_grammar.specs.Kept.{Fails}
 use Rattle.sparql_drafts.specs.Meaning.{quads_in}
 use Rattle.sparql_drafts.specs.declared.draft.Quads.{Quads}
 use Rattle.sparql_grammar.specs.QuadGroups.{quads_group}

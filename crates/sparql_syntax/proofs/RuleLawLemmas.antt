@@ -12,7 +12,8 @@ use Rattle.sparql_drafts.specs.declared.draft.VarOrTerm.TheVariants as place
 use Rattle.sparql_syntax.specs.declared.fault.SyntaxFaultKind.{SyntaxFaultKind}
 use Rattle.sparql_syntax.specs.declared.fault.SyntaxFaultKind.TheVariants as fault
 use Rattle.sparql_syntax.specs.RuleLaws.{are_quads, has_quads, PatternsAreQuads}
-use Rattle.sparql_syntax.specs.Rules.{is_variable, is_variable_place, is_variable_graph, has_variable, is_literal, has_variable_in_data, has_literal_subject, has_blank_in_delete, reuses_label, graph_of, term_of, predicate_of, quad_by, quad_of, operation_of}
+use Rattle.sparql_syntax.specs.Rules.{is_variable, is_variable_place, is_variable_graph, has_variable, is_literal, has_variable_in_data, has_literal_subject, has_blank_in_delete, reuses_label, graph_of, term_of, predicate_of, quad_of, operation_of}
+use Rattle.sparql_trees.specs.Quads.{quad_by}
 use Rattle.sparql_trees.specs.declared.operation.Operation.{Operation}
 
 no_first : (a b : Bool) → (a || b) ≡ false → a ≡ false

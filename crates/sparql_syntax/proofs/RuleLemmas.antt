@@ -17,7 +17,8 @@ use Rattle.sparql_drafts.specs.declared.draft.VarOrTerm.TheVariants as place
 use Rattle.sparql_syntax.specs.declared.fault.SyntaxFaultKind.{SyntaxFaultKind}
 use Rattle.sparql_syntax.specs.declared.fault.SyntaxFaultKind.TheVariants as fault
 use Rattle.sparql_drafts.specs.Drafts.{IsPlaceBelow, IsPatternBelow, ArePatternsBelow}
-use Rattle.sparql_syntax.specs.Rules.{has_blank_in_delete, graph_of, term_of, predicate_of, quad_by, quad_of, judged}
+use Rattle.sparql_syntax.specs.Rules.{has_blank_in_delete, graph_of, term_of, predicate_of, quad_of, judged}
+use Rattle.sparql_trees.specs.Quads.{quad_by}
 use Rattle.sparql_trees.specs.declared.operation.Operation.{Operation}
 
 some_or_none : (b : Bool) (x y : QuadParts) → cond b (Some x) None ≡ Some y → x ≡ y

@@ -2,7 +2,7 @@
 -- Update, section 3.1; SPARQL 1.1 Query, sections 4.1.4, 19.6 and 19.8).
 use Rattle.std.specs.Prelude.{Bool, true, false, not, ◌||◌, ◌==◌, List, [], ◌∷◌, map, Option, Some, None, Result, Ok, Err, if◌then◌else◌}
 use Rattle.std.specs.List.{filter_map, flat_map, list_any}
-use Rattle.rdf_terms.specs.Quad.{QuadParts, has_right_kinds}
+use Rattle.rdf_terms.specs.Quad.{QuadParts}
 use Rattle.rdf_terms.specs.Term.{is_literal_term}
 use Rattle.rdf_terms.specs.declared.quad.GraphName.{GraphName}
 use Rattle.rdf_terms.specs.declared.quad.GraphName.TheVariants.{Default, Named}
@@ -22,6 +22,7 @@ use Rattle.sparql_queries.specs.Templates.{template}
 use Rattle.sparql_syntax.specs.declared.fault.SyntaxFaultKind.{SyntaxFaultKind}
 use Rattle.sparql_syntax.specs.declared.fault.SyntaxFaultKind.TheVariants.{BlankInDelete, VariableInData, LiteralSubject, BlankReused}
 use Rattle.sparql_syntax.specs.Labels.{repeats_label}
+use Rattle.sparql_trees.specs.Quads.{quad_by}
 use Rattle.sparql_trees.specs.declared.operation.Operation.{Operation}
 use Rattle.sparql_trees.specs.declared.operation.Operation.TheVariants as operation
 use Rattle.sparql_trees.specs.declared.template.Modify.{Modify}
@@ -108,12 +109,6 @@ term_of (place.Variable variable) = None
 abbrev pub predicate_of : VarOrIri → Option Term
 predicate_of (name.Iri iri) = Some (term.Iri iri)
 predicate_of (name.Variable variable) = None
-
-abbrev pub quad_by : Option GraphName → Option Term → Option Term → Option Term → Option QuadParts
-quad_by (Some g) (Some s) (Some p) (Some o) =
-    let parts : QuadParts = record { graph = g; subject = s; predicate = p; object = o } in
-    if has_right_kinds parts then Some parts else None
-quad_by _ _ _ _ = None
 
 -- the quad that a pattern is: it has no variable, and a literal is no subject
 abbrev pub quad_of : QuadPattern → Option QuadParts

@@ -8,11 +8,12 @@ ghost use Rattle.sparql_grammar.specs.Proper as proper;
 ghost use Rattle.sparql_grammar.specs.Proper.{holds};
 ghost use Rattle.sparql_grammar.specs.QuadGroups.{quads_group};
 ghost use Rattle.sparql_syntax.specs.Blanks.{BlankNumbersAreBelow};
-ghost use Rattle.sparql_drafts.specs.Kept.{Gives, Tells};
+ghost use Rattle.rdf_grammar.specs.Kept.{Gives, Tells};
 ghost use Rattle.sparql_syntax.specs.Kept.{IsFaultOf};
 ghost use Rattle.sparql_syntax.specs.Known as known;
 ghost use Rattle.sparql_syntax.specs.Known.{declared_behind, declares_first};
 ghost use Rattle.sparql_syntax.specs.Meaning as spec;
+ghost use Rattle.sparql_trees.specs.declared.operation.Operation.TheVariants as op;
 
 use crate::draft::{Draft, Modification};
 use crate::known::first_unknown;
@@ -183,6 +184,27 @@ fn delete_where<'a>(
     })
 }
 
+fn copy_between(silent: bool, ends: (GraphOrDefault, GraphOrDefault)) -> Operation
+    ensures { result ≡ op.Copy silent ends.0 ends.1 }
+{
+    let (from, to) = ends;
+    Operation::Copy { silent, from, to }
+}
+
+fn move_between(silent: bool, ends: (GraphOrDefault, GraphOrDefault)) -> Operation
+    ensures { result ≡ op.Move silent ends.0 ends.1 }
+{
+    let (from, to) = ends;
+    Operation::Move { silent, from, to }
+}
+
+fn add_between(silent: bool, ends: (GraphOrDefault, GraphOrDefault)) -> Operation
+    ensures { result ≡ op.Add silent ends.0 ends.1 }
+{
+    let (from, to) = ends;
+    Operation::Add { silent, from, to }
+}
+
 // The draft of an operation.
 #[tactic(auto, unfolding(crate::specs::Meaning::operation, crate::specs::Known::known_operation, sparql_grammar::specs::Proper::proper_operation))]
 fn operation_draft<'a>(
@@ -205,9 +227,7 @@ fn operation_draft<'a>(
         Written::DeleteWhere(blocks) => {
             return Ok(Draft::Modify(delete_where(alloc, scope, blocks.as_slice())?));
         }
-        Written::Modify(written) => {
-            return Ok(Draft::Modify(modify(alloc, scope, written)?));
-        }
+        Written::Modify(written) => return Ok(Draft::Modify(modify(alloc, scope, written)?)),
         Written::Create { silent, graph } => Operation::Create {
             silent: *silent,
             graph: scope.iri(graph)?,
@@ -220,30 +240,9 @@ fn operation_draft<'a>(
             silent: *silent,
             graphs: graph_ref_all(scope, graphs)?,
         },
-        Written::Copy { silent, from, to } => {
-            let (from, to) = both(scope, from, to)?;
-            Operation::Copy {
-                silent: *silent,
-                from,
-                to,
-            }
-        }
-        Written::Move { silent, from, to } => {
-            let (from, to) = both(scope, from, to)?;
-            Operation::Move {
-                silent: *silent,
-                from,
-                to,
-            }
-        }
-        Written::Add { silent, from, to } => {
-            let (from, to) = both(scope, from, to)?;
-            Operation::Add {
-                silent: *silent,
-                from,
-                to,
-            }
-        }
+        Written::Copy { silent, from, to } => copy_between(*silent, both(scope, from, to)?),
+        Written::Move { silent, from, to } => move_between(*silent, both(scope, from, to)?),
+        Written::Add { silent, from, to } => add_between(*silent, both(scope, from, to)?),
     };
     Ok(Draft::Other(other))
 }

@@ -50,10 +50,6 @@ pub value_gives : (k : Terminal) → Gives (grammar.value k) (IsOf k)
 unfolding Gives
 value_gives k ts x us d w = let f = front_formed ts us d.0 d.3 w in (record { lexeme = d.0; formed = f.0; terminal = d.1; is = d.2 }, f.1)
 
-pub namespace_gives : (k : Terminal) → Gives (grammar.namespace k) Any
-unfolding Gives
-namespace_gives k ts x us d w = (tt, (front_formed ts us d.0 d.4 w).1)
-
 pub map_gives : {A B : Type 0} (f : A → B) (P : Derives A) (Good : A → Type 0) (Best : B → Type 0) → Gives P Good → ((a : A) → Good a → Best (f a)) → Gives (grammar.◌<$>◌ f P) Best
 map_gives f P Good Best p h = then_gives P _ Good Best p (λ a x. pure_gives (f a) Best (h a x))
 

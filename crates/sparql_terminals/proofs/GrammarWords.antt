@@ -96,6 +96,11 @@ iri_strict = shared.iri_strict word
 pub iri_decides : Decides read.iri g.Iri always
 iri_decides = shared.iri_decides word
 
+-- ---- bindings of prefixes
+
+pub binding_decides : Decides read.binding g.Binding always
+binding_decides = shared.binding_decides word
+
 -- ---- literals, behind which stands no tag and no "^^"
 
 abbrev pub ends_node : Option Terminal → Bool

@@ -1,4 +1,4 @@
--- Names and literals that are derived of formed lexemes are whole.
+-- Names and literals that are derived of formed lexemes are whole, and behind these and a bound prefix formed lexemes are left.
 use Rattle.std.proofs.Common.{◌≡◌, ap, refl, subst, Bool, true, false, not}
 use Rattle.rdf_tokens.proofs.CallerLemmas.{local_allowed}
 use Rattle.rdf_grammar.specs.declared.tree.Name.TheVariants.{Full}
@@ -70,3 +70,12 @@ boolean_gives = or_gives _ _ (Passes proper_literal) (map_gives (l.Boolean true)
 
 pub literal_gives : Gives words.ALiteral (Passes proper_literal)
 literal_gives = or_gives _ _ (Passes proper_literal) text_gives (or_gives _ _ (Passes proper_literal) number_gives boolean_gives)
+
+-- ---- bindings of prefixes
+
+namespace_gives : Gives (productions.namespace word) Any
+unfolding Gives
+namespace_gives ts x us d formed = (tt, (front_formed ts us d.0 d.4 formed).1)
+
+pub binding_gives : Gives words.Binding Any
+binding_gives = then_gives _ _ Any Any namespace_gives (λ prefix _. then_gives _ _ Any Any (any_gives w.Iri) (λ reference _. pure_gives (prefix, reference) Any tt))

@@ -51,7 +51,3 @@ the = terminals.the same_terminal
 -- a lexeme of this terminal, and its characters
 abbrev pub value : Terminal → Reading Piece
 value = terminals.value same_terminal
-
--- a prefixed name of this terminal without a local part, and its prefix
-abbrev pub namespace : Terminal → Reading Piece
-namespace = terminals.namespace same_terminal

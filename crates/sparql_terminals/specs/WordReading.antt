@@ -1,7 +1,8 @@
--- The readings of names and literals, which Turtle and SPARQL share (SPARQL 1.1 Query, section 19.8).
+-- The readings of names, literals and the bindings of prefixes, which Turtle and SPARQL share (SPARQL 1.1 Query, section 19.8).
 use Rattle.rdf_grammar.specs.declared.tree.Name.{Name}
 use Rattle.rdf_grammar.specs.declared.tree.Literal.{Literal}
 use Rattle.rdf_grammar.specs.ProductionReadings as readings
+use Rattle.rdf_grammar.specs.Terminals.{Piece}
 use Rattle.sparql_terminals.specs.Lexemes.{Reading}
 use Rattle.sparql_terminals.specs.Terminals.{word}
 
@@ -10,3 +11,6 @@ iri = readings.iri word
 
 abbrev pub literal : Reading Literal
 literal = readings.literal word
+
+abbrev pub binding : Reading (Piece × Piece)
+binding = readings.binding word

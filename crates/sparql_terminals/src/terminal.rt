@@ -391,65 +391,7 @@ fn word(terminal: Terminal) -> Option<Word>
         Terminal::Double | Terminal::SignedDouble => Some(Word::Double),
         Terminal::True => Some(Word::True),
         Terminal::False => Some(Word::False),
-        Terminal::BlankLabel
-        | Terminal::Variable
-        | Terminal::A
-        | Terminal::Prefix
-        | Terminal::Base
-        | Terminal::Insert
-        | Terminal::Delete
-        | Terminal::Data
-        | Terminal::With
-        | Terminal::Create
-        | Terminal::Clear
-        | Terminal::Drop
-        | Terminal::Copy
-        | Terminal::Move
-        | Terminal::Add
-        | Terminal::Silent
-        | Terminal::Graph
-        | Terminal::Default
-        | Terminal::Named
-        | Terminal::All
-        | Terminal::To
-        | Terminal::Select
-        | Terminal::Distinct
-        | Terminal::Ask
-        | Terminal::Where
-        | Terminal::Union
-        | Terminal::Optional
-        | Terminal::Filter
-        | Terminal::Bound
-        | Terminal::SameTerm
-        | Terminal::IsIri
-        | Terminal::IsUri
-        | Terminal::IsBlank
-        | Terminal::IsLiteral
-        | Terminal::Str
-        | Terminal::Lang
-        | Terminal::Datatype
-        | Terminal::OpenBracket
-        | Terminal::CloseBracket
-        | Terminal::Open
-        | Terminal::Close
-        | Terminal::OpenBrace
-        | Terminal::CloseBrace
-        | Terminal::Dot
-        | Terminal::Semicolon
-        | Terminal::Comma
-        | Terminal::Star
-        | Terminal::Plus
-        | Terminal::Minus
-        | Terminal::Equal
-        | Terminal::NotEqual
-        | Terminal::Less
-        | Terminal::Greater
-        | Terminal::LessOrEqual
-        | Terminal::GreaterOrEqual
-        | Terminal::And
-        | Terminal::Or
-        | Terminal::Not
-        | Terminal::Other => None,
+        _ => None,
     }
 }
 

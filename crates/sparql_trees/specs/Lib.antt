@@ -1,4 +1,5 @@
 pub mod Data
+pub mod Quads
 pub mod Visible
 pub mod VisibleLaws
 pub mod formers

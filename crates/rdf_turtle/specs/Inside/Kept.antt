@@ -1,23 +1,11 @@
--- What a function that goes through a tree answers.
-use Rattle.std.specs.Prelude.{◌≡◌, ℕ, List, Option, Some, None, Result, Ok, Err}
+-- The faults of a function that goes through a tree.
+use Rattle.std.specs.Prelude.{◌≡◌, ℕ, List, Result, Err}
 use Rattle.rdf_turtle.specs.declared.fault.TurtleFault.{TurtleFault}
 use Rattle.rdf_turtle.specs.declared.fault.TurtleFaultKind.{TurtleFaultKind}
 use Rattle.rdf_turtle.specs.declared.fault.TurtleFaultKind.TheVariants as kind
 use Rattle.rdf_grammar.specs.declared.prologue.PrologueFault.{PrologueFault}
 use Rattle.rdf_grammar.specs.declared.prologue.PrologueFault.TheVariants.{UnknownPrefix, Relative, NoMemory}
 use Rattle.rdf_tokens.specs.Lines.{line_of}
-use Rattle.rdf_grammar.specs.Steps.{Outcome}
-
--- Relative where the outcome is missing: each prefix is known to be declared
-abbrev pub Fails : {A : Type 0} → Option A → PrologueFault → Type 0
-Fails outcome (NoMemory e) = Unit {0}
-Fails outcome (Relative start) = outcome ≡ None
-Fails outcome (UnknownPrefix start) = ⊥
-
--- what is answered, and the state that is left: the step's outcome, unless memory was wanting
-abbrev pub Gives : {S A : Type 0} → Outcome S A → Result A PrologueFault → S → Type 0
-Gives outcome (Ok a) new = outcome ≡ Some (a, new)
-Gives outcome (Err e) new = Fails outcome e
 
 -- this is the fault that is answered, unless memory was wanting
 abbrev pub IsFaultOf : {A : Type 0} → Result A TurtleFaultKind → PrologueFault → Type 0

@@ -1,6 +1,6 @@
 use Rattle.std.proofs.Common.{rules, ◌≡◌, true, [], sym}
 use Rattle.std.specs.Option.{option_copied}
-use Rattle.rdf_turtle.specs.Inside.Kept.{Fails}
+use Rattle.rdf_grammar.specs.Kept.{Fails}
 use Rattle.rdf_turtle.specs.Known.{declares_first}
 use Rattle.rdf_turtle.specs.Meaning.{document}
 use Rattle.rdf_turtle.specs.State.{start}

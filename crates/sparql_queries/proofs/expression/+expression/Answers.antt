@@ -4,8 +4,8 @@ use Rattle.std.proofs.lemmas.Bool.{and_parts}
 use Rattle.sparql_queries.proofs.KnownLemmas.{each_holds, sum_known, sum_proper}
 use Rattle.rdf_grammar.specs.Prologue.{Prologue, declared}
 use Rattle.sparql_expressions.specs.declared.tree.Expression as written
-use Rattle.sparql_drafts.proofs.ScopeLoops.{next_member}
-use Rattle.sparql_drafts.specs.Kept.{Fails, Tells}
+use Rattle.rdf_grammar.proofs.Members.{next_member}
+use Rattle.rdf_grammar.specs.Kept.{Fails, Tells}
 use Rattle.sparql_expressions.specs.ProperExpressions as proper
 use Rattle.sparql_queries.specs.Addends as addends
 use Rattle.sparql_queries.specs.Expressions as spec

@@ -1,7 +1,7 @@
 use Rattle.std.proofs.Common.{◌≡◌, ◌∙◌, ap, sym, subst, rules, Some, List, [], ◌∷◌, ◌++◌, ◌+◌, map, drop}
 use Rattle.rdf_grammar.specs.Prologue.{Prologue, declared}
-use Rattle.sparql_drafts.proofs.ScopeLoops.{next_member}
-use Rattle.sparql_drafts.specs.Kept.{Fails, Gives, Tells}
+use Rattle.rdf_grammar.proofs.Members.{next_member}
+use Rattle.rdf_grammar.specs.Kept.{Fails, Gives, Tells}
 use Rattle.sparql_queries.specs.Collected.{collected, collected_behind}
 use Rattle.sparql_queries.specs.Expressions.{all, expression_in}
 use Rattle.sparql_queries.specs.Groups as spec

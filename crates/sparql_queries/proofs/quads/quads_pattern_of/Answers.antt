@@ -1,7 +1,7 @@
 use Rattle.std.proofs.Common.{◌≡◌, ◌∙◌, ap, sym, subst, rules, map, Some, List}
 use Rattle.rdf_grammar.specs.Prologue.{Prologue, declared}
-use Rattle.sparql_drafts.proofs.ScopeLoops.{next_member}
-use Rattle.sparql_drafts.specs.Kept.{Fails}
+use Rattle.rdf_grammar.proofs.Members.{next_member}
+use Rattle.rdf_grammar.specs.Kept.{Fails}
 use Rattle.sparql_drafts.specs.Known as known
 use Rattle.sparql_grammar.specs.Proper as proper
 use Rattle.sparql_grammar.specs.QuadGroups.{quads_group}

@@ -1,5 +1,5 @@
 use Rattle.std.proofs.Common.{rules, ◌≡◌, [], Some, None, refl}
-use Rattle.sparql_drafts.specs.Kept.{Fails}
+use Rattle.rdf_grammar.specs.Kept.{Fails}
 use Rattle.sparql_grammar.specs.QuadGroups.{quads_group}
 use Rattle.sparql_syntax.specs.Meaning.{modification, templates}
 use Rattle.sparql_syntax.proofs.ModifyLemmas.{group_fails, modification_told}

@@ -2,7 +2,7 @@ use Rattle.std.proofs.Common.{rules, ◌≡◌, ◌∙◌, ap, subst, true, []}
 use Rattle.std.specs.Option.{option_copied, option_map}
 use Rattle.rdf_grammar.specs.Prologue as prologue
 use Rattle.rdf_grammar.specs.Prologue.{Prologue}
-use Rattle.sparql_drafts.specs.Kept.{Tells}
+use Rattle.rdf_grammar.specs.Kept.{Tells}
 use Rattle.sparql_syntax.specs.Known.{declares_first}
 use Rattle.sparql_syntax.specs.Meaning.{drafts}
 use Rattle.sparql_drafts.specs.State.{State}

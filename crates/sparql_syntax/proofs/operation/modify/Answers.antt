@@ -1,5 +1,5 @@
 use Rattle.std.proofs.Common.{rules, ◌∙◌}
-use Rattle.sparql_drafts.specs.Kept.{Fails}
+use Rattle.rdf_grammar.specs.Kept.{Fails}
 use Rattle.sparql_drafts.specs.declared.draft.Quads.{Quads}
 use Rattle.sparql_syntax.specs.Meaning.{modification}
 use Rattle.sparql_syntax.proofs.ModifyLemmas.{group_fails, modification_told, templates_told}

@@ -4,8 +4,8 @@ use Rattle.rdf_turtle.specs.Known.{holds, known_node, known_property}
 use Rattle.rdf_turtle.specs.Meaning as spec
 use Rattle.rdf_grammar.specs.Prologue.{Prologue, declared}
 use Rattle.rdf_turtle.specs.Inside.Proper.{proper_node, proper_property}
-use Rattle.rdf_turtle.proofs.ProperLists.{next_member}
-use Rattle.rdf_turtle.proofs.ScopeLoops.{next_step, next_cell}
+use Rattle.rdf_grammar.proofs.Members.{next_member, next_step}
+use Rattle.rdf_turtle.proofs.ScopeLoops.{next_cell}
 use Rattle.rdf_turtle.proofs.scope.Scope.+inside.Goals as goal
 
 pub behind-loop-item-preserved : goal.behind-loop-item-preserved

@@ -2,7 +2,7 @@ use Rattle.std.proofs.Common.{◌≡◌, IfOk, Some, rules}
 use Rattle.std.specs.Prelude.{IfErr}
 use Rattle.rdf_grammar.specs.Prologue.{iri_of}
 use Rattle.rdf_grammar.specs.PrologueFaults.{Explains}
-use Rattle.sparql_drafts.specs.Kept.{Tells}
+use Rattle.rdf_grammar.specs.Kept.{Tells}
 use Rattle.sparql_drafts.proofs.ScopeSteps.{iri_tells, iri_gives}
 use Rattle.sparql_drafts.proofs.scope.Scope.iri.Goals as goal
 

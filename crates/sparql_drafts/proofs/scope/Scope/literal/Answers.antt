@@ -1,7 +1,7 @@
 use Rattle.std.proofs.Common.{◌≡◌, IfOk, Some, rules}
 use Rattle.std.specs.Prelude.{IfErr}
 use Rattle.rdf_grammar.specs.Literals.{ExplainsLiteral, literal_of}
-use Rattle.sparql_drafts.specs.Kept.{Tells}
+use Rattle.rdf_grammar.specs.Kept.{Tells}
 use Rattle.sparql_drafts.proofs.ScopeSteps.{literal_tells, literal_gives}
 use Rattle.sparql_drafts.proofs.scope.Scope.literal.Goals as goal
 
