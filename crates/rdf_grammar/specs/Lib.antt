@@ -1,4 +1,5 @@
 pub mod Derivations
+pub mod Inside
 pub mod Keys
 pub mod Lexemes
 pub mod Literals
