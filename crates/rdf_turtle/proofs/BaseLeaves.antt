@@ -55,8 +55,8 @@ pub read_formed : (bytes : List ℕ) (ts : List Lexeme) → IsUtf8 bytes → Are
 read_formed bytes ts u (Ok tokens, says, are) =
     all_formed (chars bytes) tokens ts (scalars-chars bytes u) are (lexemes_have_forms terminal_by (chars bytes) (chars bytes) says.0 tokens ts says.1 are)
 read_formed bytes ts u (Err place, says, are) =
-    let front = all_formed (chars bytes) are.0 are.3 (scalars-chars bytes u) are.7 (lexemes_have_forms terminal_by (chars bytes) (chars bytes) are.1 are.0 are.3 are.4 are.7) in
-    subst (AllByRecursion Formed) (sym are.8) (all_push are.3 (unread terminal_by) front unread_formed)
+    let front = all_formed (chars bytes) are.0 are.3 (scalars-chars bytes u) are.8 (lexemes_have_forms terminal_by (chars bytes) (chars bytes) are.1 are.0 are.3 are.4 are.8) in
+    subst (AllByRecursion Formed) (sym are.9) (all_push are.3 (unread terminal_by) front unread_formed)
 
 -- ---- the kind of a terminal
 

@@ -49,10 +49,10 @@ at_front limit b t us low h zero = low
 at_front limit b t us low h (suc n) = h n
 
 front : (limit b : ℕ) (t : Lexeme) (us : Lexemes) → b ≤ limit → is_other t.terminal ≡ false → Shallow limit (open_behind b t.terminal) us → Shallow limit b (t ∷ us)
-front limit b t us low use h = record { at = at_front limit b t us low h.at; useful = (use, h.useful) }
+front limit b t us low used h = record { at = at_front limit b t us low h.at; useful = (used, h.useful) }
 
 plain_front : (limit b : ℕ) (t : Lexeme) (us : Lexemes) → open_behind b t.terminal ≡ b → is_other t.terminal ≡ false → Shallow limit b us → Shallow limit b (t ∷ us)
-plain_front limit b t us same use h = front limit b t us (h.at 0) use (subst (λ (m : ℕ). Shallow limit m us) (sym same) h)
+plain_front limit b t us same used h = front limit b t us (h.at 0) used (subst (λ (m : ℕ). Shallow limit m us) (sym same) h)
 
 module _ (limit b : ℕ) where
   then_leads : {A B : Type 0} (P : Derives A) (F : A → Derives B) → Leads limit b P → ((a : A) → Leads limit b (F a)) → Leads limit b (Then P F)
@@ -70,11 +70,11 @@ module _ (limit b : ℕ) where
 
   the_leads : (k : Terminal) → open_behind b k ≡ b → is_other k ≡ false → Leads limit b (grammar.the k)
   unfolding Leads
-  the_leads k same use ts x us d h = subst (Shallow limit b) (sym d.2) (plain_front limit b d.0 us (ap (open_behind b) d.1 ∙ same) (ap is_other d.1 ∙ use) h)
+  the_leads k same used ts x us d h = subst (Shallow limit b) (sym d.2) (plain_front limit b d.0 us (ap (open_behind b) d.1 ∙ same) (ap is_other d.1 ∙ used) h)
 
   value_leads : (k : Terminal) → open_behind b k ≡ b → is_other k ≡ false → Leads limit b (grammar.value k)
   unfolding Leads
-  value_leads k same use ts x us d h = subst (Shallow limit b) (sym d.3) (plain_front limit b d.0 us (ap (open_behind b) d.1 ∙ same) (ap is_other d.1 ∙ use) h)
+  value_leads k same used ts x us d h = subst (Shallow limit b) (sym d.3) (plain_front limit b d.0 us (ap (open_behind b) d.1 ∙ same) (ap is_other d.1 ∙ used) h)
 
   word_front : (t : Lexeme) (u : Word) (us : Lexemes) → word t.terminal ≡ Some u → Shallow limit b us → Shallow limit b (t ∷ us)
   word_front t u us e h = plain_front limit b t us (rw (plain t.terminal u e) refl) (useful_word t.terminal u e) h
@@ -95,10 +95,10 @@ module _ (limit b : ℕ) where
   map_leads f P p = then_leads P _ p (λ a. pure_leads (f a))
 
   behind_leads : {A : Type 0} (k : Terminal) (P : Derives A) → open_behind b k ≡ b → is_other k ≡ false → Leads limit b P → Leads limit b (grammar.◌>>◌ (grammar.the k) P)
-  behind_leads k P same use p = then_leads _ _ (the_leads k same use) (λ _. p)
+  behind_leads k P same used p = then_leads _ _ (the_leads k same used) (λ _. p)
 
   leaf_leads : {A : Type 0} (f : Piece → A) (k : Terminal) → open_behind b k ≡ b → is_other k ≡ false → Leads limit b (grammar.◌<$>◌ f (grammar.value k))
-  leaf_leads f k same use = map_leads f _ (value_leads k same use)
+  leaf_leads f k same used = map_leads f _ (value_leads k same used)
 
   word_leaf_leads : {A : Type 0} (f : Piece → A) (u : Word) → Leads limit b (grammar.◌<$>◌ f (productions.value word u))
   word_leaf_leads f u = map_leads f _ (word_value_leads u)
@@ -249,5 +249,5 @@ pub all_read : (text : List ℕ) (ts : Lexemes) → IsUtf8 text → AreReadOf te
 all_read text ts u (Ok tokens, says, are) h = (tokens, record { utf8 = u; list = says; pieces = are })
 all_read text ts u (Err place, says, are) h =
     let last : is_other (unread terminal_by).terminal ≡ false =
-    last_useful are.3 (unread terminal_by) (subst (AllByRecursion (λ (t : Lexeme). is_other t.terminal ≡ false)) are.8 h.useful) in
+    last_useful are.3 (unread terminal_by) (subst (AllByRecursion (λ (t : Lexeme). is_other t.terminal ≡ false)) are.9 h.useful) in
     absurd (cc)
