@@ -2,7 +2,6 @@
 ghost use Rattle.std.specs.Prelude.{◌≡◌, ◌≢◌, ℕ, List, Option, MatchResult};
 ghost use Rattle.std.specs.Option.{option_copied};
 ghost use Rattle.std.specs.Str.{IsUtf8};
-ghost use Rattle.rdf_tokens.specs.declared.token.Token.{Token as Held};
 ghost use Rattle.rdf_turtle.specs.Bases.{RelativeLacksABase};
 ghost use Rattle.rdf_turtle.specs.Document as spec;
 ghost use Rattle.rdf_turtle.specs.Document.{HasTokens, IsDocument, TellsFault};

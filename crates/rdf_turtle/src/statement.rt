@@ -48,10 +48,7 @@ fn predicate_object_list_behind<'a>(
 }
 
 #[tactic(auto, unfolding(crate::specs::Inside::Reading::about_blank))]
-fn about_blank<'a>(
-    parser: &mut Parser<'_, 'a>,
-    depth: usize,
-) -> Result<Statement<'a>, GrammarFault>
+fn about_blank<'a>(parser: &mut Parser<'_, 'a>, depth: usize) -> Result<Statement<'a>, GrammarFault>
     requires { depth ≤ 100 }
     ensures reads { Reads (spec.about_blank (spec.node depth)
         (spec.node (depth + 1)) parser.old) result parser.new }
@@ -78,10 +75,7 @@ fn about_subject<'a>(
 }
 
 #[tactic(auto, unfolding(crate::specs::Inside::Reading::triples))]
-fn triples<'a>(
-    parser: &mut Parser<'_, 'a>,
-    depth: usize,
-) -> Result<Statement<'a>, GrammarFault>
+fn triples<'a>(parser: &mut Parser<'_, 'a>, depth: usize) -> Result<Statement<'a>, GrammarFault>
     requires { depth ≤ 100 }
     ensures reads { Reads (spec.triples (spec.node depth)
         (spec.node (depth + 1)) parser.old) result parser.new }
