@@ -4,6 +4,7 @@ pub mod Decides
 pub mod Depths
 pub mod KeyEntries
 pub mod LexemeLemmas
+mod LexemeReadings
 pub mod LiteralLemmas
 pub mod Members
 pub mod Nests

@@ -1,10 +1,11 @@
 -- Tokens as a grammar sees them.
-use Rattle.std.specs.Prelude.{◌≡◌, ℕ, List, [], ◌∷◌}
+use Rattle.std.specs.Prelude.{◌≡◌, ℕ, List, [], ◌∷◌, ◌++◌, Result, Ok, Err}
 use Rattle.std.specs.Str.{encode_utf8_all}
 use Rattle.rdf_tokens.specs.declared.token.Kind.{Kind}
+use Rattle.rdf_tokens.specs.declared.token.Kind.TheVariants.{Symbol}
 use Rattle.rdf_tokens.specs.declared.token.Token.{Token}
 use Rattle.rdf_tokens.specs.Forms.{HasForm}
-use Rattle.rdf_tokens.specs.Tokens.{Stands, Runs}
+use Rattle.rdf_tokens.specs.Tokens.{HasGap, NoToken, At, Stands, Runs, Says}
 use Rattle.rdf_grammar.specs.declared.lexeme.Lexeme.{Lexeme}
 use Rattle.rdf_grammar.specs.Terminals.{Lexemes}
 
@@ -21,6 +22,22 @@ module _ {T : Type 0} (terminal : Kind → List ℕ → T) where
   AreLexemes text [] (lexeme ∷ lexemes) = ⊥
   AreLexemes text (token ∷ tokens) [] = ⊥
   AreLexemes text (token ∷ tokens) (lexeme ∷ lexemes) = IsLexeme text token lexeme × AreLexemes text tokens lexemes
+
+  -- a lexeme that no token is: a symbol of no characters
+  abbrev pub unread : Lexeme T
+  unread = record { terminal = terminal Symbol []; text = [] }
+
+  -- What is read of a text that says this: one lexeme a token. Where the text has no token list, one for each token before the
+  -- first place where none begins, and one that no token is.
+  abbrev pub AreReadFrom : List ℕ → Result (List Token) ℕ → Lexemes T → Type 0
+  AreReadFrom text (Ok tokens) lexemes = AreLexemes text tokens lexemes
+  AreReadFrom text (Err place) lexemes =
+      (tokens : List Token) × (rest start : List ℕ) × (front : Lexemes T) × Runs text text tokens rest × HasGap rest start
+      × NoToken start × At text place start × AreLexemes text tokens front × (lexemes ≡ front ++ unread ∷ [])
+
+  -- the lexemes that are read of a text
+  abbrev pub AreReadOf : List ℕ → Lexemes T → Type 0
+  AreReadOf text lexemes = (answer : Result (List Token) ℕ) × Says text answer × AreReadFrom text answer lexemes
 
 -- each lexeme's slice has the form of its token's kind
 abbrev pub HaveForms : {T : Type 0} → List Token → Lexemes T → Type 0

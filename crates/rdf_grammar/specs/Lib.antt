@@ -1,5 +1,6 @@
 pub mod Derivations
 pub mod Holds
+pub mod Inside
 pub mod Kept
 pub mod Keys
 pub mod Lexemes

@@ -16,6 +16,7 @@ mod numbering;
 mod parser;
 mod production;
 mod prologue;
+mod rest;
 mod terminal;
 mod tree;
 mod word;

@@ -1,6 +1,9 @@
 //! A cursor over lexemes.
 ghost use Rattle.std.specs.Prelude.{◌≡◌, ◌≤◌, ◌<◌, length, OnOk, OnErr, IfErr, if◌then◌else◌};
 ghost use Rattle.std.specs.Bool.{OnTrue};
+ghost use Rattle.std.specs.Str.{chars};
+ghost use Rattle.rdf_grammar.specs.Inside.LexemeReading.{most};
+ghost use Rattle.rdf_grammar.specs.Lexemes.{AreReadOf};
 ghost use Rattle.rdf_grammar.specs.Readings.{Reads, next, is_more, is_nil};
 ghost use Rattle.rdf_tokens.specs.Values as values;
 ghost use Rattle.rdf_grammar.specs.Terminals as spec;
@@ -9,6 +12,7 @@ ghost use Rattle.rdf_grammar.specs.declared.fault.GrammarFault.TheVariants.{Synt
 
 use crate::fault::GrammarFault;
 use crate::lexeme::Lexeme;
+use crate::rest::Rest;
 use crate::terminal::Terminal;
 use crate::word::{Word, Words, same_word};
 use rdf_terms::Cursor;
@@ -19,17 +23,42 @@ use std::marker::Model;
 /// Lexemes to read, which contracts see as the list of those left. A reader that fails leaves the
 /// lexeme that it can't take at the front.
 #[derive(Drop)]
-pub struct Parser<'l, 'a, T> {
+pub struct Parser<'l, 'a, T: Terminal> {
     alloc: Global,
-    lexemes: &'l [Lexeme<'a, T>],
+    next: Option<Lexeme<'a, T>>,
+    rest: Rest<'l, 'a, T>,
 }
 
-impl<'l, 'a, T> Model for Parser<'l, 'a, T> {
+impl<'l, 'a, T: Terminal> Model for Parser<'l, 'a, T> {
+    ghost use Rattle.std.specs.Prelude.{◌≤◌, length};
+    ghost use Rattle.rdf_grammar.specs.Inside.LexemeReading.{ahead, most};
     ghost use Rattle.rdf_grammar.specs.Terminals.{Lexemes};
 
     ghost Value = { Lexemes T };
 
-    ghost view = { λ p. p.lexemes.now };
+    ghost view = { λ p. ahead p.next p.rest };
+
+    ghost invariant = { λ p. length (ahead p.next p.rest) ≤ most };
+}
+
+// A cursor before the first of these lexemes.
+fn before<'l, 'a, T: Terminal>(alloc: Global, mut rest: Rest<'l, 'a, T>) -> Parser<'l, 'a, T>
+    requires { length rest ≤ most }
+    ensures { result ≡ rest.entry }
+{
+    let next = rest.take();
+    Parser { alloc, next, rest }
+}
+
+impl<'a, T: Terminal> Parser<'a, 'a, T> {
+    /// A cursor before the first lexeme of a text. Each is read when the one before it is passed, and
+    /// takes no memory.
+    pub fn over(alloc: Global, text: &'a str) -> Parser<'a, 'a, T>
+        ensures read { AreReadOf T.of (chars text.now) result }
+        ensures fits { length result ≤ length text.now }
+    {
+        before(alloc, Rest::read(text))
+    }
 }
 
 impl<'l, 'a, T: Terminal> Parser<'l, 'a, T> {
@@ -37,7 +66,7 @@ impl<'l, 'a, T: Terminal> Parser<'l, 'a, T> {
     pub fn new(alloc: Global, lexemes: &'l [Lexeme<'a, T>]) -> Parser<'l, 'a, T>
         ensures { result ≡ lexemes.now }
     {
-        Parser { alloc, lexemes }
+        before(alloc, Rest::listed(lexemes))
     }
 
     /// The allocator of what is read.
@@ -49,16 +78,19 @@ impl<'l, 'a, T: Terminal> Parser<'l, 'a, T> {
     pub fn left(&self) -> usize
         ensures { result ≡ length self.now }
     {
-        self.lexemes.len()
+        match &self.next {
+            None => 0,
+            Some(_) => 1 + self.rest.count(),
+        }
     }
 
     /// Whether one is left.
     pub fn is_more(&self) -> bool
         ensures { result ≡ is_more self.now }
     {
-        match self.lexemes {
-            [] => false,
-            [_, ..] => true,
+        match &self.next {
+            None => false,
+            Some(_) => true,
         }
     }
 
@@ -66,9 +98,9 @@ impl<'l, 'a, T: Terminal> Parser<'l, 'a, T> {
     pub fn peek(&self) -> Option<T>
         ensures { result ≡ spec.next_terminal self.now }
     {
-        match self.lexemes {
-            [] => None,
-            [lexeme, ..] => Some(lexeme.terminal),
+        match &self.next {
+            None => None,
+            Some(lexeme) => Some(lexeme.terminal),
         }
     }
 
@@ -76,9 +108,13 @@ impl<'l, 'a, T: Terminal> Parser<'l, 'a, T> {
     pub fn peek_second(&self) -> Option<T>
         ensures { result ≡ spec.next_terminal (next self.now) }
     {
-        match self.lexemes {
-            [] | [_] => None,
-            [_, lexeme, ..] => Some(lexeme.terminal),
+        if !self.is_more() {
+            return None;
+        }
+        let mut rest = self.rest.fork();
+        match rest.take() {
+            None => None,
+            Some(second) => Some(second.terminal),
         }
     }
 
@@ -86,9 +122,9 @@ impl<'l, 'a, T: Terminal> Parser<'l, 'a, T> {
     pub fn sees(&self, terminal: T) -> bool
         ensures { result ≡ spec.sees T.same terminal self.now }
     {
-        match self.lexemes {
-            [] => false,
-            [lexeme, ..] => lexeme.terminal.same(terminal),
+        match &self.next {
+            None => false,
+            Some(lexeme) => lexeme.terminal.same(terminal),
         }
     }
 
@@ -96,8 +132,18 @@ impl<'l, 'a, T: Terminal> Parser<'l, 'a, T> {
     pub fn pass(&mut self)
         ensures { self.new ≡ next self.old }
     {
-        if let [_, rest @ ..] = self.lexemes {
-            self.lexemes = rest;
+        if self.is_more() {
+            self.next = self.rest.take();
+        }
+    }
+
+    // The next lexeme's characters.
+    fn text(&self) -> Slice<'a>
+        ensures { result ≡ spec.next_text self.now }
+    {
+        match &self.next {
+            None => Slice::new("", 0),
+            Some(lexeme) => lexeme.text.fork(),
         }
     }
 
@@ -143,16 +189,12 @@ impl<'l, 'a, T: Terminal> Parser<'l, 'a, T> {
         ensures kept { OnErr result (self.new ≡ self.old) }
         ensures shorter { OnOk result (length self.new < length self.old) }
     {
-        match self.lexemes {
-            [] => Err(GrammarFault::Syntax),
-            [lexeme, rest @ ..] => {
-                if !lexeme.terminal.same(terminal) {
-                    return Err(GrammarFault::Syntax);
-                }
-                self.lexemes = rest;
-                Ok(lexeme.text.fork())
-            }
+        if !self.sees(terminal) {
+            return Err(GrammarFault::Syntax);
         }
+        let text = self.text();
+        self.pass();
+        Ok(text)
     }
 }
 
@@ -161,9 +203,9 @@ impl<'l, 'a, T: Words> Parser<'l, 'a, T> {
     pub fn peek_word(&self) -> Option<Word>
         ensures { result ≡ words.next_word T.word self.now }
     {
-        match self.lexemes {
-            [] => None,
-            [lexeme, ..] => lexeme.terminal.word(),
+        match &self.next {
+            None => None,
+            Some(lexeme) => lexeme.terminal.word(),
         }
     }
 
@@ -188,15 +230,12 @@ impl<'l, 'a, T: Words> Parser<'l, 'a, T> {
         ensures kept { OnErr result (self.new ≡ self.old) }
         ensures shorter { OnOk result (length self.new < length self.old) }
     {
-        let found = self.sees_word(word);
-        match self.lexemes {
-            [lexeme, rest @ ..] if found => {
-                let text = lexeme.text.fork();
-                self.lexemes = rest;
-                Ok(text)
-            }
-            _ => Err(GrammarFault::Syntax),
+        if !self.sees_word(word) {
+            return Err(GrammarFault::Syntax);
         }
+        let spelled = self.text();
+        self.pass();
+        Ok(spelled)
     }
 
     /// Takes the next lexeme, a prefixed name with no local part, for its prefix.
@@ -210,15 +249,12 @@ impl<'l, 'a, T: Words> Parser<'l, 'a, T> {
         ensures kept { OnErr result (self.new ≡ self.old) }
         ensures shorter { OnOk result (length self.new < length self.old) }
     {
-        let found = self.sees_word(Word::Pname);
-        match self.lexemes {
-            [lexeme, rest @ ..] if found && has_no_local_part(&lexeme.text) => {
-                let prefix = prefix_part(&lexeme.text);
-                self.lexemes = rest;
-                Ok(prefix)
-            }
-            _ => Err(GrammarFault::Syntax),
+        let pname = self.text();
+        if !self.sees_word(Word::Pname) || !has_no_local_part(&pname) {
+            return Err(GrammarFault::Syntax);
         }
+        self.pass();
+        Ok(prefix_part(&pname))
     }
 }
 

@@ -8,3 +8,6 @@ pub use Rattle.rdf_tokens.proofs.ValueIris.{iri_value_is, iri_value_allowed}
 pub use Rattle.rdf_tokens.proofs.ValueNames.{local_part_is, local_plain}
 pub use Rattle.rdf_tokens.proofs.ValuePnames.{pname_iri, has_scheme_after, local_allowed}
 pub use Rattle.rdf_tokens.proofs.ValueTexts.{text_value_is, text_value_utf8}
+pub use Rattle.rdf_tokens.proofs.ReaderLemmas.{no_longer_behind_gap, shorter_behind_token}
+pub use Rattle.rdf_tokens.proofs.TokenGaps.{end_skipped}
+pub use Rattle.rdf_tokens.proofs.TokenLists.{fault_read, next_read, same_place, token_nil}

@@ -1,5 +1,6 @@
 pub mod CallerLemmas
 mod LineLemmas
+mod ReaderLemmas
 mod SliceLemmas
 mod TokenClaims
 mod TokenDispatch

@@ -81,12 +81,12 @@ solid_start : (start : List ℕ) (t : Kind × List ℕ) → token_at start ≡ S
 solid_start [] t e = tt
 solid_start (c ∷ cs) t e = solid c cs t e
 
-token_nil : token_at [] ≡ None
+pub token_nil : token_at [] ≡ None
 unfolding token_at
 token_nil = refl
 
 -- what a gap and a token are in the reading
-next_read : (from start : List ℕ) (k : Kind) (after : List ℕ) → HasGap from start → IsToken start k after
+pub next_read : (from start : List ℕ) (k : Kind) (after : List ℕ) → HasGap from start → IsToken start k after
     → (skip_gap false from ≡ start) × (token_at start ≡ Some (k, after))
 next_read from start k after g is =
     let r = token_reads start k after is in
@@ -145,7 +145,7 @@ none_there : (c : ℕ) (cs : List ℕ) (read : Option (Kind × List ℕ)) → No
 none_there c cs None n e = refl
 none_there c cs (Some t) n e = let s = token_sound (c ∷ cs) t e in absurd (n.2 t.0 s.0 t.1 s.2 s.1)
 
-fault_read : (rest start : List ℕ) → HasGap rest start → NoToken start → (skip_gap false rest ≡ start) × (token_at start ≡ None)
+pub fault_read : (rest start : List ℕ) → HasGap rest start → NoToken start → (skip_gap false rest ≡ start) × (token_at start ≡ None)
 fault_read rest [] g n = absurd n
 fault_read rest (c ∷ cs) g n = (gap_skipped rest (c ∷ cs) g (n.0, n.1), none_there c cs (token_at (c ∷ cs)) n refl)
 
@@ -211,7 +211,7 @@ one_token_list text (Err p) (Err q) h k =
 
 -- ---- the loop goes on with less
 
-gap_less : (blanks : List (List ℕ)) (from start : List ℕ) → Gap blanks from start → length start ≤ length from
+pub gap_less : (blanks : List (List ℕ)) (from start : List ℕ) → Gap blanks from start → length start ≤ length from
 gap_less [] from start g = omega (arith, ap length g)
 gap_less (blank ∷ blanks) from start g = omega (arith, gap_less blanks g.0 start g.3, ap length g.1, length-append blank g.0)
 

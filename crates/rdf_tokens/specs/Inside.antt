@@ -1,3 +1,4 @@
 -- What only private functions speak of.
+pub mod Places
 pub mod TokenReading
 pub mod TokenValues

@@ -4,6 +4,8 @@ pub mod Forms
 pub mod Inside
 pub mod LineLaws
 pub mod Lines
+pub mod NextTokens
+pub mod Sizes
 pub mod TokenTexts
 pub mod Tokens
 pub mod ValueLaws

@@ -10,6 +10,7 @@ mod line;
 mod name;
 mod number;
 mod quoted;
+mod reader;
 mod slice;
 mod symbol;
 mod token;
@@ -18,6 +19,7 @@ mod value;
 
 pub use fault::TokenFault;
 pub use line::{line_at, line_ends_are_counted};
+pub use reader::{Next, TokenReader};
 pub use slice::{Slice, slice_of};
 pub use token::{Kind, Token};
 pub use tokenizer::{one_token_list, some_token_list, tokens, tokens_have_forms};

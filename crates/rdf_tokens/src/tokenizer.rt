@@ -61,7 +61,7 @@ fn pname_or_word<'a>(cursor: &Cursor<'a>, nameless: &mut usize) -> Option<(Kind,
 
 /// The longest token that begins here, and the place behind it. `nameless` is [`pname`]'s.
 #[tactic(auto, unfolding(crate::specs::Inside::TokenReading::token_at))]
-fn token<'a>(cursor: &Cursor<'a>, nameless: &mut usize) -> Option<(Kind, Cursor<'a>)>
+pub(crate) fn token<'a>(cursor: &Cursor<'a>, nameless: &mut usize) -> Option<(Kind, Cursor<'a>)>
     requires { NoPnameBefore cursor.now nameless.old }
     ensures token { result ≡ token_at cursor.now }
     ensures nameless { NoPnameBefore cursor.now nameless.new }
@@ -90,7 +90,7 @@ fn token<'a>(cursor: &Cursor<'a>, nameless: &mut usize) -> Option<(Kind, Cursor<
 }
 
 /// Whether nothing follows.
-fn is_end(cursor: &Cursor<'_>) -> bool
+pub(crate) fn is_end(cursor: &Cursor<'_>) -> bool
     ensures { MatchBool result (cursor.now ≡ []) ((c : ℕ) × (others : List ℕ)
         × (cursor.now ≡ c ∷ others)) }
 {

@@ -1,5 +1,5 @@
 -- The pieces of a document's tree have the forms of their terminals.
-use Rattle.std.proofs.Common.{◌≡◌, ◌⊎◌, ◌∙◌, ap, refl, sym, subst, inl, inr, ℕ, Bool, true, false, cond, List, [], ◌∷◌, ◌++◌, true≢false}
+use Rattle.std.proofs.Common.{◌≡◌, ◌⊎◌, ◌∙◌, ap, refl, sym, subst, inl, inr, ℕ, Bool, true, false, cond, List, [], ◌∷◌, ◌++◌, Result, Ok, Err, true≢false}
 use Rattle.std.proofs.lemmas.Bool.{and_parts, and_from}
 use Rattle.std.proofs.lemmas.Str.{scalars-chars}
 use Rattle.std.specs.Prelude.{codes}
@@ -19,7 +19,7 @@ use Rattle.rdf_turtle.specs.Document.{HasTokens}
 use Rattle.rdf_turtle.specs.Inside.Formed.{Formed}
 use Rattle.rdf_tokens.specs.Forms.{HasForm, IsLocal}
 use Rattle.rdf_turtle.specs.Terminals.{without_case, at_word_terminal, word_terminal, symbol_terminal, terminal_of, terminal_by}
-use Rattle.rdf_grammar.specs.Lexemes.{HaveForms}
+use Rattle.rdf_grammar.specs.Lexemes.{AreReadOf, HaveForms, unread}
 use Rattle.rdf_tokens.specs.Values.{iri_value, local_part, tag_value, text_value}
 use Rattle.rdf_grammar.proofs.LexemeLemmas.{lexemes_have_forms}
 use Rattle.rdf_tokens.proofs.CallerLemmas.{scalars_parts, tag_form, iri_value_is, local_part_is, text_value_utf8}
@@ -31,7 +31,7 @@ lexeme_formed text token t all is form =
     let stands = is.0 in
     let whole : scalars (stands.0 ++ (t.text ++ stands.1)) ≡ true = ap scalars (sym stands.2) ∙ all in
     let back = (scalars_parts stands.0 (t.text ++ stands.1) whole).1 in
-    record { scalar = (scalars_parts t.text stands.1 back).0; kind = token.kind; form = form; is = is.1 }
+    record { scalar = (scalars_parts t.text stands.1 back).0; told = λ _. record { kind = token.kind; form = form; is = is.1 } }
 
 all_formed : (text : List ℕ) (tokens : List Token) (ts : List Lexeme) → scalars text ≡ true → AreLexemes text tokens ts → HaveForms tokens ts → AllByRecursion Formed ts
 all_formed text [] [] all are have = tt
@@ -42,6 +42,21 @@ all_formed text (token ∷ tokens) (t ∷ ts) all are have = (lexeme_formed text
 pub lexemes_formed : (text : List ℕ) (tokens : List Token) (ts : List Lexeme) → HasTokens text tokens ts → AllByRecursion Formed ts
 lexemes_formed text tokens ts h =
     all_formed (chars text) tokens ts (scalars-chars text h.utf8) h.pieces (lexemes_have_forms terminal_by (chars text) (chars text) h.list.0 tokens ts h.list.1 h.pieces)
+
+all_push : (ts : List Lexeme) (t : Lexeme) → AllByRecursion Formed ts → Formed t → AllByRecursion Formed (ts ++ t ∷ [])
+all_push [] t all one = (one, tt)
+all_push (u ∷ us) t all one = (all.0, all_push us t all.1 one)
+
+unread_formed : Formed (unread terminal_by)
+unread_formed = record { scalar = refl; told = λ used. absurd (used refl) }
+
+-- the lexemes that are read of a text, also of one that has no token list
+pub read_formed : (bytes : List ℕ) (ts : List Lexeme) → IsUtf8 bytes → AreReadOf terminal_by (chars bytes) ts → AllByRecursion Formed ts
+read_formed bytes ts u (Ok tokens, says, are) =
+    all_formed (chars bytes) tokens ts (scalars-chars bytes u) are (lexemes_have_forms terminal_by (chars bytes) (chars bytes) says.0 tokens ts says.1 are)
+read_formed bytes ts u (Err place, says, are) =
+    let front = all_formed (chars bytes) are.0 are.3 (scalars-chars bytes u) are.8 (lexemes_have_forms terminal_by (chars bytes) (chars bytes) are.1 are.0 are.3 are.4 are.8) in
+    subst (AllByRecursion Formed) (sym are.9) (all_push are.3 (unread terminal_by) front unread_formed)
 
 -- ---- the kind of a terminal
 
@@ -166,19 +181,23 @@ iri_text_utf8 slice text all h =
 
 pub iri_utf8 : (t : Lexeme) → Formed t → t.terminal ≡ terminal.Iri → IsUtf8 (iri_value t.text)
 iri_utf8 t f e =
-    let form = iri_kind f.kind t.text (ap is_iri_terminal (sym f.is ∙ e)) f.form in
+    let told = f.told (λ other. true≢false (ap is_iri_terminal (sym e ∙ other))) in
+    let form = iri_kind told.kind t.text (ap is_iri_terminal (sym told.is ∙ e)) told.form in
     subst IsUtf8 (iri_value_is t.text form.0 form.1) (iri_text_utf8 t.text form.0 f.scalar form.1)
 
 pub local_formed : (t : Lexeme) → Formed t → t.terminal ≡ terminal.Pname → IsLocal (local_part t.text)
 local_formed t f e =
-    let form = pname_kind f.kind t.text (ap is_pname_terminal (sym f.is ∙ e)) f.form in
+    let told = f.told (λ other. true≢false (ap is_pname_terminal (sym e ∙ other))) in
+    let form = pname_kind told.kind t.text (ap is_pname_terminal (sym told.is ∙ e)) told.form in
     subst IsLocal (sym (ap local_part form.2 ∙ local_part_is form.0 form.1 form.3)) form.4
 
 pub tag_formed : (t : Lexeme) → Formed t → is_tag_terminal t.terminal ≡ true → is_tag (tag_value t.text) ≡ true
 tag_formed t f e =
-    tag_form t.text (tag_kind f.kind t.text (ap is_tag_terminal (sym f.is) ∙ e) f.form)
+    let told = f.told (λ other. true≢false (sym e ∙ ap is_tag_terminal other)) in
+    tag_form t.text (tag_kind told.kind t.text (ap is_tag_terminal (sym told.is) ∙ e) told.form)
 
 pub text_utf8 : (t : Lexeme) → Formed t → t.terminal ≡ terminal.Text → IsUtf8 (text_value t.text)
 text_utf8 t f e =
-    let form = text_kind f.kind t.text (ap is_text_terminal (sym f.is ∙ e)) f.form in
+    let told = f.told (λ other. true≢false (ap is_text_terminal (sym e ∙ other))) in
+    let form = text_kind told.kind t.text (ap is_text_terminal (sym told.is ∙ e)) told.form in
     text_value_utf8 t.text form.0 f.scalar form.1

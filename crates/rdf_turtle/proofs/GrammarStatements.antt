@@ -306,5 +306,5 @@ unfolding read.document
 document_decides depth = statements_decide (read.node depth) (read.node (suc depth)) (g.Objects_at depth) (g.Objects_at (suc depth)) (node_rule depth) (node_rule (suc depth))
 
 -- A statement that is read is one of the grammar.
-pub statement_derived : (ts us : Lexemes) (x : Statement) → read.statement (read.node 100) (read.node 101) ts ≡ Some (x, us) → g.AStatement (g.Objects_at 100) (g.Objects_at 101) ts x us
-statement_derived ts us x h = (statement_decides (read.node 100) (read.node 101) (g.Objects_at 100) (g.Objects_at 101) (node_rule 100) (node_rule 101)).sound ts x us h
+pub statement_derived : (depth : ℕ) (ts us : Lexemes) (x : Statement) → read.statement (read.node depth) (read.node (suc depth)) ts ≡ Some (x, us) → g.AStatement (g.Objects_at depth) (g.Objects_at (suc depth)) ts x us
+statement_derived depth ts us x h = (statement_decides (read.node depth) (read.node (suc depth)) (g.Objects_at depth) (g.Objects_at (suc depth)) (node_rule depth) (node_rule (suc depth))).sound ts x us h

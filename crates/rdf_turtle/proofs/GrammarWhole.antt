@@ -8,7 +8,7 @@ use Rattle.rdf_turtle.specs.Lexemes.{Lexemes}
 use Rattle.rdf_grammar.specs.Readings.{Fails}
 use Rattle.rdf_turtle.specs.Nesting.{open_after, IsTooDeep, IsTooDeepAt}
 use Rattle.rdf_turtle.specs.Inside.Reading.{document}
-use Rattle.rdf_turtle.specs.Grammar.{IsDocument}
+use Rattle.rdf_turtle.specs.Grammar.{Document, IsDocument}
 use Rattle.rdf_turtle.specs.Inside.Stops.{Explains}
 use Rattle.rdf_turtle.specs.GrammarFaults.{kind_of}
 use Rattle.rdf_turtle.proofs.GrammarStatements.{document_decides}
@@ -43,6 +43,9 @@ stop_explained ts (NoMemory refusal) place shallow fails = tt
 
 pub found_alone : (ts : Lexemes) (ss : List Statement) (us : Lexemes) → document 100 ts ≡ Some (ss, us) → us ≡ [] → IsDocument ts ss
 found_alone ts ss us h e = document_found ts ss (h ∙ ap (λ l. Some (ss, l)) e)
+
+pub found_within : (depth : ℕ) (ts : Lexemes) (ss : List Statement) (us : Lexemes) → document depth ts ≡ Some (ss, us) → us ≡ [] → Document depth ts ss []
+found_within depth ts ss us h e = (document_decides depth).sound ts ss [] (h ∙ ap (λ l. Some (ss, l)) e)
 
 pub found_only : (ts : Lexemes) (ss : List Statement) (us : Lexemes) → document 100 ts ≡ Some (ss, us) → us ≡ [] → (d : List Statement) → IsDocument ts d → ss ≡ d
 found_only ts ss us h e d is = document_unique ts ss d (found_alone ts ss us h e) is

@@ -10,6 +10,7 @@ pub mod GrammarLists
 pub mod GrammarNests
 pub mod GrammarNodes
 pub mod GrammarProductions
+pub mod GrammarShallow
 pub mod GrammarStatements
 pub mod GrammarWhole
 pub mod GrammarWords

@@ -1,8 +1,7 @@
 //! Turtle documents, from bytes to quads.
-ghost use Rattle.std.specs.Prelude.{◌≡◌, ◌≢◌, ℕ, List, Option, IfSome, MatchResult};
+ghost use Rattle.std.specs.Prelude.{◌≡◌, ◌≢◌, ℕ, List, Option, MatchResult};
 ghost use Rattle.std.specs.Option.{option_copied};
 ghost use Rattle.std.specs.Str.{IsUtf8};
-ghost use Rattle.rdf_tokens.specs.declared.token.Token.{Token as Held};
 ghost use Rattle.rdf_turtle.specs.Bases.{RelativeLacksABase};
 ghost use Rattle.rdf_turtle.specs.Document as spec;
 ghost use Rattle.rdf_turtle.specs.Document.{HasTokens, IsDocument, TellsFault};
@@ -19,7 +18,7 @@ use crate::faulty_name::{first_lacking, first_unbound};
 use crate::lexeme::Lexeme;
 use crate::meaning::triples_of;
 use crate::read::{Stop, parse_document};
-use crate::straight::straight_triples;
+use crate::straight::straight_quads;
 use crate::token_list::tokens;
 use crate::tree::Statement;
 use rdf_grammar::{PrologueFault, lexemes};
@@ -108,35 +107,6 @@ fn read_tree<'a>(
             Err(fault_at(text, kind, start))
         }
     }
-}
-
-// The lexemes of a text that is UTF-8, where it has a token list and memory isn't wanting. Its
-// tokens are let go.
-fn straight_lexemes<'a>(alloc: Global, text: &'a str) -> Option<Items<Lexeme<'a>>>
-    requires { IsUtf8 text.now }
-    ensures { IfSome result (λ lexemes. (tokens : List Held) × HasTokens text.now tokens lexemes) }
-{
-    let Ok(tokens) = tokens(alloc, text) else {
-        return None;
-    };
-    let Ok(lexemes) = lexemes(alloc, text, tokens.as_slice()) else {
-        return None;
-    };
-    Some(lexemes)
-}
-
-// The quads of a text that is UTF-8, where it has no fault and memory isn't wanting.
-fn straight_quads(alloc: Global, text: &str, base: Option<&Iri>) -> Option<Vec<Quad>>
-    requires { IsUtf8 text.now }
-    ensures { IfSome result (λ quads. IsDocument (option_copied base.entry) text.now quads.items) }
-{
-    let Some(lexemes) = straight_lexemes(alloc, text) else {
-        return None;
-    };
-    let Some(quads) = straight_triples(alloc, base, lexemes.as_slice()) else {
-        return None;
-    };
-    Some(quads)
 }
 
 // The quads of a text that is UTF-8, or its first fault. Its tokens are held to the end, for the line.

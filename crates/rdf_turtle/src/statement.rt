@@ -1,6 +1,6 @@
 //! Statements and documents (Turtle 1.1, section 6.5).
 
-ghost use Rattle.std.specs.Prelude.{◌≡◌, ◌≤◌, ◌<◌, [], length, OnOk, OnErr, IfErr};
+ghost use Rattle.std.specs.Prelude.{◌≡◌, ◌+◌, ◌≤◌, ◌<◌, [], length, OnOk, OnErr, IfErr};
 ghost use Rattle.rdf_grammar.specs.Readings.{Reads};
 ghost use Rattle.rdf_grammar.specs.declared.fault.GrammarFault.TheVariants.{Syntax};
 ghost use Rattle.rdf_turtle.specs.Inside.Reading as spec;
@@ -35,48 +35,55 @@ fn base<'a>(parser: &mut Parser<'_, 'a>) -> Result<Statement<'a>, GrammarFault>
 fn predicate_object_list_behind<'a>(
     parser: &mut Parser<'_, 'a>,
     inside: &[Property<'a>],
+    depth: usize,
 ) -> Result<Items<Property<'a>>, GrammarFault>
     ensures reads { Reads (spec.predicate_object_list_behind
-        (spec.node 101) inside.now parser.old) result parser.new }
+        (spec.node depth) inside.now parser.old) result parser.new }
     ensures shorter { OnOk result (length parser.new ≤ length parser.old) }
 {
     match inside {
-        [] => predicate_object_list(parser, MAX_OPEN + 1),
-        [_, ..] => optional_predicate_object_list(parser, MAX_OPEN + 1),
+        [] => predicate_object_list(parser, depth),
+        [_, ..] => optional_predicate_object_list(parser, depth),
     }
 }
 
 #[tactic(auto, unfolding(crate::specs::Inside::Reading::about_blank))]
-fn about_blank<'a>(parser: &mut Parser<'_, 'a>) -> Result<Statement<'a>, GrammarFault>
-    ensures reads { Reads (spec.about_blank (spec.node 100)
-        (spec.node 101) parser.old) result parser.new }
+fn about_blank<'a>(parser: &mut Parser<'_, 'a>, depth: usize) -> Result<Statement<'a>, GrammarFault>
+    requires { depth ≤ 100 }
+    ensures reads { Reads (spec.about_blank (spec.node depth)
+        (spec.node (depth + 1)) parser.old) result parser.new }
     ensures shorter { OnOk result (length parser.new < length parser.old) }
 {
-    let inside = bracketed(parser, MAX_OPEN)?;
-    let properties = predicate_object_list_behind(parser, inside.as_slice())?;
+    let inside = bracketed(parser, depth)?;
+    let properties = predicate_object_list_behind(parser, inside.as_slice(), depth + 1)?;
     Ok(Statement::Triples(Node::Blank(inside), properties))
 }
 
 #[tactic(auto, unfolding(crate::specs::Inside::Reading::about_subject))]
-fn about_subject<'a>(parser: &mut Parser<'_, 'a>) -> Result<Statement<'a>, GrammarFault>
-    ensures reads { Reads (spec.about_subject (spec.node 100)
-        (spec.node 101) parser.old) result parser.new }
+fn about_subject<'a>(
+    parser: &mut Parser<'_, 'a>,
+    depth: usize,
+) -> Result<Statement<'a>, GrammarFault>
+    requires { depth ≤ 100 }
+    ensures reads { Reads (spec.about_subject (spec.node depth)
+        (spec.node (depth + 1)) parser.old) result parser.new }
     ensures shorter { OnOk result (length parser.new < length parser.old) }
 {
-    let subject = subject(parser, MAX_OPEN)?;
-    let properties = predicate_object_list(parser, MAX_OPEN + 1)?;
+    let subject = subject(parser, depth)?;
+    let properties = predicate_object_list(parser, depth + 1)?;
     Ok(Statement::Triples(subject, properties))
 }
 
 #[tactic(auto, unfolding(crate::specs::Inside::Reading::triples))]
-fn triples<'a>(parser: &mut Parser<'_, 'a>) -> Result<Statement<'a>, GrammarFault>
-    ensures reads { Reads (spec.triples (spec.node 100)
-        (spec.node 101) parser.old) result parser.new }
+fn triples<'a>(parser: &mut Parser<'_, 'a>, depth: usize) -> Result<Statement<'a>, GrammarFault>
+    requires { depth ≤ 100 }
+    ensures reads { Reads (spec.triples (spec.node depth)
+        (spec.node (depth + 1)) parser.old) result parser.new }
     ensures shorter { OnOk result (length parser.new < length parser.old) }
 {
     match parser.peek() {
-        Some(Terminal::OpenBracket) => about_blank(parser),
-        _ => about_subject(parser),
+        Some(Terminal::OpenBracket) => about_blank(parser, depth),
+        _ => about_subject(parser, depth),
     }
 }
 
@@ -92,11 +99,15 @@ fn ended<'a>(
     Ok(statement)
 }
 
-/// The next statement.
+/// The next statement, with so many brackets inside one another at most, or one more around nothing.
 #[tactic(auto, unfolding(crate::specs::Inside::Reading::statement, rdf_grammar::specs::Readings::any))]
-pub fn statement<'a>(parser: &mut Parser<'_, 'a>) -> Result<Statement<'a>, GrammarFault>
-    ensures reads { Reads (spec.statement (spec.node 100)
-        (spec.node 101) parser.old) result parser.new }
+pub fn statement<'a>(
+    parser: &mut Parser<'_, 'a>,
+    depth: usize,
+) -> Result<Statement<'a>, GrammarFault>
+    requires { depth ≤ 100 }
+    ensures reads { Reads (spec.statement (spec.node depth)
+        (spec.node (depth + 1)) parser.old) result parser.new }
     ensures shorter { OnOk result (length parser.new < length parser.old) }
 {
     match parser.peek() {
@@ -119,7 +130,7 @@ pub fn statement<'a>(parser: &mut Parser<'_, 'a>) -> Result<Statement<'a>, Gramm
             base(parser)
         }
         _ => {
-            let statement = triples(parser)?;
+            let statement = triples(parser, depth)?;
             ended(parser, statement)
         }
     }
@@ -133,7 +144,7 @@ pub fn document<'a>(parser: &mut Parser<'_, 'a>) -> Result<Items<Statement<'a>>,
 {
     let mut all = Items::new(parser.alloc());
     while parser.is_more() {
-        all.push(statement(parser)?)?;
+        all.push(statement(parser, MAX_OPEN)?)?;
     }
     Ok(all)
 }

@@ -1,0 +1,179 @@
+-- Lexemes that are read one at a time.
+use Rattle.std.proofs.Common.{◌≡◌, ◌<◌, ◌≤◌, ◌+◌, ℕ, zero, suc, false, List, [], ◌∷◌, ◌++◌, length, Option, Some, None, Result, Ok, Err, refl, sym, ap, subst, ◌∙◌, arith, length-append, append_assoc}
+use Rattle.std.specs.Prelude.{MatchOption}
+use Rattle.std.proofs.lemmas.List.{append-nil}
+use Rattle.std.proofs.lemmas.Str.{encodes-chars, length-le-encodes, chars-nil}
+use Rattle.std.specs.Str.{chars, encode_utf8_all, IsUtf8}
+use Rattle.rdf_terms.proofs.OptionLemmas.{none_is}
+use Rattle.rdf_terms.proofs.PlaceLemmas.{between_is}
+use Rattle.rdf_terms.specs.Reading.{between, byte_count}
+use Rattle.rdf_tokens.specs.declared.token.Kind.{Kind}
+use Rattle.rdf_tokens.specs.declared.token.Kind.TheVariants.{Symbol}
+use Rattle.rdf_tokens.specs.declared.token.Token.{Token}
+use Rattle.rdf_tokens.specs.Tokens.{IsToken, HasGap, Ends, NoToken, At, Runs, Says}
+use Rattle.rdf_tokens.specs.Inside.TokenReading.{skip_gap, token_at}
+use Rattle.rdf_tokens.proofs.CallerLemmas.{end_skipped, fault_read, next_read, no_longer_behind_gap, same_place, shorter_behind_token, some_token_list, token_nil}
+use Rattle.rdf_grammar.specs.declared.lexeme.Lexeme.{Lexeme}
+use Rattle.rdf_grammar.specs.Terminals.{Lexemes, next_text}
+use Rattle.rdf_grammar.specs.Lexemes.{IsLexeme, AreLexemes, AreReadFrom, AreReadOf, unread}
+use Rattle.rdf_grammar.specs.Inside.LexemeReading.{ahead, lexeme_of, from_token, from_start, lexemes_within, lexemes_of}
+
+gap_nil : skip_gap false [] ≡ []
+unfolding skip_gap
+gap_nil = refl
+
+module _ {T : Type 0} (terminal : Kind → List ℕ → T) where
+  -- ---- the turns
+
+  from_same : (f g : List ℕ → Lexemes T) (start : List ℕ) → ((t : Kind × List ℕ) → token_at start ≡ Some t → f t.1 ≡ g t.1) → from_start terminal f start ≡ from_start terminal g start
+  from_same f g [] h = refl
+  from_same f g (c ∷ cs) h = by_token (token_at (c ∷ cs)) refl
+    where
+      by_token : (o : Option (Kind × List ℕ)) → token_at (c ∷ cs) ≡ o → from_token terminal f (c ∷ cs) o ≡ from_token terminal g (c ∷ cs) o
+      by_token None e = refl
+      by_token (Some t) e = ap (λ (ls : Lexemes T). lexeme_of terminal t.0 (between (c ∷ cs) t.1) ∷ ls) (h t e)
+
+  nothing_within : (n : ℕ) (cs : List ℕ) → length cs ≤ 0 → lexemes_within terminal n cs ≡ []
+  unfolding lexemes_within
+  nothing_within zero cs h = refl
+  nothing_within (suc n) [] h = ap (from_start terminal (lexemes_within terminal n)) gap_nil
+  nothing_within (suc n) (c ∷ cs) h = absurd (omega (arith, h))
+
+  enough : (n m : ℕ) (cs : List ℕ) → length cs ≤ n → length cs ≤ m → lexemes_within terminal n cs ≡ lexemes_within terminal m cs
+  unfolding lexemes_within
+  enough zero m cs h k = sym (nothing_within m cs h)
+  enough (suc n) zero cs h k = nothing_within (suc n) cs k
+  enough (suc n) (suc m) cs h k =
+      from_same (lexemes_within terminal n) (lexemes_within terminal m) (skip_gap false cs)
+      (λ t read. let less = shorter_behind_token cs t read in enough n m t.1 (omega (arith, less, h)) (omega (arith, less, k)))
+
+  lexemes_next : (cs : List ℕ) → lexemes_of terminal cs ≡ from_start terminal (lexemes_of terminal) (skip_gap false cs)
+  unfolding lexemes_of lexemes_within
+  lexemes_next cs =
+      enough (length cs) (suc (length cs)) cs (omega arith) (omega arith)
+      ∙ from_same (lexemes_within terminal (length cs)) (lexemes_of terminal) (skip_gap false cs)
+      (λ t read. let less = shorter_behind_token cs t read in enough (length cs) (length t.1) t.1 (omega (arith, less)) (omega arith))
+
+  -- ---- what comes next
+
+  pub lexemes_nil : lexemes_of terminal [] ≡ []
+  unfolding lexemes_of lexemes_within
+  lexemes_nil = refl
+
+  pub lexemes_end : (cs : List ℕ) → Ends cs → lexemes_of terminal cs ≡ []
+  lexemes_end cs h = lexemes_next cs ∙ ap (from_start terminal (lexemes_of terminal)) (end_skipped cs h)
+
+  from_a_token : (start : List ℕ) (k : Kind) (after : List ℕ) → token_at start ≡ Some (k, after)
+      → from_start terminal (lexemes_of terminal) start ≡ lexeme_of terminal k (between start after) ∷ lexemes_of terminal after
+  from_a_token [] k after e = none_is (k, after) (sym token_nil ∙ e)
+  from_a_token (c ∷ cs) k after e = ap (from_token terminal (lexemes_of terminal) (c ∷ cs)) e
+
+  pub lexemes_token : (cs start : List ℕ) (k : Kind) (after : List ℕ) → HasGap cs start → IsToken start k after
+      → lexemes_of terminal cs ≡ lexeme_of terminal k (between start after) ∷ lexemes_of terminal after
+  lexemes_token cs start k after gap is =
+      let read = next_read cs start k after gap is in
+      lexemes_next cs ∙ ap (from_start terminal (lexemes_of terminal)) read.0 ∙ from_a_token start k after read.1
+
+  from_no_token : (start : List ℕ) → NoToken start → token_at start ≡ None → from_start terminal (lexemes_of terminal) start ≡ unread terminal ∷ []
+  from_no_token [] n e = absurd n
+  from_no_token (c ∷ cs) n e = ap (from_token terminal (lexemes_of terminal) (c ∷ cs)) e
+
+  pub lexemes_none : (cs start : List ℕ) → HasGap cs start → NoToken start → lexemes_of terminal cs ≡ unread terminal ∷ []
+  lexemes_none cs start gap none =
+      let read = fault_read cs start gap none in
+      lexemes_next cs ∙ ap (from_start terminal (lexemes_of terminal)) read.0 ∙ from_no_token start none read.1
+
+  -- ---- what is made of it
+
+  pub made_of_token : (cs left slice bytes : List ℕ) (k : Kind) (t : T) (found : Lexeme T) → ((start : List ℕ) × HasGap cs start × IsToken start k left × (start ≡ slice ++ left))
+      → slice ≡ chars bytes → IsUtf8 bytes → t ≡ terminal k bytes → found ≡ record { terminal = t; text = slice } → lexemes_of terminal cs ≡ found ∷ lexemes_of terminal left
+  made_of_token cs left slice bytes k t found next text utf8 kind is =
+      let same : between next.0 left ≡ slice = between_is next.0 left slice next.3 in
+      let bytes_are : bytes ≡ encode_utf8_all slice = sym (encodes-chars bytes utf8) ∙ ap encode_utf8_all (sym text) in
+      let made : lexeme_of terminal k slice ≡ found = ap (λ (x : T). record { terminal = x; text = slice }) (ap (terminal k) (sym bytes_are) ∙ sym kind) ∙ sym is in
+      lexemes_token cs next.0 k left next.1 next.2 ∙ ap (λ (l : Lexeme T). l ∷ lexemes_of terminal left) (ap (lexeme_of terminal k) same ∙ made)
+
+  pub unread_is : (t : T) (piece : List ℕ) → t ≡ terminal Symbol [] → piece ≡ chars [] → record { terminal = t; text = piece } ≡ unread terminal
+  unread_is t piece kind text = ap (λ (x : T). record { terminal = x; text = piece }) kind ∙ ap (λ (x : List ℕ). record { terminal = terminal Symbol []; text = x }) (text ∙ chars-nil)
+
+  pub made_of_none : (cs left : List ℕ) (found : Lexeme T) → ((start : List ℕ) × HasGap cs start × NoToken start × (left ≡ [])) → found ≡ unread terminal
+      → lexemes_of terminal cs ≡ found ∷ lexemes_of terminal left
+  made_of_none cs left found next is =
+      lexemes_none cs next.0 next.1 next.2 ∙ ap (λ (l : Lexeme T). l ∷ []) (sym is) ∙ ap (λ (ls : Lexemes T). found ∷ ls) (sym (ap (lexemes_of terminal) next.3 ∙ lexemes_nil))
+
+  pub made_of_end : (cs left : List ℕ) → Ends cs × (left ≡ []) → (lexemes_of terminal cs ≡ []) × (lexemes_of terminal left ≡ [])
+  made_of_end cs left h = (lexemes_end cs h.0, ap (lexemes_of terminal) h.1 ∙ lexemes_nil)
+
+  -- ---- how many there are
+
+  few_behind : (later : List ℕ → Lexemes T) (cs start : List ℕ) (o : Option (Kind × List ℕ)) → ((us : List ℕ) → length (later us) ≤ length us) → skip_gap false cs ≡ start → token_at start ≡ o
+      → 1 ≤ length start → length (from_token terminal later start o) ≤ length cs
+  few_behind later cs start None few e read some = omega (arith, some, no_longer_behind_gap cs, ap length e)
+  few_behind later cs start (Some t) few e read some = omega (arith, few t.1, shorter_behind_token cs t (ap token_at e ∙ read))
+
+  few_from : (later : List ℕ → Lexemes T) (cs start : List ℕ) → ((us : List ℕ) → length (later us) ≤ length us) → skip_gap false cs ≡ start → length (from_start terminal later start) ≤ length cs
+  few_from later cs [] few e = omega arith
+  few_from later cs (c ∷ others) few e = few_behind later cs (c ∷ others) (token_at (c ∷ others)) few e refl (omega arith)
+
+  few_within : (n : ℕ) (cs : List ℕ) → length (lexemes_within terminal n cs) ≤ length cs
+  unfolding lexemes_within
+  few_within zero cs = omega arith
+  few_within (suc n) cs = few_from (lexemes_within terminal n) cs (skip_gap false cs) (few_within n) refl
+
+  few : (cs : List ℕ) → length (lexemes_of terminal cs) ≤ length cs
+  unfolding lexemes_of
+  few cs = few_within (length cs) cs
+
+  pub few_bytes : (cs : List ℕ) → length (lexemes_of terminal cs) ≤ byte_count cs
+  few_bytes cs = omega (arith, few cs, length-le-encodes cs)
+
+  -- ---- they are the text's
+
+  token_lexeme : (text : List ℕ) (token : Token) (start after : List ℕ) → IsToken start token.kind after → At text token.start start → At text token.stop after
+      → IsLexeme terminal text token (lexeme_of terminal token.kind (between start after))
+  token_lexeme text token start after is p q =
+      let same : between start after ≡ is.slice = between_is start after is.slice is.parts in
+      let whole : text ≡ p.0 ++ (is.slice ++ after) = p.1 ∙ ap (λ (t : List ℕ). p.0 ++ t) is.parts in
+      let stop : At text (byte_count (p.0 ++ is.slice)) after = (p.0 ++ is.slice, whole ∙ sym (append_assoc p.0 is.slice after), refl) in
+      subst (λ (s : List ℕ). IsLexeme terminal text token (lexeme_of terminal token.kind s)) (sym same)
+      ((p.0, after, whole, p.2, same_place text token.stop (byte_count (p.0 ++ is.slice)) after q stop), refl)
+
+  abbrev Front : List ℕ → List ℕ → List Token → List ℕ → Type 0
+  Front text from tokens rest = (front : Lexemes T) × AreLexemes terminal text tokens front × (lexemes_of terminal from ≡ front ++ lexemes_of terminal rest)
+
+  front_read : (text from : List ℕ) (tokens : List Token) (rest : List ℕ) → Runs text from tokens rest → Front text from tokens rest
+  front_read text from [] rest r = ([], tt, ap (lexemes_of terminal) r)
+  front_read text from (token ∷ tokens) rest r =
+      let later = front_read text r.1 tokens rest r.6 in
+      let first = lexeme_of terminal token.kind (between r.0 r.1) in
+      (first ∷ later.0, (token_lexeme text token r.0 r.1 r.3 r.4 r.5, later.1), lexemes_token from r.0 token.kind r.1 r.2 r.3 ∙ ap (λ (ls : Lexemes T). first ∷ ls) later.2)
+
+  read_from : (text : List ℕ) (answer : Result (List Token) ℕ) → Says text answer → AreReadFrom terminal text answer (lexemes_of terminal text)
+  read_from text (Ok tokens) h =
+      let f = front_read text text tokens h.0 h.1 in
+      subst (AreLexemes terminal text tokens) (sym (f.2 ∙ ap (λ (ls : Lexemes T). f.0 ++ ls) (lexemes_end h.0 h.2) ∙ append-nil f.0)) f.1
+  read_from text (Err place) h =
+      let f = front_read text text h.0 h.1 h.3 in
+      (h.0, h.1, h.2, f.0, h.3, h.4, h.5, h.6, f.1, f.2 ∙ ap (λ (ls : Lexemes T). f.0 ++ ls) (lexemes_none h.1 h.2 h.4 h.5))
+
+  read_of : (text : List ℕ) → AreReadOf terminal text (lexemes_of terminal text)
+  read_of text = let s = some_token_list text in (s.0, s.1, read_from text s.0 s.1)
+
+  pub over_reads : (text : List ℕ) (lexemes : Lexemes T) → lexemes ≡ lexemes_of terminal text → AreReadOf terminal text lexemes
+  over_reads text lexemes e = subst (AreReadOf terminal text) (sym e) (read_of text)
+
+  pub over_fits : (bytes : List ℕ) (lexemes : Lexemes T) → IsUtf8 bytes → lexemes ≡ lexemes_of terminal (chars bytes) → length lexemes ≤ length bytes
+  over_fits bytes lexemes u e = omega (arith, ap length e, few_bytes (chars bytes), ap length (encodes-chars bytes u))
+
+  pub few_fit : (bytes : List ℕ) (lexemes : Lexemes T) → IsUtf8 bytes → length bytes ≤ 18446744073709551615 → lexemes ≡ lexemes_of terminal (chars bytes) → length lexemes ≤ 18446744073709551615
+  few_fit bytes lexemes u fits e = omega (arith, over_fits bytes lexemes u e, fits)
+
+-- ---- the next one ahead
+
+pub fits_ahead : {X : Type 0} (size : ℕ) (next : Option X) (before after : List X) → length before ≤ size → MatchOption next ((before ≡ []) × (after ≡ [])) (λ first. before ≡ first ∷ after)
+    → length (ahead next after) ≤ size
+fits_ahead size None before after fits h = omega arith
+fits_ahead size (Some x) before after fits h = omega (arith, fits, ap length h)
+
+pub text_none : {T : Type 0} (next : Option (Lexeme T)) (rest view : Lexemes T) (piece : List ℕ) → ahead next rest ≡ view → next ≡ None → piece ≡ chars [] → piece ≡ next_text view
+text_none {T = T} next rest view piece is none e = e ∙ chars-nil ∙ ap next_text (ap (λ (o : Option (Lexeme T)). ahead o rest) (sym none) ∙ is)
