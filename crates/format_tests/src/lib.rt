@@ -6,6 +6,8 @@ mod bytes;
 #[cfg(test)]
 mod documents;
 #[cfg(test)]
+mod faults;
+#[cfg(test)]
 mod lines;
 #[cfg(test)]
 mod results;
