@@ -9,8 +9,8 @@ pub use Rattle.sparql_algebra.proofs.AssignmentLemmas.{covered, all_terms, solut
 pub use Rattle.sparql_algebra.proofs.ListingLemmas.{there_is_a_listing, name_listed, name_once, names_same, has_terms, found_quads, quads_same, triple_listed, triple_once}
 pub use Rattle.sparql_algebra.proofs.IndependenceLemmas.{any_same, assignments_same, basic_same, listings_same}
 pub use Rattle.sparql_algebra.proofs.LengthLemmas.{length_from, length_to, set_length, solutions_length}
-pub use Rattle.sparql_algebra.proofs.OrderLemmas.{mapping_cmp-IsAntisymmetric, mapping_total, mapping_ranks, neither_less}
-pub use Rattle.sparql_algebra.proofs.SortedLemmas.{sort_sorted, sort_same, one_sorted}
+pub use Rattle.sparql_algebra.proofs.OrderLemmas.{less, mapping_cmp-IsAntisymmetric, mapping_total, mapping_ranks, neither_less}
+pub use Rattle.sparql_algebra.proofs.SortedLemmas.{Rises, not_true, rises_from, sorted_from, leads_counted, sort_sorted, sort_same, one_sorted}
 pub use Rattle.sparql_algebra.proofs.FilterLemmas.{filter_always, filter-cong, filter-filter, filter-append, filter_twice}
 pub use Rattle.sparql_algebra.proofs.TranslationLemmas.{parts-is, translation-is, element-Basic, element-Union, element-Optional, element-Graph}
 pub use Rattle.sparql_algebra.proofs.JoinLemmas.{sum_where, sum_joins, compatible_empty, merge_empty, joins_commute, joins_associate, empty_solutions, empty_joins}

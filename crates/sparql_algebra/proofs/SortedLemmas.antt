@@ -14,14 +14,14 @@ use Rattle.sparql_algebra.proofs.TermLemmas.{same_mapping_is, same_mapping_own}
 use Rattle.sparql_algebra.proofs.OrderLemmas.{less, mapping_ranks, neither_less}
 
 -- x isn't greater than any of these
-abbrev leads : Mapping → List Mapping → Bool
+abbrev pub leads : Mapping → List Mapping → Bool
 leads x ys = list_all (λ y. not (less y x)) ys
 
-abbrev Rises : List Mapping → Type 0
+abbrev pub Rises : List Mapping → Type 0
 Rises [] = Unit {0}
 Rises (x ∷ xs) = (leads x xs ≡ true) × Rises xs
 
-not_true : (b : Bool) → not b ≡ true → b ≡ false
+pub not_true : (b : Bool) → not b ≡ true → b ≡ false
 not_true true h = cc
 not_true false h = refl
 
@@ -70,9 +70,8 @@ next_in (x ∷ y ∷ ys) r (suc k) d h =
 pub sorted_from : (xs : List Mapping) → Rises xs → IsSorted mapping_cmp xs
 sorted_from xs r k d a b = next_in xs r k d b
 
--- ---- one sorted list
-
-leads_counted : (x y : Mapping) (ys : List Mapping) → leads y ys ≡ true → 0 < count_by (same_mapping x) (y ∷ ys) → less x y ≡ false
+-- a mapping that stands in a list isn't less than its first one
+pub leads_counted : (x y : Mapping) (ys : List Mapping) → leads y ys ≡ true → 0 < count_by (same_mapping x) (y ∷ ys) → less x y ≡ false
 leads_counted x y ys h c = by_head (same_mapping x y) refl
   where
     counted : count_by (same_mapping x) (y ∷ ys) ≡ one (same_mapping x y) + count_by (same_mapping x) ys
@@ -99,6 +98,8 @@ leads_counted x y ys h c = by_head (same_mapping x y) refl
     by_head : (b : Bool) → same_mapping x y ≡ b → less x y ≡ false
     by_head true e = ap (λ (m : Mapping). less m y) (same_mapping_is x y e) ∙ own_not y
     by_head false e = let n : one (same_mapping x y) ≡ 0 = ap one e in later ys h (omega (arith, c, counted, n))
+
+-- ---- one sorted list
 
 at_own : (x : Mapping) (xs : List Mapping) → count_by (same_mapping x) (x ∷ xs) ≡ 1 + count_by (same_mapping x) xs
 at_own x xs =

@@ -1,109 +1,23 @@
 -- Sorted rows of which each stands once.
-use Rattle.std.proofs.Common.{◌≡◌, ℕ, zero, suc, ◌+◌, ◌<◌, ◌≤◌, Bool, true, false, cond, not, ◌&&◌, List, [], ◌∷◌, length, get_or, refl, sym, ap, ◌∙◌, arith, subst}
+use Rattle.std.proofs.Common.{◌≡◌, ℕ, zero, suc, ◌+◌, ◌<◌, Bool, true, false, cond, not, ◌&&◌, List, [], ◌∷◌, refl, sym, ap, ◌∙◌, arith, subst}
 use mathlib.Core.Bool.{true≢false}
 use Rattle.std.specs.List.{count_by, list_all, dedup, dedup_from}
 use Rattle.std.specs.List.Sorted.{IsSorted, IsPermutation}
-use Rattle.std.specs.Ordering.{is_lt, is_eq, eq_by_cmp}
+use Rattle.std.specs.Ordering.{is_eq, eq_by_cmp}
 use Rattle.std.specs.Cmp.{Equal-is, tied_itself}
 use Rattle.std.proofs.lemmas.List.Sums.{sum_by-cons}
-use Rattle.std.proofs.lemmas.List.Sorted.{sorted_far, sum_by-IsPermutation}
+use Rattle.std.proofs.lemmas.List.Sorted.{sum_by-IsPermutation}
 use Rattle.sparql_algebra.specs.Bags.{once_if_any}
 use Rattle.sparql_values.specs.Mapping.{Mapping, same_mapping}
 use Rattle.sparql_algebra.specs.Order.{mapping_cmp}
 use Rattle.sparql_algebra.specs.Results.{times_selected}
-use Rattle.sparql_algebra.proofs.CallerLemmas.{one, and_left, and_right, same_mapping_is, mapping_total, mapping_ranks, neither_less, mapping_cmp-IsAntisymmetric}
-
-abbrev less : Mapping → Mapping → Bool
-less a b = is_lt (mapping_cmp a b)
+use Rattle.sparql_algebra.proofs.CallerLemmas.{one, and_left, and_right, same_mapping_is, mapping_total, less, Rises, not_true, rises_from, sorted_from, leads_counted, neither_less, mapping_cmp-IsAntisymmetric}
 
 abbrev same : Mapping → Mapping → Bool
 same = eq_by_cmp mapping_cmp
 
 same_own : (x : Mapping) → same x x ≡ true
 same_own x = ap is_eq (tied_itself mapping_total x)
-
--- x isn't greater than any of these
-abbrev leads : Mapping → List Mapping → Bool
-leads x ys = list_all (λ y. not (less y x)) ys
-
-abbrev Rises : List Mapping → Type 0
-Rises [] = Unit {0}
-Rises (x ∷ xs) = (leads x xs ≡ true) × Rises xs
-
-not_true : (b : Bool) → not b ≡ true → b ≡ false
-not_true true h = cc
-not_true false h = refl
-
-not_false : (b : Bool) → b ≡ false → not b ≡ true
-not_false b h = ap not h
-
-less_not : (a b : Mapping) → less a b ≡ true → less b a ≡ false
-less_not a b h = mapping_ranks.one_way a b h
-
--- ---- from and to the order by places
-
-all_from_places : (p : Mapping → Bool) (xs : List Mapping) → ((k : ℕ) → k < length xs → p (get_or xs k []) ≡ true) → list_all p xs ≡ true
-all_from_places p [] h = refl
-all_from_places p (x ∷ xs) h =
-    ap (λ b. b && list_all p xs) (h zero (omega arith)) ∙ all_from_places p xs (λ k l. h (suc k) (omega arith))
-
-abbrev Far : List Mapping → Type 0
-Far xs = (i j : ℕ) → i ≤ j → j < length xs → less (get_or xs j []) (get_or xs i []) ≡ false
-
-rises_far : (xs : List Mapping) → Far xs → Rises xs
-rises_far [] h = tt
-rises_far (x ∷ xs) h = (
-  all_from_places (λ y. not (less y x)) xs (λ k l. not_false (less (get_or xs k []) x) (h zero (suc k) (omega arith) (omega arith))),
-  rises_far xs (λ i j a b. h (suc i) (suc j) (omega arith) (omega arith)),
-)
-
-rises_from : (xs : List Mapping) → IsSorted mapping_cmp xs → Rises xs
-rises_from xs h = rises_far xs (λ i j a b. sorted_far less mapping_ranks xs h i j [] a b)
-
-abbrev Next : List Mapping → Type 0
-Next xs = (k : ℕ) (d : Mapping) → k + 1 < length xs → less (get_or xs (k + 1) d) (get_or xs k d) ≡ false
-
-next_in : (xs : List Mapping) → Rises xs → Next xs
-next_in [] r k d h = absurd (omega arith)
-next_in (x ∷ []) r k d h = absurd (omega arith)
-next_in (x ∷ y ∷ ys) r zero d h = not_true (less y x) (and_left (not (less y x)) _ r.0)
-next_in (x ∷ y ∷ ys) r (suc k) d h =
-    let rest : less (get_or (y ∷ ys) (k + 1) d) (get_or (y ∷ ys) k d) ≡ false = next_in (y ∷ ys) r.1 k d (omega arith) in
-    let at : suc (k + 1) ≡ suc k + 1 = omega arith in
-    subst (λ (n : ℕ). less (get_or (x ∷ y ∷ ys) n d) (get_or (y ∷ ys) k d) ≡ false) at rest
-
-sorted_from : (xs : List Mapping) → Rises xs → IsSorted mapping_cmp xs
-sorted_from xs r k d a b = next_in xs r k d b
-
--- ---- a row that stands in a list isn't less than its first one
-
-less_own : (z : Mapping) → less z z ≡ false
-less_own z = by_test (less z z) refl
-  where
-    by_test : (b : Bool) → less z z ≡ b → b ≡ false
-    by_test true e = sym e ∙ less_not z z e
-    by_test false e = refl
-
-leads_counted : (x y : Mapping) (ys : List Mapping) → leads y ys ≡ true → 0 < count_by (same_mapping x) (y ∷ ys) → less x y ≡ false
-leads_counted x y ys h c = by_head (same_mapping x y) refl
-  where
-    counted : count_by (same_mapping x) (y ∷ ys) ≡ one (same_mapping x y) + count_by (same_mapping x) ys
-    counted = sum_by-cons _ y ys
-
-    later : (zs : List Mapping) → leads y zs ≡ true → 0 < count_by (same_mapping x) zs → less x y ≡ false
-    later [] l p = absurd (omega arith)
-    later (z ∷ zs) l p = by_test (same_mapping x z) refl (later zs (and_right (not (less z y)) _ l))
-      where
-        here : count_by (same_mapping x) (z ∷ zs) ≡ one (same_mapping x z) + count_by (same_mapping x) zs
-        here = sum_by-cons _ z zs
-
-        by_test : (b : Bool) → same_mapping x z ≡ b → (0 < count_by (same_mapping x) zs → less x y ≡ false) → less x y ≡ false
-        by_test true e k = ap (λ (m : Mapping). less m y) (same_mapping_is x z e) ∙ not_true (less z y) (and_left (not (less z y)) _ l)
-        by_test false e k = let n : one (same_mapping x z) ≡ 0 = ap one e in k (omega (arith, p, here, n))
-
-    by_head : (b : Bool) → same_mapping x y ≡ b → less x y ≡ false
-    by_head true e = ap (λ (m : Mapping). less m y) (same_mapping_is x y e) ∙ less_own y
-    by_head false e = let n : one (same_mapping x y) ≡ 0 = ap one e in later ys h (omega (arith, c, counted, n))
 
 -- ---- repeats left out
 
