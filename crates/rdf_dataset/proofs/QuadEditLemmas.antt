@@ -1,14 +1,16 @@
 -- What an insertion and a removal make of a delta of quads whose added ones are a set, and what it lists.
-use Rattle.std.proofs.Common.{◌≡◌, ℕ, ◌+◌, ◌≤◌, arith, Bool, true, false, not, ◌&&◌, ◌||◌, List, [], ◌∷◌, ◌++◌, length, refl, sym, ap, ◌∙◌, subst}
-use Rattle.std.specs.Prelude.{filter}
+use Rattle.std.proofs.Common.{◌≡◌, ℕ, ◌+◌, ◌≤◌, arith, Bool, true, false, not, ◌&&◌, ◌||◌, List, [], ◌++◌, length, refl, sym, ap, ◌∙◌, subst}
+use Rattle.std.specs.Prelude.{filter, Result, Ok, Err, OnOk, OnErr}
 use Rattle.std.specs.FinSet as set
 use Rattle.std.specs.FinSet.{contains, from_list, same_set, contains-from_list, contains-items, insert, remove}
+use Rattle.rdf_terms.specs.declared.quad.GraphName.{GraphName}
+use Rattle.rdf_terms.specs.declared.quad.GraphName.TheVariants.{Default, Named}
 use Rattle.rdf_terms.specs.declared.term.Term.{Term}
 use Rattle.rdf_terms.specs.Quad.{QuadParts}
-use Rattle.rdf_terms.specs.Order.{quad_cmp}
+use Rattle.rdf_terms.specs.Order.{quad_cmp, term_cmp}
 use Rattle.rdf_terms.specs.OrderLaws.{quad_cmp_total, quad_cmp-IsAntisymmetric}
 use Rattle.rdf_store.specs.Listing as store
-use Rattle.rdf_dataset.specs.State.{State, Change, Quads, net_between, with_graph, with_quad}
+use Rattle.rdf_dataset.specs.State.{State, Change, Names, Quads, net_between, with_graph, with_quad}
 use Rattle.rdf_dataset.specs.Sorted.{ListsOnce}
 use Rattle.rdf_dataset.specs.Inside.Delta.{IsDelta, IsQuadDelta}
 use Rattle.rdf_dataset.proofs.DeltaLemmas.{no_delta, gained_at, lost_at, has_known, has_new, lost_known, insert_known, insert_new, remove_known, remove_new}
@@ -109,3 +111,27 @@ net_with_quad s t q a r b l na nr nb nl before after e d f = λ i. record {
   before = ap (λ (n : Change). n.before) e i;
   after = ap (λ (n : Change). n.after) e i;
 }
+
+-- the default graph has no name
+pub default_delta : (s t : Names) (g : GraphName) (a r : List Term) → ((n : Term) → g ≡ Named n → ⊥) → IsDelta s t a r → IsDelta s (with_graph t g) a r
+default_delta s t Default a r h d = d
+default_delta s t (Named n) a r h d = absurd (h n refl)
+
+-- the same sets, held in other lists
+pub same_net : (a b : Quads) (r l : List QuadParts) (na nb nr nl : List Term) (before after : ℕ) → a ≡ b → r ≡ l → from_list {R = term_cmp} na ≡ from_list nb → nr ≡ nl → net a r na nr before after ≡ net b l nb nl before after
+same_net a b r l na nb nr nl before after d e f g = λ i. record {
+  added = d i;
+  removed = from_list (e i);
+  names_added = f i;
+  names_removed = from_list (g i);
+  before = before;
+  after = after;
+}
+
+pub on_ok_both : {T E P Q S : Type 0} (r : Result T E) → (P → Q → S) → OnOk r P → OnOk r Q → OnOk r S
+on_ok_both (Ok x) f p q = f p q
+on_ok_both (Err e) f p q = tt
+
+pub on_err_both : {T E P Q S : Type 0} (r : Result T E) → (P → Q → S) → OnErr r P → OnErr r Q → OnErr r S
+on_err_both (Ok x) f p q = tt
+on_err_both (Err e) f p q = f p q

@@ -4,7 +4,7 @@ ghost use Rattle.std.specs.Prelude.{◌≡◌, ◌≤◌, ◌+◌, length, optio
 ghost use Rattle.std.specs.FinSet as set;
 ghost use Rattle.rdf_dataset.specs.Sorted.{ListsOnce};
 ghost use Rattle.rdf_terms.specs.Order.{term_cmp};
-ghost use Rattle.rdf_dataset.specs.Inside.Delta.{IsQuadDelta};
+ghost use Rattle.rdf_dataset.specs.Inside.Delta.{IsDelta, IsQuadDelta};
 ghost use Rattle.rdf_dataset.specs.State.{State, Names, Quads, IsKnownGraph, matches, net_between, with_quad, without_quad, with_name, without_name};
 
 use crate::net::Net;
@@ -143,14 +143,14 @@ impl Edits {
             return self.quads.insert(beneath, &quad);
         };
         let name = name.copy()?;
-        if named {
-            let new = self.quads.insert(beneath, &quad)?;
-            self.names.removed.remove(&name);
-            return Ok(new);
-        }
-        let names = &mut self.names.added;
-        let added = insert_with_name(names, &mut self.quads, beneath, name, &quad)?;
-        Ok(added)
+        insert_in_graph(
+            &mut self.names,
+            &mut self.quads,
+            beneath,
+            named,
+            name,
+            &quad,
+        )
     }
 
     /// Makes a listing of the names at the beginning one of those at the end.
@@ -182,6 +182,36 @@ impl Edits {
     {
         self.quads.amend(found, graph, subject, predicate, object)
     }
+}
+
+// Puts a quad and its graph's name in, or neither. What lies beneath has the name or not.
+fn insert_in_graph(
+    names: &mut TreeDelta<Term>,
+    quads: &mut QuadEdits,
+    beneath: bool,
+    named: bool,
+    name: Term,
+    quad: &Quad,
+) -> Result<bool, NoMemory>
+    ensures ok { OnOk result (((s t : Names) → IsDelta s t names.old.added names.old.removed →
+        named ≡ set.contains s name →
+        IsDelta s (set.insert t name) names.new.added names.new.removed)
+        × ((s t : Quads) → IsQuadDelta s t quads.old.added.quads quads.old.removed →
+        beneath ≡ set.contains s quad.now →
+        IsQuadDelta s (set.insert t quad.now) quads.new.added.quads quads.new.removed)) }
+    ensures new { IfOk result (λ new. (s t : Quads) →
+        IsQuadDelta s t quads.old.added.quads quads.old.removed →
+        beneath ≡ set.contains s quad.now → new ≡ not (set.contains t quad.now)) }
+    ensures err { OnErr result ((set.from_list {R = term_cmp} names.new.added
+        ≡ set.from_list names.old.added)
+        × (names.new.removed ≡ names.old.removed) × (quads.new ≡ quads.old)) }
+{
+    if named {
+        let new = quads.insert(beneath, quad)?;
+        names.removed.remove(&name);
+        return Ok(new);
+    }
+    insert_with_name(&mut names.added, quads, beneath, name, quad)
 }
 
 // Puts the name and the quad in, or neither: the name is taken back where the quad is refused.
