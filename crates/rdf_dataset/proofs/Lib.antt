@@ -2,6 +2,7 @@ mod DeltaLemmas
 pub mod InsertionLemmas
 mod KeepLemmas
 mod ListingLemmas
+mod QuadEditLemmas
 mod SortedLemmas
 mod StateLemmas
 mod StoredLemmas

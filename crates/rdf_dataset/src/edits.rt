@@ -4,11 +4,11 @@ ghost use Rattle.std.specs.Prelude.{◌≡◌, ◌≤◌, ◌+◌, length, optio
 ghost use Rattle.std.specs.FinSet as set;
 ghost use Rattle.rdf_dataset.specs.Sorted.{ListsOnce};
 ghost use Rattle.rdf_terms.specs.Order.{term_cmp};
-ghost use Rattle.rdf_dataset.specs.Inside.Delta.{IsDelta};
+ghost use Rattle.rdf_dataset.specs.Inside.Delta.{IsDelta, IsQuadDelta};
 ghost use Rattle.rdf_dataset.specs.State.{State, Names, Quads, IsKnownGraph, matches, net_between, with_quad, without_quad, with_name, without_name};
 
-use crate::listing::append_matching_of;
 use crate::net::Net;
+use crate::quad_edits::QuadEdits;
 use crate::tree::Tree;
 use crate::tree_delta::TreeDelta;
 use rdf_terms::{GraphName, NoMemory, Quad, Term};
@@ -18,7 +18,7 @@ use std::marker::Model;
 /// Quads and graph names that were added and removed, and the blank counter before and after.
 #[derive(Drop)]
 pub(crate) struct Edits {
-    pub(crate) quads: TreeDelta<Quad>,
+    pub(crate) quads: QuadEdits,
     pub(crate) names: TreeDelta<Term>,
     pub(crate) before: u64,
     pub(crate) after: u64,
@@ -33,7 +33,7 @@ impl Model for Edits {
     ghost coded = { change_code };
 
     ghost view = { λ n. record {
-      added = set.from_list n.quads.added;
+      added = n.quads.added.quads;
       removed = set.from_list n.quads.removed;
       names_added = set.from_list n.names.added;
       names_removed = set.from_list n.names.removed;
@@ -48,7 +48,7 @@ impl Edits {
         ensures { (s : State) → s.next ≡ counter → result ≡ net_between s s }
     {
         Edits {
-            quads: TreeDelta::none(alloc),
+            quads: QuadEdits::none(alloc),
             names: TreeDelta::none(alloc),
             before: counter,
             after: counter,
@@ -140,17 +140,17 @@ impl Edits {
         ensures err { OnErr result (self.new ≡ self.old) }
     {
         let GraphName::Named(name) = quad.graph() else {
-            return self.quads.insert(beneath, quad);
+            return self.quads.insert(beneath, &quad);
         };
         let name = name.copy()?;
-        if named {
-            let new = self.quads.insert(beneath, quad)?;
-            self.names.removed.remove(&name);
-            return Ok(new);
-        }
-        let names = &mut self.names.added;
-        let added = insert_with_name(names, &mut self.quads, beneath, name, quad)?;
-        Ok(added)
+        insert_in_graph(
+            &mut self.names,
+            &mut self.quads,
+            beneath,
+            named,
+            name,
+            &quad,
+        )
     }
 
     /// Makes a listing of the names at the beginning one of those at the end.
@@ -180,29 +180,57 @@ impl Edits {
         ensures looked { IfOk result
             (λ looked. length found.new.items ≤ length found.old.items + looked) }
     {
-        found.retain(|quad| !self.quads.removed.contains(quad));
-        let added = &self.quads.added;
-        append_matching_of(found, added, graph, subject, predicate, object)?;
-        Ok(added.len())
+        self.quads.amend(found, graph, subject, predicate, object)
     }
+}
+
+// Puts a quad and its graph's name in, or neither. What lies beneath has the name or not.
+fn insert_in_graph(
+    names: &mut TreeDelta<Term>,
+    quads: &mut QuadEdits,
+    beneath: bool,
+    named: bool,
+    name: Term,
+    quad: &Quad,
+) -> Result<bool, NoMemory>
+    ensures ok { OnOk result (((s t : Names) → IsDelta s t names.old.added names.old.removed →
+        named ≡ set.contains s name →
+        IsDelta s (set.insert t name) names.new.added names.new.removed)
+        × ((s t : Quads) → IsQuadDelta s t quads.old.added.quads quads.old.removed →
+        beneath ≡ set.contains s quad.now →
+        IsQuadDelta s (set.insert t quad.now) quads.new.added.quads quads.new.removed)) }
+    ensures new { IfOk result (λ new. (s t : Quads) →
+        IsQuadDelta s t quads.old.added.quads quads.old.removed →
+        beneath ≡ set.contains s quad.now → new ≡ not (set.contains t quad.now)) }
+    ensures err { OnErr result ((set.from_list {R = term_cmp} names.new.added
+        ≡ set.from_list names.old.added)
+        × (names.new.removed ≡ names.old.removed) × (quads.new ≡ quads.old)) }
+{
+    if named {
+        let new = quads.insert(beneath, quad)?;
+        names.removed.remove(&name);
+        return Ok(new);
+    }
+    insert_with_name(&mut names.added, quads, beneath, name, quad)
 }
 
 // Puts the name and the quad in, or neither: the name is taken back where the quad is refused.
 fn insert_with_name(
     names: &mut Tree<Term>,
-    quads: &mut TreeDelta<Quad>,
+    quads: &mut QuadEdits,
     beneath: bool,
     name: Term,
-    quad: Quad,
+    quad: &Quad,
 ) -> Result<bool, NoMemory>
     ensures names { OnOk result (set.from_list {R = term_cmp} names.new
         ≡ set.insert (set.from_list names.old) name) }
     ensures ok { OnOk result ((s t : Quads) →
-        IsDelta s t quads.old.added quads.old.removed → beneath ≡ set.contains s quad →
-        IsDelta s (set.insert t quad) quads.new.added quads.new.removed) }
+        IsQuadDelta s t quads.old.added.quads quads.old.removed →
+        beneath ≡ set.contains s quad.now →
+        IsQuadDelta s (set.insert t quad.now) quads.new.added.quads quads.new.removed) }
     ensures new { IfOk result (λ new. (s t : Quads) →
-        IsDelta s t quads.old.added quads.old.removed → beneath ≡ set.contains s quad →
-        new ≡ not (set.contains t quad)) }
+        IsQuadDelta s t quads.old.added.quads quads.old.removed →
+        beneath ≡ set.contains s quad.now → new ≡ not (set.contains t quad.now)) }
     ensures err_names { OnErr result
         (set.from_list {R = term_cmp} names.new ≡ set.from_list names.old) }
     ensures err_quads { OnErr result (quads.new ≡ quads.old) }

@@ -10,6 +10,7 @@ mod item;
 mod listing;
 mod net;
 mod plain;
+mod quad_edits;
 mod sorted;
 mod source;
 mod staged;

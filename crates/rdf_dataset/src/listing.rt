@@ -1,13 +1,11 @@
 //! The quads that have given terms.
 ghost use Rattle.std.specs.Prelude.{◌≡◌, ◌++◌, filter, option_copied, OnOk, OnErr};
 ghost use Rattle.std.specs.Ordering.{eq_by_cmp};
-ghost use Rattle.std.specs.List.Sorted.{IsStrictlySortedBy};
-ghost use Rattle.rdf_terms.specs.Order.{graph_cmp, quad_cmp};
+ghost use Rattle.rdf_terms.specs.Order.{graph_cmp};
 ghost use Rattle.rdf_dataset.specs.State.{matches, fits_place};
 
 use crate::item::Item;
 use crate::sorted::append_copy;
-use crate::tree::Tree;
 use rdf_terms::{GraphName, NoMemory, Quad, Term};
 
 fn is_same_graph(graph: &GraphName, other: &GraphName) -> bool
@@ -57,33 +55,6 @@ pub(crate) fn append_matching(
 {
     let before = out.len();
     for quad in quads {
-        if is_match(quad, graph, subject, predicate, object) {
-            if let Err(refused) = append_copy(out, quad) {
-                out.truncate(before);
-                return Err(refused);
-            }
-        }
-    }
-    Ok(())
-}
-
-/// Appends the quads of a tree that match, or changes nothing.
-pub(crate) fn append_matching_of(
-    out: &mut Vec<Quad>,
-    quads: &Tree<Quad>,
-    graph: &GraphName,
-    subject: Option<&Term>,
-    predicate: Option<&Term>,
-    object: Option<&Term>,
-) -> Result<(), NoMemory>
-    ensures ok { OnOk result (out.new.items
-        ≡ out.old.items ++ filter (matches graph.now (option_copied subject.entry)
-        (option_copied predicate.entry) (option_copied object.entry)) quads.now) }
-    ensures sorted { IsStrictlySortedBy quad_cmp quads.now }
-    ensures err { OnErr result (out.new.items ≡ out.old.items) }
-{
-    let before = out.len();
-    for quad in &quads.items {
         if is_match(quad, graph, subject, predicate, object) {
             if let Err(refused) = append_copy(out, quad) {
                 out.truncate(before);

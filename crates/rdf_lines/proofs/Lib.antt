@@ -16,6 +16,7 @@ pub mod PieceLemmas
 pub mod ReaderLemmas
 pub mod RenamedLemmas
 pub mod RoundTripLemmas
+mod SharedLemmas
 pub mod SortLemmas
 pub mod SoundLemmas
 pub mod StatementSteps

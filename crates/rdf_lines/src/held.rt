@@ -10,7 +10,8 @@ use crate::fault::{FaultKind, LineFault};
 use crate::format::LineFormat;
 use crate::labels::Labels;
 use crate::progress::Progress;
-use rdf_terms::Quad;
+use crate::shared::push_shared;
+use rdf_terms::{Quad, TermTable};
 use std::alloc::Global;
 
 // The first line without its end, and what comes after that.
@@ -63,13 +64,14 @@ fn read_into(
         number: 1,
         labels: Labels::new(alloc),
     };
+    let mut terms = TermTable::new(alloc);
     let mut rest = bytes;
     while !rest.is_empty() {
         let (line, after) = first_line(rest);
         let number = progress.number;
         match progress.line(alloc, format, line) {
             Ok(None) => {}
-            Ok(Some(quad)) => match quads.push(quad) {
+            Ok(Some(quad)) => match push_shared(&mut terms, quads, quad) {
                 Ok(()) => {}
                 Err(refused) => {
                     return Err(LineFault {

@@ -14,6 +14,7 @@ mod pieces;
 mod progress;
 mod reader;
 mod round_trip;
+mod shared;
 mod state;
 mod statement;
 mod write;

@@ -37,10 +37,10 @@ returns c =
     let now = c.loop-rest in
     at_end c.args.format c.args.bytes.now now.quads.items now.progress.number now.progress.labels now.rest.now now.invariant.0 (is_nil now.rest.now (sym c.is_empty.ensures ∙ c.loop-rest-test.false))
 
-pub returns-in-Err-push : goal.returns-in-Err-push
-returns-in-Err-push c =
+pub returns-in-Err-push_shared : goal.returns-in-Err-push_shared
+returns-in-Err-push_shared c =
     let now = c.loop-rest in
     let fault : LineFault = record { line = now.progress.number; kind = c.from.result } in
-    let same : c.push.new.self.items ≡ now.quads.items = search rules in
+    let same : c.push_shared.new.quads.items ≡ now.quads.items = search rules in
     subst (λ (quads : List Quad). StopsBehind c.args.format c.args.bytes.now quads fault c.from.result) (sym same)
     (at_line c.args.format c.args.bytes.now now.quads.items now.progress.number now.progress.labels now.rest.now c.first_line.result.0.now c.first_line.result.1.now fault now.invariant.0 c.first_line.ensures.lines refl c.from.ensures)
