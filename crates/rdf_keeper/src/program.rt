@@ -1,11 +1,11 @@
 //! The whole program, over its words, its standard input, output and error.
-ghost use Rattle.std.specs.Prelude.{◌≡◌, ◌≢◌, ◌≤◌, ℕ, List, [], Option, Some, Result, IfOk, OnOk, OnErr};
+ghost use Rattle.std.specs.Prelude.{◌≡◌, ◌≢◌, ◌≤◌, ℕ, List, [], Option, Some, Result, IfOk, IfErr, OnOk, OnErr};
 ghost use Rattle.std.specs.List.{concat};
 ghost use Rattle.std.specs.Option.{option_copied};
 ghost use Rattle.std.specs.Io.KnownBytes.{Appends};
 ghost use Rattle.rdf_keeper.specs.Conversion.Converts.{Converts};
 ghost use Rattle.rdf_keeper.specs.Inside.Outcomes.{status_of, outcome_of};
-ghost use Rattle.rdf_keeper.specs.Inside.Starts.{BeginsWithData, outcome_after};
+ghost use Rattle.rdf_keeper.specs.Inside.Starts.{BeginsWithData, IsNoWantOfMemory, outcome_after};
 ghost use Rattle.rdf_keeper.specs.Script.Runs.{RunsOver};
 ghost use Rattle.rdf_keeper.specs.declared.script.status.Status.{Status};
 ghost use Rattle.rdf_session.specs.Session.{Session};
@@ -52,6 +52,7 @@ fn begin<T: Files>(
 ) -> Result<(), Outcome>
     ensures ok { OnOk result (BeginsWithData format keeper.old keeper.new) }
     ensures err { OnErr result (keeper.new ≡ keeper.old) }
+    ensures faulty { IfErr result IsNoWantOfMemory }
 {
     let Ok(mut file) = fs::open(rt, path) else {
         return Err(Outcome::ReadFailed);

@@ -3,6 +3,7 @@ use Rattle.std.specs.Prelude.{◌≡◌, ℕ, List, Option}
 use Rattle.rdf_session.specs.Request.{Load}
 use Rattle.rdf_session.specs.Session.{Session, Step, Do, Commit, Changed, Done}
 use Rattle.rdf_session.specs.declared.fault.Counts.{Counts}
+use Rattle.rdf_session.specs.declared.fault.KeeperFault.TheVariants as keeper
 use Rattle.rdf_session.specs.declared.format.Format.{Format}
 use Rattle.rdf_keeper.specs.declared.script.status.Status.{Status}
 use Rattle.rdf_keeper.specs.declared.script.status.Status.TheVariants as script
@@ -14,6 +15,11 @@ abbrev pub BeginsWithData : Format → Session → Session → Type 0
 BeginsWithData format old new =
     (text : List ℕ) × (counts : Counts) × (loaded : Session)
     × Step old (Do (Load format text)) (Changed counts) loaded × Step loaded Commit Done new
+
+-- The data aren't said to be faulty where memory was wanting.
+abbrev pub IsNoWantOfMemory : Outcome → Type 0
+IsNoWantOfMemory (program.BadData (keeper.NoMemory refused)) = ⊥
+IsNoWantOfMemory outcome = Unit {0}
 
 -- how a script ends the program
 abbrev pub outcome_after : Status → Outcome

@@ -164,8 +164,8 @@ pub(crate) fn read_words<'a>(alloc: Global, words: &'a [String]) -> Result<Asked
     match program(alloc)?.try_get_matches_from(words) {
         Ok(matches) => match matches.subcommand() {
             Some(("run", found)) => Ok(Asked::Run(run_words(found))),
-            Some((_, found)) => Ok(Asked::Convert(convert_words(found))),
-            None => Err(WordsFault::Usage(String::new(alloc))),
+            Some(("convert", found)) => Ok(Asked::Convert(convert_words(found))),
+            _ => Err(WordsFault::Usage(String::new(alloc))),
         },
         Err(error) => asked_or_shown(alloc, &error),
     }
