@@ -1,6 +1,6 @@
 //! Calls the library where any allocation may be refused. Each call that is refused leaves what it
 //! was lent as it was, and is made again; so the program writes the same whichever allocation is
-//! refused, but for the place at which a part says that it was, and `tools/fail-alloc` compares.
+//! refused, and `tools/fail-alloc` compares.
 //!
 //! The program has parts, each of which writes a line. The first digit of its input names the one that
 //! is asked for; without input all are. For each byte of its input the program first takes memory and
@@ -10,22 +10,19 @@
 #![tactic(auto)]
 
 mod conversions;
-mod lines;
 mod patterns;
 mod queries;
 mod retry;
 mod script;
 mod sessions;
 mod terms;
-mod told;
 mod updates;
 
-use crate::told::Told;
 use std::alloc::Global;
 use std::io;
 use std::io::Read;
 
-const PARTS: [u8; 8] = *b"12345678";
+const PARTS: [u8; 7] = *b"1234567";
 
 fn main(rt: HostRuntime) -> io::Result<()> {
     let alloc = rt.alloc();
@@ -43,15 +40,7 @@ fn main(rt: HostRuntime) -> io::Result<()> {
 }
 
 // What a part finds.
-fn outcome(alloc: Global, part: u8) -> Told {
-    match part {
-        b'8' => lines::outcome(alloc),
-        _ => Told::new(found(alloc, part)),
-    }
-}
-
-// What a part without places finds.
-fn found(alloc: Global, part: u8) -> &'static str {
+fn outcome(alloc: Global, part: u8) -> &'static str {
     match part {
         b'1' => terms::outcome(alloc),
         b'2' => sessions::outcome(alloc),
