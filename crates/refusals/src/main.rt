@@ -10,6 +10,7 @@
 #![tactic(auto)]
 
 mod conversions;
+mod datasets;
 mod lines;
 mod patterns;
 mod queries;
@@ -25,7 +26,7 @@ use std::alloc::Global;
 use std::io;
 use std::io::Read;
 
-const PARTS: [u8; 8] = *b"12345678";
+const PARTS: [u8; 9] = *b"123456789";
 
 fn main(rt: HostRuntime) -> io::Result<()> {
     let alloc = rt.alloc();
@@ -59,7 +60,8 @@ fn found(alloc: Global, part: u8) -> &'static str {
         b'4' => patterns::outcome(alloc),
         b'5' => queries::outcome(alloc),
         b'6' => script::outcome(alloc),
-        _ => conversions::outcome(alloc),
+        b'7' => conversions::outcome(alloc),
+        _ => datasets::outcome(alloc),
     }
 }
 
