@@ -5,6 +5,8 @@
 #[cfg(test)]
 mod dialogue;
 #[cfg(test)]
+mod faults;
+#[cfg(test)]
 mod fronts;
 #[cfg(test)]
 mod keeper;
