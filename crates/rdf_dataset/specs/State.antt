@@ -1,22 +1,15 @@
 -- The states of a dataset, and the net between two of them (RDF 1.1 Concepts, section 4).
-use Rattle.std.specs.Prelude.{◌≡◌, ℕ, ◌≤◌, ◌+◌, Option, None, Some, IsTrue, refl, ⊤, Bool, true, not, ◌&&◌}
+use Rattle.std.specs.Prelude.{◌≡◌, ℕ, ◌≤◌, ◌+◌, IsTrue, refl, ⊤, Bool, not, ◌&&◌}
 use Rattle.std.specs.Coded.{Coded, code_by, coded×, coded_ℕ}
-use Rattle.std.specs.Ordering.{eq_by_cmp}
 use Rattle.std.specs.FinSet as set
 use Rattle.rdf_terms.specs.declared.term.Term.{Term}
 use Rattle.rdf_terms.specs.declared.quad.GraphName.{GraphName}
 use Rattle.rdf_terms.specs.declared.quad.GraphName.TheVariants.{Default, Named}
 use Rattle.rdf_terms.specs.Term.{is_term, is_literal_term}
 use Rattle.rdf_terms.specs.Quad.{QuadParts, is_quad}
-use Rattle.rdf_terms.specs.Order.{term_cmp, graph_cmp, quad_cmp}
 use Rattle.rdf_terms.specs.Codes.{coded_term, coded_quad}
 pub use Rattle.rdf_terms.specs.Below.{IsTermBelow, IsGraphBelow, IsQuadBelow}
-
-abbrev pub Quads : Type 0
-Quads = set.FinSet quad_cmp
-
-abbrev pub Names : Type 0
-Names = set.FinSet term_cmp
+pub use Rattle.rdf_store.specs.Stored.{Quads, Names, fits_place, matches}
 
 -- the quads of the default graph and of the named ones, the graphs' names, and the number of the next blank node
 pub record State : Type 0 where
@@ -135,15 +128,6 @@ abbrev pub Ends : Change → State → Type 0
 Ends net t = (s : State) × IsSound s × (net ≡ net_between s t)
 
 -- ---- look-ups
-
--- a place that is bound wants its term, a free one takes any
-abbrev pub fits_place : Option Term → Term → Bool
-fits_place None x = true
-fits_place (Some t) x = eq_by_cmp term_cmp t x
-
--- the quad lies in the graph and has the terms of the bound places
-abbrev pub matches : GraphName → Option Term → Option Term → Option Term → QuadParts → Bool
-matches g s p o q = eq_by_cmp graph_cmp g q.graph && (fits_place s q.subject && (fits_place p q.predicate && fits_place o q.object))
 
 -- known tells whether these names have that of the graph
 abbrev pub IsKnownGraph : Names → Bool → GraphName → Type 0
