@@ -85,8 +85,7 @@ fn three(alloc: Global) -> Option<Dataset> {
 }
 
 // What a look-up for these terms answers, an empty text for a free place.
-fn looked(alloc: Global, terms: [&str; 3]) -> Option<usize> {
-    let dataset = three(alloc)?;
+fn looked_in<D: Source>(alloc: Global, source: &D, terms: [&str; 3]) -> Option<usize> {
     let [subject, predicate, object] = terms;
     let subject = node(alloc, subject);
     let predicate = node(alloc, predicate);
@@ -96,7 +95,7 @@ fn looked(alloc: Global, terms: [&str; 3]) -> Option<usize> {
         text(alloc, object)
     };
     let mut out = Vec::new(alloc);
-    dataset
+    source
         .matches(
             &GraphName::Default,
             subject.as_ref(),
@@ -105,6 +104,29 @@ fn looked(alloc: Global, terms: [&str; 3]) -> Option<usize> {
             &mut out,
         )
         .ok()
+}
+
+// The same in a dataset of the three quads.
+fn looked(alloc: Global, terms: [&str; 3]) -> Option<usize> {
+    let dataset = three(alloc)?;
+    looked_in(alloc, &dataset, terms)
+}
+
+// The same in a view that adds them to none.
+fn looked_in_view(alloc: Global, terms: [&str; 3]) -> Option<usize> {
+    let dataset = Dataset::new(alloc);
+    let mut view = Staged::over(alloc, &dataset);
+    insert_three(alloc, &mut view)?;
+    looked_in(alloc, &view, terms)
+}
+
+// The same in a view that hides one of them and adds another.
+fn looked_over_three(alloc: Global, terms: [&str; 3]) -> Option<usize> {
+    let dataset = three(alloc)?;
+    let mut view = Staged::over(alloc, &dataset);
+    view.remove(&quad(alloc, S, P, "1")?).ok()?;
+    insert(alloc, &mut view, S, Q, "1")?;
+    looked_in(alloc, &view, terms)
 }
 
 #[test]
@@ -123,4 +145,22 @@ fn of_more_terms(rt: HostRuntime) {
     assert!(rt; looked(alloc, ["", P, "1"]) == Some(2));
     assert!(rt; looked(alloc, [S, "", "2"]) == Some(1));
     assert!(rt; looked(alloc, [S, P, "2"]) == Some(0));
+}
+
+#[test]
+fn of_what_a_view_added(rt: HostRuntime) {
+    let alloc = rt.alloc();
+    assert!(rt; looked_in_view(alloc, ["", "", ""]) == Some(3));
+    assert!(rt; looked_in_view(alloc, [S, "", ""]) == Some(2));
+    assert!(rt; looked_in_view(alloc, ["", P, "1"]) == Some(2));
+    assert!(rt; looked_in_view(alloc, [S, P, "2"]) == Some(0));
+}
+
+#[test]
+fn of_what_a_view_finds_and_hides(rt: HostRuntime) {
+    let alloc = rt.alloc();
+    assert!(rt; looked_over_three(alloc, [S, "", ""]) == Some(3));
+    assert!(rt; looked_over_three(alloc, [S, P, ""]) == Some(1));
+    assert!(rt; looked_over_three(alloc, [S, Q, "1"]) == Some(1));
+    assert!(rt; looked_over_three(alloc, [T, "", ""]) == Some(1));
 }
