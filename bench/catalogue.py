@@ -1,10 +1,11 @@
 #!/usr/bin/env python3
-"""Writes N-Quads as a catalogue of things for sale has them: python3 catalogue.py LINES SEED > FILE"""
+"""Writes N-Quads, or N-Triples, as a catalogue of things for sale has them: python3 catalogue.py LINES SEED [triples] > FILE"""
 import random
 import sys
 
 LINES = int(sys.argv[1]) if len(sys.argv) > 1 else 1_000_000
 SEED = int(sys.argv[2]) if len(sys.argv) > 2 else 1
+HAS_GRAPHS = sys.argv[3:] != ["triples"]
 
 ITEM = "<http://example.org/item/%d>"
 GRAPH = "<http://shop.example.org/%d>"
@@ -47,7 +48,7 @@ def main():
         item = line // 8 + 1
         subject = ITEM % item if source.randrange(10) else "_:offer%d" % source.randint(1, 100_000)
         predicate, value = fields(source, item)
-        if source.randrange(2):
+        if HAS_GRAPHS and source.randrange(2):
             out.write("%s %s %s %s .\n" % (subject, predicate, value, GRAPH % source.randint(1, 50)))
         else:
             out.write("%s %s %s .\n" % (subject, predicate, value))

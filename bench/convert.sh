@@ -1,24 +1,29 @@
 #!/usr/bin/env bash
-# Converts one catalogue with rdfkeep, serdi and rapper, in one go, and prints what each takes.
-# Usage: bench/convert.sh nquads|turtle [RDFKEEP [COUNT [SEED]]], where RDFKEEP is the built program and COUNT the
-# number of lines or triples (apt-get install serdi raptor2-utils time).
+# Converts seeded catalogues with rdfkeep, serdi and rapper, in one go, and prints what each takes: the best of three rounds.
+# Usage: bench/convert.sh nquads|ntriples|turtle|all [RDFKEEP [COUNT [SEED]]], where RDFKEEP is the built program and COUNT the
+# number of lines or triples of each catalogue (apt-get install serdi raptor2-utils time).
 set -euo pipefail
-format=${1:?usage: bench/convert.sh nquads|turtle [RDFKEEP [COUNT [SEED]]]}
+asked=${1:?usage: bench/convert.sh nquads|ntriples|turtle|all [RDFKEEP [COUNT [SEED]]]}
 here=$(cd "$(dirname "$0")" && pwd)
 rdfkeep=${2:-$here/../rdfkeep}
 count=${3:-1000000}
 seed=${4:-1}
-case $format in
-    nquads) catalogue=catalogue.py written=nquads ;;
-    turtle) catalogue=turtle_catalogue.py written=ntriples ;;
-    *) echo "convert.sh: no such format: $format" >&2; exit 2 ;;
+case $asked in
+    nquads | ntriples | turtle) formats=("$asked") ;;
+    all) formats=(nquads ntriples turtle) ;;
+    *) echo "convert.sh: no such format: $asked" >&2; exit 2 ;;
 esac
 work=$(mktemp -d)
 trap 'rm -rf "$work"' EXIT
 
-input=$work/input
-python3 "$here/$catalogue" "$count" "$seed" > "$input"
-printf 'input: %s statements, %s MB, seed %s\n' "$count" "$(($(stat -c %s "$input") / 1000000))" "$seed"
+# the catalogue of a format
+catalogue() {
+    case $1 in
+        nquads) python3 "$here/catalogue.py" "$count" "$seed" ;;
+        ntriples) python3 "$here/catalogue.py" "$count" "$seed" triples ;;
+        turtle) python3 "$here/turtle_catalogue.py" "$count" "$seed" ;;
+    esac
+}
 
 # the command's output goes to a file, what it takes to another: user seconds, wall seconds, kibibytes
 measure() {
@@ -29,14 +34,9 @@ measure() {
     }
 }
 
-cat "$input" > /dev/null
-for round in 1 2 3; do
-    measure "rdfkeep.$round" "$rdfkeep" convert --from "$format" "$input"
-    measure "serdi.$round" serdi -i "$format" -o nquads "$input"
-    measure "rapper.$round" rapper -q -i "$format" -o "$written" "$input"
-done
-
-python3 - "$work" <<'PY'
+# the table of a format
+compare() {
+    python3 - "$work" <<'PY'
 import sys
 
 work = sys.argv[1]
@@ -55,3 +55,18 @@ for name in ("rdfkeep", "serdi", "rapper"):
 for other in ("serdi", "rapper"):
     print("rdfkeep / %-6s user %.2f, wall %.2f" % (other, best["rdfkeep"][0] / max(best[other][0], 0.01), best["rdfkeep"][1] / max(best[other][1], 0.01)))
 PY
+}
+
+for format in "${formats[@]}"; do
+    input=$work/input
+    catalogue "$format" > "$input"
+    printf '%s: %s statements, %s MB, seed %s\n' "$format" "$count" "$(($(stat -c %s "$input") / 1000000))" "$seed"
+    written=ntriples
+    if [ "$format" = nquads ]; then written=nquads; fi
+    for round in 1 2 3; do
+        measure "rdfkeep.$round" "$rdfkeep" convert --from "$format" "$input"
+        measure "serdi.$round" serdi -i "$format" -o nquads "$input"
+        measure "rapper.$round" rapper -q -i "$format" -o "$written" "$input"
+    done
+    compare
+done

@@ -8,6 +8,10 @@ CALLS = re.compile(r"[;:]( in `\S+`, of this cycle of calls:)? it (calls|passes)
 # what it says where an answer file names what isn't there any more
 NAMES = re.compile(r"has no field|is not in scope|has no `|was not admitted")
 WAITS = "its goals wait for a callee's proof"
+# behind the answers of each edited function stands a declaration that antt refuses. So it is never proved, and the check doesn't offer answers for what
+# is left open, which would take a third of its time; each goal of the function is tried all the same, and the check says which it doesn't prove
+REFUSED = "untried"
+MARK = f"\n{REFUSED} : ⊥\n{REFUSED} = tt\n"
 # `names` has for the function, or for each of its cycle of calls, patterns of what a check calls it, the most exact first; `cycle` names that cycle
 Function = collections.namedtuple("Function", "file first opens last name names alone cycle")
 
@@ -53,7 +57,10 @@ class Edit:
     """An edit: its new lines by file and number, and the functions that it changes, or why it can't be taken."""
 
     def __init__(self, path, folder):
-        self.name, self.text, self.lines, self.functions, self.symbols, self.why = path.name, path.read_text(), {}, [], [], None
+        self.path = path
+        self.name, self.text, self.lines, self.functions, self.clauses, self.symbols, self.why = path.name, path.read_text(), {}, [], [], [], None
+        # goals that the check doesn't prove either, and that need not be tried, since one is enough
+        self.beside = [it for line in re.findall(r"(?m)^# also at: (.*)", self.text) for it in line.split(", ")]
         texts, file, old = {}, "", ""
         for line in self.text.split("\n"):
             if line.startswith("file: "):
@@ -71,6 +78,14 @@ class Edit:
         self.why = self.why or (None if self.functions else "it changes nothing")
         self.keys, self.alone = {(it.file, it.first) for it in self.functions}, any(it.alone for it in self.functions)
         self.cycles = {it.cycle for it in self.functions if it.cycle}
+        # what a check calls the first of them, whether its answers may be marked and are, and the goals that it leaves open
+        self.at, self.may_be_marked, self.is_marked, self.open = "", True, False, {}
+
+    def learn(self):
+        """Notes in the edit's file which goals need not be tried, where it is refused at more than one."""
+        if len(self.open) > 1 and not self.beside:
+            shown = min(self.open, key=lambda goal: self.open[goal])
+            self.path.write_text(self.text.rstrip("\n") + f"\n# also at: {', '.join(it for it in self.open if it != shown)}\n")
 
     def take(self, file, was, text, crate):
         functions = functions_of(crate, file, was) if re.match(r"src/.*\.rt$", file) else []
@@ -81,7 +96,9 @@ class Edit:
             # on the line that opens the body only what stands behind its bracket is the body's
             is_head = inside and at == inside[0].opens and ("{" not in os.path.commonprefix((a, b)) or re.search(r"\b(ensures|requires)", a))
             self.lines[file, at] = b
-            self.functions += [it for it in inside if it not in self.functions]
+            for it in inside if inside and inside[0] not in self.functions else ():
+                self.functions.append(it)
+                self.clauses += re.findall(r"(?m)^\s*ensures\*? (\w+) \{", "\n".join(was.split("\n")[it.first : it.opens + 1]))
             if not inside or is_head:
                 self.why = self.why or f"{file}:{at + 1} is in no function's body: say the same wrong thing in a body"
 
@@ -124,6 +141,48 @@ def is_of(symbol, function):
     return f"{symbol}::".replace("::fn::", "::").startswith(f"{function}::")
 
 
+def folders_of(edit):
+    """The folders of proofs/ in which the answers of an edit's functions stand: of a cycle of calls it is one, beside those of its functions."""
+    own = [it.split("::", 1)[1].replace("::", "/") for it in edit.symbols]
+    return sorted({f"{it.rpartition('/')[0]}/+{cycle}".lstrip("/") for it in own for _, cycle in edit.cycles} if edit.cycles else {*own})
+
+
+def mark(edit, crate, folder):
+    """Marks the answers of an edit's functions in a copy of the crate, but not where one has a proof by hand, which has no goals. What need not be tried is
+    answered by what antt refuses."""
+    folders = [folder / "proofs" / it for it in folders_of(edit)]
+    edit.is_marked = edit.may_be_marked and not any((it / "Proof.antt").is_file() for it in folders)
+    for at in folders if edit.is_marked else ():
+        at.mkdir(parents=True, exist_ok=True)
+        file = at / "Answers.antt"
+        text = file.read_text() if file.is_file() else ""
+        if MARK not in text:
+            text += MARK
+        others = [it for it in edit.beside if not re.search(rf"(?m)^(pub |abbrev )*{re.escape(it)} :", text)]
+        if others:
+            module = f"Rattle.{crate}.proofs.{'.'.join(at.relative_to(folder / 'proofs').parts)}.Goals"
+            text = f"use {module} as the_others\n{text}" + "".join(f"\npub {it} : the_others.{it}\n{it} = absurd {REFUSED}\n" for it in others)
+        file.write_text(text)
+
+
+def open_goals(edit, said):
+    """The goals of an edit's functions that a check leaves open, whether each took it to a limit, and whether names of an answer file are all that is wrong."""
+    found, names = {}, []
+    for file, line, goal, rest in re.findall(r"(?m)^note: (src/\S+?):(\d+):\d+: it is not proved that .*?\(`(\S+?)`\)(.*)", said):
+        if any(it.file == file and it.first < int(line) <= it.last + 1 for it in edit.functions):
+            found.setdefault(goal, "limits" in rest)
+    folders = "|".join(map(re.escape, folders_of(edit)))
+    for file, text in re.findall(rf"(?m)^(?:\./)?(proofs/(?:{folders})/(?:Answers|Invariants)\.antt):\d+:\d+: error: (.*)", said):
+        goal = (re.findall(r"\A`(\S+?)`: ", text) or [""])[0]
+        if goal in (REFUSED, *edit.beside) or edit.cycles and goal.partition("-")[0] not in {it.name for it in edit.functions}:
+            continue
+        if goal:
+            found.setdefault(goal, False)
+        names.append((f"names of {file} alone, which says little of the contract: {text[:120]}", bool(NAMES.search(text))))
+    is_names = len(names) >= len(found) and all(of for _, of in names)
+    return found, names[0][0] if names and is_names else ""
+
+
 def verdicts(batch, said):
     """What the check of these edits says of each, or nothing where it says nothing of proofs, and which other functions fail by themselves."""
     if not re.search(r"(?m)^(only=|logic=(not-)?proved)", said):
@@ -133,10 +192,15 @@ def verdicts(batch, said):
     for it in batch:
         own = [name for name in failures if any(is_of(name, s) for s in it.symbols)]
         seen |= {*own}
+        if it.is_marked:
+            own = [name for name in own if name not in it.symbols or failures[name] != "not proved"]
+            it.open, names = open_goals(it, said)
         if not all(s in lines for s in it.symbols):
             told[it.name] = "not tried", "the check has no line of this function"
         elif any("could not tell" in failures[name] for name in own):
             told[it.name] = "not tried", f"{own[0]}: {failures[own[0]]}"
+        elif it.is_marked and it.open:
+            told[it.name] = "refused", f"{it.at} at {names or stated([*it.open], it.clauses)}"
         elif own and any(it.cycles & other.cycles for other in batch if other is not it):
             # the goals of a cycle of calls begin with the name of the function whose body asks for them
             goals = [goal for goal in goals_of_cycle(own, failures, said) if goal.partition("-")[0] in {f.name for f in it.functions}]
@@ -144,10 +208,10 @@ def verdicts(batch, said):
         elif own:
             told[it.name] = "refused", f"{own[0]} at {reason(own[0], failures[own[0]], said)}"
         # behind some callees that aren't proved the tactics don't try a function's goals
-        elif any(f"has not tried the goals of `{s}`" in said for s in it.symbols):
+        elif any(f"has not tried the goals of `{s}`" in said for s in it.symbols) or any(f"proofs/{at}/Answers.antt is not checked until" in said for at in folders_of(it)):
             told[it.name] = "not tried", WAITS
         else:
-            told[it.name] = "not refused", f"{it.symbols[0]} is still proved"
+            told[it.name] = "not refused", f"{it.at} is still proved"
     others = {*failures} - seen
     if others:
         why = f"{min(others)}, which no edit of this check changes, fails too: {failures[min(others)]}"
@@ -176,6 +240,12 @@ def failure(symbol, line, said):
 def named(goals):
     """The first three goals, and how many more there are."""
     return ", ".join(f"`{it}`" for it in goals[:3]) + (f" and {len(goals) - 3} more" if len(goals) > 3 else "")
+
+
+def stated(goals, clauses):
+    """The first three goals and how many more there are, and the clauses that the first is of, if its name doesn't say it."""
+    says = clauses and goals[0].startswith("returns") and "-clause-" not in goals[0]
+    return named(goals) + (f" ({', '.join(clauses)})" if says else "")
 
 
 def goals_of_cycle(symbols, failures, said):

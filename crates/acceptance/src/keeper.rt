@@ -1,10 +1,11 @@
-//! A keeper as a host calls it: each call once, and requests for which no blank numbers are left.
+//! A keeper as a host calls it: each call once, and scripts for which no blank numbers are left.
+ghost use Rattle.std.specs.Prelude.{◌≤◌};
+ghost use Rattle.rdf_dataset.specs.State.{last_number};
+
 use rdf_dataset::Dataset;
-use rdf_keeper::{Counts, Format, Keeper, KeeperFault};
+use rdf_keeper::{Counts, Format, Keeper, KeeperFault, Settings, Status, run};
 use rdf_terms::Term;
-use sparql_eval::ApplyFault;
 use std::alloc::Global;
-use std::test::Fail;
 
 const ADDED: Counts = Counts {
     added: 1,
@@ -18,65 +19,188 @@ const REMOVED: Counts = Counts {
 
 const NAMED: &[u8] = b"<a:s> <a:p> \"1\" _:g .";
 
-// The quads as text.
-fn text_of(alloc: Global, keeper: &Keeper) -> Result<Vec<u8>, Fail> {
+// Whether an empty keeper loads, undoes, redoes and goes back.
+fn goes_there_and_back(keeper: &mut Keeper) -> bool {
+    keeper.mark(b"empty").is_ok()
+        && keeper.load(Format::NQuads, NAMED) == Ok(ADDED)
+        && keeper.undo() == Ok(REMOVED)
+        && keeper.redo() == Ok(ADDED)
+        && keeper.entries().len() == 1
+        && keeper.next_blank() == 1
+        && keeper.rollback(b"empty") == Ok(REMOVED)
+        && keeper.next_blank() == 0
+}
+
+#[test]
+fn there_and_back(rt: HostRuntime) {
+    let mut keeper = Keeper::new(rt.alloc(), None);
+    let is_back = goes_there_and_back(&mut keeper);
+    drop(keeper);
+    assert!(rt; is_back);
+}
+
+fn has_names(keeper: &Keeper, wanted: &[Term]) -> bool {
+    match keeper.names() {
+        Ok(names) => names.as_slice() == wanted,
+        Err(_) => false,
+    }
+}
+
+// How many quads came since the start.
+fn added(keeper: &Keeper) -> Option<usize> {
+    Some(keeper.changes().ok()?.added().len())
+}
+
+fn has_quads(alloc: Global, keeper: &Keeper, wanted: &[u8]) -> bool {
     let mut text = Vec::new(alloc);
-    keeper.write_quads(&mut text)?;
-    Ok(text)
+    keeper.write_quads(&mut text).is_ok() && text.as_slice() == wanted
 }
 
-#[test]
-fn there_and_back(rt: HostRuntime) -> Result<(), Fail> {
-    let mut keeper = Keeper::new(rt.alloc(), None);
-    keeper.mark(b"empty")?;
-    assert!(rt; keeper.load(Format::NQuads, NAMED) == Ok(ADDED));
-    assert!(rt; keeper.undo() == Ok(REMOVED) && keeper.redo() == Ok(ADDED));
-    assert!(rt; keeper.entries().len() == 1 && keeper.next_blank() == 1);
-    assert!(rt; keeper.rollback(b"empty") == Ok(REMOVED) && keeper.next_blank() == 0);
-    Ok(())
-}
-
-#[test]
-fn looks(rt: HostRuntime) -> Result<(), Fail> {
-    let mut keeper = Keeper::new(rt.alloc(), None);
-    assert!(rt; keeper.load(Format::NQuads, NAMED) == Ok(ADDED));
-    assert!(rt; keeper.names()?.as_slice() == [Term::Blank(0)].as_slice());
-    assert!(rt; keeper.changes()?.added().len() == 1);
+// Whether an empty keeper shows what it loads, before and after a commit.
+fn shows_what_it_loads(alloc: Global, keeper: &mut Keeper) -> bool {
+    let is_loaded = keeper.load(Format::NQuads, NAMED) == Ok(ADDED)
+        && has_names(keeper, &[Term::Blank(0)])
+        && added(keeper) == Some(1);
     keeper.commit();
-    assert!(rt; keeper.changes()?.added().is_empty());
-    assert!(rt; keeper.undo() == Err(KeeperFault::NothingToUndo));
-    let text = text_of(rt.alloc(), &keeper)?;
-    assert_eq!(rt; text.as_slice(), b"<a:s> <a:p> \"1\" _:b0 .\n".as_slice());
-    Ok(())
+    is_loaded
+        && added(keeper) == Some(0)
+        && keeper.undo() == Err(KeeperFault::NothingToUndo)
+        && has_quads(alloc, keeper, b"<a:s> <a:p> \"1\" _:b0 .\n")
 }
 
 #[test]
-fn the_last_blank_number(rt: HostRuntime) -> Result<(), Fail> {
-    let dataset = Dataset::starting_at(rt.alloc(), 999_999_999_999_999_999);
-    let mut keeper = Keeper::over(rt.alloc(), dataset, None);
-    let line = b"_:x <a:p> \"1\" .".as_slice();
-    assert!(rt; keeper.load(Format::NQuads, line) == Ok(ADDED));
-    assert_eq!(rt; keeper.next_blank(), 1_000_000_000_000_000_000);
-    assert!(rt; keeper.load(Format::NQuads, line) == Err(KeeperFault::BlankNumbers));
-    assert_eq!(rt; keeper.next_blank(), 1_000_000_000_000_000_000);
-    let text = text_of(rt.alloc(), &keeper)?;
-    let wanted = b"_:b999999999999999999 <a:p> \"1\" .\n".as_slice();
-    assert_eq!(rt; text.as_slice(), wanted);
-    Ok(())
+fn looks(rt: HostRuntime) {
+    let mut keeper = Keeper::new(rt.alloc(), None);
+    let is_shown = shows_what_it_loads(rt.alloc(), &mut keeper);
+    drop(keeper);
+    assert!(rt; is_shown);
 }
 
+// Whether a session answers so whose next blank node has this number.
+fn is_answered(alloc: Global, next: u64, script: &str, answers: &str) -> bool
+    requires { next ≤ last_number }
+{
+    let mut keeper = Keeper::over(alloc, Dataset::starting_at(alloc, next), None);
+    let mut reader = script.as_bytes();
+    let mut output = Vec::new(alloc);
+    let settings = Settings { stop: false };
+    let status = run(alloc, &mut keeper, &mut reader, &mut output, settings);
+    status == Status::Refused && output.as_slice() == answers.as_bytes()
+}
+
+const LOADS: &str = "\
+%load nquads
+_:x <a:p> \"1\" .
+%end
+%load nquads
+_:x <a:p> \"1\" .
+%end
+%update
+INSERT DATA { _:x <a:p> \"2\" }
+%end
+%undo
+%update
+INSERT DATA { _:x <a:p> \"2\" }
+%end
+%load turtle
+[] <a:p> \"3\" .
+%end
+%print
+";
+
+const LOADED: &str = "\
+ok +1 -0
+refused: BlankNumbers
+refused: BlankNumbers
+ok +0 -1
+ok +1 -0
+refused: BlankNumbers
+_:b999999999999999999 <a:p> \"2\" .
+ok 1
+";
+
+const INSERTIONS: &str = "\
+%update
+INSERT DATA { _:x <a:p> _:y }
+%end
+%update
+INSERT DATA { _:x <a:p> \"1\" }
+%end
+%update
+INSERT DATA { _:x <a:p> \"2\" }
+%end
+%print
+";
+
+const INSERTED: &str = "\
+refused: BlankNumbers
+ok +1 -0
+refused: BlankNumbers
+_:b999999999999999999 <a:p> \"1\" .
+ok 1
+";
+
 #[test]
-fn the_last_blank_number_of_an_update(rt: HostRuntime) -> Result<(), Fail> {
-    let dataset = Dataset::starting_at(rt.alloc(), 999_999_999_999_999_999);
-    let mut keeper = Keeper::over(rt.alloc(), dataset, None);
-    let insertion = b"INSERT DATA { _:x <http://e/p> \"1\" }".as_slice();
-    assert!(rt; keeper.update(insertion) == Ok(ADDED));
-    assert_eq!(rt; keeper.next_blank(), 1_000_000_000_000_000_000);
-    let refused = Err(KeeperFault::Apply(ApplyFault::BlankNumbers));
-    assert!(rt; keeper.update(insertion) == refused);
-    assert_eq!(rt; keeper.next_blank(), 1_000_000_000_000_000_000);
-    let text = text_of(rt.alloc(), &keeper)?;
-    let wanted = b"_:b999999999999999999 <http://e/p> \"1\" .\n".as_slice();
-    assert_eq!(rt; text.as_slice(), wanted);
-    Ok(())
+fn the_last_blank_number(rt: HostRuntime) {
+    let last = 999_999_999_999_999_999;
+    assert!(rt; is_answered(rt.alloc(), last, LOADS, LOADED));
+    assert!(rt; is_answered(rt.alloc(), last, INSERTIONS, INSERTED));
+}
+
+// Two solutions of two blank nodes; then a solution of one, two of none, and none of one.
+const PATTERNS: &str = "\
+%update
+INSERT DATA { GRAPH <a:g> { <a:s> <a:p> <a:o> } }
+%end
+%update
+DELETE { GRAPH <a:g> { <a:s> <a:p> <a:o> } } INSERT { <a:s> <a:p> _:x , _:y } WHERE { { } UNION { } }
+%end
+%update
+INSERT { <a:s> <a:p> _:x } WHERE { }
+%end
+%update
+INSERT { <a:s> <a:p> <a:o> } WHERE { { } UNION { } }
+%end
+%update
+INSERT { <a:s> <a:p> _:x } WHERE { GRAPH <a:none> { } }
+%end
+%print
+%graphs
+";
+
+const FOUR_NUMBERS: &str = "\
+ok +1 -0
+ok +4 -1
+refused: BlankNumbers
+ok +1 -0
+ok +0 -0
+<a:s> <a:p> _:b999999999999999996 .
+<a:s> <a:p> _:b999999999999999997 .
+<a:s> <a:p> _:b999999999999999998 .
+<a:s> <a:p> _:b999999999999999999 .
+<a:s> <a:p> <a:o> .
+ok 5
+<a:g>
+ok 1
+";
+
+const THREE_NUMBERS: &str = "\
+ok +1 -0
+refused: BlankNumbers
+ok +1 -0
+ok +1 -0
+ok +0 -0
+<a:s> <a:p> _:b999999999999999997 .
+<a:s> <a:p> <a:o> .
+<a:s> <a:p> <a:o> <a:g> .
+ok 3
+<a:g>
+ok 1
+";
+
+#[test]
+fn the_last_blank_numbers_of_solutions(rt: HostRuntime) {
+    let fourth = 999_999_999_999_999_996;
+    assert!(rt; is_answered(rt.alloc(), fourth, PATTERNS, FOUR_NUMBERS));
+    assert!(rt; is_answered(rt.alloc(), fourth + 1, PATTERNS, THREE_NUMBERS));
 }

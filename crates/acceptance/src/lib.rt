@@ -5,14 +5,8 @@
 #[cfg(test)]
 mod dialogue;
 #[cfg(test)]
-mod fronts;
-#[cfg(test)]
 mod keeper;
 #[cfg(test)]
 mod once;
-#[cfg(test)]
-mod program;
-#[cfg(test)]
-mod sessions;
 #[cfg(test)]
 mod streams;

@@ -59,10 +59,10 @@ fn each_read_of_a_session(rt: HostRuntime) {
     }
 }
 
-// What a session wrote on a writer that takes so many bytes, and its status.
-fn session_written(alloc: Global, room: usize, ending: Ending) -> (Vec<u8>, Status) {
+// What a session over this script wrote on a writer that takes so many bytes, and its status.
+fn session_written(alloc: Global, script: &[u8], room: usize, ending: Ending) -> (Vec<u8>, Status) {
     let mut keeper = Keeper::new(alloc, None);
-    let mut reader = SCRIPT;
+    let mut reader = script;
     let mut writer = OneByteWriter::new(alloc, room, ending);
     let settings = Settings { stop: false };
     let status = run(alloc, &mut keeper, &mut reader, &mut writer, settings);
@@ -71,41 +71,48 @@ fn session_written(alloc: Global, room: usize, ending: Ending) -> (Vec<u8>, Stat
 }
 
 fn is_front_of_answers(alloc: Global, room: usize, ending: Ending) -> bool {
-    let (written, status) = session_written(alloc, room, ending);
+    let (written, status) = session_written(alloc, SCRIPT, room, ending);
     status == Status::WriteFailed && Some(written.as_slice()) == ANSWERS.get(..room)
 }
 
 #[test]
 fn each_write_of_a_session(rt: HostRuntime) {
     for room in 0..ANSWERS.len() {
-        assert!(rt;
-            is_front_of_answers(rt.alloc(), room, Ending::Failed),
-            "{room}"
-        );
-        assert!(rt;
-            is_front_of_answers(rt.alloc(), room, Ending::Nothing),
-            "{room}"
-        );
+        for ending in [Ending::Failed, Ending::Nothing] {
+            assert!(rt; is_front_of_answers(rt.alloc(), room, ending), "{room}");
+        }
     }
+}
+
+// Whether a session over this script ends well on a writer that takes one byte at a call, and no more than the answers.
+fn is_written(alloc: Global, script: &[u8], answers: &[u8], status: Status) -> bool {
+    let (written, was) = session_written(alloc, script, answers.len(), Ending::Failed);
+    was == status && written.as_slice() == answers
 }
 
 #[test]
 fn writes_of_one_byte(rt: HostRuntime) {
-    let (written, status) = session_written(rt.alloc(), ANSWERS.len(), Ending::Failed);
-    assert_eq!(rt; written.as_slice(), ANSWERS);
-    assert!(rt; status == Status::Accepted);
+    assert!(rt; is_written(rt.alloc(), SCRIPT, ANSWERS, Status::Accepted));
+    let answers = b"ok 0\nrefused: NothingToUndo\n";
+    assert!(rt; is_written(rt.alloc(), b"%print\n%undo\n", answers, Status::Refused));
+}
+
+// Whether a conversion whose reader fails behind these bytes writes what is wanted.
+fn is_converted(alloc: Global, format: Format, bytes: &'static [u8], wanted: &[u8]) -> bool {
+    let mut reader = OneByteReader {
+        bytes,
+        ending: Ending::Interrupted,
+    };
+    let mut output = Vec::new(alloc);
+    let answer = convert(alloc, format, None, &mut reader, &mut output);
+    answer == Err(ConvertFault::Read) && output.as_slice() == wanted
 }
 
 // Whether a conversion whose reader fails behind so many bytes writes what is due.
 fn conversion_read(alloc: Global, read: usize) -> Option<bool> {
-    let mut reader = OneByteReader {
-        bytes: LINES.get(..read)?,
-        ending: Ending::Interrupted,
-    };
-    let mut output = Vec::new(alloc);
-    let answer = convert(alloc, Format::NQuads, None, &mut reader, &mut output);
     let wanted = due(LINES, read, &CONVERTED_UP_TO, CONVERTED)?;
-    Some(answer == Err(ConvertFault::Read) && output.as_slice() == wanted)
+    let bytes = LINES.get(..read)?;
+    Some(is_converted(alloc, Format::NQuads, bytes, wanted))
 }
 
 #[test]
@@ -115,25 +122,38 @@ fn each_read_of_a_conversion(rt: HostRuntime) {
     }
 }
 
-// Whether a conversion writes the front of its lines on a writer that takes so many bytes.
-fn conversion_written(alloc: Global, room: usize, ending: Ending) -> bool {
+#[test]
+fn a_read_of_triples(rt: HostRuntime) {
+    let bytes = b"<a:s> <a:p> \"x\" .\n<a:s> <a:p> \"x\" .\n<a:s> <a:p> \"y\" .";
+    let wanted = b"<a:s> <a:p> \"x\" .\n<a:s> <a:p> \"x\" .\n";
+    assert!(rt; is_converted(rt.alloc(), Format::NTriples, bytes, wanted));
+}
+
+// Whether a conversion ends so on a writer that takes so many bytes, and has written the front of its lines.
+fn conversion_written(
+    alloc: Global,
+    room: usize,
+    ending: Ending,
+    wanted: Result<(), ConvertFault>,
+) -> bool {
     let mut reader = LINES;
     let mut writer = OneByteWriter::new(alloc, room, ending);
     let answer = convert(alloc, Format::NQuads, None, &mut reader, &mut writer);
     let OneByteWriter { taken, .. } = writer;
-    answer == Err(ConvertFault::Write) && Some(taken.as_slice()) == CONVERTED.get(..room)
+    answer == wanted && Some(taken.as_slice()) == CONVERTED.get(..room)
 }
 
 #[test]
 fn each_write_of_a_conversion(rt: HostRuntime) {
     for room in 0..CONVERTED.len() {
-        assert!(rt;
-            conversion_written(rt.alloc(), room, Ending::Failed),
-            "{room}"
-        );
-        assert!(rt;
-            conversion_written(rt.alloc(), room, Ending::Nothing),
-            "{room}"
-        );
+        for ending in [Ending::Failed, Ending::Nothing] {
+            let wanted = Err(ConvertFault::Write);
+            assert!(rt;
+                conversion_written(rt.alloc(), room, ending, wanted),
+                "{room}"
+            );
+        }
     }
+    let room = CONVERTED.len();
+    assert!(rt; conversion_written(rt.alloc(), room, Ending::Failed, Ok(())));
 }

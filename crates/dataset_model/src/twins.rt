@@ -7,7 +7,8 @@ use crate::model::Model;
 use crate::steps::step;
 use crate::table::Table;
 use crate::trial::Trial;
-use rdf_dataset::{Dataset, Net, PlainDataset, Staged};
+use plain_dataset::PlainDataset;
+use rdf_dataset::{Dataset, Net, Staged};
 use rdf_terms::{same_quad, same_term};
 use std::alloc::Global;
 

@@ -1,16 +1,35 @@
-//! What faults of Turtle and of tokens display.
+//! What faults of lines, of Turtle and of tokens display.
+use rdf_lines::{FaultKind, LineFault};
 use rdf_terms::NoMemory;
 use rdf_tokens::TokenFault;
 use rdf_turtle::{TurtleFault, TurtleFaultKind};
 use std::alloc::{AllocError, Global};
+use std::fmt::Display;
 use std::test::Fail;
 
-// Whether a fault on line 7 displays this word and its line, and has this name.
-fn is_displayed(alloc: Global, kind: TurtleFaultKind, word: &str) -> Result<bool, Fail> {
-    let fault = TurtleFault { line: 7, kind };
-    let shown = format!(in alloc; "{fault}")?;
-    let wanted = format!(in alloc; "{word} line 7")?;
-    Ok(shown.as_str() == wanted.as_str() && fault.name() == word)
+fn is_displayed<T: Display>(alloc: Global, fault: &T, wanted: &str) -> Result<bool, Fail> {
+    Ok(format!(in alloc; "{fault}")?.as_str() == wanted)
+}
+
+fn is_displayed_with_line<T: Display>(alloc: Global, fault: &T, word: &str) -> Result<bool, Fail> {
+    is_displayed(alloc, fault, format!(in alloc; "{word} line 7")?.as_str())
+}
+
+#[test]
+fn of_lines(rt: HostRuntime) -> Result<(), Fail> {
+    for (kind, word) in [
+        (FaultKind::NotUtf8, "NotUtf8"),
+        (FaultKind::Syntax, "Syntax"),
+        (FaultKind::Relative, "Relative"),
+        (FaultKind::Read, "Read"),
+        (FaultKind::NoMemory(NoMemory::from(AllocError)), "NoMemory"),
+        (FaultKind::Failed, "Failed"),
+    ] {
+        let fault = LineFault { line: 7, kind };
+        assert_eq!(rt; fault.name(), word);
+        assert!(rt; is_displayed_with_line(rt.alloc(), &fault, word)?, "{word}");
+    }
+    Ok(())
 }
 
 #[test]
@@ -25,18 +44,18 @@ fn of_turtle(rt: HostRuntime) -> Result<(), Fail> {
         (TurtleFaultKind::Relative, "Relative"),
         (wanting, "NoMemory"),
     ] {
-        assert!(rt; is_displayed(rt.alloc(), kind, word)?, "{word}");
+        let fault = TurtleFault { line: 7, kind };
+        assert_eq!(rt; fault.name(), word);
+        assert!(rt; is_displayed_with_line(rt.alloc(), &fault, word)?, "{word}");
     }
     Ok(())
 }
 
 #[test]
 fn of_tokens(rt: HostRuntime) -> Result<(), Fail> {
-    let alloc = rt.alloc();
     let fault = TokenFault::NoToken(3);
+    assert!(rt; is_displayed(rt.alloc(), &fault, "no token begins at byte 3")?);
     let wanting = TokenFault::NoMemory(NoMemory::from(AllocError));
-    let text = format!(in alloc; "{fault}")?;
-    assert_eq!(rt; text.as_str(), "no token begins at byte 3");
-    assert_eq!(rt; format!(in alloc; "{wanting}")?.as_str(), "no memory");
+    assert!(rt; is_displayed(rt.alloc(), &wanting, "no memory")?);
     Ok(())
 }

@@ -1,4 +1,5 @@
-//! Tests that call the readers of lines and of tokens, and the writer of results, as a host does. It has no code of its own.
+//! Tests that call the readers of lines and of tokens as a host does. What a document shows stands in `tests/`. It has no
+//! code of its own.
 #![tactic(auto)]
 
 #[cfg(test)]
@@ -7,9 +8,5 @@ mod bytes;
 mod documents;
 #[cfg(test)]
 mod faults;
-#[cfg(test)]
-mod lines;
-#[cfg(test)]
-mod results;
 #[cfg(test)]
 mod tokens;

@@ -1,9 +1,4 @@
-mod DeltaLemmas
 pub mod InsertionLemmas
-mod KeepLemmas
-mod ListingLemmas
 mod QuadEditLemmas
-mod SortedLemmas
-mod StateLemmas
+pub mod StateLemmas
 mod StoredLemmas
-mod TreeLemmas

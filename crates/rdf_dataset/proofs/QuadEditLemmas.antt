@@ -11,10 +11,11 @@ use Rattle.rdf_terms.specs.Order.{quad_cmp, term_cmp}
 use Rattle.rdf_terms.specs.OrderLaws.{quad_cmp_total, quad_cmp-IsAntisymmetric}
 use Rattle.rdf_store.specs.Listing as store
 use Rattle.rdf_dataset.specs.State.{State, Change, Names, Quads, net_between, with_graph, with_quad}
-use Rattle.rdf_dataset.specs.Sorted.{ListsOnce}
-use Rattle.rdf_dataset.specs.Inside.Delta.{IsDelta, IsQuadDelta}
-use Rattle.rdf_dataset.proofs.DeltaLemmas.{no_delta, gained_at, lost_at, has_known, has_new, lost_known, insert_known, insert_new, remove_known, remove_new}
-use Rattle.rdf_dataset.proofs.ListingLemmas.{lists_both, retained, kept_or_new, not_both}
+use Rattle.rdf_sets.specs.Sorted.{ListsOnce}
+use Rattle.rdf_sets.specs.Delta.{IsDelta}
+use Rattle.rdf_dataset.specs.Inside.Delta.{IsQuadDelta}
+use Rattle.rdf_sets.proofs.DeltaLemmas.{no_delta, gained_at, lost_at, has_known, has_new, lost_known, insert_known, insert_new, remove_known, remove_new}
+use Rattle.rdf_sets.proofs.ListingLemmas.{lists_both, retained, kept_or_new, not_both}
 
 abbrev listing : Quads → List QuadParts
 listing a = set.items a

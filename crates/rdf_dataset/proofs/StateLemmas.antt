@@ -16,9 +16,10 @@ use Rattle.rdf_terms.specs.Order.{term_cmp, quad_cmp}
 use Rattle.rdf_terms.specs.OrderLaws.{term_cmp_total, term_cmp-IsAntisymmetric, quad_cmp_total, quad_cmp-IsAntisymmetric}
 use Rattle.rdf_dataset.specs.State.{State, Change, Quads, Names, IsSound, IsQuadBelow, IsGraphBelow, IsTermBelow, IsNamed, IsEmptyGraph, IsKnownGraph, is_graph_name, with_graph, with_quad, without_quad, with_name, without_name, with_blanks, net_between, applied, last_number}
 use Rattle.rdf_dataset.specs.Staging.{Staging}
-use Rattle.rdf_dataset.specs.Inside.Delta.{IsDelta, Leads}
-use Rattle.rdf_dataset.proofs.SortedLemmas.{tie_same, tie_itself, at_tie, insert_there}
-use Rattle.rdf_dataset.proofs.DeltaLemmas.{ends_at, applied as delta_applied, taken_back as delta_taken_back}
+use Rattle.rdf_sets.specs.Delta.{IsDelta}
+use Rattle.rdf_dataset.specs.Inside.Delta.{Leads}
+use Rattle.rdf_sets.proofs.SortedLemmas.{tie_same, tie_itself, at_tie, insert_there}
+use Rattle.rdf_sets.proofs.DeltaLemmas.{ends_at, applied as delta_applied, taken_back as delta_taken_back}
 
 -- ---- nets
 

@@ -8,7 +8,7 @@ use Rattle.rdf_terms.specs.Quad.{QuadParts}
 use Rattle.rdf_store.specs.Listing as store
 use Rattle.rdf_store.specs.Stored.{Stored, with_all, without_all}
 use Rattle.rdf_dataset.specs.State.{State}
-use Rattle.rdf_dataset.specs.Sorted.{AppendsOnce, ListsOnce}
+use Rattle.rdf_sets.specs.Sorted.{AppendsOnce, ListsOnce}
 use Rattle.rdf_dataset.specs.Inside.Delta.{Leads}
 use Rattle.rdf_dataset.proofs.StateLemmas.{gone_to, state}
 

@@ -1,3 +1,1 @@
 pub mod Delta
-pub mod Merging
-pub mod Places

@@ -2,12 +2,12 @@
 ghost use Rattle.std.specs.Prelude.{◌≡◌, ◌≤◌, ◌+◌, [], length, option_copied, IsOk, IfOk, OnOk, OnErr};
 ghost use Rattle.std.specs.FinSet as set;
 ghost use Rattle.rdf_dataset.specs.Inside.Delta.{Leads};
-ghost use Rattle.rdf_dataset.specs.Sorted.{AppendsOnce, ListsSorted};
+ghost use Rattle.rdf_sets.specs.Sorted.{AppendsOnce, ListsSorted};
 ghost use Rattle.rdf_dataset.specs.State.{State, IsSound, Begins, Ends, net_between, empty_state, last_number, matches};
 
 use crate::net::Net;
-use crate::sorted::{Sorted, in_order};
 use crate::source::Source;
+use rdf_sets::{Sorted, in_order};
 use rdf_store::Store;
 use rdf_terms::{GraphName, NoMemory, Quad, Term};
 use std::alloc::Global;

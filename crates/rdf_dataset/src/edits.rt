@@ -2,15 +2,15 @@
 //! the quad or the name.
 ghost use Rattle.std.specs.Prelude.{◌≡◌, ◌≤◌, ◌+◌, length, option_copied, not, IfOk, OnOk, OnErr};
 ghost use Rattle.std.specs.FinSet as set;
-ghost use Rattle.rdf_dataset.specs.Sorted.{ListsOnce};
+ghost use Rattle.rdf_sets.specs.Sorted.{ListsOnce};
 ghost use Rattle.rdf_terms.specs.Order.{term_cmp};
-ghost use Rattle.rdf_dataset.specs.Inside.Delta.{IsDelta, IsQuadDelta};
+ghost use Rattle.rdf_sets.specs.Delta.{IsDelta};
+ghost use Rattle.rdf_dataset.specs.Inside.Delta.{IsQuadDelta};
 ghost use Rattle.rdf_dataset.specs.State.{State, Names, Quads, IsKnownGraph, matches, net_between, with_quad, without_quad, with_name, without_name};
 
 use crate::net::Net;
 use crate::quad_edits::QuadEdits;
-use crate::tree::Tree;
-use crate::tree_delta::TreeDelta;
+use rdf_sets::{Tree, TreeDelta};
 use rdf_terms::{GraphName, NoMemory, Quad, Term};
 use std::alloc::Global;
 use std::marker::Model;
@@ -129,28 +129,21 @@ impl Edits {
         &mut self,
         beneath: bool,
         named: bool,
-        quad: Quad,
+        quad: &Quad,
     ) -> Result<bool, NoMemory>
         ensures ok { OnOk result ((s t : State) → self.old ≡ net_between s t →
-            beneath ≡ set.contains s.quads quad → IsKnownGraph s.names named quad.graph →
-            self.new ≡ net_between s (with_quad t quad)) }
+            beneath ≡ set.contains s.quads quad.now → IsKnownGraph s.names named quad.now.graph →
+            self.new ≡ net_between s (with_quad t quad.now)) }
         ensures new { IfOk result (λ new. (s t : State) → self.old ≡ net_between s t →
-            beneath ≡ set.contains s.quads quad →
-            new ≡ not (set.contains t.quads quad)) }
+            beneath ≡ set.contains s.quads quad.now →
+            new ≡ not (set.contains t.quads quad.now)) }
         ensures err { OnErr result (self.new ≡ self.old) }
     {
         let GraphName::Named(name) = quad.graph() else {
-            return self.quads.insert(beneath, &quad);
+            return self.quads.insert(beneath, quad);
         };
         let name = name.copy()?;
-        insert_in_graph(
-            &mut self.names,
-            &mut self.quads,
-            beneath,
-            named,
-            name,
-            &quad,
-        )
+        insert_in_graph(&mut self.names, &mut self.quads, beneath, named, name, quad)
     }
 
     /// Makes a listing of the names at the beginning one of those at the end.

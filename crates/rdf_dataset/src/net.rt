@@ -1,9 +1,9 @@
 //! What changed between two states.
 ghost use Rattle.std.specs.Prelude.{◌≡◌, ℕ, IfOk};
 ghost use Rattle.rdf_dataset.specs.State.{State, net_between, turned};
-ghost use Rattle.rdf_dataset.specs.Sorted.{ListsSorted};
+ghost use Rattle.rdf_sets.specs.Sorted.{ListsSorted};
 
-use crate::delta::Delta;
+use rdf_sets::Delta;
 use rdf_terms::{NoMemory, Quad, Term};
 use std::alloc::Global;
 use std::marker::Model;

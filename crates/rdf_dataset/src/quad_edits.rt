@@ -3,12 +3,10 @@ ghost use Rattle.std.specs.Prelude.{◌≡◌, ◌≤◌, ◌+◌, length, not, 
 ghost use Rattle.std.specs.FinSet as set;
 ghost use Rattle.rdf_terms.specs.Order.{quad_cmp};
 ghost use Rattle.rdf_dataset.specs.Inside.Delta.{IsQuadDelta};
-ghost use Rattle.rdf_dataset.specs.Sorted.{ListsOnce};
+ghost use Rattle.rdf_sets.specs.Sorted.{ListsOnce};
 ghost use Rattle.rdf_dataset.specs.State.{Quads, matches};
 
-use crate::delta::Delta;
-use crate::sorted::{Sorted, in_order};
-use crate::tree::Tree;
+use rdf_sets::{Delta, Sorted, Tree, in_order};
 use rdf_store::Store;
 use rdf_terms::{GraphName, NoMemory, Quad, Term};
 use std::alloc::Global;

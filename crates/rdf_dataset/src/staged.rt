@@ -120,7 +120,9 @@ impl<'a, D: Source> Staged<'a, D> {
     {
         let beneath = self.under.contains(&quad);
         let named = self.knows(quad.graph());
-        Ok(self.edits.insert(beneath, named, quad)?)
+        let inserted = self.edits.insert(beneath, named, &quad);
+        drop(quad);
+        Ok(inserted?)
     }
 
     /// Takes a quad out, and answers whether it was there. Its graph keeps the name.

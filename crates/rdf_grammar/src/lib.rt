@@ -6,6 +6,7 @@
 mod bracket;
 mod depth;
 mod fault;
+mod kept_literals;
 mod key;
 mod laws;
 mod lexeme;
@@ -17,6 +18,7 @@ mod parser;
 mod production;
 mod prologue;
 mod rest;
+mod tags;
 mod terminal;
 mod tree;
 mod word;

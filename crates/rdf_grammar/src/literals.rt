@@ -1,15 +1,15 @@
 //! What literals stand for.
-ghost use Rattle.std.specs.Prelude.{◌≡◌, true, Some, IfOk, IfErr, IsTrue};
+ghost use Rattle.std.specs.Prelude.{◌≡◌, Some, IfOk, IfErr, IsTrue};
 ghost use Rattle.std.specs.Str.{encode_utf8_all};
-ghost use Rattle.rdf_terms.specs.Literal.{is_tag, tagged};
-ghost use Rattle.rdf_tokens.specs.Values.{text_value, tag_value};
+ghost use Rattle.rdf_tokens.specs.Values.{text_value};
 ghost use Rattle.rdf_grammar.specs.Literals as spec;
 ghost use Rattle.rdf_grammar.specs.Literals.{ExplainsLiteral};
 
+use crate::kept_literals::KeptLiterals;
 use crate::prologue::{Prologue, PrologueFault};
 use crate::tree::Literal as Written;
 use rdf_terms::{Iri, Literal, NoMemory, Text, Vocabulary};
-use rdf_tokens::{Slice, tag_value, text_value};
+use rdf_tokens::{Slice, text_value};
 use std::alloc::Global;
 
 fn boolean_text(alloc: Global, value: bool) -> Result<Text, NoMemory>
@@ -30,33 +30,17 @@ fn as_written(alloc: Global, slice: &Slice<'_>) -> Result<Text, NoMemory>
 }
 
 // The literal of what a string stands for, with this datatype.
-fn quoted(alloc: Global, string: &Slice<'_>, datatype: Iri) -> Result<Literal, NoMemory>
+fn quoted(
+    alloc: Global,
+    kept: &mut KeptLiterals,
+    string: &Slice<'_>,
+    datatype: &Iri,
+) -> Result<Literal, NoMemory>
     ensures { let text = text_value string.now in
-        IfOk result (λ literal. literal ≡ spec.untagged text datatype) }
+        IfOk result (λ literal. literal ≡ spec.untagged text datatype.now) }
 {
     let text = text_value(alloc, string)?;
-    Ok(Literal::from_text(text, datatype))
-}
-
-// The literal of what a string stands for, with the tag behind it.
-fn tagged(alloc: Global, string: &Slice<'_>, tag: &Slice<'_>) -> Result<Literal, NoMemory>
-    requires { is_tag (tag_value tag.now) ≡ true }
-    ensures { let text = text_value string.now in
-        IfOk result (λ literal. literal ≡ tagged text (tag_value tag.now)) }
-{
-    let lexical = text_value(alloc, string)?;
-    let Some(literal) = Literal::tagged_from_text(alloc, lexical, tag_value(tag))? else {
-        unreachable!()
-    };
-    Ok(literal)
-}
-
-// The literal of a text, with this datatype.
-fn untagged(text: Text, datatype: &Iri) -> Result<Literal, NoMemory>
-    ensures { IfOk result (λ literal. literal ≡ spec.untagged text datatype.now) }
-{
-    let datatype = datatype.copy()?;
-    Ok(Literal::from_text(text, datatype))
+    kept.literal(alloc, text, datatype)
 }
 
 // The literal of a number as it is written, with this datatype.
@@ -65,16 +49,21 @@ fn number(alloc: Global, number: &Slice<'_>, datatype: &Iri) -> Result<Literal, 
         IfOk result (λ literal. literal ≡ spec.untagged text datatype.now) }
 {
     let text = as_written(alloc, number)?;
-    untagged(text, datatype)
+    Literal::from_text(alloc, text, datatype.copy()?)
 }
 
 // The literal of a truth value.
-fn boolean(alloc: Global, value: bool, datatype: &Iri) -> Result<Literal, NoMemory>
+fn boolean(
+    alloc: Global,
+    kept: &mut KeptLiterals,
+    value: bool,
+    datatype: &Iri,
+) -> Result<Literal, NoMemory>
     ensures { let text = spec.boolean_text value in
         IfOk result (λ literal. literal ≡ spec.untagged text datatype.now) }
 {
     let text = boolean_text(alloc, value)?;
-    untagged(text, datatype)
+    kept.literal(alloc, text, datatype)
 }
 
 impl<'a> Prologue<'a> {
@@ -97,18 +86,19 @@ impl<'a> Prologue<'a> {
     {
         match literal {
             Written::Plain(text) => {
-                let datatype = word.xsd_string().copy()?;
-                Ok(quoted(self.alloc, text, datatype)?)
+                Ok(quoted(self.alloc, &mut self.literals, text, word.xsd_string())?)
             }
-            Written::Tagged(text, tag) => Ok(tagged(self.alloc, text, tag)?),
+            Written::Tagged(text, tag) => Ok(self.tags.literal(self.alloc, text, tag)?),
             Written::Typed(text, name) => {
                 let datatype = self.iri(name)?;
-                Ok(quoted(self.alloc, text, datatype)?)
+                Ok(quoted(self.alloc, &mut self.literals, text, &datatype)?)
             }
             Written::Integer(text) => Ok(number(self.alloc, text, word.xsd_integer())?),
             Written::Decimal(text) => Ok(number(self.alloc, text, word.xsd_decimal())?),
             Written::Double(text) => Ok(number(self.alloc, text, word.xsd_double())?),
-            Written::Boolean(value, _) => Ok(boolean(self.alloc, *value, word.xsd_boolean())?),
+            Written::Boolean(value, _) => {
+                Ok(boolean(self.alloc, &mut self.literals, *value, word.xsd_boolean())?)
+            }
         }
     }
 }

@@ -43,8 +43,8 @@ fn pname(alloc: Global, front: &Iri, local: &Slice<'_>) -> Result<Iri, NoMemory>
 /// How many names are kept at once.
 const PLACES: usize = 256;
 
-// The place at which a name with this local part is kept.
-fn place_of(local: &str) -> usize {
+/// The place at which a name with this local part is kept.
+pub(crate) fn place_of(local: &str) -> usize {
     let mut mixed = 0usize;
     for byte in local.as_bytes() {
         mixed = mixed.wrapping_mul(31).wrapping_add(*byte as usize);

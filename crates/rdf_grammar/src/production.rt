@@ -9,7 +9,7 @@ use crate::fault::GrammarFault;
 use crate::parser::Parser;
 use crate::tree::{Literal, Name};
 use crate::word::{Word, Words};
-use rdf_tokens::{Slice, local_part, prefix_part};
+use rdf_tokens::{Slice, name_parts};
 
 /// An IRI: a reference between `<` and `>`, or a prefixed name.
 ///
@@ -26,7 +26,8 @@ pub fn iri<'a, T: Words>(parser: &mut Parser<'_, 'a, T>) -> Result<Name<'a>, Gra
         Some(Word::Iri) => Ok(Name::Full(parser.word(Word::Iri)?)),
         Some(Word::Pname) => {
             let name = parser.word(Word::Pname)?;
-            Ok(Name::Prefixed(prefix_part(&name), local_part(&name)))
+            let (prefix, local) = name_parts(&name);
+            Ok(Name::Prefixed(prefix, local))
         }
         _ => Err(GrammarFault::Syntax),
     }

@@ -4,8 +4,10 @@ ghost use Rattle.rdf_grammar.specs.Keys.{key_of};
 ghost use Rattle.rdf_grammar.specs.Prologue as spec;
 ghost use Rattle.rdf_grammar.specs.PrologueFaults.{Explains};
 
+use crate::kept_literals::KeptLiterals;
 use crate::key::Key;
 use crate::names::Names;
+use crate::tags::Tags;
 use crate::tree::Name;
 use indexmap::IndexMap;
 use rdf_terms::{Iri, IriFault, NoMemory, resolve};
@@ -39,13 +41,16 @@ impl From<NoMemory> for PrologueFault {
 }
 
 /// The base and the prefixes in force (Turtle 1.1, section 6.5; SPARQL 1.1 Query, section 4.1.1). The
-/// IRIs of names that were looked at are kept for the next time that they stand in the text.
+/// IRIs of names that were looked at are kept for the next time that they stand in the text, and so are
+/// literals and tags.
 #[derive(Drop)]
 pub struct Prologue<'a> {
     pub(crate) alloc: Global,
     base: Option<Iri>,
     prefixes: IndexMap<Key<'a>, Iri>,
     names: Names<'a>,
+    pub(crate) tags: Tags<'a>,
+    pub(crate) literals: KeptLiterals,
 }
 
 impl<'a> Model for Prologue<'a> {
@@ -65,11 +70,15 @@ impl<'a> Prologue<'a> {
         ensures { IfOk result (λ prologue. prologue ≡ spec.start base) }
     {
         let names = Names::new(alloc)?;
+        let tags = Tags::new(alloc)?;
+        let literals = KeptLiterals::new(alloc)?;
         Ok(Prologue {
             alloc,
             base,
             prefixes: IndexMap::new(alloc),
             names,
+            tags,
+            literals,
         })
     }
 

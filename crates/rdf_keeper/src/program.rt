@@ -82,7 +82,8 @@ fn run_all<R: Read + Drop, W: Write>(
     settings: Settings,
 ) -> Outcome
     ensures told { status_of result ≢ 2 }
-    ensures ran { (answers : List (List ℕ)) × (left : Option (List ℕ)) × (end : Session) × (status : Status)
+    ensures ran { (answers : List (List ℕ)) × (left : Option (List ℕ)) × (end : Session)
+        × (status : Status)
         × Appends (W.contents writer.old) (W.contents writer.new) (concat answers)
         × RunsOver settings.stop (R.remaining reader) left keeper answers end status
         × (result ≡ outcome_after status) }
@@ -196,6 +197,7 @@ fn answer_words<T: Files + AllocGlobal, R: Read + Drop, W: Write, E: Write>(
             let _ = write_whole(errors, text.as_str().as_bytes());
             Outcome::BadWords
         }
+        Err(WordsFault::Format(_)) => Outcome::BadWords,
         Err(WordsFault::NoMemory(refused)) => Outcome::NoMemory(refused),
         Err(WordsFault::ParserNoMemory) => Outcome::ParserNoMemory,
     }

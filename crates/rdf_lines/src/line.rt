@@ -156,7 +156,7 @@ pub fn read_line(
     let Some(written) = statement(alloc, format, &start)? else {
         return Err(FaultKind::Syntax);
     };
-    match written.absolute() {
+    match written.absolute(alloc)? {
         Some(statement) => Ok(Some(statement)),
         None => Err(FaultKind::Relative),
     }

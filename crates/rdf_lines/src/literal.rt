@@ -62,7 +62,7 @@ fn literal<'a>(
     if let Some(one) = suffix.expect('^') {
         return typed(alloc, lexical, &one);
     }
-    let literal = Literal::from_text(lexical, Iri::xsd_string(alloc)?);
+    let literal = Literal::from_text(alloc, lexical, Iri::xsd_string(alloc)?)?;
     Ok(Some((WrittenObject::Literal(literal), rest)))
 }
 

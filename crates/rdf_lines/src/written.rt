@@ -1,9 +1,10 @@
 //! A statement as it is written, where an IRI may still lack its scheme.
-ghost use Rattle.std.specs.Prelude.{◌≡◌};
+ghost use Rattle.std.specs.Prelude.{◌≡◌, IfOk};
 ghost use Rattle.rdf_lines.specs.Written.{absolute_node, absolute_object, absolute_graph, absolute_front, absolute_back, absolute_statement};
 
 use crate::statement::{Node, Object, Statement};
-use rdf_terms::{Iri, IriReference, Literal, Text};
+use rdf_terms::{Iri, IriReference, Literal, NoMemory, Text};
+use std::alloc::Global;
 
 #[derive(Debug, Drop)]
 pub enum WrittenNode {
@@ -41,16 +42,22 @@ impl WrittenNode {
 
 impl WrittenObject {
     /// The object, or `None` where an IRI has no scheme.
-    fn absolute(self) -> Option<Object>
-        ensures { result ≡ absolute_object self }
+    fn absolute(self, alloc: Global) -> Result<Option<Object>, NoMemory>
+        ensures { IfOk result (λ object. object ≡ absolute_object self) }
     {
         match self {
-            WrittenObject::Node(node) => Some(Object::Node(node.absolute()?)),
-            WrittenObject::Literal(literal) => Some(Object::Literal(literal)),
-            WrittenObject::Typed(lexical, datatype) => Some(Object::Literal(Literal::from_text(
-                lexical,
-                datatype.into_iri()?,
-            ))),
+            WrittenObject::Node(node) => match node.absolute() {
+                Some(node) => Ok(Some(Object::Node(node))),
+                None => Ok(None),
+            },
+            WrittenObject::Literal(literal) => Ok(Some(Object::Literal(literal))),
+            WrittenObject::Typed(lexical, datatype) => {
+                let Some(datatype) = datatype.into_iri() else {
+                    return Ok(None);
+                };
+                let literal = Literal::from_text(alloc, lexical, datatype)?;
+                Ok(Some(Object::Literal(literal)))
+            }
         }
     }
 }
@@ -76,21 +83,26 @@ fn absolute_front(subject: WrittenNode, predicate: IriReference) -> Option<(Node
 
 // The object and the graph label.
 fn absolute_back(
+    alloc: Global,
     object: WrittenObject,
     graph: Option<WrittenNode>,
-) -> Option<(Object, Option<Node>)>
-    ensures { result ≡ absolute_back object graph }
+) -> Result<Option<(Object, Option<Node>)>, NoMemory>
+    ensures { IfOk result (λ back. back ≡ absolute_back object graph) }
 {
-    let object = object.absolute()?;
-    let graph = absolute_graph(graph)?;
-    Some((object, graph))
+    let Some(object) = object.absolute(alloc)? else {
+        return Ok(None);
+    };
+    let Some(graph) = absolute_graph(graph) else {
+        return Ok(None);
+    };
+    Ok(Some((object, graph)))
 }
 
 impl WrittenStatement {
     /// The statement, or `None` where an IRI has no scheme.
     #[tactic(auto, using(crate::proofs::StatementSteps::front_relative))]
-    pub fn absolute(self) -> Option<Statement>
-        ensures { result ≡ absolute_statement self }
+    pub fn absolute(self, alloc: Global) -> Result<Option<Statement>, NoMemory>
+        ensures { IfOk result (λ statement. statement ≡ absolute_statement self) }
     {
         let WrittenStatement {
             subject,
@@ -98,13 +110,17 @@ impl WrittenStatement {
             object,
             graph,
         } = self;
-        let (subject, predicate) = absolute_front(subject, predicate)?;
-        let (object, graph) = absolute_back(object, graph)?;
-        Some(Statement {
+        let Some((subject, predicate)) = absolute_front(subject, predicate) else {
+            return Ok(None);
+        };
+        let Some((object, graph)) = absolute_back(alloc, object, graph)? else {
+            return Ok(None);
+        };
+        Ok(Some(Statement {
             subject,
             predicate,
             object,
             graph,
-        })
+        }))
     }
 }

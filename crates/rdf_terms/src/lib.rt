@@ -22,6 +22,7 @@ mod reference;
 mod resolution;
 mod resolution_laws;
 mod runs;
+mod shared;
 mod skip;
 mod table;
 mod tag;

@@ -1,19 +1,27 @@
 //! Literals (RDF 1.1 Concepts, section 3.3).
 ghost use Rattle.std.specs.Prelude.{◌≡◌, IfOk, IsTrue, if◌then◌else◌, option_map};
+ghost use Rattle.std.specs.Option.{option_copied};
 ghost use Rattle.std.specs.Str.{str_to_ascii_lowercase};
 ghost use Rattle.rdf_terms.specs.Literal.{LiteralParts, is_tag, is_literal, tagged};
 
 use crate::cursor::Cursor;
 use crate::fault::NoMemory;
 use crate::iri::Iri;
+use crate::shared::Shared;
 use crate::text::Text;
 use std::alloc::Global;
 use std::marker::Model;
 
 /// A literal: a lexical form, a datatype and perhaps a language tag. A tag is kept in lower case,
-/// and stands beside the datatype rdf:langString alone.
+/// and stands beside the datatype rdf:langString alone. Copies of a literal share its parts.
 #[derive(PartialEq, Eq, PartialOrd, Ord, Hash, Debug, Drop)]
 pub struct Literal {
+    parts: Shared<Parts>,
+}
+
+// What a literal holds.
+#[derive(PartialEq, Eq, PartialOrd, Ord, Hash, Debug, Drop)]
+struct Parts {
     lexical: Text,
     datatype: Iri,
     tag: Option<Text>,
@@ -25,15 +33,25 @@ impl Model for Literal {
 
     ghost Value = { LiteralParts };
 
-    ghost view = { λ l. record { lexical = l.lexical; datatype = l.datatype; tag = l.tag } };
+    ghost view = { λ l. record {
+      lexical = l.parts.lexical;
+      datatype = l.parts.datatype;
+      tag = l.parts.tag;
+    } };
 
     ghost invariant = { λ l. IsTrue (is_literal (record {
-      lexical = l.lexical;
-      datatype = l.datatype;
-      tag = l.tag;
+      lexical = l.parts.lexical;
+      datatype = l.parts.datatype;
+      tag = l.parts.tag;
     })) };
 
-    ghost inverse = { λ l. record { lexical = l.lexical; datatype = l.datatype; tag = l.tag } };
+    ghost inverse = { λ l. record {
+      parts = record {
+        lexical = l.lexical;
+        datatype = l.datatype;
+        tag = l.tag;
+      };
+    } };
 }
 
 impl Literal {
@@ -48,21 +66,30 @@ impl Literal {
           tag = None;
         }) }
     {
-        Ok(Literal::from_text(Text::new(alloc, lexical)?, datatype))
+        Literal::from_text(alloc, Text::new(alloc, lexical)?, datatype)
     }
 
-    /// The literal with this lexical form, which it takes over, and datatype, and no tag. It takes
-    /// no memory.
-    pub fn from_text(lexical: Text, datatype: Iri) -> Literal
-        ensures { result ≡ record { lexical = lexical; datatype = datatype; tag = None } }
+    /// The literal with this lexical form, which it takes over, and datatype, and no tag.
+    ///
+    /// # Errors
+    /// [`NoMemory`] where memory is wanting.
+    pub fn from_text(alloc: Global, lexical: Text, datatype: Iri) -> Result<Literal, NoMemory>
+        ensures { IfOk result (λ l. l ≡ record {
+          lexical = lexical;
+          datatype = datatype;
+          tag = None;
+        }) }
     {
         let _ = lexical.as_str();
         let _ = datatype.as_str();
-        Literal {
+        let parts = Parts {
             lexical,
             datatype,
             tag: None,
-        }
+        };
+        Ok(Literal {
+            parts: Shared::new(alloc, parts)?,
+        })
     }
 
     /// The literal with this language tag, given without its `@`, in lower case; `None` where the
@@ -100,10 +127,13 @@ impl Literal {
         let datatype = Iri::lang_string(alloc)?;
         let _ = datatype.as_str();
         let tag = lowered(alloc, tag)?;
-        Ok(Some(Literal {
+        let parts = Parts {
             lexical,
             datatype,
             tag: Some(tag),
+        };
+        Ok(Some(Literal {
+            parts: Shared::new(alloc, parts)?,
         }))
     }
 
@@ -112,7 +142,7 @@ impl Literal {
         ensures value { result.now ≡ self.now.lexical }
         ensures sound { IsTrue (is_literal self.now) }
     {
-        self.lexical.as_str()
+        self.parts.as_ref().lexical.as_str()
     }
 
     /// The datatype.
@@ -120,7 +150,7 @@ impl Literal {
         ensures value { result.now ≡ self.now.datatype }
         ensures sound { IsTrue (is_literal self.now) }
     {
-        &self.datatype
+        &self.parts.as_ref().datatype
     }
 
     /// The language tag, without its `@` and in lower case.
@@ -128,10 +158,34 @@ impl Literal {
         ensures value { option_map (λ t. t.now) result ≡ self.now.tag }
         ensures sound { IsTrue (is_literal self.now) }
     {
-        match &self.tag {
+        match &self.parts.as_ref().tag {
             Some(tag) => Some(tag.as_str()),
             None => None,
         }
+    }
+
+    /// The literal with another lexical form, which it takes over. It shares this one's datatype and tag.
+    ///
+    /// # Errors
+    /// [`NoMemory`] where memory is wanting.
+    pub fn with_lexical(&self, alloc: Global, lexical: Text) -> Result<Literal, NoMemory>
+        ensures { IfOk result (λ l. l ≡ record {
+          lexical = lexical;
+          datatype = self.now.datatype;
+          tag = self.now.tag;
+        }) }
+    {
+        let _ = lexical.as_str();
+        let datatype = self.datatype().copy()?;
+        let tag = copied(self.parts.as_ref().tag.as_ref())?;
+        let parts = Parts {
+            lexical,
+            datatype,
+            tag,
+        };
+        Ok(Literal {
+            parts: Shared::new(alloc, parts)?,
+        })
     }
 
     /// An equal literal.
@@ -142,13 +196,18 @@ impl Literal {
         ensures { IfOk result (λ l. l ≡ self.now) }
     {
         Ok(Literal {
-            lexical: self.lexical.copy()?,
-            datatype: self.datatype.copy()?,
-            tag: match &self.tag {
-                Some(tag) => Some(tag.copy()?),
-                None => None,
-            },
+            parts: self.parts.copy()?,
         })
+    }
+}
+
+// An equal tag.
+fn copied(tag: Option<&Text>) -> Result<Option<Text>, NoMemory>
+    ensures { IfOk result (λ copy. copy ≡ option_copied tag.entry) }
+{
+    match tag {
+        Some(text) => Ok(Some(text.copy()?)),
+        None => Ok(None),
     }
 }
 

@@ -6,12 +6,19 @@ ghost use Rattle.rdf_terms.specs.Vocabulary as word;
 
 use crate::fault::NoMemory;
 use crate::iri::Iri;
+use crate::shared::Shared;
 use std::alloc::Global;
 
 /// The IRIs of RDF and XML Schema that the short forms of Turtle and SPARQL stand for (Turtle 1.1,
 /// sections 2.4, 2.5 and 2.8), each made once: a copy shares its text.
 #[derive(Drop)]
 pub struct Vocabulary {
+    words: Shared<Words>,
+}
+
+// All of them, held at one place: letting the vocabulary go is then one call.
+#[derive(Drop)]
+struct Words {
     lists: Lists,
     datatypes: Datatypes,
 }
@@ -124,69 +131,70 @@ impl Vocabulary {
     pub fn new(alloc: Global) -> Result<Vocabulary, NoMemory> {
         let lists = Lists::new(alloc)?;
         let datatypes = Datatypes::new(alloc)?;
-        Ok(Vocabulary { lists, datatypes })
+        let words = Shared::new(alloc, Words { lists, datatypes })?;
+        Ok(Vocabulary { words })
     }
 
     /// What `a` stands for.
     pub fn rdf_type(&self) -> &Iri
         ensures { result.now ≡ word.rdf_type }
     {
-        &self.lists.rdf_type
+        &self.words.as_ref().lists.rdf_type
     }
 
     /// From a cell of a list to its element.
     pub fn rdf_first(&self) -> &Iri
         ensures { result.now ≡ word.rdf_first }
     {
-        &self.lists.rdf_first
+        &self.words.as_ref().lists.rdf_first
     }
 
     /// From a cell of a list to the next.
     pub fn rdf_rest(&self) -> &Iri
         ensures { result.now ≡ word.rdf_rest }
     {
-        &self.lists.rdf_rest
+        &self.words.as_ref().lists.rdf_rest
     }
 
     /// The empty list, `()`.
     pub fn rdf_nil(&self) -> &Iri
         ensures { result.now ≡ word.rdf_nil }
     {
-        &self.lists.rdf_nil
+        &self.words.as_ref().lists.rdf_nil
     }
 
     /// The datatype of plain strings.
     pub fn xsd_string(&self) -> &Iri
         ensures { result.now ≡ literal.xsd_string }
     {
-        &self.datatypes.xsd_string
+        &self.words.as_ref().datatypes.xsd_string
     }
 
     /// The datatype of numbers without a dot.
     pub fn xsd_integer(&self) -> &Iri
         ensures { result.now ≡ word.xsd_integer }
     {
-        &self.datatypes.numbers.xsd_integer
+        &self.words.as_ref().datatypes.numbers.xsd_integer
     }
 
     /// The datatype of numbers with a dot and no exponent.
     pub fn xsd_decimal(&self) -> &Iri
         ensures { result.now ≡ word.xsd_decimal }
     {
-        &self.datatypes.numbers.xsd_decimal
+        &self.words.as_ref().datatypes.numbers.xsd_decimal
     }
 
     /// The datatype of numbers with an exponent.
     pub fn xsd_double(&self) -> &Iri
         ensures { result.now ≡ word.xsd_double }
     {
-        &self.datatypes.numbers.xsd_double
+        &self.words.as_ref().datatypes.numbers.xsd_double
     }
 
     /// The datatype of `true` and `false`.
     pub fn xsd_boolean(&self) -> &Iri
         ensures { result.now ≡ word.xsd_boolean }
     {
-        &self.datatypes.xsd_boolean
+        &self.words.as_ref().datatypes.xsd_boolean
     }
 }

@@ -12,6 +12,7 @@ mod TokenLong
 mod TokenNameless
 mod TokenNames
 mod TokenNumbers
+mod TokenRuns
 mod TokenSymbols
 mod TokenTags
 mod TokenTextLemmas
@@ -22,3 +23,4 @@ mod ValueNames
 mod ValuePlaces
 mod ValuePnames
 mod ValueTexts
+mod WalkLemmas

@@ -2,3 +2,4 @@
 pub mod Places
 pub mod TokenReading
 pub mod TokenValues
+pub mod WalkReading

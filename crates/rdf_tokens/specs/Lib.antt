@@ -10,3 +10,4 @@ pub mod TokenTexts
 pub mod Tokens
 pub mod ValueLaws
 pub mod Values
+pub mod Walks

@@ -1,8 +1,10 @@
 //! Blank labels and prefixed names: units with dots between them, the last no dot.
 ghost use Rattle.std.specs.Prelude.{◌≡◌};
+ghost use Rattle.rdf_terms.specs.Skips.{skip};
+ghost use Rattle.rdf_tokens.specs.Characters.{is_word_part};
 ghost use Rattle.rdf_tokens.specs.Inside.TokenReading.{skip_dots, dotted_at, name_part_at, local_escape_at, plx_at, local_part_at, local_first_at, local_at, prefix_at, pname_at, NoPnameBefore, label_at, blank_at};
 
-use crate::character::{is_local_escape, is_name_start};
+use crate::character::{is_local_escape, is_name_start, is_word_part};
 use rdf_terms::{Cursor, is_pn_chars, is_pn_chars_base};
 
 /// The place behind all dots.
@@ -83,13 +85,21 @@ fn local_first<'a>(cursor: &Cursor<'a>) -> Option<Cursor<'a>>
     }
 }
 
+/// The place behind the ASCII letters, digits and `_` that begin here, of which most names are made:
+/// each is one of PN_CHARS.
+fn skip_word<'a>(cursor: &Cursor<'a>) -> Cursor<'a>
+    ensures { result ≡ skip is_word_part cursor.now }
+{
+    cursor.skip(is_word_part)
+}
+
 /// The place behind PN_CHARS and dots, the last no dot.
 fn name_rest<'a>(cursor: &Cursor<'a>) -> Cursor<'a>
     ensures { result ≡ dotted_at name_part_at cursor.now }
 {
-    let mut rest = cursor.fork();
+    let mut rest = skip_word(cursor);
     while let Some(behind) = name_part(&skip_dots(&rest)) {
-        rest = behind;
+        rest = skip_word(&behind);
     }
     rest
 }
@@ -98,9 +108,9 @@ fn name_rest<'a>(cursor: &Cursor<'a>) -> Cursor<'a>
 fn local_rest<'a>(cursor: &Cursor<'a>) -> Cursor<'a>
     ensures { result ≡ dotted_at local_part_at cursor.now }
 {
-    let mut rest = cursor.fork();
+    let mut rest = skip_word(cursor);
     while let Some(behind) = local_part(&skip_dots(&rest)) {
-        rest = behind;
+        rest = skip_word(&behind);
     }
     rest
 }

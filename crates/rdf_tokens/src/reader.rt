@@ -1,7 +1,8 @@
 //! Tokens read from the text when they are asked for.
-ghost use Rattle.std.specs.Prelude.{◌≡◌, ◌≤◌};
+ghost use Rattle.std.specs.Prelude.{◌≡◌, ◌≤◌, false};
 ghost use Rattle.std.specs.Str.{chars};
 ghost use Rattle.rdf_terms.specs.Reading.{byte_count};
+ghost use Rattle.rdf_tokens.specs.Inside.TokenReading.{skip_gap};
 ghost use Rattle.rdf_tokens.specs.NextTokens.{IsNext};
 ghost use Rattle.rdf_tokens.specs.Sizes.{longest};
 
@@ -72,6 +73,13 @@ impl<'a> TokenReader<'a> {
         ensures fits { result ≤ longest }
     {
         self.rest.left()
+    }
+
+    // How many bytes follow where the next token begins, or where none does.
+    pub(crate) fn left_behind_gap(&self) -> usize
+        ensures { result ≡ byte_count (skip_gap false self.now) }
+    {
+        skip_gap(&self.rest).left()
     }
 
     /// Takes the next token (Turtle 1.1, section 6.5; SPARQL 1.1 Query, section 19.8), the longest that

@@ -131,28 +131,42 @@ pub fn text_value(alloc: Global, slice: &Slice<'_>) -> Result<Text, NoMemory>
     }
 }
 
+/// The prefix of a prefixed name and its local part: what stands before its first colon, and what stands
+/// behind it.
+pub fn name_parts<'a>(slice: &Slice<'a>) -> (Slice<'a>, Slice<'a>)
+    ensures prefix { result.0 ≡ spec.prefix_part slice.now }
+    ensures local { result.1 ≡ spec.local_part slice.now }
+{
+    let text = slice.as_str();
+    match text.split_once(':') {
+        Some((prefix, local)) => {
+            let start = slice.start().saturating_add(prefix.len());
+            let front = Slice::new(prefix, slice.start());
+            let back = Slice::new(local, start.saturating_add(1));
+            (front, back)
+        }
+        None => {
+            let front = slice.fork();
+            let back = Slice::new("", slice.start());
+            (front, back)
+        }
+    }
+}
+
 /// The prefix of a prefixed name: what stands before its first colon.
 pub fn prefix_part<'a>(slice: &Slice<'a>) -> Slice<'a>
     ensures { result ≡ spec.prefix_part slice.now }
 {
-    let text = slice.as_str();
-    match text.split_once(':') {
-        Some((prefix, _)) => Slice::new(prefix, slice.start()),
-        None => slice.fork(),
-    }
+    let (prefix, _) = name_parts(slice);
+    prefix
 }
 
 /// The local part of a prefixed name: what stands behind its first colon.
 pub fn local_part<'a>(slice: &Slice<'a>) -> Slice<'a>
     ensures { result ≡ spec.local_part slice.now }
 {
-    match slice.as_str().split_once(':') {
-        Some((prefix, local)) => {
-            let start = slice.start().saturating_add(prefix.len());
-            Slice::new(local, start.saturating_add(1))
-        }
-        None => Slice::new("", slice.start()),
-    }
+    let (_, local) = name_parts(slice);
+    local
 }
 
 /// What a local part stands for: itself without the backslashes of its escapes.

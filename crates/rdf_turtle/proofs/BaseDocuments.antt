@@ -19,7 +19,6 @@ use Rattle.rdf_turtle.specs.FaultyNames.{lacks}
 use Rattle.rdf_turtle.specs.Bases.{lacks_node, lacks_property, lacks_statement, based_behind, lacks_base, RelativeLacksABase}
 use Rattle.rdf_turtle.specs.Known.{holds, known_node, known_property, known_statement, declared_behind, declares_first}
 use Rattle.rdf_turtle.specs.Document.{HasTree}
-use Rattle.rdf_turtle.specs.Inside.Proper.{proper_statement}
 use Rattle.rdf_turtle.specs.Meaning.{answer, meaning, property, properties, has_properties, statement, document, triples_of}
 use Rattle.rdf_grammar.specs.Keys.{key_of, same_key}
 use Rattle.rdf_grammar.specs.Prologue.{Prologue, resolved, declares, moves_base}
@@ -28,7 +27,7 @@ use Rattle.rdf_turtle.specs.State.{State, Does, start, told}
 use Rattle.rdf_grammar.specs.Steps.{Outcome, and_then}
 use Rattle.rdf_turtle.proofs.BaseLeaves.{lexemes_formed}
 use Rattle.rdf_turtle.proofs.BaseSteps.{Holds, Given, Any, IsIri, Fits, WellQuad, Comes, Goes, NodeGoes, then_goes, resolved_goes, each_goes}
-use Rattle.rdf_turtle.proofs.BaseTrees.{GoodStatement, GoodTriples, all_say, good_document, statements_proper}
+use Rattle.rdf_turtle.proofs.BaseTrees.{GoodStatement, GoodTriples, all_say, good_document}
 use Rattle.rdf_grammar.proofs.ScopePrefixes.{prefixes_are_replaced}
 
 -- ---- declarations
@@ -181,7 +180,3 @@ unfolding triples_of
 quads_well base text tree quads iri has e =
     let good = good_document has.lexemes tree (lexemes_formed text has.tokens has.lexemes has.list) has.reads in
     well_by (declares_first [] tree) (lacks_base (is_some base) tree) (document tree (start base)) quads (λ k. document_ended tree good (is_some base) [] (start base) (start_given base iri) k) e
-
--- each tree of a text is proper
-pub tree_proper : (text : List ℕ) (tree : List Statement) → HasTree text tree → list_all holds (map proper_statement tree) ≡ true
-tree_proper text tree has = statements_proper tree (good_document has.lexemes tree (lexemes_formed text has.tokens has.lexemes has.list) has.reads)

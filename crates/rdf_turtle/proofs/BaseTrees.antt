@@ -508,15 +508,11 @@ statement_proper (s.Triples node ps) h =
     and_from (not (is_literal node)) _ (ap not h.subject.subject)
     (and_from (proper_node node) _ h.subject.proper (and_from (list_all holds (map proper_property ps)) _ (properties_proper ps h.properties) h.some))
 
-pub statements_proper : (ws : List Statement) → AllByRecursion GoodStatement ws → list_all holds (map proper_statement ws) ≡ true
-statements_proper [] all = refl
-statements_proper (w ∷ ws) all = and_from (proper_statement w) (list_all holds (map proper_statement ws)) (statement_proper w all.0) (statements_proper ws all.1)
-
-pub statement_of_formed : (ts : Lexemes) (x : Statement) (us : Lexemes) → AllByRecursion Formed ts → g.AStatement (g.Objects_at 99) (g.Objects_at 100) ts x us
+pub statement_of_formed : (depth : ℕ) (ts : Lexemes) (x : Statement) (us : Lexemes) → AllByRecursion Formed ts → g.AStatement (g.Objects_at depth) (g.Objects_at (suc depth)) ts x us
     → (proper_statement x ≡ true) × AllByRecursion Formed us
 unfolding Gives AllFormed
-statement_of_formed ts x us w d =
-    let r = statement_gives (g.Objects_at 99) (g.Objects_at 100) (objects_at_give 99) (objects_at_give 100) ts x us d w in
+statement_of_formed depth ts x us w d =
+    let r = statement_gives (g.Objects_at depth) (g.Objects_at (suc depth)) (objects_at_give depth) (objects_at_give (suc depth)) ts x us d w in
     (statement_proper x r.0, r.1)
 
 pub good_document : (ts : Lexemes) (ss : List Statement) → AllByRecursion Formed ts → g.IsDocument ts ss → AllByRecursion GoodStatement ss

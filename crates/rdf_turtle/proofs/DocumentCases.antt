@@ -5,7 +5,6 @@ use Rattle.std.proofs.lemmas.Str.{IsUtf8-from_is_utf8, is_utf8-from_IsUtf8}
 use Rattle.std.specs.Str.{chars, IsUtf8, is_utf8}
 use Rattle.rdf_terms.specs.declared.quad.Quad.{Quad}
 use Rattle.rdf_turtle.specs.declared.fault.TurtleFault.{TurtleFault}
-use Rattle.rdf_grammar.specs.declared.fault.GrammarFault.TheVariants as refused
 use Rattle.rdf_turtle.specs.declared.fault.TurtleFaultKind.{TurtleFaultKind}
 use Rattle.rdf_turtle.specs.declared.fault.TurtleFaultKind.TheVariants as fault
 use Rattle.rdf_turtle.specs.Lexemes.{Lexeme, Lexemes, Outcome}
@@ -23,7 +22,7 @@ use Rattle.rdf_tokens.specs.Tokens.{Says}
 use Rattle.rdf_grammar.proofs.TextLemmas.{got, same_lengths, shallow_or_deep, some_lexemes, stops_somewhere}
 use Rattle.rdf_turtle.proofs.DocumentLemmas.{answer_kind, name_is}
 use Rattle.rdf_grammar.proofs.Decides.{some_pair}
-use Rattle.rdf_turtle.proofs.GrammarWhole.{document_found, document_read, stop_explained}
+use Rattle.rdf_turtle.proofs.GrammarWhole.{document_found, document_read, none_read}
 use Rattle.rdf_tokens.proofs.CallerLemmas.{some_token_list, tokens_have_forms}
 
 abbrev Meant : Option (List ℕ) → List ℕ → Type 0
@@ -41,7 +40,7 @@ more_left ss us l ls e = let none : l ∷ ls ≡ [] = (some_pair ss us (l ∷ ls
 by_tree : (base : Option (List ℕ)) (text : List ℕ) (tokens : List Token) (lexemes : Lexemes) → HasTokens text tokens lexemes → ¬ (IsTooDeep lexemes) → (o : Outcome (List Statement)) → document 100 lexemes ≡ o
     → Meant base text
 by_tree base text tokens lexemes h shallow None e =
-    inr (record { line = line_of text (length text); kind = fault.Syntax }, (tokens, lexemes, h, shallow, stop_explained lexemes refused.Syntax 0 shallow e, (length text, inr refl, refl)))
+    inr (record { line = line_of text (length text); kind = fault.Syntax }, (tokens, lexemes, h, shallow, none_read lexemes shallow e, (length text, inr refl, refl)))
 by_tree base text tokens lexemes h shallow (Some (tree, [])) e =
     let found : HasTree text tree = record { tokens = tokens; lexemes = lexemes; list = h; shallow = shallow; reads = document_found lexemes tree e } in
     by_answer base text tree found (answer base tree) refl

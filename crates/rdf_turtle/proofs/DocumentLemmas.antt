@@ -9,8 +9,6 @@ use Rattle.rdf_turtle.specs.declared.fault.TurtleFaultKind.{TurtleFaultKind}
 use Rattle.rdf_turtle.specs.declared.fault.TurtleFaultKind.TheVariants as fault
 use Rattle.rdf_turtle.specs.Lexemes.{Lexeme, AreLexemes}
 use Rattle.rdf_tokens.specs.declared.token.Token.{Token}
-use Rattle.rdf_grammar.specs.declared.prologue.PrologueFault.{PrologueFault}
-use Rattle.rdf_grammar.specs.declared.prologue.PrologueFault.TheVariants as names
 use Rattle.rdf_turtle.specs.declared.tree.Statement.{Statement}
 use Rattle.rdf_turtle.specs.Document.{HasTokens, HasTree, IsDocument, start_or_end, start_of, IsPlace, FaultIs, IsFaulty, TellsFault}
 use Rattle.rdf_turtle.specs.FaultyNames.{first_unbound, first_lacking}
@@ -18,14 +16,18 @@ use Rattle.rdf_turtle.specs.DocumentLaws.{has_free_line, OneDocument, NeverBoth,
 use Rattle.rdf_turtle.specs.Grammar as grammar
 use Rattle.rdf_turtle.specs.Terminals.{terminal_by, bracket}
 use Rattle.rdf_tokens.specs.Lines.{line_of}
-use Rattle.rdf_turtle.specs.Inside.Kept.{IsFaultOf, IsNameFault}
-use Rattle.rdf_turtle.specs.Inside.NamePlaces.{IsAtFirst}
+use Rattle.rdf_turtle.specs.Inside.NamePlaces.{StartsAt, StartsAtFirst}
+use Rattle.rdf_turtle.specs.Inside.Reading.{document}
+use Rattle.rdf_turtle.specs.Inside.Turns.{Tells, StopsWith}
+use Rattle.rdf_turtle.specs.Inside.Walks.{IsShallow}
 use Rattle.rdf_turtle.specs.Meaning.{answer}
 use Rattle.rdf_turtle.specs.Nesting.{IsTooDeep, IsTooDeepAt}
-use Rattle.rdf_turtle.specs.Inside.Stops.{Explains}
+use Rattle.rdf_turtle.specs.Inside.Stops.{IsTold}
 use Rattle.rdf_tokens.specs.Tokens.{Says}
-use Rattle.rdf_grammar.proofs.TextLemmas.{got, same_lengths, one_lexemes, one_front, deep_at, one_opener}
-use Rattle.rdf_turtle.proofs.GrammarWhole.{document_unique}
+use Rattle.rdf_grammar.specs.Lexemes.{AreReadOf}
+use Rattle.rdf_grammar.proofs.TextLemmas.{one_lexemes, one_front, deep_at, one_opener}
+use Rattle.rdf_turtle.proofs.GrammarShallow.{all_read, document_shallow, not_too_deep}
+use Rattle.rdf_turtle.proofs.GrammarWhole.{document_unique, none_read}
 use Rattle.rdf_tokens.proofs.CallerLemmas.{one_token_list}
 use Rattle.rdf_turtle.specs.FaultName.{no_memory}
 
@@ -199,9 +201,6 @@ fault_tells : (base : Option (List ℕ)) (text : List ℕ) (f : TurtleFault) (k 
 fault_tells base text f k e h =
     subst (λ (x : TurtleFaultKind). TellsFault base text f x) (sym e) (tells_at base text f k h (subst (λ (x : TurtleFaultKind). FaultIs base text x f.line) (sym e) h))
 
-not_deep : ◌≡◌ {A = TurtleFaultKind} fault.Syntax fault.TooDeep → ⊥
-not_deep e = cc
-
 -- where the token of this number begins, or the end
 is_place : (text : List ℕ) (ts : List Token) (place : ℕ) → IsPlace text ts (start_of text ts place)
 is_place text ts place = by (slice_get ts place) refl
@@ -209,36 +208,6 @@ is_place text ts place = by (slice_get ts place) refl
     by : (o : Option Token) → slice_get ts place ≡ o → IsPlace text ts (start_or_end text (slice_get ts place))
     by (Some token) e = inl (place, token, e, ap (start_or_end text) e)
     by None e = inr (ap (start_or_end text) e)
-
--- the parser's fault is the text's
-stop_is : (base : Option (List ℕ)) (text : List ℕ) (ts : List Token) (ls : List Lexeme) (k : TurtleFaultKind) (place line : ℕ) → HasTokens text ts ls
-    → (IsTooDeep ls → k ≡ fault.TooDeep) → Explains ls k place → k ≢ no_memory → line ≡ line_of text (start_of text ts place) → FaultIs base text k line
-stop_is base text ts ls fault.TooDeep place line h deep why some l =
-    let found = got ts place (subst (λ (n : ℕ). place < n) (same_lengths terminal_by (chars text) ts ls h.pieces) why.within) in
-    (ts, ls, found.0, place, h, why, found.1, l ∙ ap (λ (o : Option Token). line_of text (start_or_end text o)) found.1)
-stop_is base text ts ls fault.Syntax place line h deep why some l = (ts, ls, h, (λ d. not_deep (deep d)), why, (start_of text ts place, is_place text ts place, l))
-stop_is base text ts ls (fault.NoMemory _) place line h deep why some l = absurd (some refl)
-stop_is base text ts ls fault.NotUtf8 place line h deep why some l = absurd why
-stop_is base text ts ls fault.Token place line h deep why some l = absurd why
-stop_is base text ts ls fault.UnknownPrefix place line h deep why some l = absurd why
-stop_is base text ts ls fault.Relative place line h deep why some l = absurd why
-
-same_or_not : (k : TurtleFaultKind) → (k ≡ no_memory) ⊎ (k ≢ no_memory)
-same_or_not (fault.NoMemory _) = inl refl
-same_or_not fault.NotUtf8 = inr (λ e. cc)
-same_or_not fault.Token = inr (λ e. cc)
-same_or_not fault.TooDeep = inr (λ e. cc)
-same_or_not fault.Syntax = inr (λ e. cc)
-same_or_not fault.UnknownPrefix = inr (λ e. cc)
-same_or_not fault.Relative = inr (λ e. cc)
-
-pub stop_tells : (base : Option (List ℕ)) (text : List ℕ) (ts : List Token) (ls : List Lexeme) (k : TurtleFaultKind) (place : ℕ) (f : TurtleFault) → HasTokens text ts ls
-    → (IsTooDeep ls → k ≡ fault.TooDeep) → Explains ls k place → f.kind ≡ k → (k ≢ no_memory → f.line ≡ line_of text (start_of text ts place)) → (k ≡ no_memory → f.line ≡ 0)
-    → TellsFault base text f f.kind
-stop_tells base text ts ls k place f h deep why e l none = elim (same_or_not k) [
-  | inl m ↦ memory_tells base text f (e ∙ m) (none m)
-  | inr n ↦ fault_tells base text f k e (stop_is base text ts ls k place f.line h deep why n (l n))
-]
 
 -- the fault of the triples is the text's
 pub answer_kind : (b : Bool) (o : Option (List Quad)) (k : TurtleFaultKind) → ◌≡◌ {A = Result (List Quad) TurtleFaultKind} (cond b (ok_or o fault.Relative) (Err fault.UnknownPrefix)) (Err k)
@@ -257,35 +226,89 @@ name_is base text tree k h e (inr r) =
     let line : ℕ = line_of text (start_of text h.tokens (first_lacking (is_some base) h.lexemes)) in
     (line, subst (λ (x : TurtleFaultKind). FaultIs base text x line) (sym r) (tree, h, e ∙ ap (λ (x : TurtleFaultKind). Err x) r, refl))
 
-pub name_tells : (base : Option (List ℕ)) (text : List ℕ) (tree : List Statement) (h : HasTree text tree) (told e : PrologueFault) (f : TurtleFault) → IsFaultOf (answer base tree) told
-    → IsAtFirst text h.tokens h.lexemes (is_some base) told e → IsNameFault text e f → TellsFault base text f f.kind
-name_tells base text tree h told (names.NoMemory m) f is at named = memory_tells base text f named.0 named.1
-name_tells base text tree h (names.UnknownPrefix start) (names.UnknownPrefix place) f is at named = fault_tells base text f fault.UnknownPrefix named.0 (tree, h, is, named.1 ∙ ap (line_of text) at)
-name_tells base text tree h (names.Relative start) (names.Relative place) f is at named = fault_tells base text f fault.Relative named.0 (tree, h, is, named.1 ∙ ap (line_of text) at)
-name_tells base text tree h (names.UnknownPrefix start) (names.Relative place) f is at named = absurd at
-name_tells base text tree h (names.Relative start) (names.UnknownPrefix place) f is at named = absurd at
-name_tells base text tree h (names.NoMemory m) (names.UnknownPrefix place) f is at named = absurd at
-name_tells base text tree h (names.NoMemory m) (names.Relative place) f is at named = absurd at
+-- what is told of a name is the text's fault, at the first name that has it
+pub name_tells : (base : Option (List ℕ)) (based : Bool) (text : List ℕ) (kind : TurtleFaultKind) (start : ℕ) (f : TurtleFault) → is_some base ≡ based → IsTold base text kind → StartsAtFirst based text kind start
+    → f.kind ≡ kind → (kind ≢ no_memory → f.line ≡ line_of text start) → (kind ≡ no_memory → f.line ≡ 0) → TellsFault base text f f.kind
+name_tells base based text fault.UnknownPrefix start f b told at e l none =
+    let tokens = told.1.tokens in
+    fault_tells base text f fault.UnknownPrefix e (told.0, told.1, told.2, l (λ same. cc) ∙ ap (line_of text) (at tokens told.1.lexemes told.1.list))
+name_tells base based text fault.Relative start f b told at e l none =
+    let found = at told.1.tokens told.1.lexemes told.1.list ∙ ap (λ (x : Bool). start_of text told.1.tokens (first_lacking x told.1.lexemes)) (sym b) in
+    fault_tells base text f fault.Relative e (told.0, told.1, told.2, l (λ same. cc) ∙ ap (line_of text) found)
+name_tells base based text (fault.NoMemory refusal) start f b told at e l none = memory_tells base text f e (none refl)
+name_tells base based text fault.NotUtf8 start f b told at e l none = absurd told
+name_tells base based text fault.Token start f b told at e l none = absurd told
+name_tells base based text fault.TooDeep start f b told at e l none = absurd told
+name_tells base based text fault.Syntax start f b told at e l none = absurd told
 
--- ---- what the reader goes by
+pub refused_tells : (base : Option (List ℕ)) (text : List ℕ) (f : TurtleFault) → f.kind ≡ no_memory → f.line ≡ 0 → TellsFault base text f f.kind
+refused_tells = memory_tells
 
-abbrev pub has_tree : (text : List ℕ) (ts : List Token) (read ls : List Lexeme) (tree : List Statement) → IsUtf8 text → Says (chars text) (Ok ts) → AreLexemes (chars text) ts ls → read ≡ ls
-    → (¬ (IsTooDeep read)) × grammar.IsDocument read tree → HasTree text tree
-has_tree text ts read ls tree utf8 list pieces e h = record {
-  tokens = ts;
-  lexemes = ls;
-  list = record { utf8 = utf8; list = list; pieces = pieces };
-  shallow = λ d. h.0 (subst IsTooDeep (sym e) d);
-  reads = subst (λ (x : List Lexeme). grammar.IsDocument x tree) e h.1;
-}
+pub faulty_tells : (base : Option (List ℕ)) (text : List ℕ) (f : TurtleFault) → IsFaulty base text f → TellsFault base text f f.kind
+faulty_tells base text f h = tells_at base text f f.kind h h
 
-pub some_copied : {T : Type 0} (o : Option (Bor T)) (b : Bool) → b ≡ is_some o → b ≡ is_some (option_copied o)
-some_copied (Some x) b e = e
-some_copied None b e = e
+pub some_copied : {T : Type 0} (o : Option (Bor T)) (b : Bool) → b ≡ is_some o → is_some (option_copied o) ≡ b
+some_copied (Some x) b e = sym e
+some_copied None b e = sym e
 
-pub moved : (t u : List ℕ) (ts us : List Token) (ls ms : List Lexeme) (b d : Bool) (e f : PrologueFault) → t ≡ u → ts ≡ us → ls ≡ ms → b ≡ d → IsAtFirst t ts ls b e f → IsAtFirst u us ms d e f
-moved t u ts us ls ms b d e f p q r s h =
-    subst (λ (x : List ℕ). IsAtFirst x us ms d e f) p
-    (subst (λ (x : List Token). IsAtFirst t x ms d e f) q
-    (subst (λ (x : List Lexeme). IsAtFirst t ts x d e f) r
-    (subst (λ (x : Bool). IsAtFirst t ts ls x e f) s h)))
+-- ---- what the lexemes of a text say of it
+
+-- the text has this tree, and that is answered to it
+abbrev Answered : Option (List ℕ) → List ℕ → Result (List Quad) TurtleFaultKind → Type 0
+Answered base text outcome = (tree : List Statement) × HasTree text tree × (answer base tree ≡ outcome)
+
+-- with less than 100 brackets inside one another the text has the tree
+answered_low : (base : Option (List ℕ)) (text : List ℕ) (ls : List Lexeme) (outcome : Result (List Quad) TurtleFaultKind) → IsUtf8 text → AreReadOf terminal_by (chars text) ls
+    → Tells 99 ls base outcome → Answered base text outcome
+answered_low base text ls outcome u read t =
+    let low = document_shallow 99 ls t.tree t.reads in
+    let held = all_read text ls u read low in
+    (t.tree, record { tokens = held.0; lexemes = ls; list = held.1; shallow = not_too_deep ls low; reads = (99, t.reads) }, t.answers)
+
+abbrev Listed_as : List ℕ → List Lexeme → Type 0
+Listed_as text ls = (tokens : List Token) × HasTokens text tokens ls × ¬ (IsTooDeep ls)
+
+surveyed : (text : List ℕ) (ls : List Lexeme) → IsShallow text → AreReadOf terminal_by (chars text) ls → Listed_as text ls
+surveyed text ls h (Ok tokens, says, are) =
+    let held : HasTokens text tokens ls = record { utf8 = h.2.utf8; list = says; pieces = are } in
+    (tokens, held, λ d. h.3 (subst IsTooDeep (one_tokens text tokens h.0 ls h.1 held h.2).1 d))
+surveyed text ls h (Err place, says, are) = absurd (ok_err h.0 place (one_token_list (chars text) (Ok h.0) (Err place) h.2.list says))
+
+answered_surveyed : (base : Option (List ℕ)) (text : List ℕ) (ls : List Lexeme) (outcome : Result (List Quad) TurtleFaultKind) → IsShallow text → AreReadOf terminal_by (chars text) ls
+    → Tells 100 ls base outcome → Answered base text outcome
+answered_surveyed base text ls outcome h read t =
+    let held = surveyed text ls h read in
+    (t.tree, record { tokens = held.0; lexemes = ls; list = held.1; shallow = held.2; reads = (100, t.reads) }, t.answers)
+
+told_by : (base : Option (List ℕ)) (text : List ℕ) (depth : ℕ) (ls : List Lexeme) (kind : TurtleFaultKind) → ((outcome : Result (List Quad) TurtleFaultKind) → Tells depth ls base outcome → Answered base text outcome)
+    → kind ≢ fault.Syntax → StopsWith depth ls base kind → IsTold base text kind
+told_by base text depth ls fault.UnknownPrefix by other h = by (Err fault.UnknownPrefix) h
+told_by base text depth ls fault.Relative by other h = by (Err fault.Relative) h
+told_by base text depth ls (fault.NoMemory refusal) by other h = tt
+told_by base text depth ls fault.Syntax by other h = absurd (other refl)
+told_by base text depth ls fault.NotUtf8 by other h = h
+told_by base text depth ls fault.Token by other h = h
+told_by base text depth ls fault.TooDeep by other h = h
+
+pub read_low : (base : Option (List ℕ)) (text : List ℕ) (ls : List Lexeme) (quads : List Quad) → IsUtf8 text → AreReadOf terminal_by (chars text) ls → Tells 99 ls base (Ok quads) → IsDocument base text quads
+read_low base text ls quads u read t = answered_low base text ls (Ok quads) u read t
+
+pub told_low : (base : Option (List ℕ)) (text : List ℕ) (ls : List Lexeme) (kind : TurtleFaultKind) → IsUtf8 text → AreReadOf terminal_by (chars text) ls → kind ≢ fault.Syntax → StopsWith 99 ls base kind
+    → IsTold base text kind
+told_low base text ls kind u read other h = told_by base text 99 ls kind (λ outcome t. answered_low base text ls outcome u read t) other h
+
+pub read_surveyed : (base : Option (List ℕ)) (text : List ℕ) (ls : List Lexeme) (quads : List Quad) → IsShallow text → AreReadOf terminal_by (chars text) ls → Tells 100 ls base (Ok quads) → IsDocument base text quads
+read_surveyed base text ls quads s read t = answered_surveyed base text ls (Ok quads) s read t
+
+pub told_surveyed : (base : Option (List ℕ)) (text : List ℕ) (ls : List Lexeme) (kind : TurtleFaultKind) → IsShallow text → AreReadOf terminal_by (chars text) ls → kind ≢ fault.Syntax → StopsWith 100 ls base kind
+    → IsTold base text kind
+told_surveyed base text ls kind s read other h = told_by base text 100 ls kind (λ outcome t. answered_surveyed base text ls outcome s read t) other h
+
+-- no document, at the start of a token or the end
+pub syntax_tells : (base : Option (List ℕ)) (text : List ℕ) (ls : List Lexeme) (number start : ℕ) (f : TurtleFault) → IsShallow text → AreReadOf terminal_by (chars text) ls → document 100 ls ≡ None
+    → StartsAt text (λ _. number) start → f.kind ≡ fault.Syntax → f.line ≡ line_of text start → TellsFault base text f f.kind
+syntax_tells base text ls number start f s read none at e l =
+    let held = surveyed text ls s read in
+    let place = at held.0 ls held.1 in
+    fault_tells base text f fault.Syntax e
+    (held.0, ls, held.1, held.2, none_read ls held.2 none, (start_of text held.0 number, is_place text held.0 number, l ∙ ap (line_of text) place))

@@ -20,6 +20,7 @@ pub mod ScopeBlanks
 pub mod ScopeLoops
 pub mod ScopeSteps
 pub mod StraightReading
+pub mod SurveyLemmas
 pub mod TokenFaultLemmas
 pub mod WrittenCuts
 pub mod WrittenDocuments
@@ -29,4 +30,3 @@ pub mod WrittenNumbers
 pub mod WrittenTerms
 pub mod WrittenTokens
 pub mod WrittenTrees
-mod AnswerLemmas

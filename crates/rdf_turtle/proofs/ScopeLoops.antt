@@ -1,12 +1,10 @@
 -- A turn of each loop of the reading.
-use Rattle.std.proofs.Common.{◌≡◌, ◌∙◌, ap, refl, sym, ℕ, suc, ◌+◌, ◌<◌, List, ◌∷◌, map, drop, length, get_or, add-one, Some, cond, Bool, true, false, true≢false}
+use Rattle.std.proofs.Common.{◌≡◌, ◌∙◌, ap, refl, sym, ℕ, suc, ◌+◌, ◌<◌, List, ◌∷◌, map, drop, length, get_or, add-one, Some}
 use Rattle.std.proofs.lemmas.Option.{same_Some}
 use Rattle.rdf_terms.specs.declared.term.Term.{Term}
 use Rattle.rdf_terms.specs.Vocabulary.{rdf_first, rdf_rest}
 use Rattle.rdf_turtle.specs.declared.tree.Node.{Node}
-use Rattle.rdf_turtle.specs.declared.tree.Statement.{Statement}
 use Rattle.rdf_turtle.specs.Inside.Cells as cells
-use Rattle.rdf_turtle.specs.Known.{known_statement, declared_behind, declares_first}
 use Rattle.rdf_turtle.specs.Meaning.{Meaning, meaning, object, behind}
 use Rattle.rdf_turtle.specs.State.{State, fresh, says}
 use Rattle.rdf_grammar.proofs.Members.{drop_is}
@@ -26,12 +24,3 @@ next_cell cell next first rest items i x s u e1 e2 l is h =
     let k1 : cells.next_cell cell rdf_rest first (meaning x) s ≡ Some (next, u) = ap (λ (p : List ℕ). cells.next_cell cell p first (meaning x) s) (sym e2) ∙ h in
     let k2 : cells.next_cell cell rdf_rest rdf_first (meaning x) s ≡ Some (next, u) = ap (λ (p : List ℕ). cells.next_cell cell rdf_rest p (meaning x) s) (sym e1) ∙ k1 in
     rw add-one (ap (λ (ys : List Node). behind cell (map meaning ys) s) (drop_is items i x l is) ∙ cell_step cell next (meaning x) (map meaning (drop (suc i) items)) s u k2)
-
-both_of : (b c : Bool) → cond b c false ≡ true → (b ≡ true) × (c ≡ true)
-both_of true c e = (refl, e)
-both_of false c e = absurd (true≢false (sym e))
-
--- the next statement of a document
-pub first_known : (declared : List (List ℕ)) (w : Statement) (ws : List Statement) → declares_first declared (w ∷ ws) ≡ true
-    → (known_statement declared w ≡ true) × (declares_first (declared_behind declared w) ws ≡ true)
-first_known declared w ws e = both_of (known_statement declared w) (declares_first (declared_behind declared w) ws) e

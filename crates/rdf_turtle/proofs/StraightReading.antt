@@ -1,91 +1,239 @@
 -- A document that is read statement by statement.
-use Rattle.std.proofs.Common.{◌≡◌, ℕ, ◌+◌, ◌≤◌, length, arith, true, false, List, [], ◌∷◌, ◌++◌, Option, Some, Ok, refl, sym, ap, subst, ◌∙◌, append_assoc}
+use Rattle.std.proofs.Common.{◌≡◌, ℕ, suc, ◌+◌, ◌≤◌, ◌<◌, length, arith, true, false, List, [], ◌∷◌, ◌++◌, Option, Some, None, Result, Ok, Err, refl, sym, ap, subst, ◌∙◌, append_assoc, add-one}
 use Rattle.std.proofs.lemmas.List.{append-nil}
 use Rattle.std.specs.List.{AllByRecursion}
-use Rattle.std.specs.Str.{IsUtf8}
 use Rattle.rdf_terms.specs.Quad.{QuadParts}
+use Rattle.rdf_turtle.specs.declared.fault.TurtleFaultKind.{TurtleFaultKind}
+use Rattle.rdf_turtle.specs.declared.fault.TurtleFaultKind.TheVariants as fault
+use Rattle.rdf_turtle.specs.declared.straight.Pending.{Pending}
+use Rattle.rdf_turtle.specs.declared.straight.Pending.TheVariants.{Nothing, Relative, UnknownPrefix}
 use Rattle.rdf_turtle.specs.declared.tree.Statement.{Statement}
-use Rattle.rdf_turtle.specs.Document as text_of
 use Rattle.rdf_turtle.specs.Inside.Formed.{Formed}
+use Rattle.rdf_turtle.specs.Inside.Proper.{proper_statement}
+use Rattle.rdf_turtle.specs.Inside.Room.{longest}
+use Rattle.rdf_turtle.specs.Inside.Room as rooms
 use Rattle.rdf_turtle.specs.Known.{known_statement, declared_behind, declares_first}
 use Rattle.rdf_turtle.specs.Meaning as meaning
 use Rattle.rdf_grammar.specs.Prologue as prologue
-use Rattle.rdf_grammar.specs.Readings.{is_more, one}
+use Rattle.rdf_grammar.specs.Readings.{is_more, one, repeat}
 use Rattle.rdf_turtle.specs.Inside.Reading.{node, statement, document}
 use Rattle.rdf_turtle.specs.Lexemes.{Lexemes}
 use Rattle.rdf_turtle.specs.State.{State, start}
 use Rattle.rdf_grammar.specs.Steps.{and_then}
-use Rattle.rdf_turtle.specs.Inside.Turns.{Turn, Turns, Told}
+use Rattle.rdf_turtle.specs.Inside.Turns.{IfNothing, Becomes, Said, Turn, Leaves, Turns, Tells, Stops, StopsWith}
 use Rattle.rdf_turtle.proofs.BaseTrees.{statement_of_formed}
-use Rattle.rdf_grammar.proofs.Repeats.{one_reads, no_more, Going, going_starts, going_on, going_done}
+use Rattle.rdf_grammar.proofs.Repeats.{one_reads, one_fails, no_more, Going, going_starts, going_on, going_done, going_fails}
 use Rattle.rdf_turtle.proofs.GrammarStatements.{statement_derived}
-use Rattle.rdf_turtle.proofs.GrammarShallow.{all_read, document_shallow, not_too_deep}
 use Rattle.rdf_turtle.proofs.GrammarWhole.{found_within}
 
--- The lexemes but for those that are left were read as statements, which lead from one state to the other and leave these prefixes.
-pub record Read (before : State) (whole now : Lexemes) (state : State) (declared : List (List ℕ)) : Type 0 where
-  pub tree : List Statement
-  pub going : Going is_more (one (statement (node 99) (node 100))) (document 99 whole) tree now
+-- ---- what was said, behind statements that leave these prefixes
+
+pub record Saying (before : State) (whole now : Lexemes) (state : State) (declared : List (List ℕ)) (tree : List Statement) : Type 0 where
   pub says : (ss : List Statement) → meaning.document (tree ++ ss) before ≡ meaning.document ss state
   pub known : (ss : List Statement) → declares_first [] (tree ++ ss) ≡ declares_first declared ss
-  pub formed : AllByRecursion Formed now
   pub prefixes : declared ≡ prologue.declared state.prologue
   pub room : state.numbering.next + length now ≤ length state.quads + length whole
 
-pub read_starts : (before : State) (whole now : Lexemes) (declared : List (List ℕ)) → AllByRecursion Formed whole → prologue.declared before.prologue ≡ [] → before.numbering.next ≤ length before.quads
-    → declared ≡ [] → now ≡ whole → Read before whole now before declared
+pub record Lacking (before : State) (declared : List (List ℕ)) (tree : List Statement) : Type 0 where
+  pub fails : (ss : List Statement) → meaning.document (tree ++ ss) before ≡ None
+  pub known : (ss : List Statement) → declares_first [] (tree ++ ss) ≡ declares_first declared ss
+
+pub record Unbound (tree : List Statement) : Type 0 where
+  pub unknown : (ss : List Statement) → declares_first [] (tree ++ ss) ≡ false
+
+abbrev pub SoFar : Pending → State → Lexemes → Lexemes → State → List (List ℕ) → List Statement → Type 0
+SoFar Nothing before whole now state declared tree = Saying before whole now state declared tree
+SoFar Relative before whole now state declared tree = Lacking before declared tree
+SoFar UnknownPrefix before whole now state declared tree = Unbound tree
+
+-- The lexemes but for those that are left were read as statements, and this is pending behind them.
+pub record Read (depth : ℕ) (before : State) (whole now : Lexemes) (pending : Pending) (state : State) (declared : List (List ℕ)) : Type 0 where
+  pub tree : List Statement
+  pub going : Going is_more (one (statement (node depth) (node (depth + 1)))) (document depth whole) tree now
+  pub formed : AllByRecursion Formed now
+  pub so_far : SoFar pending before whole now state declared tree
+
+-- ---- where reading begins
+
+going_first : (depth : ℕ) (whole : Lexemes) → Going is_more (one (statement (node depth) (node (depth + 1)))) (document depth whole) [] whole
 unfolding document
-read_starts before whole now declared formed none room p q =
-    let first : Read before whole whole before [] = record {
+going_first depth whole =
+    subst (λ (n : ℕ). Going is_more (one (statement (node depth) (node n))) (repeat is_more (one (statement (node depth) (node (suc depth)))) whole) [] whole) (sym (add-one depth))
+    (going_starts is_more (one (statement (node depth) (node (suc depth)))) whole)
+
+pub read_starts : (depth : ℕ) (before : State) (whole : Lexemes) (declared : List (List ℕ)) → AllByRecursion Formed whole → prologue.declared before.prologue ≡ [] → before.numbering.next ≤ length before.quads
+    → declared ≡ [] → Read depth before whole whole Nothing before declared
+read_starts depth before whole declared formed none room p =
+    let first : Read depth before whole whole Nothing before [] = record {
       tree = [];
-      going = going_starts _ _ whole;
-      says = λ ss. refl;
-      known = λ ss. refl;
+      going = going_first depth whole;
       formed = formed;
-      prefixes = sym none;
-      room = omega (arith, room);
+      so_far = record { says = λ ss. refl; known = λ ss. refl; prefixes = sym none; room = omega (arith, room) };
     } in
-    subst (λ (w : Lexemes). Read before whole w before declared) (sym q) (subst (λ (d : List (List ℕ)). Read before whole whole before d) (sym p) first)
+    subst (λ (d : List (List ℕ)). Read depth before whole whole Nothing before d) (sym p) first
+
+-- ---- one statement more
+
+-- the next statement is proper, and the lexemes behind it have forms
+pub next_proper : (depth : ℕ) (now then : Lexemes) (s : Statement) → AllByRecursion Formed now → statement (node depth) (node (depth + 1)) now ≡ Some (s, then)
+    → (proper_statement s ≡ true) × AllByRecursion Formed then
+next_proper depth now then s formed reads =
+    statement_of_formed depth now s then formed (statement_derived depth now then s (subst (λ (n : ℕ). statement (node depth) (node n) now ≡ Some (s, then)) (add-one depth) reads))
 
 behind : (s : Statement) (ss : List Statement) (declared : List (List ℕ)) → known_statement declared s ≡ true → declares_first declared (s ∷ ss) ≡ declares_first (declared_behind declared s) ss
 behind s ss declared known = rw known refl
 
-pub read_on : {before : State} {whole now then : Lexemes} {state u : State} {declared more : List (List ℕ)}
-    → Read before whole now state declared → is_more now ≡ true → Turn now then state u declared more → Read before whole then u more
-read_on {before = before} {whole = whole} {now = now} {then = then} {state = state} {u = u} {declared = declared} r is_left t =
-    let s = t.tree in
-    let next : Read before whole then u (declared_behind declared s) = record {
-      tree = r.tree ++ s ∷ [];
-      going = going_on (s ∷ []) then r.going is_left (one_reads (statement (node 99) (node 100)) _ _ _ t.reads) t.shorter;
-      says = λ ss. ap (λ (l : List Statement). meaning.document l before) (append_assoc r.tree (s ∷ []) ss) ∙ r.says (s ∷ ss) ∙ ap (λ o. and_then o (λ _. meaning.document ss)) t.said.says;
-      known = λ ss. ap (declares_first []) (append_assoc r.tree (s ∷ []) ss) ∙ r.known (s ∷ ss) ∙ behind s ss declared t.said.known;
-      formed = (statement_of_formed now s then r.formed (statement_derived 99 now then s t.reads)).1;
-      prefixes = ap (λ (d : List (List ℕ)). declared_behind d s) r.prefixes ∙ sym t.said.prologue;
-      room = omega (arith, r.room, t.said.room, t.shorter);
-    } in
-    subst (λ (d : List (List ℕ)). Read before whole then u d) (sym t.said.declares) next
+unknown_behind : (s : Statement) (ss : List Statement) (declared : List (List ℕ)) → known_statement declared s ≡ false → declares_first declared (s ∷ ss) ≡ false
+unknown_behind s ss declared known = rw known refl
 
-pub read_done : {before : State} {whole now : Lexemes} {state : State} {declared : List (List ℕ)} → Read before whole now state declared → is_more now ≡ false → Turns whole before state
-read_done {before = before} {whole = whole} {now = now} r no_more_left = record {
-  tree = r.tree;
-  reads = found_within 99 whole r.tree now (going_done r.going no_more_left) (no_more now (sym no_more_left));
-  declares = ap (declares_first []) (sym (append-nil r.tree)) ∙ r.known [];
-  says = ap (λ (l : List Statement). meaning.document l before) (sym (append-nil r.tree)) ∙ r.says [];
+-- what holds of the statements so far with any behind them holds with one more
+one_more : (tree : List Statement) (s : Statement) (P : List Statement → Type 0) → ((ss : List Statement) → P (tree ++ ss)) → (ss : List Statement) → P ((tree ++ s ∷ []) ++ ss)
+one_more tree s P h ss = subst P (sym (append_assoc tree (s ∷ []) ss)) (h (s ∷ ss))
+
+known_on : (declared more : List (List ℕ)) (tree : List Statement) (s : Statement) → ((ss : List Statement) → declares_first [] (tree ++ ss) ≡ declares_first declared ss)
+    → known_statement declared s ≡ true → more ≡ declared_behind declared s → (ss : List Statement) → declares_first [] ((tree ++ s ∷ []) ++ ss) ≡ declares_first more ss
+known_on declared more tree s h known declares ss =
+    ap (declares_first []) (append_assoc tree (s ∷ []) ss) ∙ h (s ∷ ss) ∙ behind s ss declared known ∙ ap (λ (d : List (List ℕ)). declares_first d ss) (sym declares)
+
+unknown_on : (declared : List (List ℕ)) (tree : List Statement) (s : Statement) → ((ss : List Statement) → declares_first [] (tree ++ ss) ≡ declares_first declared ss)
+    → known_statement declared s ≡ false → Unbound (tree ++ s ∷ [])
+unknown_on declared tree s h known = record {
+  unknown = λ ss. ap (declares_first []) (append_assoc tree (s ∷ []) ss) ∙ h (s ∷ ss) ∙ unknown_behind s ss declared known;
 }
 
--- what is said from the start is the answer
-pub said_document : (base b : Option (List ℕ)) (text : List ℕ) (before behind : State) (quads : List QuadParts)
-    → IsUtf8 text → Told text before behind → before ≡ start b → b ≡ base → quads ≡ behind.quads → text_of.IsDocument base text quads
-unfolding meaning.triples_of
-said_document base b text before behind quads u told s e q =
-    let t = told.2 in
-    let said : meaning.document t.tree (start base) ≡ Some (tt, behind) = ap (meaning.document t.tree) (sym (s ∙ ap start e)) ∙ t.says in
-    let answered : meaning.answer base t.tree ≡ Ok quads = rw (t.declares, said, q) refl in
-    let low = document_shallow 99 told.0 t.tree t.reads in
-    let held = all_read text told.0 u told.1 low in
-    (t.tree, record { tokens = held.0; lexemes = told.0; list = held.1; shallow = not_too_deep told.0 low; reads = (99, t.reads) }, answered)
+so_far_on : (before : State) (whole now then : Lexemes) (pending later : Pending) (state u : State) (declared more : List (List ℕ)) (tree : List Statement) (s : Statement)
+    → length then < length now → SoFar pending before whole now state declared tree → Becomes pending later s state u declared more → SoFar later before whole then u more (tree ++ s ∷ [])
+so_far_on before whole now then Nothing Nothing state u declared more tree s less r b = record {
+  says = λ ss. ap (λ (l : List Statement). meaning.document l before) (append_assoc tree (s ∷ []) ss) ∙ r.says (s ∷ ss) ∙ ap (λ o. and_then o (λ _. meaning.document ss)) b.says;
+  known = known_on declared more tree s r.known b.known b.declares;
+  prefixes = b.declares ∙ ap (λ (d : List (List ℕ)). declared_behind d s) r.prefixes ∙ sym b.prologue;
+  room = omega (arith, r.room, b.room, less);
+}
+so_far_on before whole now then Nothing Relative state u declared more tree s less r b = record {
+  fails = λ ss. ap (λ (l : List Statement). meaning.document l before) (append_assoc tree (s ∷ []) ss) ∙ r.says (s ∷ ss) ∙ ap (λ o. and_then o (λ _. meaning.document ss)) b.2;
+  known = known_on declared more tree s r.known b.0 b.1;
+}
+so_far_on before whole now then Nothing UnknownPrefix state u declared more tree s less r b = unknown_on declared tree s r.known b
+so_far_on before whole now then Relative Nothing state u declared more tree s less r b = absurd b
+so_far_on before whole now then Relative Relative state u declared more tree s less r b = record {
+  fails = one_more tree s (λ (l : List Statement). meaning.document l before ≡ None) r.fails;
+  known = known_on declared more tree s r.known b.0 b.1;
+}
+so_far_on before whole now then Relative UnknownPrefix state u declared more tree s less r b = unknown_on declared tree s r.known b
+so_far_on before whole now then UnknownPrefix Nothing state u declared more tree s less r b = absurd b
+so_far_on before whole now then UnknownPrefix Relative state u declared more tree s less r b = absurd b
+so_far_on before whole now then UnknownPrefix UnknownPrefix state u declared more tree s less r b = record {
+  unknown = one_more tree s (λ (l : List Statement). declares_first [] l ≡ false) r.unknown;
+}
+
+pub read_on : {depth : ℕ} {before : State} {whole now then : Lexemes} {pending later : Pending} {state u : State} {declared more : List (List ℕ)}
+    → Read depth before whole now pending state declared → is_more now ≡ true → Turn depth now then pending later state u declared more → Read depth before whole then later u more
+read_on {depth = depth} {before = before} {whole = whole} {now = now} {then = then} {pending = pending} {later = later} {state = state} {u = u} {declared = declared} {more = more} r is_left t =
+    let s = t.tree in
+    record {
+      tree = r.tree ++ s ∷ [];
+      going = going_on (s ∷ []) then r.going is_left (one_reads (statement (node depth) (node (depth + 1))) _ _ _ t.reads) t.shorter;
+      formed = (next_proper depth now then s r.formed t.reads).1;
+      so_far = so_far_on before whole now then pending later state u declared more r.tree s t.shorter r.so_far t.becomes;
+    }
+
+-- ---- what a turn wants
+
+known_so_far : (pending : Pending) (before : State) (whole now : Lexemes) (state : State) (declared : List (List ℕ)) (tree : List Statement)
+    → SoFar pending before whole now state declared tree → IfNothing pending (declared ≡ prologue.declared state.prologue)
+known_so_far Nothing before whole now state declared tree r = r.prefixes
+known_so_far Relative before whole now state declared tree r = tt
+known_so_far UnknownPrefix before whole now state declared tree r = tt
+
+pub read_known : {depth : ℕ} {before : State} {whole now : Lexemes} {pending : Pending} {state : State} {declared : List (List ℕ)} → Read depth before whole now pending state declared
+    → IfNothing pending (declared ≡ prologue.declared state.prologue)
+read_known {before = before} {whole = whole} {now = now} {pending = pending} {state = state} {declared = declared} r = known_so_far pending before whole now state declared r.tree r.so_far
 
 -- one lexeme or more is left
-pub some_left : (now : Lexemes) → is_more now ≡ true → 1 ≤ length now
+some_left : (now : Lexemes) → is_more now ≡ true → 1 ≤ length now
 some_left [] e = absurd (cc)
 some_left (t ∷ ts) e = omega arith
+
+room_so_far : (pending : Pending) (before : State) (whole now : Lexemes) (state : State) (declared : List (List ℕ)) (tree : List Statement)
+    → 1 ≤ length now → length whole ≤ longest → SoFar pending before whole now state declared tree → IfNothing pending (rooms.HasRoom 1 state)
+room_so_far Nothing before whole now state declared tree some fits r = omega (arith, r.room, some, fits)
+room_so_far Relative before whole now state declared tree some fits r = tt
+room_so_far UnknownPrefix before whole now state declared tree some fits r = tt
+
+pub read_room : {depth : ℕ} {before : State} {whole now : Lexemes} {pending : Pending} {state : State} {declared : List (List ℕ)} → Read depth before whole now pending state declared
+    → is_more now ≡ true → length whole ≤ longest → IfNothing pending (rooms.HasRoom 1 state)
+read_room {before = before} {whole = whole} {now = now} {pending = pending} {state = state} {declared = declared} r is_left fits =
+    room_so_far pending before whole now state declared r.tree (some_left now is_left) fits r.so_far
+
+pub if_nothing : {P : Type 0} (pending : Pending) → pending ≡ Nothing → IfNothing pending P → P
+if_nothing {P = P} pending e h = subst (λ (p : Pending). IfNothing p P) e h
+
+-- ---- where reading ends
+
+leaves_so_far : (pending : Pending) (before : State) (whole now : Lexemes) (state : State) (declared : List (List ℕ)) (tree : List Statement)
+    → SoFar pending before whole now state declared tree → Leaves pending tree before state
+leaves_so_far Nothing before whole now state declared tree r = (
+  ap (declares_first []) (sym (append-nil tree)) ∙ r.known [],
+  ap (λ (l : List Statement). meaning.document l before) (sym (append-nil tree)) ∙ r.says [],
+)
+leaves_so_far Relative before whole now state declared tree r = (
+  ap (declares_first []) (sym (append-nil tree)) ∙ r.known [],
+  ap (λ (l : List Statement). meaning.document l before) (sym (append-nil tree)) ∙ r.fails [],
+)
+leaves_so_far UnknownPrefix before whole now state declared tree r = ap (declares_first []) (sym (append-nil tree)) ∙ r.unknown []
+
+pub read_done : {depth : ℕ} {before : State} {whole now : Lexemes} {pending : Pending} {state : State} {declared : List (List ℕ)} → Read depth before whole now pending state declared
+    → is_more now ≡ false → Turns depth whole pending before state
+read_done {depth = depth} {before = before} {whole = whole} {now = now} {pending = pending} {state = state} {declared = declared} r no_more_left = record {
+  tree = r.tree;
+  reads = found_within depth whole r.tree now (going_done r.going no_more_left) (no_more now (sym no_more_left));
+  leaves = leaves_so_far pending before whole now state declared r.tree r.so_far;
+}
+
+stops_by : (depth : ℕ) (whole now : Lexemes) (tree : List Statement) (kind : TurtleFaultKind) → Going is_more (one (statement (node depth) (node (depth + 1)))) (document depth whole) tree now
+    → is_more now ≡ true → Stops (statement (node depth) (node (depth + 1)) now) kind → Stops (document depth whole) kind
+stops_by depth whole now tree fault.Syntax g is_left h = going_fails g (omega (arith, some_left now is_left)) is_left (one_fails (statement (node depth) (node (depth + 1))) now h)
+stops_by depth whole now tree (fault.NoMemory refusal) g is_left h = tt
+stops_by depth whole now tree fault.NotUtf8 g is_left h = h
+stops_by depth whole now tree fault.Token g is_left h = h
+stops_by depth whole now tree fault.TooDeep g is_left h = h
+stops_by depth whole now tree fault.UnknownPrefix g is_left h = h
+stops_by depth whole now tree fault.Relative g is_left h = h
+
+pub read_stops : {depth : ℕ} {before : State} {whole now : Lexemes} {pending : Pending} {state : State} {declared : List (List ℕ)} (kind : TurtleFaultKind) → Read depth before whole now pending state declared
+    → is_more now ≡ true → Stops (statement (node depth) (node (depth + 1)) now) kind → Stops (document depth whole) kind
+read_stops {depth = depth} {whole = whole} {now = now} kind r is_left h = stops_by depth whole now r.tree kind r.going is_left h
+
+pub stops_with : (depth : ℕ) (lexemes : Lexemes) (base : Option (List ℕ)) (kind : TurtleFaultKind) → Stops (document depth lexemes) kind → StopsWith depth lexemes base kind
+stops_with depth lexemes base fault.UnknownPrefix h = absurd h
+stops_with depth lexemes base fault.Relative h = absurd h
+stops_with depth lexemes base fault.Syntax h = h
+stops_with depth lexemes base (fault.NoMemory refusal) h = h
+stops_with depth lexemes base fault.NotUtf8 h = h
+stops_with depth lexemes base fault.Token h = h
+stops_with depth lexemes base fault.TooDeep h = h
+
+-- ---- what is answered
+
+-- what is said from the start is the answer
+pub said_answers : (depth : ℕ) (base b : Option (List ℕ)) (lexemes : Lexemes) (before behind : State) (quads : List QuadParts)
+    → Turns depth lexemes Nothing before behind → before ≡ start b → b ≡ base → quads ≡ behind.quads → Tells depth lexemes base (Ok quads)
+unfolding meaning.triples_of
+said_answers depth base b lexemes before behind quads t s e q =
+    let said : meaning.document t.tree (start base) ≡ Some (tt, behind) = ap (meaning.document t.tree) (sym (s ∙ ap start e)) ∙ t.leaves.1 in
+    let known = t.leaves.0 in
+    record { tree = t.tree; reads = t.reads; answers = rw (known, said, q) refl }
+
+pub lacking_answers : (depth : ℕ) (base b : Option (List ℕ)) (lexemes : Lexemes) (before behind : State)
+    → Turns depth lexemes Relative before behind → before ≡ start b → b ≡ base → Tells depth lexemes base (Err fault.Relative)
+unfolding meaning.triples_of
+lacking_answers depth base b lexemes before behind t s e =
+    let fails : meaning.document t.tree (start base) ≡ None = ap (meaning.document t.tree) (sym (s ∙ ap start e)) ∙ t.leaves.1 in
+    let known = t.leaves.0 in
+    record { tree = t.tree; reads = t.reads; answers = rw (known, fails) refl }
+
+pub unbound_answers : (depth : ℕ) (base : Option (List ℕ)) (lexemes : Lexemes) (before behind : State)
+    → Turns depth lexemes UnknownPrefix before behind → Tells depth lexemes base (Err fault.UnknownPrefix)
+unbound_answers depth base lexemes before behind t =
+    let unknown = t.leaves in
+    record { tree = t.tree; reads = t.reads; answers = rw unknown refl }

@@ -1,7 +1,6 @@
 -- What only private functions speak of.
 pub mod Cells
 pub mod Formed
-pub mod Kept
 pub mod LinedFaults
 pub mod NamePlaces
 pub mod Proper
@@ -9,3 +8,4 @@ pub mod Reading
 pub mod Room
 pub mod Stops
 pub mod Turns
+pub mod Walks

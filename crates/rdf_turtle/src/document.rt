@@ -1,152 +1,89 @@
 //! Turtle documents, from bytes to quads.
-ghost use Rattle.std.specs.Prelude.{◌≡◌, ◌≢◌, ℕ, List, Option, MatchResult};
+ghost use Rattle.std.specs.Prelude.{◌≡◌, ℕ, List, Option, IfOk, MatchResult, is_some};
 ghost use Rattle.std.specs.Option.{option_copied};
 ghost use Rattle.std.specs.Str.{IsUtf8};
 ghost use Rattle.rdf_turtle.specs.Bases.{RelativeLacksABase};
-ghost use Rattle.rdf_turtle.specs.Document as spec;
-ghost use Rattle.rdf_turtle.specs.Document.{HasTokens, IsDocument, TellsFault};
-ghost use Rattle.rdf_turtle.specs.FaultName.{no_memory};
-ghost use Rattle.rdf_turtle.specs.Grammar as grammar;
-ghost use Rattle.rdf_turtle.specs.Inside.Kept.{IsNameFault};
-ghost use Rattle.rdf_turtle.specs.Inside.NamePlaces.{IsAtFirst};
-ghost use Rattle.rdf_turtle.specs.Nesting.{IsTooDeep};
+ghost use Rattle.rdf_turtle.specs.Document.{IsDocument, TellsFault};
 ghost use Rattle.rdf_turtle.specs.DocumentLaws.{SomeMeaning, OneDocument, NeverBoth, OneFault};
-ghost use Rattle.rdf_tokens.specs.Lines.{line_of};
+ghost use Rattle.rdf_turtle.specs.Inside.NamePlaces.{StartsAtFirst};
+ghost use Rattle.rdf_turtle.specs.Inside.Stops.{IsTold};
+ghost use Rattle.rdf_turtle.specs.Inside.Walks.{IsShallow};
 
-use crate::fault::{TurtleFault, TurtleFaultKind};
+use crate::fault::{TurtleFault, TurtleFaultKind, fault_at};
 use crate::faulty_name::{first_lacking, first_unbound};
-use crate::lexeme::Lexeme;
-use crate::meaning::triples_of;
-use crate::read::{Stop, parse_document};
-use crate::straight::straight_quads;
-use crate::token_list::tokens;
-use crate::tree::Statement;
-use rdf_grammar::{PrologueFault, lexemes};
-use rdf_terms::{Iri, Items, Quad};
-use rdf_tokens::{Token, line_at};
+use crate::lexeme::Parser;
+use crate::straight::quads_of;
+use crate::survey::{start_of, survey};
+use rdf_grammar::MAX_OPEN;
+use rdf_terms::{Iri, NoMemory, Quad};
 use std::alloc::Global;
 
-// The fault of this kind, at the line of that byte; want of memory has no line.
-fn fault_at(text: &[u8], kind: TurtleFaultKind, place: usize) -> TurtleFault
-    ensures kind { result.kind ≡ kind }
-    ensures line { kind ≢ no_memory → result.line ≡ line_of text.now place }
-    ensures no_line { kind ≡ no_memory → result.line ≡ 0 }
-{
-    let line = match kind {
-        TurtleFaultKind::NoMemory(_) => 0,
-        _ => line_at(text, place),
-    };
-    TurtleFault { line, kind }
-}
-
-// The byte where the token of that number starts, or the end of the text.
-fn start_of(text: &[u8], tokens: &[Token], number: usize) -> usize
-    ensures { result ≡ spec.start_of text.now tokens.now number }
-{
-    match tokens.get(number) {
-        Some(token) => token.start,
-        None => text.len(),
-    }
-}
-
-// The fault of a name, at the line where it stands.
-fn name_fault(text: &[u8], fault: PrologueFault) -> TurtleFault
-    ensures { IsNameFault text.now fault result }
-{
-    match fault {
-        PrologueFault::UnknownPrefix(start) => {
-            fault_at(text, TurtleFaultKind::UnknownPrefix, start)
-        }
-        PrologueFault::Relative(start) => fault_at(text, TurtleFaultKind::Relative, start),
-        PrologueFault::NoMemory(refusal) => {
-            fault_at(text, TurtleFaultKind::NoMemory(refusal), 0)
-        }
-    }
-}
-
-// The same fault, at the first name that has it, against a base or none.
-fn at_first(
+// The byte where the first name stands that has this fault, against a base or none.
+fn first_name(
     alloc: Global,
-    text: &[u8],
-    tokens: &[Token],
-    lexemes: &[Lexeme<'_>],
+    text: &str,
     based: bool,
-    fault: PrologueFault,
-) -> PrologueFault
-    ensures { IsAtFirst text.now tokens.now lexemes.now based fault result }
+    kind: TurtleFaultKind,
+) -> Result<usize, NoMemory>
+    ensures { IfOk result (λ start. StartsAtFirst based text.now kind start) }
 {
-    match fault {
-        PrologueFault::UnknownPrefix(_) => match first_unbound(alloc, lexemes) {
-            Ok(number) => PrologueFault::UnknownPrefix(start_of(text, tokens, number)),
-            Err(refusal) => PrologueFault::NoMemory(refusal),
-        },
-        PrologueFault::Relative(_) => match first_lacking(alloc, based, lexemes) {
-            Ok(number) => PrologueFault::Relative(start_of(text, tokens, number)),
-            Err(refusal) => PrologueFault::NoMemory(refusal),
-        },
-        PrologueFault::NoMemory(refusal) => PrologueFault::NoMemory(refusal),
+    match kind {
+        TurtleFaultKind::UnknownPrefix => first_unbound(alloc, text),
+        TurtleFaultKind::Relative => first_lacking(alloc, based, text),
+        _ => Ok(0),
     }
 }
 
-// The tree of the lexemes of a text.
-fn read_tree<'a>(
-    alloc: Global,
-    text: &[u8],
-    tokens: &[Token],
-    lexemes: &[Lexeme<'a>],
-) -> Result<Items<Statement<'a>>, TurtleFault>
-    requires { HasTokens text.now tokens.now lexemes.now }
-    ensures { MatchResult result
-        (λ tree. ¬ (IsTooDeep lexemes.now) × grammar.IsDocument lexemes.now tree)
-        (λ fault. (base : Option (List ℕ)) → TellsFault base text.now fault fault.kind) }
+// The fault of a text that has a tree: of a name, in the line of the first that has it, or want of memory.
+fn told(alloc: Global, text: &str, based: bool, kind: TurtleFaultKind) -> TurtleFault
+    ensures { (base : Option (List ℕ)) → is_some base ≡ based →
+        IsTold base text.now kind → TellsFault base text.now result result.kind }
 {
-    match parse_document(alloc, lexemes) {
-        Ok(tree) => Ok(tree),
-        Err(Stop { kind, place }) => {
-            let start = start_of(text, tokens, place);
-            Err(fault_at(text, kind, start))
-        }
+    match first_name(alloc, text, based, kind) {
+        Ok(start) => fault_at(text.as_bytes(), kind, start),
+        Err(refusal) => fault_at(text.as_bytes(), TurtleFaultKind::NoMemory(refusal), 0),
     }
 }
 
-// The quads of a text that is UTF-8, or its first fault. Its tokens are held to the end, for the line.
-fn read_with_faults(alloc: Global, text: &str, base: Option<&Iri>) -> Result<Vec<Quad>, TurtleFault>
-    requires { IsUtf8 text.now }
+// The quads of a text that was surveyed, or its fault. It says Syntax where it stopped.
+fn read_surveyed(alloc: Global, text: &str, base: Option<&Iri>) -> Result<Vec<Quad>, TurtleFault>
+    requires { IsShallow text.now }
     ensures { MatchResult result
         (λ quads. IsDocument (option_copied base.entry) text.now quads.items)
         (λ fault. TellsFault (option_copied base.entry) text.now fault fault.kind) }
 {
-    let bytes = text.as_bytes();
-    let tokens = tokens(alloc, text)?;
-    let lexemes = match lexemes(alloc, text, tokens.as_slice()) {
-        Ok(lexemes) => lexemes,
-        Err(refusal) => return Err(fault_at(bytes, TurtleFaultKind::NoMemory(refusal), 0)),
-    };
-    let tree = match read_tree(alloc, bytes, tokens.as_slice(), lexemes.as_slice()) {
-        Ok(tree) => tree,
-        Err(fault) => return Err(fault),
-    };
-    match triples_of(alloc, base, tree.into_vec()) {
+    let mut parser = Parser::over(alloc, text);
+    match quads_of(&mut parser, base, MAX_OPEN) {
         Ok(quads) => Ok(quads),
-        Err(fault) => {
-            let (tokens, lexemes) = (tokens.as_slice(), lexemes.as_slice());
-            let based = base.is_some();
-            let fault = at_first(alloc, bytes, tokens, lexemes, based, fault);
-            Err(name_fault(bytes, fault))
-        }
+        Err(kind) => match kind {
+            TurtleFaultKind::Syntax => {
+                let all = Parser::over(alloc, text).left();
+                let start = start_of(text, all.saturating_sub(parser.left()));
+                Err(fault_at(text.as_bytes(), TurtleFaultKind::Syntax, start))
+            }
+            _ => Err(told(alloc, text, base.is_some(), kind)),
+        },
     }
 }
 
-// The quads of a text that is UTF-8. A faulty one is read once more, for the first fault.
+// The quads of a text that is UTF-8, or its first fault. Only where the text may be no document, or have 100
+// brackets open at once, is it surveyed and read once more: a fault of its tokens goes before.
 fn read_text(alloc: Global, text: &str, base: Option<&Iri>) -> Result<Vec<Quad>, TurtleFault>
     requires { IsUtf8 text.now }
     ensures { MatchResult result
         (λ quads. IsDocument (option_copied base.entry) text.now quads.items)
         (λ fault. TellsFault (option_copied base.entry) text.now fault fault.kind) }
 {
-    match straight_quads(alloc, text, base) {
-        Some(quads) => Ok(quads),
-        None => read_with_faults(alloc, text, base),
+    let mut parser = Parser::over(alloc, text);
+    match quads_of(&mut parser, base, MAX_OPEN - 1) {
+        Ok(quads) => Ok(quads),
+        Err(kind) => match kind {
+            TurtleFaultKind::Syntax => match survey(text) {
+                Ok(()) => read_surveyed(alloc, text, base),
+                Err(fault) => Err(fault),
+            },
+            _ => Err(told(alloc, text, base.is_some(), kind)),
+        },
     }
 }
 

@@ -1,11 +1,13 @@
 //! Why a text is not read.
-ghost use Rattle.std.specs.Prelude.{◌≡◌};
+ghost use Rattle.std.specs.Prelude.{◌≡◌, ◌≢◌};
+ghost use Rattle.rdf_tokens.specs.Lines.{line_of};
 ghost use Rattle.rdf_turtle.specs.FaultName.{fault_name, no_memory};
 ghost use Rattle.rdf_turtle.specs.GrammarFaults.{kind_of};
 ghost use Rattle.rdf_turtle.specs.declared.fault.TurtleFaultKind.TheVariants.{NoMemory as NoMemoryKind};
 
 use rdf_grammar::GrammarFault;
 use rdf_terms::NoMemory;
+use rdf_tokens::line_at;
 use std::alloc::{AllocError, AllocFailed};
 use thiserror::Error;
 
@@ -105,4 +107,17 @@ impl<T: Drop> From<AllocFailed<T>> for TurtleFaultKind {
     fn from(e: AllocFailed<T>) -> TurtleFaultKind {
         TurtleFaultKind::NoMemory(NoMemory::from(e))
     }
+}
+
+/// The fault of this kind, at the line of that byte; want of memory has no line.
+pub(crate) fn fault_at(text: &[u8], kind: TurtleFaultKind, place: usize) -> TurtleFault
+    ensures kind { result.kind ≡ kind }
+    ensures line { kind ≢ no_memory → result.line ≡ line_of text.now place }
+    ensures no_line { kind ≡ no_memory → result.line ≡ 0 }
+{
+    let line = match kind {
+        TurtleFaultKind::NoMemory(_) => 0,
+        _ => line_at(text, place),
+    };
+    TurtleFault { line, kind }
 }

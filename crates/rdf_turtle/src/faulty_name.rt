@@ -1,14 +1,15 @@
-//! Which lexeme of a document is the first name without an IRI.
+//! Where the first name of a document stands that has no IRI.
 ghost use Rattle.std.specs.Prelude.{◌≡◌, IfOk, OnOk};
 ghost use Rattle.rdf_turtle.specs.FaultyNames as spec;
+ghost use Rattle.rdf_turtle.specs.Inside.NamePlaces.{StartsAt};
 ghost use Rattle.rdf_turtle.specs.Leaves.{takes_tag};
 
-use crate::lexeme::Lexeme;
+use crate::survey::terminal_of;
 use crate::terminal::Terminal;
 use indexmap::IndexSet;
 use rdf_grammar::Key;
 use rdf_terms::{Iri, IriFault, NoMemory};
-use rdf_tokens::{Slice, iri_value, prefix_part};
+use rdf_tokens::{Found, Slice, TokenWalk, iri_value, prefix_part};
 use std::alloc::Global;
 
 // What a lexeme is, behind a text or not.
@@ -73,27 +74,34 @@ fn bind<'a>(
     }
 }
 
-/// How many lexemes stand before the first prefixed name whose prefix isn't declared before it, or how many
-/// there are where none is such a name.
+/// The byte where the first prefixed name starts whose prefix isn't declared before it, or the end of the
+/// text where none is such a name.
 ///
 /// # Errors
 /// [`NoMemory`] where memory is wanting.
-pub(crate) fn first_unbound(alloc: Global, lexemes: &[Lexeme<'_>]) -> Result<usize, NoMemory>
-    ensures { IfOk result (λ number. number ≡ spec.first_unbound lexemes.now) }
+pub(crate) fn first_unbound(alloc: Global, text: &str) -> Result<usize, NoMemory>
+    ensures { IfOk result (λ place. StartsAt text.now spec.first_unbound place) }
 {
+    let mut walk = TokenWalk::over(text);
     let mut bound = IndexSet::new(alloc);
     let mut behind = false;
     let mut declares = false;
-    for (number, lexeme) in lexemes.iter().enumerate() {
-        let terminal = taken(behind, lexeme.terminal);
-        if is_unbound(declares, &bound, terminal, &lexeme.text) {
-            return Ok(number);
+    while let Some(found) = walk.next() {
+        match found {
+            Found::Token(start, kind, name) => {
+                let read = terminal_of(kind, &name);
+                let terminal = taken(behind, read);
+                if is_unbound(declares, &bound, terminal, &name) {
+                    return Ok(start);
+                }
+                bind(declares, &mut bound, terminal, &name)?;
+                declares = declares_behind(declares, terminal);
+                behind = is_text(read);
+            }
+            Found::NoToken(_) => return Ok(text.len()),
         }
-        bind(declares, &mut bound, terminal, &lexeme.text)?;
-        declares = declares_behind(declares, terminal);
-        behind = is_text(lexeme.terminal);
     }
-    Ok(lexemes.len())
+    Ok(text.len())
 }
 
 fn moves_behind(moves: bool, terminal: Terminal) -> bool
@@ -143,29 +151,32 @@ fn base_behind(moves: bool, based: bool, terminal: Terminal) -> bool
     }
 }
 
-/// How many lexemes stand before the first reference that has no scheme where no base is in force, or how
-/// many there are where none is such a reference. A base is in force at the start, or none.
+/// The byte where the first reference starts that has no scheme where no base is in force, or the end of
+/// the text where none is such a reference. A base is in force at the start, or none.
 ///
 /// # Errors
 /// [`NoMemory`] where memory is wanting.
-pub(crate) fn first_lacking(
-    alloc: Global,
-    based: bool,
-    lexemes: &[Lexeme<'_>],
-) -> Result<usize, NoMemory>
-    ensures { IfOk result (λ number. number ≡ spec.first_lacking based lexemes.now) }
+pub(crate) fn first_lacking(alloc: Global, based: bool, text: &str) -> Result<usize, NoMemory>
+    ensures { IfOk result (λ place. StartsAt text.now (spec.first_lacking based) place) }
 {
+    let mut walk = TokenWalk::over(text);
     let mut behind = false;
     let mut moves = false;
     let mut in_force = based;
-    for (number, lexeme) in lexemes.iter().enumerate() {
-        let terminal = taken(behind, lexeme.terminal);
-        if is_lacking(alloc, in_force, terminal, &lexeme.text)? {
-            return Ok(number);
+    while let Some(found) = walk.next() {
+        match found {
+            Found::Token(start, kind, reference) => {
+                let read = terminal_of(kind, &reference);
+                let terminal = taken(behind, read);
+                if is_lacking(alloc, in_force, terminal, &reference)? {
+                    return Ok(start);
+                }
+                in_force = base_behind(moves, in_force, terminal);
+                moves = moves_behind(moves, terminal);
+                behind = is_text(read);
+            }
+            Found::NoToken(_) => return Ok(text.len()),
         }
-        in_force = base_behind(moves, in_force, terminal);
-        moves = moves_behind(moves, terminal);
-        behind = is_text(lexeme.terminal);
     }
-    Ok(lexemes.len())
+    Ok(text.len())
 }

@@ -1,7 +1,7 @@
 //! The productions of Turtle inside a statement (Turtle 1.1, section 6.5). A bracket is a
 //! recursion, and a list a loop.
 
-ghost use Rattle.std.specs.Prelude.{◌≡◌, ◌≤◌, ◌<◌, length, OnOk, OnErr, IfErr};
+ghost use Rattle.std.specs.Prelude.{◌≡◌, ◌≤◌, ◌<◌, [], length, OnOk, OnErr, IfOk, IfErr};
 ghost use Rattle.rdf_grammar.specs.Readings.{Reads};
 ghost use Rattle.rdf_grammar.specs.declared.fault.GrammarFault.TheVariants.{Syntax};
 ghost use Rattle.rdf_turtle.specs.Inside.Reading as spec;
@@ -10,7 +10,8 @@ use crate::lexeme::Parser;
 use crate::terminal::Terminal;
 use crate::tree::{Node, Property, Verb};
 use rdf_grammar::{GrammarFault, iri, literal};
-use rdf_terms::Items;
+use rdf_terms::{Items, NoMemory};
+use std::alloc::Global;
 
 fn begins_verb(terminal: Option<Terminal>) -> bool
     ensures { result ≡ spec.begins_verb terminal }
@@ -162,6 +163,16 @@ pub fn optional_predicate_object_list<'a>(
     predicate_object_list(parser, depth)
 }
 
+/// How many properties there is room for from the start.
+const ROOM: usize = 8;
+
+// No properties yet, with room for as many as a subject has in most texts.
+fn some_properties<'a>(alloc: Global) -> Result<Items<Property<'a>>, NoMemory>
+    ensures { IfOk result (λ properties. properties ≡ []) }
+{
+    Ok(Items::from_vec(Vec::with_capacity(alloc, ROOM)?))
+}
+
 #[cycle(node)]
 #[tactic(auto, unfolding(crate::specs::Inside::Reading::predicate_object_list))]
 pub fn predicate_object_list<'a>(
@@ -172,7 +183,7 @@ pub fn predicate_object_list<'a>(
         (spec.node depth) parser.old) result parser.new }
     ensures shorter { OnOk result (length parser.new < length parser.old) }
 {
-    let mut all = Items::new(parser.alloc());
+    let mut all = some_properties(parser.alloc())?;
     all.push(property(parser, depth)?)?;
     while parser.eat(Terminal::Semicolon) {
         if let Some(property) = optional_property(parser, depth)? {

@@ -1,5 +1,5 @@
 //! Whether prefixes are declared before they are used.
-ghost use Rattle.std.specs.Prelude.{◌≡◌, [], IfOk, OnOk, map};
+ghost use Rattle.std.specs.Prelude.{◌≡◌, OnOk, map};
 ghost use Rattle.std.specs.List.{list_all};
 ghost use Rattle.std.specs.Option.{is_none};
 ghost use Rattle.rdf_turtle.specs.Known as spec;
@@ -9,7 +9,6 @@ use crate::tree::{Literal, Name, Node, Property, Statement, Verb};
 use indexmap::IndexSet;
 use rdf_grammar::Key;
 use rdf_terms::NoMemory;
-use std::alloc::Global;
 
 // Each of these answers where the first name stands whose prefix isn't declared.
 
@@ -121,32 +120,4 @@ pub(crate) fn declare<'a>(
         declared.insert(Key::of(prefix))?;
     }
     Ok(())
-}
-
-// Where the first name stands whose prefix is neither one of these nor declared before it.
-fn first_unknown_behind<'a>(
-    declared: &mut IndexSet<Key<'a>>,
-    statements: &[Statement<'a>],
-) -> Result<Option<usize>, NoMemory>
-    ensures { IfOk result (λ unknown.
-        is_none unknown ≡ spec.declares_first declared.old.keys statements.now) }
-{
-    for statement in statements {
-        if let Some(start) = unknown_in(declared, statement) {
-            return Ok(Some(start));
-        }
-        declare(declared, statement)?;
-    }
-    Ok(None)
-}
-
-/// Where the first name stands whose prefix isn't declared before it.
-pub(crate) fn first_unknown<'a>(
-    alloc: Global,
-    statements: &[Statement<'a>],
-) -> Result<Option<usize>, NoMemory>
-    ensures { IfOk result (λ unknown. is_none unknown ≡ spec.declares_first [] statements.now) }
-{
-    let mut declared = IndexSet::new(alloc);
-    first_unknown_behind(&mut declared, statements)
 }

@@ -1,25 +1,22 @@
 //! The triples of a tree.
-ghost use Rattle.std.specs.Prelude.{◌≡◌, ◌+◌, ◌≤◌, [], false, length, IfOk, OnOk, MatchResult, IsTrue, Ok, map};
+ghost use Rattle.std.specs.Prelude.{◌≡◌, false, IfOk, OnOk, IsTrue, map};
 ghost use Rattle.std.specs.List.{list_all};
 ghost use Rattle.std.specs.Option.{option_copied};
 ghost use Rattle.rdf_terms.specs.Term.{is_literal_term};
 ghost use Rattle.rdf_turtle.specs.Blanks.{BlankNumbersAreBelow};
 ghost use Rattle.rdf_turtle.specs.Inside.Cells.{next_cell};
 ghost use Rattle.rdf_grammar.specs.Kept.{Gives};
-ghost use Rattle.rdf_turtle.specs.Inside.Kept.{IsFaultOf};
 ghost use Rattle.rdf_turtle.specs.Known as known;
-ghost use Rattle.rdf_turtle.specs.Known.{holds, declared_behind, declares_first};
+ghost use Rattle.rdf_turtle.specs.Known.{holds, declared_behind};
 ghost use Rattle.rdf_turtle.specs.Meaning as spec;
 ghost use Rattle.rdf_grammar.specs.Prologue.{declared};
 ghost use Rattle.rdf_turtle.specs.Inside.Proper as proper;
 ghost use Rattle.rdf_turtle.specs.Inside.Room.{HasRoom, TakesAtMost};
 
-use crate::known::first_unknown;
 use crate::scope::Scope;
 use crate::tree::{Node, Property, Statement, Verb};
 use rdf_grammar::PrologueFault;
-use rdf_terms::{Iri, NoMemory, Quad, Term};
-use std::alloc::Global;
+use rdf_terms::{Iri, NoMemory, Term};
 
 /// An equal base.
 pub(crate) fn copied(base: Option<&Iri>) -> Result<Option<Iri>, NoMemory>
@@ -276,61 +273,6 @@ impl<'a> Scope<'a> {
             }
             Statement::Triples(node, properties) => self.triples(node, properties.as_slice()),
         }
-    }
-
-    // Says a statement, and lets go of its tree.
-    fn consume(&mut self, statement: Statement<'a>) -> Result<(), PrologueFault>
-        requires known { IsTrue (known.known_statement (declared self.old.prologue) statement) }
-        requires proper { IsTrue (proper.proper_statement statement) }
-        requires room { HasRoom 1 self.old }
-        ensures gives { Gives (spec.statement statement.entry self.old) result self.new }
-        ensures declares { let before = declared self.old.prologue in
-            OnOk result (declared self.new.prologue ≡ declared_behind before statement.entry) }
-        ensures room { OnOk result (TakesAtMost 1 self.old self.new) }
-    {
-        self.statement(&statement)
-    }
-
-    // Each statement's tree is let go when its triples are said.
-    fn document(&mut self, statements: Vec<Statement<'a>>) -> Result<(), PrologueFault>
-        requires known { IsTrue (declares_first (declared self.old.prologue) statements.items) }
-        requires proper { IsTrue (list_all holds (map proper.proper_statement statements.items)) }
-        requires room { self.old.numbering.next ≤ length self.old.quads }
-        ensures { Gives (spec.document statements.entry.items self.old) result self.new }
-    {
-        for statement in statements {
-            self.consume(statement)?;
-        }
-        Ok(())
-    }
-}
-
-/// The triples of a document, in order, its blank nodes numbered from 0 by their places in the text
-/// (Turtle 1.1, section 7).
-///
-/// # Errors
-/// [`PrologueFault::UnknownPrefix`] where a prefix is used that isn't declared before it, at the first
-/// such name; else [`PrologueFault::Relative`] at the first relative reference without a base;
-/// [`PrologueFault::NoMemory`] where memory is wanting.
-#[tactic(auto, unfolding(crate::specs::Meaning::triples_of))]
-pub(crate) fn triples_of(
-    alloc: Global,
-    base: Option<&Iri>,
-    statements: Vec<Statement<'_>>,
-) -> Result<Vec<Quad>, PrologueFault>
-    requires { IsTrue (list_all holds (map proper.proper_statement statements.items)) }
-    ensures { MatchResult result
-        (λ quads. spec.answer (option_copied base.entry) statements.entry.items ≡ Ok quads.items)
-        (λ fault. IsFaultOf (spec.answer (option_copied base.entry) statements.entry.items) fault) }
-{
-    if let Some(start) = first_unknown(alloc, statements.as_slice())? {
-        return Err(PrologueFault::UnknownPrefix(start));
-    }
-    let base = copied(base)?;
-    let mut scope = Scope::new(alloc, base)?;
-    match scope.document(statements) {
-        Ok(()) => Ok(scope.into_quads()),
-        Err(fault) => Err(fault),
     }
 }
 

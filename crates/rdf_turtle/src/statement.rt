@@ -1,6 +1,6 @@
 //! Statements and documents (Turtle 1.1, section 6.5).
 
-ghost use Rattle.std.specs.Prelude.{◌≡◌, ◌+◌, ◌≤◌, ◌<◌, [], length, OnOk, OnErr, IfErr};
+ghost use Rattle.std.specs.Prelude.{◌≡◌, ◌+◌, ◌≤◌, ◌<◌, length, OnOk, OnErr, IfErr};
 ghost use Rattle.rdf_grammar.specs.Readings.{Reads};
 ghost use Rattle.rdf_grammar.specs.declared.fault.GrammarFault.TheVariants.{Syntax};
 ghost use Rattle.rdf_turtle.specs.Inside.Reading as spec;
@@ -9,7 +9,7 @@ use crate::grammar::{bracketed, optional_predicate_object_list, predicate_object
 use crate::lexeme::Parser;
 use crate::terminal::Terminal;
 use crate::tree::{Node, Property, Statement};
-use rdf_grammar::{GrammarFault, MAX_OPEN, binding};
+use rdf_grammar::{GrammarFault, binding};
 use rdf_terms::Items;
 
 #[tactic(auto, unfolding(crate::specs::Inside::Reading::binding))]
@@ -134,17 +134,4 @@ pub fn statement<'a>(
             ended(parser, statement)
         }
     }
-}
-
-/// Statements up to the last lexeme.
-#[tactic(auto, unfolding(crate::specs::Inside::Reading::document))]
-pub fn document<'a>(parser: &mut Parser<'_, 'a>) -> Result<Items<Statement<'a>>, GrammarFault>
-    ensures reads { Reads (spec.document 100 parser.old) result parser.new }
-    ensures all { OnOk result (parser.new ≡ []) }
-{
-    let mut all = Items::new(parser.alloc());
-    while parser.is_more() {
-        all.push(statement(parser, MAX_OPEN)?)?;
-    }
-    Ok(all)
 }

@@ -1,15 +1,17 @@
-//! Documents without a fault, read statement by statement.
-ghost use Rattle.std.specs.Prelude.{◌≡◌, ◌≤◌, [], length, IfOk, IfSome, IsTrue};
+//! Documents, read and said statement by statement.
+ghost use Rattle.std.specs.Prelude.{◌≡◌, ◌+◌, ◌≤◌, [], length, Ok, IfOk, MatchResult, IsTrue};
 ghost use Rattle.std.specs.List.{AllByRecursion};
-ghost use Rattle.std.specs.Bool.{OnTrue};
 ghost use Rattle.std.specs.Option.{option_copied};
-ghost use Rattle.rdf_turtle.specs.Document.{IsDocument};
 ghost use Rattle.rdf_turtle.specs.Inside.Formed.{Formed};
 ghost use Rattle.rdf_grammar.specs.Prologue as prologue;
-ghost use Rattle.rdf_turtle.specs.Inside.Room.{HasRoom};
+ghost use Rattle.rdf_turtle.specs.Inside.Reading as spec;
+ghost use Rattle.rdf_turtle.specs.Inside.Room.{HasRoom, longest};
 ghost use Rattle.rdf_turtle.specs.Inside.Proper.{proper_statement};
-ghost use Rattle.rdf_turtle.specs.Inside.Turns.{Said, Turn, Told};
+ghost use Rattle.rdf_turtle.specs.State.{State};
+ghost use Rattle.rdf_turtle.specs.declared.straight.Pending.TheVariants.{Nothing, Relative};
+ghost use Rattle.rdf_turtle.specs.Inside.Turns.{IfNothing, Becomes, Turn, Turns, Tells, Stops, StopsWith};
 
+use crate::fault::TurtleFaultKind;
 use crate::known::{declare, unknown_in};
 use crate::lexeme::Parser;
 use crate::meaning::copied;
@@ -17,93 +19,152 @@ use crate::scope::Scope;
 use crate::statement::statement;
 use crate::tree::Statement;
 use indexmap::IndexSet;
-use rdf_grammar::{Key, MAX_OPEN};
+use rdf_grammar::{Key, PrologueFault};
 use rdf_terms::{Iri, NoMemory, Quad};
-use std::alloc::Global;
 
-// Says the triples of a statement, or declares its prefix or base; otherwise a prefix in it isn't
-// declared, a reference has no base, or memory is wanting.
+/// What of the statements so far has no meaning. It is told behind the last statement, since a later one
+/// may have a fault that goes before it.
+#[derive(Clone, Copy, Debug, PartialEq, Eq)]
+pub(crate) enum Pending {
+    /// Nothing: all is said.
+    Nothing,
+    /// A relative reference had no base, and each prefix was declared.
+    Relative,
+    /// A prefix wasn't declared before it.
+    UnknownPrefix,
+}
+
+// Says the triples of a statement, or declares its prefix or base.
 fn say<'a>(
     scope: &mut Scope<'a>,
     declared: &mut IndexSet<Key<'a>>,
     statement: &Statement<'a>,
-) -> bool
+) -> Result<Pending, NoMemory>
     requires known { declared.old.keys ≡ prologue.declared scope.old.prologue }
     requires proper { IsTrue (proper_statement statement.now) }
     requires room { HasRoom 1 scope.old }
-    ensures { OnTrue result
-        (Said statement.now scope.old scope.new declared.old.keys declared.new.keys) }
+    ensures { IfOk result (λ later. Becomes Nothing later
+        statement.now scope.old scope.new declared.old.keys declared.new.keys) }
 {
     if unknown_in(declared, statement).is_some() {
-        return false;
+        return Ok(Pending::UnknownPrefix);
     }
-    let Ok(()) = declare(declared, statement) else {
-        return false;
-    };
+    declare(declared, statement)?;
     match scope.statement(statement) {
-        Ok(()) => true,
-        Err(_) => false,
+        Ok(()) => Ok(Pending::Nothing),
+        Err(PrologueFault::Relative(_)) => Ok(Pending::Relative),
+        Err(PrologueFault::NoMemory(refusal)) => Err(refusal),
+        Err(PrologueFault::UnknownPrefix(_)) => unreachable!(),
     }
 }
 
-// Reads the next statement and says it, if it can. A bracket around nothing may be one deeper than
-// one around something, so that no more are open than may be.
+// Looks at the prefixes of a statement that isn't said, and declares its own.
+fn look<'a>(
+    declared: &mut IndexSet<Key<'a>>,
+    statement: &Statement<'a>,
+) -> Result<Pending, NoMemory>
+    ensures { IfOk result (λ later. (before behind : State) → Becomes Relative later
+        statement.now before behind declared.old.keys declared.new.keys) }
+{
+    let known = unknown_in(declared, statement).is_none();
+    declare(declared, statement)?;
+    Ok(if known {
+        Pending::Relative
+    } else {
+        Pending::UnknownPrefix
+    })
+}
+
+// What is pending behind a statement. It is said as long as nothing is.
+fn behind<'a>(
+    scope: &mut Scope<'a>,
+    declared: &mut IndexSet<Key<'a>>,
+    pending: Pending,
+    statement: &Statement<'a>,
+) -> Result<Pending, NoMemory>
+    requires known { IfNothing pending (declared.old.keys ≡ prologue.declared scope.old.prologue) }
+    requires proper { IsTrue (proper_statement statement.now) }
+    requires room { IfNothing pending (HasRoom 1 scope.old) }
+    ensures { IfOk result (λ later. Becomes pending later
+        statement.now scope.old scope.new declared.old.keys declared.new.keys) }
+{
+    match pending {
+        Pending::Nothing => say(scope, declared, statement),
+        Pending::Relative => look(declared, statement),
+        Pending::UnknownPrefix => Ok(Pending::UnknownPrefix),
+    }
+}
+
+// Reads the next statement, and says it where nothing is pending. A bracket around nothing may be one
+// deeper than one around something.
 fn turn<'a>(
     parser: &mut Parser<'_, 'a>,
     scope: &mut Scope<'a>,
     declared: &mut IndexSet<Key<'a>>,
-) -> bool
+    pending: Pending,
+    depth: usize,
+) -> Result<Pending, TurtleFaultKind>
+    requires depth { depth ≤ 100 }
     requires formed { AllByRecursion Formed parser.old }
-    requires known { declared.old.keys ≡ prologue.declared scope.old.prologue }
-    requires room { HasRoom 1 scope.old }
-    ensures { OnTrue result
-        (Turn parser.old parser.new scope.old scope.new declared.old.keys declared.new.keys) }
+    requires known { IfNothing pending (declared.old.keys ≡ prologue.declared scope.old.prologue) }
+    requires room { IfNothing pending (HasRoom 1 scope.old) }
+    ensures { MatchResult result
+        (λ later. Turn depth parser.old parser.new pending later
+        scope.old scope.new declared.old.keys declared.new.keys)
+        (λ kind. Stops (spec.statement (spec.node depth) (spec.node (depth + 1)) parser.old) kind) }
 {
-    match statement(parser, MAX_OPEN - 1) {
-        Ok(statement) => say(scope, declared, &statement),
-        Err(_) => false,
-    }
+    let statement = statement(parser, depth)?;
+    Ok(behind(scope, declared, pending, &statement)?)
 }
 
-// Reads and says one statement after the other, to the end of the text. Its lexemes are read one at
-// a time.
-fn turns<'a>(alloc: Global, text: &'a str, scope: &mut Scope<'a>) -> bool
+// Reads one statement after the other, to the end of the lexemes.
+fn turns<'a>(
+    parser: &mut Parser<'_, 'a>,
+    scope: &mut Scope<'a>,
+    depth: usize,
+) -> Result<Pending, TurtleFaultKind>
+    requires depth { depth ≤ 100 }
+    requires formed { AllByRecursion Formed parser.old }
+    requires fits { length parser.old ≤ longest }
     requires known { prologue.declared scope.old.prologue ≡ [] }
     requires room { scope.old.numbering.next ≤ length scope.old.quads }
-    ensures { OnTrue result (Told text.now scope.old scope.new) }
+    ensures { MatchResult result
+        (λ pending. Turns depth parser.old pending scope.old scope.new)
+        (λ kind. Stops (spec.document depth parser.old) kind) }
 {
-    let mut declared = IndexSet::new(alloc);
-    let mut parser = Parser::over(alloc, text);
+    let mut declared = IndexSet::new(parser.alloc());
+    let mut pending = Pending::Nothing;
     while parser.is_more() {
-        if !turn(&mut parser, scope, &mut declared) {
-            return false;
-        }
+        pending = turn(parser, scope, &mut declared, pending, depth)?;
     }
-    true
+    Ok(pending)
 }
 
-// The triples of the document that the text is, if it is one whose names have meanings.
-fn said(alloc: Global, text: &str, base: Option<&Iri>) -> Result<Option<Vec<Quad>>, NoMemory>
-    ensures { IfOk result (λ said. IfSome said (λ quads.
-        IsDocument (option_copied base.entry) text.now quads.items)) }
+/// The quads of the document that the lexemes are, with so many brackets inside one another at most, or
+/// one more around nothing. Nothing of them is held but the statement that is read: its tree is let go
+/// when its triples are said.
+///
+/// # Errors
+/// `Syntax` where they are no such document, and the parser is where that is seen; else `UnknownPrefix`
+/// where a prefix is used that isn't declared before; else `Relative` where a relative reference has no
+/// base; `NoMemory` where memory is wanting.
+pub(crate) fn quads_of(
+    parser: &mut Parser<'_, '_>,
+    base: Option<&Iri>,
+    depth: usize,
+) -> Result<Vec<Quad>, TurtleFaultKind>
+    requires depth { depth ≤ 100 }
+    requires formed { AllByRecursion Formed parser.old }
+    requires fits { length parser.old ≤ longest }
+    ensures { MatchResult result
+        (λ quads. Tells depth parser.old (option_copied base.entry) (Ok quads.items))
+        (λ kind. StopsWith depth parser.old (option_copied base.entry) kind) }
 {
     let base = copied(base)?;
-    let mut scope = Scope::new(alloc, base)?;
-    if turns(alloc, text, &mut scope) {
-        Ok(Some(scope.into_quads()))
-    } else {
-        Ok(None)
-    }
-}
-
-/// The quads of a text; `None` where it is no document, where a name in it has no meaning, where more
-/// than 100 brackets are open at once or just so many, and where memory is wanting. Nothing of the text
-/// is held but the statement that is read: its tree is let go when its triples are said.
-pub(crate) fn straight_quads(alloc: Global, text: &str, base: Option<&Iri>) -> Option<Vec<Quad>>
-    ensures { IfSome result (λ quads. IsDocument (option_copied base.entry) text.now quads.items) }
-{
-    match said(alloc, text, base) {
-        Ok(Some(quads)) => Some(quads),
-        Ok(None) | Err(_) => None,
+    let mut scope = Scope::new(parser.alloc(), base)?;
+    match turns(parser, &mut scope, depth)? {
+        Pending::Nothing => Ok(scope.into_quads()),
+        Pending::Relative => Err(TurtleFaultKind::Relative),
+        Pending::UnknownPrefix => Err(TurtleFaultKind::UnknownPrefix),
     }
 }

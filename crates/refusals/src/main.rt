@@ -1,12 +1,6 @@
-//! Calls the library where any allocation may be refused. Each call that is refused leaves what it
-//! was lent as it was, and is made again; so the program writes the same whichever allocation is
-//! refused, and `tools/fail-alloc` compares.
-//!
-//! The program has parts, each of which writes a line. The first digit of its input names the one that
-//! is asked for; without input all are. For each byte of its input the program first takes memory and
-//! gives it back. So `tools/fail-alloc` has always the same allocation refused, and chooses by the
-//! input which one of a part that is. At its end the program takes memory until that is refused, and
-//! says how often it was given: all of 1024 times where the refused allocation was one of the part's.
+//! Calls sessions and what stands on them where any allocation may be refused. Each call that is refused
+//! leaves what it was lent as it was, and is made again; so the program writes the same whichever
+//! allocation is refused, and `tools/fail-alloc` compares.
 #![tactic(auto)]
 
 mod conversions;
@@ -15,55 +9,24 @@ mod queries;
 mod retry;
 mod script;
 mod sessions;
-mod terms;
 mod updates;
 
+use refused_calls::run_parts;
 use std::alloc::Global;
 use std::io;
-use std::io::Read;
-
-const PARTS: [u8; 7] = *b"1234567";
 
 fn main(rt: HostRuntime) -> io::Result<()> {
-    let alloc = rt.alloc();
-    let mut input = [0u8; 1024];
-    let bytes = rt.stdin().read(&mut input)?;
-    for _ in 0..bytes {
-        take_and_give_back(alloc);
-    }
-    for part in PARTS {
-        if bytes == 0 || input[0] == part {
-            println!(rt; "{}", outcome(alloc, part))?;
-        }
-    }
-    println!(rt; "then memory is given {} times", given(alloc))
+    run_parts(&rt, b"123456", line)
 }
 
 // What a part finds.
-fn outcome(alloc: Global, part: u8) -> &'static str {
+fn line(alloc: Global, part: u8) -> &'static str {
     match part {
-        b'1' => terms::outcome(alloc),
-        b'2' => sessions::outcome(alloc),
-        b'3' => updates::outcome(alloc),
-        b'4' => patterns::outcome(alloc),
-        b'5' => queries::outcome(alloc),
-        b'6' => script::outcome(alloc),
+        b'1' => sessions::outcome(alloc),
+        b'2' => updates::outcome(alloc),
+        b'3' => patterns::outcome(alloc),
+        b'4' => queries::outcome(alloc),
+        b'5' => script::outcome(alloc),
         _ => conversions::outcome(alloc),
     }
-}
-
-fn take_and_give_back(alloc: Global) {
-    let _ = Vec::<u8>::with_capacity(alloc, 1);
-}
-
-// How often memory is given before it is refused, at most 1024 times.
-fn given(alloc: Global) -> u64 {
-    let mut times = 0u64;
-    for _ in 0..1024 {
-        if Vec::<u8>::with_capacity(alloc, 1).is_err() {
-            return times;
-        }
-        times = times.saturating_add(1);
-    }
-    times
 }

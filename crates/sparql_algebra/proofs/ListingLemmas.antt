@@ -15,7 +15,7 @@ use Rattle.sparql_algebra.specs.Listing.{Lists, graph_quads, listing_of}
 use Rattle.sparql_values.specs.Mapping.{same_term}
 use Rattle.sparql_algebra.specs.Solutions.{is_triple}
 use Rattle.sparql_algebra.proofs.Sums.{one, sum_by-cong, sum_by-filter, sums_from_counts}
-use Rattle.sparql_algebra.proofs.TruthLemmas.{and_false, and_left, and_right, and_true, both_true}
+use Rattle.sparql_algebra.proofs.TruthLemmas.{and_left, and_right, and_true, both_true}
 use Rattle.sparql_algebra.proofs.TermLemmas.{same_term_is, same_term_own}
 use Rattle.sparql_algebra.proofs.CountLemmas.{sum_of_tests}
 use Rattle.sparql_algebra.proofs.SetLemmas as sets

@@ -215,7 +215,7 @@ abbrev pub each_once : List Mapping → List Mapping
 each_once [] = []
 each_once (x ∷ xs) = cond (list_any (same_mapping x) xs) (each_once xs) (x ∷ each_once xs)
 
-counted_once : (n : ℕ) → 0 < n → once_if_any n ≡ 1
+pub counted_once : (n : ℕ) → 0 < n → once_if_any n ≡ 1
 counted_once zero h = absurd (omega arith)
 counted_once (suc n) h = refl
 

@@ -1,18 +1,9 @@
--- Tests of terms, values and mappings.
+-- Tests of values and mappings.
 use Rattle.std.proofs.Common.{◌≡◌, true, ◌&&◌, [], ◌∷◌, Option, Some, None, refl, ap, ◌∙◌}
-use Rattle.std.specs.Ordering.{is_eq}
-use Rattle.std.specs.Cmp.{Equal-is, tied_itself}
 use Rattle.rdf_terms.specs.declared.term.Term.{Term}
-use Rattle.rdf_terms.specs.Order.{term_cmp}
-use Rattle.rdf_terms.specs.OrderLaws.{term_cmp_total, term_cmp-IsAntisymmetric}
-use Rattle.sparql_values.specs.Mapping.{Mapping, same_term, same_value, same_mapping}
+use Rattle.sparql_values.specs.Mapping.{Mapping, same_value, same_mapping}
+pub use Rattle.sparql_values.proofs.TermLemmas.{same_term_is, same_term_own}
 use Rattle.sparql_algebra.proofs.TruthLemmas.{and_left, and_right}
-
-pub same_term_is : (s t : Term) → same_term s t ≡ true → s ≡ t
-same_term_is s t h = term_cmp-IsAntisymmetric s t ((Equal-is (term_cmp s t)).0 h)
-
-pub same_term_own : (t : Term) → same_term t t ≡ true
-same_term_own t = ap is_eq (tied_itself term_cmp_total t)
 
 pub same_value_is : (x y : Option Term) → same_value x y ≡ true → x ≡ y
 same_value_is (Some s) (Some t) h = ap Some (same_term_is s t h)

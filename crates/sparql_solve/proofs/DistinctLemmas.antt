@@ -11,7 +11,7 @@ use Rattle.sparql_algebra.specs.Bags.{once_if_any}
 use Rattle.sparql_values.specs.Mapping.{Mapping, same_mapping}
 use Rattle.sparql_algebra.specs.Order.{mapping_cmp}
 use Rattle.sparql_algebra.specs.Results.{times_selected}
-use Rattle.sparql_algebra.proofs.CallerLemmas.{one, and_left, and_right, same_mapping_is, mapping_total, less, Rises, not_true, rises_from, sorted_from, leads_counted, neither_less, mapping_cmp-IsAntisymmetric}
+use Rattle.sparql_algebra.proofs.CallerLemmas.{one, counted_once, and_left, and_right, same_mapping_is, mapping_total, less, Rises, not_true, rises_from, sorted_from, leads_counted, neither_less, mapping_cmp-IsAntisymmetric}
 
 abbrev same : Mapping → Mapping → Bool
 same = eq_by_cmp mapping_cmp
@@ -23,10 +23,6 @@ same_own x = ap is_eq (tied_itself mapping_total x)
 
 same_is : (x y : Mapping) → same x y ≡ true → x ≡ y
 same_is x y h = mapping_cmp-IsAntisymmetric x y ((Equal-is (mapping_cmp x y)).0 h)
-
-once_positive : (n : ℕ) → 0 < n → once_if_any n ≡ 1
-once_positive zero h = absurd (omega arith)
-once_positive (suc n) h = refl
 
 once_of : (b : Bool) (n : ℕ) → n ≡ one b → n ≡ once_if_any n
 once_of true n e = e ∙ sym (ap once_if_any e)
@@ -64,8 +60,8 @@ repeats_counted m k (x ∷ xs) r = by_same (same x k) refl (repeats_counted m k 
         once_if_any (count_by (same_mapping m) (k ∷ xs)) ≡ once_if_any (count_by (same_mapping m) (k ∷ x ∷ xs))
     again true e f =
         let one_k : one (same_mapping m k) ≡ 1 = ap one e in
-        once_positive (count_by (same_mapping m) (k ∷ xs)) (omega (arith, one_k, counted m k xs))
-        ∙ sym (once_positive (count_by (same_mapping m) (k ∷ x ∷ xs)) (omega (arith, one_k, all)))
+        counted_once (count_by (same_mapping m) (k ∷ xs)) (omega (arith, one_k, counted m k xs))
+        ∙ sym (counted_once (count_by (same_mapping m) (k ∷ x ∷ xs)) (omega (arith, one_k, all)))
     again false e f =
         let none_k : one (same_mapping m k) ≡ 0 = ap one e in
         let none_x : one (same_mapping m x) ≡ 0 = ap one f in
@@ -79,7 +75,7 @@ repeats_counted m k (x ∷ xs) r = by_same (same x k) refl (repeats_counted m k 
         let none : count_by (same_mapping m) (x ∷ xs) ≡ 0 = ap (λ (z : Mapping). count_by (same_mapping z) (x ∷ xs)) (same_mapping_is m k e) ∙ not_behind k x xs r f in
         let rest : once_if_any (count_by (same_mapping m) (x ∷ xs)) ≡ 0 = ap once_if_any none in
         let left : count_by (same_mapping m) (k ∷ dedup_from same x xs) ≡ 1 = omega (arith, counted m k (dedup_from same x xs), one_k, h, rest) in
-        left ∙ sym (once_positive (count_by (same_mapping m) (k ∷ x ∷ xs)) (omega (arith, one_k, all)))
+        left ∙ sym (counted_once (count_by (same_mapping m) (k ∷ x ∷ xs)) (omega (arith, one_k, all)))
     new false e f h =
         let none_k : one (same_mapping m k) ≡ 0 = ap one e in
         let is : count_by (same_mapping m) (x ∷ xs) ≡ count_by (same_mapping m) (k ∷ x ∷ xs) = omega (arith, none_k, all) in

@@ -22,7 +22,7 @@ use Rattle.sparql_algebra.specs.Algebra.{Algebra, basic, join, graph, empty_patt
 use Rattle.sparql_algebra.specs.Bags.{SameBag}
 use Rattle.sparql_algebra.specs.Listing.{Listing, Lists}
 use Rattle.sparql_algebra.specs.Solutions.{basic_solutions, merges, joins, or_alone, left_joins, satisfies, solutions}
-use Rattle.sparql_algebra.proofs.CallerLemmas.{one, sum_by-cong, sum_by-flat_map, SameBag-refl, SameBag-trans, SameBag-filter, SameBag-merges, SameBag-joins, SameBag-or_alone, SameBag-left_joins, SameBag-flat_map, has_length, length_from, length_to, set_length, solutions_length, sum_where, sum_zero, same_term_is, name_once, names_same, translation-is, element-Basic, element-Optional, element-Graph, empty_solutions, empty_joins, joins_commute, joins_associate}
+use Rattle.sparql_algebra.proofs.CallerLemmas.{one, sum_by-cong, sum_by-flat_map, SameBag-refl, SameBag-trans, SameBag-filter, SameBag-merges, SameBag-joins, SameBag-or_alone, SameBag-left_joins, SameBag-flat_map, has_length, length_from, length_to, merge_length, set_length, solutions_length, sum_where, sum_zero, same_term_is, name_once, names_same, translation-is, element-Basic, element-Optional, element-Graph, empty_solutions, empty_joins, joins_commute, joins_associate}
 use Rattle.sparql_solve.specs.declared.look_ups.Graphs.{Graphs}
 use Rattle.sparql_solve.specs.declared.look_ups.Graphs.TheVariants.{One, Each}
 use Rattle.sparql_solve.specs.declared.look_ups.LookUp.{LookUp}
@@ -188,13 +188,6 @@ module _ (vs : Variables) (d : Listing) (p : Pattern) (b : BasicGraphPattern) (h
 
 -- ---- look-ups
 
-merge_wide : (n : ℕ) (a b : Mapping) → has_length n a ≡ true → has_length n b ≡ true → has_length n (merge a b) ≡ true
-merge_wide zero [] b h k = refl
-merge_wide zero (x ∷ a) b h k = cc
-merge_wide (suc n) [] b h k = cc
-merge_wide (suc n) (x ∷ a) [] h k = cc
-merge_wide (suc n) (x ∷ a) (y ∷ b) h k = merge_wide n a b h k
-
 single_wide : (vs : Variables) (name : List ℕ) (n : Term) → has_length (length vs) (single vs name n) ≡ true
 single_wide vs name n =
     length_to (length vs) (single vs name n) (set_length (empty_mapping vs) (column vs name) n ∙ length-replicate (length vs) None)
@@ -221,7 +214,7 @@ module _ (vs : Variables) (s : State) (d : Listing) (l : Lists s d) (b : BasicGr
         let wide_m : has_length (length vs) m ≡ true = length_to (length vs) m e in
         let bound : Mapping = single vs name n in
         let after : length (merge m bound) ≡ length vs =
-        length_from (length vs) (merge m bound) (merge_wide (length vs) m bound wide_m (single_wide vs name n)) in
+        length_from (length vs) (merge m bound) (merge_length (length vs) m bound wide_m (single_wide vs name n)) in
         by_test (compatible m bound) (inner_bag (Named n) (merge m bound) after f)
         ∙ one_first (length vs) m bound (inner (Named n)) wide_m (single_wide vs name n) (solutions_length vs d (Named n) (translation p)) f
       where

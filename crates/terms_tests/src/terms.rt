@@ -135,7 +135,7 @@ fn tagged_literals(rt: HostRuntime) -> Result<(), Fail> {
 fn from_text(alloc: Global, lexical: &str, datatype: &Iri) -> Option<Literal> {
     let datatype = datatype.copy().ok()?;
     match Text::new(alloc, lexical) {
-        Ok(text) => Some(Literal::from_text(text, datatype)),
+        Ok(text) => Literal::from_text(alloc, text, datatype).ok(),
         Err(_) => None,
     }
 }

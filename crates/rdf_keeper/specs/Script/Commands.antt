@@ -1,5 +1,5 @@
 -- The commands of a script.
-use Rattle.std.specs.Prelude.{ℕ, Bool, false, List, [], ◌∷◌, ◌++◌, nat_eq, codes, if◌then◌else◌, Option, Some, None, unwrap_or}
+use Rattle.std.specs.Prelude.{ℕ, Bool, false, List, [], ◌∷◌, ◌++◌, nat_eq, codes, if◌then◌else◌, Option, Some, None}
 use Rattle.std.specs.Str.{bytes_eq}
 use Rattle.rdf_keeper.specs.Script.Lines.{bare}
 use Rattle.rdf_session.specs.Request.{Load, Update}
@@ -36,11 +36,6 @@ format_named word =
     if bytes_eq word (codes "nquads") then Some NQuads else
     if bytes_eq word (codes "ntriples") then Some NTriples else
     if bytes_eq word (codes "turtle") then Some Turtle else None
-
--- the format that a word of a command line names, and N-Quads without one
-abbrev pub format_of_word : Option (List ℕ) → Format
-format_of_word (Some word) = unwrap_or (format_named word) NQuads
-format_of_word None = NQuads
 
 -- the format that the words after %load name
 abbrev pub format_of : List (List ℕ) → Option Format

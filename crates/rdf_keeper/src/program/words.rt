@@ -1,7 +1,7 @@
 //! What the words of a command line ask for.
-ghost use Rattle.std.specs.Prelude.{◌≡◌};
-ghost use Rattle.std.specs.Option.{option_copied};
-ghost use Rattle.rdf_keeper.specs.Script.Commands.{format_of_word};
+ghost use Rattle.std.specs.Prelude.{◌≡◌, All, Any, IfNone, IfSome, IsSome, map, ok_or};
+ghost use Rattle.rdf_keeper.specs.Script.Commands.{format_named};
+ghost use Rattle.rdf_session.specs.declared.format.Format.{Format};
 
 use crate::program::help::{
     ABOUT, CONVERT_ABOUT, CONVERT_EXAMPLE, NAME, RUN_ABOUT, RUN_EXAMPLE, VERSION,
@@ -45,6 +45,8 @@ pub(crate) enum Asked<'a> {
 pub(crate) enum WordsFault {
     /// They are no command line of the program. The text, for standard error, says why.
     Usage(String),
+    /// The parser has no format for an option that has a default or must be given.
+    Format(FormatFault),
     NoMemory(NoMemory),
     /// Memory was wanting inside `clap`, which shows no refusal.
     ParserNoMemory,
@@ -56,7 +58,31 @@ impl From<AllocError> for WordsFault {
     }
 }
 
+impl From<FormatFault> for WordsFault {
+    fn from(e: FormatFault) -> WordsFault {
+        WordsFault::Format(e)
+    }
+}
+
+/// Why an option gives no format.
+#[derive(Clone, Copy, Debug, PartialEq, Eq)]
+pub(crate) enum FormatFault {
+    /// It has no word.
+    Missing,
+    /// Its word names no format.
+    Unknown,
+}
+
 static FORMATS: [&str; 3] = ["nquads", "ntriples", "turtle"];
+
+// The words that the parser lets through for a format: those that name one.
+fn format_words() -> &'static [&'static str]
+    ensures known { All (λ word. IsSome (format_named word.now)) result.now }
+    ensures each { (format : Format) →
+        Any (λ word. format_named word ≡ Some format) (map (λ word. word.now) result.now) }
+{
+    FORMATS.as_slice()
+}
 
 fn base_word<'a>(alloc: Global) -> Arg<'a> {
     Arg::new(alloc, "base").long("base").value_name("IRI").help(
@@ -71,7 +97,7 @@ fn run_command<'a>(alloc: Global) -> Result<Command<'a>, AllocError> {
     let format = Arg::new(alloc, "format")
         .long("format")
         .value_name("F")
-        .value_parser(FORMATS.as_slice())
+        .value_parser(format_words())
         .default_value("nquads")
         .help("The format of FILE");
     let stop = Arg::new(alloc, "stop")
@@ -95,7 +121,7 @@ fn convert_command<'a>(alloc: Global) -> Result<Command<'a>, AllocError> {
     let from = Arg::new(alloc, "from")
         .long("from")
         .value_name("F")
-        .value_parser(FORMATS.as_slice())
+        .value_parser(format_words())
         .required(true)
         .help("The format of the document");
     let file = Arg::new(alloc, "file")
@@ -122,32 +148,32 @@ fn program<'a>(alloc: Global) -> Result<Command<'a>, AllocError> {
         .subcommand(convert_command(alloc)?)
 }
 
-// The format that a word names; N-Quads without one.
-fn format_of(word: Option<&str>) -> Format
-    ensures { result ≡ format_of_word (option_copied word.entry) }
+// The format that an option's word names.
+fn format_of(word: Option<&str>) -> Result<Format, FormatFault>
+    ensures missing { IfNone word.entry (result ≡ Err FormatFault.Missing) }
+    ensures given { IfSome word.entry (λ name.
+        result ≡ ok_or (format_named name.now) FormatFault.Unknown) }
 {
-    match word {
-        Some(name) => format_named(name.as_bytes()).unwrap_or(Format::NQuads),
-        None => Format::NQuads,
-    }
+    let name = word.ok_or(FormatFault::Missing)?;
+    format_named(name.as_bytes()).ok_or(FormatFault::Unknown)
 }
 
-fn run_words<'a>(matches: &ArgMatches<'a>) -> RunWords<'a> {
-    RunWords {
+fn run_words<'a>(matches: &ArgMatches<'a>) -> Result<RunWords<'a>, FormatFault> {
+    Ok(RunWords {
         base: matches.get_str("base"),
         data: matches.get_str("data"),
-        format: format_of(matches.get_str("format")),
+        format: format_of(matches.get_str("format"))?,
         stop: matches.get_flag("stop"),
         script: matches.get_str("script"),
-    }
+    })
 }
 
-fn convert_words<'a>(matches: &ArgMatches<'a>) -> ConvertWords<'a> {
-    ConvertWords {
-        from: format_of(matches.get_str("from")),
+fn convert_words<'a>(matches: &ArgMatches<'a>) -> Result<ConvertWords<'a>, FormatFault> {
+    Ok(ConvertWords {
+        from: format_of(matches.get_str("from"))?,
         base: matches.get_str("base"),
         file: matches.get_str("file"),
-    }
+    })
 }
 
 fn asked_or_shown<'a>(alloc: Global, error: &Error) -> Result<Asked<'a>, WordsFault> {
@@ -163,8 +189,8 @@ fn asked_or_shown<'a>(alloc: Global, error: &Error) -> Result<Asked<'a>, WordsFa
 pub(crate) fn read_words<'a>(alloc: Global, words: &'a [String]) -> Result<Asked<'a>, WordsFault> {
     match program(alloc)?.try_get_matches_from(words) {
         Ok(matches) => match matches.subcommand() {
-            Some(("run", found)) => Ok(Asked::Run(run_words(found))),
-            Some(("convert", found)) => Ok(Asked::Convert(convert_words(found))),
+            Some(("run", found)) => Ok(Asked::Run(run_words(found)?)),
+            Some(("convert", found)) => Ok(Asked::Convert(convert_words(found)?)),
             _ => Err(WordsFault::Usage(String::new(alloc))),
         },
         Err(error) => asked_or_shown(alloc, &error),

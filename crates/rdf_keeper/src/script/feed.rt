@@ -73,18 +73,6 @@ fn ending(last: Status, refused: bool) -> Status
     }
 }
 
-fn ends_with(stop: bool, refused: bool) -> bool
-    ensures { result ≡ (stop && refused) }
-{
-    stop && refused
-}
-
-fn any_refused(before: bool, now: bool) -> bool
-    ensures { result ≡ (before || now) }
-{
-    before || now
-}
-
 // Answers a command, and says whether something was refused so far.
 fn answer<W: Write>(
     alloc: Global,
@@ -102,10 +90,10 @@ fn answer<W: Write>(
     if write_answer(writer, &reply).is_err() {
         return Err(Status::WriteFailed);
     }
-    if ends_with(stop, reply.refused) {
+    if stop && reply.refused {
         return Err(Status::Refused);
     }
-    Ok(any_refused(refused, reply.refused))
+    Ok(refused || reply.refused)
 }
 
 impl Feed {

@@ -1,15 +1,18 @@
--- Where the fault of a name stands: at the first name that has it.
+-- Where a token of a text starts.
 use Rattle.std.specs.Prelude.{◌≡◌, ℕ, Bool, List}
-use Rattle.rdf_grammar.specs.declared.prologue.PrologueFault.{PrologueFault}
-use Rattle.rdf_grammar.specs.declared.prologue.PrologueFault.TheVariants.{UnknownPrefix, Relative, NoMemory}
 use Rattle.rdf_tokens.specs.declared.token.Token.{Token}
-use Rattle.rdf_turtle.specs.Document.{start_of}
+use Rattle.rdf_turtle.specs.declared.fault.TurtleFaultKind.{TurtleFaultKind}
+use Rattle.rdf_turtle.specs.declared.fault.TurtleFaultKind.TheVariants.{UnknownPrefix, Relative}
+use Rattle.rdf_turtle.specs.Document.{HasTokens, start_of}
 use Rattle.rdf_turtle.specs.FaultyNames.{first_unbound, first_lacking}
 use Rattle.rdf_turtle.specs.Lexemes.{Lexemes}
 
--- the same fault, at the first name that has it, against a base or none; unless memory was wanting to find it
-abbrev pub IsAtFirst : List ℕ → List Token → Lexemes → Bool → PrologueFault → PrologueFault → Type 0
-IsAtFirst text tokens lexemes based fault (NoMemory e) = Unit {0}
-IsAtFirst text tokens lexemes based (UnknownPrefix start) (UnknownPrefix place) = place ≡ start_of text tokens (first_unbound lexemes)
-IsAtFirst text tokens lexemes based (Relative start) (Relative place) = place ≡ start_of text tokens (first_lacking based lexemes)
-IsAtFirst text tokens lexemes based fault _ = ⊥
+-- Where the text has tokens, the one of that number starts there, or the text ends there.
+abbrev pub StartsAt : List ℕ → (Lexemes → ℕ) → ℕ → Type 0
+StartsAt text number place = (tokens : List Token) (lexemes : Lexemes) → HasTokens text tokens lexemes → place ≡ start_of text tokens (number lexemes)
+
+-- the first name with that fault, against a base or none, starts there
+abbrev pub StartsAtFirst : Bool → List ℕ → TurtleFaultKind → ℕ → Type 0
+StartsAtFirst based text UnknownPrefix place = StartsAt text first_unbound place
+StartsAtFirst based text Relative place = StartsAt text (first_lacking based) place
+StartsAtFirst based text kind place = Unit {0}

@@ -1,15 +1,14 @@
--- Why lexemes are not read.
-use Rattle.std.specs.Prelude.{ℕ, List}
+-- The fault of lexemes, and that of their text.
+use Rattle.std.specs.Prelude.{◌≡◌, ℕ, List, Option, Err}
 use Rattle.rdf_turtle.specs.declared.fault.TurtleFaultKind.{TurtleFaultKind}
-use Rattle.rdf_turtle.specs.declared.fault.TurtleFaultKind.TheVariants.{TooDeep, Syntax, NoMemory}
+use Rattle.rdf_turtle.specs.declared.fault.TurtleFaultKind.TheVariants.{UnknownPrefix, Relative, NoMemory}
 use Rattle.rdf_turtle.specs.declared.tree.Statement.{Statement}
-use Rattle.rdf_turtle.specs.Lexemes.{Lexemes}
-use Rattle.rdf_turtle.specs.Nesting.{IsTooDeepAt}
-use Rattle.rdf_turtle.specs.Grammar.{IsDocument}
+use Rattle.rdf_turtle.specs.Document.{HasTree}
+use Rattle.rdf_turtle.specs.Meaning.{answer}
 
--- what a fault of the parser says of the lexemes, and of the place where it stopped
-abbrev pub Explains : Lexemes → TurtleFaultKind → ℕ → Type 0
-Explains ts TooDeep place = IsTooDeepAt ts place
-Explains ts Syntax place = (document : List Statement) → IsDocument ts document → ⊥
-Explains ts (NoMemory _) place = Unit {0}
-Explains ts _ place = ⊥
+-- a text with a tree is refused for a name, or memory was wanting
+abbrev pub IsTold : Option (List ℕ) → List ℕ → TurtleFaultKind → Type 0
+IsTold base text UnknownPrefix = (tree : List Statement) × HasTree text tree × (answer base tree ≡ Err UnknownPrefix)
+IsTold base text Relative = (tree : List Statement) × HasTree text tree × (answer base tree ≡ Err Relative)
+IsTold base text (NoMemory _) = Unit {0}
+IsTold base text _ = ⊥

@@ -14,13 +14,13 @@ returns-in_default-2 c =
     tells_syntax c.args.format c.args.line.now c.in-Ok.text.now utf8.1 utf8.0 (ap is_end (sym c.new-start.ensures) ∙ sym c.is_end.ensures ∙ c.if-is_end.false)
     (ap (statement_at c.args.format) (sym c.new-start.ensures) ∙ sym c.in_ok-written.ensures ∙ c.in_default-2.is)
 
-pub returns-in-Some-absolute : goal.returns-in-Some-absolute
-returns-in-Some-absolute c =
+pub returns-in-Some-2 : goal.returns-in-Some-2
+returns-in-Some-2 c =
     let utf8 = c.in-Ok.ensures.cases in
-    tells_statement c.args.format c.args.line.now c.in-Ok.text.now c.in-Some.written c.in-Some-absolute.statement utf8.1 utf8.0
+    tells_statement c.args.format c.args.line.now c.in-Ok.text.now c.in-Some.written c.in-Some-2.statement utf8.1 utf8.0
     (ap is_end (sym c.new-start.ensures) ∙ sym c.is_end.ensures ∙ c.if-is_end.false)
     (ap (statement_at c.args.format) (sym c.new-start.ensures) ∙ sym c.in_ok-written.ensures ∙ c.in-Some.is)
-    (sym c.in-Some-absolute.ensures)
+    (sym c.in_ok-statement.ensures ∙ c.in-Some-2.is)
 
 pub returns-in-None : goal.returns-in-None
 returns-in-None c =
@@ -28,4 +28,4 @@ returns-in-None c =
     tells_relative c.args.format c.args.line.now c.in-Ok.text.now c.in-Some.written utf8.1 utf8.0
     (ap is_end (sym c.new-start.ensures) ∙ sym c.is_end.ensures ∙ c.if-is_end.false)
     (ap (statement_at c.args.format) (sym c.new-start.ensures) ∙ sym c.in_ok-written.ensures ∙ c.in-Some.is)
-    (sym c.in-None.ensures)
+    (sym c.in_ok-statement.ensures ∙ c.in-None.is)

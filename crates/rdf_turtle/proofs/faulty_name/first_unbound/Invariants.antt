@@ -1,6 +1,9 @@
-use Rattle.std.proofs.Common.{◌≡◌, ◌+◌, drop}
-use Rattle.rdf_turtle.specs.FaultyNames.{first_unbound, unbound_from}
+use Rattle.std.proofs.Common.{◌≡◌, false, [], length}
+use Rattle.rdf_turtle.specs.Inside.Walks.{unbound_start}
 use Rattle.rdf_turtle.proofs.faulty_name.first_unbound.Given as goal
 
-abbrev pub invariant-loop-number : goal.invariant-loop-number
-invariant-loop-number l = first_unbound l.lexemes ≡ unbound_from l.behind l.declares l.bound.keys (drop l.number l.lexemes) + l.number
+abbrev pub invariant-loop-found : goal.invariant-loop-found
+invariant-loop-found l = unbound_start (length l.text) false false [] l.initial.walk ≡ unbound_start (length l.text) l.behind l.declares l.bound.keys l.walk
+
+abbrev pub decreases-loop-found : goal.decreases-loop-found
+decreases-loop-found l = length l.walk

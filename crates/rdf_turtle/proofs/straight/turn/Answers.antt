@@ -1,6 +1,5 @@
-use Rattle.rdf_turtle.proofs.BaseTrees.{statement_of_formed}
-use Rattle.rdf_turtle.proofs.GrammarStatements.{statement_derived}
+use Rattle.rdf_turtle.proofs.StraightReading.{next_proper}
 use Rattle.rdf_turtle.proofs.straight.turn.Goals as goal
 
-pub say-requires-clause-proper : goal.say-requires-clause-proper
-say-requires-clause-proper c = (statement_of_formed _ _ _ c.requires.formed (statement_derived 99 _ _ _ c.in-Ok.ensures.reads)).0
+pub behind-requires-clause-proper : goal.behind-requires-clause-proper
+behind-requires-clause-proper c = (next_proper c.args.depth _ _ _ c.requires.formed c.in_ok-statement.ensures.reads).0

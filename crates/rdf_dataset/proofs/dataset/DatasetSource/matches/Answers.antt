@@ -3,7 +3,7 @@ use Rattle.std.proofs.lemmas.Result.{on_ok_weaker}
 use Rattle.std.specs.Prelude.{option_copied}
 use Rattle.std.specs.FinSet as set
 use Rattle.rdf_dataset.specs.State.{State, matches}
-use Rattle.rdf_dataset.specs.Sorted.{AppendsOnce}
+use Rattle.rdf_sets.specs.Sorted.{AppendsOnce}
 use Rattle.rdf_dataset.proofs.StoredLemmas.{appends_once}
 use Rattle.rdf_dataset.proofs.dataset.DatasetSource.matches.Goals as goal
 

@@ -1,7 +1,7 @@
 use Rattle.std.proofs.Common.{subst}
 use Rattle.std.proofs.lemmas.Result.{on_ok_weaker}
 use Rattle.rdf_dataset.specs.State.{State}
-use Rattle.rdf_dataset.specs.Sorted.{AppendsOnce}
+use Rattle.rdf_sets.specs.Sorted.{AppendsOnce}
 use Rattle.rdf_dataset.proofs.StoredLemmas.{appends_once}
 use Rattle.rdf_dataset.proofs.dataset.DatasetSource.names.Goals as goal
 

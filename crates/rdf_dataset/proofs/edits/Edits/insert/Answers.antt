@@ -8,9 +8,9 @@ use Rattle.rdf_dataset.proofs.edits.Edits.insert.Goals as goal
 pub returns-in_default-clause-ok : goal.returns-in_default-clause-ok
 returns-in_default-clause-ok c =
     on_ok_weaker c.insert.result (λ a s t e h k.
-    net_with_quad s t c.args.quad _ _ _ _ _ _ _ _ c.self.inside.before c.self.inside.after (c.self.view_is ∙ e)
+    net_with_quad s t c.args.quad.now _ _ _ _ _ _ _ _ c.self.inside.before c.self.inside.after (c.self.view_is ∙ e)
     (a s.quads t.quads (net_quads s t c.self.inside.quads.added.quads c.self.inside.quads.removed c.self.inside.names.added c.self.inside.names.removed c.self.inside.before c.self.inside.after (c.self.view_is ∙ e)) h)
-    (default_delta s.names t.names c.args.quad.graph _ _ (λ n d. c.in_default.not-Named n (c.graph.ensures.value ∙ d)) (net_names s t c.self.inside.quads.added.quads c.self.inside.quads.removed c.self.inside.names.added c.self.inside.names.removed c.self.inside.before c.self.inside.after (c.self.view_is ∙ e)))) c.insert.ensures.ok
+    (default_delta s.names t.names c.args.quad.now.graph _ _ (λ n d. c.in_default.not-Named n (c.graph.ensures.value ∙ d)) (net_names s t c.self.inside.quads.added.quads c.self.inside.quads.removed c.self.inside.names.added c.self.inside.names.removed c.self.inside.before c.self.inside.after (c.self.view_is ∙ e)))) c.insert.ensures.ok
 
 pub returns-in_default-clause-new : goal.returns-in_default-clause-new
 returns-in_default-clause-new c =
@@ -27,10 +27,10 @@ pub returns-clause-ok : goal.returns-clause-ok
 returns-clause-ok c =
     on_ok_weaker c.insert_in_graph.result (λ a s t e h k.
     let is = sym c.graph.ensures.value ∙ c.in-Named.is ∙ ap Named (sym c.in_ok-name.ensures) in
-    net_with_quad s t c.args.quad _ _ _ _ _ _ _ _ c.self.inside.before c.self.inside.after (c.self.view_is ∙ e)
+    net_with_quad s t c.args.quad.now _ _ _ _ _ _ _ _ c.self.inside.before c.self.inside.after (c.self.view_is ∙ e)
     (a.1 s.quads t.quads (net_quads s t c.self.inside.quads.added.quads c.self.inside.quads.removed c.self.inside.names.added c.self.inside.names.removed c.self.inside.before c.self.inside.after (c.self.view_is ∙ e)) h)
-    (named_delta s.names t.names c.args.quad.graph c.in_ok-name.name _ _ is
-    (a.0 s.names t.names (net_names s t c.self.inside.quads.added.quads c.self.inside.quads.removed c.self.inside.names.added c.self.inside.names.removed c.self.inside.before c.self.inside.after (c.self.view_is ∙ e)) (known_name s.names c.args.named c.args.quad.graph c.in_ok-name.name is k)))) c.insert_in_graph.ensures.ok
+    (named_delta s.names t.names c.args.quad.now.graph c.in_ok-name.name _ _ is
+    (a.0 s.names t.names (net_names s t c.self.inside.quads.added.quads c.self.inside.quads.removed c.self.inside.names.added c.self.inside.names.removed c.self.inside.before c.self.inside.after (c.self.view_is ∙ e)) (known_name s.names c.args.named c.args.quad.now.graph c.in_ok-name.name is k)))) c.insert_in_graph.ensures.ok
 
 pub returns-clause-new : goal.returns-clause-new
 returns-clause-new c =

@@ -1,0 +1,5 @@
+pub mod DeltaLemmas
+mod KeepLemmas
+pub mod ListingLemmas
+pub mod SortedLemmas
+mod TreeLemmas

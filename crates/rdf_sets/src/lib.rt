@@ -1,0 +1,14 @@
+//! Sets of terms and of quads, as sorted lists and as search trees, and what one of two such sets has that the other hasn't.
+#![tactic(auto)]
+
+mod delta;
+mod item;
+mod sorted;
+mod tree;
+mod tree_delta;
+
+pub use delta::Delta;
+pub use item::Item;
+pub use sorted::{Sorted, append_copies, append_copy, in_order};
+pub use tree::Tree;
+pub use tree_delta::TreeDelta;

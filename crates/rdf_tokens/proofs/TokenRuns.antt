@@ -1,0 +1,84 @@
+-- Words in names: letters, digits and `_` of ASCII are gone over at once.
+use Rattle.std.proofs.Common.{◌≡◌, ◌<◌, ℕ, Bool, true, false, eqb, ◌==◌, ◌||◌, List, [], ◌∷◌, length, Option, Some, refl, sym, ap, ◌∙◌, inl, inr, arith}
+use Rattle.std.proofs.lemmas.Bool.{cases_Bool, eqb-true, or_cases, or_left, or_right, true≢false}
+use Rattle.std.specs.Char.{is_ascii_alphanumeric}
+use Rattle.std.specs.Int.{is_in_range}
+use Rattle.rdf_terms.specs.Characters.{is_pn_chars_base, is_pn_chars, is_pn_chars_u}
+use Rattle.rdf_terms.specs.Skips.{skip}
+use Rattle.rdf_terms.proofs.SkipLemmas.{skip_step, skip_stop, skip_end, skip_no_longer}
+use Rattle.rdf_tokens.specs.Characters.{is_word_part}
+use Rattle.rdf_tokens.specs.Inside.TokenReading.{skip_dots, dotted_at, name_part_at, local_part_at}
+use Rattle.rdf_tokens.proofs.TokenUnits.{IsUnit, dotted_step, name_unit, local_unit}
+
+-- ---- a letter, a digit and `_` are PN_CHARS
+
+letter_part : (c : ℕ) → (is_in_range 65 90 c || is_in_range 97 122 c) ≡ true → is_pn_chars c ≡ true
+unfolding is_pn_chars is_pn_chars_u is_pn_chars_base
+letter_part c h = rw h refl
+
+third : (a b c d e f : Bool) → c ≡ true → (a || b || c || d || e || f) ≡ true
+third true b c d e f h = refl
+third false true c d e f h = refl
+third false false c d e f h = ap (λ x. false || false || x || d || e || f) h
+
+digit_part : (c : ℕ) → is_in_range 48 57 c ≡ true → is_pn_chars c ≡ true
+unfolding is_pn_chars
+digit_part c h = third (is_pn_chars_u c) (c == 45) (is_in_range 48 57 c) (c == 0xB7) (is_in_range 0x300 0x36F c) (is_in_range 0x203F 0x2040 c) h
+
+low_line_part : is_pn_chars 95 ≡ true
+unfolding is_pn_chars is_pn_chars_u is_pn_chars_base
+low_line_part = refl
+
+word_part : (c : ℕ) → is_word_part c ≡ true → is_pn_chars c ≡ true
+word_part c h =
+    elim (or_cases (is_ascii_alphanumeric c) (c == 95) h) [
+      | inl alphanumeric ↦
+          elim (or_cases (is_in_range 48 57 c || is_in_range 65 90 c) (is_in_range 97 122 c) alphanumeric) [
+            | inl front ↦
+                elim (or_cases (is_in_range 48 57 c) (is_in_range 65 90 c) front) [
+                  | inl digit ↦ digit_part c digit
+                  | inr upper ↦ letter_part c (or_left (is_in_range 65 90 c) (is_in_range 97 122 c) upper)
+                ]
+            | inr lower ↦ letter_part c (or_right (is_in_range 65 90 c) (is_in_range 97 122 c) lower)
+          ]
+      | inr low_line ↦ ap is_pn_chars (eqb-true c 95 low_line) ∙ low_line_part
+    ]
+
+word_no_dot : (c : ℕ) → is_word_part c ≡ true → (c == 46) ≡ false
+word_no_dot c h =
+    elim (cases_Bool (eqb c 46)) [
+      | inl is ↦ absurd (true≢false (sym h ∙ ap is_word_part (eqb-true c 46 is)))
+      | inr not ↦ not
+    ]
+
+-- ---- what they are units of
+
+name_takes : (c : ℕ) (cs : List ℕ) → is_word_part c ≡ true → name_part_at (c ∷ cs) ≡ Some cs
+unfolding name_part_at
+name_takes c cs h = rw (word_part c h) refl
+
+local_takes : (c : ℕ) (cs : List ℕ) → is_word_part c ≡ true → local_part_at (c ∷ cs) ≡ Some cs
+unfolding local_part_at
+local_takes c cs h = rw (word_part c h) refl
+
+-- units with dots between them end at the same place where a word is gone over first
+over_word : {Form : List ℕ → Type 0} (one : List ℕ → Option (List ℕ)) → IsUnit Form one → ((c : ℕ) (cs : List ℕ) → is_word_part c ≡ true → one (c ∷ cs) ≡ Some cs)
+    → (cs : List ℕ) → dotted_at one (skip is_word_part cs) ≡ dotted_at one cs
+over_word one is takes [] = ap (λ (t : List ℕ). dotted_at one t) (skip_end is_word_part)
+over_word one is takes (c ∷ cs) =
+    elim (cases_Bool (is_word_part c)) [
+      | inl word ↦
+          let taken : one (skip_dots (c ∷ cs)) ≡ Some cs = ap one (skip_stop (λ d. d == 46) c cs (word_no_dot c word)) ∙ takes c cs word in
+          ap (λ (t : List ℕ). dotted_at one t) (skip_step is_word_part c cs word) ∙ over_word one is takes cs ∙ sym (dotted_step one is (c ∷ cs) cs taken)
+      | inr other ↦ ap (λ (t : List ℕ). dotted_at one t) (skip_stop is_word_part c cs other)
+    ]
+
+pub name_over_word : (cs : List ℕ) → dotted_at name_part_at (skip is_word_part cs) ≡ dotted_at name_part_at cs
+name_over_word cs = over_word name_part_at name_unit name_takes cs
+
+pub local_over_word : (cs : List ℕ) → dotted_at local_part_at (skip is_word_part cs) ≡ dotted_at local_part_at cs
+local_over_word cs = over_word local_part_at local_unit local_takes cs
+
+-- what is left behind a word is no longer
+pub behind_word : (before behind rest : List ℕ) → length behind < length before → rest ≡ skip is_word_part behind → length rest < length before
+behind_word before behind rest less e = omega (arith, less, ap length e, skip_no_longer is_word_part behind)

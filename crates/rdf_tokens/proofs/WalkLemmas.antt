@@ -1,0 +1,156 @@
+-- A walk comes to the tokens of its text.
+use Rattle.std.proofs.Common.{◌≡◌, ◌<◌, ◌≤◌, ◌-◌, ◌+◌, ℕ, zero, suc, false, List, [], ◌∷◌, ◌++◌, length, Option, Some, None, Result, Ok, Err, refl, sym, ap, subst, ◌∙◌, arith, append_assoc}
+use Rattle.std.specs.Prelude.{MatchOption}
+use Rattle.std.proofs.lemmas.List.{append-nil}
+use Rattle.std.proofs.lemmas.Str.{encodes-chars}
+use Rattle.std.specs.Str.{chars, IsUtf8}
+use Rattle.rdf_terms.proofs.OptionLemmas.{none_is}
+use Rattle.rdf_terms.proofs.PlaceLemmas.{between_is}
+use Rattle.rdf_terms.specs.Reading.{between, byte_count}
+use Rattle.rdf_tokens.specs.declared.token.Kind.{Kind}
+use Rattle.rdf_tokens.specs.declared.token.Token.{Token}
+use Rattle.rdf_tokens.specs.declared.walk.Found.{Found}
+use Rattle.rdf_tokens.specs.declared.walk.Found.TheVariants as found
+use Rattle.rdf_tokens.specs.Tokens.{IsToken, HasGap, Ends, NoToken, At, Runs, Says}
+use Rattle.rdf_tokens.specs.Walks.{IsFound, AreFound, AreFoundFrom, AreFoundIn}
+use Rattle.rdf_tokens.specs.Inside.TokenReading.{skip_gap, token_at}
+use Rattle.rdf_tokens.specs.Inside.WalkReading.{byte_of, from_token, from_start, found_within, found_of}
+use Rattle.rdf_tokens.proofs.ReaderLemmas.{shorter_behind_token}
+use Rattle.rdf_tokens.proofs.TokenGaps.{end_skipped}
+use Rattle.rdf_tokens.proofs.TokenLaws.{some_token_list}
+use Rattle.rdf_tokens.proofs.TokenLists.{at_place, fault_read, next_read, same_place, token_nil}
+
+gap_nil : skip_gap false [] ≡ []
+unfolding skip_gap
+gap_nil = refl
+
+module _ (size : ℕ) where
+  -- ---- the turns
+
+  from_same : (f g : List ℕ → List Found) (start : List ℕ) → ((t : Kind × List ℕ) → token_at start ≡ Some t → f t.1 ≡ g t.1) → from_start size f start ≡ from_start size g start
+  from_same f g [] h = refl
+  from_same f g (c ∷ cs) h = by_token (token_at (c ∷ cs)) refl
+    where
+      by_token : (o : Option (Kind × List ℕ)) → token_at (c ∷ cs) ≡ o → from_token size f (c ∷ cs) o ≡ from_token size g (c ∷ cs) o
+      by_token None e = refl
+      by_token (Some t) e = ap (λ (fs : List Found). found.Token (byte_of size (c ∷ cs)) t.0 (between (c ∷ cs) t.1) ∷ fs) (h t e)
+
+  nothing_within : (n : ℕ) (cs : List ℕ) → length cs ≤ 0 → found_within size n cs ≡ []
+  unfolding found_within
+  nothing_within zero cs h = refl
+  nothing_within (suc n) [] h = ap (from_start size (found_within size n)) gap_nil
+  nothing_within (suc n) (c ∷ cs) h = absurd (omega (arith, h))
+
+  enough : (n m : ℕ) (cs : List ℕ) → length cs ≤ n → length cs ≤ m → found_within size n cs ≡ found_within size m cs
+  unfolding found_within
+  enough zero m cs h k = sym (nothing_within m cs h)
+  enough (suc n) zero cs h k = nothing_within (suc n) cs k
+  enough (suc n) (suc m) cs h k =
+      from_same (found_within size n) (found_within size m) (skip_gap false cs)
+      (λ t read. let less = shorter_behind_token cs t read in enough n m t.1 (omega (arith, less, h)) (omega (arith, less, k)))
+
+  found_next : (cs : List ℕ) → found_of size cs ≡ from_start size (found_of size) (skip_gap false cs)
+  unfolding found_of found_within
+  found_next cs =
+      enough (length cs) (suc (length cs)) cs (omega arith) (omega arith)
+      ∙ from_same (found_within size (length cs)) (found_of size) (skip_gap false cs)
+      (λ t read. let less = shorter_behind_token cs t read in enough (length cs) (length t.1) t.1 (omega (arith, less)) (omega arith))
+
+  -- ---- what comes next
+
+  found_nil : found_of size [] ≡ []
+  unfolding found_of found_within
+  found_nil = refl
+
+  found_end : (cs : List ℕ) → Ends cs → found_of size cs ≡ []
+  found_end cs h = found_next cs ∙ ap (from_start size (found_of size)) (end_skipped cs h)
+
+  from_a_token : (start : List ℕ) (k : Kind) (after : List ℕ) → token_at start ≡ Some (k, after)
+      → from_start size (found_of size) start ≡ found.Token (byte_of size start) k (between start after) ∷ found_of size after
+  from_a_token [] k after e = none_is (k, after) (sym token_nil ∙ e)
+  from_a_token (c ∷ cs) k after e = ap (from_token size (found_of size) (c ∷ cs)) e
+
+  found_token : (cs start : List ℕ) (k : Kind) (after : List ℕ) → HasGap cs start → IsToken start k after
+      → found_of size cs ≡ found.Token (byte_of size start) k (between start after) ∷ found_of size after
+  found_token cs start k after gap is =
+      let read = next_read cs start k after gap is in
+      found_next cs ∙ ap (from_start size (found_of size)) read.0 ∙ from_a_token start k after read.1
+
+  from_no_token : (start : List ℕ) → NoToken start → token_at start ≡ None → from_start size (found_of size) start ≡ found.NoToken (byte_of size start) ∷ []
+  from_no_token [] n e = absurd n
+  from_no_token (c ∷ cs) n e = ap (from_token size (found_of size) (c ∷ cs)) e
+
+  found_none : (cs start : List ℕ) → HasGap cs start → NoToken start → found_of size cs ≡ found.NoToken (byte_of size start) ∷ []
+  found_none cs start gap none =
+      let read = fault_read cs start gap none in
+      found_next cs ∙ ap (from_start size (found_of size)) read.0 ∙ from_no_token start none read.1
+
+  -- ---- a step
+
+  pub step_token : (cs left slice : List ℕ) (k : Kind) (place : ℕ) → ((start : List ℕ) × HasGap cs start × IsToken start k left × (start ≡ slice ++ left))
+      → place ≡ size - byte_count (skip_gap false cs) → found_of size cs ≡ found.Token place k slice ∷ found_of size left
+  step_token cs left slice k place next at =
+      let same : between next.0 left ≡ slice = between_is next.0 left slice next.3 in
+      let there : byte_of size next.0 ≡ place = ap (byte_of size) (sym (next_read cs next.0 k left next.1 next.2).0) ∙ sym at in
+      found_token cs next.0 k left next.1 next.2
+      ∙ ap (λ (n : ℕ). found.Token n k (between next.0 left) ∷ found_of size left) there ∙ ap (λ (s : List ℕ). found.Token place k s ∷ found_of size left) same
+
+  pub step_none : (cs left : List ℕ) (place : ℕ) → ((start : List ℕ) × HasGap cs start × NoToken start × (left ≡ [])) → place ≡ size - byte_count (skip_gap false cs)
+      → found_of size cs ≡ found.NoToken place ∷ found_of size left
+  step_none cs left place next at =
+      let there : byte_of size next.0 ≡ place = ap (byte_of size) (sym (fault_read cs next.0 next.1 next.2).0) ∙ sym at in
+      found_none cs next.0 next.1 next.2 ∙ ap (λ (n : ℕ). found.NoToken n ∷ []) there
+      ∙ ap (λ (fs : List Found). found.NoToken place ∷ fs) (sym (ap (found_of size) next.3 ∙ found_nil))
+
+  pub step_end : (cs left : List ℕ) → Ends cs × (left ≡ []) → (found_of size cs ≡ []) × (found_of size left ≡ [])
+  step_end cs left h = (found_end cs h.0, ap (found_of size) h.1 ∙ found_nil)
+
+-- ---- they are the text's
+
+byte_is : (text : List ℕ) (place : ℕ) (start : List ℕ) → At text place start → byte_of (byte_count text) start ≡ place
+byte_is text place start h = omega (arith, at_place text place start h)
+
+token_found : (text : List ℕ) (token : Token) (start after : List ℕ) → IsToken start token.kind after → At text token.start start → At text token.stop after
+    → IsFound text token (found.Token (byte_of (byte_count text) start) token.kind (between start after))
+token_found text token start after is p q =
+    let same : between start after ≡ is.slice = between_is start after is.slice is.parts in
+    let whole : text ≡ p.0 ++ (is.slice ++ after) = p.1 ∙ ap (λ (t : List ℕ). p.0 ++ t) is.parts in
+    let stop : At text (byte_count (p.0 ++ is.slice)) after = (p.0 ++ is.slice, whole ∙ sym (append_assoc p.0 is.slice after), refl) in
+    subst (λ (s : List ℕ). IsFound text token (found.Token (byte_of (byte_count text) start) token.kind s)) (sym same)
+    (byte_is text token.start start p, refl, (p.0, after, whole, p.2, same_place text token.stop (byte_count (p.0 ++ is.slice)) after q stop))
+
+abbrev Front : List ℕ → List ℕ → List Token → List ℕ → Type 0
+Front text from tokens rest = (front : List Found) × AreFound text tokens front × (found_of (byte_count text) from ≡ front ++ found_of (byte_count text) rest)
+
+front_found : (text from : List ℕ) (tokens : List Token) (rest : List ℕ) → Runs text from tokens rest → Front text from tokens rest
+front_found text from [] rest r = ([], tt, ap (found_of (byte_count text)) r)
+front_found text from (token ∷ tokens) rest r =
+    let later = front_found text r.1 tokens rest r.6 in
+    let first = found.Token (byte_of (byte_count text) r.0) token.kind (between r.0 r.1) in
+    (first ∷ later.0, (token_found text token r.0 r.1 r.3 r.4 r.5, later.1), found_token (byte_count text) from r.0 token.kind r.1 r.2 r.3 ∙ ap (λ (fs : List Found). first ∷ fs) later.2)
+
+found_from : (text : List ℕ) (answer : Result (List Token) ℕ) → Says text answer → AreFoundFrom text answer (found_of (byte_count text) text)
+found_from text (Ok tokens) h =
+    let f = front_found text text tokens h.0 h.1 in
+    subst (AreFound text tokens) (sym (f.2 ∙ ap (λ (fs : List Found). f.0 ++ fs) (found_end (byte_count text) h.0 h.2) ∙ append-nil f.0)) f.1
+found_from text (Err place) h =
+    let f = front_found text text h.0 h.1 h.3 in
+    (h.0, f.0, f.1, f.2 ∙ ap (λ (fs : List Found). f.0 ++ fs) (found_none (byte_count text) h.1 h.2 h.4 h.5 ∙ ap (λ (n : ℕ). found.NoToken n ∷ []) (byte_is text place h.2 h.6)))
+
+pub found_in : (bytes rest : List ℕ) (size : ℕ) → IsUtf8 bytes → rest ≡ chars bytes → size ≡ length bytes → AreFoundIn (chars bytes) (found_of size rest)
+found_in bytes rest size u e s =
+    let said = some_token_list (chars bytes) in
+    let same : size ≡ byte_count (chars bytes) = s ∙ ap length (sym (encodes-chars bytes u)) in
+    subst (λ (r : List ℕ). AreFoundIn (chars bytes) (found_of size r)) (sym e)
+    (subst (λ (n : ℕ). AreFoundIn (chars bytes) (found_of n (chars bytes))) (sym same) (said.0, said.1, found_from (chars bytes) said.0 said.1))
+
+-- ---- what is answered
+
+abbrev Goes : List Found → Option Found → List Found → Type 0
+Goes before answer behind = MatchOption answer ((before ≡ []) × (behind ≡ [])) (λ f. before ≡ f ∷ behind)
+
+pub goes_on : (before read behind : List Found) (answer : Option Found) (f : Found) → read ≡ before → answer ≡ Some f → read ≡ f ∷ behind → Goes before answer behind
+goes_on before read behind answer f v e h = subst (λ (o : Option Found). Goes before o behind) (sym e) (sym v ∙ h)
+
+pub goes_no_more : (before read behind : List Found) (answer : Option Found) → read ≡ before → answer ≡ None → (read ≡ []) × (behind ≡ []) → Goes before answer behind
+goes_no_more before read behind answer v e h = subst (λ (o : Option Found). Goes before o behind) (sym e) (sym v ∙ h.0, h.1)

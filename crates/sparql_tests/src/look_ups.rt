@@ -1,0 +1,140 @@
+//! How many look-ups patterns ask of a dataset, and at how many quads these look.
+ghost use Rattle.std.specs.Prelude.{◌≡◌};
+
+use rdf_dataset::{Dataset, Source, Staged};
+use rdf_terms::{GraphName, NoMemory, Quad, Term};
+use sparql_eval::{apply, solve};
+use sparql_syntax::{read_query, read_update};
+use sparql_trees::{Pattern, Query};
+use std::alloc::Global;
+use std::cell::Cell;
+
+// Counts the look-ups, and adds up the numbers that they answer.
+#[derive(Drop)]
+struct Counting<'a, D: Source> {
+    under: &'a D,
+    calls: &'a Cell<usize>,
+    looked: &'a Cell<usize>,
+}
+
+impl<'a, D: Source> Source for Counting<'a, D> {
+    ghost contents = { λ s. D.contents s.under.now };
+
+    fn contains(&self, quad: &Quad) -> bool {
+        self.under.contains(quad)
+    }
+
+    fn has_name(&self, name: &Term) -> bool {
+        self.under.has_name(name)
+    }
+
+    fn next_blank(&self) -> u64 {
+        self.under.next_blank()
+    }
+
+    fn names(&self, out: &mut Vec<Term>) -> Result<(), NoMemory> {
+        self.under.names(out)
+    }
+
+    fn matches(
+        &self,
+        graph: &GraphName,
+        subject: Option<&Term>,
+        predicate: Option<&Term>,
+        object: Option<&Term>,
+        out: &mut Vec<Quad>,
+    ) -> Result<usize, NoMemory> {
+        let looked = self.under.matches(graph, subject, predicate, object, out)?;
+        self.calls.set(self.calls.get().saturating_add(1));
+        self.looked.set(self.looked.get().saturating_add(looked));
+        Ok(looked)
+    }
+}
+
+fn insert(alloc: Global, view: &mut Staged<'_, Dataset>, data: &str) -> Option<()> {
+    let text = format!(in alloc; "PREFIX e: <http://e/> INSERT DATA {{ {data} }}").ok()?;
+    let request = read_update(alloc, text.as_bytes(), None).ok()?;
+    apply(alloc, &request, view).ok()
+}
+
+fn pattern(alloc: Global, group: &str) -> Option<Pattern> {
+    let text = format!(in alloc; "PREFIX e: <http://e/> ASK {group}").ok()?;
+    match read_query(alloc, text.as_bytes(), None).ok()? {
+        Query::Ask(pattern) => Some(pattern),
+        Query::Select(_) => None,
+    }
+}
+
+// How many solutions a group has, and how many look-ups look at how many quads for it.
+type Cost = (usize, usize, usize);
+
+fn cost(alloc: Global, view: &Staged<'_, Dataset>, pattern: &Pattern) -> Option<Cost> {
+    let calls = Cell::new(0);
+    let looked = Cell::new(0);
+    let source = Counting {
+        under: view,
+        calls: &calls,
+        looked: &looked,
+    };
+    let solutions = solve(alloc, pattern, &GraphName::Default, &source).ok()?;
+    Some((solutions.rows.len(), calls.get(), looked.get()))
+}
+
+// What the group costs over these quads.
+fn cost_over(alloc: Global, data: &str, group: &str) -> Option<Cost> {
+    let dataset = Dataset::new(alloc);
+    let mut view = Staged::over(alloc, &dataset);
+    insert(alloc, &mut view, data)?;
+    cost(alloc, &view, &pattern(alloc, group)?)
+}
+
+// A hundred pairs of quads, `e:s.. e:p e:o..` and `e:o.. e:q "x"`.
+fn chains(alloc: Global) -> Option<String> {
+    let mut data = String::new(alloc);
+    for i in 1..101 {
+        write!(data, "e:s{i} e:p e:o{i} . e:o{i} e:q \"x\" . ").ok()?;
+    }
+    Some(data)
+}
+
+fn cost_over_chains(alloc: Global, group: &str) -> Option<Cost> {
+    cost_over(alloc, chains(alloc)?.as_str(), group)
+}
+
+#[test]
+fn each_pattern_is_looked_up_under_the_one_before(rt: HostRuntime) {
+    for (group, wanted) in [
+        ("{ e:s1 e:p ?o . ?o e:q ?x }", (1, 2, 2)),
+        ("{ { e:s1 e:p ?o } { ?o e:q ?x } }", (1, 2, 101)),
+        ("{ e:s1 e:p ?o { } ?o e:q ?x }", (1, 2, 2)),
+        ("{ e:s1 e:p ?o OPTIONAL { ?o e:q ?x } }", (1, 2, 2)),
+        ("{ e:s1 e:p ?o OPTIONAL { ?o e:p ?x } }", (1, 2, 1)),
+    ] {
+        assert!(rt;
+            cost_over_chains(rt.alloc(), group) == Some(wanted),
+            "{group}"
+        );
+    }
+}
+
+const GRAPHS: &str =
+    "GRAPH e:g { e:s e:p e:o } GRAPH e:h { e:s e:p e:o } e:a e:in e:g . e:b e:in e:z";
+
+#[test]
+fn bound_graph_is_the_only_one_tried(rt: HostRuntime) {
+    for (group, wanted) in [
+        ("{ e:a e:in ?g GRAPH ?g { ?s ?p ?o } }", (1, 2, 2)),
+        (
+            "{ e:a e:in ?g OPTIONAL { GRAPH ?g { ?s ?p ?o } } }",
+            (1, 2, 2),
+        ),
+        ("{ e:b e:in ?g GRAPH ?g { ?s ?p ?o } }", (0, 1, 1)),
+        ("{ GRAPH ?g { ?s ?p ?o } }", (2, 2, 2)),
+        ("{ GRAPH e:z { ?s ?p ?o } }", (0, 0, 0)),
+    ] {
+        assert!(rt;
+            cost_over(rt.alloc(), GRAPHS, group) == Some(wanted),
+            "{group}"
+        );
+    }
+}
