@@ -1,7 +1,7 @@
 #!/usr/bin/env bash
-# Asks seven queries of 10^5 quads with rdfkeep, rdflib and roqet, in one go, and prints what each takes, loading apart, and
-# the most memory of each process. rdfkeep's times are means of twenty in one session, rdflib's the best of three, roqet's
-# one run less one that only loads. Each must find as many rows.
+# Asks seven queries of 10^5 quads with rdfkeep, rdflib and roqet, in one go, and prints the processor time that each takes,
+# loading apart, and the most memory of each process. rdfkeep's times are means of twenty in one session, from the query's
+# text to the last row, rdflib's the best of three, roqet's one run less one that only loads. Each must find as many rows.
 # Usage: bench/query.sh [RDFKEEP [COUNT [SEED]]], where RDFKEEP is the built program and COUNT the number of quads
 # (apt-get install python3-rdflib rasqal-utils time).
 set -euo pipefail
@@ -28,14 +28,19 @@ work, rdfkeep, *names = sys.argv[1:]
 session = subprocess.Popen([rdfkeep, "run", "--data", f"{work}/data"], stdin=subprocess.PIPE, stdout=subprocess.PIPE)
 
 
+def spent():
+    """The processor seconds of the session so far, by the clock that Linux keeps for a process."""
+    return time.clock_gettime(~session.pid << 3 | 2)
+
+
 def ask(text):
-    """The seconds from a query's first byte to the last of its answer, and how many rows there are."""
-    begun = time.perf_counter()
+    """The seconds that the answer to a query takes, and how many rows there are."""
+    begun = spent()
     session.stdin.write(b"%query\n" + text + b"%end\n")
     session.stdin.flush()
     for line in session.stdout:
         if line.startswith(b"ok "):
-            return time.perf_counter() - begun, int(line[3:])
+            return spent() - begun, int(line[3:])
     raise SystemExit("rdfkeep gives no answer")
 
 
@@ -55,7 +60,7 @@ for name in "${names[@]}"; do printf '%%query\n%s\n%%end\n' "$(cat "$work/$name.
 # roqet loads the data anew for each query
 printf 'SELECT ?o { <a:none> <a:none> ?o }\n' > "$work/load.rq"
 for name in load "${names[@]}"; do
-    /usr/bin/time -f '%e %M' -o "$work/$name.time" timeout 120 roqet -q -i sparql -D "$work/data" -F ntriples -r csv "$work/$name.rq" > "$work/$name.csv" || true
+    /usr/bin/time -f '%U %S %M' -o "$work/$name.time" timeout 120 roqet -q -i sparql -D "$work/data" -F ntriples -r csv "$work/$name.rq" > "$work/$name.csv" || true
     rows=$(($(wc -l < "$work/$name.csv") - 1))
     printf '%s %s %s\n' "$name" "$(tail -n 1 "$work/$name.time")" "$rows"
 done > "$work/roqet"
@@ -66,6 +71,7 @@ import sys
 work, *names = sys.argv[1:]
 read = lambda name: {line.split()[0]: [float(it) for it in line.split()[1:]] for line in open(f"{work}/{name}")}
 ours, theirs, third = read("rdfkeep"), read("rdflib"), read("roqet")
+third = {name: (user + system, most, rows) for name, (user, system, most, rows) in third.items()}
 load, peak = third["load"][0], max(it[1] for it in third.values())
 print("%-10s %6s %10s %10s %10s %18s %18s" % ("", "rows", "rdfkeep s", "rdflib s", "roqet s", "rdflib / rdfkeep", "roqet / rdfkeep"))
 for name in names:

@@ -1,7 +1,7 @@
 #!/usr/bin/env python3
 """Times rdflib on what query_catalogue.py wrote: query_rdflib.py FOLDER NAME..
 
-It prints a line for each query: its name, the seconds of Graph.query up to the last row, the best of three, and how many rows
+It prints a line for each query: its name, the processor seconds of Graph.query up to the last row, the best of three, and how many rows
 there are.
 """
 import pathlib
@@ -17,9 +17,9 @@ def main(folder, *names):
     for name in names:
         text, rounds = (folder / f"{name}.rq").read_text(), []
         for _ in range(3):
-            begun = time.perf_counter()
+            begun = time.process_time()
             rows = len(list(graph.query(text)))
-            rounds.append(time.perf_counter() - begun)
+            rounds.append(time.process_time() - begun)
         print(name, min(rounds), rows)
 
 

@@ -7,7 +7,7 @@ ghost use Rattle.plain_dataset.specs.Rising.{AreRising};
 ghost use Rattle.rdf_dataset.specs.State.{State, IsSound, Begins, Ends, net_between, empty_state, last_number};
 
 use crate::listing::append_matching;
-use rdf_dataset::{Net, Source};
+use rdf_dataset::{Net, Source, sources_are_sound};
 use rdf_sets::{Sorted, append_copies};
 use rdf_terms::{GraphName, NoMemory, Quad, Term};
 use std::alloc::Global;
@@ -95,7 +95,7 @@ impl PlainDataset {
         ensures err { OnErr result (self.new ≡ self.old) }
         ensures free { net.now.added ≡ set.empty → net.now.names_added ≡ set.empty → IsOk result }
     {
-        self.is_sound();
+        sources_are_sound(self);
         self.go_to(
             net.added(),
             net.removed(),
@@ -118,7 +118,7 @@ impl PlainDataset {
         ensures free { net.now.removed ≡ set.empty → net.now.names_removed ≡ set.empty →
             IsOk result }
     {
-        self.is_sound();
+        sources_are_sound(self);
         let counter = net.before();
         self.go_to(
             net.removed(),
@@ -127,13 +127,6 @@ impl PlainDataset {
             net.names_added(),
             counter,
         )
-    }
-
-    // Each dataset is sound.
-    fn is_sound(&self)
-        ensures { IsSound self.now }
-    {
-        let _ = &self.quads;
     }
 
     // All growths come first, and what they made is taken back where one is refused.

@@ -6,7 +6,7 @@ ghost use Rattle.rdf_sets.specs.Sorted.{AppendsOnce, ListsSorted};
 ghost use Rattle.rdf_dataset.specs.State.{State, IsSound, Begins, Ends, net_between, empty_state, last_number, matches};
 
 use crate::net::Net;
-use crate::source::Source;
+use crate::source::{Source, sources_are_sound};
 use rdf_sets::{Sorted, in_order};
 use rdf_store::Store;
 use rdf_terms::{GraphName, NoMemory, Quad, Term};
@@ -98,7 +98,7 @@ impl Dataset {
         ensures err { OnErr result (self.new ≡ self.old) }
         ensures free { net.now.added ≡ set.empty → net.now.names_added ≡ set.empty → IsOk result }
     {
-        self.is_sound();
+        sources_are_sound(self);
         self.go_to(
             &net.quads.added,
             &net.quads.removed,
@@ -121,7 +121,7 @@ impl Dataset {
         ensures free { net.now.removed ≡ set.empty → net.now.names_removed ≡ set.empty →
             IsOk result }
     {
-        self.is_sound();
+        sources_are_sound(self);
         self.go_to(
             &net.quads.removed,
             &net.quads.added,
@@ -129,13 +129,6 @@ impl Dataset {
             &net.names.added,
             net.before,
         )
-    }
-
-    // Each dataset is sound.
-    fn is_sound(&self)
-        ensures { IsSound self.now }
-    {
-        let _ = &self.store;
     }
 
     // All growths come first; where they are refused, nothing has changed.

@@ -12,5 +12,5 @@ mod staged;
 
 pub use dataset::Dataset;
 pub use net::Net;
-pub use source::Source;
+pub use source::{Source, sources_are_sound};
 pub use staged::Staged;

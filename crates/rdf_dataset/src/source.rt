@@ -54,3 +54,10 @@ pub trait Source {
             (λ looked. length out.new.items ≤ length out.old.items + looked) }
         ensures err { OnErr result (out.new.items ≡ out.old.items) };
 }
+
+/// What a source holds is sound.
+pub fn sources_are_sound<D: Source>(source: &D)
+    ensures { IsSound (D.contents source.now) }
+{
+    let _next = source.next_blank();
+}

@@ -21,7 +21,7 @@ fn tagged<'a>(
         return Ok(None);
     };
     let Some(literal) = Literal::tagged_from_text(alloc, lexical, name.text_up_to(&rest))? else {
-        return Ok(None);
+        unreachable!()
     };
     Ok(Some((WrittenObject::Literal(literal), rest)))
 }

@@ -80,8 +80,6 @@ impl Literal {
           tag = None;
         }) }
     {
-        let _ = lexical.as_str();
-        let _ = datatype.as_str();
         let parts = Parts {
             lexical,
             datatype,
@@ -175,7 +173,6 @@ impl Literal {
           tag = self.now.tag;
         }) }
     {
-        let _ = lexical.as_str();
         let datatype = self.datatype().copy()?;
         let tag = copied(self.parts.as_ref().tag.as_ref())?;
         let parts = Parts {

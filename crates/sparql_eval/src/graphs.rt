@@ -7,8 +7,8 @@ ghost use Rattle.sparql_eval.specs.Operations.{copied, onto};
 ghost use Rattle.sparql_eval.specs.Inside.Staging.{gone, graphs_emptied, one_emptied, transferred};
 ghost use Rattle.sparql_trees.specs.declared.operation.GraphRefAll.TheVariants.{Named as each_named};
 
-use crate::quads::{add_graph, empty_graph, is_sound};
-use rdf_dataset::{Source, Staged};
+use crate::quads::{add_graph, empty_graph};
+use rdf_dataset::{Source, Staged, sources_are_sound};
 use rdf_terms::{GraphName, NoMemory, Term};
 use sparql_trees::{GraphOrDefault, GraphRefAll};
 use std::alloc::Global;
@@ -81,7 +81,7 @@ fn empty_named<D: Source>(
     ensures ok { OnOk result (view.new.now ≡ graphs_emptied names view.old.now each_named) }
     ensures beneath { view.new.under ≡ view.old.under }
 {
-    is_sound(view);
+    sources_are_sound(view);
     let mut named = Vec::new(alloc);
     view.names(&mut named)?;
     for name in named {

@@ -7,9 +7,9 @@ ghost use Rattle.sparql_trees.specs.Visible.{visible};
 ghost use Rattle.sparql_trees.specs.declared.operation.Operation.TheVariants.{Modify as modify};
 
 use crate::fault::ApplyFault;
-use crate::quads::{insert_all, is_sound, remove_all};
+use crate::quads::{insert_all, remove_all};
 use crate::template::all_instances;
-use rdf_dataset::{Source, Staged};
+use rdf_dataset::{Source, Staged, sources_are_sound};
 use rdf_terms::{GraphName, Iri, NoMemory, Term};
 use sparql_solve::{Solutions, sorted_solutions};
 use sparql_trees::Modify;
@@ -53,7 +53,7 @@ fn change<D: Source>(
         (λ fault. Tells (step view.old.now (modify operation.now)) fault) }
     ensures beneath { view.new.under ≡ view.old.under }
 {
-    is_sound(view);
+    sources_are_sound(view);
     let blanks = operation.insert.blanks;
     let Some(first) = take_for_each(found.rows.len(), blanks, view) else {
         return Err(ApplyFault::BlankNumbers);

@@ -3,21 +3,13 @@ ghost use Rattle.std.specs.Prelude.{◌≡◌, IsTrue, OnOk};
 ghost use Rattle.rdf_terms.specs.Below.{AreBelow, IsGraphBelow};
 ghost use Rattle.rdf_terms.specs.Quad.{is_graph, may_name_graph};
 ghost use Rattle.rdf_dataset.specs.Insertion.{with_all};
-ghost use Rattle.rdf_dataset.specs.State.{IsSound};
 ghost use Rattle.sparql_eval.specs.Graphs.{quad_in};
 ghost use Rattle.sparql_eval.specs.Operations.{added, without_all};
 ghost use Rattle.sparql_eval.specs.Inside.Staging.{emptied};
 
-use rdf_dataset::{Source, Staged};
+use rdf_dataset::{Source, Staged, sources_are_sound};
 use rdf_terms::{GraphName, NoMemory, Quad};
 use std::alloc::Global;
-
-/// What a source holds is sound.
-pub(crate) fn is_sound<D: Source>(source: &D)
-    ensures { IsSound (D.contents source.now) }
-{
-    let _next = source.next_blank();
-}
 
 /// Takes the quads away.
 pub(crate) fn remove_all<D: Source>(
@@ -84,7 +76,7 @@ pub(crate) fn add_graph<D: Source>(
     ensures ok { OnOk result (view.new.now ≡ added view.old.now from.now to.now) }
     ensures beneath { view.new.under ≡ view.old.under }
 {
-    is_sound(view);
+    sources_are_sound(view);
     let mut found = Vec::new(alloc);
     view.matches(from, None, None, None, &mut found)?;
     for quad in found {

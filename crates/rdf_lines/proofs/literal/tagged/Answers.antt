@@ -1,4 +1,8 @@
-use Rattle.std.proofs.Common.{sym}
+use Rattle.std.proofs.Common.{◌≡◌, true, cond, Some, None, sym, ap, subst, ◌∙◌}
+use Rattle.std.specs.Str.{encode_utf8_all}
+use Rattle.rdf_terms.specs.Literal.{is_tag, tagged}
+use Rattle.rdf_terms.proofs.PlaceLemmas.{between_is}
+use Rattle.rdf_terms.proofs.TagForms.{tag_form}
 use Rattle.rdf_terms.proofs.TagReadings.{tag_greedy}
 use Rattle.rdf_lines.proofs.literal.tagged.Goals as goal
 
@@ -6,3 +10,13 @@ pub text_up_to-requires : goal.text_up_to-requires
 text_up_to-requires c =
     let s = tag_greedy.sound c.args.name.now c.in-Some.rest (sym c.in-Some.ensures) in
     (s.0, s.1)
+
+-- what is read as a tag has the form of one
+pub unreachable-requires : goal.unreachable-requires
+unreachable-requires c =
+    let s = tag_greedy.sound c.args.name.now c.in-Some.rest (sym c.in-Some.ensures) in
+    let text : c.text_up_to.result.now ≡ encode_utf8_all s.0 = c.text_up_to.ensures ∙ ap encode_utf8_all (between_is c.args.name.now c.in-Some.rest s.0 s.1) in
+    let form : is_tag c.text_up_to.result.now ≡ true = ap is_tag text ∙ tag_form s.0 s.2 in
+    let literal = tagged c.args.lexical c.text_up_to.result.now in
+    c.in_default-2.not-Some literal
+    (subst (λ b. c.in_ok-literal.field-0 ≡ cond b (Some literal) None) form c.in_ok-literal.ensures)

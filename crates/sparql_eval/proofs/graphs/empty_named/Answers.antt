@@ -11,6 +11,6 @@ loop-name-init g c =
       steps = tt;
       ends = tt;
       beneath = search rules;
-      left = named_emptied c.args.names c.args.view.now.now c.new-named.result.items c.names.new.out.items _ c.is_sound.ensures c.new-named.ensures.items c.in_ok-names.ensures.ok all;
+      left = named_emptied c.args.names c.args.view.now.now c.new-named.result.items c.names.new.out.items _ c.sources_are_sound.ensures c.new-named.ensures.items c.in_ok-names.ensures.ok all;
       count = count;
     }

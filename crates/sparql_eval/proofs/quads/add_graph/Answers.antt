@@ -15,7 +15,7 @@ loop-quad-init g c =
       steps = tt;
       ends = tt;
       beneath = search rules;
-      adding = adding_begins c.args.view.now.now c.args.from.now c.args.to.now c.new-found.result.items c.matches.new.out.items _ c.is_sound.ensures c.new-found.ensures.items c.in_ok-matches.ensures.found all;
+      adding = adding_begins c.args.view.now.now c.args.from.now c.args.to.now c.new-found.result.items c.matches.new.out.items _ c.sources_are_sound.ensures c.new-found.ensures.items c.in_ok-matches.ensures.found all;
       count = count;
     }
 

@@ -29,4 +29,4 @@ returns-clause-ends c =
     on_ok_weaker c.go_to.result (λ f.
     let b = c.requires.begins in
     let new = f b.0 (leads_of c.args.self.now b.0 _ _ _ _ c.args.net.now.before c.after.result (lists ∙ b.2)) in
-    (c.args.self.now, c.is_sound.ensures, b.2 ∙ ap (net_between c.args.self.now) (sym new))) c.go_to.ensures.ok
+    (c.args.self.now, c.sources_are_sound.ensures, b.2 ∙ ap (net_between c.args.self.now) (sym new))) c.go_to.ensures.ok

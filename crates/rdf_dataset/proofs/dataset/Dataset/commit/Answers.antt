@@ -19,4 +19,4 @@ pub returns-clause-ends : goal.returns-clause-ends
 returns-clause-ends c = on_ok_weaker c.go_to.result (λ f.
     let b = c.requires.begins in
     let new = f b.0 (leads_of c.args.self.now b.0 _ _ _ _ c.net.inside.before c.net.inside.after (c.net.view_is ∙ b.2)) in
-    (c.args.self.now, c.is_sound.ensures, b.2 ∙ ap (net_between c.args.self.now) (sym new))) c.go_to.ensures.ok
+    (c.args.self.now, c.sources_are_sound.ensures, b.2 ∙ ap (net_between c.args.self.now) (sym new))) c.go_to.ensures.ok

@@ -19,4 +19,4 @@ pub returns-clause-begins : goal.returns-clause-begins
 returns-clause-begins c = on_ok_weaker c.go_to.result (λ f.
     let b = c.requires.ends in
     let new = f b.0 (leads_back b.0 c.args.self.now _ _ _ _ c.net.inside.before c.net.inside.after (c.net.view_is ∙ b.2)) in
-    (c.args.self.now, c.is_sound.ensures, b.2 ∙ ap (λ s. net_between s c.args.self.now) (sym new))) c.go_to.ensures.ok
+    (c.args.self.now, c.sources_are_sound.ensures, b.2 ∙ ap (λ s. net_between s c.args.self.now) (sym new))) c.go_to.ensures.ok
