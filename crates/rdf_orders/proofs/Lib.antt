@@ -1,3 +1,4 @@
+mod AheadLemmas
 mod ContentsLemmas
 pub mod KeyLemmas
 mod LookUpLemmas

@@ -1,20 +1,17 @@
 -- The keys ahead in an ordered set: where they begin, and what the first key of the range says of them.
-use Rattle.std.proofs.Common.{◌≡◌, ℕ, suc, zero, ◌==◌, ◌<◌, Bool, true, false, not, List, [], ◌∷◌, ◌++◌, length, take, drop, replicate, refl, sym, ap, subst, ◌∙◌, arith}
+use Rattle.std.proofs.Common.{◌≡◌, ℕ, suc, zero, ◌<◌, Bool, true, false, not, List, [], ◌∷◌, ◌++◌, length, take, drop, replicate, refl, sym, ap, subst, ◌∙◌, arith}
 use Rattle.std.specs.Prelude.{Option, Some, None, IfSome}
 use mathlib.Core.Bool.{true≢false}
-use borrow.Author.Tests.{eqb-true}
 use Rattle.std.specs.declared.cmp.Ordering.{Ordering}
 use Rattle.std.specs.declared.cmp.Ordering.TheVariants.{Less, Equal, Greater}
 use Rattle.std.specs.Ordering.{is_gt, is_ge, is_lt, nat_cmp, ordering_then, ordering_reverse, MatchOrdering, partial_ge, is_some_and}
 use Rattle.std.specs.Cmp.Lexicographic.{slice_partial_cmp, lists_agrees}
-use Rattle.std.specs.declared.ops.Bound.{Bound}
-use Rattle.std.specs.declared.ops.Bound.TheVariants.{Included, Excluded, Unbounded}
-use Rattle.std.specs.BTreeSet.{BTreeSet, contains, IsKeyRangeOf}
-use Rattle.std.specs.FinSet as set
+use Rattle.std.specs.declared.ops.Bound.TheVariants.{Included, Excluded}
+use Rattle.std.specs.BTreeSet.{BTreeSet, contains}
 use Rattle.std.specs.Cmp.{ranks, tied_itself, nat_cmp_total, upto, alike_right}
-use Rattle.std.specs.BTreeMap.Range.{IsFromStart, IsLeBy, IsLtBy}
-use Rattle.rdf_orders.specs.Quads.{IdQuad, IdQuads, key_in, quad_at, key_cmp}
-use Rattle.rdf_orders.specs.Runs.{BeginsWith, IsAhead, IsNextKey, NoneAhead, Has}
+use Rattle.std.specs.BTreeMap.Range.{IsLeBy, IsLtBy}
+use Rattle.rdf_orders.specs.Quads.{IdQuads, key_cmp}
+use Rattle.rdf_orders.specs.Runs.{BeginsWith}
 use Rattle.std.specs.List.{starts_with}
 use Rattle.std.specs.Cmp.Lexicographic.{bytes_decides}
 use Rattle.std.specs.Prelude.{eqb}
@@ -22,9 +19,7 @@ use Rattle.rdf_orders.specs.declared.trees.Trees.{Trees}
 use Rattle.rdf_orders.specs.Inside.Mirror.{tree_of, is_key_of, Mirrors}
 use Rattle.rdf_orders.specs.Inside.Starts.{StartsRun}
 use Rattle.rdf_orders.specs.declared.order.Order.{Order}
-use Rattle.rdf_orders.proofs.KeyLemmas.{key_cmp_total, quad_at-key_in, prefix_between}
-use Rattle.rdf_orders.proofs.TestLemmas.{both, first_of_both, second_of_both}
-use Rattle.rdf_orders.proofs.TreeLemmas.{key_in-quad_at, length-key_in}
+use Rattle.rdf_orders.proofs.KeyLemmas.{key_cmp_total}
 
 zero_first : (x : ℕ) (r : Ordering) → is_gt r ≡ false → is_gt (ordering_then (nat_cmp 0 x) r) ≡ false
 zero_first x r e =
@@ -109,39 +104,6 @@ le_from_ge a b e = less_turned (key_cmp a b) (key_cmp b a) (key_cmp_total.antisy
 
 pub lt_from_not_ge : (a b : List ℕ) → false ≡ partial_ge (slice_partial_cmp (λ x y. Some (nat_cmp x y))) a b → IsLtBy key_cmp a b
 lt_from_not_ge a b e = less_from (key_cmp a b) (sym (ge_by_cmp a b) ∙ sym e)
-
--- ---- the first key of the range
-
-module _ (quads : IdQuads) (order : Order) (prefix : List ℕ) (after : Option (List ℕ)) (s : BTreeSet (List ℕ)) (start : Bound (List ℕ))
-    (mirror : (k : List ℕ) → contains key_cmp s k ≡ is_key_of quads order k) (starts : StartsRun prefix after start) where
-  held_key : (q : IdQuad) → Has quads q → contains key_cmp s (key_in order q) ≡ true
-  held_key q held = mirror (key_in order q) ∙ both (length-key_in order q) (ap (set.contains quads) (quad_at-key_in order q) ∙ held)
-
-  reached : (q : IdQuad) → IsAhead prefix after (key_in order q) → IsFromStart key_cmp start (key_in order q)
-  reached q a = starts.reaches (key_in order q) (eqb-true (length (key_in order q)) 4 (length-key_in order q)) a
-
-  pub none_in_range : IsKeyRangeOf key_cmp start Unbounded s [] → NoneAhead quads order prefix after
-  none_in_range r q held a = true≢false (sym (held_key q held) ∙ r.5 refl (key_in order q) (reached q a, tt))
-
-  module _ (k : List ℕ) (t : List (List ℕ)) (r : IsKeyRangeOf key_cmp start Unbounded s (k ∷ t)) where
-    is_key : is_key_of quads order k ≡ true
-    is_key = sym (mirror k) ∙ r.1.1
-
-    pub four_numbers : length k ≡ 4
-    four_numbers = eqb-true (length k) 4 (first_of_both (length k == 4) _ is_key)
-
-    pub next_is_first : BeginsWith prefix k → IsNextKey quads order prefix after k
-    next_is_first begins = record {
-      quad = quad_at order k;
-      has = second_of_both (length k == 4) _ is_key;
-      is = sym (key_in-quad_at order k four_numbers);
-      ahead = record { begins = begins; later = starts.later k r.1.0.0 };
-      least = λ q held a. r.2 (key_in order q) (reached q a, tt) (held_key q held);
-    }
-
-    pub none_past_run : ¬ BeginsWith prefix k → NoneAhead quads order prefix after
-    none_past_run not q held a =
-        not (prefix_between prefix starts.least k (key_in order q) starts.begins a.begins (starts.from_least k r.1.0.0) (r.2 (key_in order q) (reached q a, tt) (held_key q held)))
 
 -- ---- in the words of the code
 

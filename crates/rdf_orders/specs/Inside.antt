@@ -1,3 +1,4 @@
+pub mod Ahead
 pub mod Gains
 pub mod Mirror
 pub mod Starts

@@ -1,12 +1,14 @@
-//! The next key of a run, found in the tree of its order.
-ghost use Rattle.std.specs.Prelude.{◌≡◌, ◌≤◌, ℕ, List, length, MatchOption, option_copied};
+//! Where the keys of a run begin in the tree of its order.
+ghost use Rattle.std.specs.Prelude.{◌≡◌, ◌≤◌, ℕ, List, length, option_copied};
 ghost use Rattle.std.specs.BTreeMap.Range.{IsLeBy};
 ghost use Rattle.rdf_orders.specs.Quads.{key_cmp};
-ghost use Rattle.rdf_orders.specs.Runs.{BeginsWith, IsNextKey, NoneAhead};
+ghost use Rattle.rdf_orders.specs.Runs.{BeginsWith};
+ghost use Rattle.rdf_orders.specs.Inside.Ahead.{AreKeysAhead};
 ghost use Rattle.rdf_orders.specs.Inside.Starts.{StartsRun};
 
 use crate::order::{Key, Order};
 use crate::quad_sets::QuadSets;
+use std::collections::btree_set::Range;
 use std::ops::Bound;
 
 // The least key that begins with the prefix.
@@ -34,23 +36,18 @@ fn start_of(prefix: &[u64], after: Option<&Key>) -> Bound<Key>
 }
 
 impl QuadSets {
-    /// The least key of the order that begins with the prefix and is greater than `after`. It takes
-    /// no memory.
-    pub fn next_in(&self, order: Order, prefix: &[u64], after: Option<&Key>) -> Option<Key>
-        ensures { MatchOption result
-            (NoneAhead self.now.quads order prefix.now (option_copied after.entry))
-            (IsNextKey self.now.quads order prefix.now (option_copied after.entry)) }
+    /// The keys of the order, from where those begin that begin with the prefix and are greater than
+    /// `after`. It takes no memory.
+    pub(crate) fn keys_ahead(
+        &self,
+        order: Order,
+        prefix: &[u64],
+        after: Option<&Key>,
+    ) -> Range<'_, Key>
+        requires { length prefix.now ≤ 4 }
+        ensures { AreKeysAhead self.now.quads order prefix.now (option_copied after.entry) result }
     {
-        if prefix.len() > 4 {
-            return None;
-        }
         let start = start_of(prefix, after);
-        let keys = self.trees.of(order);
-        let key = *keys.range((start, Bound::Unbounded)).next()?;
-        if key.starts_with(prefix) {
-            Some(key)
-        } else {
-            None
-        }
+        self.trees.of(order).range((start, Bound::Unbounded))
     }
 }

@@ -1,8 +1,9 @@
 //! Look-ups in sets of quads, counted.
-ghost use Rattle.std.specs.Prelude.{◌≡◌, ◌≤◌, length, ◌-◌, IfOk, OnOk, OnErr};
+ghost use Rattle.std.specs.Prelude.{◌≡◌, ◌≤◌, length, ◌-◌, Some, IfOk, IsTrue, OnOk, OnErr, option_copied};
 ghost use Rattle.std.specs.FinSet as set;
 ghost use Rattle.rdf_orders.specs.Quads.{matches};
-ghost use Rattle.rdf_orders.specs.Runs.{AppendsOnce};
+ghost use Rattle.rdf_orders.specs.Runs.{AppendsOnce, BeginsWith};
+ghost use Rattle.rdf_orders.specs.Inside.Ahead.{AreKeysAhead};
 
 use crate::look_ups::look_up;
 use crate::order::{Key, Order};
@@ -10,23 +11,54 @@ use crate::orders::Orders;
 use crate::quad_sets::QuadSets;
 use rdf_terms::NoMemory;
 use std::alloc::Global;
+use std::collections::btree_set::Range;
 use std::marker::Model;
+
+/// The key that was answered last, and those behind it in its order.
+#[derive(Drop)]
+pub(crate) struct Place<'a> {
+    pub(crate) order: Order,
+    pub(crate) key: Key,
+    pub(crate) behind: Range<'a, Key>,
+}
+
+impl<'a> Place<'a> {
+    // Whether the run with the prefix goes on behind this place.
+    fn goes_on(&self, order: Order, prefix: &[u64], after: Option<&Key>) -> bool
+        ensures order { IsTrue result → order ≡ self.now.order }
+        ensures after { IsTrue result → option_copied after.entry ≡ Some self.now.key }
+        ensures begins { IsTrue result → BeginsWith prefix.now self.now.key }
+    {
+        match after {
+            Some(after) => {
+                order == self.order && *after == self.key && self.key.starts_with(prefix)
+            }
+            None => false,
+        }
+    }
+}
 
 /// The quads of sets that stay as they are, and a count of the keys that were answered.
 #[derive(Drop)]
 pub struct Walk<'a> {
     sets: &'a QuadSets,
+    place: Option<Place<'a>>,
     count: usize,
 }
 
 impl<'a> Model for Walk<'a> {
+    ghost use Rattle.std.specs.Prelude.{IfSome};
     ghost use Rattle.rdf_orders.specs.Contents.{Counted, counted_code};
+    ghost use Rattle.rdf_orders.specs.Inside.Ahead.{AreKeysBehind};
 
     ghost Value = { Counted };
 
     ghost coded = { counted_code };
 
     ghost view = { λ w. record { quads = w.sets.now.quads; count = w.count } };
+
+    ghost invariant = { λ w. IfSome w.place
+        (λ p. AreKeysBehind w.sets.now.quads p.order p.key p.behind) };
 }
 
 impl<'a> Walk<'a> {
@@ -34,7 +66,11 @@ impl<'a> Walk<'a> {
     pub fn over(sets: &'a QuadSets) -> Walk<'a>
         ensures { result ≡ record { quads = sets.now.quads; count = 0 } }
     {
-        Walk { sets, count: 0 }
+        Walk {
+            sets,
+            place: None,
+            count: 0,
+        }
     }
 
     /// How many keys were answered.
@@ -42,6 +78,21 @@ impl<'a> Walk<'a> {
         ensures { result ≡ self.now.count }
     {
         self.count
+    }
+
+    // The keys ahead: those behind the place, where the run goes on there.
+    fn keys_ahead(&mut self, order: Order, prefix: &[u64], after: Option<&Key>) -> Range<'a, Key>
+        requires { length prefix.now ≤ 4 }
+        ensures ahead { AreKeysAhead self.old.quads order prefix.now
+            (option_copied after.entry) result }
+        ensures same { self.new ≡ self.old }
+    {
+        if let Some(place) = self.place.take() {
+            if place.goes_on(order, prefix, after) {
+                return place.behind;
+            }
+        }
+        self.sets.keys_ahead(order, prefix, after)
     }
 }
 
@@ -51,7 +102,15 @@ impl<'a> Orders for Walk<'a> {
     ghost count = { λ w. w.count };
 
     fn next_in(&mut self, order: Order, prefix: &[u64], after: Option<&Key>) -> Option<Key> {
-        let key = self.sets.next_in(order, prefix, after)?;
+        if prefix.len() > 4 {
+            return None;
+        }
+        let mut behind = self.keys_ahead(order, prefix, after);
+        let key = *behind.next()?;
+        if !key.starts_with(prefix) {
+            return None;
+        }
+        self.place = Some(Place { order, key, behind });
         self.count = self.count.saturating_add(1);
         Some(key)
     }
