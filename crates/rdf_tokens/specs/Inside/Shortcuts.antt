@@ -17,3 +17,6 @@ ends_name c = (c == 58) || ends_local c
 -- `;` `,` `[` `]` `(` `)` `{` `}`: a symbol, whatever follows
 abbrev pub stands_alone : ℕ → Bool
 stands_alone c = (c == 59) || (c == 44) || (c == 91) || (c == 93) || (c == 40) || (c == 41) || (c == 123) || (c == 125)
+
+abbrev pub is_colon : ℕ → Bool
+is_colon c = c == 58
