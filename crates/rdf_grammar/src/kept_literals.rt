@@ -29,12 +29,12 @@ impl KeptLiterals {
         Ok(KeptLiterals { places })
     }
 
-    // The literal with this lexical form and datatype that is kept.
-    fn kept(&self, lexical: &str, datatype: &Iri) -> Result<Option<Literal>, NoMemory>
+    // The literal with this lexical form and datatype that is kept at a place.
+    fn kept(&self, place: usize, lexical: &str, datatype: &Iri) -> Result<Option<Literal>, NoMemory>
         ensures { IfOk result (λ kept. IfSome kept
             (λ literal. literal ≡ spec.untagged lexical.now datatype.now)) }
     {
-        let Some(Some(literal)) = self.places.get(place_of(lexical)) else {
+        let Some(Some(literal)) = self.places.get(place) else {
             return Ok(None);
         };
         if literal.tag().is_none()
@@ -46,16 +46,16 @@ impl KeptLiterals {
         Ok(None)
     }
 
-    // Keeps a literal.
-    fn keep(&mut self, literal: &Literal) -> Result<(), NoMemory> {
+    // Keeps a literal at a place.
+    fn keep(&mut self, place: usize, literal: &Literal) -> Result<(), NoMemory> {
         let copy = literal.copy()?;
-        if let Some(place) = self.places.get_mut(place_of(literal.lexical())) {
-            *place = Some(copy);
+        if let Some(kept) = self.places.get_mut(place) {
+            *kept = Some(copy);
         }
         Ok(())
     }
 
-    /// The literal with this lexical form and datatype, and no tag.
+    /// The literal with this lexical form, which it takes over, and datatype, and no tag.
     ///
     /// # Errors
     /// [`NoMemory`] where memory is wanting.
@@ -67,16 +67,37 @@ impl KeptLiterals {
     ) -> Result<Literal, NoMemory>
         ensures { IfOk result (λ literal. literal ≡ spec.untagged lexical datatype.now) }
     {
-        let is_short = lexical.as_str().len() <= LONGEST;
-        if is_short {
-            if let Some(literal) = self.kept(lexical.as_str(), datatype)? {
-                return Ok(literal);
-            }
+        if lexical.as_str().len() > LONGEST {
+            return Literal::from_text(alloc, lexical, datatype.copy()?);
+        }
+        let place = place_of(lexical.as_str());
+        if let Some(literal) = self.kept(place, lexical.as_str(), datatype)? {
+            return Ok(literal);
         }
         let literal = Literal::from_text(alloc, lexical, datatype.copy()?)?;
-        if is_short {
-            self.keep(&literal)?;
+        self.keep(place, &literal)?;
+        Ok(literal)
+    }
+
+    /// The literal with this word as its lexical form, this datatype, and no tag. No text is made of a word
+    /// that is kept.
+    ///
+    /// # Errors
+    /// [`NoMemory`] where memory is wanting.
+    pub(crate) fn word(
+        &mut self,
+        alloc: Global,
+        word: &str,
+        datatype: &Iri,
+    ) -> Result<Literal, NoMemory>
+        ensures { IfOk result (λ literal. literal ≡ spec.untagged word.now datatype.now) }
+    {
+        let place = place_of(word);
+        if let Some(literal) = self.kept(place, word, datatype)? {
+            return Ok(literal);
         }
+        let literal = Literal::new(alloc, word, datatype.copy()?)?;
+        self.keep(place, &literal)?;
         Ok(literal)
     }
 }

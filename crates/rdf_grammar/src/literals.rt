@@ -12,14 +12,10 @@ use rdf_terms::{Iri, Literal, NoMemory, Text, Vocabulary};
 use rdf_tokens::{Slice, text_value};
 use std::alloc::Global;
 
-fn boolean_text(alloc: Global, value: bool) -> Result<Text, NoMemory>
-    ensures { IfOk result (λ text. text ≡ spec.boolean_text value) }
+fn boolean_text(value: bool) -> &'static str
+    ensures { result.now ≡ spec.boolean_text value }
 {
-    if value {
-        Text::new(alloc, "true")
-    } else {
-        Text::new(alloc, "false")
-    }
+    if value { "true" } else { "false" }
 }
 
 // The text as it is written.
@@ -62,8 +58,7 @@ fn boolean(
     ensures { let text = spec.boolean_text value in
         IfOk result (λ literal. literal ≡ spec.untagged text datatype.now) }
 {
-    let text = boolean_text(alloc, value)?;
-    kept.literal(alloc, text, datatype)
+    kept.word(alloc, boolean_text(value), datatype)
 }
 
 impl<'a> Prologue<'a> {

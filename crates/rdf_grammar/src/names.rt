@@ -43,13 +43,22 @@ fn pname(alloc: Global, front: &Iri, local: &Slice<'_>) -> Result<Iri, NoMemory>
 /// How many names are kept at once.
 const PLACES: usize = 256;
 
-/// The place at which a name with this local part is kept.
-pub(crate) fn place_of(local: &str) -> usize {
-    let mut mixed = 0usize;
-    for byte in local.as_bytes() {
+/// How many bytes of a text its place depends on at most, beside its length and its first: the last.
+const MIXED: usize = 8;
+
+/// The place below 256 at which what is written so is kept: a local part, a tag or a lexical form. Those
+/// that begin with a digit, of which many stand once only, have places of their own.
+pub(crate) fn place_of(written: &str) -> usize {
+    let bytes = written.as_bytes();
+    let mut mixed = bytes.len();
+    for byte in &bytes[bytes.len().saturating_sub(MIXED)..] {
         mixed = mixed.wrapping_mul(31).wrapping_add(*byte as usize);
     }
-    mixed % PLACES
+    let half = mixed % (PLACES / 2);
+    match bytes.first() {
+        Some(b'0'..=b'9') => half + PLACES / 2,
+        _ => half,
+    }
 }
 
 // A name: what its prefix stands for, its local part, and the IRI that it stands for.
@@ -78,12 +87,12 @@ impl<'a> Names<'a> {
         Ok(Names { places })
     }
 
-    // The IRI of a name that is kept.
-    fn kept(&self, front: &Iri, local: &Slice<'a>) -> Result<Option<Iri>, NoMemory>
+    // The IRI of a name that is kept at a place.
+    fn kept(&self, place: usize, front: &Iri, local: &Slice<'a>) -> Result<Option<Iri>, NoMemory>
         ensures { IfOk result (λ kept. IfSome kept
             (λ iri. iri ≡ front.now ++ values.local_value local.now)) }
     {
-        match self.places.get(place_of(local.as_str())) {
+        match self.places.get(place) {
             Some(Some(name)) => {
                 if name.local.as_str() == local.as_str() && name.front == *front {
                     Ok(Some(name.iri.copy()?))
@@ -95,8 +104,14 @@ impl<'a> Names<'a> {
         }
     }
 
-    // Keeps a name with its IRI.
-    fn keep(&mut self, front: &Iri, local: &Slice<'a>, iri: &Iri) -> Result<(), NoMemory>
+    // Keeps a name with its IRI at a place.
+    fn keep(
+        &mut self,
+        place: usize,
+        front: &Iri,
+        local: &Slice<'a>,
+        iri: &Iri,
+    ) -> Result<(), NoMemory>
         requires { iri.now ≡ front.now ++ values.local_value local.now }
     {
         let front = front.copy()?;
@@ -106,8 +121,8 @@ impl<'a> Names<'a> {
             local: local.fork(),
             iri,
         };
-        if let Some(place) = self.places.get_mut(place_of(local.as_str())) {
-            *place = Some(name);
+        if let Some(kept) = self.places.get_mut(place) {
+            *kept = Some(name);
         }
         Ok(())
     }
@@ -126,11 +141,12 @@ impl<'a> Names<'a> {
         requires { has_forbidden (values.local_value local.now) ≡ false }
         ensures { IfOk result (λ iri. iri ≡ front.now ++ values.local_value local.now) }
     {
-        if let Some(iri) = self.kept(front, local)? {
+        let place = place_of(local.as_str());
+        if let Some(iri) = self.kept(place, front, local)? {
             return Ok(iri);
         }
         let iri = pname(alloc, front, local)?;
-        self.keep(front, local, &iri)?;
+        self.keep(place, front, local, &iri)?;
         Ok(iri)
     }
 }

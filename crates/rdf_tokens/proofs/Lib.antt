@@ -13,6 +13,7 @@ mod TokenNameless
 mod TokenNames
 mod TokenNumbers
 mod TokenRuns
+mod TokenStops
 mod TokenSymbols
 mod TokenTags
 mod TokenTextLemmas

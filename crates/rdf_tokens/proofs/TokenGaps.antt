@@ -1,8 +1,15 @@
 -- What is skipped between tokens is a gap, and every gap is skipped.
-use Rattle.std.proofs.Common.{◌≡◌, ◌≢◌, ◌⊎◌, ℕ, Bool, true, false, eqb, List, [], ◌∷◌, ◌++◌, refl, sym, ap, subst, ◌∙◌, inl, inr, append_assoc}
+use Rattle.std.proofs.Common.{◌≡◌, ◌≢◌, ◌⊎◌, ◌<◌, ℕ, Bool, true, false, eqb, List, [], ◌∷◌, ◌++◌, length, Some, None, refl, sym, ap, subst, ◌∙◌, inl, inr, append_assoc, arith}
 use Rattle.std.specs.List.{AllByRecursion}
 use Rattle.std.proofs.lemmas.List.{append-nil}
-use Rattle.std.proofs.lemmas.Bool.{cases_Bool, eqb-true, eqb-false, ne_eqb, true≢false}
+use Rattle.std.proofs.lemmas.Bool.{cases_Bool, eqb-true, eqb-false, ne_eqb, true≢false, or_cases}
+use Rattle.std.specs.Prelude.{not}
+use Rattle.rdf_terms.specs.Reading.{expect}
+use Rattle.rdf_terms.specs.Skips.{skip}
+use Rattle.rdf_terms.proofs.OptionLemmas.{none_is}
+use Rattle.rdf_terms.proofs.QuotedLemmas.{expect_sound, expect_complete}
+use Rattle.rdf_terms.proofs.SkipLemmas.{skip_step, skip_stop, skip_end, skip_no_longer}
+use Rattle.rdf_tokens.specs.Inside.Shortcuts.{in_line}
 use Rattle.rdf_tokens.specs.Characters.{is_white, is_line_end}
 use Rattle.rdf_tokens.specs.Tokens.{IsComment, IsBlank, Gap, HasGap, Ends}
 use Rattle.rdf_tokens.specs.Inside.TokenReading.{gap_step, skip_gap}
@@ -168,3 +175,63 @@ comment_skipped (c ∷ line) h =
 pub end_skipped : (text : List ℕ) → Ends text → skip_gap false text ≡ []
 end_skipped text (last, g, inl e) = over_gap g.0 text last g.1 ∙ ap (skip_gap false) e ∙ skip_nil false
 end_skipped text (last, g, inr c) = over_gap g.0 text last g.1 ∙ comment_skipped last c
+
+-- ---- white space at once, and a comment at once
+
+pub gap_over_white : (cs : List ℕ) → skip_gap false (skip is_white cs) ≡ skip_gap false cs
+gap_over_white [] = ap (skip_gap false) (skip_end is_white)
+gap_over_white (c ∷ cs) =
+    elim (cases_Bool (is_white c)) [
+      | inl white ↦ ap (skip_gap false) (skip_step is_white c cs white) ∙ gap_over_white cs ∙ sym (step_white c cs white)
+      | inr solid ↦ ap (skip_gap false) (skip_stop is_white c cs solid)
+    ]
+
+line_end_white : (c : ℕ) → is_line_end c ≡ true → is_white c ≡ true
+line_end_white c h =
+    elim (or_cases (eqb c 13) (eqb c 10) h) [
+      | inl return ↦ ap is_white (eqb-true c 13 return)
+      | inr feed ↦ ap is_white (eqb-true c 10 feed)
+    ]
+
+over_comment_line : (cs : List ℕ) → skip_gap false (skip is_white (skip in_line cs)) ≡ skip_gap true cs
+over_comment_line [] = ap (λ (t : List ℕ). skip_gap false (skip is_white t)) (skip_end in_line) ∙ ap (skip_gap false) (skip_end is_white) ∙ skip_nil false ∙ sym (skip_nil true)
+over_comment_line (c ∷ cs) =
+    elim (cases_Bool (is_line_end c)) [
+      | inl end ↦
+          ap (λ (t : List ℕ). skip_gap false (skip is_white t)) (skip_stop in_line c cs (ap not end))
+          ∙ gap_over_white (c ∷ cs) ∙ step_white c cs (line_end_white c end) ∙ sym (step_line_end c cs end)
+      | inr on ↦
+          ap (λ (t : List ℕ). skip_gap false (skip is_white t)) (skip_step in_line c cs (ap not on))
+          ∙ over_comment_line cs ∙ sym (step_comment c cs on)
+    ]
+
+pub skip_again : (p : ℕ → Bool) (cs : List ℕ) → skip p (skip p cs) ≡ skip p cs
+skip_again p [] = ap (skip p) (skip_end p)
+skip_again p (c ∷ cs) =
+    elim (cases_Bool (p c)) [
+      | inl on ↦ ap (skip p) (skip_step p c cs on) ∙ skip_again p cs ∙ sym (skip_step p c cs on)
+      | inr off ↦ ap (skip p) (skip_stop p c cs off)
+    ]
+
+-- behind a `#`, the line and the white space
+pub gap_over_comment : (rest comment line_end last : List ℕ) → expect 35 rest ≡ Some comment → line_end ≡ skip in_line comment → last ≡ skip is_white line_end
+    → skip_gap false last ≡ skip_gap false rest
+gap_over_comment rest comment line_end last e line white =
+    ap (skip_gap false) (white ∙ ap (skip is_white) line) ∙ over_comment_line comment ∙ sym (ap (skip_gap false) (expect_sound 35 rest comment e) ∙ step_mark comment)
+
+pub comment_shorter : (rest comment line_end last : List ℕ) → expect 35 rest ≡ Some comment → line_end ≡ skip in_line comment → last ≡ skip is_white line_end
+    → length last < length rest
+comment_shorter rest comment line_end last e line white =
+    omega (arith, ap length (expect_sound 35 rest comment e), ap length line, ap length white, skip_no_longer in_line comment, skip_no_longer is_white line_end)
+
+pub gap_done : (rest : List ℕ) → skip is_white rest ≡ rest → expect 35 rest ≡ None → rest ≡ skip_gap false rest
+gap_done [] h e = sym (skip_nil false)
+gap_done (c ∷ cs) h e =
+    elim (cases_Bool (is_white c)) [
+      | inl white ↦ absurd (omega (arith, ap length (sym h ∙ skip_step is_white c cs white), skip_no_longer is_white cs))
+      | inr solid ↦
+          elim (cases_Bool (eqb c 35)) [
+            | inl mark ↦ none_is cs (sym e ∙ ap (λ (x : ℕ). expect 35 (x ∷ cs)) (eqb-true c 35 mark) ∙ expect_complete 35 cs)
+            | inr other ↦ sym (step_stop c cs solid (eqb-false c 35 other))
+          ]
+    ]

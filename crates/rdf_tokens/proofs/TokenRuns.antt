@@ -1,6 +1,7 @@
 -- Words in names: letters, digits and `_` of ASCII are gone over at once.
-use Rattle.std.proofs.Common.{◌≡◌, ◌<◌, ℕ, Bool, true, false, eqb, ◌==◌, ◌||◌, List, [], ◌∷◌, length, Option, Some, refl, sym, ap, ◌∙◌, inl, inr, arith}
-use Rattle.std.proofs.lemmas.Bool.{cases_Bool, eqb-true, or_cases, or_left, or_right, true≢false}
+use Rattle.std.proofs.Common.{◌≡◌, ◌<◌, ◌≤◌, ℕ, Bool, true, false, eqb, ◌==◌, ◌||◌, List, [], ◌∷◌, length, Option, Some, refl, sym, ap, ◌∙◌, inl, inr, arith}
+use Rattle.std.proofs.lemmas.Bool.{cases_Bool, eqb-true, ne_eqb, lt-leb, or_cases, or_left, or_right, true≢false}
+use Rattle.std.proofs.Math.Dec.{leb}
 use Rattle.std.specs.Char.{is_ascii_alphanumeric}
 use Rattle.std.specs.Int.{is_in_range}
 use Rattle.rdf_terms.specs.Characters.{is_pn_chars_base, is_pn_chars, is_pn_chars_u}
@@ -50,6 +51,18 @@ word_no_dot c h =
       | inl is ↦ absurd (true≢false (sym h ∙ ap is_word_part (eqb-true c 46 is)))
       | inr not ↦ not
     ]
+
+above : (lo hi c : ℕ) → hi < c → is_in_range lo hi c ≡ false
+above lo hi c lt =
+    elim (cases_Bool (leb lo c)) [
+      | inl from ↦ rw (from, lt-leb c hi lt) refl
+      | inr before ↦ rw before refl
+    ]
+
+-- what is no ASCII is no part of a word
+pub high_no_word : (c : ℕ) → 128 ≤ c → is_word_part c ≡ false
+high_no_word c h =
+    rw (above 48 57 c (omega arith), above 65 90 c (omega arith), above 97 122 c (omega arith), ne_eqb c 95 (λ e. omega (arith, e))) refl
 
 -- ---- what they are units of
 

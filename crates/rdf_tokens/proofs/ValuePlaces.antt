@@ -1,15 +1,19 @@
 -- Characters at the front and at the end of a text, and its bytes.
-use Rattle.std.proofs.Common.{◌≡◌, ◌≢◌, ◌+◌, ◌<◌, ℕ, Bool, eqb, List, [], ◌∷◌, ◌++◌, length, drop, get_or, Option, Some, None, refl, sym, ap, subst, ◌∙◌, arith, length-append, append_assoc, MatchOption}
-use Rattle.std.proofs.lemmas.Bool.{eq-eqb, eqb-true}
-use Rattle.std.proofs.lemmas.List.{take_at, drop_at, get_or_at}
+use Rattle.std.proofs.Common.{◌≡◌, ◌≢◌, ◌+◌, ◌<◌, ℕ, suc, Bool, true, false, eqb, List, [], ◌∷◌, ◌++◌, length, take, drop, drop-cons, take-append-drop, append-nil, add-one, get_or, Option, Some, None, refl, sym, ap, subst, ◌∙◌, arith, length-append, append_assoc, MatchOption}
+use Rattle.std.proofs.lemmas.Bool.{eq-eqb, eqb-true, or_parts}
+use Rattle.std.proofs.lemmas.List.Folds.{drop_split}
+use Rattle.std.proofs.lemmas.List.Quantifiers.{position-Some}
+use Rattle.std.specs.List.{list_any, position, slice_range}
+use Rattle.std.proofs.lemmas.List.{take_at, drop_at, get_or_at, append_cancel_right, append_cancel_left}
 use Rattle.std.proofs.lemmas.Str.{chars_past_char, chars-append, encodes-chars, encodes-append, encodes_same, encode_ascii, IsUtf8-take, IsUtf8-drop, IsCharBoundary-before_ascii, IsCharBoundary-after_ascii}
-use Rattle.std.proofs.lemmas.Str.Pattern.{IsSplitOnceResult, split_parts}
 use Rattle.std.specs.Prelude.{option_map, ◌==◌}
-use Rattle.std.specs.Str.{chars, encode_utf8_all, IsUtf8, NonePass, NoCharPasses}
+use Rattle.std.specs.Str.{chars, encode_utf8_all, IsUtf8, IsCharBoundary, NonePass, NoCharPasses}
 use denote.Ref.{Bor}
 use Rattle.rdf_terms.specs.Cuts.{before, after}
 use Rattle.rdf_terms.specs.Reading.{expect}
 use Rattle.rdf_terms.proofs.OptionLemmas.{some_is, none_is, guard_some}
+use Rattle.rdf_terms.proofs.PastLemmas.{may_stop, past_some, past_none}
+use Rattle.rdf_tokens.specs.Inside.Shortcuts.{is_colon}
 use Rattle.rdf_terms.proofs.QuotedLemmas.{expect_sound, expect_complete}
 use Rattle.rdf_tokens.specs.Values.{before_end, enclosed, tag_value, prefix_part, local_part}
 
@@ -158,31 +162,65 @@ after_none (x ∷ xs) none = rw none.0 (after_none xs none.1)
 pub none_pass : (test : ℕ → Bool) (bs : List ℕ) → IsUtf8 bs → NoCharPasses test bs → NonePass test (chars bs)
 none_pass test bs u h = subst (NonePass test) (encodes_same h.0 (chars bs) (h.1 ∙ sym (encodes-chars bs u))) h.2
 
-split_chars : (bs : List ℕ) (p q : Bor (List ℕ)) → IsUtf8 bs → IsSplitOnceResult 58 bs (Some (p, q))
-    → (chars bs ≡ chars p.now ++ 58 ∷ chars q.now) × Colonless (chars p.now)
-split_chars bs p q u h =
-    let parts : bs ≡ p.now ++ (58 ∷ q.now) = (split_parts 58 bs (Some (p, q)) h (omega arith)).0 in
-    let whole : IsUtf8 (p.now ++ 58 ∷ q.now) = subst IsUtf8 parts u in (
-      ap chars parts ∙ chars_around p.now q.now 58 (omega arith) whole,
-      none_pass (λ d. d == 58) p.now (front_utf8 p.now q.now 58 (omega arith) whole) (subst (NoCharPasses (λ d. d == 58)) (sym h.3) h.2.0),
-    )
+-- ---- the first colon by its place among the bytes
 
-pub prefix_is : (bs slice : List ℕ) (p q : Bor (List ℕ)) → IsUtf8 bs → chars bs ≡ slice → IsSplitOnceResult 58 bs (Some (p, q)) → chars p.now ≡ prefix_part slice
+colon_low : (b : ℕ) → is_colon b ≡ true → b < 128
+colon_low b e = omega (arith, eqb-true b 58 e)
+
+colonless : (cs : List ℕ) → list_any is_colon cs ≡ false → Colonless cs
+colonless [] h = tt
+colonless (c ∷ cs) h = let p = or_parts (is_colon c) (list_any is_colon cs) h in (p.0, colonless cs p.1)
+
+pub cut_there : (bs : List ℕ) (n : ℕ) → position is_colon bs ≡ Some n → (n < length bs) × (get_or bs n 0 ≡ 58)
+cut_there bs n e = let p = position-Some is_colon bs n 0 e in (p.0, eqb-true (get_or bs n 0) 58 p.1)
+
+pub front_range : (bs : List ℕ) (n : ℕ) → slice_range bs 0 n ≡ take n bs
+front_range bs n = append_cancel_right (slice_range bs 0 n) (take n bs) (drop n bs) (sym (drop_split bs 0 n (omega arith)) ∙ sym (take-append-drop n bs))
+
+pub colon_boundary : (bs : List ℕ) (n : ℕ) → position is_colon bs ≡ Some n → IsCharBoundary bs n
+colon_boundary bs n e = may_stop is_colon colon_low bs n e
+
+pub behind_boundary : (bs : List ℕ) (n : ℕ) → IsUtf8 bs → position is_colon bs ≡ Some n → IsCharBoundary bs (n + 1)
+behind_boundary bs n u e = let p = cut_there bs n e in IsCharBoundary-after_ascii bs n u p.0 (omega (arith, p.1))
+
+split_chars : (bs : List ℕ) (n : ℕ) → IsUtf8 bs → position is_colon bs ≡ Some n
+    → (chars bs ≡ chars (take n bs) ++ 58 ∷ chars (drop (n + 1) bs)) × Colonless (chars (take n bs))
+split_chars bs n u e =
+    let p = cut_there bs n e in
+    let whole : bs ≡ take n bs ++ 58 ∷ drop (n + 1) bs =
+    rw add-one (sym (take-append-drop n bs) ∙ ap (λ (t : List ℕ). take n bs ++ t) (drop-cons bs n 0 p.0 ∙ ap (λ (x : ℕ). x ∷ drop (suc n) bs) p.1)) in
+    let parts : chars bs ≡ chars (take n bs) ++ 58 ∷ chars (drop (n + 1) bs) =
+    ap chars whole ∙ chars_around (take n bs) (drop (n + 1) bs) 58 (omega arith) (subst IsUtf8 whole u) in
+    let past = past_some is_colon colon_low bs (chars bs) n u refl e in
+    let behind : chars (drop n bs) ≡ 58 ∷ chars (drop (n + 1) bs) =
+    append_cancel_left (chars (take n bs)) (chars (drop n bs)) (58 ∷ chars (drop (n + 1) bs))
+    (sym (chars-append (take n bs) (drop n bs) (IsUtf8-take bs n u (colon_boundary bs n e))) ∙ ap chars (take-append-drop n bs) ∙ parts) in
+    let same : past.0 ≡ chars (take n bs) =
+    append_cancel_right past.0 (chars (take n bs)) (58 ∷ chars (drop (n + 1) bs)) (ap (λ (t : List ℕ). past.0 ++ t) (sym behind) ∙ sym past.1 ∙ parts) in
+    (parts, subst Colonless same (colonless past.0 past.2))
+
+pub prefix_is : (bs slice : List ℕ) (n : ℕ) → IsUtf8 bs → chars bs ≡ slice → position is_colon bs ≡ Some n → chars (take n bs) ≡ prefix_part slice
 unfolding prefix_part
-prefix_is bs slice p q u e h =
-    let s = split_chars bs p q u h in
-    sym (ap (before 58) (sym e ∙ s.0) ∙ before_colon (chars p.now) (chars q.now) s.1)
+prefix_is bs slice n u e h =
+    let s = split_chars bs n u h in
+    sym (ap (before 58) (sym e ∙ s.0) ∙ before_colon (chars (take n bs)) (chars (drop (n + 1) bs)) s.1)
 
-pub local_is : (bs slice : List ℕ) (p q : Bor (List ℕ)) → IsUtf8 bs → chars bs ≡ slice → IsSplitOnceResult 58 bs (Some (p, q)) → chars q.now ≡ local_part slice
+pub local_is : (bs slice : List ℕ) (n : ℕ) → IsUtf8 bs → chars bs ≡ slice → position is_colon bs ≡ Some n → chars (drop (n + 1) bs) ≡ local_part slice
 unfolding local_part
-local_is bs slice p q u e h =
-    let s = split_chars bs p q u h in
-    rw (sym e ∙ s.0, after_colon (chars p.now) (chars q.now) s.1) refl
+local_is bs slice n u e h =
+    let s = split_chars bs n u h in
+    rw (sym e ∙ s.0, after_colon (chars (take n bs)) (chars (drop (n + 1) bs)) s.1) refl
 
-pub prefix_whole : (bs slice : List ℕ) → IsUtf8 bs → chars bs ≡ slice → IsSplitOnceResult 58 bs None → slice ≡ prefix_part slice
+no_colon : (bs : List ℕ) → IsUtf8 bs → position is_colon bs ≡ None → Colonless (chars bs)
+no_colon bs u h =
+    let past = past_none is_colon colon_low bs (chars bs) u refl h in
+    let same : past.0 ≡ chars bs = sym (past.1 ∙ ap (λ (t : List ℕ). past.0 ++ t) chars_nil ∙ append-nil past.0) in
+    subst Colonless same (colonless past.0 past.2)
+
+pub prefix_whole : (bs slice : List ℕ) → IsUtf8 bs → chars bs ≡ slice → position is_colon bs ≡ None → slice ≡ prefix_part slice
 unfolding prefix_part
-prefix_whole bs slice u e h = sym (before_none slice (subst Colonless e (none_pass (λ d. d == 58) bs u h)))
+prefix_whole bs slice u e h = sym (before_none slice (subst Colonless e (no_colon bs u h)))
 
-pub no_local : (bs slice : List ℕ) → IsUtf8 bs → chars bs ≡ slice → IsSplitOnceResult 58 bs None → chars [] ≡ local_part slice
+pub no_local : (bs slice : List ℕ) → IsUtf8 bs → chars bs ≡ slice → position is_colon bs ≡ None → chars [] ≡ local_part slice
 unfolding local_part
-no_local bs slice u e h = rw (after_none slice (subst Colonless e (none_pass (λ d. d == 58) bs u h))) chars_nil
+no_local bs slice u e h = rw (after_none slice (subst Colonless e (no_colon bs u h))) chars_nil

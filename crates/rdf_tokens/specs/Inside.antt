@@ -1,5 +1,6 @@
 -- What only private functions speak of.
 pub mod Places
+pub mod Shortcuts
 pub mod TokenReading
 pub mod TokenValues
 pub mod WalkReading

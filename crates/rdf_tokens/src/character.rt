@@ -32,11 +32,21 @@ pub fn is_exponent_letter(c: char) -> bool
     matches!(c, 'e' | 'E')
 }
 
+// A `w` stands at the places of ASCII letters and digits and of `_`, and a `-` at every other.
+static WORD_MAP: [u8; 128] = *b"\
+    --------------------------------\
+    ----------------wwwwwwwwww------\
+    -wwwwwwwwwwwwwwwwwwwwwwwwww----w\
+    -wwwwwwwwwwwwwwwwwwwwwwwwww-----";
+
 /// What may follow in a bare word: an ASCII letter or digit, or `_`.
 pub fn is_word_part(c: char) -> bool
     ensures { result ≡ spec.is_word_part c }
 {
-    c.is_ascii_alphanumeric() || c == '_'
+    if !c.is_ascii() {
+        return false;
+    }
+    WORD_MAP[c as usize] == b'w'
 }
 
 /// PN_CHARS_U or a digit: what a label, a local part and a variable's name may begin with (Turtle 1.1, section 6.5).

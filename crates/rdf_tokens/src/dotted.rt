@@ -2,6 +2,7 @@
 ghost use Rattle.std.specs.Prelude.{◌≡◌};
 ghost use Rattle.rdf_terms.specs.Skips.{skip};
 ghost use Rattle.rdf_tokens.specs.Characters.{is_word_part};
+ghost use Rattle.rdf_tokens.specs.Inside.Shortcuts.{ends_local, ends_name};
 ghost use Rattle.rdf_tokens.specs.Inside.TokenReading.{skip_dots, dotted_at, name_part_at, local_escape_at, plx_at, local_part_at, local_first_at, local_at, prefix_at, pname_at, NoPnameBefore, label_at, blank_at};
 
 use crate::character::{is_local_escape, is_name_start, is_word_part};
@@ -93,26 +94,62 @@ fn skip_word<'a>(cursor: &Cursor<'a>) -> Cursor<'a>
     cursor.skip(is_word_part)
 }
 
+/// Whether no local part goes on with a character: one of those that stand behind most names.
+fn ends_local(c: char) -> bool
+    ensures { result ≡ ends_local c }
+{
+    matches!(c, ' ' | '\n' | ',' | ';')
+}
+
+/// Whether no prefix and no label goes on with a character.
+fn ends_name(c: char) -> bool
+    ensures { result ≡ ends_name c }
+{
+    c == ':' || ends_local(c)
+}
+
 /// The place behind PN_CHARS and dots, the last no dot.
-fn name_rest<'a>(cursor: &Cursor<'a>) -> Cursor<'a>
+fn name_units<'a>(cursor: &Cursor<'a>) -> Cursor<'a>
     ensures { result ≡ dotted_at name_part_at cursor.now }
 {
-    let mut rest = skip_word(cursor);
+    let mut rest = cursor.fork();
     while let Some(behind) = name_part(&skip_dots(&rest)) {
         rest = skip_word(&behind);
     }
     rest
 }
 
+/// The same, where most often a word is all.
+fn name_rest<'a>(cursor: &Cursor<'a>) -> Cursor<'a>
+    ensures { result ≡ dotted_at name_part_at cursor.now }
+{
+    let word_end = skip_word(cursor);
+    match word_end.peek() {
+        Some(c) if ends_name(c) => word_end,
+        _ => name_units(&word_end),
+    }
+}
+
 /// The place behind the units of a local part and dots, the last no dot.
-fn local_rest<'a>(cursor: &Cursor<'a>) -> Cursor<'a>
+fn local_units<'a>(cursor: &Cursor<'a>) -> Cursor<'a>
     ensures { result ≡ dotted_at local_part_at cursor.now }
 {
-    let mut rest = skip_word(cursor);
+    let mut rest = cursor.fork();
     while let Some(behind) = local_part(&skip_dots(&rest)) {
         rest = skip_word(&behind);
     }
     rest
+}
+
+/// The same, where most often a word is all.
+fn local_rest<'a>(cursor: &Cursor<'a>) -> Cursor<'a>
+    ensures { result ≡ dotted_at local_part_at cursor.now }
+{
+    let word_end = skip_word(cursor);
+    match word_end.peek() {
+        Some(c) if ends_local(c) => word_end,
+        _ => local_units(&word_end),
+    }
 }
 
 /// The place behind a local part, which may be empty.

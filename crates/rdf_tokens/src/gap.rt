@@ -1,39 +1,40 @@
 //! White space and comments between tokens.
 ghost use Rattle.std.specs.Prelude.{◌≡◌, false};
-ghost use Rattle.rdf_tokens.specs.Inside.TokenReading.{skip_gap, gap_step};
+ghost use Rattle.rdf_terms.specs.Skips.{skip};
+ghost use Rattle.rdf_tokens.specs.Characters.{is_white};
+ghost use Rattle.rdf_tokens.specs.Inside.Shortcuts.{in_line};
+ghost use Rattle.rdf_tokens.specs.Inside.TokenReading.{skip_gap};
 
 use crate::character::{is_line_end, is_white};
 use rdf_terms::Cursor;
 
-/// Whether a gap goes on at a character, and then, whether it is within a comment.
-#[tactic(auto, unfolding(crate::specs::Inside::TokenReading::gap_step))]
-fn gap_step(in_comment: bool, c: char) -> Option<bool>
-    ensures { result ≡ gap_step in_comment c }
+/// Whether a comment goes on with a character.
+fn in_line(c: char) -> bool
+    ensures { result ≡ in_line c }
 {
-    if in_comment {
-        Some(!is_line_end(c))
-    } else if c == '#' {
-        Some(true)
-    } else if is_white(c) {
-        Some(false)
-    } else {
-        None
-    }
+    !is_line_end(c)
+}
+
+fn skip_white<'a>(cursor: &Cursor<'a>) -> Cursor<'a>
+    ensures { result ≡ skip is_white cursor.now }
+{
+    cursor.skip(is_white)
+}
+
+fn skip_line<'a>(cursor: &Cursor<'a>) -> Cursor<'a>
+    ensures { result ≡ skip in_line cursor.now }
+{
+    cursor.skip(in_line)
 }
 
 /// The place behind white space and comments (Turtle 1.1, sections 6.1 and 6.2).
-#[tactic(auto, unfolding(crate::specs::Inside::TokenReading::skip_gap))]
 pub fn skip_gap<'a>(cursor: &Cursor<'a>) -> Cursor<'a>
     ensures { result ≡ skip_gap false cursor.now }
 {
-    let mut rest = cursor.fork();
-    let mut in_comment = false;
-    while let Some(c) = rest.peek() {
-        let Some(next) = gap_step(in_comment, c) else {
-            return rest;
-        };
-        in_comment = next;
-        rest.bump();
+    let mut rest = skip_white(cursor);
+    while let Some(comment) = rest.expect('#') {
+        let line_end = skip_line(&comment);
+        rest = skip_white(&line_end);
     }
     rest
 }

@@ -1,8 +1,16 @@
 //! Symbols.
 ghost use Rattle.std.specs.Prelude.{◌≡◌};
+ghost use Rattle.rdf_tokens.specs.Inside.Shortcuts.{stands_alone};
 ghost use Rattle.rdf_tokens.specs.Inside.TokenReading.{symbol_at};
 
 use rdf_terms::Cursor;
+
+/// Whether a character is a symbol, whatever follows.
+pub fn stands_alone(c: char) -> bool
+    ensures { result ≡ stands_alone c }
+{
+    matches!(c, ';' | ',' | '[' | ']' | '(' | ')' | '{' | '}')
+}
 
 /// The place behind the longest symbol that begins here.
 #[tactic(auto, unfolding(crate::specs::Inside::TokenReading::symbol_at))]

@@ -12,7 +12,7 @@ use crate::gap::skip_gap;
 use crate::name::{variable, word};
 use crate::number::number;
 use crate::quoted::text;
-use crate::symbol::symbol;
+use crate::symbol::{stands_alone, symbol};
 use crate::token::{Kind, Token};
 use rdf_terms::{Cursor, is_pn_chars_base};
 use std::alloc::Global;
@@ -68,6 +68,9 @@ pub(crate) fn token<'a>(cursor: &Cursor<'a>, nameless: &mut usize) -> Option<(Ki
 {
     let mut behind = cursor.fork();
     let c = behind.bump()?;
+    if stands_alone(c) {
+        return Some((Kind::Symbol, behind));
+    }
     if c == '<' {
         return iri_or_symbol(cursor);
     }

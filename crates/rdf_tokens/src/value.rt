@@ -1,8 +1,9 @@
 //! What slices of a text stand for (Turtle 1.1, sections 6.3 to 6.5).
-ghost use Rattle.std.specs.Prelude.{◌≡◌, ◌<◌, None, Some, false, string_bytes, IfOk, IfSome, MatchOption};
+ghost use Rattle.std.specs.Prelude.{◌≡◌, ◌<◌, None, Some, false, length, position, string_bytes, IfOk, IfSome, MatchOption};
 ghost use Rattle.std.specs.Str.{chars, encode_utf8_all};
 ghost use Rattle.std.specs.List.{list_any};
 ghost use Rattle.rdf_terms.specs.Iri.{is_forbidden, has_forbidden};
+ghost use Rattle.rdf_tokens.specs.Inside.Shortcuts.{is_colon};
 ghost use Rattle.rdf_tokens.specs.Inside.TokenValues.{value_by};
 ghost use Rattle.rdf_tokens.specs.TokenTexts.{TokenSays, SaysText, OneTokenText};
 ghost use Rattle.rdf_tokens.specs.Tokens.{HasItsForm};
@@ -131,6 +132,14 @@ pub fn text_value(alloc: Global, slice: &Slice<'_>) -> Result<Text, NoMemory>
     }
 }
 
+// Where the first colon stands.
+fn first_colon(text: &[u8]) -> Option<usize>
+    ensures first { result ≡ position is_colon text.now }
+    ensures within { IfSome result (λ n. n < length text.now) }
+{
+    text.iter().position(|b| *b == b':')
+}
+
 /// The prefix of a prefixed name and its local part: what stands before its first colon, and what stands
 /// behind it.
 pub fn name_parts<'a>(slice: &Slice<'a>) -> (Slice<'a>, Slice<'a>)
@@ -138,11 +147,11 @@ pub fn name_parts<'a>(slice: &Slice<'a>) -> (Slice<'a>, Slice<'a>)
     ensures local { result.1 ≡ spec.local_part slice.now }
 {
     let text = slice.as_str();
-    match text.split_once(':') {
-        Some((prefix, local)) => {
-            let start = slice.start().saturating_add(prefix.len());
-            let front = Slice::new(prefix, slice.start());
-            let back = Slice::new(local, start.saturating_add(1));
+    match first_colon(text.as_bytes()) {
+        Some(colon) => {
+            let behind = colon + 1;
+            let front = Slice::new(&text[..colon], slice.start());
+            let back = Slice::new(&text[behind..], slice.start().saturating_add(behind));
             (front, back)
         }
         None => {

@@ -1,19 +1,25 @@
 -- What the prologue tells is a step of the reading.
-use Rattle.std.proofs.Common.{◌≡◌, ◌∙◌, ap, sym, ℕ, true, List, Option, Some, None, Result, Ok, Err, IfOk, true≢false}
-use Rattle.std.specs.Prelude.{IfErr}
+use Rattle.std.proofs.Common.{◌≡◌, ◌∙◌, ap, refl, sym, ℕ, Bool, true, false, cond, ◌||◌, List, [], ◌∷◌, ◌++◌, map, Option, Some, None, Result, Ok, Err, IfOk, true≢false, inl, inr}
+use Rattle.std.specs.Prelude.{IfErr, OnOk}
+use Rattle.std.proofs.lemmas.Bool.{cases_Bool}
+use Rattle.std.specs.List.{list_any}
+use Rattle.std.specs.Map.{lookup}
 use Rattle.std.specs.Option.{option_map}
 use Rattle.rdf_grammar.specs.declared.prologue.PrologueFault.{PrologueFault}
 use Rattle.rdf_grammar.specs.declared.prologue.PrologueFault.TheVariants.{UnknownPrefix, Relative, NoMemory}
 use Rattle.rdf_grammar.specs.declared.tree.Name.{Name}
-use Rattle.rdf_grammar.specs.declared.tree.Name.TheVariants.{Full}
-use Rattle.rdf_grammar.specs.Kept.{Gives}
+use Rattle.rdf_grammar.specs.declared.tree.Name.TheVariants.{Full, Prefixed}
+use Rattle.rdf_turtle.specs.Inside.Told.{Gives}
 use Rattle.rdf_turtle.specs.Meaning.{iri, literal}
-use Rattle.rdf_grammar.specs.Prologue.{Prologue, declared, knows, iri_of, resolved}
+use Rattle.rdf_grammar.specs.Prologue.{Prologue, declared, knows, iri_of, resolved, prefixed}
+use Rattle.rdf_grammar.specs.Keys.{key_of, same_key}
+use Rattle.rdf_tokens.specs.Values.{local_value, text_value}
 use Rattle.rdf_grammar.specs.PrologueFaults.{Explains}
 use Rattle.rdf_turtle.specs.State.{State, told}
-use Rattle.rdf_grammar.proofs.LiteralLemmas.{reference_lacking, name_lacking, literal_lacking, literal_known}
+use Rattle.rdf_grammar.proofs.LiteralLemmas.{reference_lacking, name_lacking, literal_lacking}
 use Rattle.rdf_grammar.specs.declared.tree.Literal.{Literal}
-use Rattle.rdf_grammar.specs.Literals.{ExplainsLiteral, known_literal, literal_of}
+use Rattle.rdf_grammar.specs.declared.tree.Literal.TheVariants as l
+use Rattle.rdf_grammar.specs.Literals.{ExplainsLiteral, known_literal, literal_of, untagged}
 use Rattle.rdf_terms.specs.Literal.{LiteralParts}
 
 told_is : {A : Type 0} (f : Prologue → Option A) (s u : State) (a : A) → f s.prologue ≡ Some a → u ≡ s → told f s ≡ Some (a, u)
@@ -26,21 +32,71 @@ pub reference_gives : (reference : List ℕ) (s u : State) (r : Result (List ℕ
     → Gives (told (resolved reference) s) r u
 reference_gives reference s u (Ok i) value fault same = told_is (resolved reference) s u i value same
 reference_gives reference s u (Err (NoMemory e)) value fault same = tt
-reference_gives reference s u (Err (UnknownPrefix place)) value fault same = true≢false fault
+reference_gives reference s u (Err (UnknownPrefix place)) value fault same = absurd (true≢false fault)
 reference_gives reference s u (Err (Relative place)) value fault same = not_told (resolved reference) s (reference_lacking reference s.prologue place fault)
 
-pub iri_gives : (name : Name) (s u : State) (r : Result (List ℕ) PrologueFault) → knows (declared s.prologue) name ≡ true → IfOk r (λ i. iri_of name s.prologue ≡ Some i) → IfErr r (λ e. Explains s.prologue name e) → u ≡ s
+-- ---- names whose prefix isn't declared
+
+unlisted : (test : List ℕ → Bool) (es : List (List ℕ × List ℕ)) → list_any test (map (λ e. e.0) es) ≡ false → lookup test es ≡ None
+unlisted test [] h = refl
+unlisted test (x ∷ es) h = by (test x.0) h (unlisted test es)
+  where
+    by : (t : Bool) → (t || list_any test (map (λ e. e.0) es)) ≡ false → (list_any test (map (λ e. e.0) es) ≡ false → lookup test es ≡ None)
+        → cond t (Some x.1) (lookup test es) ≡ None
+    by true e rest = absurd (cc)
+    by false e rest = rest e
+
+name_unknown : (name : Name) (p : Prologue) → knows (declared p) name ≡ false → iri_of name p ≡ None
+unfolding prefixed
+name_unknown (Full reference) p h = absurd (true≢false h)
+name_unknown (Prefixed prefix local) p h =
+    ap (λ (o : Option (List ℕ)). option_map {U = List ℕ} (λ iri. iri ++ local_value local) o) (unlisted (same_key (key_of prefix)) p.prefixes h)
+
+literal_unknown : (w : Literal) (p : Prologue) → known_literal (declared p) w ≡ false → literal_of w p ≡ None
+unfolding literal_of
+literal_unknown (l.Typed text name) p h = ap (λ (o : Option (List ℕ)). option_map {U = LiteralParts} (untagged (text_value text)) o) (name_unknown name p h)
+literal_unknown (l.Plain text) p h = absurd (true≢false h)
+literal_unknown (l.Tagged text tag) p h = absurd (true≢false h)
+literal_unknown (l.Integer text) p h = absurd (true≢false h)
+literal_unknown (l.Decimal text) p h = absurd (true≢false h)
+literal_unknown (l.Double text) p h = absurd (true≢false h)
+literal_unknown (l.Boolean value word) p h = absurd (true≢false h)
+
+explained_unknown : (w : Literal) (p : Prologue) (place : ℕ) → ExplainsLiteral p w (UnknownPrefix place) → known_literal (declared p) w ≡ false
+explained_unknown (l.Typed text name) p place h = h
+explained_unknown (l.Plain text) p place h = absurd h
+explained_unknown (l.Tagged text tag) p place h = absurd h
+explained_unknown (l.Integer text) p place h = absurd h
+explained_unknown (l.Decimal text) p place h = absurd h
+explained_unknown (l.Double text) p place h = absurd h
+explained_unknown (l.Boolean value word) p place h = absurd h
+
+some_known : {A : Type 0} (b : Bool) (o : Option A) (x : A) → (b ≡ false → o ≡ None) → o ≡ Some x → b ≡ true
+some_known true o x h e = refl
+some_known {A = A} false o x h e = absurd (let n : o ≡ None = h refl in cc)
+
+-- ---- and what is told
+
+pub iri_gives : (name : Name) (s u : State) (r : Result (List ℕ) PrologueFault) → IfOk r (λ i. iri_of name s.prologue ≡ Some i) → IfErr r (λ e. Explains s.prologue name e) → u ≡ s
     → Gives (iri name s) r u
 unfolding iri
-iri_gives name s u (Ok i) known value fault same = told_is (iri_of name) s u i value same
-iri_gives name s u (Err (NoMemory e)) known value fault same = tt
-iri_gives name s u (Err (UnknownPrefix place)) known value fault same = true≢false (sym known ∙ fault)
-iri_gives name s u (Err (Relative place)) known value fault same = not_told (iri_of name) s (name_lacking name s.prologue place fault)
+iri_gives name s u (Ok i) value fault same = told_is (iri_of name) s u i value same
+iri_gives name s u (Err (NoMemory e)) value fault same = tt
+iri_gives name s u (Err (UnknownPrefix place)) value fault same = not_told (iri_of name) s (name_unknown name s.prologue fault)
+iri_gives name s u (Err (Relative place)) value fault same = not_told (iri_of name) s (name_lacking name s.prologue place fault)
 
-pub literal_gives : (w : Literal) (s u : State) (r : Result LiteralParts PrologueFault) → known_literal (declared s.prologue) w ≡ true → IfOk r (λ l. literal_of w s.prologue ≡ Some l) → IfErr r (λ e. ExplainsLiteral s.prologue w e) → u ≡ s
+pub iri_knows : (name : Name) (p : Prologue) (r : Result (List ℕ) PrologueFault) → IfOk r (λ i. iri_of name p ≡ Some i) → OnOk r (knows (declared p) name ≡ true)
+iri_knows name p (Ok i) value = some_known (knows (declared p) name) (iri_of name p) i (name_unknown name p) value
+iri_knows name p (Err e) value = tt
+
+pub literal_gives : (w : Literal) (s u : State) (r : Result LiteralParts PrologueFault) → IfOk r (λ l. literal_of w s.prologue ≡ Some l) → IfErr r (λ e. ExplainsLiteral s.prologue w e) → u ≡ s
     → Gives (literal w s) r u
 unfolding literal
-literal_gives w s u (Ok l) known value fault same = told_is (literal_of w) s u l value same
-literal_gives w s u (Err (NoMemory e)) known value fault same = tt
-literal_gives w s u (Err (UnknownPrefix place)) known value fault same = absurd (literal_known w s.prologue place known fault)
-literal_gives w s u (Err (Relative place)) known value fault same = not_told (literal_of w) s (literal_lacking w s.prologue place fault)
+literal_gives w s u (Ok l) value fault same = told_is (literal_of w) s u l value same
+literal_gives w s u (Err (NoMemory e)) value fault same = tt
+literal_gives w s u (Err (UnknownPrefix place)) value fault same = not_told (literal_of w) s (literal_unknown w s.prologue (explained_unknown w s.prologue place fault))
+literal_gives w s u (Err (Relative place)) value fault same = not_told (literal_of w) s (literal_lacking w s.prologue place fault)
+
+pub literal_knows : (w : Literal) (p : Prologue) (r : Result LiteralParts PrologueFault) → IfOk r (λ l. literal_of w p ≡ Some l) → OnOk r (known_literal (declared p) w ≡ true)
+literal_knows w p (Ok l) value = some_known (known_literal (declared p) w) (literal_of w p) l (literal_unknown w p) value
+literal_knows w p (Err e) value = tt

@@ -1,5 +1,5 @@
 -- A document that is read statement by statement.
-use Rattle.std.proofs.Common.{◌≡◌, ℕ, suc, ◌+◌, ◌≤◌, ◌<◌, length, arith, true, false, List, [], ◌∷◌, ◌++◌, Option, Some, None, Result, Ok, Err, refl, sym, ap, subst, ◌∙◌, append_assoc, add-one}
+use Rattle.std.proofs.Common.{◌≡◌, ℕ, suc, ◌+◌, ◌≤◌, ◌<◌, length, arith, true, false, List, [], ◌∷◌, ◌++◌, Option, Some, None, Result, Ok, Err, IfOk, refl, sym, ap, subst, ◌∙◌, append_assoc, add-one}
 use Rattle.std.proofs.lemmas.List.{append-nil}
 use Rattle.std.specs.List.{AllByRecursion}
 use Rattle.rdf_terms.specs.Quad.{QuadParts}
@@ -237,3 +237,12 @@ pub unbound_answers : (depth : ℕ) (base : Option (List ℕ)) (lexemes : Lexeme
 unbound_answers depth base lexemes before behind t =
     let unknown = t.leaves in
     record { tree = t.tree; reads = t.reads; answers = rw unknown refl }
+
+-- a statement that has no meaning lacks a base where its prefixes are declared
+pub look_lacking : {E : Type 0} (r : Result Pending E) (tree : Statement) (before behind : State) (declared more : List (List ℕ))
+    → IfOk r (λ later. (s u : State) → Becomes Relative later tree s u declared more) → meaning.statement tree before ≡ None
+    → IfOk r (λ later. Becomes Nothing later tree before behind declared more)
+look_lacking (Ok Nothing) tree before behind declared more h e = absurd (h before behind)
+look_lacking (Ok Relative) tree before behind declared more h e = let k = h before behind in (k.0, k.1, e)
+look_lacking (Ok UnknownPrefix) tree before behind declared more h e = h before behind
+look_lacking (Err x) tree before behind declared more h e = tt

@@ -7,5 +7,6 @@ pub mod Proper
 pub mod Reading
 pub mod Room
 pub mod Stops
+pub mod Told
 pub mod Turns
 pub mod Walks

@@ -1,7 +1,7 @@
 //! The productions of Turtle inside a statement (Turtle 1.1, section 6.5). A bracket is a
 //! recursion, and a list a loop.
 
-ghost use Rattle.std.specs.Prelude.{◌≡◌, ◌≤◌, ◌<◌, [], length, OnOk, OnErr, IfOk, IfErr};
+ghost use Rattle.std.specs.Prelude.{◌≡◌, ◌≤◌, ◌<◌, [], ◌∷◌, length, OnOk, OnErr, IfOk, IfErr};
 ghost use Rattle.rdf_grammar.specs.Readings.{Reads};
 ghost use Rattle.rdf_grammar.specs.declared.fault.GrammarFault.TheVariants.{Syntax};
 ghost use Rattle.rdf_turtle.specs.Inside.Reading as spec;
@@ -220,6 +220,23 @@ fn property<'a>(parser: &mut Parser<'_, 'a>, depth: usize) -> Result<Property<'a
     })
 }
 
+/// How many objects there is room for where a comma stands behind the first.
+const SEVERAL: usize = 4;
+
+// The first object of a verb, with room for those behind it.
+fn first_object<'a>(parser: &Parser<'_, 'a>, first: Node<'a>) -> Result<Items<Node<'a>>, NoMemory>
+    ensures { IfOk result (λ objects. objects ≡ first.entry ∷ []) }
+{
+    let room = if parser.sees(Terminal::Comma) {
+        SEVERAL
+    } else {
+        1
+    };
+    let mut objects = Items::from_vec(Vec::with_capacity(parser.alloc(), room)?);
+    objects.push(first)?;
+    Ok(objects)
+}
+
 #[cycle(node)]
 #[tactic(auto, unfolding(crate::specs::Inside::Reading::objects))]
 fn objects<'a>(parser: &mut Parser<'_, 'a>, depth: usize) -> Result<Items<Node<'a>>, GrammarFault>
@@ -227,8 +244,7 @@ fn objects<'a>(parser: &mut Parser<'_, 'a>, depth: usize) -> Result<Items<Node<'
     ensures shorter { OnOk result (length parser.new < length parser.old) }
 {
     let first = node(parser, depth)?;
-    let mut all = Items::new(parser.alloc());
-    all.push(first)?;
+    let mut all = first_object(parser, first)?;
     while parser.eat(Terminal::Comma) {
         all.push(node(parser, depth)?)?;
     }

@@ -1,16 +1,16 @@
 //! The triples of a tree.
-ghost use Rattle.std.specs.Prelude.{◌≡◌, false, IfOk, OnOk, IsTrue, map};
+ghost use Rattle.std.specs.Prelude.{◌≡◌, true, false, IfOk, OnOk, IsTrue, map};
 ghost use Rattle.std.specs.List.{list_all};
 ghost use Rattle.std.specs.Option.{option_copied};
 ghost use Rattle.rdf_terms.specs.Term.{is_literal_term};
 ghost use Rattle.rdf_turtle.specs.Blanks.{BlankNumbersAreBelow};
 ghost use Rattle.rdf_turtle.specs.Inside.Cells.{next_cell};
-ghost use Rattle.rdf_grammar.specs.Kept.{Gives};
 ghost use Rattle.rdf_turtle.specs.Known as known;
 ghost use Rattle.rdf_turtle.specs.Known.{holds, declared_behind};
 ghost use Rattle.rdf_turtle.specs.Meaning as spec;
 ghost use Rattle.rdf_grammar.specs.Prologue.{declared};
 ghost use Rattle.rdf_turtle.specs.Inside.Proper as proper;
+ghost use Rattle.rdf_turtle.specs.Inside.Told.{Gives, known_leaf};
 ghost use Rattle.rdf_turtle.specs.Inside.Room.{HasRoom, TakesAtMost};
 
 use crate::scope::Scope;
@@ -31,9 +31,9 @@ pub(crate) fn copied(base: Option<&Iri>) -> Result<Option<Iri>, NoMemory>
 impl<'a> Scope<'a> {
     #[tactic(auto, unfolding(crate::specs::Meaning::verb))]
     fn verb(&mut self, verb: &Verb<'a>) -> Result<Iri, PrologueFault>
-        requires known { IsTrue (known.known_verb (declared self.old.prologue) verb.now) }
         requires proper { IsTrue (proper.proper_verb verb.now) }
         ensures gives { Gives (spec.verb verb.now self.old) result self.new }
+        ensures known { OnOk result (IsTrue (known.known_verb (declared self.old.prologue) verb.now)) }
         ensures same { self.new ≡ self.old }
     {
         match verb {
@@ -44,10 +44,10 @@ impl<'a> Scope<'a> {
 
     // The term that a node stands for.
     fn term(&mut self, node: &Node<'a>) -> Result<Term, PrologueFault>
-        requires known { IsTrue (known.known_node (declared self.old.prologue) node.now) }
         requires proper { IsTrue (proper.proper_node node.now) }
         requires room { HasRoom 0 self.old }
         ensures gives { Gives ((spec.meaning node.now).term self.old) result self.new }
+        ensures known { OnOk result (IsTrue (known_leaf (declared self.old.prologue) node.now)) }
         ensures prologue { self.new.prologue ≡ self.old.prologue }
         ensures room { TakesAtMost 1 self.old self.new }
         ensures kind { proper.is_literal node.now ≡ false
@@ -68,11 +68,12 @@ impl<'a> Scope<'a> {
     // The triples inside a node.
     #[cycle(inside)]
     fn inside(&mut self, node: &Node<'a>, term: &Term) -> Result<(), PrologueFault>
-        requires known { IsTrue (known.known_node (declared self.old.prologue) node.now) }
         requires proper { IsTrue (proper.proper_node node.now) }
         requires subject { is_literal_term term.now ≡ false }
         requires room { HasRoom 0 self.old }
         ensures gives { Gives ((spec.meaning node.now).inside term.now self.old) result self.new }
+        ensures known { known_leaf (declared self.old.prologue) node.now ≡ true →
+            OnOk result (IsTrue (known.known_node (declared self.old.prologue) node.now)) }
         ensures prologue { self.new.prologue ≡ self.old.prologue }
         ensures room { OnOk result (TakesAtMost 0 self.old self.new) }
     {
@@ -99,12 +100,12 @@ impl<'a> Scope<'a> {
         predicate: &Iri,
         node: &Node<'a>,
     ) -> Result<(), PrologueFault>
-        requires known { IsTrue (known.known_node (declared self.old.prologue) node.now) }
         requires proper { IsTrue (proper.proper_node node.now) }
         requires subject { is_literal_term subject.now ≡ false }
         requires room { HasRoom 0 self.old }
         ensures gives { let says = spec.object subject.now predicate.now (spec.meaning node.now) in
             Gives (says self.old) result self.new }
+        ensures known { OnOk result (IsTrue (known.known_node (declared self.old.prologue) node.now)) }
         ensures prologue { self.new.prologue ≡ self.old.prologue }
         ensures room { OnOk result (TakesAtMost 0 self.old self.new) }
     {
@@ -130,12 +131,12 @@ impl<'a> Scope<'a> {
         first: &Iri,
         item: &Node<'a>,
     ) -> Result<Term, PrologueFault>
-        requires known { IsTrue (known.known_node (declared self.old.prologue) item.now) }
         requires proper { IsTrue (proper.proper_node item.now) }
         requires subject { is_literal_term cell.now ≡ false }
         requires room { HasRoom 0 self.old }
         ensures gives { let step = next_cell cell.now rest.now first.now (spec.meaning item.now) in
             Gives (step self.old) result self.new }
+        ensures known { OnOk result (IsTrue (known.known_node (declared self.old.prologue) item.now)) }
         ensures prologue { self.new.prologue ≡ self.old.prologue }
         ensures room { OnOk result (TakesAtMost 0 self.old self.new) }
         ensures kind { IfOk result (λ next. is_literal_term next ≡ false) }
@@ -150,13 +151,13 @@ impl<'a> Scope<'a> {
     // The cells behind one, and what is inside their elements.
     #[cycle(inside)]
     fn behind(&mut self, cell: &Term, items: &[Node<'a>]) -> Result<(), PrologueFault>
-        requires known { let knows = known.known_node (declared self.old.prologue) in
-            IsTrue (list_all holds (map knows items.now)) }
         requires proper { IsTrue (list_all holds (map proper.proper_node items.now)) }
         requires subject { is_literal_term cell.now ≡ false }
         requires room { HasRoom 0 self.old }
         ensures gives { let says = spec.behind cell.now (map spec.meaning items.now) in
             Gives (says self.old) result self.new }
+        ensures known { let knows = known.known_node (declared self.old.prologue) in
+            OnOk result (IsTrue (list_all holds (map knows items.now))) }
         ensures prologue { self.new.prologue ≡ self.old.prologue }
         ensures room { OnOk result (TakesAtMost 0 self.old self.new) }
     {
@@ -178,8 +179,6 @@ impl<'a> Scope<'a> {
         predicate: &Iri,
         nodes: &[Node<'a>],
     ) -> Result<(), PrologueFault>
-        requires known { let knows = known.known_node (declared self.old.prologue) in
-            IsTrue (list_all holds (map knows nodes.now)) }
         requires proper { IsTrue (list_all holds (map proper.proper_node nodes.now)) }
         requires filled { IsTrue (proper.is_filled nodes.now) }
         requires subject { is_literal_term subject.now ≡ false }
@@ -187,6 +186,8 @@ impl<'a> Scope<'a> {
         ensures gives { let says = spec.objects subject.now predicate.now
             (map spec.meaning nodes.now) in
             Gives (says self.old) result self.new }
+        ensures known { let knows = known.known_node (declared self.old.prologue) in
+            OnOk result (IsTrue (list_all holds (map knows nodes.now))) }
         ensures prologue { self.new.prologue ≡ self.old.prologue }
         ensures room { OnOk result (TakesAtMost 0 self.old self.new) }
     {
@@ -201,11 +202,11 @@ impl<'a> Scope<'a> {
 
     #[cycle(inside)]
     fn property(&mut self, subject: &Term, property: &Property<'a>) -> Result<(), PrologueFault>
-        requires known { IsTrue (known.known_property (declared self.old.prologue) property.now) }
         requires proper { IsTrue (proper.proper_property property.now) }
         requires subject { is_literal_term subject.now ≡ false }
         requires room { HasRoom 0 self.old }
         ensures gives { Gives (spec.property property.now subject.now self.old) result self.new }
+        ensures known { OnOk result (IsTrue (known.known_property (declared self.old.prologue) property.now)) }
         ensures prologue { self.new.prologue ≡ self.old.prologue }
         ensures room { OnOk result (TakesAtMost 0 self.old self.new) }
     {
@@ -219,13 +220,13 @@ impl<'a> Scope<'a> {
         subject: &Term,
         properties: &[Property<'a>],
     ) -> Result<(), PrologueFault>
-        requires known { let knows = known.known_property (declared self.old.prologue) in
-            IsTrue (list_all holds (map knows properties.now)) }
         requires proper { IsTrue (list_all holds (map proper.proper_property properties.now)) }
         requires subject { is_literal_term subject.now ≡ false }
         requires room { HasRoom 0 self.old }
         ensures gives { let says = spec.properties subject.now properties.now in
             Gives (says self.old) result self.new }
+        ensures known { let knows = known.known_property (declared self.old.prologue) in
+            OnOk result (IsTrue (list_all holds (map knows properties.now))) }
         ensures prologue { self.new.prologue ≡ self.old.prologue }
         ensures room { OnOk result (TakesAtMost 0 self.old self.new) }
     {
@@ -237,11 +238,11 @@ impl<'a> Scope<'a> {
 
     // The triples of a subject with its properties.
     fn triples(&mut self, node: &Node<'a>, properties: &[Property<'a>]) -> Result<(), PrologueFault>
-        requires known { let knows = known.known_triples (declared self.old.prologue) in
-            IsTrue (knows node.now properties.now) }
         requires proper { IsTrue (proper.proper_triples node.now properties.now) }
         requires room { HasRoom 1 self.old }
         ensures gives { Gives (spec.triples node.now properties.now self.old) result self.new }
+        ensures known { let knows = known.known_triples (declared self.old.prologue) in
+            OnOk result (IsTrue (knows node.now properties.now)) }
         ensures prologue { self.new.prologue ≡ self.old.prologue }
         ensures room { OnOk result (TakesAtMost 1 self.old self.new) }
     {
@@ -253,10 +254,10 @@ impl<'a> Scope<'a> {
     /// Says the triples of a statement, or declares its prefix or base.
     #[tactic(auto, using(rdf_grammar::proofs::PrologueKeys::declares_key), unfolding(crate::specs::Meaning::statement, crate::specs::Known::known_statement, rdf_grammar::specs::Prologue::moves_base))]
     pub(crate) fn statement(&mut self, statement: &Statement<'a>) -> Result<(), PrologueFault>
-        requires known { IsTrue (known.known_statement (declared self.old.prologue) statement.now) }
         requires proper { IsTrue (proper.proper_statement statement.now) }
         requires room { HasRoom 1 self.old }
         ensures gives { Gives (spec.statement statement.now self.old) result self.new }
+        ensures known { OnOk result (IsTrue (known.known_statement (declared self.old.prologue) statement.now)) }
         ensures declares { let before = declared self.old.prologue in
             OnOk result (declared self.new.prologue ≡ declared_behind before statement.now) }
         ensures room { OnOk result (TakesAtMost 1 self.old self.new) }

@@ -2,12 +2,12 @@
 ghost use Rattle.std.specs.Prelude.{◌≡◌, ◌+◌, false, length, IfOk, OnOk, IsTrue};
 ghost use Rattle.rdf_terms.specs.Term.{is_literal_term};
 ghost use Rattle.rdf_grammar.specs.Keys.{key_of};
-ghost use Rattle.rdf_grammar.specs.Kept.{Gives};
 ghost use Rattle.rdf_turtle.specs.Meaning as meaning;
 ghost use Rattle.rdf_grammar.specs.Literals.{known_literal, proper_literal};
 ghost use Rattle.rdf_grammar.specs.Prologue as prologue;
 ghost use Rattle.rdf_grammar.specs.Prologue.{declared, knows, is_proper};
 ghost use Rattle.rdf_turtle.specs.Inside.Room.{HasRoom, TakesAtMost};
+ghost use Rattle.rdf_turtle.specs.Inside.Told.{Gives};
 ghost use Rattle.rdf_turtle.specs.State as state;
 
 use crate::tree::{Literal as Written, Name};
@@ -115,9 +115,9 @@ impl<'a> Scope<'a> {
     /// The IRI of a name.
     #[tactic(auto, unfolding(crate::specs::Meaning::iri))]
     pub(crate) fn iri(&mut self, name: &Name<'a>) -> Result<Iri, PrologueFault>
-        requires known { IsTrue (knows (declared self.old.prologue) name.now) }
         requires proper { IsTrue (is_proper name.now) }
         ensures gives { Gives (meaning.iri name.now self.old) result self.new }
+        ensures known { OnOk result (IsTrue (knows (declared self.old.prologue) name.now)) }
         ensures same { self.new ≡ self.old }
     {
         self.prologue.iri(name)
@@ -126,9 +126,9 @@ impl<'a> Scope<'a> {
     /// What a literal stands for.
     #[tactic(auto, unfolding(crate::specs::Meaning::literal))]
     pub(crate) fn literal(&mut self, literal: &Written<'a>) -> Result<Literal, PrologueFault>
-        requires known { IsTrue (known_literal (declared self.old.prologue) literal.now) }
         requires proper { IsTrue (proper_literal literal.now) }
         ensures gives { Gives (meaning.literal literal.now self.old) result self.new }
+        ensures known { OnOk result (IsTrue (known_literal (declared self.old.prologue) literal.now)) }
         ensures same { self.new ≡ self.old }
     {
         self.prologue.literal(&self.vocabulary, literal)

@@ -34,7 +34,8 @@ pub(crate) enum Pending {
     UnknownPrefix,
 }
 
-// Says the triples of a statement, or declares its prefix or base.
+// Says the triples of a statement, or declares its prefix or base. Only where one of its names has no IRI,
+// or a datatype, is it told which fault goes before.
 fn say<'a>(
     scope: &mut Scope<'a>,
     declared: &mut IndexSet<Key<'a>>,
@@ -46,15 +47,14 @@ fn say<'a>(
     ensures { IfOk result (λ later. Becomes Nothing later
         statement.now scope.old scope.new declared.old.keys declared.new.keys) }
 {
-    if unknown_in(declared, statement).is_some() {
-        return Ok(Pending::UnknownPrefix);
-    }
-    declare(declared, statement)?;
     match scope.statement(statement) {
-        Ok(()) => Ok(Pending::Nothing),
-        Err(PrologueFault::Relative(_)) => Ok(Pending::Relative),
+        Ok(()) => {
+            declare(declared, statement)?;
+            Ok(Pending::Nothing)
+        }
         Err(PrologueFault::NoMemory(refusal)) => Err(refusal),
-        Err(PrologueFault::UnknownPrefix(_)) => unreachable!(),
+        Err(PrologueFault::Relative(_)) => look(declared, statement),
+        Err(PrologueFault::UnknownPrefix(_)) => look(declared, statement),
     }
 }
 

@@ -1,23 +1,12 @@
-use Rattle.std.proofs.Common.{List, ℕ, sym, ap, ◌∙◌}
+use Rattle.std.proofs.Common.{List, ℕ, ap, sym, ◌∙◌}
 use Rattle.rdf_tokens.specs.Inside.TokenReading.{dotted_at, local_part_at}
-use Rattle.rdf_tokens.proofs.TokenRuns.{local_over_word, behind_word}
-use Rattle.rdf_tokens.proofs.TokenUnits.{unit_less, dotted_step, dotted_stop, local_unit}
+use Rattle.rdf_tokens.proofs.TokenRuns.{local_over_word}
+use Rattle.rdf_tokens.proofs.TokenStops.{local_is_word}
 use Rattle.rdf_tokens.proofs.dotted.local_rest.Goals as goal
 
-pub loop-behind-init : goal.loop-behind-init
-loop-behind-init c = ap (λ (t : List ℕ). dotted_at local_part_at t) c.skip_word-rest.ensures ∙ local_over_word c.args.cursor.now
+pub returns-in-Some : goal.returns-in-Some
+returns-in-Some c =
+    local_is_word c.args.cursor.now c.skip_word-word_end.result c.in-Some.c c.in-Some.ensures.0 c.skip_word-word_end.ensures c.in-Some.ensures.1 (sym c.ends_local.ensures ∙ c.if-ends_local.true)
 
-pub loop-behind-smaller : goal.loop-behind-smaller
-loop-behind-smaller c =
-    behind_word c.loop-behind.rest c.in-Some.behind c.skip_word-rest-in-Some.result
-    (unit_less local_part_at local_unit c.loop-behind.rest c.in-Some.behind (ap local_part_at (sym c.skip_dots.ensures) ∙ sym c.in-Some.ensures))
-    c.skip_word-rest-in-Some.ensures
-
-pub loop-behind-preserved : goal.loop-behind-preserved
-loop-behind-preserved c =
-    ap (λ (t : List ℕ). dotted_at local_part_at t) c.skip_word-rest-in-Some.ensures ∙ local_over_word c.in-Some.behind
-    ∙ sym (dotted_step local_part_at local_unit c.loop-behind.rest c.in-Some.behind (ap local_part_at (sym c.skip_dots.ensures) ∙ sym c.in-Some.ensures)) ∙ c.loop-behind.invariant
-
-pub returns : goal.returns
-returns c =
-    sym (dotted_stop local_part_at c.loop-behind.rest (ap local_part_at (sym c.skip_dots.ensures) ∙ sym c.in_default.ensures)) ∙ c.loop-behind.invariant
+pub returns-in_default : goal.returns-in_default
+returns-in_default c = c.local_units.ensures ∙ ap (λ (t : List ℕ). dotted_at local_part_at t) c.skip_word-word_end.ensures ∙ local_over_word c.args.cursor.now

@@ -30,7 +30,7 @@ pub objects-loop-all-preserved : goal.objects-loop-all-preserved
 objects-loop-all-preserved t c =
     let seen = sym c.loop-all-test.ensures.found in
     record {
-      grown = grown_behind same_terminal _ terminal.Comma _ _ _ _ _ c.loop-all.invariant.grown seen seen c.loop-all-test.ensures.left c.in_ok-node.ensures.reads (omega (arith, c.in_ok-node.ensures.shorter)) c.in_ok-push-2.ensures.ok;
+      grown = grown_behind same_terminal _ terminal.Comma _ _ _ _ _ c.loop-all.invariant.grown seen seen c.loop-all-test.ensures.left c.in_ok-node.ensures.reads (omega (arith, c.in_ok-node.ensures.shorter)) c.in_ok-push.ensures.ok;
       shorter = omega (arith, c.in_ok-node.ensures.shorter, c.loop-all-test.ensures.shorter);
     }
 

@@ -1,0 +1,26 @@
+-- What a function that goes through a tree answers, and which prefixes it then knows.
+use Rattle.std.specs.Prelude.{◌≡◌, ℕ, Bool, true, List, Option, Some, None, Result, Ok, Err}
+use Rattle.rdf_grammar.specs.declared.prologue.PrologueFault.{PrologueFault}
+use Rattle.rdf_grammar.specs.declared.prologue.PrologueFault.TheVariants.{UnknownPrefix, Relative, NoMemory}
+use Rattle.rdf_grammar.specs.Literals.{known_literal}
+use Rattle.rdf_grammar.specs.Prologue.{knows}
+use Rattle.rdf_grammar.specs.Steps.{Outcome}
+use Rattle.rdf_turtle.specs.declared.tree.Node.{Node}
+use Rattle.rdf_turtle.specs.declared.tree.Node.TheVariants as n
+
+-- the outcome is missing, but where memory was wanting
+abbrev pub Fails : {A : Type 0} → Option A → PrologueFault → Type 0
+Fails outcome (NoMemory e) = Unit {0}
+Fails outcome (Relative start) = outcome ≡ None
+Fails outcome (UnknownPrefix start) = outcome ≡ None
+
+-- what is answered, and the state that is left: the step's outcome, unless memory was wanting
+abbrev pub Gives : {S A : Type 0} → Outcome S A → Result A PrologueFault → S → Type 0
+Gives outcome (Ok a) new = outcome ≡ Some (a, new)
+Gives outcome (Err e) new = Fails outcome e
+
+-- each prefix is declared of a node but for those inside it
+abbrev pub known_leaf : List (List ℕ) → Node → Bool
+known_leaf declared (n.Name name) = knows declared name
+known_leaf declared (n.Literal l) = known_literal declared l
+known_leaf declared _ = true
