@@ -2,7 +2,6 @@ use Rattle.std.proofs.Common.{◌≡◌, arith, rules, ap, length, inl, inr}
 use Rattle.std.specs.Vec.Iter.{into_iter_items, into_iter_len}
 use Rattle.rdf_dataset.proofs.InsertionLemmas.{none_left}
 use Rattle.rdf_dataset.proofs.LoadingLemmas.{all_stay, next_has_room, numbering_begins, numbering_ends, numbering_goes_on}
-use Rattle.rdf_dataset.proofs.loading.numbered_on.Goals.{then-first-eq0-via-then-first-eq0, then-first-eq0-via-else-first-eq0+then-blanks-eq0}
 use Rattle.rdf_dataset.proofs.loading.numbered_on.Goals as goal
 
 pub returns-then-first-eq0 : goal.returns-then-first-eq0
