@@ -1,4 +1,5 @@
 pub mod InsertionLemmas
+mod LoadingLemmas
 mod QuadEditLemmas
 pub mod StateLemmas
 mod StoredLemmas

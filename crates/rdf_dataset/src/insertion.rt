@@ -29,7 +29,7 @@ fn graph_from(first: u64, graph: GraphName) -> GraphName
     }
 }
 
-fn quad_from(first: u64, quad: Quad) -> Quad
+pub(crate) fn quad_from(first: u64, quad: Quad) -> Quad
     requires { IsQuadBelow (last_number - first) quad }
     ensures { result ≡ quad_from first quad }
 {

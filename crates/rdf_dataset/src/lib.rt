@@ -5,6 +5,7 @@
 mod dataset;
 mod edits;
 mod insertion;
+mod loading;
 mod net;
 mod quad_edits;
 mod source;

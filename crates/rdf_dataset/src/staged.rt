@@ -14,7 +14,7 @@ use std::alloc::Global;
 use std::marker::Model;
 
 /// The counter of blank nodes goes no further.
-const LAST_NUMBER: u64 = 1_000_000_000_000_000_000;
+pub(crate) const LAST_NUMBER: u64 = 1_000_000_000_000_000_000;
 
 /// The contents beneath and those now.
 #[derive(Drop)]

@@ -55,6 +55,13 @@ with_first_quads old quads names keys none e same = λ i. record {
   names = (same ∙ sym (union_none nat_cmp_total nat_cmp-IsAntisymmetric old.names)) i;
 }
 
+-- and names behind them
+pub with_first_list : (old : Contents) (quads : IdQuads) (names : Ids) (keys : List (List ℕ)) (more : List ℕ) → old.quads ≡ set.empty → quads ≡ quads_of keys → names ≡ set.union old.names (ids_of more) → record { quads = quads; names = names } ≡ with_all old keys more
+with_first_list old quads names keys more none e same = λ i. record {
+  quads = (e ∙ sym (ap (λ s. set.union s (quads_of keys)) none ∙ none_union id_quad_cmp_total id_quad_cmp-IsAntisymmetric (quads_of keys))) i;
+  names = same i;
+}
+
 -- ---- taken back
 
 nothing_in_front : (xs ys : List ℕ) → [] ≡ xs ++ ys → xs ≡ []

@@ -136,6 +136,35 @@ mirrors_of trees ks spo pos osp = record { keys = λ order k. built order k ∙ 
     built Pos = pos
     built Osp = osp
 
+-- the first tree is built of a list, and the quads that it holds are those of the list
+first_tree_holds : (trees : Trees) (quads : IdQuads) → ((k : List ℕ) → has_key Spo trees k ≡ is_key_of quads Spo k) → quads_in trees ≡ quads
+first_tree_holds trees quads f =
+    same_set id_quad_cmp_total id_quad_cmp-IsAntisymmetric _ _ (λ q.
+    contains-from_list id_quad_cmp_total (map (quad_at Spo) trees.spo.keys) q
+    ∙ members_by_key trees.spo.keys (λ k e. eqb-true (length k) 4 (first_of_both (length k == 4) _ (sym (f k) ∙ e))) q
+    ∙ f (key_in Spo q)
+    ∙ ap (λ b. b && set.contains quads (quad_at Spo (key_in Spo q))) (length-key_in Spo q)
+    ∙ ap (set.contains quads) (quad_at-key_in Spo q))
+
+-- and the other two are built of the first
+pub mirrors_of_first : (trees : Trees) (ks : List (List ℕ))
+    → ((k : List ℕ) → has_key Spo trees k ≡ list_any (eq_by_cmp key_cmp k) (map (λ x. key_in Spo (quad_of x)) ks))
+    → ((k : List ℕ) → has_key Pos trees k ≡ list_any (eq_by_cmp key_cmp k) (map (λ x. key_in Pos (quad_of x)) trees.spo.keys))
+    → ((k : List ℕ) → has_key Osp trees k ≡ list_any (eq_by_cmp key_cmp k) (map (λ x. key_in Osp (quad_of x)) trees.spo.keys))
+    → Mirrors trees (quads_of ks)
+mirrors_of_first trees ks spo pos osp = record { keys = held }
+  where
+    first : (k : List ℕ) → has_key Spo trees k ≡ is_key_of (quads_of ks) Spo k
+    first k = spo k ∙ keys_of_quads Spo ks k
+
+    same : quads_of trees.spo.keys ≡ quads_of ks
+    same = first_tree_holds trees (quads_of ks) first
+
+    held : (order : Order) (k : List ℕ) → has_key order trees k ≡ is_key_of (quads_of ks) order k
+    held Spo k = first k
+    held Pos k = pos k ∙ keys_of_quads Pos trees.spo.keys k ∙ ap (λ s. is_key_of s Pos k) same
+    held Osp k = osp k ∙ keys_of_quads Osp trees.spo.keys k ∙ ap (λ s. is_key_of s Osp k) same
+
 -- ---- what the calls leave
 
 pub mirrors_nothing : (trees : Trees) → trees.spo.keys ≡ [] → trees.pos.keys ≡ [] → trees.osp.keys ≡ [] → Mirrors trees set.empty

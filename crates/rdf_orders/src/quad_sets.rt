@@ -185,6 +185,37 @@ impl QuadSets {
         Ok(())
     }
 
+    /// Adds the quads of a list and names as [`insert_all`](QuadSets::insert_all) does. Where there are
+    /// no quads yet, the list goes before the memory of all three orders is taken.
+    ///
+    /// # Errors
+    /// [`NoMemory`] where memory is wanting: nothing has changed then.
+    pub fn insert_list(&mut self, quads: Vec<Key>, names: &[u64]) -> Result<(), NoMemory>
+        requires new_quads { IsDisjoint self.old.quads (quads_of quads.items) }
+        requires new_names { IsDisjoint self.old.names (ids_of names.now) }
+        ensures ok { OnOk result (self.new ≡ with_all self.old quads.items names.now) }
+        ensures err { OnErr result (self.new ≡ self.old) }
+        ensures free { quads.items ≡ [] → names.now ≡ [] → IsOk result }
+    {
+        if !quads.is_empty() && self.trees.is_empty() {
+            return self.begin(quads, names);
+        }
+        self.insert_all(quads.as_slice(), names)
+    }
+
+    // Adds the quads of a list and names where there are no quads yet.
+    fn begin(&mut self, quads: Vec<Key>, names: &[u64]) -> Result<(), NoMemory>
+        requires none { self.old.quads ≡ set.empty }
+        requires new_names { IsDisjoint self.old.names (ids_of names.now) }
+        ensures ok { OnOk result (self.new ≡ with_all self.old quads.items names.now) }
+        ensures err { OnErr result (self.new ≡ self.old) }
+    {
+        let trees = Trees::of_list(self.alloc, quads)?;
+        self.insert_all(&[], names)?;
+        self.trees = trees;
+        Ok(())
+    }
+
     // Adds the quads, then the names, up to the one that is refused.
     fn insert_each(&mut self, quads: &[Key], names: &[u64]) -> Result<(), NoMemory>
         ensures ok { OnOk result (self.new ≡ with_all self.old quads.now names.now) }

@@ -30,6 +30,17 @@ fn built(alloc: Global, order: Order, quads: &[Key]) -> Result<BTreeSet<Key>, No
     Ok(quads.iter().map(key_of).collect(alloc)?)
 }
 
+// The tree of an order with the keys of the quads of the first tree.
+fn arranged(alloc: Global, order: Order, spo: &BTreeSet<Key>) -> Result<BTreeSet<Key>, NoMemory>
+    ensures { IfOk result (λ tree. IsFromIterResult key_cmp
+        (map (λ x. key_in order (quad_of x)) spo.now.keys) tree) }
+{
+    let key_of = move |quad: &Key|
+        ensures { result ≡ key_in order (quad_of quad.now) }
+    { order.arrange(quad) };
+    Ok(spo.iter().map(key_of).collect(alloc)?)
+}
+
 impl Trees {
     /// No quads.
     pub(crate) fn new(alloc: Global) -> Trees
@@ -51,6 +62,18 @@ impl Trees {
             pos: built(alloc, Order::Pos, quads)?,
             osp: built(alloc, Order::Osp, quads)?,
         })
+    }
+
+    /// The quads with these keys in `Spo`: each tree is built at once, and the list goes as soon as
+    /// the first one is.
+    pub(crate) fn of_list(alloc: Global, quads: Vec<Key>) -> Result<Trees, NoMemory>
+        ensures { IfOk result (λ trees. Mirrors trees (quads_of quads.items)) }
+    {
+        let spo = built(alloc, Order::Spo, quads.as_slice())?;
+        drop(quads);
+        let pos = arranged(alloc, Order::Pos, &spo)?;
+        let osp = arranged(alloc, Order::Osp, &spo)?;
+        Ok(Trees { spo, pos, osp })
     }
 
     /// Whether there is no quad.

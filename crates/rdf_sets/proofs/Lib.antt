@@ -3,3 +3,4 @@ mod KeepLemmas
 pub mod ListingLemmas
 pub mod SortedLemmas
 mod TreeLemmas
+pub mod OnceLemmas

@@ -49,6 +49,16 @@ impl<T: Item> Sorted<T> {
         Sorted { items }
     }
 
+    /// The items of any list, each once.
+    pub fn from_list(items: Vec<T>) -> Sorted<T>
+        ensures { set.from_list {R = T.order} result ≡ set.from_list items.items }
+    {
+        let mut each = items;
+        each.sort_unstable();
+        each.dedup();
+        Sorted { items: each }
+    }
+
     /// The items.
     pub fn as_slice(&self) -> &[T]
         ensures items { result.now ≡ self.now }

@@ -142,7 +142,7 @@ impl Store {
         let keys = number_quads(self.alloc, &mut self.table, quads)?;
         let numbers = number_terms(self.alloc, &mut self.table, names)?;
         terms_are_held_once(&self.table);
-        self.sets.insert_all(&keys, &numbers)
+        self.sets.insert_list(keys, &numbers)
     }
 
     /// Takes quads and names out, those of them that are there. It takes no memory.

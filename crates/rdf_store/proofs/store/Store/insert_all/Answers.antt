@@ -1,4 +1,4 @@
-use Rattle.std.proofs.Common.{◌∙◌}
+use Rattle.std.proofs.Common.{◌∙◌, refl}
 use Rattle.rdf_terms.specs.Table.{IsIdOf}
 use Rattle.rdf_orders.specs.Quads.{quad_of}
 use Rattle.rdf_store.specs.Inside.Numbers.{IsNumbered}
@@ -22,42 +22,42 @@ returns-in_err-numbers-clause-err c =
     on_err_of c.from_residual-in_err-numbers.result
     (grown_is _ _ _ c.self.inside.sets _ c.self.invariant c.self.view_is (grown_then _ _ _ c.in_ok-keys.ensures.grown c.in_err-numbers.ensures.grown))
 
-pub insert_all-requires-clause-new_quads : goal.insert_all-requires-clause-new_quads
-insert_all-requires-clause-new_quads c =
+pub insert_list-requires-clause-new_quads : goal.insert_list-requires-clause-new_quads
+insert_list-requires-clause-new_quads c =
     all_new_keys _ _ _ c.self.inside.sets _ c.self.invariant c.self.view_is (grown_then _ _ _ c.in_ok-keys.ensures.grown c.in_ok-numbers.ensures.grown)
-    c.deref.result.now c.deref-2.result.now c.args.quads.now c.args.names.now
-    (keys_passed _ _ c.in_ok-keys.keys.items c.deref.result.now c.args.quads.now c.in_ok-numbers.ensures.grown c.deref.ensures.value c.in_ok-keys.ensures.numbers)
-    (ids_passed _ c.in_ok-numbers.numbers.items c.deref-2.result.now c.args.names.now c.deref-2.ensures.value c.in_ok-numbers.ensures.numbers) c.requires.new_quads
+    c.in_ok-keys.keys.items c.deref.result.now c.args.quads.now c.args.names.now
+    (keys_passed _ _ c.in_ok-keys.keys.items c.in_ok-keys.keys.items c.args.quads.now c.in_ok-numbers.ensures.grown refl c.in_ok-keys.ensures.numbers)
+    (ids_passed _ c.in_ok-numbers.numbers.items c.deref.result.now c.args.names.now c.deref.ensures.value c.in_ok-numbers.ensures.numbers) c.requires.new_quads
 
-pub insert_all-requires-clause-new_names : goal.insert_all-requires-clause-new_names
-insert_all-requires-clause-new_names c =
+pub insert_list-requires-clause-new_names : goal.insert_list-requires-clause-new_names
+insert_list-requires-clause-new_names c =
     all_new_ids _ _ _ c.self.inside.sets _ c.self.invariant c.self.view_is (grown_then _ _ _ c.in_ok-keys.ensures.grown c.in_ok-numbers.ensures.grown)
-    c.deref.result.now c.deref-2.result.now c.args.quads.now c.args.names.now
-    (keys_passed _ _ c.in_ok-keys.keys.items c.deref.result.now c.args.quads.now c.in_ok-numbers.ensures.grown c.deref.ensures.value c.in_ok-keys.ensures.numbers)
-    (ids_passed _ c.in_ok-numbers.numbers.items c.deref-2.result.now c.args.names.now c.deref-2.ensures.value c.in_ok-numbers.ensures.numbers) c.requires.new_names
+    c.in_ok-keys.keys.items c.deref.result.now c.args.quads.now c.args.names.now
+    (keys_passed _ _ c.in_ok-keys.keys.items c.in_ok-keys.keys.items c.args.quads.now c.in_ok-numbers.ensures.grown refl c.in_ok-keys.ensures.numbers)
+    (ids_passed _ c.in_ok-numbers.numbers.items c.deref.result.now c.args.names.now c.deref.ensures.value c.in_ok-numbers.ensures.numbers) c.requires.new_names
 
 pub invariant_of-self-2 : goal.invariant_of-self-2
 invariant_of-self-2 c =
     all_kept _ _ _ _ _ c.self.invariant c.self.view_is (grown_then _ _ _ c.in_ok-keys.ensures.grown c.in_ok-numbers.ensures.grown)
-    c.deref.result.now c.deref-2.result.now c.args.quads.now c.args.names.now
-    (keys_passed _ _ c.in_ok-keys.keys.items c.deref.result.now c.args.quads.now c.in_ok-numbers.ensures.grown c.deref.ensures.value c.in_ok-keys.ensures.numbers)
-    (ids_passed _ c.in_ok-numbers.numbers.items c.deref-2.result.now c.args.names.now c.deref-2.ensures.value c.in_ok-numbers.ensures.numbers)
-    c.insert_all.result c.insert_all.ensures.ok c.insert_all.ensures.err
+    c.in_ok-keys.keys.items c.deref.result.now c.args.quads.now c.args.names.now
+    (keys_passed _ _ c.in_ok-keys.keys.items c.in_ok-keys.keys.items c.args.quads.now c.in_ok-numbers.ensures.grown refl c.in_ok-keys.ensures.numbers)
+    (ids_passed _ c.in_ok-numbers.numbers.items c.deref.result.now c.args.names.now c.deref.ensures.value c.in_ok-numbers.ensures.numbers)
+    c.insert_list.result c.insert_list.ensures.ok c.insert_list.ensures.err
 
 pub returns-clause-ok : goal.returns-clause-ok
 returns-clause-ok c =
     all_is _ _ _ _ _ c.self.invariant c.self.view_is (grown_then _ _ _ c.in_ok-keys.ensures.grown c.in_ok-numbers.ensures.grown)
-    c.deref.result.now c.deref-2.result.now c.args.quads.now c.args.names.now
-    (keys_passed _ _ c.in_ok-keys.keys.items c.deref.result.now c.args.quads.now c.in_ok-numbers.ensures.grown c.deref.ensures.value c.in_ok-keys.ensures.numbers)
-    (ids_passed _ c.in_ok-numbers.numbers.items c.deref-2.result.now c.args.names.now c.deref-2.ensures.value c.in_ok-numbers.ensures.numbers)
-    c.insert_all.result c.insert_all.ensures.ok
+    c.in_ok-keys.keys.items c.deref.result.now c.args.quads.now c.args.names.now
+    (keys_passed _ _ c.in_ok-keys.keys.items c.in_ok-keys.keys.items c.args.quads.now c.in_ok-numbers.ensures.grown refl c.in_ok-keys.ensures.numbers)
+    (ids_passed _ c.in_ok-numbers.numbers.items c.deref.result.now c.args.names.now c.deref.ensures.value c.in_ok-numbers.ensures.numbers)
+    c.insert_list.result c.insert_list.ensures.ok
 
 pub returns-clause-err : goal.returns-clause-err
 returns-clause-err c =
-    err_is _ _ _ _ _ c.self.invariant c.self.view_is (grown_then _ _ _ c.in_ok-keys.ensures.grown c.in_ok-numbers.ensures.grown) c.insert_all.result c.insert_all.ensures.err
+    err_is _ _ _ _ _ c.self.invariant c.self.view_is (grown_then _ _ _ c.in_ok-keys.ensures.grown c.in_ok-numbers.ensures.grown) c.insert_list.result c.insert_list.ensures.err
 
 pub returns-clause-free : goal.returns-clause-free
 returns-clause-free c no_quads no_names =
-    c.insert_all.ensures.free
-    (c.deref.ensures.value ∙ matched_nothing (λ k q. IsNumbered c.number_quads.new.table (quad_of k) q) c.in_ok-keys.keys.items c.args.quads.now c.in_ok-keys.ensures.numbers no_quads)
-    (c.deref-2.ensures.value ∙ matched_nothing (λ id t. IsIdOf c.number_terms.new.table id t) c.in_ok-numbers.numbers.items c.args.names.now c.in_ok-numbers.ensures.numbers no_names)
+    c.insert_list.ensures.free
+    (matched_nothing (λ k q. IsNumbered c.number_quads.new.table (quad_of k) q) c.in_ok-keys.keys.items c.args.quads.now c.in_ok-keys.ensures.numbers no_quads)
+    (c.deref.ensures.value ∙ matched_nothing (λ id t. IsIdOf c.number_terms.new.table id t) c.in_ok-numbers.numbers.items c.args.names.now c.in_ok-numbers.ensures.numbers no_names)
