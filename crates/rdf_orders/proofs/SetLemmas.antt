@@ -88,7 +88,7 @@ module _ {K : Type 0} {R : K → K → Ordering} (o : IsTotalOrder R) (apart : I
 
   -- ---- rising lists
 
-  none_above : (x : K) (ys : List K) → AllByRecursion (λ y. R x y ≡ Less) ys → list_any (eq_by_cmp R x) ys ≡ false
+  pub none_above : (x : K) (ys : List K) → AllByRecursion (λ y. R x y ≡ Less) ys → list_any (eq_by_cmp R x) ys ≡ false
   none_above x [] a = refl
   none_above x (y ∷ ys) a = (λ i. is_eq (a.0 i) || none_above x ys a.1 i)
 

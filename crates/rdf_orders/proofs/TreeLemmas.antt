@@ -42,7 +42,7 @@ length-key_in Spo q = refl
 length-key_in Pos q = refl
 length-key_in Osp q = refl
 
-same_key : (x y : List ℕ) → is_eq (key_cmp x y) ≡ true → x ≡ y
+pub same_key : (x y : List ℕ) → is_eq (key_cmp x y) ≡ true → x ≡ y
 same_key x y e = slice_cmp-IsAntisymmetric nat_cmp-IsAntisymmetric x y ((Equal-is (key_cmp x y)).0 e)
 
 -- a quad's key ties with the numbers that are its key, and with no other

@@ -5,6 +5,7 @@
 
 mod laws;
 mod look_ups;
+mod matches;
 mod next;
 mod order;
 mod orders;

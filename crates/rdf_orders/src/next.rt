@@ -9,8 +9,8 @@ use crate::order::{Key, Order};
 use crate::quad_sets::QuadSets;
 use std::ops::Bound;
 
-// The least key that begins with the prefix.
-fn least_key(prefix: &[u64]) -> Key
+/// The least key that begins with the prefix.
+pub(crate) fn least_key(prefix: &[u64]) -> Key
     requires { length prefix.now ≤ 4 }
     ensures begins { BeginsWith prefix.now result }
     ensures least { (k : List ℕ) → length k ≡ 4 → BeginsWith prefix.now k →

@@ -1,15 +1,9 @@
 //! Look-ups in sets of quads, counted.
-ghost use Rattle.std.specs.Prelude.{◌≡◌, ◌≤◌, length, ◌-◌, IfOk, OnOk, OnErr};
-ghost use Rattle.std.specs.FinSet as set;
-ghost use Rattle.rdf_orders.specs.Quads.{matches};
-ghost use Rattle.rdf_orders.specs.Runs.{AppendsOnce};
+ghost use Rattle.std.specs.Prelude.{◌≡◌};
 
-use crate::look_ups::look_up;
 use crate::order::{Key, Order};
 use crate::orders::Orders;
 use crate::quad_sets::QuadSets;
-use rdf_terms::NoMemory;
-use std::alloc::Global;
 use std::marker::Model;
 
 /// The quads of sets that stay as they are, and a count of the keys that were answered.
@@ -54,33 +48,5 @@ impl<'a> Orders for Walk<'a> {
         let key = self.sets.next_in(order, prefix, after)?;
         self.count = self.count.saturating_add(1);
         Some(key)
-    }
-}
-
-impl QuadSets {
-    /// Appends each quad that lies in the graph and has the numbers of the bound places once, by
-    /// its key in `Spo`, and answers how many were looked at: just those.
-    ///
-    /// # Errors
-    /// [`NoMemory`] where memory is wanting: nothing is appended then.
-    pub fn matches(
-        &self,
-        alloc: Global,
-        graph: u64,
-        subject: Option<u64>,
-        predicate: Option<u64>,
-        object: Option<u64>,
-        out: &mut Vec<Key>,
-    ) -> Result<usize, NoMemory>
-        ensures found { OnOk result (AppendsOnce
-            (set.retain self.now.quads (matches graph subject predicate object))
-            out.old.items out.new.items) }
-        ensures looked { IfOk result (λ looked.
-            looked ≡ length out.new.items - length out.old.items) }
-        ensures err { OnErr result (out.new.items ≡ out.old.items) }
-    {
-        let mut walk = Walk::over(self);
-        look_up(alloc, &mut walk, graph, subject, predicate, object, out)?;
-        Ok(walk.count())
     }
 }
