@@ -38,13 +38,17 @@ fn append_term(table: &TermTable, number: u64, out: &mut Vec<Term>) -> Result<()
     Ok(())
 }
 
-// Appends the quads that have these keys in `Spo`, or changes nothing.
+// Appends the quads that have these keys in `Spo`, or changes nothing. An empty list gets just the
+// room that they take.
 fn append_all(table: &TermTable, keys: &[Key], out: &mut Vec<Quad>) -> Result<(), NoMemory>
     requires { All (λ key. IsKept table.now (quad_of key)) keys.now }
     ensures ok { OnOk result (out.new.items
         ≡ out.old.items ++ map (parts_of table.now) keys.now) }
     ensures err { OnErr result (out.new.items ≡ out.old.items) }
 {
+    if out.is_empty() {
+        out.reserve_exact(keys.len())?;
+    }
     let before = out.len();
     for key in keys {
         if let Err(refused) = append_quad(table, key, out) {

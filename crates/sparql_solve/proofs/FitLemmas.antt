@@ -1,13 +1,23 @@
 -- A term that a place of a row refuses, it refuses in each row that grows from that one.
-use Rattle.std.proofs.Common.{◌≡◌, ℕ, zero, suc, Bool, true, false, cond, ◌&&◌, [], ◌∷◌, Option, Some, None, refl, sym, ap, ◌∙◌, is_some, subst}
-use Rattle.std.specs.Prelude.{slice_get, slice_set, option_and_then}
+use Rattle.std.proofs.Common.{◌≡◌, ℕ, zero, suc, ◌<◌, Bool, true, false, cond, ◌&&◌, ◌||◌, List, [], ◌∷◌, length, get_or, Option, Some, None, refl, sym, ap, ◌∙◌, is_some, subst}
+use Rattle.std.specs.Prelude.{IfSome, slice_get, slice_set, option_and_then}
+use Rattle.std.specs.List.{list_all, list_any}
+use Rattle.std.specs.Ordering.{eq_by_cmp, is_eq}
+use Rattle.std.specs.Cmp.{tied_itself}
+use Rattle.std.specs.FinSet as set
+use Rattle.std.specs.FinSet.{contains-from_list, contains-retain}
+use Rattle.std.proofs.lemmas.List.Folds.{list_all_at}
 use mathlib.Core.Bool.{true≢false}
-use Rattle.rdf_dataset.specs.State.{fits_place}
+use Rattle.rdf_dataset.specs.State.{State, fits_place, matches}
+use Rattle.rdf_dataset.specs.Sorted.{ListsOnce}
+use Rattle.rdf_terms.specs.Order.{graph_cmp, quad_cmp}
+use Rattle.rdf_terms.specs.OrderLaws.{quad_cmp_total, quad_cmp-IsAntisymmetric}
+use Rattle.rdf_terms.specs.declared.quad.GraphName.{GraphName}
 use Rattle.rdf_terms.specs.Quad.{QuadParts}
 use Rattle.rdf_terms.specs.declared.term.Term.{Term}
 use Rattle.sparql_values.specs.Mapping.{Mapping, same_term, value_at}
 use Rattle.sparql_algebra.proofs.CallerLemmas.{and_left, and_right, has_terms}
-use Rattle.sparql_solve.specs.Matching.{assigned_at, assigned, matched, fits, held}
+use Rattle.sparql_solve.specs.Matching.{assigned_at, assigned, matched, held, has_held, quads_under}
 use Rattle.sparql_solve.specs.declared.place.Place.{Place}
 use Rattle.sparql_solve.specs.declared.place.Place.TheVariants.{Fixed, Column, Nowhere}
 use Rattle.sparql_solve.specs.declared.place.Places.{Places}
@@ -65,8 +75,12 @@ is_none : {X : Type 0} (o : Option X) → is_some o ≡ false → o ≡ None
 is_none None h = refl
 is_none (Some x) h = cc
 
+-- the mapping may have each term of the triple at its place, one by one
+abbrev fits : Places → Mapping → QuadParts → Bool
+fits p m q = is_some (assigned m p.predicate q.predicate) && (is_some (assigned m p.subject q.subject) && is_some (assigned m p.object q.object))
+
 -- a triple of which one term is refused at its place is no match
-pub no_fit : (p : Places) (m : Mapping) (q : QuadParts) → fits p m q ≡ false → matched p m q ≡ None
+no_fit : (p : Places) (m : Mapping) (q : QuadParts) → fits p m q ≡ false → matched p m q ≡ None
 no_fit p m q h = by_predicate (assigned m p.predicate q.predicate) refl h
   where
     by_object : (k : Mapping) → is_some (assigned k p.object q.object) ≡ false → (s : Option Mapping) → assigned k p.subject q.subject ≡ s →
@@ -120,3 +134,99 @@ no_terms p m q h = by_fit (fits p m q) refl
     by_fit : (b : Bool) → fits p m q ≡ b → matched p m q ≡ None
     by_fit true e = absurd (true≢false (sym (fit_terms p m q e) ∙ h))
     by_fit false e = no_fit p m q e
+
+-- ---- a term that a mapping has at a place stays there
+
+set_keeps : (m : Mapping) (c d : ℕ) (t v : Term) → slice_get m d ≡ Some None → value_at m c ≡ Some t → value_at (slice_set m d (Some v)) c ≡ Some t
+set_keeps [] c d t v h e = cc
+set_keeps (x ∷ m) zero zero t v h e = cc
+set_keeps (x ∷ m) (suc c) zero t v h e = e
+set_keeps (x ∷ m) zero (suc d) t v h e = e
+set_keeps (x ∷ m) (suc c) (suc d) t v h e = set_keeps m c d t v h e
+
+some_same : {X : Type 0} {x y : X} → Some x ≡ Some y → x ≡ y
+some_same e = cc
+
+module _ (m k : Mapping) (c : ℕ) (t : Term) (r : value_at m c ≡ Some t) where
+  kept_same : (b : Bool) → cond b (Some m) None ≡ Some k → value_at k c ≡ Some t
+  kept_same true e = subst (λ (l : Mapping). value_at l c ≡ Some t) (some_same e) r
+  kept_same false e = cc
+
+  kept_column : (d : ℕ) (v : Term) (o : Option (Option Term)) → slice_get m d ≡ o → assigned_at m d v o ≡ Some k → value_at k c ≡ Some t
+  kept_column d v (Some (Some u)) h e = kept_same (same_term u v) e
+  kept_column d v (Some None) h e = subst (λ (l : Mapping). value_at l c ≡ Some t) (some_same e) (set_keeps m c d t v h r)
+  kept_column d v None h e = cc
+
+  kept_place : (y : Place) (v : Term) → assigned m y v ≡ Some k → value_at k c ≡ Some t
+  kept_place (Fixed u) v e = kept_same (same_term u v) e
+  kept_place (Column d) v e = kept_column d v (slice_get m d) refl e
+  kept_place Nowhere v e = cc
+
+keeps : (m k : Mapping) (x y : Place) (t v : Term) → assigned m y v ≡ Some k → held m x ≡ Some t → held k x ≡ Some t
+keeps m k (Fixed s) y t v e h = h
+keeps m k (Column c) y t v e h = kept_place m k c t h y v e
+keeps m k Nowhere y t v e h = h
+
+column_has : (k : Mapping) (c : ℕ) (t : Term) → value_at k c ≡ Some t → slice_get k c ≡ Some (Some t)
+column_has [] c t e = cc
+column_has (x ∷ k) zero t e = ap Some e
+column_has (x ∷ k) (suc c) t e = column_has k c t e
+
+has_it : (k : Mapping) (x : Place) (t u : Term) → held k x ≡ Some t → same_term t u ≡ true → assigned k x u ≡ Some k
+has_it k (Fixed s) t u h e = ap (λ b. cond b (Some k) None) (ap (λ (y : Term). same_term y u) (some_same h) ∙ e)
+has_it k (Column c) t u h e = ap (assigned_at k c u) (column_has k c t h) ∙ ap (λ b. cond b (Some k) None) e
+has_it k Nowhere t u h e = cc
+
+-- what the place had at the start, it has, and it is the term
+abbrev pub IsReady : Mapping → Mapping → Place → Term → Type 0
+IsReady m k x u = IfSome (held m x) (λ t. (held k x ≡ Some t) × (same_term t u ≡ true))
+
+pub ready_taken : (m k : Mapping) (x : Place) (u : Term) (b : Bool) → b ≡ is_some (held m x) → b ≡ true → IsReady m k x u → assigned k x u ≡ Some k
+ready_taken m k x u b e y r = by_term (held m x) (sym e ∙ y) r
+  where
+    by_term : (o : Option Term) → is_some o ≡ true → IfSome o (λ t. (held k x ≡ Some t) × (same_term t u ≡ true)) → assigned k x u ≡ Some k
+    by_term None h g = cc
+    by_term (Some t) h g = has_it k x t u g.0 g.1
+
+pub ready_first : (m k : Mapping) (x : Place) (u : Term) → k ≡ m → fits_place (held m x) u ≡ true → IsReady m k x u
+ready_first m k x u e f = by_term (held m x) refl f
+  where
+    by_term : (o : Option Term) → held m x ≡ o → fits_place o u ≡ true → IfSome o (λ t. (held k x ≡ Some t) × (same_term t u ≡ true))
+    by_term None h g = tt
+    by_term (Some t) h g = (ap (λ (l : Mapping). held l x) e ∙ h, g)
+
+pub ready_next : (m k l : Mapping) (x y : Place) (u v : Term) → IsReady m k x u → assigned k y v ≡ Some l → IsReady m l x u
+ready_next m k l x y u v r e = by_term (held m x) r
+  where
+    by_term : (o : Option Term) → IfSome o (λ t. (held k x ≡ Some t) × (same_term t u ≡ true)) → IfSome o (λ t. (held l x ≡ Some t) × (same_term t u ≡ true))
+    by_term None g = tt
+    by_term (Some t) g = (keeps k l x y t v e g.0, g.1)
+
+-- ---- the quads of a look-up have the terms
+
+either_last : (a b : Bool) → b ≡ true → (a || b) ≡ true
+either_last true b k = refl
+either_last false b k = k
+
+pub listed_held : (s : State) (g : GraphName) (p : Places) (m : Mapping) (found given : List QuadParts) → ListsOnce (quads_under s g p m) found → given ≡ found → list_all (has_held p m) given ≡ true
+listed_held s g p m found given h e = ap (list_all (has_held p m)) e ∙ each found listed
+  where
+    listed : (q : QuadParts) → list_any (eq_by_cmp quad_cmp q) found ≡ true → has_held p m q ≡ true
+    listed q k =
+        let test = matches g (held m p.subject) (held m p.predicate) (held m p.object) in
+        let held_there : set.contains (set.retain s.quads test) q ≡ true = ap (λ z. set.contains z q) (sym h.all) ∙ contains-from_list quad_cmp_total found q ∙ k in
+        and_right (eq_by_cmp graph_cmp g q.graph) _ (and_right (set.contains s.quads q) _
+        (sym (contains-retain s.quads test q (λ x i. ap test (sym (quad_cmp-IsAntisymmetric q x i)))) ∙ held_there))
+
+    each : (xs : List QuadParts) → ((q : QuadParts) → list_any (eq_by_cmp quad_cmp q) xs ≡ true → has_held p m q ≡ true) → list_all (has_held p m) xs ≡ true
+    each [] f = refl
+    each (x ∷ xs) f =
+        λ i. f x (ap (λ b. b || list_any (eq_by_cmp quad_cmp x) xs) (ap is_eq (tied_itself quad_cmp_total x))) i
+        && each xs (λ q k. f q (either_last (eq_by_cmp quad_cmp q x) _ k)) i
+
+pub held_at : (p : Places) (m : Mapping) (qs : List QuadParts) (i : ℕ) (q : QuadParts) → i < length qs → q ≡ get_or qs i q → list_all (has_held p m) qs ≡ true → has_held p m q ≡ true
+held_at p m qs i q lt here a = ap (has_held p m) here ∙ by_test (has_held p m (get_or qs i q)) refl
+  where
+    by_test : (b : Bool) → has_held p m (get_or qs i q) ≡ b → b ≡ true
+    by_test true e = refl
+    by_test false e = absurd (true≢false (sym a ∙ list_all_at (has_held p m) qs i q lt e))

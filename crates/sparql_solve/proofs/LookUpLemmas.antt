@@ -4,7 +4,8 @@ use Rattle.std.specs.List.{sum_by}
 use Rattle.std.proofs.lemmas.List.{drop_more}
 use Rattle.rdf_terms.specs.Quad.{QuadParts}
 use Rattle.rdf_terms.specs.declared.quad.GraphName.{GraphName}
-use Rattle.rdf_dataset.specs.State.{State}
+use Rattle.std.specs.FinSet as set
+use Rattle.rdf_dataset.specs.State.{State, Quads, matches}
 use Rattle.rdf_dataset.specs.Sorted.{ListsOnce}
 use Rattle.sparql_values.specs.Mapping.{Mapping}
 use Rattle.sparql_algebra.specs.Bags.{SameBag}
@@ -13,7 +14,7 @@ use Rattle.sparql_algebra.proofs.CallerLemmas.{sum_by-cong, sum_by-filter, SameB
 use Rattle.sparql_solve.specs.declared.look_ups.LookUp.{LookUp}
 use Rattle.sparql_solve.specs.declared.place.Places.{Places}
 use Rattle.sparql_solve.specs.LookUps.{widened}
-use Rattle.sparql_solve.specs.Matching.{matched, matches_of, stepped, matching, held, quads_under}
+use Rattle.sparql_solve.specs.Matching.{AsksSame, matched, matches_of, stepped, matching, held, quads_under}
 use Rattle.sparql_solve.specs.Sides.{found_in}
 use Rattle.sparql_solve.specs.Steps.{Gives}
 use Rattle.sparql_solve.proofs.FitLemmas.{terms_under, no_terms}
@@ -39,6 +40,13 @@ module _ (s : State) (g : GraphName) (p : Places) (m : Mapping) where
   look_up_gives found given out h eg e d l =
       subst (λ xs. SameBag xs (matches_of (d.quads g) p m)) (sym (e ∙ ap (λ (qs : List QuadParts). matches_of qs p m) eg))
       (found_matches found (d.quads g) h (l.quads g))
+
+-- under mappings that have the same at each place the same quads are looked up
+pub same_quads : (s : State) (g : GraphName) (p : Places) (m n : Mapping) → AsksSame p m n → quads_under s g p m ≡ quads_under s g p n
+same_quads s g p m n a = λ i. set.retain s.quads (matches g (a.subject i) (a.predicate i) (a.object i))
+
+pub asked_before : (s : State) (g : GraphName) (p : Places) (m n : Mapping) (found : List QuadParts) → AsksSame p m n → ListsOnce (quads_under s g p m) found → ListsOnce (quads_under s g p n) found
+asked_before s g p m n found a h = subst (λ (quads : Quads). ListsOnce quads found) (same_quads s g p m n a) h
 
 -- ---- one triple pattern after another
 

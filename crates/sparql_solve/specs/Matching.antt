@@ -1,10 +1,10 @@
 -- How a basic graph pattern is matched: one triple pattern after another, under each mapping so far.
-use Rattle.std.specs.Prelude.{ℕ, ◌+◌, Bool, ◌&&◌, cond, List, length, Option, Some, None, is_some, slice_get, slice_set, option_and_then}
+use Rattle.std.specs.Prelude.{◌≡◌, ℕ, ◌+◌, Bool, ◌&&◌, cond, List, length, Option, Some, None, slice_get, slice_set, option_and_then}
 use Rattle.std.specs.List.{fold, filter_map, flat_map}
 use Rattle.std.specs.FinSet as set
 use Rattle.rdf_terms.specs.Quad.{QuadParts}
 use Rattle.rdf_terms.specs.declared.quad.GraphName.{GraphName}
-use Rattle.rdf_dataset.specs.State.{State, Quads, matches}
+use Rattle.rdf_dataset.specs.State.{State, Quads, fits_place, matches}
 use Rattle.rdf_terms.specs.declared.term.Term.{Term}
 use Rattle.sparql_trees.specs.declared.pattern.TriplePattern.{TriplePattern}
 use Rattle.sparql_trees.specs.declared.pattern.VarOrTerm.{VarOrTerm}
@@ -54,10 +54,6 @@ assigned m (Fixed t) u = cond (same_term t u) (Some m) None
 assigned m (Column c) u = assigned_at m c u (slice_get m c)
 assigned m Nowhere u = None
 
--- the mapping may have each term of the triple at its place, one by one
-abbrev pub fits : Places → Mapping → QuadParts → Bool
-fits p m q = is_some (assigned m p.predicate q.predicate) && (is_some (assigned m p.subject q.subject) && is_some (assigned m p.object q.object))
-
 -- the mapping with what a triple pattern binds, where it has this triple as its instance
 abbrev pub matched : Places → Mapping → QuadParts → Option Mapping
 matched p m q =
@@ -82,6 +78,16 @@ held m (Fixed t) = Some t
 held m (Column c) = value_at m c
 held m Nowhere = None
 
+-- the quad has each of these terms
+abbrev pub has_held : Places → Mapping → QuadParts → Bool
+has_held p m q = fits_place (held m p.subject) q.subject && (fits_place (held m p.predicate) q.predicate && fits_place (held m p.object) q.object)
+
 -- the quads of a graph that have the terms which the mapping has at the places
 abbrev pub quads_under : State → GraphName → Places → Mapping → Quads
 quads_under s g p m = set.retain s.quads (matches g (held m p.subject) (held m p.predicate) (held m p.object))
+
+-- the mappings have the same at each place
+pub record AsksSame (p : Places) (m n : Mapping) : Type 0 where
+  pub subject : held m p.subject ≡ held n p.subject
+  pub predicate : held m p.predicate ≡ held n p.predicate
+  pub object : held m p.object ≡ held n p.object

@@ -1,8 +1,9 @@
 //! Basic graph patterns: the rows under which every instance lies in the graph
 //! (SPARQL 1.1 Query, section 18.3.1), by look-ups.
-ghost use Rattle.std.specs.Prelude.{◌≡◌, IfOk, map, take};
+ghost use Rattle.std.specs.Prelude.{◌≡◌, ◌++◌, IfOk, IfSome, IsTrue, OnOk, map, option_copied, take};
+ghost use Rattle.std.specs.List.{list_all};
 ghost use Rattle.rdf_dataset.specs.Sorted.{ListsOnce};
-ghost use Rattle.sparql_solve.specs.Matching.{fits, matched, matches_of, stepped, matching, quads_under};
+ghost use Rattle.sparql_solve.specs.Matching.{AsksSame, has_held, matched, matches_of, stepped, matching, quads_under};
 ghost use Rattle.sparql_solve.specs.Steps.{Gives};
 
 use crate::place::Places;
@@ -11,94 +12,105 @@ use rdf_dataset::Source;
 use rdf_terms::{GraphName, NoMemory, Quad};
 use std::alloc::Global;
 
-// Whether each place of the row may have its term of the triple.
-fn fits(row: &Row, places: &Places, quad: &Quad) -> bool
-    ensures { result ≡ fits places.now row.now quad.now }
-{
-    row.admits(&places.predicate, quad.predicate())
-        && row.admits(&places.subject, quad.subject())
-        && row.admits(&places.object, quad.object())
-}
-
-// A row is copied only where each term fits; a variable that stands twice may still want two terms.
-#[tactic(auto, using(crate::proofs::FitLemmas::no_fit))]
+// The row with what the triple binds, which was looked up under it; a variable that stands twice may
+// still want two terms.
 fn matched_row(
     alloc: Global,
     row: &Row,
     places: &Places,
     quad: &Quad,
 ) -> Result<Option<Row>, NoMemory>
+    requires { IsTrue (has_held places.now row.now quad.now) }
     ensures { IfOk result (λ out. out ≡ matched places.now row.now quad.now) }
 {
-    if !fits(row, places, quad) {
+    let mut found = row.copy(alloc)?;
+    if !found.take(row, &places.predicate, quad.predicate())? {
         return Ok(None);
     }
-    let Some(row) = row
-        .copy(alloc)?
-        .assigned(&places.predicate, quad.predicate())?
-    else {
+    if !found.take(row, &places.subject, quad.subject())? {
         return Ok(None);
-    };
-    let Some(row) = row.assigned(&places.subject, quad.subject())? else {
+    }
+    if !found.take(row, &places.object, quad.object())? {
         return Ok(None);
-    };
-    row.assigned(&places.object, quad.object())
+    }
+    Ok(Some(found))
 }
 
-fn matches_of_row(
+// Appends the rows that the triples make of a row under which they were looked up.
+fn append_matches(
     alloc: Global,
     row: &Row,
     places: &Places,
     quads: &[Quad],
-) -> Result<Vec<Row>, NoMemory>
-    ensures { IfOk result (λ out. out.items ≡ matches_of quads.now places.now row.now) }
+    out: &mut Vec<Row>,
+) -> Result<(), NoMemory>
+    requires { IsTrue (list_all (has_held places.now row.now) quads.now) }
+    ensures { OnOk result (out.new.items
+        ≡ out.old.items ++ matches_of quads.now places.now row.now) }
 {
-    let mut out = Vec::new(alloc);
     for quad in quads {
         if let Some(found) = matched_row(alloc, row, places, quad)? {
             out.push(found)?;
         }
     }
-    Ok(out)
+    Ok(())
+}
+
+// Whether the rows have the same at the places.
+fn asks_same(row: &Row, other: &Row, places: &Places) -> bool
+    ensures { IsTrue result → AsksSame places.now row.now other.now }
+{
+    row.holds_same(other, &places.subject)
+        && row.holds_same(other, &places.predicate)
+        && row.holds_same(other, &places.object)
 }
 
 // The quads of the graph that have the terms which the row has at the places.
 fn quads_under<S: Source>(
-    alloc: Global,
     graph: &GraphName,
     source: &S,
     places: &Places,
     row: &Row,
-) -> Result<Vec<Quad>, NoMemory>
-    ensures { IfOk result (λ found. ListsOnce (quads_under (S.contents source.now) graph.now
-        places.now row.now) found.items) }
+    quads: &mut Vec<Quad>,
+) -> Result<(), NoMemory>
+    ensures { OnOk result (ListsOnce (quads_under (S.contents source.now) graph.now
+        places.now row.now) quads.new.items) }
 {
-    let mut found = Vec::new(alloc);
+    quads.clear();
     source.matches(
         graph,
         row.held(&places.subject),
         row.held(&places.predicate),
         row.held(&places.object),
-        &mut found,
+        quads,
     )?;
-    Ok(found)
+    Ok(())
 }
 
-// The rows that one triple pattern makes of a row, by a look-up of its triples.
+// The same, where the quads are those under the row before, if there was one.
 fn look_up<S: Source>(
-    alloc: Global,
     graph: &GraphName,
     source: &S,
     places: &Places,
+    before: Option<&Row>,
     row: &Row,
-) -> Result<Vec<Row>, NoMemory>
-    ensures { IfOk result (λ out. Gives (S.contents source.now) out.items
-        (λ d. matches_of (d.quads graph.now) places.now row.now)) }
+    quads: &mut Vec<Quad>,
+) -> Result<(), NoMemory>
+    requires { IfSome (option_copied before) (λ m. ListsOnce
+        (quads_under (S.contents source.now) graph.now places.now m) quads.old.items) }
+    ensures { OnOk result (ListsOnce (quads_under (S.contents source.now) graph.now
+        places.now row.now) quads.new.items) }
 {
-    let quads = quads_under(alloc, graph, source, places, row)?;
-    matches_of_row(alloc, row, places, &quads)
+    if let Some(before) = before {
+        if asks_same(before, row, places) {
+            return Ok(());
+        }
+    }
+    quads_under(graph, source, places, row, quads)
 }
 
+// The rows that one triple pattern makes of these, by look-ups of its triples. Rows that ask the
+// same one after another share a look-up.
 fn step<S: Source>(
     alloc: Global,
     graph: &GraphName,
@@ -110,9 +122,12 @@ fn step<S: Source>(
         (λ d. stepped (d.quads graph.now) rows.now places.now)) }
 {
     let mut out = Vec::new(alloc);
+    let mut quads = Vec::new(alloc);
+    let mut before = None;
     for row in rows {
-        let mut found = look_up(alloc, graph, source, places, row)?;
-        out.append(&mut found)?;
+        look_up(graph, source, places, before, row, &mut quads)?;
+        append_matches(alloc, row, places, &quads, &mut out)?;
+        before = Some(row);
     }
     Ok(out)
 }
@@ -140,7 +155,7 @@ pub(crate) fn matching_rows<S: Source>(
 pub(crate) fn cut_rows(alloc: Global, rows: Vec<Row>, columns: usize) -> Result<Vec<Row>, NoMemory>
     ensures { IfOk result (λ out. out.items ≡ map (take columns) rows.items) }
 {
-    let mut out = Vec::new(alloc);
+    let mut out = Vec::with_capacity(alloc, rows.len())?;
     for row in rows {
         out.push(row.cut(columns))?;
     }

@@ -88,7 +88,7 @@ fn projected_rows(
 ) -> Result<Vec<Row>, NoMemory>
     ensures { IfOk result (λ out. out.items ≡ map (λ m. map (value_in m) columns.now) rows.now) }
 {
-    let mut out = Vec::new(alloc);
+    let mut out = Vec::with_capacity(alloc, rows.len())?;
     for row in rows {
         out.push(row.projected(alloc, columns)?)?;
     }

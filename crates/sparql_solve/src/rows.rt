@@ -1,5 +1,5 @@
 //! Rows: mappings over the columns of a pattern (SPARQL 1.1 Query, section 18.1.4).
-ghost use Rattle.std.specs.Prelude.{◌≡◌, ◌+◌, ◌<◌, length, is_some, slice_get, slice_set, Some, IfOk, replicate, None, take, if◌then◌else◌, nat_lt, map};
+ghost use Rattle.std.specs.Prelude.{◌≡◌, ◌+◌, ◌<◌, length, is_some, slice_get, slice_set, Some, IfOk, IfSome, IsTrue, cond, replicate, None, take, if◌then◌else◌, nat_lt, map};
 ghost use Rattle.std.specs.Option.{option_copied, option_map};
 ghost use Rattle.sparql_values.specs.Mapping.{agrees, first_of, compatible, merge, same_term, single, value_at, value_in};
 ghost use Rattle.sparql_algebra.specs.Order.{mapping_cmp};
@@ -41,6 +41,17 @@ fn agree(x: &Option<Term>, y: &Option<Term>) -> bool
     match (x, y) {
         (Some(s), Some(t)) => is_same(s, t),
         _ => true,
+    }
+}
+
+// Whether two values are one term, or both nothing.
+fn is_same_value(x: Option<&Term>, y: Option<&Term>) -> bool
+    ensures { IsTrue result → option_copied x.entry ≡ option_copied y.entry }
+{
+    match (x, y) {
+        (Some(s), Some(t)) => is_same(s, t),
+        (None, None) => true,
+        _ => false,
     }
 }
 
@@ -90,7 +101,7 @@ impl Row {
     pub(crate) fn merged(&self, alloc: Global, other: &Row) -> Result<Row, NoMemory>
         ensures { IfOk result (λ row. row ≡ merge self.now other.now) }
     {
-        let mut values = Vec::new(alloc);
+        let mut values = Vec::with_capacity(alloc, self.values.len())?;
         for (x, y) in self.values.iter().zip(&other.values) {
             values.push(first_of(x, y)?)?;
         }
@@ -100,7 +111,7 @@ impl Row {
     pub(crate) fn copy(&self, alloc: Global) -> Result<Row, NoMemory>
         ensures { IfOk result (λ row. row ≡ self.now) }
     {
-        let mut values = Vec::new(alloc);
+        let mut values = Vec::with_capacity(alloc, self.values.len())?;
         for value in &self.values {
             values.push(copy_value(value)?)?;
         }
@@ -137,21 +148,20 @@ impl Row {
     ) -> Result<Row, NoMemory>
         ensures { IfOk result (λ row. row ≡ single variables.now name.now term.now) }
     {
-        let row = Row::empty(alloc, variables.len(), 0)?;
-        Ok(match column(variables, name) {
-            Some(column) => row.with(column, term.copy()?),
-            None => row,
-        })
+        let mut row = Row::empty(alloc, variables.len(), 0)?;
+        if let Some(column) = column(variables, name) {
+            row.set(column, term.copy()?);
+        }
+        Ok(row)
     }
 
-    // The row with the term at the column, if it has that.
-    fn with(mut self, column: usize, term: Term) -> Row
-        ensures { result ≡ slice_set self column (Some term) }
+    // Puts the term at the column, if there is one.
+    fn set(&mut self, column: usize, term: Term)
+        ensures { self.new ≡ slice_set self.old column (Some term) }
     {
         if let Some(value) = self.values.get_mut(column) {
             let _ = value.replace(term);
         }
-        self
     }
 
     // The place of a column in the row.
@@ -194,8 +204,25 @@ impl Row {
         }
     }
 
-    /// Whether the place may have the term: it has it, or nothing.
-    pub(crate) fn admits(&self, place: &Place, term: &Term) -> bool
+    // Whether the place has a term in the row.
+    fn has(&self, place: &Place) -> bool
+        ensures { result ≡ is_some (held self.now place.now) }
+    {
+        self.held(place).is_some()
+    }
+
+    /// Whether the place has the same in both rows: one term, or nothing.
+    pub(crate) fn holds_same(&self, other: &Row, place: &Place) -> bool
+        ensures { IsTrue result → held self.now place.now ≡ held other.now place.now }
+    {
+        match place {
+            Place::Fixed(_) | Place::Nowhere => true,
+            Place::Column(_) => is_same_value(self.held(place), other.held(place)),
+        }
+    }
+
+    // Whether the place may have the term: it has it, or nothing.
+    fn admits(&self, place: &Place, term: &Term) -> bool
         ensures { result ≡ is_some (assigned self.now place.now term.now) }
     {
         match place {
@@ -211,19 +238,22 @@ impl Row {
         }
     }
 
-    /// The row with the term at the place; nothing where another term stands there, or the place
-    /// has no column.
-    pub(crate) fn assigned(mut self, place: &Place, term: &Term) -> Result<Option<Row>, NoMemory>
-        ensures { IfOk result (λ row. row ≡ assigned self place.now term.now) }
+    /// Puts the term at the place, and answers whether it may stand there: nothing else does. What
+    /// the place had at the start, it has; so no term is compared there.
+    pub(crate) fn take(&mut self, start: &Row, place: &Place, term: &Term) -> Result<bool, NoMemory>
+        requires { IfSome (held start.now place.now)
+            (λ t. (held self.old place.now ≡ Some t) × IsTrue (same_term t term.now)) }
+        ensures { IfOk result (λ fits.
+            assigned self.old place.now term.now ≡ cond fits (Some self.new) None) }
     {
-        Ok(match self.vacant(place) {
-            Some(column) => Some(self.with(column, term.copy()?)),
-            None => if self.admits(place, term) {
-                Some(self)
-            } else {
-                None
-            },
-        })
+        if start.has(place) {
+            return Ok(true);
+        }
+        let Some(column) = self.vacant(place) else {
+            return Ok(self.admits(place, term));
+        };
+        self.set(column, term.copy()?);
+        Ok(true)
     }
 
     /// The first columns alone.
@@ -263,7 +293,7 @@ impl Row {
     ) -> Result<Row, NoMemory>
         ensures { IfOk result (λ row. row ≡ map (value_in self.now) columns.now) }
     {
-        let mut values = Vec::new(alloc);
+        let mut values = Vec::with_capacity(alloc, columns.len())?;
         for column in columns {
             values.push(self.value_in(*column)?)?;
         }
