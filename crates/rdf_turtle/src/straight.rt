@@ -34,8 +34,8 @@ pub(crate) enum Pending {
     UnknownPrefix,
 }
 
-// Says the triples of a statement, or declares its prefix or base. Only where one of its names has no IRI,
-// or a datatype, is it told which fault goes before.
+// Says the triples of a statement, or declares its prefix or base. Where one of its names has no IRI, a look at
+// its prefixes tells which fault that is.
 fn say<'a>(
     scope: &mut Scope<'a>,
     declared: &mut IndexSet<Key<'a>>,
