@@ -63,7 +63,7 @@ fn begin<T: Files>(
         Ending::Failed => return Err(Outcome::ReadFailed),
         Ending::NoMemory(refused) => return Err(Outcome::NoMemory(refused)),
     }
-    match keeper.load(format, text.as_slice()) {
+    match keeper.load_text(format, text) {
         Ok(_) => {
             keeper.commit();
             Ok(())

@@ -90,6 +90,19 @@ impl Keeper {
         self.accept(net)
     }
 
+    /// Loads a document as [`load`](Keeper::load) does, and lets its text go as soon as it is read.
+    ///
+    /// # Errors
+    /// Those of [`load`](Keeper::load); the session is then as it was.
+    pub fn load_text(&mut self, format: Format, text: Vec<u8>) -> Result<Counts, KeeperFault>
+        ensures { Step self.old (Do (Load format text.items)) (reply_of result) self.new }
+    {
+        let quads = read(self.alloc, format, text.as_slice(), self.base_iri.as_ref())?;
+        drop(text);
+        let entry = stage(self.alloc, &self.dataset, quads)?;
+        self.accept(entry)
+    }
+
     /// Applies a request of SPARQL 1.1 Update, its references against the session's base: its operations act in their order. Counts are of
     /// the quads that all of them together added and removed.
     ///

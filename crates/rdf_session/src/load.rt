@@ -10,7 +10,7 @@ ghost use Rattle.rdf_session.specs.Inside.Staging.{Stages, TellsFault, TellsLine
 
 use crate::fault::KeeperFault;
 use crate::format::Format;
-use rdf_dataset::{Dataset, Net, Staged};
+use rdf_dataset::{Dataset, Net};
 use rdf_lines::{FaultKind, LineFault, LineFormat, read_lines};
 use rdf_terms::{GraphName, Iri, Quad, Term};
 use rdf_turtle::{TurtleFault, TurtleFaultKind, read_turtle};
@@ -129,9 +129,8 @@ pub(crate) fn stage(alloc: Global, dataset: &Dataset, quads: Vec<Quad>) -> Resul
     if blanks > LAST_NUMBER {
         return Err(KeeperFault::BlankNumbers);
     }
-    let mut staged = Staged::over(alloc, dataset);
-    match staged.insert_data(quads, blanks)? {
+    match Net::of_data(alloc, dataset, quads, blanks)? {
         None => Err(KeeperFault::BlankNumbers),
-        Some(_) => Ok(staged.into_net()?),
+        Some(net) => Ok(net),
     }
 }
