@@ -99,8 +99,8 @@ impl Keeper {
     {
         let quads = read(self.alloc, format, text.as_slice(), self.base_iri.as_ref())?;
         drop(text);
-        let entry = stage(self.alloc, &self.dataset, quads)?;
-        self.accept(entry)
+        let net = stage(self.alloc, &self.dataset, quads)?;
+        self.accept(net)
     }
 
     /// Applies a request of SPARQL 1.1 Update, its references against the session's base: its operations act in their order. Counts are of

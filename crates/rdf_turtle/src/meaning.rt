@@ -33,7 +33,8 @@ impl<'a> Scope<'a> {
     fn verb(&mut self, verb: &Verb<'a>) -> Result<Iri, PrologueFault>
         requires proper { IsTrue (proper.proper_verb verb.now) }
         ensures gives { Gives (spec.verb verb.now self.old) result self.new }
-        ensures known { OnOk result (IsTrue (known.known_verb (declared self.old.prologue) verb.now)) }
+        ensures known { OnOk result
+            (IsTrue (known.known_verb (declared self.old.prologue) verb.now)) }
         ensures same { self.new ≡ self.old }
     {
         match verb {
@@ -105,7 +106,8 @@ impl<'a> Scope<'a> {
         requires room { HasRoom 0 self.old }
         ensures gives { let says = spec.object subject.now predicate.now (spec.meaning node.now) in
             Gives (says self.old) result self.new }
-        ensures known { OnOk result (IsTrue (known.known_node (declared self.old.prologue) node.now)) }
+        ensures known { OnOk result
+            (IsTrue (known.known_node (declared self.old.prologue) node.now)) }
         ensures prologue { self.new.prologue ≡ self.old.prologue }
         ensures room { OnOk result (TakesAtMost 0 self.old self.new) }
     {
@@ -136,7 +138,8 @@ impl<'a> Scope<'a> {
         requires room { HasRoom 0 self.old }
         ensures gives { let step = next_cell cell.now rest.now first.now (spec.meaning item.now) in
             Gives (step self.old) result self.new }
-        ensures known { OnOk result (IsTrue (known.known_node (declared self.old.prologue) item.now)) }
+        ensures known { OnOk result
+            (IsTrue (known.known_node (declared self.old.prologue) item.now)) }
         ensures prologue { self.new.prologue ≡ self.old.prologue }
         ensures room { OnOk result (TakesAtMost 0 self.old self.new) }
         ensures kind { IfOk result (λ next. is_literal_term next ≡ false) }
@@ -206,7 +209,8 @@ impl<'a> Scope<'a> {
         requires subject { is_literal_term subject.now ≡ false }
         requires room { HasRoom 0 self.old }
         ensures gives { Gives (spec.property property.now subject.now self.old) result self.new }
-        ensures known { OnOk result (IsTrue (known.known_property (declared self.old.prologue) property.now)) }
+        ensures known { OnOk result
+            (IsTrue (known.known_property (declared self.old.prologue) property.now)) }
         ensures prologue { self.new.prologue ≡ self.old.prologue }
         ensures room { OnOk result (TakesAtMost 0 self.old self.new) }
     {
@@ -257,7 +261,8 @@ impl<'a> Scope<'a> {
         requires proper { IsTrue (proper.proper_statement statement.now) }
         requires room { HasRoom 1 self.old }
         ensures gives { Gives (spec.statement statement.now self.old) result self.new }
-        ensures known { OnOk result (IsTrue (known.known_statement (declared self.old.prologue) statement.now)) }
+        ensures known { OnOk result
+            (IsTrue (known.known_statement (declared self.old.prologue) statement.now)) }
         ensures declares { let before = declared self.old.prologue in
             OnOk result (declared self.new.prologue ≡ declared_behind before statement.now) }
         ensures room { OnOk result (TakesAtMost 1 self.old self.new) }

@@ -128,7 +128,8 @@ impl<'a> Scope<'a> {
     pub(crate) fn literal(&mut self, literal: &Written<'a>) -> Result<Literal, PrologueFault>
         requires proper { IsTrue (proper_literal literal.now) }
         ensures gives { Gives (meaning.literal literal.now self.old) result self.new }
-        ensures known { OnOk result (IsTrue (known_literal (declared self.old.prologue) literal.now)) }
+        ensures known { OnOk result
+            (IsTrue (known_literal (declared self.old.prologue) literal.now)) }
         ensures same { self.new ≡ self.old }
     {
         self.prologue.literal(&self.vocabulary, literal)
