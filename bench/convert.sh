@@ -25,11 +25,11 @@ catalogue() {
     esac
 }
 
-# the command's output goes to a file, what it takes to another: user seconds, wall seconds, kibibytes
+# the command's output goes to a file, what it takes to another: seconds of user and system time and by the clock, kibibytes
 measure() {
     local name=$1
     shift
-    /usr/bin/time -f '%U %e %M' -o "$work/$name.time" "$@" > "$work/$name.out" 2> "$work/$name.err" || {
+    /usr/bin/time -f '%U %S %e %M' -o "$work/$name.time" "$@" > "$work/$name.out" 2> "$work/$name.err" || {
         printf '%s failed: %s\n' "$name" "$(head -1 "$work/$name.err")"
     }
 }
@@ -41,19 +41,20 @@ import sys
 
 work = sys.argv[1]
 best = {}
-print("%-8s %8s %8s %10s %10s" % ("", "user s", "wall s", "peak MB", "lines out"))
+print("%-8s %11s %8s %10s %10s" % ("", "processor s", "wall s", "peak MB", "lines out"))
 for name in ("rdfkeep", "serdi", "rapper"):
     runs = []
     for number in (1, 2, 3):
         last = open(f"{work}/{name}.{number}.time").read().strip().splitlines()[-1]
-        runs.append(tuple(float(x) for x in last.split()))
-    user, wall, peak = min(runs, key=lambda run: run[1])
+        user, system, wall, peak = (float(x) for x in last.split())
+        runs.append((user + system, wall, peak))
+    processor, wall, peak = min(runs, key=lambda run: run[1])
     with open(f"{work}/{name}.1.out", "rb") as out:
         count = sum(1 for _ in out)
-    best[name] = (user, wall)
-    print("%-8s %8.2f %8.2f %10.1f %10d" % (name, user, wall, peak * 1024 / 1e6, count))
+    best[name] = (processor, wall)
+    print("%-8s %11.2f %8.2f %10.1f %10d" % (name, processor, wall, peak * 1024 / 1e6, count))
 for other in ("serdi", "rapper"):
-    print("rdfkeep / %-6s user %.2f, wall %.2f" % (other, best["rdfkeep"][0] / max(best[other][0], 0.01), best["rdfkeep"][1] / max(best[other][1], 0.01)))
+    print("rdfkeep / %-6s processor %.2f, wall %.2f" % (other, best["rdfkeep"][0] / max(best[other][0], 0.01), best["rdfkeep"][1] / max(best[other][1], 0.01)))
 PY
 }
 
