@@ -1,5 +1,5 @@
 -- What a set of terms by the code's `==` is as a table.
-use Rattle.std.proofs.Common.{◌≡◌, ◌≢◌, refl, sym, ap, subst, ◌∙◌, ◌⊎◌, inl, inr, ℕ, ◌<◌, Bool, true, false, cond, ◌||◌, true≢false, List, [], ◌∷◌, ◌++◌, length, get_or, Some, slice_get, position, AllPairs, arith}
+use Rattle.std.proofs.Common.{◌≡◌, refl, sym, ap, subst, ◌∙◌, ◌⊎◌, inl, inr, ℕ, ◌<◌, Bool, true, false, cond, ◌||◌, List, [], ◌∷◌, ◌++◌, get_or, Some, position}
 use Rattle.std.specs.Bool.{Decides}
 use Rattle.std.specs.List.{list_any, IsDistinct}
 use Rattle.std.specs.Ordering.{eq_by_cmp, is_eq}

@@ -2,7 +2,7 @@
 ghost use Rattle.std.specs.Prelude.{◌≡◌, IfOk, IsTrue, if◌then◌else◌, option_map};
 ghost use Rattle.std.specs.Option.{option_copied};
 ghost use Rattle.std.specs.Str.{str_to_ascii_lowercase};
-ghost use Rattle.rdf_terms.specs.Literal.{LiteralParts, is_tag, is_literal, tagged};
+ghost use Rattle.rdf_terms.specs.Literal.{LiteralParts, is_tag, is_literal, lang_string, tagged};
 
 use crate::cursor::Cursor;
 use crate::fault::NoMemory;
@@ -103,7 +103,9 @@ impl Literal {
         if !is_tag(tag) {
             return Ok(None);
         }
-        Literal::tagged_from_text(alloc, Text::new(alloc, lexical)?, tag)
+        let lexical = Text::new(alloc, lexical)?;
+        let datatype = Iri::lang_string(alloc)?;
+        Ok(Some(with_tag(alloc, lexical, datatype, tag)?))
     }
 
     /// As [`Literal::tagged`], with a lexical form that it takes over.
@@ -121,18 +123,7 @@ impl Literal {
         if !is_tag(tag) {
             return Ok(None);
         }
-        let _ = lexical.as_str();
-        let datatype = Iri::lang_string(alloc)?;
-        let _ = datatype.as_str();
-        let tag = lowered(alloc, tag)?;
-        let parts = Parts {
-            lexical,
-            datatype,
-            tag: Some(tag),
-        };
-        Ok(Some(Literal {
-            parts: Shared::new(alloc, parts)?,
-        }))
+        Ok(Some(with_tag(alloc, lexical, Iri::lang_string(alloc)?, tag)?))
     }
 
     /// The lexical form.
@@ -196,6 +187,22 @@ impl Literal {
             parts: self.parts.copy()?,
         })
     }
+}
+
+// The literal with this lexical form and a language tag, which is lowered. Its datatype is rdf:langString.
+fn with_tag(alloc: Global, lexical: Text, datatype: Iri, tag: &str) -> Result<Literal, NoMemory>
+    requires language { datatype ≡ lang_string }
+    requires is_one { IsTrue (is_tag tag.now) }
+    ensures { IfOk result (λ l. l ≡ tagged lexical tag.now) }
+{
+    let parts = Parts {
+        lexical,
+        datatype,
+        tag: Some(lowered(alloc, tag)?),
+    };
+    Ok(Literal {
+        parts: Shared::new(alloc, parts)?,
+    })
 }
 
 // An equal tag.

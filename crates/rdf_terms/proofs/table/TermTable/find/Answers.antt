@@ -1,4 +1,4 @@
-use Rattle.std.proofs.Common.{◌≡◌, ap, sym, ◌∙◌, subst, false}
+use Rattle.std.proofs.Common.{◌≡◌, sym, ◌∙◌, subst, false}
 use Rattle.rdf_terms.specs.Table.{IsIdOf, is_held}
 use Rattle.rdf_terms.proofs.TableLemmas.{held, placed}
 use Rattle.rdf_terms.proofs.table.TermTable.find.Goals as goal
