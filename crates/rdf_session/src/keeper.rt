@@ -1,10 +1,12 @@
 //! The keeper: a dataset with its history.
-ghost use Rattle.std.specs.Prelude.{◌≡◌, ℕ, List, ◌+◌, ◌≤◌, ◌-◌, ◌∷◌, ◌++◌, Result, Ok, Err, IfOk, IfErr, OnErr, length, slice_index_or};
+ghost use Rattle.std.specs.Prelude.{◌≡◌, ℕ, List, ◌+◌, ◌≤◌, ◌-◌, ◌∷◌, ◌++◌, Result, Ok, Err, IfOk, IfErr, OnErr, MatchResult, length, slice_index_or};
 ghost use Rattle.std.specs.FinSet as set;
 ghost use Rattle.std.specs.List.{AllByRecursion, concat};
 ghost use Rattle.rdf_dataset.specs.State.{Begins, empty_state, IsSound, State, net_between};
+ghost use Rattle.rdf_session.specs.Documents.{IsDocument};
 ghost use Rattle.rdf_session.specs.GivesBack.{IsWholeSession};
 ghost use Rattle.rdf_session.specs.Inside.Kept.{AreNets, states_after};
+ghost use Rattle.rdf_session.specs.Inside.Staging.{TellsFault};
 ghost use Rattle.rdf_session.specs.Session.{nets_between};
 ghost use Rattle.rdf_dataset.specs.Sorted.{ListsSorted};
 ghost use Rattle.rdf_session.specs.Listing.{ListsQuads};
@@ -21,7 +23,7 @@ use crate::marks::Marks;
 use crate::query::{Answer, evaluate, read_text};
 use crate::update::{read_request, stage_request};
 use rdf_dataset::{Dataset, Net, Source};
-use rdf_terms::{Iri, NoMemory as NoMemoryFault, Term};
+use rdf_terms::{Iri, NoMemory as NoMemoryFault, Quad, Term};
 use std::alloc::Global;
 use std::marker::Model;
 
@@ -85,9 +87,8 @@ impl Keeper {
     pub fn load(&mut self, format: Format, text: &[u8]) -> Result<Counts, KeeperFault>
         ensures { Step self.old (Do (Load format text.now)) (reply_of result) self.new }
     {
-        let quads = read(self.alloc, format, text, self.base_iri.as_ref())?;
-        let net = stage(self.alloc, &self.dataset, quads)?;
-        self.accept(net)
+        let quads = self.document(format, text)?;
+        self.insert(quads)
     }
 
     /// Loads a document as [`load`](Keeper::load) does, and lets its text go as soon as it is read.
@@ -97,8 +98,26 @@ impl Keeper {
     pub fn load_text(&mut self, format: Format, text: Vec<u8>) -> Result<Counts, KeeperFault>
         ensures { Step self.old (Do (Load format text.items)) (reply_of result) self.new }
     {
-        let quads = read(self.alloc, format, text.as_slice(), self.base_iri.as_ref())?;
+        let quads = self.document(format, text.as_slice())?;
         drop(text);
+        self.insert(quads)
+    }
+
+    // The quads of a text, against the session's base.
+    fn document(&self, format: Format, text: &[u8]) -> Result<Vec<Quad>, KeeperFault>
+        ensures { MatchResult result
+            (λ quads. IsDocument format self.now.base_iri text.now quads.items)
+            (λ fault. TellsFault format self.now.base_iri text.now fault) }
+    {
+        read(self.alloc, format, text, self.base_iri.as_ref())
+    }
+
+    // Loads the quads of a document, whichever text it is of.
+    fn insert(&mut self, quads: Vec<Quad>) -> Result<Counts, KeeperFault>
+        ensures { (format : Format) (text : List ℕ) →
+            IsDocument format self.old.base_iri text quads.items →
+            Step self.old (Do (Load format text)) (reply_of result) self.new }
+    {
         let net = stage(self.alloc, &self.dataset, quads)?;
         self.accept(net)
     }

@@ -2,26 +2,25 @@ use Rattle.std.proofs.Common.{◌≡◌, ◌+◌, ◌≤◌, ◌∙◌, ap, refl
 use Rattle.std.proofs.lemmas.Result.{IfOk-weaker}
 use Rattle.rdf_dataset.specs.State.{State, last_number, net_between}
 use Rattle.rdf_session.specs.Request.{Load, Makes, blank_limit, loaded}
-use Rattle.rdf_session.specs.Documents.{IsDocument}
-use Rattle.rdf_session.specs.Session.{Session, now}
+use Rattle.rdf_session.specs.Session.{now}
 use Rattle.rdf_session.proofs.AnswerLemmas.{accept_step}
 use Rattle.rdf_session.proofs.KeptLemmas.{now_is}
-use Rattle.rdf_session.proofs.keeper.Keeper.load.Goals as goal
+use Rattle.rdf_session.proofs.keeper.Keeper.insert.Goals as goal
 
 pub accept-requires : goal.accept-requires
 accept-requires c =
     let n = now_is _ _ _ _ _ c.self.inside.marks c.self.invariant _ c.self.view_is in
-    let qs = c.in_ok-quads.quads.items in
+    let qs = c.args.quads.items in
     let st = c.in_ok-net.ensures in
     (loaded c.self.inside.dataset qs, st.1.0, st.1.1 ∙ ap (λ s. net_between s (loaded c.self.inside.dataset qs)) n)
 
 pub returns : goal.returns
-returns c =
+returns c = λ format text is.
     let n = now_is _ _ _ _ _ c.self.inside.marks c.self.invariant _ c.self.view_is in
-    let qs = c.in_ok-quads.quads.items in
+    let qs = c.args.quads.items in
     let st = c.in_ok-net.ensures in
     let after = loaded (now c.args.self.now) qs in
     let net : c.in_ok-net.net ≡ net_between (now c.args.self.now) after = st.1.1 ∙ ap (λ s. net_between s (loaded s qs)) n in
-    let makes : Makes c.args.self.now.base_iri (Load c.args.format c.args.text.now) (now c.args.self.now) after = (qs, subst (λ b. IsDocument c.args.format b c.args.text.now qs) (c.as_ref.ensures.value ∙ ap (λ (o : Session). o.base_iri) c.self.view_is) c.in_ok-quads.ensures, subst (λ (s : State). s.next + blank_limit qs ≤ last_number) n st.0, refl) in
-    accept_step _ _ (Load c.args.format c.args.text.now) after c.accept.result makes
+    let makes : Makes c.args.self.now.base_iri (Load format text) (now c.args.self.now) after = (qs, is, subst (λ (s : State). s.next + blank_limit qs ≤ last_number) n st.0, refl) in
+    accept_step _ _ (Load format text) after c.accept.result makes
     (IfOk-weaker c.accept.result _ _ (λ x h. h after net) c.accept.ensures.ok) c.accept.ensures.refused c.accept.ensures.err
