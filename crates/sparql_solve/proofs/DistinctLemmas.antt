@@ -143,14 +143,16 @@ twice_once m k xs = by_first (same_mapping m k) refl
 fewer_from : (m k : Mapping) (xs : List Mapping) →
     once_if_any (count_by (same_mapping m) (dedup_from same k xs)) ≡ once_if_any (count_by (same_mapping m) (k ∷ xs))
 fewer_from m k [] = refl
-fewer_from m k (x ∷ xs) = by_same (same x k) refl
+fewer_from m k (x ∷ xs) = by_same (same x k) refl (fewer_from m k xs) (fewer_from m x xs)
   where
     by_same : (b : Bool) → same x k ≡ b →
+        once_if_any (count_by (same_mapping m) (dedup_from same k xs)) ≡ once_if_any (count_by (same_mapping m) (k ∷ xs)) →
+        once_if_any (count_by (same_mapping m) (dedup_from same x xs)) ≡ once_if_any (count_by (same_mapping m) (x ∷ xs)) →
         once_if_any (count_by (same_mapping m) (cond b (dedup_from same k xs) (k ∷ dedup_from same x xs))) ≡ once_if_any (count_by (same_mapping m) (k ∷ x ∷ xs))
-    by_same true e =
-        fewer_from m k xs ∙ twice_once m k xs
+    by_same true e here behind =
+        here ∙ twice_once m k xs
         ∙ sym (ap (λ (z : Mapping). once_if_any (count_by (same_mapping m) (k ∷ z ∷ xs))) (same_is x k e))
-    by_same false e = behind_once m k (dedup_from same x xs) (x ∷ xs) (fewer_from m x xs)
+    by_same false e here behind = behind_once m k (dedup_from same x xs) (x ∷ xs) behind
 
 fewer : (m : Mapping) (rows : List Mapping) → once_if_any (count_by (same_mapping m) (dedup same rows)) ≡ once_if_any (count_by (same_mapping m) rows)
 fewer m [] = refl

@@ -46,7 +46,7 @@ pub(crate) fn ordered(mut rows: Vec<Row>, distinct: bool) -> Result<Vec<Row>, No
         ≡ times_selected distinct (count_by (same_mapping m) rows.items)) }
 {
     if distinct {
-        return Ok(ordered_once(rows)?);
+        return ordered_once(rows);
     }
     sort_rows(&mut rows)?;
     Ok(rows)

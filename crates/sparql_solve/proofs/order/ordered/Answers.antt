@@ -1,10 +1,12 @@
+use Rattle.std.proofs.lemmas.Result.{IfOk-weaker}
 use Rattle.sparql_solve.proofs.DistinctLemmas.{ordered_all, ordered_distinct}
 use Rattle.sparql_solve.proofs.order.ordered.Goals as goal
 
 pub returns-then-distinct : goal.returns-then-distinct
 returns-then-distinct c = record {
-  sorted = c.in_ok-ordered_once.ensures.sorted;
-  counted = ordered_distinct c.args.rows.items _ c.args.distinct c.if-distinct.true c.in_ok-ordered_once.ensures.counted;
+  sorted = c.ordered_once.ensures.sorted;
+  counted = IfOk-weaker c.ordered_once.result _ _ (λ out once. ordered_distinct c.args.rows.items out.items c.args.distinct c.if-distinct.true once)
+      c.ordered_once.ensures.counted;
 }
 
 pub returns : goal.returns
