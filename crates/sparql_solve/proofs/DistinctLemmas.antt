@@ -115,11 +115,59 @@ kept_counted : (rows : List Mapping) → IsSorted mapping_cmp rows → (m : Mapp
 kept_counted [] h m = refl
 kept_counted (k ∷ xs) h m = repeats_counted m k xs (rises_from (k ∷ xs) h)
 
-pub ordered_once : (old rows out : List Mapping) (b : Bool) → IsPermutation old rows → IsSorted mapping_cmp rows → out ≡ dedup same rows → b ≡ true →
+-- ---- repeats that stand together, in any list
+
+-- a count that is raised by a row is of one at least
+once_with : (m k : Mapping) (xs : List Mapping) → same_mapping m k ≡ true → once_if_any (count_by (same_mapping m) (k ∷ xs)) ≡ 1
+once_with m k xs e = let one_k : one (same_mapping m k) ≡ 1 = ap one e in counted_once (count_by (same_mapping m) (k ∷ xs)) (omega (arith, one_k, counted m k xs))
+
+count_without : (m k : Mapping) (xs : List Mapping) → same_mapping m k ≡ false → count_by (same_mapping m) (k ∷ xs) ≡ count_by (same_mapping m) xs
+count_without m k xs e = let none_k : one (same_mapping m k) ≡ 0 = ap one e in omega (arith, none_k, counted m k xs)
+
+behind_once : (m k : Mapping) (xs ys : List Mapping) → once_if_any (count_by (same_mapping m) xs) ≡ once_if_any (count_by (same_mapping m) ys) →
+    once_if_any (count_by (same_mapping m) (k ∷ xs)) ≡ once_if_any (count_by (same_mapping m) (k ∷ ys))
+behind_once m k xs ys h = by_first (same_mapping m k) refl
+  where
+    by_first : (b : Bool) → same_mapping m k ≡ b → once_if_any (count_by (same_mapping m) (k ∷ xs)) ≡ once_if_any (count_by (same_mapping m) (k ∷ ys))
+    by_first true e = once_with m k xs e ∙ sym (once_with m k ys e)
+    by_first false e = ap once_if_any (count_without m k xs e) ∙ h ∙ sym (ap once_if_any (count_without m k ys e))
+
+twice_once : (m k : Mapping) (xs : List Mapping) →
+    once_if_any (count_by (same_mapping m) (k ∷ xs)) ≡ once_if_any (count_by (same_mapping m) (k ∷ k ∷ xs))
+twice_once m k xs = by_first (same_mapping m k) refl
+  where
+    by_first : (b : Bool) → same_mapping m k ≡ b → once_if_any (count_by (same_mapping m) (k ∷ xs)) ≡ once_if_any (count_by (same_mapping m) (k ∷ k ∷ xs))
+    by_first true e = once_with m k xs e ∙ sym (once_with m k (k ∷ xs) e)
+    by_first false e = ap once_if_any (sym (count_without m k (k ∷ xs) e))
+
+fewer_from : (m k : Mapping) (xs : List Mapping) →
+    once_if_any (count_by (same_mapping m) (dedup_from same k xs)) ≡ once_if_any (count_by (same_mapping m) (k ∷ xs))
+fewer_from m k [] = refl
+fewer_from m k (x ∷ xs) = by_same (same x k) refl (fewer_from m k xs) (fewer_from m x xs)
+  where
+    by_same : (b : Bool) → same x k ≡ b →
+        once_if_any (count_by (same_mapping m) (dedup_from same k xs)) ≡ once_if_any (count_by (same_mapping m) (k ∷ xs)) →
+        once_if_any (count_by (same_mapping m) (dedup_from same x xs)) ≡ once_if_any (count_by (same_mapping m) (x ∷ xs)) →
+        once_if_any (count_by (same_mapping m) (cond b (dedup_from same k xs) (k ∷ dedup_from same x xs))) ≡ once_if_any (count_by (same_mapping m) (k ∷ x ∷ xs))
+    by_same true e here behind =
+        here ∙ twice_once m k xs
+        ∙ sym (ap (λ (z : Mapping). once_if_any (count_by (same_mapping m) (k ∷ z ∷ xs))) (same_is x k e))
+    by_same false e here behind = behind_once m k (dedup_from same x xs) (x ∷ xs) behind
+
+fewer : (m : Mapping) (rows : List Mapping) → once_if_any (count_by (same_mapping m) (dedup same rows)) ≡ once_if_any (count_by (same_mapping m) rows)
+fewer m [] = refl
+fewer m (k ∷ xs) = fewer_from m k xs
+
+pub ordered_once : (old fewer_rows rows out : List Mapping) → fewer_rows ≡ dedup same old → IsPermutation fewer_rows rows → IsSorted mapping_cmp rows →
+    out ≡ dedup same rows → (m : Mapping) → count_by (same_mapping m) out ≡ once_if_any (count_by (same_mapping m) old)
+ordered_once old fewer_rows rows out f p h e m =
+    ap (count_by (same_mapping m)) e ∙ kept_counted rows h m ∙ ap once_if_any (sum_by-IsPermutation (λ x. cond (same_mapping m x) 1 0) fewer_rows rows p)
+    ∙ ap (λ (l : List Mapping). once_if_any (count_by (same_mapping m) l)) f ∙ fewer m old
+
+pub ordered_distinct : (old out : List Mapping) (b : Bool) → b ≡ true →
+    ((m : Mapping) → count_by (same_mapping m) out ≡ once_if_any (count_by (same_mapping m) old)) →
     (m : Mapping) → count_by (same_mapping m) out ≡ times_selected b (count_by (same_mapping m) old)
-ordered_once old rows out b p h e t m =
-    ap (count_by (same_mapping m)) e ∙ kept_counted rows h m ∙ ap once_if_any (sum_by-IsPermutation (λ x. cond (same_mapping m x) 1 0) old rows p)
-    ∙ ap (λ c. times_selected c (count_by (same_mapping m) old)) (sym t)
+ordered_distinct old out b t h m = h m ∙ ap (λ c. times_selected c (count_by (same_mapping m) old)) (sym t)
 
 pub ordered_all : (old rows : List Mapping) (b : Bool) → IsPermutation old rows → b ≡ false →
     (m : Mapping) → count_by (same_mapping m) rows ≡ times_selected b (count_by (same_mapping m) old)
