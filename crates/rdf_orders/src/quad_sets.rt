@@ -58,6 +58,7 @@ impl QuadSets {
     pub fn names(&self) -> &BTreeSet<u64>
         ensures { ListsIds self.now.names result.now.keys }
     {
+        // (that they rise is what any call of the set tells)
         let _ = self.names.len();
         &self.names
     }

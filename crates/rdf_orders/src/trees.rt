@@ -99,6 +99,7 @@ impl Trees {
         ensures is { result.now ≡ self.now.spo }
         ensures rises { IsOrdered key_cmp result.now }
     {
+        // (that they rise is what any call of the set tells)
         let _ = self.spo.len();
         &self.spo
     }
