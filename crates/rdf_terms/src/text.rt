@@ -56,7 +56,6 @@ impl Text {
     pub fn from_string(string: String) -> Result<Text, NoMemory>
         ensures { IfOk result (λ t. t ≡ string_bytes string) }
     {
-        let _ = string.as_str();
         Ok(Text {
             string: RcStr::from_string(string)?,
         })
