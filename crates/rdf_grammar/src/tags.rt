@@ -9,17 +9,6 @@ use rdf_terms::{Literal, NoMemory, Text};
 use rdf_tokens::{Slice, tag_value, text_value};
 use std::alloc::Global;
 
-// The literal of a text, with the tag behind it.
-fn tagged(alloc: Global, lexical: Text, tag: &Slice<'_>) -> Result<Literal, NoMemory>
-    requires { is_tag (values.tag_value tag.now) ≡ true }
-    ensures { IfOk result (λ literal. literal ≡ tagged lexical (values.tag_value tag.now)) }
-{
-    let Some(literal) = Literal::tagged_from_text(alloc, lexical, tag_value(tag))? else {
-        unreachable!()
-    };
-    Ok(literal)
-}
-
 /// How many tags are kept at once.
 const PLACES: usize = 32;
 
@@ -102,7 +91,7 @@ impl<'a> Tags<'a> {
         if let Some(kept) = self.kept(tag) {
             return kept.with_lexical(alloc, lexical);
         }
-        let literal = tagged(alloc, lexical, tag)?;
+        let literal = Literal::tagged_from_text(alloc, lexical, tag_value(tag))?;
         self.keep(tag, &literal)?;
         Ok(literal)
     }

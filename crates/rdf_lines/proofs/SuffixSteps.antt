@@ -1,6 +1,6 @@
 -- What stands behind a string: a tag, a datatype, or neither.
-use Rattle.std.proofs.Common.{◌≡◌, ◌==◌, ◌∙◌, ap, refl, sym, ℕ, Bool, true, false, List, [], ◌∷◌, Option, Some, None, cond}
-use Rattle.std.proofs.lemmas.Bool.{cases_Bool, eqb-true}
+use Rattle.std.proofs.Common.{◌≡◌, ◌==◌, ◌∙◌, ap, refl, ℕ, Bool, true, false, List, [], ◌∷◌, Option, Some, None, cond}
+use Rattle.std.proofs.lemmas.Bool.{eqb-true}
 use Rattle.rdf_terms.specs.Reading.{expect}
 use Rattle.rdf_lines.specs.Grammar.{typed}
 use Rattle.rdf_terms.specs.Literal.{xsd_string}

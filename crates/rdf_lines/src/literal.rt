@@ -20,9 +20,7 @@ fn tagged<'a>(
     let Some(rest) = name.tag_end() else {
         return Ok(None);
     };
-    let Some(literal) = Literal::tagged_from_text(alloc, lexical, name.text_up_to(&rest))? else {
-        unreachable!()
-    };
+    let literal = Literal::tagged_from_text(alloc, lexical, name.text_up_to(&rest))?;
     Ok(Some((WrittenObject::Literal(literal), rest)))
 }
 

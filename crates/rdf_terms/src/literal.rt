@@ -104,26 +104,18 @@ impl Literal {
             return Ok(None);
         }
         let lexical = Text::new(alloc, lexical)?;
-        let datatype = Iri::lang_string(alloc)?;
-        Ok(Some(with_tag(alloc, lexical, datatype, tag)?))
+        Ok(Some(Literal::tagged_from_text(alloc, lexical, tag)?))
     }
 
-    /// As [`Literal::tagged`], with a lexical form that it takes over.
+    /// As [`Literal::tagged`] where the tag is one, with a lexical form that it takes over.
     ///
     /// # Errors
     /// [`NoMemory`] where memory is wanting.
-    pub fn tagged_from_text(
-        alloc: Global,
-        lexical: Text,
-        tag: &str,
-    ) -> Result<Option<Literal>, NoMemory>
-        ensures { IfOk result (λ l. l ≡ (if is_tag tag.now then Some
-            (tagged lexical tag.now) else None)) }
+    pub fn tagged_from_text(alloc: Global, lexical: Text, tag: &str) -> Result<Literal, NoMemory>
+        requires is_one { IsTrue (is_tag tag.now) }
+        ensures { IfOk result (λ l. l ≡ tagged lexical tag.now) }
     {
-        if !is_tag(tag) {
-            return Ok(None);
-        }
-        Ok(Some(with_tag(alloc, lexical, Iri::lang_string(alloc)?, tag)?))
+        with_tag(alloc, lexical, Iri::lang_string(alloc)?, tag)
     }
 
     /// The lexical form.

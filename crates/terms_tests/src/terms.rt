@@ -110,11 +110,6 @@ fn parts_of(literal: &Literal) -> (&str, &str, Option<&str>) {
     )
 }
 
-fn tagged_from_text(alloc: Global, lexical: &str, tag: &str) -> Option<Literal> {
-    let lexical = Text::new(alloc, lexical).ok()?;
-    Literal::tagged_from_text(alloc, lexical, tag).ok()?
-}
-
 fn is_copied(literal: &Literal) -> bool {
     match literal.copy() {
         Ok(copy) => copy == *literal,
@@ -124,7 +119,7 @@ fn is_copied(literal: &Literal) -> bool {
 
 #[test]
 fn tagged_literals(rt: HostRuntime) -> Result<(), Fail> {
-    let literal = tagged_from_text(rt.alloc(), "Cette S\u{e9}rie", "fr-BE").ok_or("no literal")?;
+    let literal = Literal::tagged(rt.alloc(), "Cette S\u{e9}rie", "fr-BE")?.ok_or("no literal")?;
     let datatype = "http://www.w3.org/1999/02/22-rdf-syntax-ns#langString";
     assert!(rt; parts_of(&literal) == ("Cette S\u{e9}rie", datatype, Some("fr-be")));
     assert!(rt; is_copied(&literal));
