@@ -2,7 +2,7 @@
 use Rattle.std.proofs.Common.{◌≡◌, ℕ, List}
 use Rattle.rdf_terms.specs.Quad.{QuadParts}
 use Rattle.rdf_terms.specs.declared.term.Term.{Term}
-use Rattle.rdf_sets.specs.Sorted.{ListsSorted}
+use Rattle.rdf_terms.specs.Lists.{ListsSorted}
 use Rattle.rdf_dataset.specs.State.{Change}
 use Rattle.rdf_dataset.proofs.StateLemmas.{net}
 

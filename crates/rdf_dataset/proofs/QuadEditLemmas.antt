@@ -9,9 +9,8 @@ use Rattle.rdf_terms.specs.declared.term.Term.{Term}
 use Rattle.rdf_terms.specs.Quad.{QuadParts}
 use Rattle.rdf_terms.specs.Order.{quad_cmp, term_cmp}
 use Rattle.rdf_terms.specs.OrderLaws.{quad_cmp_total, quad_cmp-IsAntisymmetric}
-use Rattle.rdf_store.specs.Listing as store
 use Rattle.rdf_dataset.specs.State.{State, Change, Names, Quads, net_between, with_graph, with_quad}
-use Rattle.rdf_sets.specs.Sorted.{ListsOnce}
+use Rattle.rdf_terms.specs.Lists.{AppendsOnce, ListsOnce}
 use Rattle.rdf_sets.specs.Delta.{IsDelta}
 use Rattle.rdf_dataset.specs.Inside.Delta.{IsQuadDelta}
 use Rattle.rdf_sets.proofs.DeltaLemmas.{no_delta, gained_at, lost_at, has_known, has_new, lost_known, insert_known, insert_new, remove_known, remove_new}
@@ -62,7 +61,7 @@ module _ (s t a : Quads) (r : List QuadParts) (d : IsQuadDelta s t a r) (q : Qua
 
 -- what lies beneath and wasn't removed, and what was added
 pub amended : (s t a : Quads) (r : List QuadParts) (p : QuadParts → Bool) (xs kept new : List QuadParts) → IsQuadDelta s t a r → ListsOnce (set.retain s p) xs
-    → kept ≡ filter (λ x. not (contains (from_list {R = quad_cmp} r) x)) xs → store.AppendsOnce (set.retain a p) kept new → ListsOnce (set.retain t p) new
+    → kept ≡ filter (λ x. not (contains (from_list {R = quad_cmp} r) x)) xs → AppendsOnce (set.retain a p) kept new → ListsOnce (set.retain t p) new
 amended s t a r p xs kept new d l e f = subst (ListsOnce (set.retain t p)) (sym (f.appended ∙ ap (λ zs. zs ++ f.found) e)) both
   where
     lists : IsDelta s t (listing a) r
@@ -80,12 +79,6 @@ amended s t a r p xs kept new d l e f = subst (ListsOnce (set.retain t p)) (sym 
         (λ q m. retained quad_cmp_total quad_cmp-IsAntisymmetric s p q ∙ not_both (contains s q) (contains t q) (p q) (sym (here q) ∙ m))
         (λ q. (λ i. (retained quad_cmp_total quad_cmp-IsAntisymmetric s p q i && not (lost_at quad_cmp_total quad_cmp-IsAntisymmetric s t (listing a) r lists q i)) || here q i)
         ∙ kept_or_new (contains s q) (contains t q) (p q) ∙ sym (retained quad_cmp_total quad_cmp-IsAntisymmetric t p q))
-
--- a listing that began with nothing
-pub all_listed : (a : Quads) (start new : List QuadParts) → start ≡ [] → store.AppendsOnce a start new → ListsOnce a new
-all_listed a start new none f =
-    let e : new ≡ f.found = f.appended ∙ ap (λ xs. xs ++ f.found) none in
-    record { all = ap set.from_list e ∙ f.each_once.all; once = ap length e ∙ f.each_once.once }
 
 pub few_more : (old kept new looked : ℕ) → kept ≤ old → new ≡ kept + looked → new ≤ old + looked
 few_more old kept new looked h e = omega arith

@@ -5,23 +5,15 @@ use Rattle.std.specs.FinSet as set
 use Rattle.std.specs.FinSet.{from_list, union, difference}
 use Rattle.rdf_terms.specs.declared.term.Term.{Term}
 use Rattle.rdf_terms.specs.Quad.{QuadParts}
-use Rattle.rdf_store.specs.Listing as store
 use Rattle.rdf_store.specs.Stored.{Stored, with_all, without_all}
 use Rattle.rdf_dataset.specs.State.{State}
-use Rattle.rdf_sets.specs.Sorted.{AppendsOnce, ListsOnce}
+use Rattle.rdf_terms.specs.Lists.{AppendsOnce, ListsOnce}
 use Rattle.rdf_dataset.specs.Inside.Delta.{Leads}
 use Rattle.rdf_dataset.proofs.StateLemmas.{gone_to, state}
 
-module _ {K : Type 0} {R : K → K → Ordering} (members : set.FinSet R) (old new : List K) (a : store.AppendsOnce members old new) where
-  once : ListsOnce members a.found
-  once = record { all = a.each_once.all; once = a.each_once.once }
-
-  pub appends_once : AppendsOnce members old new
-  appends_once = record { found = a.found; appended = a.appended; each_once = once }
-
-  -- a list that was empty lists what it has gained
-  pub lists_gained : old ≡ [] → ListsOnce members new
-  lists_gained e = subst (ListsOnce members) (sym (a.appended ∙ ap (λ xs. xs ++ a.found) e)) once
+-- a list that was empty lists what it has gained
+pub lists_gained : {K : Type 0} {R : K → K → Ordering} (members : set.FinSet R) (old new : List K) → AppendsOnce members old new → old ≡ [] → ListsOnce members new
+lists_gained members old new a e = subst (ListsOnce members) (sym (a.appended ∙ ap (λ xs. xs ++ a.found) e)) a.each_once
 
 -- quads and names of a state that leads to another
 pub stored_to : (from : Stored) (before : ℕ) (t : State) (a r a' r' : List QuadParts) (na nr na' nr' : List Term) (after : ℕ) (mid new : Stored) → Leads (state from.quads from.names before) t a r na nr after

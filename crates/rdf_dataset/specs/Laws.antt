@@ -11,7 +11,7 @@ use Rattle.rdf_terms.specs.Quad.{QuadParts}
 use Rattle.rdf_terms.specs.Order.{graph_cmp, quad_cmp}
 use Rattle.rdf_terms.specs.OrderLaws.{graph_cmp_total, quad_cmp-IsAntisymmetric}
 use Rattle.rdf_dataset.specs.State.{State, IsEmptyGraph, matches}
-use Rattle.rdf_sets.specs.Sorted.{AppendsOnce}
+use Rattle.rdf_terms.specs.Lists.{AppendsOnce}
 
 no_front : {A : Type 0} (xs ys : List A) → xs ≡ [] → xs ++ ys ≡ ys
 no_front xs ys e = ap (λ l. l ++ ys) e

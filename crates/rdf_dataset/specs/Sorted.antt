@@ -1,2 +1,2 @@
 -- Lists of the members of a set.
-pub use Rattle.rdf_sets.specs.Sorted.{ListsOnce, ListsSorted, AppendsOnce}
+pub use Rattle.rdf_terms.specs.Lists.{ListsOnce, ListsSorted, AppendsOnce}

@@ -2,7 +2,7 @@
 ghost use Rattle.std.specs.Prelude.{◌≡◌, ◌≤◌, ◌+◌, [], length, option_copied, IsOk, IfOk, OnOk, OnErr};
 ghost use Rattle.std.specs.FinSet as set;
 ghost use Rattle.rdf_dataset.specs.Inside.Delta.{Leads};
-ghost use Rattle.rdf_sets.specs.Sorted.{AppendsOnce, ListsSorted};
+ghost use Rattle.rdf_terms.specs.Lists.{AppendsOnce, ListsSorted};
 ghost use Rattle.rdf_dataset.specs.State.{State, IsSound, Begins, Ends, net_between, empty_state, last_number, matches};
 
 use crate::net::Net;

@@ -2,7 +2,7 @@
 //! the quad or the name.
 ghost use Rattle.std.specs.Prelude.{◌≡◌, ◌≤◌, ◌+◌, length, option_copied, not, IfOk, OnOk, OnErr};
 ghost use Rattle.std.specs.FinSet as set;
-ghost use Rattle.rdf_sets.specs.Sorted.{ListsOnce};
+ghost use Rattle.rdf_terms.specs.Lists.{ListsOnce};
 ghost use Rattle.rdf_terms.specs.Order.{term_cmp};
 ghost use Rattle.rdf_sets.specs.Delta.{IsDelta};
 ghost use Rattle.rdf_dataset.specs.Inside.Delta.{IsQuadDelta};

@@ -1,7 +1,7 @@
 //! What changed between two states.
 ghost use Rattle.std.specs.Prelude.{◌≡◌, ℕ, IfOk};
 ghost use Rattle.rdf_dataset.specs.State.{State, net_between, turned};
-ghost use Rattle.rdf_sets.specs.Sorted.{ListsSorted};
+ghost use Rattle.rdf_terms.specs.Lists.{ListsSorted};
 
 use rdf_sets::Delta;
 use rdf_terms::{NoMemory, Quad, Term};

@@ -3,7 +3,7 @@ ghost use Rattle.std.specs.Prelude.{◌≡◌, ◌≤◌, ◌+◌, length, not, 
 ghost use Rattle.std.specs.FinSet as set;
 ghost use Rattle.rdf_terms.specs.Order.{quad_cmp};
 ghost use Rattle.rdf_dataset.specs.Inside.Delta.{IsQuadDelta};
-ghost use Rattle.rdf_sets.specs.Sorted.{ListsOnce};
+ghost use Rattle.rdf_terms.specs.Lists.{ListsOnce};
 ghost use Rattle.rdf_dataset.specs.State.{Quads, matches};
 
 use rdf_sets::{Delta, Sorted, Tree, in_order};

@@ -1,7 +1,7 @@
 //! What a dataset is to those who read it.
 ghost use Rattle.std.specs.Prelude.{◌≡◌, ◌≤◌, ◌+◌, length, option_copied, IfOk, OnOk, OnErr};
 ghost use Rattle.std.specs.FinSet as set;
-ghost use Rattle.rdf_sets.specs.Sorted.{AppendsOnce};
+ghost use Rattle.rdf_terms.specs.Lists.{AppendsOnce};
 ghost use Rattle.rdf_dataset.specs.State.{State, IsSound, matches};
 
 use rdf_terms::{GraphName, NoMemory, Quad, Term};

@@ -8,7 +8,7 @@ use Rattle.rdf_lines.specs.declared.fault.FaultKind.TheVariants.{NotUtf8, Syntax
 use Rattle.rdf_lines.specs.declared.format.LineFormat.{LineFormat}
 use Rattle.rdf_lines.specs.declared.statement.Statement.{Statement}
 use Rattle.rdf_lines.specs.declared.written.WrittenStatement.{WrittenStatement}
-use Rattle.rdf_lines.specs.Grammar.{Reads}
+use Rattle.rdf_lines.specs.Grammar.{Holds}
 use Rattle.rdf_lines.specs.Line.{IsAbsolute, Says, Tells}
 use Rattle.rdf_lines.specs.Reading.{is_end, statement_at}
 use Rattle.rdf_lines.specs.Written.{absolute_statement}
@@ -99,4 +99,4 @@ pub tells_statement : (f : LineFormat) (line text : List ℕ) (w : WrittenStatem
     → absolute_statement w ≡ Some s → Tells f line (Ok (Some s))
 tells_statement f line text w s u t h e absolute =
     let a = absolute_sound w s (statement_ready f (chars text) w e) absolute in
-    (u, subst (λ (x : Statement). Reads f (chars line) (Some x)) a.0 (line_sound f (chars line) (Some w) (read_here f line text w t h e)), subst (λ (x : Statement). IsAbsolute (Some x)) a.0 a.1)
+    (u, subst (λ (x : Statement). Holds f (chars line) (Some x)) a.0 (line_sound f (chars line) (Some w) (read_here f line text w t h e)), subst (λ (x : Statement). IsAbsolute (Some x)) a.0 a.1)

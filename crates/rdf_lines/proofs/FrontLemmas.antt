@@ -10,7 +10,7 @@ use Rattle.rdf_terms.specs.declared.quad.Quad.{Quad}
 use Rattle.rdf_lines.specs.Lines.{lines}
 use Rattle.rdf_lines.specs.Line.{Says}
 use Rattle.rdf_lines.specs.Labels.{all_noted, labels_of, labels_after, quad_in, numbered}
-use Rattle.rdf_lines.specs.Document.{Reads as ReadsAll, IsDocument, HasSaid}
+use Rattle.rdf_lines.specs.Document.{ReadsAll, IsDocument, HasSaid}
 use Rattle.rdf_lines.specs.Reader.{AreSilent}
 use Rattle.rdf_lines.proofs.LabelLemmas.{all_noted-append}
 use Rattle.rdf_lines.proofs.LawLemmas.{quads_of, first_quad}

@@ -14,8 +14,8 @@ use Rattle.rdf_lines.specs.Lines.{lines_behind, lines}
 use Rattle.rdf_lines.specs.Line.{Says}
 use Rattle.rdf_lines.proofs.LineLaws.{one_answer, some_answer}
 use Rattle.rdf_lines.specs.Labels.{all_noted, labels_of, labels_after, quad_in, numbered}
-use Rattle.rdf_lines.specs.Document.{Reads as ReadsAll, EachTextIsOneDocument}
-use Rattle.rdf_lines.specs.Reader.{LineState, Answer, AreSilent, Taken, Passes, Reads, StepAt, state_after, FaultOf, fault, Calls, Agrees, fresh, AnswersAreTheDocument}
+use Rattle.rdf_lines.specs.Document.{ReadsAll, EachTextIsOneDocument}
+use Rattle.rdf_lines.specs.Reader.{LineState, Answer, AreSilent, Taken, Passes, ReadsOn, StepAt, state_after, FaultOf, fault, Calls, Agrees, fresh, AnswersAreTheDocument}
 use Rattle.rdf_lines.proofs.LabelLemmas.{quad_in-kept, all_noted-append}
 
 -- ---- a line says one thing
@@ -138,7 +138,7 @@ ends s new end answers xs ss ending a r (ls, p) c =
     (ap (quads_of s.labels) left.0, left.1, ended_calls answers new end p.2 c)
 
 goes_on : (s new end : LineState) (quad : Quad) (answers : List Answer) (xs : List ℕ) (ss : List Statement) (ending : Option LineFault) → From new answers → s.ahead ≡ Some xs
-    → ReadsAll s.format s.number (lines_behind s.behind_return xs) ss ending → Reads s (Ok (Some quad)) new → Calls new answers end → Agrees (Ok (Some quad) ∷ answers) (quads_of s.labels ss) ending
+    → ReadsAll s.format s.number (lines_behind s.behind_return xs) ss ending → ReadsOn s (Ok (Some quad)) new → Calls new answers end → Agrees (Ok (Some quad) ∷ answers) (quads_of s.labels ss) ending
 goes_on s new end quad answers xs ss ending later a r (ls, line, st, ended, still, took, says, labels, is_quad, number, state, format) c =
     let t = taken_lines s new (ls ++ line ∷ []) ended xs a took in
     let whole = subst (λ l. ReadsAll s.format s.number l ss ending) (t.1 ∙ append_assoc ls (line ∷ []) t.0) r in
@@ -157,7 +157,7 @@ goes_on s new end quad answers xs ss ending later a r (ls, line, st, ended, stil
         subst (λ e. Agrees answers (quads_of new.labels others) e) (sym over.1) (subst (λ q. Agrees answers q None) (sym (ap (quads_of new.labels) over.0)) (all_none answers (ended_calls answers new end state c)))
 
 fails : (s new end : LineState) (f : LineFault) (answers : List Answer) (xs : List ℕ) (ss : List Statement) (ending : Option LineFault) → s.ahead ≡ Some xs
-    → ReadsAll s.format s.number (lines_behind s.behind_return xs) ss ending → Reads s (Err f) new → Calls new answers end → Agrees (Err f ∷ answers) (quads_of s.labels ss) ending
+    → ReadsAll s.format s.number (lines_behind s.behind_return xs) ss ending → ReadsOn s (Err f) new → Calls new answers end → Agrees (Err f ∷ answers) (quads_of s.labels ss) ending
 fails s new end f answers xs ss ending a r (ls, still, number, state, at, why) c = (
   failed_calls answers new end f.line state at c,
   elim why [

@@ -13,7 +13,7 @@ use Rattle.rdf_lines.specs.declared.statement.Node.{Node}
 use Rattle.rdf_lines.specs.declared.statement.Object.{Object}
 use Rattle.rdf_lines.specs.declared.statement.Statement.{Statement}
 use Rattle.rdf_lines.specs.Reading.{first_is, skip_white, node_at, object_at, begins_node, graph_at, is_empty_or_comment, is_end, stops_at, statement_at}
-use Rattle.rdf_lines.specs.Grammar.{is_white, HasNode, HasGraph, EmptyOrComment, Ends, IsStatement, Reads}
+use Rattle.rdf_lines.specs.Grammar.{is_white, HasNode, HasGraph, EmptyOrComment, Ends, IsStatement, Holds}
 use Rattle.rdf_lines.proofs.LinePieceLemmas.{NotWhite, Begins, iri_reader, gap_skip, skip_gap, skip_twice, black_begins, next_sound, next_complete, first_begins, first_other, differs}
 use Rattle.rdf_lines.proofs.TermLemmas.{meant_node, written_node, meant-written, meant_object, NoMark, node_sound, node_begins, node_complete, object_sound, object_complete}
 
@@ -205,27 +205,27 @@ line_at format cs = if is_end cs then Some None else (statement_at format cs >>=
 abbrev pub meant_line : Option WrittenStatement → Option Statement
 meant_line r = option_map meant r
 
-pub line_sound : (format : LineFormat) (cs : List ℕ) (r : Option WrittenStatement) → line_at format cs ≡ Some r → Reads format cs (meant_line r)
+pub line_sound : (format : LineFormat) (cs : List ℕ) (r : Option WrittenStatement) → line_at format cs ≡ Some r → Holds format cs (meant_line r)
 line_sound format cs r e =
     elim (cases_Bool (is_end cs)) [
-      | inl is ↦ subst (λ (x : Option WrittenStatement). Reads format cs (meant_line x)) (some_is None r (rw is at e)) (end_sound cs is)
+      | inl is ↦ subst (λ (x : Option WrittenStatement). Holds format cs (meant_line x)) (some_is None r (rw is at e)) (end_sound cs is)
       | inr not ↦
           let b = bind_some (statement_at format cs) (λ w. Some (Some w)) r (rw not at e) in
-          subst (λ (x : Option WrittenStatement). Reads format cs (meant_line x)) (some_is (Some b.0) r b.2) (statement_sound format cs b.0 b.1)
+          subst (λ (x : Option WrittenStatement). Holds format cs (meant_line x)) (some_is (Some b.0) r b.2) (statement_sound format cs b.0 b.1)
     ]
 
-pub line_complete : (format : LineFormat) (cs : List ℕ) (r : Option Statement) → Reads format cs r → (w : Option WrittenStatement) × (line_at format cs ≡ Some w) × (meant_line w ≡ r)
+pub line_complete : (format : LineFormat) (cs : List ℕ) (r : Option Statement) → Holds format cs r → (w : Option WrittenStatement) × (line_at format cs ≡ Some w) × (meant_line w ≡ r)
 line_complete format cs None h = (None, rw (end_complete cs h) refl, refl)
 line_complete format cs (Some s) h =
     let c = statement_complete format cs s h in
     (Some c.0, rw (statement_no_end cs s.subject h.after_subject h.subject, c.1) refl, ap (λ (x : Statement). Some x) c.2)
 
 -- a line has one reading at most
-pub one_reading : (format : LineFormat) (cs : List ℕ) (r s : Option Statement) → Reads format cs r → Reads format cs s → r ≡ s
+pub one_reading : (format : LineFormat) (cs : List ℕ) (r s : Option Statement) → Holds format cs r → Holds format cs s → r ≡ s
 one_reading format cs r s h k =
     let a = line_complete format cs r h in
     let b = line_complete format cs s k in
     sym a.2 ∙ ap meant_line (some_is a.0 b.0 (sym a.1 ∙ b.1)) ∙ b.2
 
-pub no_reading : (format : LineFormat) (cs : List ℕ) → line_at format cs ≡ None → (r : Option Statement) → Reads format cs r → ⊥
+pub no_reading : (format : LineFormat) (cs : List ℕ) → line_at format cs ≡ None → (r : Option Statement) → Holds format cs r → ⊥
 no_reading format cs e r h = let a = line_complete format cs r h in none_is a.0 (sym e ∙ a.1)

@@ -12,7 +12,7 @@ use Rattle.rdf_lines.specs.Lines.{lines_behind}
 use Rattle.rdf_lines.specs.Line.{Says}
 use Rattle.rdf_lines.specs.Labels.{all_noted, labels_of}
 use Rattle.rdf_lines.specs.Pieces.{Hold, onto, TakesLine}
-use Rattle.rdf_lines.specs.Reader.{LineState, Answer, AreSilent, Taken, FailsBehind, Passes, Reads, OneLine, ReadsLine, Step, StepAt, state_after, FaultOf}
+use Rattle.rdf_lines.specs.Reader.{LineState, Answer, AreSilent, Taken, FailsBehind, Passes, ReadsOn, OneLine, ReadsLine, Step, StepAt, state_after, FaultOf}
 use Rattle.rdf_lines.proofs.PieceLemmas.{Consumes-chain, Consumes-none, Hold-none, onto-none}
 
 -- ---- one line
@@ -83,7 +83,7 @@ pub passes_on : (a b c : LineState) (ls ms : List (List ℕ)) (e : Bool) → Pas
 passes_on a b c ls ms e p q =
     (silent_on a.format ls ms p.0 (subst (λ f. AreSilent f ms) p.5 q.0), taken_on a b c ls ms e p.1 q.1, q.2, (let n = p.3 in let m = q.3 in omega (arith, n, m, length-append ls ms)), q.4 ∙ p.4, q.5 ∙ p.5)
 
-pub reads_on : (a b c : LineState) (ls : List (List ℕ)) (answer : Answer) → Passes a ls b false → Reads b answer c → Reads a answer c
+pub reads_on : (a b c : LineState) (ls : List (List ℕ)) (answer : Answer) → Passes a ls b false → ReadsOn b answer c → ReadsOn a answer c
 reads_on a b c ls (Ok None) p r = (ls ++ r.0, passes_on a b c ls r.0 true p r.1)
 reads_on a b c ls (Ok (Some q)) p r =
     let ms = r.0 in

@@ -8,7 +8,7 @@ use Rattle.rdf_lines.specs.Lines.{lines, lines_behind}
 use Rattle.rdf_lines.specs.Line.{Says}
 use Rattle.rdf_lines.specs.Labels.{all_noted, labels_of, quad_in}
 use Rattle.rdf_lines.specs.Pieces.{onto}
-use Rattle.rdf_lines.specs.Document.{Reads as ReadsAll, IsDocument, HasSaid, ReadsFront}
+use Rattle.rdf_lines.specs.Document.{ReadsAll, IsDocument, HasSaid, ReadsFront}
 use Rattle.rdf_lines.specs.Reader.{LineState, Answer, AreSilent, Taken, FaultOf, Step, StepAt, HasRead, StopsAt, StartsWithNothing, QuadsAddUp, EndIsTheDocument, FaultStops, fresh, fault, state_after}
 use Rattle.rdf_lines.proofs.PieceLemmas.{Consumes-none, Hold-none}
 use Rattle.rdf_lines.proofs.ReaderLemmas.{taken_on, fails_on}

@@ -24,7 +24,7 @@ use Rattle.rdf_terms.proofs.WrittenTermLemmas.{tag_parts, literal_parts}
 use Rattle.rdf_terms.proofs.WrittenTextLemmas.{by_escape}
 use Rattle.rdf_lines.specs.declared.format.LineFormat.TheVariants.{NQuads}
 use Rattle.rdf_lines.specs.Lines.{lines_behind, lines, onto_first, is_line_feed, is_return}
-use Rattle.rdf_lines.specs.Document.{Reads}
+use Rattle.rdf_lines.specs.Document.{ReadsAll}
 use Rattle.rdf_lines.specs.QuadText.{quad_text}
 use Rattle.rdf_lines.specs.RoundTrip.{statement_of}
 use Rattle.rdf_lines.proofs.WrittenTagLemmas.{is_end, tag_no_end}
@@ -128,8 +128,8 @@ quad_first : (q : Quad) (rest : List ℕ) → QuadTests q → lines (quad_text q
 quad_first q rest t =
     ap (λ (x : List ℕ). lines (x ++ rest)) (quad_line q) ∙ ap lines (append_assoc (line_of q) (10 ∷ []) rest) ∙ first_line (line_of q) rest (line_no_end q t)
 
-pub reads_all : (n : ℕ) (quads : List Quad) → AllByRecursion (λ q. is_quad q ≡ true) quads → Reads NQuads n (lines (flat_map quad_text quads)) (map statement_of quads) None
+pub reads_all : (n : ℕ) (quads : List Quad) → AllByRecursion (λ q. is_quad q ≡ true) quads → ReadsAll NQuads n (lines (flat_map quad_text quads)) (map statement_of quads) None
 reads_all n [] h = (refl, refl)
 reads_all n (q ∷ quads) h =
-    subst (λ (ls : List (List ℕ)). Reads NQuads n ls (map statement_of (q ∷ quads)) None) (sym (quad_first q (flat_map quad_text quads) (quad_tests q h.0)))
+    subst (λ (ls : List (List ℕ)). ReadsAll NQuads n ls (map statement_of (q ∷ quads)) None) (sym (quad_first q (flat_map quad_text quads) (quad_tests q h.0)))
     (inr (inl (statement_of q, map statement_of quads, says_statement q h.0, refl, reads_all (n + 1) quads h.1)))

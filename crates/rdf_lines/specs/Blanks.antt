@@ -10,12 +10,12 @@ use Rattle.rdf_lines.specs.declared.statement.Node.{Node}
 use Rattle.rdf_lines.specs.declared.statement.Statement.{Statement}
 use Rattle.rdf_lines.specs.Lines.{lines}
 use Rattle.rdf_lines.specs.Labels.{labels_after, nodes_of, term_in, numbered}
-use Rattle.rdf_lines.specs.Document.{Reads, IsDocument}
+use Rattle.rdf_lines.specs.Document.{ReadsAll, IsDocument}
 
 -- The blank numbers of a document are just those below the number of its labels, and each of its quads holds terms of right kinds.
 abbrev pub BlankNumbersAreBelow : Type 0
 BlankNumbersAreBelow = (format : LineFormat) (text : List ℕ) (quads : List Quad) (ending : Option LineFault) → IsDocument format text quads ending →
-    (statements : List Statement) × Reads format 1 (lines text) statements ending × (quads ≡ numbered statements)
+    (statements : List Statement) × ReadsAll format 1 (lines text) statements ending × (quads ≡ numbered statements)
     × ((number : ℕ) → (number < length (labels_after [] statements)) ↔ Contains (flat_map blanks_of quads) number)
     × AllByRecursion (λ q. IsTrue (has_right_kinds q)) quads
 
@@ -23,7 +23,7 @@ BlankNumbersAreBelow = (format : LineFormat) (text : List ℕ) (quads : List Qua
 -- where they are equal (RDF 1.1 N-Quads, section 2.4).
 abbrev pub NodesAreToldApart : Type 0
 NodesAreToldApart = (format : LineFormat) (text : List ℕ) (quads : List Quad) (ending : Option LineFault) → IsDocument format text quads ending →
-    (statements : List Statement) × Reads format 1 (lines text) statements ending × (quads ≡ numbered statements)
+    (statements : List Statement) × ReadsAll format 1 (lines text) statements ending × (quads ≡ numbered statements)
     × ((a b : Node) → Contains (flat_map nodes_of statements) a → Contains (flat_map nodes_of statements) b
     → (term_in (labels_after [] statements) a ≡ term_in (labels_after [] statements) b) ↔ (a ≡ b))
 

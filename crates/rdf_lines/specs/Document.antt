@@ -11,21 +11,21 @@ use Rattle.rdf_lines.specs.Line.{Says}
 use Rattle.rdf_lines.specs.Labels.{numbered, labels_after}
 
 -- the statements of the lines, of which the first has this number, and the fault of the first faulty line
-abbrev pub Reads : LineFormat → ℕ → List (List ℕ) → List Statement → Option LineFault → Type 0
-Reads format number [] statements fault = (statements ≡ []) × (fault ≡ None)
-Reads format number (line ∷ more) statements fault =
-    (Says format line (Ok None) × Reads format (number + 1) more statements fault)
-    ⊎ (((s : Statement) × (others : List Statement) × Says format line (Ok (Some s)) × (statements ≡ s ∷ others) × Reads format (number + 1) more others fault)
+abbrev pub ReadsAll : LineFormat → ℕ → List (List ℕ) → List Statement → Option LineFault → Type 0
+ReadsAll format number [] statements fault = (statements ≡ []) × (fault ≡ None)
+ReadsAll format number (line ∷ more) statements fault =
+    (Says format line (Ok None) × ReadsAll format (number + 1) more statements fault)
+    ⊎ (((s : Statement) × (others : List Statement) × Says format line (Ok (Some s)) × (statements ≡ s ∷ others) × ReadsAll format (number + 1) more others fault)
     ⊎ ((kind : FaultKind) × Says format line (Err kind) × (statements ≡ []) × (fault ≡ Some (record { line = number; kind = kind }))))
 
 -- the quads of a text, and its fault
 abbrev pub IsDocument : LineFormat → List ℕ → List Quad → Option LineFault → Type 0
-IsDocument format text quads fault = (statements : List Statement) × Reads format 1 (lines text) statements fault × (quads ≡ numbered statements)
+IsDocument format text quads fault = (statements : List Statement) × ReadsAll format 1 (lines text) statements fault × (quads ≡ numbered statements)
 
 -- These lines, the first of a text, were read. They say these quads; the next line has this number, and the labels so far are these.
 abbrev pub HasSaid : LineFormat → List (List ℕ) → ℕ → List (List ℕ) → List Quad → Type 0
 HasSaid format front number labels quads =
-    (statements : List Statement) × Reads format 1 front statements None × (number ≡ length front + 1) × (labels ≡ labels_after [] statements) × (quads ≡ numbered statements)
+    (statements : List Statement) × ReadsAll format 1 front statements None × (number ≡ length front + 1) × (labels ≡ labels_after [] statements) × (quads ≡ numbered statements)
 
 -- The lines of a text before the one with this number were read, and say these quads; behind them come these.
 abbrev pub ReadsFront : LineFormat → List ℕ → ℕ → List Quad → List (List ℕ) → Type 0

@@ -138,6 +138,6 @@ pub record IsStatement (format : LineFormat) (line : List ℕ) (statement : Stat
   pub end : Ends after_dot
 
 -- A line holds nothing, or one statement.
-abbrev pub Reads : LineFormat → List ℕ → Option Statement → Type 0
-Reads format line None = Ends line
-Reads format line (Some statement) = IsStatement format line statement
+abbrev pub Holds : LineFormat → List ℕ → Option Statement → Type 0
+Holds format line None = Ends line
+Holds format line (Some statement) = IsStatement format line statement

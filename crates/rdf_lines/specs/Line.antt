@@ -11,7 +11,7 @@ use Rattle.rdf_lines.specs.declared.statement.Node.TheVariants as node
 use Rattle.rdf_lines.specs.declared.statement.Object.{Object}
 use Rattle.rdf_lines.specs.declared.statement.Object.TheVariants as object
 use Rattle.rdf_lines.specs.declared.statement.Statement.{Statement}
-use Rattle.rdf_lines.specs.Grammar.{Reads}
+use Rattle.rdf_lines.specs.Grammar.{Holds}
 
 -- ---- each IRI has a scheme (RFC 3986, section 3.1), a datatype too
 
@@ -36,10 +36,10 @@ IsAbsolute (Some statement) =
 
 -- The line says nothing, one statement, or is faulty: no UTF-8, else with no reading, else with an IRI without a scheme.
 abbrev pub Says : LineFormat → List ℕ → Result (Option Statement) FaultKind → Type 0
-Says format line (Ok reading) = IsUtf8 line × Reads format (chars line) reading × IsAbsolute reading
+Says format line (Ok reading) = IsUtf8 line × Holds format (chars line) reading × IsAbsolute reading
 Says format line (Err NotUtf8) = ¬ (IsUtf8 line)
-Says format line (Err Syntax) = IsUtf8 line × ((reading : Option Statement) → ¬ (Reads format (chars line) reading))
-Says format line (Err Relative) = IsUtf8 line × ((reading : Option Statement) × Reads format (chars line) reading × ¬ (IsAbsolute reading))
+Says format line (Err Syntax) = IsUtf8 line × ((reading : Option Statement) → ¬ (Holds format (chars line) reading))
+Says format line (Err Relative) = IsUtf8 line × ((reading : Option Statement) × Holds format (chars line) reading × ¬ (IsAbsolute reading))
 Says format line (Err Read) = ⊥
 Says format line (Err (NoMemory _)) = ⊥
 Says format line (Err Failed) = ⊥

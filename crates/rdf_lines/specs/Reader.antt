@@ -102,15 +102,15 @@ ReadsLine format line n labels (Ok (Some quad)) m now =
 ReadsLine format line n labels (Err f) m now = (f.line ≡ n) × (m ≡ n) × (FaultOf format line f.kind ⊎ (f.kind ≡ no_memory))
 
 -- One call of next while the reader reads. Silent lines come first, then:
-abbrev pub Reads : LineState → Answer → LineState → Type 0
+abbrev pub ReadsOn : LineState → Answer → LineState → Type 0
 -- the end of the text,
-Reads old (Ok None) new = (ls : List (List ℕ)) × Passes old ls new true
+ReadsOn old (Ok None) new = (ls : List (List ℕ)) × Passes old ls new true
 -- a statement,
-Reads old (Ok (Some quad)) new = (ls : List (List ℕ)) × (line : List ℕ) × (s : Statement) × (ended : Bool) × AreSilent old.format ls × Taken old (ls ++ line ∷ []) new ended ×
+ReadsOn old (Ok (Some quad)) new = (ls : List (List ℕ)) × (line : List ℕ) × (s : Statement) × (ended : Bool) × AreSilent old.format ls × Taken old (ls ++ line ∷ []) new ended ×
     Says old.format line (Ok (Some s)) × (new.labels ≡ all_noted old.labels (labels_of s)) × (quad ≡ quad_in new.labels s)
     × (new.number ≡ old.number + length ls + 1) × (new.state ≡ state_after ended) × (new.format ≡ old.format)
 -- or a fault: of the line, of the reader or of memory before the line was wholly read, or of memory for its statement
-Reads old (Err f) new = (ls : List (List ℕ)) × AreSilent old.format ls × (f.line ≡ old.number + length ls) × (new.state ≡ Failed) × (new.number ≡ f.line) ×
+ReadsOn old (Err f) new = (ls : List (List ℕ)) × AreSilent old.format ls × (f.line ≡ old.number + length ls) × (new.state ≡ Failed) × (new.number ≡ f.line) ×
     (((line : List ℕ) × (ended : Bool) × FaultOf old.format line f.kind × Taken old (ls ++ line ∷ []) new ended)
     ⊎ ((((f.kind ≡ Read) ⊎ (f.kind ≡ no_memory)) × FailsBehind old ls new)
     ⊎ ((line : List ℕ) × (ended : Bool) × (f.kind ≡ no_memory) × Taken old (ls ++ line ∷ []) new ended)))
@@ -118,11 +118,11 @@ Reads old (Err f) new = (ls : List (List ℕ)) × AreSilent old.format ls × (f.
 -- One line, or the end, is taken while the reader reads.
 abbrev pub OneLine : LineState → Answer → LineState → Type 0
 OneLine old (Ok None) new = (ls : List (List ℕ)) × (ended : Bool) × Passes old ls new ended
-OneLine old answer new = Reads old answer new
+OneLine old answer new = ReadsOn old answer new
 
 -- One call of next, by how far the reader is.
 abbrev pub StepAt : State → LineState → Answer → LineState → Type 0
-StepAt Reading old answer new = Reads old answer new
+StepAt Reading old answer new = ReadsOn old answer new
 StepAt Ended old answer new = (answer ≡ Ok None) × (new ≡ old)
 StepAt Failed old answer new = (answer ≡ Err (fault old.number FailedKind)) × (new ≡ old)
 

@@ -14,7 +14,7 @@ use Rattle.std.specs.FinSet.{contains-insert, contains-empty, from_list_push, sa
 use Rattle.rdf_orders.specs.declared.order.Order.{Order}
 use Rattle.rdf_orders.specs.declared.order.Order.TheVariants.{Spo}
 use Rattle.rdf_orders.specs.Quads.{IdQuad, IdQuads, key_in, key_cmp, id_quad_cmp, quad_at}
-use Rattle.rdf_orders.specs.Runs.{BeginsWith, IsNextKey, NoneAhead, AppendsOnce, raised_by}
+use Rattle.rdf_orders.specs.Runs.{BeginsWith, IsNextKey, NoneAhead, AppendsKeysOnce, raised_by}
 use Rattle.rdf_orders.proofs.TestLemmas.{both, first_of_both, second_of_both, is_either, either_first, either_second, cases}
 use Rattle.rdf_orders.proofs.KeyLemmas.{key_cmp_total, id_quad_cmp_total, id_quad_cmp-IsAntisymmetric, same_quad, same_from_eq, eq_from_same, contains_kept, quad_at-key_in}
 
@@ -219,7 +219,7 @@ module _ (quads : IdQuads) (order : Order) (prefix : List ℕ) (test : IdQuad �
         counted = let was = p.counted in omega arith;
       }
 
-  pub progress_found : (after : Option (List ℕ)) (now : List (List ℕ)) (to : ℕ) → IsProgress quads test order after old now from to → NoneAhead quads order prefix after → AppendsOnce (set.retain quads test) old now
+  pub progress_found : (after : Option (List ℕ)) (now : List (List ℕ)) (to : ℕ) → IsProgress quads test order after old now from to → NoneAhead quads order prefix after → AppendsKeysOnce (set.retain quads test) old now
   progress_found after now to p none =
       let members = p.members ∙ all_passed quads order prefix test just after none in
       record { found = p.found; appended = p.appended; each_once = record { all = members; once = p.once ∙ ap set.len members } }

@@ -10,7 +10,7 @@ use Rattle.std.proofs.lemmas.List.Folds.{list_any-append}
 use Rattle.std.specs.FinSet as set
 use Rattle.std.specs.FinSet.{IsAntisymmetric, same_set, from_list_push, contains-from_list, contains-insert, contains-remove, contains-union, contains-difference, contains-empty, len-empty, len-insert}
 use Rattle.rdf_orders.specs.Contents.{IsDisjoint}
-use Rattle.rdf_orders.specs.Listing.{ListsSorted}
+use Rattle.rdf_terms.specs.Lists.{ListsSorted}
 use Rattle.rdf_orders.proofs.TestLemmas.{or_of_cond, and_of_cond}
 
 or_false : (a : Bool) → (a || false) ≡ a

@@ -19,7 +19,7 @@ use Rattle.rdf_orders.specs.declared.trees.Trees.{Trees}
 use Rattle.rdf_orders.specs.Quads.{IdQuad, IdQuads, key_in, quad_at, quad_of, quads_of, key_cmp, id_quad_cmp}
 use Rattle.rdf_orders.specs.Inside.Mirror.{is_key_of, has_key, quads_in, Mirrors, GainsSome, LosesKey}
 use Rattle.rdf_orders.specs.Contents.{ListsKeys}
-use Rattle.rdf_orders.specs.Listing.{ListsSorted}
+use Rattle.rdf_terms.specs.Lists.{ListsSorted}
 use Rattle.rdf_orders.proofs.KeyLemmas.{key_cmp_total, id_quad_cmp_total, id_quad_cmp-IsAntisymmetric, quad_at-key_in, same_from_eq, eq_from_same}
 use Rattle.rdf_orders.proofs.SetLemmas.{lists_sorted, tie_turned}
 use Rattle.rdf_orders.proofs.TestLemmas.{both, first_of_both, second_of_both, is_either, either_first, either_second, false_of_absurd, not_both, and_false, spread, or_of_cond, and_of_cond}

@@ -5,7 +5,7 @@ use Rattle.std.specs.declared.cmp.Ordering.{Ordering}
 use Rattle.std.specs.Coded.{Coded, code_by, coded×, coded_ℕ}
 use Rattle.std.specs.FinSet as set
 use Rattle.rdf_orders.specs.declared.order.Order.TheVariants.{Spo}
-use Rattle.rdf_orders.specs.Listing.{ListsSorted}
+use Rattle.rdf_terms.specs.Lists.{ListsSorted}
 use Rattle.rdf_orders.specs.Quads.{IdQuad, IdQuads, key_in, quads_of, id_quads_code}
 
 -- a finite set of numbers

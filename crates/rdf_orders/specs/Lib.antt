@@ -1,5 +1,4 @@
 pub mod Contents
 pub mod Inside
-pub mod Listing
 pub mod Quads
 pub mod Runs

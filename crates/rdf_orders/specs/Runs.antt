@@ -4,7 +4,7 @@ use Rattle.std.specs.BTreeMap.Range.{IsLeBy, IsLtBy}
 use Rattle.std.specs.FinSet as set
 use Rattle.rdf_orders.specs.declared.order.Order.{Order}
 use Rattle.rdf_orders.specs.declared.order.Order.TheVariants.{Spo}
-use Rattle.rdf_orders.specs.Listing.{ListsOnce}
+use Rattle.rdf_terms.specs.Lists.{ListsOnce}
 use Rattle.rdf_orders.specs.Quads.{IdQuad, IdQuads, key_in, key_cmp}
 
 -- the set has the quad
@@ -37,7 +37,7 @@ abbrev pub raised_by : ℕ → ℕ → ℕ
 raised_by k count = max count (min (count + k) (2 ^ 64 - 1))
 
 -- the list of keys has gained those of the quads in `Spo`, each once
-pub record AppendsOnce (quads : IdQuads) (old new : List (List ℕ)) : Type 0 where
+pub record AppendsKeysOnce (quads : IdQuads) (old new : List (List ℕ)) : Type 0 where
   pub found : List IdQuad
   pub appended : new ≡ old ++ map (key_in Spo) found
   pub each_once : ListsOnce quads found

@@ -2,7 +2,7 @@
 ghost use Rattle.std.specs.Prelude.{◌≡◌, ◌-◌, ◌≤◌, length, take, OnOk, OnErr, ◌↔◌, IsTrue};
 ghost use Rattle.std.specs.FinSet as set;
 ghost use Rattle.rdf_orders.specs.Quads.{IdQuad, key_in, matches};
-ghost use Rattle.rdf_orders.specs.Runs.{BeginsWith, AppendsOnce, raised_by};
+ghost use Rattle.rdf_orders.specs.Runs.{BeginsWith, AppendsKeysOnce, raised_by};
 
 use crate::order::{Key, Order};
 use crate::orders::Orders;
@@ -59,7 +59,7 @@ pub fn look_up<O: Orders>(
     object: Option<u64>,
     out: &mut Vec<Key>,
 ) -> Result<(), NoMemory>
-    ensures found { OnOk result (AppendsOnce
+    ensures found { OnOk result (AppendsKeysOnce
         (set.retain (O.quads orders.old) (matches graph subject predicate object))
         out.old.items out.new.items) }
     ensures counted { OnOk result (O.count orders.new

@@ -2,7 +2,7 @@
 ghost use Rattle.std.specs.Prelude.{◌≡◌, ◌≤◌, length, ◌-◌, Some, IfOk, IsTrue, OnOk, OnErr, option_copied};
 ghost use Rattle.std.specs.FinSet as set;
 ghost use Rattle.rdf_orders.specs.Quads.{matches};
-ghost use Rattle.rdf_orders.specs.Runs.{AppendsOnce, BeginsWith};
+ghost use Rattle.rdf_orders.specs.Runs.{AppendsKeysOnce, BeginsWith};
 ghost use Rattle.rdf_orders.specs.Inside.Ahead.{AreKeysAhead};
 
 use crate::look_ups::look_up;
@@ -131,7 +131,7 @@ impl QuadSets {
         object: Option<u64>,
         out: &mut Vec<Key>,
     ) -> Result<usize, NoMemory>
-        ensures found { OnOk result (AppendsOnce
+        ensures found { OnOk result (AppendsKeysOnce
             (set.retain self.now.quads (matches graph subject predicate object))
             out.old.items out.new.items) }
         ensures looked { IfOk result (λ looked.

@@ -12,7 +12,7 @@ use Rattle.std.proofs.lemmas.List.Kept.{IsStrictlySortedBy-dedup, IsStrictlySort
 use Rattle.std.proofs.lemmas.List.Sorted.{length_permutation, list_any-IsPermutation}
 use Rattle.std.specs.FinSet as set
 use Rattle.std.specs.FinSet.{contains, from_list, IsAntisymmetric, same_set, contains-retain, len-empty, len-insert}
-use Rattle.rdf_sets.specs.Sorted.{ListsOnce, ListsSorted}
+use Rattle.rdf_terms.specs.Lists.{ListsOnce, ListsSorted}
 use Rattle.rdf_sets.specs.Delta.{IsDelta}
 use Rattle.rdf_sets.proofs.SortedLemmas.{has_of, as_many, filter_contains, any_join, has, tie_itself, rising_nil}
 use Rattle.rdf_sets.proofs.DeltaLemmas.{gained_at, lost_at, not_there}

@@ -18,7 +18,7 @@ use Rattle.std.specs.FinSet as set
 use Rattle.std.specs.FinSet.{contains, from_list, IsAntisymmetric, same_set, contains-from_list, contains-insert, contains-remove, contains-union, contains-difference, contains-empty, len-empty, len-insert}
 use Rattle.rdf_sets.specs.Inside.Places.{IsFoundAt, IsGapAt}
 use Rattle.rdf_sets.specs.Inside.Merging.{PopsGreatest, IsMerging}
-use Rattle.rdf_sets.specs.Sorted.{ListsOnce, ListsSorted}
+use Rattle.rdf_terms.specs.Lists.{ListsOnce, ListsSorted}
 
 -- ---- a fact of each item
 

@@ -1,3 +1,2 @@
 pub mod Delta
 pub mod Inside
-pub mod Sorted

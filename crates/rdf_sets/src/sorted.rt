@@ -6,7 +6,7 @@ ghost use Rattle.std.specs.List.Sorted.{IsStrictlySortedBy};
 ghost use Rattle.std.specs.declared.cmp.Ordering.TheVariants.{Less};
 ghost use Rattle.rdf_sets.specs.Inside.Places.{IsFoundAt, IsGapAt};
 ghost use Rattle.rdf_sets.specs.Inside.Merging.{PopsGreatest};
-ghost use Rattle.rdf_sets.specs.Sorted.{ListsOnce, ListsSorted};
+ghost use Rattle.rdf_terms.specs.Lists.{ListsOnce, ListsSorted};
 
 use crate::item::Item;
 use rdf_terms::NoMemory;

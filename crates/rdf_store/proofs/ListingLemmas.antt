@@ -15,11 +15,10 @@ use Rattle.rdf_terms.specs.Table.{IsIdOf, AreHeldOnce}
 use Rattle.rdf_orders.specs.declared.order.Order.TheVariants.{Spo}
 use Rattle.rdf_orders.specs.Quads.{IdQuad, id_quad_cmp, key_in, quad_of}
 use Rattle.rdf_orders.specs.Contents.{Contents, ListsKeys, ListsIds}
-use Rattle.rdf_orders.specs.Listing.{ListsOnce}
-use Rattle.rdf_orders.specs.Runs as runs
+use Rattle.rdf_orders.specs.Runs.{AppendsKeysOnce}
 use Rattle.rdf_orders.proofs.KeyLemmas.{id_quad_cmp_total, id_quad_cmp-IsAntisymmetric, contains_kept}
 use Rattle.rdf_orders.proofs.TestLemmas.{first_of_both, either_first, either_second}
-use Rattle.rdf_store.specs.Listing.{AppendsOnce}
+use Rattle.rdf_terms.specs.Lists.{AppendsOnce, ListsOnce}
 use Rattle.rdf_store.specs.Stored.{Stored}
 use Rattle.rdf_store.specs.Inside.Numbers.{IsNumbered, IsKept, AreKept, shown, parts_at, parts_of, term_at}
 use Rattle.rdf_store.proofs.ImageLemmas.{eq_of_same}
@@ -49,7 +48,7 @@ module _ (table : List Term) (c : Contents) (s : Stored) (kept : AreKept table c
   pub listed_ids_kept : (numbers : List ℕ) → ListsIds c.names numbers → All (λ id. IsIdOf table id (term_at table id)) numbers
   listed_ids_kept numbers l k d lt = kept.names (get_or numbers k d) (subst (λ z. set.contains z (get_or numbers k d) ≡ true) l.lists.all (item_in nat_cmp_total nat_cmp-IsAntisymmetric numbers k d lt))
 
-  pub found_kept : (test : IdQuad → Bool) (start keys keys' : List (List ℕ)) → start ≡ [] → runs.AppendsOnce (set.retain c.quads test) start keys → keys' ≡ keys → All (λ key. IsKept table (quad_of key)) keys'
+  pub found_kept : (test : IdQuad → Bool) (start keys keys' : List (List ℕ)) → start ≡ [] → AppendsKeysOnce (set.retain c.quads test) start keys → keys' ≡ keys → All (λ key. IsKept table (quad_of key)) keys'
   found_kept test start keys keys' none a e = subst (All (λ key. IsKept table (quad_of key))) (sym (e ∙ a.appended ∙ ap (λ ks. ks ++ map (key_in Spo) a.found) none))
       (kept_keys (set.retain c.quads test) a.found (λ k h. first_of_both _ _ (sym (contains_kept c.quads test k) ∙ h)) a.each_once)
 
@@ -74,7 +73,7 @@ module _ (table : List Term) (c : Contents) (s : Stored) (kept : AreKept table c
     }
 
     pub matches_appended : (test : IdQuad → Bool) (wanted : QuadParts → Bool) → ((k : IdQuad) (q : QuadParts) → IsNumbered table k q → test k ≡ wanted q)
-        → (start keys keys' : List (List ℕ)) (old new : List QuadParts) → start ≡ [] → runs.AppendsOnce (set.retain c.quads test) start keys → keys' ≡ keys
+        → (start keys keys' : List (List ℕ)) (old new : List QuadParts) → start ≡ [] → AppendsKeysOnce (set.retain c.quads test) start keys → keys' ≡ keys
         → new ≡ old ++ map (parts_of table) keys' → AppendsOnce (set.retain s.quads wanted) old new
     matches_appended test wanted same start keys keys' old new none a k e = record {
       found = map (parts_at table) a.found;

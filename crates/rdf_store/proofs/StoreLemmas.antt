@@ -14,7 +14,7 @@ use Rattle.rdf_terms.specs.Table.{IsIdOf, AreHeldOnce}
 use Rattle.rdf_orders.specs.Quads.{IdQuad, id_quad_cmp, quad_of, quads_of}
 use Rattle.rdf_orders.specs.Contents as contents
 use Rattle.rdf_orders.specs.Contents.{Contents, Ids, ids_of, IsDisjoint, empty_contents}
-use Rattle.rdf_orders.specs.Listing.{ListsOnce}
+use Rattle.rdf_terms.specs.Lists.{ListsOnce}
 use Rattle.rdf_orders.proofs.KeyLemmas.{id_quad_cmp_total, id_quad_cmp-IsAntisymmetric, contains_kept}
 use Rattle.rdf_orders.proofs.TestLemmas.{is_either, first_of_both, second_of_both}
 use Rattle.rdf_orders.proofs.SetLemmas.{difference_none, difference_push}

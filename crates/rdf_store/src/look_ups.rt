@@ -3,7 +3,7 @@ ghost use Rattle.std.specs.Prelude.{◌≡◌, ◌+◌, ◌++◌, ◌∷◌, [],
 ghost use Rattle.std.specs.FinSet as set;
 ghost use Rattle.rdf_terms.specs.Table.{IsIdOf};
 ghost use Rattle.rdf_orders.specs.Quads.{quad_of};
-ghost use Rattle.rdf_store.specs.Listing.{AppendsOnce};
+ghost use Rattle.rdf_terms.specs.Lists.{AppendsOnce};
 ghost use Rattle.rdf_store.specs.Stored.{matches};
 ghost use Rattle.rdf_store.specs.Inside.Numbers.{IsKept, parts_of, term_at};
 

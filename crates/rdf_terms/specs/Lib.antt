@@ -10,6 +10,7 @@ pub mod Examples
 pub mod IntegerLaws
 pub mod Integers
 pub mod Iri
+pub mod Lists
 pub mod Literal
 pub mod Names
 pub mod Order

@@ -19,8 +19,8 @@ BaseIsUnique = (text s t : List ℕ) (p q : Components) → IsBase text s p → 
 abbrev pub EachReferenceMeans : Type 0
 EachReferenceMeans = (base reference : List ℕ) → has_scheme base ≡ true → (text : List ℕ) × Means (Some base) reference text
 
-abbrev pub OneMeaning : Type 0
-OneMeaning = (base : Option (List ℕ)) (reference s t : List ℕ) → Means base reference s → Means base reference t → s ≡ t
+abbrev pub OneReferenceMeaning : Type 0
+OneReferenceMeaning = (base : Option (List ℕ)) (reference s t : List ℕ) → Means base reference s → Means base reference t → s ≡ t
 
 abbrev pub together : List (List ℕ) → List ℕ
 together [] = []

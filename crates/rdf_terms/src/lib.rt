@@ -48,7 +48,8 @@ pub use quad::{GraphName, Quad, compare_quads, same_quad};
 pub use quoted::{iris_are_read, strings_are_read};
 pub use resolution::resolve;
 pub use resolution_laws::{
-    components_are_unique, dots_are_removed, dots_before_slashes, one_meaning, pieces_are_the_path,
+    components_are_unique, dots_are_removed, dots_before_slashes, one_reference_meaning,
+    pieces_are_the_path,
 };
 pub use table::{TermId, TermTable, terms_are_held_once};
 pub use tag::tags_are_read;

@@ -1,5 +1,5 @@
 //! What holds of components, of paths and of resolution.
-ghost use Rattle.rdf_terms.specs.ResolutionLaws.{EachTextHasComponents, ComponentsAreUnique, BaseIsUnique, EachReferenceMeans, OneMeaning, PiecesAreThePath, NoDotsAreLeft, OthersAreKept, DotsAreRemoved, DotsBeforeSlashes};
+ghost use Rattle.rdf_terms.specs.ResolutionLaws.{EachTextHasComponents, ComponentsAreUnique, BaseIsUnique, EachReferenceMeans, OneReferenceMeaning, PiecesAreThePath, NoDotsAreLeft, OthersAreKept, DotsAreRemoved, DotsBeforeSlashes};
 
 /// Each text has components, and no others; a base has one scheme and one list of components.
 pub fn components_are_unique()
@@ -9,9 +9,9 @@ pub fn components_are_unique()
 {}
 
 /// A reference means one text against a base with a scheme.
-pub fn one_meaning()
+pub fn one_reference_meaning()
     ensures there { EachReferenceMeans }
-    ensures unique { OneMeaning }
+    ensures unique { OneReferenceMeaning }
 {}
 
 /// The pieces of a path are the path.

@@ -9,12 +9,12 @@ use Rattle.rdf_lines.specs.declared.format.LineFormat.{LineFormat}
 use Rattle.rdf_lines.specs.declared.statement.Statement.{Statement}
 use Rattle.rdf_terms.specs.declared.quad.Quad.{Quad}
 use Rattle.rdf_lines.specs.declared.state.State.TheVariants.{Reading, Ended}
-use Rattle.rdf_lines.specs.Document.{IsDocument, Reads as ReadsAll}
+use Rattle.rdf_lines.specs.Document.{IsDocument, ReadsAll}
 use Rattle.rdf_lines.specs.Labels.{labels_of, all_noted, quad_in}
 use Rattle.rdf_lines.specs.Line.{Says}
 use Rattle.rdf_lines.specs.Lines.{lines_behind}
 use Rattle.rdf_lines.specs.Pieces.{Hold, onto}
-use Rattle.rdf_lines.specs.Reader.{LineState, AreSilent, Taken, FaultOf, Reads, Step, StepAt, Calls, fresh}
+use Rattle.rdf_lines.specs.Reader.{LineState, AreSilent, Taken, FaultOf, ReadsOn, Step, StepAt, Calls, fresh}
 use Rattle.rdf_lines.proofs.LawLemmas.{quads_of, first_quad}
 use Rattle.rdf_keeper.specs.Conversion.Converts.{whole_lines}
 use Rattle.rdf_keeper.proofs.ConversionLemmas.Documents.{found}
@@ -47,7 +47,7 @@ Front s left xs quads =
     (read rest front : List ℕ) × (ls : List (List ℕ)) × (now : Bool) × (ss : List Statement)
     × (xs ≡ read ++ rest) × Hold s.behind_return read ls front now × ReadsAll s.format s.number ls ss None × (quads ≡ quads_of s.labels ss) × (left ≡ Some rest)
 
-at_read : (s end : LineState) (xs : List ℕ) (f : LineFault) → f.kind ≡ Read → s.ahead ≡ Some xs → Reads s (Err f) end → Front s end.ahead xs []
+at_read : (s end : LineState) (xs : List ℕ) (f : LineFault) → f.kind ≡ Read → s.ahead ≡ Some xs → ReadsOn s (Err f) end → Front s end.ahead xs []
 at_read s end xs f is_read ahead (ls, still, line, state, number, why) = elim why [
   | inl own ↦ absurd (let P : FaultKind → Type 0 = λ k. FaultOf s.format own.0 k in subst P is_read own.2)
   | inr (inl failed) ↦
@@ -91,7 +91,7 @@ module _ (s new mid end : LineState) (xs : List ℕ) (q : Quad) (quads : List Qu
         later.10,
       )
 
-  behind_quad : s.ahead ≡ Some xs → Calls new (found quads) mid → Step mid (Err f) end → Later → Reads s (Ok (Some q)) new → Front s end.ahead xs (q ∷ quads)
+  behind_quad : s.ahead ≡ Some xs → Calls new (found quads) mid → Step mid (Err f) end → Later → ReadsOn s (Ok (Some q)) new → Front s end.ahead xs (q ∷ quads)
   behind_quad ahead calls step behind (ls, line, st, false, still, took, says, labels, is_quad, number, state, format) = on_line ls line st ahead behind still took says labels is_quad number state format
   behind_quad ahead calls step behind (ls, line, st, true, still, took, says, labels, is_quad, number, state, format) = absurd (never_ended new mid end quads f state calls step)
 

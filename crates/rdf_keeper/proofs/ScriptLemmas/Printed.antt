@@ -12,7 +12,7 @@ use Rattle.rdf_terms.specs.Quad.{QuadParts, is_quad}
 use Rattle.rdf_terms.specs.TermText.{term_text}
 use Rattle.rdf_terms.specs.declared.quad.GraphName.{GraphName}
 use Rattle.rdf_terms.specs.declared.quad.GraphName.TheVariants.{Default}
-use Rattle.rdf_lines.specs.Document.{Reads}
+use Rattle.rdf_lines.specs.Document.{ReadsAll}
 use Rattle.rdf_lines.specs.Grammar.{IsStatement, HasGraph}
 use Rattle.rdf_lines.specs.QuadText.{graph_text, quad_text}
 use Rattle.rdf_lines.specs.RoundTrip.{graph_of, statement_of}
@@ -66,7 +66,7 @@ no_graphs : (quads : List QuadParts) → AllByRecursion IsDefaultQuad quads → 
 no_graphs [] h = tt
 no_graphs (q ∷ quads) h = (ap graph_of h.0.1, no_graphs quads h.1)
 
-reads_too : (ls : List (List ℕ)) (n : ℕ) (ss : List Statement) → AllByRecursion HasNoGraph ss → Reads line.NQuads n ls ss None → Reads line.NTriples n ls ss None
+reads_too : (ls : List (List ℕ)) (n : ℕ) (ss : List Statement) → AllByRecursion HasNoGraph ss → ReadsAll line.NQuads n ls ss None → ReadsAll line.NTriples n ls ss None
 reads_too [] n ss h r = r
 reads_too (l ∷ ls) n ss h (inl (says, more)) = inl (says, reads_too ls (n + 1) ss h more)
 reads_too (l ∷ ls) n ss h (inr (inl (s, others, says, e, more))) =

@@ -2,7 +2,7 @@ use Rattle.std.proofs.Common.{◌∙◌, ap, subst, ◌++◌, arith, length, len
 use Rattle.std.specs.Prelude.{filter, option_copied}
 use Rattle.std.specs.FinSet as set
 use Rattle.rdf_dataset.specs.State.{State, matches}
-use Rattle.rdf_sets.specs.Sorted.{ListsOnce}
+use Rattle.rdf_terms.specs.Lists.{ListsOnce}
 use Rattle.rdf_terms.specs.OrderLaws.{quad_cmp_total, quad_cmp-IsAntisymmetric}
 use Rattle.rdf_sets.proofs.ListingLemmas.{lists_matching, filter_short}
 use Rattle.plain_dataset.proofs.plain.PlainDatasetSource.matches.Goals as goal

@@ -1,7 +1,7 @@
 use Rattle.std.proofs.Common.{◌∙◌, ap, subst, ◌++◌}
 use Rattle.std.proofs.lemmas.Result.{on_ok_weaker}
 use Rattle.rdf_dataset.specs.State.{State}
-use Rattle.rdf_sets.specs.Sorted.{ListsOnce}
+use Rattle.rdf_terms.specs.Lists.{ListsOnce}
 use Rattle.rdf_terms.specs.OrderLaws.{term_cmp_total, term_cmp-IsAntisymmetric}
 use Rattle.rdf_sets.proofs.SortedLemmas.{lists_once}
 use Rattle.plain_dataset.proofs.plain.PlainDatasetSource.names.Goals as goal

@@ -1,6 +1,6 @@
 use Rattle.std.proofs.Common.{subst}
 use Rattle.rdf_dataset.specs.State.{State}
-use Rattle.rdf_sets.specs.Sorted.{ListsSorted}
+use Rattle.rdf_terms.specs.Lists.{ListsSorted}
 use Rattle.rdf_dataset.proofs.StoredLemmas.{lists_gained}
 use Rattle.rdf_dataset.proofs.dataset.Dataset.names_sorted.Goals as goal
 

@@ -4,7 +4,7 @@ use Rattle.std.proofs.lemmas.Result.{on_ok_weaker}
 use Rattle.std.specs.FinSet as set
 use Rattle.rdf_terms.specs.Order.{term_cmp}
 use Rattle.rdf_terms.specs.OrderLaws.{term_cmp_total, term_cmp-IsAntisymmetric}
-use Rattle.rdf_sets.specs.Sorted.{ListsOnce}
+use Rattle.rdf_terms.specs.Lists.{ListsOnce}
 use Rattle.rdf_sets.proofs.ListingLemmas.{staged_listing}
 use Rattle.rdf_dataset.proofs.QuadEditLemmas.{net_names}
 use Rattle.rdf_dataset.proofs.edits.Edits.amend_names.Goals as goal

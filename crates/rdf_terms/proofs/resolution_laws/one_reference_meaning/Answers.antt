@@ -1,5 +1,5 @@
 use Rattle.rdf_terms.proofs.ResolutionLemmas.{means_there, means_once}
-use Rattle.rdf_terms.proofs.resolution_laws.one_meaning.Goals as goal
+use Rattle.rdf_terms.proofs.resolution_laws.one_reference_meaning.Goals as goal
 
 pub returns-clause-there : goal.returns-clause-there
 returns-clause-there c = means_there
