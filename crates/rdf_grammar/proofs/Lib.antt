@@ -5,6 +5,7 @@ pub mod Depths
 pub mod KeyEntries
 pub mod LexemeLemmas
 mod LexemeReadings
+pub mod Lists
 pub mod LiteralLemmas
 pub mod Members
 pub mod Nests

@@ -1,10 +1,11 @@
 -- Lexemes of a terminal: they are read as they are derived, and a loop may wait for one.
 use Rattle.std.proofs.Common.{◌≡◌, ◌<◌, ◌≤◌, Bool, true, false, List, [], ◌∷◌, ◌++◌, length, Option, Some, None, refl, sym, ◌∙◌, ap, arith, cond}
+use Rattle.std.specs.Prelude.{option_to_list}
 use Rattle.rdf_grammar.specs.declared.fault.GrammarFault.{GrammarFault}
 use Rattle.rdf_grammar.specs.declared.lexeme.Lexeme.{Lexeme}
 use Rattle.rdf_grammar.specs.Steps as steps
 use Rattle.rdf_grammar.specs.Steps.{and_then, ◌>>◌}
-use Rattle.rdf_grammar.specs.Readings.{Outcome, Reading, Test, Fails, is_nil, next, any, one}
+use Rattle.rdf_grammar.specs.Readings.{Outcome, Reading, Test, Fails, is_nil, next, any, one, optional}
 use Rattle.rdf_grammar.specs.Terminals as terminal
 use Rattle.rdf_grammar.specs.Terminals.{Piece, Lexemes, TellsApart, next_terminal}
 use Rattle.rdf_grammar.specs.Derivations as grammar
@@ -23,6 +24,10 @@ the_terminal k ts us a h = ap next_terminal h.2 ∙ ap Some h.1
 pub value_terminal : {T : Type 0} (k : T) (ts us : Lexemes T) (v : Piece) → grammar.value k ts v us → next_terminal ts ≡ Some k
 value_terminal k ts us v h = ap next_terminal h.3 ∙ ap Some h.1
 
+-- what a look at the next terminal tells
+pub looked : {T : Type 0} (test : Option T → Bool) (ts : Lexemes T) {k : Option T} → k ≡ next_terminal ts → true ≡ test k → test (next_terminal ts) ≡ true
+looked test ts p q = ap test (sym p) ∙ sym q
+
 module _ {T : Type 0} (same : T → T → Bool) where
   abbrev sees : T → Lexemes T → Bool
   sees = terminal.sees same
@@ -36,6 +41,22 @@ module _ {T : Type 0} (same : T → T → Bool) where
 
   pub sees_shorter : (k : T) (now mid : Lexemes T) → sees k now ≡ true → mid ≡ next now → length mid < length now
   sees_shorter k now mid s m = let less = sees_some k now s in omega (arith, ap length m)
+
+  pub seen_more : (k : T) (ts : Lexemes T) → sees k ts ≡ true → 0 < length ts
+  seen_more k [] h = absurd (cc)
+  seen_more k (t ∷ ts) h = omega arith
+
+  -- ---- a turn behind a lexeme of terminal k, which may read nothing more
+
+  module _ {A : Type 0} (k : T) (test : Test (Lexeme T)) (p : Reading (Lexeme T) A) where
+    pub maybe_reads : (now mid then : Lexemes T) (o : Option A) → sees k now ≡ true → mid ≡ next now → optional test p mid ≡ Some (o, then)
+        → terminal.maybe_behind same k test p now ≡ Some (option_to_list o, then)
+    unfolding terminal.the
+    maybe_reads now mid then o s m h = let e : optional test p (next now) ≡ Some (o, then) = ap (optional test p) (sym m) ∙ h in rw (s, e) refl
+
+    pub maybe_fails : (now mid : Lexemes T) → sees k now ≡ true → mid ≡ next now → optional test p mid ≡ None → terminal.maybe_behind same k test p now ≡ None
+    unfolding terminal.the
+    maybe_fails now mid s m h = let e : optional test p (next now) ≡ None = ap (optional test p) (sym m) ∙ h in rw (s, e) refl
 
   -- ---- a chain: the members after the first, each behind a lexeme of terminal k
 

@@ -1,5 +1,5 @@
 -- What a grammar derives: relations between lexemes, a tree and the lexemes left. Nothing looks ahead here.
-use Rattle.std.specs.Prelude.{◌≡◌, List, [], ◌∷◌, ◌++◌, Option, ◌⊎◌, MatchOption}
+use Rattle.std.specs.Prelude.{◌≡◌, List, [], ◌∷◌, ◌++◌, Option, ◌⊎◌, MatchOption, option_to_list}
 use Rattle.rdf_grammar.specs.declared.lexeme.Lexeme.{Lexeme}
 use Rattle.rdf_grammar.specs.Terminals.{Piece}
 
@@ -52,3 +52,23 @@ maybe P ts o us = MatchOption o (ts ≡ us) (λ a. P ts a us)
 pub data Star {X A : Type 0} (P : Derives X (List A)) : List X → List A → List X → Type 0 where
   stop : {ts : List X} → Star P ts [] ts
   more : {ts mid us : List X} {x xs : List A} → P ts x mid → Star P mid xs us → Star P ts (x ++ xs) us
+
+-- ---- lists
+
+-- ( k P )*
+abbrev pub EachBehind : {T A : Type 0} → T → Derives (Lexeme T) A → Derives (Lexeme T) (List A)
+EachBehind k P = Star (one (the k >> P))
+
+-- P ( k P )*
+abbrev pub Separated : {T A : Type 0} → T → Derives (Lexeme T) A → Derives (Lexeme T) (List A)
+Separated k P = do
+  first ← P
+  others ← EachBehind k P
+  pure (first ∷ others)
+
+-- P ( k ( P )? )*
+abbrev pub SeparatedLoosely : {T A : Type 0} → T → Derives (Lexeme T) A → Derives (Lexeme T) (List A)
+SeparatedLoosely k P = do
+  first ← P
+  others ← Star (the k >> option_to_list <$> maybe P)
+  pure (first ∷ others)

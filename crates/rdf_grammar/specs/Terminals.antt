@@ -1,7 +1,8 @@
 -- Terminals: what the next lexeme is.
-use Rattle.std.specs.Prelude.{◌≡◌, ℕ, Bool, true, false, if◌then◌else◌, List, [], ◌∷◌, Option, Some, None}
+use Rattle.std.specs.Prelude.{◌≡◌, ℕ, Bool, true, false, if◌then◌else◌, List, [], ◌∷◌, Option, Some, None, option_to_list}
 use Rattle.rdf_grammar.specs.declared.lexeme.Lexeme.{Lexeme}
-use Rattle.rdf_grammar.specs.Readings.{Reading, next}
+use Rattle.rdf_grammar.specs.Readings.{Reading, Test, next, one, optional, repeat}
+use Rattle.rdf_grammar.specs.Steps.{◌>>=◌, ◌>>◌, ◌<$>◌, pure}
 
 -- the characters of a piece of the text
 abbrev pub Piece : Type 0
@@ -42,3 +43,25 @@ module _ {T : Type 0} (same : T → T → Bool) where
   -- a lexeme of this terminal, and its characters
   unfoldable pub value : T → Reading (Lexeme T) Piece
   value k = λ ts. if sees k ts then Some (next_text ts, next ts) else None
+
+  -- ( k p )*
+  abbrev pub each_behind : {A : Type 0} → T → Reading (Lexeme T) A → Reading (Lexeme T) (List A)
+  each_behind k p = repeat (sees k) (one (the k >> p))
+
+  -- p ( k p )*
+  abbrev pub separated : {A : Type 0} → T → Reading (Lexeme T) A → Reading (Lexeme T) (List A)
+  separated k p = do
+    first ← p
+    others ← each_behind k p
+    pure (first ∷ others)
+
+  -- k ( p )?, where the p is there if the next lexemes pass the test
+  abbrev pub maybe_behind : {A : Type 0} → T → Test (Lexeme T) → Reading (Lexeme T) A → Reading (Lexeme T) (List A)
+  maybe_behind k test p = the k >> (option_to_list <$> optional test p)
+
+  -- p ( k ( p )? )*
+  abbrev pub separated_loosely : {A : Type 0} → T → Test (Lexeme T) → Reading (Lexeme T) A → Reading (Lexeme T) (List A)
+  separated_loosely k test p = do
+    first ← p
+    others ← repeat (sees k) (maybe_behind k test p)
+    pure (first ∷ others)

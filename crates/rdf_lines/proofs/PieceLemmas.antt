@@ -1,8 +1,9 @@
 -- Pieces and the lines in them.
-use Rattle.std.proofs.Common.{◌≡◌, ◌≢◌, ◌∙◌, ap, refl, sym, ℕ, ◌+◌, ◌-◌, ◌≤◌, ◌<◌, arith, Bool, true, false, cond, ◌&&◌, ◌||◌, List, [], ◌∷◌, ◌++◌, length, take, drop, append_assoc, append-nil, Option, Some, None, length-take, get_or, zero, suc, add-one, le_refl, length-drop, length-append, slice_range, take-append-drop, subst}
+use Rattle.std.proofs.Common.{◌≡◌, ◌≢◌, ◌∙◌, ap, refl, sym, ℕ, ◌+◌, ◌-◌, ◌≤◌, ◌<◌, arith, Bool, true, false, cond, ◌&&◌, List, [], ◌∷◌, ◌++◌, length, take, drop, append_assoc, append-nil, Option, Some, None, length-take, get_or, zero, suc, add-one, le_refl, length-drop, length-append, slice_range, take-append-drop, subst}
 use Rattle.std.specs.Io.KnownBytes.{Consumes, prepend_known}
 use Rattle.std.proofs.lemmas.List.{drop-take, drop-drop, take_more, take_all, drop_all}
-use Rattle.rdf_lines.specs.Lines.{lines_behind, onto_first, is_line_feed, is_return}
+use Rattle.rdf_terms.specs.LineEnds.{is_line_feed, is_return, is_line_end}
+use Rattle.rdf_lines.specs.Lines.{lines_behind, onto_first}
 use Rattle.rdf_lines.specs.Pieces.{onto, Hold, feed_len, Held, TakesPart, HasLine, HasNoLine, ahead, room}
 use Rattle.rdf_lines.specs.declared.cut.Place.{Place}
 use Rattle.std.specs.Prelude.{Result, Ok, Err, is_ok, is_err}
@@ -30,17 +31,14 @@ onto-none [] h = absurd (h refl)
 onto-none (x ∷ []) h = refl
 onto-none (x ∷ y ∷ ys) h = ap (onto_first x) (onto-none (y ∷ ys) (λ e. cc))
 
-abbrev pub is_end : ℕ → Bool
-is_end b = is_line_feed b || is_return b
-
-pub other : (b : ℕ) (bs : List ℕ) → is_end b ≡ false → lines_behind false (b ∷ bs) ≡ onto_first b (lines_behind false bs)
+pub other : (b : ℕ) (bs : List ℕ) → is_line_end b ≡ false → lines_behind false (b ∷ bs) ≡ onto_first b (lines_behind false bs)
 other b bs e = ap (λ v. cond v ([] ∷ lines_behind (is_return b) bs) (onto_first b (lines_behind false bs))) e
 
-ended : (b : ℕ) (bs : List ℕ) → is_end b ≡ true → lines_behind false (b ∷ bs) ≡ [] ∷ lines_behind (is_return b) bs
+pub ended : (b : ℕ) (bs : List ℕ) → is_line_end b ≡ true → lines_behind false (b ∷ bs) ≡ [] ∷ lines_behind (is_return b) bs
 ended b bs e = ap (λ v. cond v ([] ∷ lines_behind (is_return b) bs) (onto_first b (lines_behind false bs))) e
 
 abbrev pub NoEndBefore : ℕ → List ℕ → Type 0
-NoEndBefore k xs = (j : ℕ) → j < k → is_end (get_or xs j 0) ≡ false
+NoEndBefore k xs = (j : ℕ) → j < k → is_line_end (get_or xs j 0) ≡ false
 
 open_front : (xs : List ℕ) (k : ℕ) → k ≤ length xs → NoEndBefore k xs → (tail : List ℕ) → lines_behind false (take k xs ++ tail) ≡ onto (take k xs) (lines_behind false tail)
 open_front xs zero h none tail = refl
@@ -51,7 +49,7 @@ open_front xs (suc k) h none tail =
     ∙ ap (onto (take k xs)) (other (get_or xs k 0) tail (none k (omega arith))) ∙ sym (onto-append (take k xs) (get_or xs k 0 ∷ []) (lines_behind false tail))
     ∙ ap (λ l. onto l (lines_behind false tail)) (sym last)
 
-ended_front : (xs : List ℕ) (k : ℕ) → k < length xs → NoEndBefore k xs → is_end (get_or xs k 0) ≡ true → (tail : List ℕ) → lines_behind false (take (suc k) xs ++ tail) ≡ take k xs ∷ lines_behind (is_return (get_or xs k 0)) tail
+ended_front : (xs : List ℕ) (k : ℕ) → k < length xs → NoEndBefore k xs → is_line_end (get_or xs k 0) ≡ true → (tail : List ℕ) → lines_behind false (take (suc k) xs ++ tail) ≡ take k xs ∷ lines_behind (is_return (get_or xs k 0)) tail
 ended_front xs k h none e tail =
     let last : take (suc k) xs ≡ take k xs ++ get_or xs k 0 ∷ [] = ap (λ n. take n xs) (sym (add-one k)) ∙ take_more xs k 0 h in
     ap (λ l. lines_behind false (l ++ tail)) last ∙ ap (lines_behind false) (append_assoc (take k xs) (get_or xs k 0 ∷ []) tail)
@@ -60,13 +58,13 @@ ended_front xs k h none e tail =
 
 -- behind a CR or not
 pub not_feed : (behind : Bool) (b : ℕ) (bs : List ℕ) → (behind && is_line_feed b) ≡ false → lines_behind behind (b ∷ bs) ≡ lines_behind false (b ∷ bs)
-not_feed behind b bs e = ap (λ v. cond v (lines_behind false bs) (cond (is_end b) ([] ∷ lines_behind (is_return b) bs) (onto_first b (lines_behind false bs)))) e
+not_feed behind b bs e = ap (λ v. cond v (lines_behind false bs) (cond (is_line_end b) ([] ∷ lines_behind (is_return b) bs) (onto_first b (lines_behind false bs)))) e
 
-feed : (behind : Bool) (b : ℕ) (bs : List ℕ) → (behind && is_line_feed b) ≡ true → lines_behind behind (b ∷ bs) ≡ lines_behind false bs
-feed behind b bs e = ap (λ v. cond v (lines_behind false bs) (cond (is_end b) ([] ∷ lines_behind (is_return b) bs) (onto_first b (lines_behind false bs)))) e
+pub feed : (behind : Bool) (b : ℕ) (bs : List ℕ) → (behind && is_line_feed b) ≡ true → lines_behind behind (b ∷ bs) ≡ lines_behind false bs
+feed behind b bs e = ap (λ v. cond v (lines_behind false bs) (cond (is_line_end b) ([] ∷ lines_behind (is_return b) bs) (onto_first b (lines_behind false bs)))) e
 
 -- a piece with a line end
-pub line_in : (behind : Bool) (xs : List ℕ) (k f : ℕ) → f ≡ feed_len behind xs → k < length (drop f xs) → NoEndBefore k (drop f xs) → is_end (get_or (drop f xs) k 0) ≡ true
+pub line_in : (behind : Bool) (xs : List ℕ) (k f : ℕ) → f ≡ feed_len behind xs → k < length (drop f xs) → NoEndBefore k (drop f xs) → is_line_end (get_or (drop f xs) k 0) ≡ true
     → Hold behind (take (f + suc k) xs) (take k (drop f xs) ∷ []) [] (is_return (get_or (drop f xs) k 0))
 line_in behind [] k f p h none e tail = absurd (nothing f h)
   where
@@ -75,7 +73,7 @@ line_in behind [] k f p h none e tail = absurd (nothing f h)
     nothing (suc n) h = omega (arith, h)
 line_in behind (b ∷ bs) k f p h none e tail = by (behind && is_line_feed b) refl f p h none e
   where
-    by : (v : Bool) → (behind && is_line_feed b) ≡ v → (f : ℕ) → f ≡ cond v 1 0 → k < length (drop f (b ∷ bs)) → NoEndBefore k (drop f (b ∷ bs)) → is_end (get_or (drop f (b ∷ bs)) k 0) ≡ true
+    by : (v : Bool) → (behind && is_line_feed b) ≡ v → (f : ℕ) → f ≡ cond v 1 0 → k < length (drop f (b ∷ bs)) → NoEndBefore k (drop f (b ∷ bs)) → is_line_end (get_or (drop f (b ∷ bs)) k 0) ≡ true
         → lines_behind behind (take (f + suc k) (b ∷ bs) ++ tail) ≡ take k (drop f (b ∷ bs)) ∷ lines_behind (is_return (get_or (drop f (b ∷ bs)) k 0)) tail
     by true is zero p h none e = absurd (omega (arith, p))
     by true is (suc zero) p h none e = ap (λ n. lines_behind behind (take n (b ∷ bs) ++ tail)) (let q : 1 + suc k ≡ suc (suc k) = omega arith in q) ∙ feed behind b (take (suc k) bs ++ tail) is ∙ ended_front bs k h none e tail
@@ -260,11 +258,11 @@ line_at behind by piece rest f i is_feed is_rest none here is_by = (
   omega arith,
   (let l : length rest ≡ length piece - f = ap length is_rest ∙ length-drop f piece in omega (arith, none.high)),
   subst (λ b. Hold behind (take (f + i + 1) piece) (slice_range piece f (f + i) ∷ []) [] b) (sym is_by)
-      (subst (λ r. i < length r → NoEndBefore i r → is_end (get_or r i 0) ≡ true → Hold behind (take (f + i + 1) piece) (slice_range piece f (f + i) ∷ []) [] (is_return (get_or r i 0))) (sym is_rest) at_rest
+      (subst (λ r. i < length r → NoEndBefore i r → is_line_end (get_or r i 0) ≡ true → Hold behind (take (f + i + 1) piece) (slice_range piece f (f + i) ∷ []) [] (is_return (get_or r i 0))) (sym is_rest) at_rest
       none.high (λ j l. not_true _ (none.before j (omega arith) l)) here),
 )
   where
-    at_rest : i < length (drop f piece) → NoEndBefore i (drop f piece) → is_end (get_or (drop f piece) i 0) ≡ true
+    at_rest : i < length (drop f piece) → NoEndBefore i (drop f piece) → is_line_end (get_or (drop f piece) i 0) ≡ true
         → Hold behind (take (f + i + 1) piece) (slice_range piece f (f + i) ∷ []) [] (is_return (get_or (drop f piece) i 0))
     at_rest l n e tail =
         ap (λ m. lines_behind behind (take m piece ++ tail)) (let q : f + i + 1 ≡ f + suc i = omega arith in q) ∙ line_in behind piece i f is_feed l n e tail

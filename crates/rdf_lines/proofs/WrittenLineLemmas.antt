@@ -15,6 +15,7 @@ use Rattle.rdf_terms.specs.declared.term.Term.TheVariants.{Blank, Iri, Literal}
 use Rattle.rdf_terms.specs.declared.quad.GraphName.{GraphName}
 use Rattle.rdf_terms.specs.declared.quad.GraphName.TheVariants.{Default, Named}
 use Rattle.rdf_terms.specs.declared.quad.Quad.{Quad}
+use Rattle.rdf_terms.specs.LineEnds.{is_line_feed, is_return, is_line_end}
 use Rattle.rdf_terms.proofs.QuadTests.{QuadTests, quad_tests}
 use Rattle.rdf_terms.proofs.SkipLemmas.{AllPass}
 use Rattle.rdf_terms.proofs.TagForms.{tag_name}
@@ -23,29 +24,29 @@ use Rattle.rdf_terms.proofs.WrittenNumberLemmas.{is_digit, decimal_digits}
 use Rattle.rdf_terms.proofs.WrittenTermLemmas.{tag_parts, literal_parts}
 use Rattle.rdf_terms.proofs.WrittenTextLemmas.{by_escape}
 use Rattle.rdf_lines.specs.declared.format.LineFormat.TheVariants.{NQuads}
-use Rattle.rdf_lines.specs.Lines.{lines_behind, lines, onto_first, is_line_feed, is_return}
+use Rattle.rdf_lines.specs.Lines.{lines_behind, lines, onto_first}
 use Rattle.rdf_lines.specs.Document.{ReadsAll}
 use Rattle.rdf_lines.specs.QuadText.{quad_text}
 use Rattle.rdf_lines.specs.RoundTrip.{statement_of}
-use Rattle.rdf_lines.proofs.WrittenTagLemmas.{is_end, tag_no_end}
+use Rattle.rdf_lines.proofs.WrittenTagLemmas.{tag_no_end}
 use Rattle.rdf_lines.proofs.RoundTripLemmas.{end_text, line_of, quad_line, says_statement}
 
 abbrev NoEnd : List ℕ → Type 0
-NoEnd bs = list_any is_end bs ≡ false
+NoEnd bs = list_any is_line_end bs ≡ false
 
 both : (xs ys : List ℕ) → NoEnd xs → NoEnd ys → NoEnd (xs ++ ys)
-both xs ys h k = list_any-append is_end xs ys ∙ or_from (list_any is_end xs) (list_any is_end ys) h k
+both xs ys h k = list_any-append is_line_end xs ys ∙ or_from (list_any is_line_end xs) (list_any is_line_end ys) h k
 
-from_each : (bs : List ℕ) → AllByRecursion (λ b. is_end b ≡ false) bs → NoEnd bs
+from_each : (bs : List ℕ) → AllByRecursion (λ b. is_line_end b ≡ false) bs → NoEnd bs
 from_each [] h = refl
-from_each (b ∷ bs) h = or_from (is_end b) (list_any is_end bs) h.0 (from_each bs h.1)
+from_each (b ∷ bs) h = or_from (is_line_end b) (list_any is_line_end bs) h.0 (from_each bs h.1)
 
 -- ---- no term as written has a line end
 
-digit_no_end : (c : ℕ) → is_digit c ≡ true → is_end c ≡ false
+digit_no_end : (c : ℕ) → is_digit c ≡ true → is_line_end c ≡ false
 digit_no_end c h = grind (arith, nat_tests)
 
-digits_no_end : (cs : List ℕ) → AllPass is_digit cs → AllByRecursion (λ b. is_end b ≡ false) cs
+digits_no_end : (cs : List ℕ) → AllPass is_digit cs → AllByRecursion (λ b. is_line_end b ≡ false) cs
 digits_no_end [] h = tt
 digits_no_end (c ∷ cs) h = (digit_no_end c h.0, digits_no_end cs h.1)
 
@@ -55,7 +56,7 @@ feed_forbidden = refl
 return_forbidden : is_forbidden 13 ≡ true
 return_forbidden = refl
 
-end_forbidden : (c : ℕ) → is_end c ≡ true → is_forbidden c ≡ true
+end_forbidden : (c : ℕ) → is_line_end c ≡ true → is_forbidden c ≡ true
 end_forbidden c h = elim (or_cases (is_line_feed c) (is_return c) h) [
   | inl feed ↦ ap is_forbidden (eqb-true c 10 feed) ∙ feed_forbidden
   | inr return ↦ ap is_forbidden (eqb-true c 13 return) ∙ return_forbidden
@@ -65,22 +66,22 @@ allowed_no_end : (bs : List ℕ) → has_forbidden bs ≡ false → NoEnd bs
 allowed_no_end [] h = refl
 allowed_no_end (b ∷ bs) h =
     let parts = or_parts (is_forbidden b) (has_forbidden bs) h in
-    let here : is_end b ≡ false =
-    elim (cases_Bool (is_end b)) [
+    let here : is_line_end b ≡ false =
+    elim (cases_Bool (is_line_end b)) [
       | inl end ↦ absurd (true≢false (sym (end_forbidden b end) ∙ parts.0))
       | inr other ↦ other
     ] in
-    or_from (is_end b) (list_any is_end bs) here (allowed_no_end bs parts.1)
+    or_from (is_line_end b) (list_any is_line_end bs) here (allowed_no_end bs parts.1)
 
 escape_no_end : (c : ℕ) → NoEnd (escaped c)
-escape_no_end = by_escape (λ c piece. NoEnd piece) refl refl refl refl (λ c q b f r. or_from (is_end c) false (or_from (c == 10) (c == 13) f r) refl)
+escape_no_end = by_escape (λ c piece. NoEnd piece) refl refl refl refl (λ c q b f r. or_from (is_line_end c) false (or_from (c == 10) (c == 13) f r) refl)
 
 escapes_no_end : (text : List ℕ) → NoEnd (flat_map escaped text)
 escapes_no_end [] = refl
 escapes_no_end (c ∷ cs) = both (escaped c) (flat_map escaped cs) (escape_no_end c) (escapes_no_end cs)
 
-around : (c d : ℕ) (text : List ℕ) → is_end c ≡ false → is_end d ≡ false → NoEnd text → NoEnd (c ∷ (text ++ d ∷ []))
-around c d text h k n = both (c ∷ []) (text ++ d ∷ []) (or_from (is_end c) false h refl) (both text (d ∷ []) n (or_from (is_end d) false k refl))
+around : (c d : ℕ) (text : List ℕ) → is_line_end c ≡ false → is_line_end d ≡ false → NoEnd text → NoEnd (c ∷ (text ++ d ∷ []))
+around c d text h k n = both (c ∷ []) (text ++ d ∷ []) (or_from (is_line_end c) false h refl) (both text (d ∷ []) n (or_from (is_line_end d) false k refl))
 
 iri_no_end : (iri : List ℕ) → is_iri iri ≡ true → NoEnd (60 ∷ (iri ++ 62 ∷ []))
 iri_no_end iri h = around 60 62 iri refl refl (allowed_no_end iri (iri_allowed iri h))
@@ -120,7 +121,7 @@ line_no_end q t =
 first_line : (line rest : List ℕ) → NoEnd line → lines_behind false (line ++ 10 ∷ rest) ≡ line ∷ lines_behind false rest
 first_line [] rest h = refl
 first_line (b ∷ line) rest h =
-    let parts = or_parts (is_end b) (list_any is_end line) h in
+    let parts = or_parts (is_line_end b) (list_any is_line_end line) h in
     ap (λ v. if v then [] ∷ lines_behind (is_return b) (line ++ 10 ∷ rest) else onto_first b (lines_behind false (line ++ 10 ∷ rest))) parts.0
     ∙ ap (onto_first b) (first_line line rest parts.1)
 

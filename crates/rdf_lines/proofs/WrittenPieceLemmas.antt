@@ -4,6 +4,7 @@ use Rattle.std.specs.List.{AllByRecursion}
 use Rattle.std.specs.Cmp.Lexicographic.{pointwise, bytes_decides}
 use Rattle.std.proofs.lemmas.Bool.{ltb-true}
 use Rattle.std.proofs.lemmas.Str.{chars-append, chars-nil, chars-IsAscii, encodes-IsAscii}
+use Rattle.rdf_terms.specs.Dotted.{IsOne, IsDotted}
 use Rattle.rdf_terms.specs.Iri.{is_iri}
 use Rattle.rdf_terms.specs.Literal.{LiteralParts, xsd_string, tag_fits, is_literal, tagged}
 use Rattle.rdf_terms.specs.Quoted.{IsIriRef}
@@ -21,7 +22,7 @@ use Rattle.rdf_terms.proofs.WrittenIriLemmas.{angled, iri_form, angled_chars}
 use Rattle.rdf_terms.proofs.WrittenNumberLemmas.{label_low, blank_ascii}
 use Rattle.rdf_terms.proofs.WrittenTermLemmas.{lower_stays, tag_parts, tag_ascii, literal_parts}
 use Rattle.rdf_terms.proofs.WrittenTextLemmas.{quoted, quoted_form, quoted_chars, quoted_utf8}
-use Rattle.rdf_lines.specs.Grammar.{is_white, is_label_part, is_label_start, IsString, IsLabelRest, IsLabelName, IsBlankLabel, IsTag, Takes, Next, HasNode, HasObject, HasLiteral, typed}
+use Rattle.rdf_lines.specs.Grammar.{is_white, is_label_part, is_label_start, IsString, IsLabelName, IsBlankLabel, IsTag, Takes, Next, HasNode, HasObject, HasLiteral, typed}
 use Rattle.rdf_lines.specs.RoundTrip.{label_of, node_of, object_of}
 use Rattle.rdf_lines.proofs.LinePieceLemmas.{iri_reader, string_reader, differs}
 use Rattle.rdf_lines.proofs.WrittenLabelLemmas.{label_name}
@@ -54,20 +55,20 @@ part_black c h e = true≢false (sym h ∙ ap is_label_part e ∙ space_no_part)
 start_black : (c : ℕ) → is_label_start c ≡ true → c ≢ 32
 start_black c h e = true≢false (sym h ∙ ap is_label_start e ∙ space_no_start)
 
-rest_black : (cs : List ℕ) → IsLabelRest cs → NoSpace cs
-rest_black [] h = tt
-rest_black (c ∷ []) h = (part_black c h, tt)
-rest_black (c ∷ d ∷ cs) h = (
-  elim h.0 [
-    | inl part ↦ part_black c part
-    | inr dot ↦ λ e. (omega (arith, dot, e))
-  ],
-  rest_black (d ∷ cs) h.1,
-)
+dots_black : (dots others : List ℕ) → AllByRecursion (λ c. c ≡ 46) dots → NoSpace others → NoSpace (dots ++ others)
+dots_black [] others h n = n
+dots_black (d ∷ dots) others h n = ((λ e. omega (arith, h.0, e)), dots_black dots others h.1 n)
+
+rest_black : (cs : List ℕ) (parts : List (List ℕ)) → IsDotted (IsOne is_label_part) cs parts → NoSpace cs
+rest_black cs [] h = subst NoSpace (sym h) tt
+rest_black cs (part ∷ parts) h =
+    let one = h.4 in
+    let behind : NoSpace (part ++ h.1) = subst (λ (t : List ℕ). NoSpace (t ++ h.1)) (sym one.1) (part_black one.0 one.2, rest_black h.1 parts h.5) in
+    subst NoSpace (sym h.2) (dots_black h.0 (part ++ h.1) h.3 behind)
 
 name_black : (name : List ℕ) → IsLabelName name → NoSpace name
 name_black [] h = absurd h
-name_black (c ∷ cs) h = (start_black c h.0, rest_black cs h.1)
+name_black (c ∷ cs) h = (start_black c h.0, rest_black cs h.1.0 h.1.1)
 
 label_black : (slice text : List ℕ) → IsBlankLabel slice text → NoSpace slice
 label_black slice text f = subst NoSpace (sym f.1) ((λ e. (omega (arith, e))), ((λ e. (omega (arith, e))), name_black f.0 f.2))

@@ -5,6 +5,7 @@ use Rattle.std.specs.Int.{is_in_range}
 use Rattle.std.specs.List.{AllByRecursion}
 use Rattle.std.specs.Str.{encode_utf8_all}
 use Rattle.rdf_terms.specs.Characters.{is_pn_chars_u, is_pn_chars}
+use Rattle.rdf_terms.specs.Dotted.{IsOne, IsDotted}
 use Rattle.rdf_terms.specs.Quoted.{IsIriRef, IsQuoted}
 use Rattle.rdf_terms.specs.Literal.{LiteralParts, xsd_string, tagged}
 use Rattle.rdf_terms.specs.Tags.{IsTagName}
@@ -30,15 +31,10 @@ is_label_start c = is_pn_chars_u c || (c == 58) || is_in_range 48 57 c
 unfoldable pub is_label_part : ℕ → Bool
 is_label_part c = is_pn_chars c || (c == 58)
 
--- parts and dots, the last no dot
-abbrev pub IsLabelRest : List ℕ → Type 0
-IsLabelRest [] = Unit {0}
-IsLabelRest (c ∷ []) = is_label_part c ≡ true
-IsLabelRest (c ∷ d ∷ cs) = ((is_label_part c ≡ true) ⊎ (c ≡ 46)) × IsLabelRest (d ∷ cs)
-
+-- a start, then parts and dots, the last no dot
 abbrev pub IsLabelName : List ℕ → Type 0
 IsLabelName [] = ⊥
-IsLabelName (c ∷ cs) = (is_label_start c ≡ true) × IsLabelRest cs
+IsLabelName (c ∷ cs) = (is_label_start c ≡ true) × ((parts : List (List ℕ)) × IsDotted (IsOne is_label_part) cs parts)
 
 -- a mark, and a name whose text is said
 abbrev pub IsMarked : List ℕ → (List ℕ → Type 0) → List ℕ → List ℕ → Type 0

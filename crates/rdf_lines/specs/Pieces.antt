@@ -1,7 +1,8 @@
 -- The unread rest of a stream's last piece, and what is taken of it.
 use Rattle.std.specs.Prelude.{◌≡◌, ◌≢◌, ℕ, ◌<◌, ◌≤◌, ◌+◌, ◌*◌, ◌&&◌, Bool, true, false, List, [], ◌∷◌, ◌++◌, length, take, drop, slice_range, if◌then◌else◌, Option, Result, Ok, Err}
 use Rattle.std.specs.Io.KnownBytes.{Consumes, IsAtEnd, prepend_known}
-use Rattle.rdf_lines.specs.Lines.{lines_behind, onto_first, is_line_feed}
+use Rattle.rdf_terms.specs.LineEnds.{is_line_feed}
+use Rattle.rdf_lines.specs.Lines.{lines_behind, onto_first}
 use Rattle.rdf_lines.specs.declared.fault.FaultKind.{FaultKind}
 use Rattle.rdf_lines.specs.declared.fault.FaultKind.TheVariants.{Read, NoMemory}
 use Rattle.rdf_lines.specs.declared.cut.Place.{Place}

@@ -1,9 +1,10 @@
 -- Reading a line from left to right: what stands at the front of a list of characters, and what follows it.
-use Rattle.std.specs.Prelude.{ℕ, Bool, true, false, List, [], ◌∷◌, length, Option, Some, None, nat_lt, ◌==◌, ◌||◌, ◌&&◌, if◌then◌else◌}
+use Rattle.std.specs.Prelude.{ℕ, Bool, true, false, List, [], ◌∷◌, Option, Some, None, ◌==◌, ◌||◌, ◌&&◌, if◌then◌else◌}
 use Rattle.std.specs.Str.{encode_utf8_all}
+use Rattle.rdf_terms.specs.Dotted.{dotted_at}
 use Rattle.rdf_terms.specs.Reading.{◌>>=◌, expect, between, iri_at, quoted_at}
 use Rattle.rdf_terms.specs.Literal.{LiteralParts, xsd_string, is_tag, tagged}
-use Rattle.rdf_terms.specs.Skips.{skip}
+use Rattle.rdf_terms.specs.Skips.{skip, one_of}
 use Rattle.rdf_terms.specs.Tags.{tag_end_at}
 use Rattle.rdf_lines.specs.Grammar.{is_white, is_label_start, is_label_part, typed}
 use Rattle.rdf_lines.specs.declared.format.LineFormat.{LineFormat}
@@ -23,24 +24,10 @@ skip_white cs = skip is_white cs
 
 -- ---- blank labels
 
-abbrev pub skip_dots : List ℕ → List ℕ
-skip_dots cs = skip (λ c. c == 46) cs
-
-unfoldable pub label_part_at : List ℕ → Option (List ℕ)
-label_part_at [] = None
-label_part_at (c ∷ cs) = if is_label_part c then Some cs else None
-
--- the rest of a label, and what follows it: a dot belongs to the label only where more of the label follows
-unfoldable pub label_rest : List ℕ → List ℕ × List ℕ
-label_rest [] = ([], [])
-label_rest (c ∷ cs) =
-    let more = label_rest cs in
-    if is_label_part c || ((c == 46) && nat_lt 0 (length more.0)) then (c ∷ more.0, more.1) else ([], c ∷ cs)
-
 -- behind `_:`
 unfoldable pub label_end_at : List ℕ → Option (List ℕ)
 label_end_at [] = None
-label_end_at (c ∷ cs) = if is_label_start c then Some (label_rest cs).1 else None
+label_end_at (c ∷ cs) = if is_label_start c then Some (dotted_at (one_of is_label_part) cs) else None
 
 -- the text of a name, and what follows it
 unfoldable pub name_at : (List ℕ → Option (List ℕ)) → List ℕ → Option (List ℕ × List ℕ)

@@ -1,7 +1,9 @@
 //! Gaps, and the labels of blank nodes.
 ghost use Rattle.std.specs.Prelude.{◌≡◌, IfOk};
 ghost use Rattle.rdf_lines.specs.Grammar as grammar;
-ghost use Rattle.rdf_lines.specs.Reading.{first_is, skip_white, skip_dots, label_rest, label_part_at, label_end_at, label_at};
+ghost use Rattle.rdf_terms.specs.Dotted.{dotted_at};
+ghost use Rattle.rdf_terms.specs.Skips.{one_of};
+ghost use Rattle.rdf_lines.specs.Reading.{first_is, skip_white, label_end_at, label_at};
 
 use rdf_terms::{Cursor, NoMemory, Text, is_pn_chars, is_pn_chars_u};
 use std::alloc::Global;
@@ -40,35 +42,11 @@ fn is_label_part(c: char) -> bool
     is_pn_chars(c) || c == ':'
 }
 
-/// The place behind the dots that stand here.
-fn skip_dots<'a>(at: &Cursor<'a>) -> Cursor<'a>
-    ensures { result ≡ skip_dots at.now }
-{
-    at.skip(|c| c == '.')
-}
-
-/// The place behind one character of a label.
-#[tactic(auto, unfolding(crate::specs::Reading::label_part_at))]
-fn label_part<'a>(at: &Cursor<'a>) -> Option<Cursor<'a>>
-    ensures { result ≡ label_part_at at.now }
-{
-    let mut rest = at.fork();
-    if is_label_part(rest.bump()?) {
-        Some(rest)
-    } else {
-        None
-    }
-}
-
 /// The place behind the rest of a label: a dot belongs to it only where more of the label follows.
 fn label_rest<'a>(at: &Cursor<'a>) -> Cursor<'a>
-    ensures { result ≡ (label_rest at.now).1 }
+    ensures { result ≡ dotted_at (one_of grammar.is_label_part) at.now }
 {
-    let mut rest = at.fork();
-    while let Some(behind) = label_part(&skip_dots(&rest)) {
-        rest = behind;
-    }
-    rest
+    at.dotted(|at| at.one_of(is_label_part))
 }
 
 /// The place behind a label, from behind its `_:`.

@@ -4,6 +4,7 @@ pub mod CleanLemmas
 pub mod CutLemmas
 pub mod DotLawLemmas
 pub mod DotLemmas
+pub mod DottedLemmas
 pub mod EscapeLemmas
 pub mod EscapedLemmas
 pub mod ExampleLemmas

@@ -1,9 +1,10 @@
 -- The digits of a number, as they are written.
-use Rattle.std.proofs.Common.{◌≡◌, ℕ, ◌+◌, ◌<◌, ◌%◌, ◌^◌, arith, Bool, true, List, [], ◌∷◌, ◌++◌, decimal}
+use Rattle.std.proofs.Common.{◌≡◌, refl, ap, ℕ, ◌+◌, ◌<◌, ◌%◌, ◌^◌, arith, Bool, true, false, ◌==◌, ◌||◌, List, [], ◌∷◌, ◌++◌, decimal}
 use Rattle.std.specs.Int.{is_in_range}
 use Rattle.std.specs.Str.{IsAscii}
 use Rattle.std.proofs.lemmas.Bool.Decides.{nat_tests}
 use Rattle.std.proofs.lemmas.Fmt.{decimal_by_steps}
+use Rattle.rdf_terms.specs.Characters.{is_pn_chars_u, is_pn_chars}
 use Rattle.rdf_terms.proofs.SkipLemmas.{AllPass}
 use Rattle.rdf_terms.proofs.TagForms.{AllLow, ascii_from}
 
@@ -35,3 +36,12 @@ label_low n h = (omega arith, digits_low (decimal n) (decimal_digits n h))
 
 pub blank_ascii : (n : ℕ) → n < 2 ^ 64 → IsAscii (95 ∷ 58 ∷ 98 ∷ decimal n)
 blank_ascii n h = ascii_from (95 ∷ 58 ∷ 98 ∷ decimal n) (omega arith, (omega arith, label_low n h))
+
+third : (a b c d e f : Bool) → c ≡ true → (a || b || c || d || e || f) ≡ true
+third true b c d e f h = refl
+third false true c d e f h = refl
+third false false c d e f h = ap (λ x. false || false || x || d || e || f) h
+
+pub digit_part : (c : ℕ) → is_digit c ≡ true → is_pn_chars c ≡ true
+unfolding is_pn_chars
+digit_part c h = third (is_pn_chars_u c) (c == 45) (is_in_range 48 57 c) (c == 0xB7) (is_in_range 0x300 0x36F c) (is_in_range 0x203F 0x2040 c) h

@@ -5,11 +5,13 @@ pub mod Codes
 pub mod Comparisons
 pub mod Cuts
 pub mod Dots
+pub mod Dotted
 pub mod Escapes
 pub mod Examples
 pub mod IntegerLaws
 pub mod Integers
 pub mod Iri
+pub mod LineEnds
 pub mod Lists
 pub mod Literal
 pub mod Names

@@ -14,3 +14,8 @@ skip passes (c ∷ cs) = if passes c then skip passes cs else c ∷ cs
 unfoldable pub some_of : (ℕ → Bool) → (ℕ → Bool) → List ℕ → Option (List ℕ)
 some_of first passes [] = None
 some_of first passes (c ∷ cs) = if first c then Some (skip passes cs) else None
+
+-- what follows one that passes
+unfoldable pub one_of : (ℕ → Bool) → List ℕ → Option (List ℕ)
+one_of passes [] = None
+one_of passes (c ∷ cs) = if passes c then Some cs else None

@@ -7,6 +7,7 @@ mod character;
 mod cursor;
 mod cuts;
 mod dots;
+mod dotted;
 mod escape;
 mod examples;
 mod fault;

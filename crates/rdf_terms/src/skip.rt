@@ -1,6 +1,6 @@
 //! Characters of a class that stand together.
 ghost use Rattle.std.specs.Prelude.{◌≡◌, ℕ, Bool};
-ghost use Rattle.rdf_terms.specs.Skips.{IsTest, skip, some_of};
+ghost use Rattle.rdf_terms.specs.Skips.{IsTest, skip, some_of, one_of};
 
 use crate::cursor::Cursor;
 
@@ -36,6 +36,20 @@ impl<'a> Cursor<'a> {
         let mut rest = self.fork();
         if first(rest.bump()?) {
             Some(rest.skip(passes))
+        } else {
+            None
+        }
+    }
+
+    /// The place behind the next character, where it passes.
+    #[tactic(auto, unfolding(crate::specs::Skips::one_of))]
+    pub fn one_of<F: Fn(char) -> bool>(&self, passes: F) -> Option<Cursor<'a>>
+        requires { F.IsAlwaysCallable passes }
+        ensures { (class : ℕ → Bool) → IsTest (F.post passes) class → result ≡ one_of class self.now }
+    {
+        let mut rest = self.fork();
+        if passes(rest.bump()?) {
+            Some(rest)
         } else {
             None
         }

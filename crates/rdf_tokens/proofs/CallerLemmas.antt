@@ -3,7 +3,7 @@ pub use Rattle.rdf_tokens.proofs.SliceLemmas.{scalars_parts, token_stands, stand
 pub use Rattle.rdf_tokens.proofs.TokenLaws.{some_token_list, runs_have_forms, tokens_have_forms}
 pub use Rattle.rdf_tokens.proofs.TokenLists.{one_token_list, Within, within_start, token_is}
 pub use Rattle.rdf_tokens.proofs.TokenTags.{tag_form}
-pub use Rattle.rdf_tokens.proofs.TokenUnits.{name_unit, dotted_over, dotted_stop}
+pub use Rattle.rdf_tokens.proofs.TokenUnits.{name_unit}
 pub use Rattle.rdf_tokens.proofs.ValueIris.{iri_value_is, iri_value_allowed}
 pub use Rattle.rdf_tokens.proofs.ValueNames.{local_part_is, local_plain}
 pub use Rattle.rdf_tokens.proofs.ValuePnames.{pname_iri, has_scheme_after, local_allowed}

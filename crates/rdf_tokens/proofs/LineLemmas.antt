@@ -1,17 +1,9 @@
 -- The line ends of a text are counted.
-use Rattle.std.proofs.Common.{◌≡◌, ◌⊎◌, inl, inr, ◌∙◌, ap, refl, ℕ, ◌+◌, Bool, true, false, List, [], ◌∷◌, ◌++◌, drop, ◌==◌, ◌||◌, arith}
-use Rattle.std.proofs.lemmas.Bool.{cases_Bool, eqb-true}
-use Rattle.rdf_tokens.specs.Characters.{is_line_end}
+use Rattle.std.proofs.Common.{◌≡◌, inl, inr, ◌∙◌, ap, refl, ℕ, ◌+◌, false, List, [], ◌∷◌, ◌++◌, drop, ◌==◌, arith}
+use Rattle.std.proofs.lemmas.Bool.{cases_Bool, eqb-true, or_cases, or_parts}
+use Rattle.rdf_terms.specs.LineEnds.{is_line_end, IsLineEnd}
 use Rattle.rdf_tokens.specs.Lines.{line_ends}
-use Rattle.rdf_tokens.specs.LineLaws.{IsLine, IsLineEnd, HasLines, TextsHaveLines, LineEndsAreCounted}
-
-neither : (a b : Bool) → (a || b) ≡ false → (a ≡ false) × (b ≡ false)
-neither true b h = absurd (cc)
-neither false b h = (refl, h)
-
-either : (a b : Bool) → (a || b) ≡ true → (a ≡ true) ⊎ (b ≡ true)
-either true b h = inl refl
-either false b h = inr h
+use Rattle.rdf_tokens.specs.LineLaws.{IsLine, HasLines, TextsHaveLines, LineEndsAreCounted}
 
 -- ---- counting
 
@@ -19,18 +11,18 @@ line_uncounted : (line rest : List ℕ) → IsLine line → line_ends (line ++ r
 unfolding line_ends
 line_uncounted [] rest h = refl
 line_uncounted (c ∷ cs) rest h =
-    let apart = neither (c == 13) (c == 10) h.0 in
-    let cr : (c == 13) ≡ false = apart.0 in
-    let lf : (c == 10) ≡ false = apart.1 in
+    let apart = or_parts (c == 10) (c == 13) h.0 in
+    let lf : (c == 10) ≡ false = apart.0 in
+    let cr : (c == 13) ≡ false = apart.1 in
     rw (cr, lf) (line_uncounted cs rest h.1)
 
 no_ends : (line : List ℕ) → IsLine line → line_ends line ≡ 0
 unfolding line_ends
 no_ends [] h = refl
 no_ends (c ∷ cs) h =
-    let apart = neither (c == 13) (c == 10) h.0 in
-    let cr : (c == 13) ≡ false = apart.0 in
-    let lf : (c == 10) ≡ false = apart.1 in
+    let apart = or_parts (c == 10) (c == 13) h.0 in
+    let lf : (c == 10) ≡ false = apart.0 in
+    let cr : (c == 13) ≡ false = apart.1 in
     rw (cr, lf) (no_ends cs h.1)
 
 end_counted : (end rest : List ℕ) → IsLineEnd end rest → line_ends (end ++ rest) ≡ 1 + line_ends rest
@@ -66,9 +58,9 @@ cr_first c (d ∷ ds) e rest behind = elim (cases_Bool (d == 10)) [
 
 first_more : (c : ℕ) (cs : List ℕ) → SomeLines cs → SomeLines (drop 1 cs) → SomeLines (c ∷ cs)
 first_more c cs rest behind = elim (cases_Bool (is_line_end c)) [
-  | inl ends ↦ elim (either (c == 13) (c == 10) ends) [
-    | inl cr ↦ cr_first c cs (eqb-true c 13 cr) rest behind
-    | inr lf ↦ (let is : c ≡ 10 = eqb-true c 10 lf in ([] ∷ rest.0, (10 ∷ [], cs, rw is refl, tt, inl refl, rest.1)))
+  | inl ends ↦ elim (or_cases (c == 10) (c == 13) ends) [
+    | inl lf ↦ (let is : c ≡ 10 = eqb-true c 10 lf in ([] ∷ rest.0, (10 ∷ [], cs, rw is refl, tt, inl refl, rest.1)))
+    | inr cr ↦ cr_first c cs (eqb-true c 13 cr) rest behind
   ]
   | inr plain ↦ longer c cs plain rest
 ]

@@ -13,9 +13,9 @@ use Rattle.rdf_terms.specs.Reading.{expect}
 use Rattle.rdf_terms.specs.Skips.{some_of}
 use Rattle.rdf_terms.specs.Tags.{tag_end_at}
 use Rattle.rdf_tokens.specs.Inside.TokenReading.{iri_end_at, as_kind, or_else, symbol_at, number_at, number_or_symbol_at, variable_at, word_at, pname_at, blank_at, long_at, text_at, token_at, skip_sign, unsigned_at, digits_at, fraction_at}
-use Rattle.rdf_terms.proofs.OptionLemmas.{some_is, none_is}
+use Rattle.rdf_terms.proofs.OptionLemmas.{cases_Option, some_is, none_is}
 use Rattle.rdf_tokens.proofs.TokenClaims.{Beats, Sound}
-use Rattle.rdf_tokens.proofs.TokenNumbers.{cases_Option, differs, Unsigned, StartsNumber, number_sound, number_claims, number_starts}
+use Rattle.rdf_tokens.proofs.TokenNumbers.{differs, Unsigned, StartsNumber, number_sound, number_claims, number_starts}
 use Rattle.rdf_tokens.proofs.TokenSymbols.{symbol_sound, symbol_claims}
 use Rattle.rdf_tokens.proofs.TokenEnds.{iri_end_sound, iri_end_read, iri_less, iri_less_two, quoted_end_sound}
 use Rattle.rdf_tokens.proofs.TokenLong.{long_sound, long_claims, short_claims}

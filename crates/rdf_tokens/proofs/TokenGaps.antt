@@ -4,13 +4,14 @@ use Rattle.std.specs.List.{AllByRecursion}
 use Rattle.std.proofs.lemmas.List.{append-nil}
 use Rattle.std.proofs.lemmas.Bool.{cases_Bool, eqb-true, eqb-false, ne_eqb, true≢false, or_cases}
 use Rattle.std.specs.Prelude.{not}
+use Rattle.rdf_terms.specs.LineEnds.{is_line_end}
 use Rattle.rdf_terms.specs.Reading.{expect}
 use Rattle.rdf_terms.specs.Skips.{skip}
 use Rattle.rdf_terms.proofs.OptionLemmas.{none_is}
 use Rattle.rdf_terms.proofs.QuotedLemmas.{expect_sound, expect_complete}
 use Rattle.rdf_terms.proofs.SkipLemmas.{skip_step, skip_stop, skip_end, skip_no_longer}
 use Rattle.rdf_tokens.specs.Inside.Shortcuts.{in_line}
-use Rattle.rdf_tokens.specs.Characters.{is_white, is_line_end}
+use Rattle.rdf_tokens.specs.Characters.{is_white}
 use Rattle.rdf_tokens.specs.Tokens.{IsComment, IsBlank, Gap, HasGap, Ends}
 use Rattle.rdf_tokens.specs.Inside.TokenReading.{gap_step, skip_gap}
 
@@ -188,9 +189,9 @@ gap_over_white (c ∷ cs) =
 
 line_end_white : (c : ℕ) → is_line_end c ≡ true → is_white c ≡ true
 line_end_white c h =
-    elim (or_cases (eqb c 13) (eqb c 10) h) [
-      | inl return ↦ ap is_white (eqb-true c 13 return)
-      | inr feed ↦ ap is_white (eqb-true c 10 feed)
+    elim (or_cases (eqb c 10) (eqb c 13) h) [
+      | inl feed ↦ ap is_white (eqb-true c 10 feed)
+      | inr return ↦ ap is_white (eqb-true c 13 return)
     ]
 
 over_comment_line : (cs : List ℕ) → skip_gap false (skip is_white (skip in_line cs)) ≡ skip_gap true cs

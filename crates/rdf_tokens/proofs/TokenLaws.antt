@@ -2,11 +2,11 @@
 use Rattle.std.proofs.Common.{◌≡◌, ◌⊎◌, ◌<◌, ◌≤◌, ◌-◌, ℕ, zero, suc, false, List, [], ◌∷◌, ◌++◌, length, Some, None, Result, Ok, Err, refl, sym, ap, ◌∙◌, inl, inr, append_assoc, arith}
 use Rattle.std.specs.List.{AllByRecursion}
 use Rattle.rdf_terms.specs.Reading.{byte_count}
+use Rattle.rdf_terms.proofs.OptionLemmas.{cases_Option}
 use Rattle.rdf_tokens.specs.declared.token.Kind.{Kind}
 use Rattle.rdf_tokens.specs.declared.token.Token.{Token}
 use Rattle.rdf_tokens.specs.Tokens.{IsToken, At, Runs, Says, HasItsForm}
 use Rattle.rdf_tokens.specs.Inside.TokenReading.{skip_gap, token_at}
-use Rattle.rdf_tokens.proofs.TokenNumbers.{cases_Option}
 use Rattle.rdf_tokens.proofs.TokenLists.{Within, IsStart, same_place, at_start, says_end, says_fault, goes_on, gets_less}
 
 -- ---- each text has a list, or a fault

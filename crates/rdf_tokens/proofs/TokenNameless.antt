@@ -4,14 +4,15 @@ use Rattle.std.specs.Str.{encode_utf8_all}
 use Rattle.std.proofs.lemmas.Bool.{cases_Bool, eqb-true, ne_eqb}
 use Rattle.std.proofs.lemmas.Str.{encodes-append}
 use Rattle.rdf_terms.specs.Characters.{is_pn_chars_base, is_pn_chars}
+use Rattle.rdf_terms.specs.Dotted.{skip_dots, dotted_at}
 use Rattle.rdf_terms.specs.Reading.{byte_count, expect}
-use Rattle.rdf_terms.specs.Skips.{skip}
-use Rattle.rdf_terms.proofs.OptionLemmas.{some_is, guard_some}
+use Rattle.rdf_terms.specs.Skips.{skip, one_of}
+use Rattle.rdf_terms.proofs.DottedLemmas.{unit_shortens, dotted_step, dotted_stop}
+use Rattle.rdf_terms.proofs.OptionLemmas.{cases_Option, some_is, guard_some}
 use Rattle.rdf_tokens.specs.declared.token.Kind.{Kind}
 use Rattle.rdf_tokens.specs.Tokens.{HasGap}
-use Rattle.rdf_tokens.specs.Inside.TokenReading.{skip_dots, dotted_at, name_part_at, prefix_at, pname_at, token_at, NoPnameBefore}
-use Rattle.rdf_tokens.proofs.TokenNumbers.{cases_Option}
-use Rattle.rdf_tokens.proofs.TokenUnits.{name_unit, dotted_step, dotted_stop}
+use Rattle.rdf_tokens.specs.Inside.TokenReading.{name_part_at, prefix_at, pname_at, token_at, NoPnameBefore}
+use Rattle.rdf_tokens.proofs.TokenUnits.{name_unit}
 use Rattle.rdf_tokens.proofs.TokenNames.{colon_stops}
 use Rattle.rdf_tokens.proofs.TokenDispatch.{token_sound}
 use Rattle.rdf_tokens.proofs.TokenLists.{within_start}
@@ -38,7 +39,7 @@ unfolding skip
 no_dot d cs h = rw h refl
 
 part_rest : (d : ℕ) (cs rest : List ℕ) → name_part_at (d ∷ cs) ≡ Some rest → cs ≡ rest
-unfolding name_part_at
+unfolding one_of
 part_rest d cs rest e = some_is cs rest (guard_some (is_pn_chars d) (Some cs) rest e).1
 
 -- a run that goes on, goes on behind its first character
@@ -47,11 +48,11 @@ run_tail d cs end e ne =
     elim (cases_Option (name_part_at (skip_dots (d ∷ cs)))) [
       | inl none ↦ absurd (ne (sym e ∙ dotted_stop name_part_at (d ∷ cs) none))
       | inr some ↦
-          let on : run some.0 ≡ end = sym (dotted_step name_part_at name_unit (d ∷ cs) some.0 some.1) ∙ e in
+          let on : run some.0 ≡ end = sym (dotted_step name_part_at (unit_shortens name_part_at name_unit) (d ∷ cs) some.0 some.1) ∙ e in
           elim (cases_Bool (eqb d 46)) [
             | inl dot ↦
                 let over : skip_dots (d ∷ cs) ≡ skip_dots cs = ap (λ (x : ℕ). skip_dots (x ∷ cs)) (eqb-true d 46 dot) ∙ dot_over cs in
-                dotted_step name_part_at name_unit cs some.0 (ap name_part_at (sym over) ∙ some.1) ∙ on
+                dotted_step name_part_at (unit_shortens name_part_at name_unit) cs some.0 (ap name_part_at (sym over) ∙ some.1) ∙ on
             | inr other ↦
                 let same : cs ≡ some.0 = part_rest d cs some.0 (ap name_part_at (sym (no_dot d cs other)) ∙ some.1) in
                 ap (λ (t : List ℕ). dotted_at name_part_at t) same ∙ on

@@ -6,13 +6,14 @@ use Rattle.rdf_tokens.specs.declared.token.Kind.TheVariants as kind
 use Rattle.rdf_terms.specs.Characters.{is_pn_chars_base, is_pn_chars, is_pn_chars_u}
 use Rattle.rdf_tokens.specs.Characters.{is_word_part, is_name_start, is_variable_part}
 use Rattle.std.proofs.lemmas.Bool.{cases_Bool, or_cases, or_left, or_right, true≢false}
-use Rattle.rdf_tokens.specs.Forms.{IsWord, IsDotted, IsNamePart, IsPrefix, IsLocal, IsPname}
+use Rattle.rdf_tokens.specs.Forms.{IsWord, IsNamePart, IsPrefix, IsLocal, IsPname}
+use Rattle.rdf_terms.specs.Dotted.{IsDotted, skip_dots, dotted_at}
 use Rattle.rdf_terms.specs.Reading.{expect}
-use Rattle.rdf_tokens.specs.Inside.TokenReading.{as_kind, word_at, variable_at, skip_dots, dotted_at, name_part_at, local_part_at, local_first_at, local_at, prefix_at, pname_at, label_at, blank_at}
-use Rattle.rdf_terms.specs.Skips.{skip}
-use Rattle.rdf_terms.proofs.OptionLemmas.{bind_some, some_is, none_is, guard_some, map_some}
-use Rattle.rdf_tokens.proofs.TokenNumbers.{cases_Option}
-use Rattle.rdf_tokens.proofs.TokenUnits.{name_unit, local_unit, first_sound, first_complete, dotted_front, dotted_over, dotted_stop, beats_dotted}
+use Rattle.rdf_tokens.specs.Inside.TokenReading.{as_kind, word_at, variable_at, name_part_at, local_part_at, local_first_at, local_at, prefix_at, pname_at, label_at, blank_at}
+use Rattle.rdf_terms.specs.Skips.{skip, one_of}
+use Rattle.rdf_terms.proofs.DottedLemmas.{dotted_front, dotted_over, dotted_stop}
+use Rattle.rdf_terms.proofs.OptionLemmas.{cases_Option, bind_some, some_is, none_is, guard_some, map_some}
+use Rattle.rdf_tokens.proofs.TokenUnits.{name_unit, local_unit, first_sound, first_complete, beats_dotted}
 use Rattle.rdf_terms.proofs.QuotedLemmas.{expect_sound, expect_complete}
 use Rattle.rdf_terms.proofs.SkipLemmas.{AllPass, some_sound, some_complete}
 use Rattle.rdf_tokens.proofs.TokenClaims.{Beats, Sound, beats_skip}
@@ -97,7 +98,7 @@ pname_sound cs rest e =
     )
 
 colon_no_part : (cs : List ℕ) → name_part_at (skip_dots (58 ∷ cs)) ≡ None
-unfolding name_part_at skip is_pn_chars is_name_start is_pn_chars_u is_pn_chars_base
+unfolding one_of skip is_pn_chars is_name_start is_pn_chars_u is_pn_chars_base
 colon_no_part cs = refl
 
 pub colon_stops : (cs : List ℕ) → dotted_at name_part_at (58 ∷ cs) ≡ 58 ∷ cs

@@ -1,5 +1,5 @@
 -- Numbers: what is read is one, and each is read, or a longer one.
-use Rattle.std.proofs.Common.{◌≡◌, ◌<◌, ◌≤◌, ◌⊎◌, ℕ, Bool, true, false, eqb, List, [], ◌∷◌, ◌++◌, length, Option, Some, None, refl, sym, ap, subst, ◌∙◌, inl, inr, append_assoc, length-append, arith}
+use Rattle.std.proofs.Common.{◌≡◌, ◌<◌, ◌≤◌, ◌⊎◌, ℕ, Bool, true, false, eqb, List, [], ◌∷◌, ◌++◌, length, Some, None, refl, sym, ap, subst, ◌∙◌, inl, inr, append_assoc, length-append, arith}
 use Rattle.std.specs.Char.{is_ascii_digit}
 use Rattle.std.proofs.lemmas.Bool.{cases_Bool, eqb-true, ne_eqb, or_cases, true≢false}
 use Rattle.rdf_tokens.specs.declared.token.Kind.{Kind}
@@ -8,15 +8,11 @@ use Rattle.rdf_tokens.specs.Characters.{is_sign, is_exponent_letter}
 use Rattle.rdf_tokens.specs.Forms.{AreDigits, HasDigits, IsSign, IsExponent, IsFraction, IsMantissa, IsExponential, Signed, HasForm}
 use Rattle.rdf_terms.specs.Reading.{expect}
 use Rattle.rdf_tokens.specs.Inside.TokenReading.{digits_at, skip_sign, exponent_at, with_exponent, fraction_at, dot_exponent_at, whole_at, unsigned_at, number_at}
-use Rattle.rdf_terms.proofs.OptionLemmas.{bind_some, some_is, none_is, guard_some}
+use Rattle.rdf_terms.proofs.OptionLemmas.{cases_Option, bind_some, some_is, none_is, guard_some}
 use Rattle.rdf_terms.proofs.QuotedLemmas.{expect_sound, expect_complete}
 use Rattle.rdf_terms.specs.Skips.{skip, some_of}
 use Rattle.rdf_terms.proofs.SkipLemmas.{skip_less, skip_stop, some_sound, some_complete}
 use Rattle.rdf_tokens.proofs.TokenClaims.{Beats, Sound}
-
-pub cases_Option : {A : Type 0} (o : Option A) → (o ≡ None) ⊎ ((x : A) × (o ≡ Some x))
-cases_Option None = inl refl
-cases_Option (Some x) = inr (x, refl)
 
 -- a character that passes is not one that doesn't
 pub differs : (p : ℕ → Bool) (c d : ℕ) → p c ≡ true → p d ≡ false → eqb c d ≡ false

@@ -1,30 +1,25 @@
 -- Words in names: letters, digits and `_` of ASCII are gone over at once.
-use Rattle.std.proofs.Common.{◌≡◌, ◌<◌, ◌≤◌, ℕ, Bool, true, false, eqb, ◌==◌, ◌||◌, List, [], ◌∷◌, length, Option, Some, refl, sym, ap, ◌∙◌, inl, inr, arith}
+use Rattle.std.proofs.Common.{◌≡◌, ◌<◌, ◌≤◌, ℕ, true, false, eqb, ◌==◌, ◌||◌, List, [], ◌∷◌, length, Option, option_map, Some, refl, sym, ap, ◌∙◌, inl, inr, arith}
 use Rattle.std.proofs.lemmas.Bool.{cases_Bool, eqb-true, ne_eqb, lt-leb, or_cases, or_left, or_right, true≢false}
 use Rattle.std.proofs.Math.Dec.{leb}
 use Rattle.std.specs.Char.{is_ascii_alphanumeric}
 use Rattle.std.specs.Int.{is_in_range}
 use Rattle.rdf_terms.specs.Characters.{is_pn_chars_base, is_pn_chars, is_pn_chars_u}
-use Rattle.rdf_terms.specs.Skips.{skip}
+use Rattle.rdf_terms.specs.Dotted.{skip_dots, dotted_at}
+use Rattle.rdf_terms.specs.Skips.{skip, one_of}
+use Rattle.rdf_terms.proofs.DottedLemmas.{Shortens, unit_shortens, dotted_step, further}
+use Rattle.rdf_terms.proofs.OptionLemmas.{map_some}
+use Rattle.rdf_terms.proofs.WrittenNumberLemmas.{digit_part}
 use Rattle.rdf_terms.proofs.SkipLemmas.{skip_step, skip_stop, skip_end, skip_no_longer}
 use Rattle.rdf_tokens.specs.Characters.{is_word_part}
-use Rattle.rdf_tokens.specs.Inside.TokenReading.{skip_dots, dotted_at, name_part_at, local_part_at}
-use Rattle.rdf_tokens.proofs.TokenUnits.{IsUnit, dotted_step, name_unit, local_unit}
+use Rattle.rdf_tokens.specs.Inside.TokenReading.{name_part_at, local_part_at}
+use Rattle.rdf_tokens.proofs.TokenUnits.{name_unit, local_unit}
 
 -- ---- a letter, a digit and `_` are PN_CHARS
 
 letter_part : (c : ℕ) → (is_in_range 65 90 c || is_in_range 97 122 c) ≡ true → is_pn_chars c ≡ true
 unfolding is_pn_chars is_pn_chars_u is_pn_chars_base
 letter_part c h = rw h refl
-
-third : (a b c d e f : Bool) → c ≡ true → (a || b || c || d || e || f) ≡ true
-third true b c d e f h = refl
-third false true c d e f h = refl
-third false false c d e f h = ap (λ x. false || false || x || d || e || f) h
-
-digit_part : (c : ℕ) → is_in_range 48 57 c ≡ true → is_pn_chars c ≡ true
-unfolding is_pn_chars
-digit_part c h = third (is_pn_chars_u c) (c == 45) (is_in_range 48 57 c) (c == 0xB7) (is_in_range 0x300 0x36F c) (is_in_range 0x203F 0x2040 c) h
 
 low_line_part : is_pn_chars 95 ≡ true
 unfolding is_pn_chars is_pn_chars_u is_pn_chars_base
@@ -67,7 +62,7 @@ high_no_word c h =
 -- ---- what they are units of
 
 name_takes : (c : ℕ) (cs : List ℕ) → is_word_part c ≡ true → name_part_at (c ∷ cs) ≡ Some cs
-unfolding name_part_at
+unfolding one_of
 name_takes c cs h = rw (word_part c h) refl
 
 local_takes : (c : ℕ) (cs : List ℕ) → is_word_part c ≡ true → local_part_at (c ∷ cs) ≡ Some cs
@@ -75,7 +70,7 @@ unfolding local_part_at
 local_takes c cs h = rw (word_part c h) refl
 
 -- units with dots between them end at the same place where a word is gone over first
-over_word : {Form : List ℕ → Type 0} (one : List ℕ → Option (List ℕ)) → IsUnit Form one → ((c : ℕ) (cs : List ℕ) → is_word_part c ≡ true → one (c ∷ cs) ≡ Some cs)
+over_word : (one : List ℕ → Option (List ℕ)) → Shortens one → ((c : ℕ) (cs : List ℕ) → is_word_part c ≡ true → one (c ∷ cs) ≡ Some cs)
     → (cs : List ℕ) → dotted_at one (skip is_word_part cs) ≡ dotted_at one cs
 over_word one is takes [] = ap (λ (t : List ℕ). dotted_at one t) (skip_end is_word_part)
 over_word one is takes (c ∷ cs) =
@@ -87,11 +82,30 @@ over_word one is takes (c ∷ cs) =
     ]
 
 pub name_over_word : (cs : List ℕ) → dotted_at name_part_at (skip is_word_part cs) ≡ dotted_at name_part_at cs
-name_over_word cs = over_word name_part_at name_unit name_takes cs
+name_over_word cs = over_word name_part_at (unit_shortens name_part_at name_unit) name_takes cs
 
 pub local_over_word : (cs : List ℕ) → dotted_at local_part_at (skip is_word_part cs) ≡ dotted_at local_part_at cs
-local_over_word cs = over_word local_part_at local_unit local_takes cs
+local_over_word cs = over_word local_part_at (unit_shortens local_part_at local_unit) local_takes cs
 
--- what is left behind a word is no longer
-pub behind_word : (before behind rest : List ℕ) → length behind < length before → rest ≡ skip is_word_part behind → length rest < length before
-behind_word before behind rest less e = omega (arith, less, ap length e, skip_no_longer is_word_part behind)
+-- ---- readers that go over the word behind a unit
+
+abbrev pub with_word : (List ℕ → Option (List ℕ)) → List ℕ → Option (List ℕ)
+with_word one cs = option_map (skip is_word_part) (one cs)
+
+word_shortens : (one : List ℕ → Option (List ℕ)) → Shortens one → Shortens (with_word one)
+word_shortens one less cs rest e =
+    let m = map_some (skip is_word_part) (one cs) rest e in
+    let shorter = less cs m.0 m.1 in
+    omega (arith, shorter, skip_no_longer is_word_part m.0, ap length m.2)
+
+pub name_shortens : Shortens (with_word name_part_at)
+name_shortens = word_shortens name_part_at (unit_shortens name_part_at name_unit)
+
+pub local_shortens : Shortens (with_word local_part_at)
+local_shortens = word_shortens local_part_at (unit_shortens local_part_at local_unit)
+
+pub name_units : (cs : List ℕ) → dotted_at (with_word name_part_at) cs ≡ dotted_at name_part_at cs
+name_units = further name_part_at (with_word name_part_at) (skip is_word_part) (unit_shortens name_part_at name_unit) name_shortens (λ cs. refl) name_over_word
+
+pub local_units : (cs : List ℕ) → dotted_at (with_word local_part_at) cs ≡ dotted_at local_part_at cs
+local_units = further local_part_at (with_word local_part_at) (skip is_word_part) (unit_shortens local_part_at local_unit) local_shortens (λ cs. refl) local_over_word

@@ -1,16 +1,16 @@
 -- Characters at which a name ends, and those that are symbols alone.
-use Rattle.std.proofs.Common.{◌≡◌, ℕ, Bool, true, eqb, ◌==◌, ◌||◌, List, [], ◌∷◌, Option, Some, None, refl, sym, ap, subst, ◌∙◌, inl, inr}
+use Rattle.std.proofs.Common.{◌≡◌, ℕ, true, eqb, ◌==◌, ◌||◌, List, ◌∷◌, Some, None, refl, sym, ap, subst, ◌∙◌, inl, inr}
 use Rattle.std.proofs.lemmas.Bool.{eqb-true, or_cases}
 use Rattle.rdf_terms.specs.Characters.{is_pn_chars_base, is_pn_chars, is_pn_chars_u}
+use Rattle.rdf_terms.specs.Dotted.{skip_dots, dotted_at}
 use Rattle.rdf_terms.specs.Reading.{expect}
-use Rattle.rdf_terms.specs.Skips.{skip, some_of}
+use Rattle.rdf_terms.specs.Skips.{skip, some_of, one_of}
+use Rattle.rdf_terms.proofs.DottedLemmas.{dotted_stop}
 use Rattle.rdf_tokens.specs.Characters.{is_word_part}
 use Rattle.rdf_tokens.specs.Inside.Shortcuts.{ends_local, ends_name, stands_alone}
-use Rattle.rdf_tokens.specs.Inside.TokenReading.{skip_dots, dotted_at, name_part_at, local_part_at, plx_at, token_at, number_or_symbol_at, number_at, skip_sign, unsigned_at, digits_at, fraction_at, symbol_at}
-use Rattle.rdf_tokens.specs.declared.token.Kind.{Kind}
+use Rattle.rdf_tokens.specs.Inside.TokenReading.{name_part_at, local_part_at, plx_at, token_at, number_or_symbol_at, number_at, skip_sign, unsigned_at, digits_at, fraction_at, symbol_at}
 use Rattle.rdf_tokens.specs.declared.token.Kind.TheVariants as kind
 use Rattle.rdf_tokens.proofs.TokenRuns.{name_over_word, local_over_word}
-use Rattle.rdf_tokens.proofs.TokenUnits.{dotted_stop}
 
 one_of_four : (P : ℕ → Type 0) (c i j k l : ℕ) → ((c == i) || (c == j) || (c == k) || (c == l)) ≡ true → P i → P j → P k → P l → P c
 one_of_four P c i j k l h at-i at-j at-k at-l =
@@ -29,12 +29,12 @@ one_of_four P c i j k l h at-i at-j at-k at-l =
 
 no_local_unit : (cs : List ℕ) → (local_part_at (skip_dots (32 ∷ cs)) ≡ None) × (local_part_at (skip_dots (10 ∷ cs)) ≡ None)
     × (local_part_at (skip_dots (44 ∷ cs)) ≡ None) × (local_part_at (skip_dots (59 ∷ cs)) ≡ None)
-unfolding local_part_at plx_at skip is_pn_chars is_pn_chars_u is_pn_chars_base
+unfolding local_part_at plx_at one_of skip is_pn_chars is_pn_chars_u is_pn_chars_base
 no_local_unit cs = (refl, refl, refl, refl)
 
 no_name_unit : (cs : List ℕ) → (name_part_at (skip_dots (32 ∷ cs)) ≡ None) × (name_part_at (skip_dots (10 ∷ cs)) ≡ None)
     × (name_part_at (skip_dots (44 ∷ cs)) ≡ None) × (name_part_at (skip_dots (59 ∷ cs)) ≡ None) × (name_part_at (skip_dots (58 ∷ cs)) ≡ None)
-unfolding name_part_at skip is_pn_chars is_pn_chars_u is_pn_chars_base
+unfolding one_of skip is_pn_chars is_pn_chars_u is_pn_chars_base
 no_name_unit cs = (refl, refl, refl, refl, refl)
 
 local_stop : (c : ℕ) (cs : List ℕ) → ends_local c ≡ true → local_part_at (skip_dots (c ∷ cs)) ≡ None

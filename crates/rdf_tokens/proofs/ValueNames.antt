@@ -9,8 +9,9 @@ use Rattle.std.specs.Str.{chars, encode_utf8_all, IsUtf8, NonePass, NoCharPasses
 use Rattle.std.proofs.lemmas.List.{append-nil}
 use Rattle.std.proofs.lemmas.Str.{encodes-chars}
 use Rattle.rdf_terms.specs.Characters.{is_pn_chars_base, is_pn_chars_u, is_pn_chars}
+use Rattle.rdf_terms.specs.Dotted.{IsDotted}
 use Rattle.rdf_tokens.specs.Characters.{is_name_start, is_local_escape}
-use Rattle.rdf_tokens.specs.Forms.{IsDotted, IsNamePart, IsLocalFirst, IsLocalPart, IsPrefix, IsLocal}
+use Rattle.rdf_tokens.specs.Forms.{IsNamePart, IsLocalFirst, IsLocalPart, IsPrefix, IsLocal}
 use Rattle.rdf_tokens.specs.Values.{prefix_part, local_part, local_value, IsLocalPiece, piece_value, LocalMeans}
 use Rattle.rdf_tokens.proofs.ValuePlaces.{Colonless, before_colon, after_colon, none_pass}
 

@@ -8,10 +8,6 @@ use Rattle.rdf_terms.specs.Characters.{is_pn_chars_u}
 abbrev pub is_white : ℕ → Bool
 is_white c = (c == 32) || (c == 9) || (c == 13) || (c == 10)
 
--- what ends a comment (Turtle 1.1, section 6.2): CR, LF
-abbrev pub is_line_end : ℕ → Bool
-is_line_end c = (c == 13) || (c == 10)
-
 -- `+`, `-`
 abbrev pub is_sign : ℕ → Bool
 is_sign c = (c == 43) || (c == 45)

@@ -3,6 +3,7 @@ use Rattle.std.specs.Prelude.{◌≡◌, ◌≢◌, ◌<◌, ◌⊎◌, ℕ, suc
 use Rattle.std.specs.List.{AllByRecursion}
 use Rattle.std.specs.Char.{digit_value, is_ascii_digit, is_ascii_alphabetic}
 use Rattle.rdf_terms.specs.Characters.{is_pn_chars_base, is_pn_chars}
+use Rattle.rdf_terms.specs.Dotted.{IsOne, IsDotted}
 use Rattle.rdf_terms.specs.Escapes.{IsNumericEscape, IsShortEscape, Writes}
 use Rattle.rdf_terms.specs.Quoted.{IsStringCharacter, IsIriRef}
 use Rattle.rdf_terms.specs.Tags.{IsTagName}
@@ -89,15 +90,9 @@ IsVariable slice =
 abbrev pub IsWord : List ℕ → Type 0
 IsWord slice = (c : ℕ) × (others : List ℕ) × (slice ≡ c ∷ others) × (is_ascii_alphabetic c ≡ true) × AllByRecursion (λ d. is_word_part d ≡ true) others
 
--- Units, each with dots or none before it: units and dots, the last no dot.
-abbrev pub IsDotted : (List ℕ → Type 0) → List ℕ → List (List ℕ) → Type 0
-IsDotted One slice [] = slice ≡ []
-IsDotted One slice (piece ∷ pieces) =
-    (dots others : List ℕ) × (slice ≡ dots ++ (piece ++ others)) × AllByRecursion (λ c. c ≡ 46) dots × One piece × IsDotted One others pieces
-
 -- one of PN_CHARS
 abbrev pub IsNamePart : List ℕ → Type 0
-IsNamePart piece = (c : ℕ) × (piece ≡ c ∷ []) × (is_pn_chars c ≡ true)
+IsNamePart piece = IsOne is_pn_chars piece
 
 -- PLX: `%` and two hexadecimal digits, or a backslash and a character that may follow it
 abbrev pub IsPlx : List ℕ → Type 0
@@ -107,11 +102,11 @@ IsPlx piece =
 
 -- PN_CHARS_U, `:`, a digit, or PLX
 abbrev pub IsLocalFirst : List ℕ → Type 0
-IsLocalFirst piece = ((c : ℕ) × (piece ≡ c ∷ []) × ((is_name_start c || (c == 58)) ≡ true)) ⊎ IsPlx piece
+IsLocalFirst piece = IsOne (λ c. is_name_start c || (c == 58)) piece ⊎ IsPlx piece
 
 -- PN_CHARS, `:`, or PLX
 abbrev pub IsLocalPart : List ℕ → Type 0
-IsLocalPart piece = ((c : ℕ) × (piece ≡ c ∷ []) × ((is_pn_chars c || (c == 58)) ≡ true)) ⊎ IsPlx piece
+IsLocalPart piece = IsOne (λ c. is_pn_chars c || (c == 58)) piece ⊎ IsPlx piece
 
 -- BLANK_NODE_LABEL: `_:`, PN_CHARS_U or a digit, then PN_CHARS or `.`, the last not `.`
 abbrev pub IsBlankLabel : List ℕ → Type 0

@@ -1,16 +1,12 @@
 -- That the number of a line counts the line ends before it.
-use Rattle.std.specs.Prelude.{◌≡◌, ◌⊎◌, ℕ, false, List, [], ◌∷◌, ◌++◌, length}
+use Rattle.std.specs.Prelude.{◌≡◌, ℕ, false, List, [], ◌∷◌, ◌++◌, length}
 use Rattle.std.specs.List.{AllByRecursion}
-use Rattle.rdf_tokens.specs.Characters.{is_line_end}
-use Rattle.rdf_tokens.specs.Lines.{begins_with_lf, line_ends}
+use Rattle.rdf_terms.specs.LineEnds.{is_line_end, IsLineEnd}
+use Rattle.rdf_tokens.specs.Lines.{line_ends}
 
 -- neither LF nor CR
 abbrev pub IsLine : List ℕ → Type 0
 IsLine line = AllByRecursion (λ c. is_line_end c ≡ false) line
-
--- LF, CRLF, or a CR behind which no LF stands
-abbrev pub IsLineEnd : List ℕ → List ℕ → Type 0
-IsLineEnd end behind = (end ≡ 10 ∷ []) ⊎ ((end ≡ 13 ∷ 10 ∷ []) ⊎ ((end ≡ 13 ∷ []) × (begins_with_lf behind ≡ false)))
 
 -- The text is these lines, each with its end behind it, and then perhaps a last line without an end.
 abbrev pub HasLines : List ℕ → List (List ℕ) → Type 0

@@ -1,13 +1,10 @@
 -- The lines of a text of bytes.
-use Rattle.std.specs.Prelude.{ℕ, ◌+◌, Bool, false, List, [], ◌∷◌, take, ◌==◌, ◌||◌, ◌&&◌, not, if◌then◌else◌}
-
-abbrev pub begins_with_lf : List ℕ → Bool
-begins_with_lf [] = false
-begins_with_lf (c ∷ _) = c == 10
+use Rattle.std.specs.Prelude.{ℕ, ◌+◌, Bool, List, [], ◌∷◌, take, ◌||◌, ◌&&◌, not, if◌then◌else◌}
+use Rattle.rdf_terms.specs.LineEnds.{is_line_feed, is_return, begins_with_lf}
 
 -- a byte, with those behind it, is the last of a line end: LF, or a CR that no LF follows
 abbrev pub ends_line : ℕ → List ℕ → Bool
-ends_line c behind = (c == 10) || ((c == 13) && not (begins_with_lf behind))
+ends_line c behind = is_line_feed c || (is_return c && not (begins_with_lf behind))
 
 -- how many line ends there are: LF, CR, and CRLF counting once
 unfoldable pub line_ends : List ℕ → ℕ

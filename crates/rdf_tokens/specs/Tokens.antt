@@ -4,7 +4,8 @@ use Rattle.std.specs.List.{AllByRecursion}
 use Rattle.rdf_terms.specs.Reading.{byte_count}
 use Rattle.rdf_tokens.specs.declared.token.Kind.{Kind}
 use Rattle.rdf_tokens.specs.declared.token.Token.{Token}
-use Rattle.rdf_tokens.specs.Characters.{is_white, is_line_end}
+use Rattle.rdf_terms.specs.LineEnds.{is_line_end}
+use Rattle.rdf_tokens.specs.Characters.{is_white}
 use Rattle.rdf_tokens.specs.Forms.{HasForm}
 
 -- ---- one token

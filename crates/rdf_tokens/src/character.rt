@@ -1,5 +1,6 @@
 //! The classes of characters that Turtle and SPARQL have of their own.
 ghost use Rattle.std.specs.Prelude.{◌≡◌};
+ghost use Rattle.rdf_terms.specs.LineEnds.{is_line_end};
 ghost use Rattle.rdf_tokens.specs.Characters as spec;
 
 use rdf_terms::is_pn_chars_u;
@@ -11,11 +12,11 @@ pub fn is_white(c: char) -> bool
     matches!(c, ' ' | '\t' | '\r' | '\n')
 }
 
-/// CR and LF, which end a comment (Turtle 1.1, section 6.2).
+/// LF and CR, which end a comment (Turtle 1.1, section 6.2).
 pub fn is_line_end(c: char) -> bool
-    ensures { result ≡ spec.is_line_end c }
+    ensures { result ≡ is_line_end c }
 {
-    matches!(c, '\r' | '\n')
+    matches!(c, '\n' | '\r')
 }
 
 /// The sign of a number: `+` or `-`.

@@ -1,44 +1,26 @@
 //! Blank labels and prefixed names: units with dots between them, the last no dot.
 ghost use Rattle.std.specs.Prelude.{◌≡◌};
+ghost use Rattle.rdf_terms.specs.Dotted.{dotted_at};
 ghost use Rattle.rdf_terms.specs.Skips.{skip};
 ghost use Rattle.rdf_tokens.specs.Characters.{is_word_part};
 ghost use Rattle.rdf_tokens.specs.Inside.Shortcuts.{ends_local, ends_name};
-ghost use Rattle.rdf_tokens.specs.Inside.TokenReading.{skip_dots, dotted_at, name_part_at, local_escape_at, plx_at, local_part_at, local_first_at, local_at, prefix_at, pname_at, NoPnameBefore, label_at, blank_at};
+ghost use Rattle.rdf_tokens.specs.Inside.TokenReading.{name_part_at, local_escape_at, plx_at, local_part_at, local_first_at, local_at, prefix_at, pname_at, NoPnameBefore, label_at, blank_at};
 
 use crate::character::{is_local_escape, is_name_start, is_word_part};
 use rdf_terms::{Cursor, is_pn_chars, is_pn_chars_base};
 
-/// The place behind all dots.
-fn skip_dots<'a>(cursor: &Cursor<'a>) -> Cursor<'a>
-    ensures { result ≡ skip_dots cursor.now }
-{
-    cursor.skip(|c| c == '.')
-}
-
 /// The place behind one of PN_CHARS.
-#[tactic(auto, unfolding(crate::specs::Inside::TokenReading::name_part_at))]
 fn name_part<'a>(cursor: &Cursor<'a>) -> Option<Cursor<'a>>
     ensures { result ≡ name_part_at cursor.now }
 {
-    let mut rest = cursor.fork();
-    if is_pn_chars(rest.bump()?) {
-        Some(rest)
-    } else {
-        None
-    }
+    cursor.one_of(|c| is_pn_chars(c))
 }
 
 /// PN_LOCAL_ESC, behind its backslash.
-#[tactic(auto, unfolding(crate::specs::Inside::TokenReading::local_escape_at))]
 fn local_escape<'a>(cursor: &Cursor<'a>) -> Option<Cursor<'a>>
     ensures { result ≡ local_escape_at cursor.now }
 {
-    let mut rest = cursor.fork();
-    if is_local_escape(rest.bump()?) {
-        Some(rest)
-    } else {
-        None
-    }
+    cursor.one_of(is_local_escape)
 }
 
 /// PLX: `%` and two hexadecimal digits, or a backslash and what may follow it.
@@ -112,11 +94,7 @@ fn ends_name(c: char) -> bool
 fn name_units<'a>(cursor: &Cursor<'a>) -> Cursor<'a>
     ensures { result ≡ dotted_at name_part_at cursor.now }
 {
-    let mut rest = cursor.fork();
-    while let Some(behind) = name_part(&skip_dots(&rest)) {
-        rest = skip_word(&behind);
-    }
-    rest
+    cursor.dotted(|at| Some(skip_word(&name_part(&at)?)))
 }
 
 /// The same, where most often a word is all.
@@ -134,11 +112,7 @@ fn name_rest<'a>(cursor: &Cursor<'a>) -> Cursor<'a>
 fn local_units<'a>(cursor: &Cursor<'a>) -> Cursor<'a>
     ensures { result ≡ dotted_at local_part_at cursor.now }
 {
-    let mut rest = cursor.fork();
-    while let Some(behind) = local_part(&skip_dots(&rest)) {
-        rest = skip_word(&behind);
-    }
-    rest
+    cursor.dotted(|at| Some(skip_word(&local_part(&at)?)))
 }
 
 /// The same, where most often a word is all.

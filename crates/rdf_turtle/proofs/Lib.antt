@@ -6,7 +6,6 @@ pub mod DocumentCases
 pub mod DocumentLemmas
 pub mod FaultyNameLemmas
 pub mod GrammarLeaves
-pub mod GrammarLists
 pub mod GrammarNests
 pub mod GrammarNodes
 pub mod GrammarProductions

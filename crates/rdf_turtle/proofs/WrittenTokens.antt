@@ -1,24 +1,24 @@
 -- The tokens of written terms: each is read where it stands.
-use Rattle.std.proofs.Common.{◌≡◌, ◌∙◌, ap, refl, sym, subst, ℕ, ◌<◌, arith, Bool, true, false, ◌||◌, ◌==◌, List, [], ◌∷◌, ◌++◌, length, map, append_assoc, Option, Some, None}
+use Rattle.std.proofs.Common.{◌≡◌, ◌∙◌, ap, refl, sym, subst, ℕ, ◌<◌, arith, Bool, true, false, ◌==◌, List, [], ◌∷◌, ◌++◌, length, map, append_assoc, Option, Some, None}
 use Rattle.std.specs.Prelude.{option_map}
 use Rattle.std.specs.Char.{is_ascii_alphabetic, is_ascii_alphanumeric}
-use Rattle.std.specs.Int.{is_in_range}
 use Rattle.std.specs.List.{flat_map}
 use Rattle.rdf_terms.specs.Characters.{is_pn_chars_base, is_pn_chars_u, is_pn_chars}
+use Rattle.rdf_terms.specs.Dotted.{skip_dots, dotted_at}
 use Rattle.rdf_terms.specs.Quoted.{IsIriRef, IsQuoted}
 use Rattle.rdf_terms.specs.Reading.{expect}
-use Rattle.rdf_terms.specs.Skips.{skip, some_of}
+use Rattle.rdf_terms.specs.Skips.{skip, some_of, one_of}
+use Rattle.rdf_terms.proofs.DottedLemmas.{ones_dotted, dotted_over, dotted_stop}
 use Rattle.rdf_terms.specs.Tags.{IsGroups, IsTagName, begins_group, skip_groups, tag_end_at}
 use Rattle.rdf_terms.specs.TermText.{escaped}
 use Rattle.rdf_terms.proofs.QuotedLemmas.{expect_complete, iri_complete, quoted_complete}
 use Rattle.rdf_terms.proofs.SkipLemmas.{AllPass, some_complete, skip_stop}
-use Rattle.rdf_terms.proofs.WrittenNumberLemmas.{is_digit}
+use Rattle.rdf_terms.proofs.WrittenNumberLemmas.{is_digit, digit_part}
 use Rattle.rdf_terms.proofs.WrittenTextLemmas.{by_escape}
 use Rattle.rdf_tokens.specs.declared.token.Kind.TheVariants as kind
 use Rattle.rdf_tokens.specs.Characters.{is_name_start}
-use Rattle.rdf_tokens.specs.Forms.{IsDotted, IsNamePart}
-use Rattle.rdf_tokens.specs.Inside.TokenReading.{as_kind, or_else, skip_dots, iri_end_at, quoted_end_at, two_at, three_at, long_at, text_at, digits_at, skip_sign, fraction_at, unsigned_at, number_at, symbol_at, name_part_at, dotted_at, label_at, blank_at, number_or_symbol_at, token_at}
-use Rattle.rdf_tokens.proofs.CallerLemmas.{name_unit, dotted_over, dotted_stop}
+use Rattle.rdf_tokens.specs.Inside.TokenReading.{as_kind, or_else, iri_end_at, quoted_end_at, two_at, three_at, long_at, text_at, digits_at, skip_sign, fraction_at, unsigned_at, number_at, symbol_at, name_part_at, label_at, blank_at, number_or_symbol_at, token_at}
+use Rattle.rdf_tokens.proofs.CallerLemmas.{name_unit}
 
 -- ---- IRIs
 
@@ -81,21 +81,12 @@ text_token cs text d rest h form =
 
 -- ---- blank labels
 
-third : (a b c d e f : Bool) → c ≡ true → (a || b || c || d || e || f) ≡ true
-third true b c d e f h = refl
-third false true c d e f h = refl
-third false false c d e f h = ap (λ x. false || false || x || d || e || f) h
-
-digit_part : (c : ℕ) → is_digit c ≡ true → is_pn_chars c ≡ true
-unfolding is_pn_chars
-digit_part c h = third (is_pn_chars_u c) (c == 45) (is_in_range 48 57 c) (c == 0xB7) (is_in_range 0x300 0x36F c) (is_in_range 0x203F 0x2040 c) h
-
-digits_dotted : (ds : List ℕ) → AllPass is_digit ds → IsDotted IsNamePart ds (map (λ d. d ∷ []) ds)
-digits_dotted [] h = refl
-digits_dotted (d ∷ ds) h = ([], ds, refl, tt, (d, refl, digit_part d h.0), digits_dotted ds h.1)
+digits_parts : (ds : List ℕ) → AllPass is_digit ds → AllPass is_pn_chars ds
+digits_parts [] h = tt
+digits_parts (d ∷ ds) h = (digit_part d h.0, digits_parts ds h.1)
 
 space_stops : (rest : List ℕ) → name_part_at (skip_dots (32 ∷ rest)) ≡ None
-unfolding name_part_at skip is_pn_chars is_pn_chars_u is_pn_chars_base
+unfolding one_of skip is_pn_chars is_pn_chars_u is_pn_chars_base
 space_stops rest = refl
 
 b_starts : is_name_start 98 ≡ true
@@ -106,7 +97,7 @@ label_here : (ds rest : List ℕ) → AllPass is_digit ds → label_at (98 ∷ (
 unfolding label_at
 label_here ds rest h =
     let over : dotted_at name_part_at (ds ++ 32 ∷ rest) ≡ 32 ∷ rest =
-    dotted_over name_part_at name_unit (map (λ d. d ∷ []) ds) ds (32 ∷ rest) (digits_dotted ds h) ∙ dotted_stop name_part_at (32 ∷ rest) (space_stops rest) in
+    dotted_over name_part_at name_unit (map (λ d. d ∷ []) ds) ds (32 ∷ rest) (ones_dotted is_pn_chars ds (digits_parts ds h)) ∙ dotted_stop name_part_at (32 ∷ rest) (space_stops rest) in
     rw (b_starts, over) refl
 
 blank_here : (cs rest : List ℕ) → label_at cs ≡ Some rest → blank_at (58 ∷ cs) ≡ Some rest

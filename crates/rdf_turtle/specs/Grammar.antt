@@ -1,5 +1,5 @@
 -- The grammar of Turtle as it is written (Turtle 1.1, section 6.5, by the numbers of its rules), with no look at the next lexeme.
-use Rattle.std.specs.Prelude.{ℕ, zero, suc, List, [], ◌∷◌, Option, Some, None, option_to_list}
+use Rattle.std.specs.Prelude.{ℕ, zero, suc, List, [], Option, Some, None}
 use Rattle.rdf_turtle.specs.declared.terminal.Terminal.TheVariants as terminal
 use Rattle.rdf_turtle.specs.Lexemes.{Lexemes, Derives}
 use Rattle.rdf_grammar.specs.declared.tree.Name.{Name}
@@ -12,7 +12,7 @@ use Rattle.rdf_turtle.specs.declared.tree.Property.{Property}
 use Rattle.rdf_turtle.specs.declared.tree.Statement.{Statement}
 use Rattle.rdf_turtle.specs.declared.tree.Statement.TheVariants as s
 use Rattle.rdf_turtle.specs.Terminals.{word}
-use Rattle.rdf_grammar.specs.Derivations.{◌>>=◌, ◌>>◌, ◌<$>◌, ◌∣◌, pure, the, value, one, maybe, Star}
+use Rattle.rdf_grammar.specs.Derivations.{◌>>=◌, ◌>>◌, ◌<$>◌, ◌∣◌, pure, the, value, one, maybe, Star, Separated, SeparatedLoosely}
 use Rattle.rdf_grammar.specs.Productions as productions
 use Rattle.rdf_grammar.specs.Terminals.{Piece}
 
@@ -48,10 +48,7 @@ ALiteral = productions.ALiteral word
 module _ (object : Derives Node) where
   -- 8: objectList = object ( "," object )*
   abbrev pub Objects : Derives (List Node)
-  Objects = do
-    first ← object
-    others ← Star (one (the terminal.Comma >> object))
-    pure (first ∷ others)
+  Objects = Separated terminal.Comma object
 
   -- verb objectList
   abbrev pub VerbObjects : Derives Property
@@ -62,10 +59,7 @@ module _ (object : Derives Node) where
 
   -- 7: predicateObjectList = verb objectList ( ";" ( verb objectList )? )*
   abbrev pub PredicateObjectList : Derives (List Property)
-  PredicateObjectList = do
-    first ← VerbObjects
-    others ← Star (the terminal.Semicolon >> option_to_list <$> maybe VerbObjects)
-    pure (first ∷ others)
+  PredicateObjectList = SeparatedLoosely terminal.Semicolon VerbObjects
 
   -- 162s: ANON = "[" "]"
   abbrev pub Anonymous : Derives (List Property)

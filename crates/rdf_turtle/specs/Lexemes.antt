@@ -51,3 +51,11 @@ the = terminals.the same_terminal
 -- a lexeme of this terminal, and its characters
 abbrev pub value : Terminal → Reading Piece
 value = terminals.value same_terminal
+
+-- this reading, and again behind each lexeme of this terminal
+abbrev pub separated : {A : Type 0} → Terminal → Reading A → Reading (List A)
+separated = terminals.separated same_terminal
+
+-- where it may be left out behind one, and is there if the next lexemes pass the test
+abbrev pub separated_loosely : {A : Type 0} → Terminal → Test → Reading A → Reading (List A)
+separated_loosely = terminals.separated_loosely same_terminal

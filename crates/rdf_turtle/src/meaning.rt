@@ -10,7 +10,7 @@ ghost use Rattle.rdf_turtle.specs.Known.{holds, declared_behind};
 ghost use Rattle.rdf_turtle.specs.Meaning as spec;
 ghost use Rattle.rdf_grammar.specs.Prologue.{declared};
 ghost use Rattle.rdf_turtle.specs.Inside.Proper as proper;
-ghost use Rattle.rdf_turtle.specs.Inside.Told.{Gives, known_leaf};
+ghost use Rattle.rdf_turtle.specs.Inside.Told.{Answers, known_leaf};
 ghost use Rattle.rdf_turtle.specs.Inside.Room.{HasRoom, TakesAtMost};
 
 use crate::scope::Scope;
@@ -32,7 +32,7 @@ impl<'a> Scope<'a> {
     #[tactic(auto, unfolding(crate::specs::Meaning::verb))]
     fn verb(&mut self, verb: &Verb<'a>) -> Result<Iri, PrologueFault>
         requires proper { IsTrue (proper.proper_verb verb.now) }
-        ensures gives { Gives (spec.verb verb.now self.old) result self.new }
+        ensures gives { Answers (spec.verb verb.now self.old) result self.new }
         ensures known { OnOk result
             (IsTrue (known.known_verb (declared self.old.prologue) verb.now)) }
         ensures same { self.new ≡ self.old }
@@ -47,7 +47,7 @@ impl<'a> Scope<'a> {
     fn term(&mut self, node: &Node<'a>) -> Result<Term, PrologueFault>
         requires proper { IsTrue (proper.proper_node node.now) }
         requires room { HasRoom 0 self.old }
-        ensures gives { Gives ((spec.meaning node.now).term self.old) result self.new }
+        ensures gives { Answers ((spec.meaning node.now).term self.old) result self.new }
         ensures known { OnOk result (IsTrue (known_leaf (declared self.old.prologue) node.now)) }
         ensures prologue { self.new.prologue ≡ self.old.prologue }
         ensures room { TakesAtMost 1 self.old self.new }
@@ -72,7 +72,7 @@ impl<'a> Scope<'a> {
         requires proper { IsTrue (proper.proper_node node.now) }
         requires subject { is_literal_term term.now ≡ false }
         requires room { HasRoom 0 self.old }
-        ensures gives { Gives ((spec.meaning node.now).inside term.now self.old) result self.new }
+        ensures gives { Answers ((spec.meaning node.now).inside term.now self.old) result self.new }
         ensures known { known_leaf (declared self.old.prologue) node.now ≡ true →
             OnOk result (IsTrue (known.known_node (declared self.old.prologue) node.now)) }
         ensures prologue { self.new.prologue ≡ self.old.prologue }
@@ -105,7 +105,7 @@ impl<'a> Scope<'a> {
         requires subject { is_literal_term subject.now ≡ false }
         requires room { HasRoom 0 self.old }
         ensures gives { let says = spec.object subject.now predicate.now (spec.meaning node.now) in
-            Gives (says self.old) result self.new }
+            Answers (says self.old) result self.new }
         ensures known { OnOk result
             (IsTrue (known.known_node (declared self.old.prologue) node.now)) }
         ensures prologue { self.new.prologue ≡ self.old.prologue }
@@ -137,7 +137,7 @@ impl<'a> Scope<'a> {
         requires subject { is_literal_term cell.now ≡ false }
         requires room { HasRoom 0 self.old }
         ensures gives { let step = next_cell cell.now rest.now first.now (spec.meaning item.now) in
-            Gives (step self.old) result self.new }
+            Answers (step self.old) result self.new }
         ensures known { OnOk result
             (IsTrue (known.known_node (declared self.old.prologue) item.now)) }
         ensures prologue { self.new.prologue ≡ self.old.prologue }
@@ -158,7 +158,7 @@ impl<'a> Scope<'a> {
         requires subject { is_literal_term cell.now ≡ false }
         requires room { HasRoom 0 self.old }
         ensures gives { let says = spec.behind cell.now (map spec.meaning items.now) in
-            Gives (says self.old) result self.new }
+            Answers (says self.old) result self.new }
         ensures known { let knows = known.known_node (declared self.old.prologue) in
             OnOk result (IsTrue (list_all holds (map knows items.now))) }
         ensures prologue { self.new.prologue ≡ self.old.prologue }
@@ -188,7 +188,7 @@ impl<'a> Scope<'a> {
         requires room { HasRoom 0 self.old }
         ensures gives { let says = spec.objects subject.now predicate.now
             (map spec.meaning nodes.now) in
-            Gives (says self.old) result self.new }
+            Answers (says self.old) result self.new }
         ensures known { let knows = known.known_node (declared self.old.prologue) in
             OnOk result (IsTrue (list_all holds (map knows nodes.now))) }
         ensures prologue { self.new.prologue ≡ self.old.prologue }
@@ -208,7 +208,7 @@ impl<'a> Scope<'a> {
         requires proper { IsTrue (proper.proper_property property.now) }
         requires subject { is_literal_term subject.now ≡ false }
         requires room { HasRoom 0 self.old }
-        ensures gives { Gives (spec.property property.now subject.now self.old) result self.new }
+        ensures gives { Answers (spec.property property.now subject.now self.old) result self.new }
         ensures known { OnOk result
             (IsTrue (known.known_property (declared self.old.prologue) property.now)) }
         ensures prologue { self.new.prologue ≡ self.old.prologue }
@@ -228,7 +228,7 @@ impl<'a> Scope<'a> {
         requires subject { is_literal_term subject.now ≡ false }
         requires room { HasRoom 0 self.old }
         ensures gives { let says = spec.properties subject.now properties.now in
-            Gives (says self.old) result self.new }
+            Answers (says self.old) result self.new }
         ensures known { let knows = known.known_property (declared self.old.prologue) in
             OnOk result (IsTrue (list_all holds (map knows properties.now))) }
         ensures prologue { self.new.prologue ≡ self.old.prologue }
@@ -244,7 +244,7 @@ impl<'a> Scope<'a> {
     fn triples(&mut self, node: &Node<'a>, properties: &[Property<'a>]) -> Result<(), PrologueFault>
         requires proper { IsTrue (proper.proper_triples node.now properties.now) }
         requires room { HasRoom 1 self.old }
-        ensures gives { Gives (spec.triples node.now properties.now self.old) result self.new }
+        ensures gives { Answers (spec.triples node.now properties.now self.old) result self.new }
         ensures known { let knows = known.known_triples (declared self.old.prologue) in
             OnOk result (IsTrue (knows node.now properties.now)) }
         ensures prologue { self.new.prologue ≡ self.old.prologue }
@@ -260,7 +260,7 @@ impl<'a> Scope<'a> {
     pub(crate) fn statement(&mut self, statement: &Statement<'a>) -> Result<(), PrologueFault>
         requires proper { IsTrue (proper.proper_statement statement.now) }
         requires room { HasRoom 1 self.old }
-        ensures gives { Gives (spec.statement statement.now self.old) result self.new }
+        ensures gives { Answers (spec.statement statement.now self.old) result self.new }
         ensures known { OnOk result
             (IsTrue (known.known_statement (declared self.old.prologue) statement.now)) }
         ensures declares { let before = declared self.old.prologue in

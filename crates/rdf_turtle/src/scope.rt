@@ -7,7 +7,7 @@ ghost use Rattle.rdf_grammar.specs.Literals.{known_literal, proper_literal};
 ghost use Rattle.rdf_grammar.specs.Prologue as prologue;
 ghost use Rattle.rdf_grammar.specs.Prologue.{declared, knows, is_proper};
 ghost use Rattle.rdf_turtle.specs.Inside.Room.{HasRoom, TakesAtMost};
-ghost use Rattle.rdf_turtle.specs.Inside.Told.{Gives};
+ghost use Rattle.rdf_turtle.specs.Inside.Told.{Answers};
 ghost use Rattle.rdf_turtle.specs.State as state;
 
 use crate::tree::{Literal as Written, Name};
@@ -116,7 +116,7 @@ impl<'a> Scope<'a> {
     #[tactic(auto, unfolding(crate::specs::Meaning::iri))]
     pub(crate) fn iri(&mut self, name: &Name<'a>) -> Result<Iri, PrologueFault>
         requires proper { IsTrue (is_proper name.now) }
-        ensures gives { Gives (meaning.iri name.now self.old) result self.new }
+        ensures gives { Answers (meaning.iri name.now self.old) result self.new }
         ensures known { OnOk result (IsTrue (knows (declared self.old.prologue) name.now)) }
         ensures same { self.new ≡ self.old }
     {
@@ -127,7 +127,7 @@ impl<'a> Scope<'a> {
     #[tactic(auto, unfolding(crate::specs::Meaning::literal))]
     pub(crate) fn literal(&mut self, literal: &Written<'a>) -> Result<Literal, PrologueFault>
         requires proper { IsTrue (proper_literal literal.now) }
-        ensures gives { Gives (meaning.literal literal.now self.old) result self.new }
+        ensures gives { Answers (meaning.literal literal.now self.old) result self.new }
         ensures known { OnOk result
             (IsTrue (known_literal (declared self.old.prologue) literal.now)) }
         ensures same { self.new ≡ self.old }
@@ -137,7 +137,7 @@ impl<'a> Scope<'a> {
 
     /// The IRI of a reference.
     pub(crate) fn resolved(&self, reference: &Slice<'a>) -> Result<Iri, PrologueFault>
-        ensures { Gives (state.told (prologue.resolved reference.now) self.now) result self.now }
+        ensures { Answers (state.told (prologue.resolved reference.now) self.now) result self.now }
     {
         self.prologue.resolve(reference)
     }

@@ -1,15 +1,13 @@
 -- What may stand behind each production of an expression: no lexeme that binds what stands before it more tightly.
-use Rattle.std.proofs.Common.{◌≡◌, ℕ, ◌<◌, ◌≤◌, Bool, true, false, List, length, Option, Some, None, refl, ap, arith}
+use Rattle.std.proofs.Common.{◌≡◌, ℕ, ◌<◌, ◌≤◌, Bool, true, false, List, Option, Some, None, refl, arith}
 use Rattle.std.specs.Prelude.{nat_lt}
 use Rattle.std.proofs.lemmas.Bool.{ltb-true, lt-ltb}
 use Rattle.rdf_grammar.specs.Steps as steps
-use Rattle.rdf_grammar.specs.Readings as reading
 use Rattle.rdf_grammar.specs.Terminals.{next_terminal}
 use Rattle.rdf_grammar.specs.Derivations as grammar
 use Rattle.rdf_grammar.specs.Derivations.{Then, Star, stop, more}
-use Rattle.rdf_grammar.proofs.Combinators.{one_decides}
-use Rattle.rdf_grammar.proofs.Decides.{Decides, then_decides, pure_decides, repeat_decides}
-use Rattle.rdf_grammar.proofs.Terminals.{after_terminal, starts_with, seen_terminal, unseen}
+use Rattle.rdf_grammar.proofs.Decides.{Decides, then_decides, pure_decides}
+use Rattle.rdf_grammar.proofs.Lists.{MayPart, each_behind_decides, each_behind_begins}
 use Rattle.sparql_terminals.specs.declared.terminal.Terminal.{Terminal}
 use Rattle.sparql_terminals.specs.declared.terminal.Terminal.TheVariants as terminal
 use Rattle.sparql_terminals.specs.Lexemes as lexemes
@@ -60,14 +58,11 @@ not_looser n m l = at (nat_lt n m) refl
     at false e = e
     at true e = absurd (below_no_more m n l e)
 
+wider_at : (m n : ℕ) → m ≤ n → (k : Option Terminal) → looser n k ≡ true → looser m k ≡ true
+wider_at m n l k h = let x : n < binds k = ltb-true n _ h in lt_is m _ (omega arith)
+
 pub wider : (m n : ℕ) → m ≤ n → (us : Lexemes) → above n us ≡ true → above m us ≡ true
-wider m n l us h = let x : n < binds (next_terminal us) = ltb-true n _ h in lt_is m _ (omega arith)
-
-pub not_seen : (k : Terminal) (n : ℕ) → binds (Some k) ≤ n → (us : Lexemes) → above n us ≡ true → sees k us ≡ false
-not_seen k n l us h = unseen same_terminal apart (looser n) k (not_looser n (binds (Some k)) l) us h
-
-pub seen_above : (k : Terminal) (m : ℕ) → m < binds (Some k) → (us : Lexemes) → sees k us ≡ true → above m us ≡ true
-seen_above k m l us h = rw (seen_terminal same_terminal apart k us h) (lt_is m (binds (Some k)) l)
+wider m n l us h = wider_at m n l (next_terminal us) h
 
 -- ---- literals, operands of sums, comparisons
 
@@ -125,31 +120,24 @@ comparison_above us _ q operator h = absurd (cc)
 -- ---- a chain: ( k P )*
 
 module _ {A : Type 0} (k : Terminal) (n : ℕ) (p : Reading A) (P : Derives A) (l : n < binds (Some k)) (d : Decides p P (above n)) where
-  abbrev Another : Derives (List A)
-  Another = grammar.one (grammar.◌>>◌ (grammar.the k) P)
+  parts : MayPart k (looser n) (looser (binds (Some k)))
+  parts = record { before = lt_is n (binds (Some k)) l; apart = not_looser (binds (Some k)) (binds (Some k)) (omega arith); goes = wider_at n (binds (Some k)) (omega arith) }
 
-  another_starts : (ts : Lexemes) (xs : List A) (us : Lexemes) → Another ts xs us → (sees k ts ≡ true) × (length us < length ts)
-  another_starts ts xs us h =
-      let s = starts_with same_terminal apart k P p (above n) d ts h.first h.mid h.reads in
-      (s.0, let less = s.1 in omega (arith, ap length h.goes.1))
+  pub others_decide : Decides (lexemes.each_behind k p) (grammar.EachBehind k P) (above (binds (Some k)))
+  others_decide = each_behind_decides same_terminal apart k p P (looser n) (looser (binds (Some k))) parts d
 
-  pub others_decide : Decides (reading.repeat (sees k) (reading.one (steps.◌>>◌ (lexemes.the k) p))) (Star Another) (above (binds (Some k)))
-  others_decide = repeat_decides (sees k) _ _ (above n) (above (binds (Some k))) (one_decides _ _ (above n) (after_terminal same_terminal apart k p P (above n) d))
-      another_starts (not_seen k (binds (Some k)) (omega arith)) (wider n (binds (Some k)) (omega arith)) (seen_above k n l)
-
-  others_begin : (ts : Lexemes) (xs : List A) (us : Lexemes) → Star Another ts xs us → above (binds (Some k)) us ≡ true → above n ts ≡ true
-  others_begin ts xs us stop h = wider n (binds (Some k)) (omega arith) ts h
-  others_begin ts xs us (more {mid = mid} {x = x} r s) h = seen_above k n l ts (another_starts ts x mid r).0
+  others_begin : (ts : Lexemes) (xs : List A) (us : Lexemes) → grammar.EachBehind k P ts xs us → above (binds (Some k)) us ≡ true → above n ts ≡ true
+  others_begin = each_behind_begins same_terminal apart k p P (looser n) (looser (binds (Some k))) parts d
 
   module _ {B : Type 0} (f : A → List A → B) where
-    pub rest_decides : (first : A) → Decides (steps.◌>>=◌ (reading.repeat (sees k) (reading.one (steps.◌>>◌ (lexemes.the k) p))) (λ others. steps.pure (f first others)))
-        (Then (Star Another) (λ others. grammar.pure (f first others))) (above (binds (Some k)))
+    pub rest_decides : (first : A) → Decides (steps.◌>>=◌ (lexemes.each_behind k p) (λ others. steps.pure (f first others)))
+        (Then (grammar.EachBehind k P) (λ others. grammar.pure (f first others))) (above (binds (Some k)))
     rest_decides first = then_decides _ _ _ _ (above (binds (Some k))) (above (binds (Some k))) others_decide (λ others. pure_decides (f first others) (above (binds (Some k)))) (λ a mid b us h e. rw h.1 e)
 
-    pub rest_begins : (first : A) (ts : Lexemes) (b : B) (us : Lexemes) → Then (Star Another) (λ others. grammar.pure (f first others)) ts b us → above (binds (Some k)) us ≡ true → above n ts ≡ true
+    pub rest_begins : (first : A) (ts : Lexemes) (b : B) (us : Lexemes) → Then (grammar.EachBehind k P) (λ others. grammar.pure (f first others)) ts b us → above (binds (Some k)) us ≡ true → above n ts ≡ true
     rest_begins first ts b us h e = others_begin ts h.first h.mid h.reads (rw h.goes.1 e)
 
     -- first ( k first )*
-    pub chained : Decides (steps.◌>>=◌ p (λ first. steps.◌>>=◌ (reading.repeat (sees k) (reading.one (steps.◌>>◌ (lexemes.the k) p))) (λ others. steps.pure (f first others))))
-        (Then P (λ first. Then (Star Another) (λ others. grammar.pure (f first others)))) (above (binds (Some k)))
+    pub chained : Decides (steps.◌>>=◌ p (λ first. steps.◌>>=◌ (lexemes.each_behind k p) (λ others. steps.pure (f first others))))
+        (Then P (λ first. Then (grammar.EachBehind k P) (λ others. grammar.pure (f first others)))) (above (binds (Some k)))
     chained = then_decides _ _ _ _ (above n) (above (binds (Some k))) d rest_decides (λ a mid b us h e. rest_begins a mid b us h e)

@@ -1,6 +1,6 @@
 -- Expressions as they are written (SPARQL 1.1 Query, section 19.8, by the numbers of its rules), with no look at the next lexeme.
 use Rattle.std.specs.Prelude.{ℕ, zero, suc, List}
-use Rattle.rdf_grammar.specs.Derivations.{◌>>=◌, ◌>>◌, ◌<$>◌, ◌∣◌, pure, the, value, one, Star}
+use Rattle.rdf_grammar.specs.Derivations.{◌>>=◌, ◌>>◌, ◌<$>◌, ◌∣◌, pure, the, value, one, Star, EachBehind}
 use Rattle.rdf_grammar.specs.declared.tree.Literal.{Literal}
 use Rattle.rdf_grammar.specs.declared.tree.Literal.TheVariants as l
 use Rattle.sparql_terminals.specs.declared.terminal.Terminal.TheVariants as terminal
@@ -89,7 +89,7 @@ module _ (Expression' : Derives Expression) where
 
   -- ( "*" UnaryExpression )*; division is left out
   abbrev pub Factors : Derives (List Expression)
-  Factors = Star (one (the terminal.Star >> UnaryExpression))
+  Factors = EachBehind terminal.Star UnaryExpression
 
   -- 117: MultiplicativeExpression = UnaryExpression ( "*" UnaryExpression | "/" UnaryExpression )*
   abbrev pub MultiplicativeExpression : Derives Expression
@@ -135,14 +135,14 @@ module _ (Expression' : Derives Expression) where
   abbrev pub ConditionalAndExpression : Derives Expression
   ConditionalAndExpression = do
     first ← RelationalExpression
-    others ← Star (one (the terminal.And >> RelationalExpression))
+    others ← EachBehind terminal.And RelationalExpression
     pure (chain e.And first others)
 
   -- 111: ConditionalOrExpression = ConditionalAndExpression ( "||" ConditionalAndExpression )*, and 110: Expression
   abbrev pub ConditionalOrExpression : Derives Expression
   ConditionalOrExpression = do
     first ← ConditionalAndExpression
-    others ← Star (one (the terminal.Or >> ConditionalAndExpression))
+    others ← EachBehind terminal.Or ConditionalAndExpression
     pure (chain e.Or first others)
 
   -- 69: Constraint = BrackettedExpression | BuiltInCall | FunctionCall; functions that are named by IRIs are left out

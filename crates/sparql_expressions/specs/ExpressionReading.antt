@@ -8,7 +8,7 @@ use Rattle.rdf_grammar.specs.declared.tree.Literal.{Literal}
 use Rattle.rdf_grammar.specs.declared.tree.Literal.TheVariants as l
 use Rattle.sparql_terminals.specs.declared.terminal.Terminal.{Terminal}
 use Rattle.sparql_terminals.specs.declared.terminal.Terminal.TheVariants as terminal
-use Rattle.sparql_terminals.specs.Lexemes.{Reading, Test, sees, the, value}
+use Rattle.sparql_terminals.specs.Lexemes.{Reading, Test, the, value, each_behind}
 use Rattle.sparql_terminals.specs.WordReading.{iri, literal}
 use Rattle.sparql_trees.specs.declared.expression.Comparison.{Comparison}
 use Rattle.sparql_trees.specs.declared.expression.Comparison.TheVariants as c
@@ -158,7 +158,7 @@ module _ (expression : Reading Expression) where
 
   -- ( "*" UnaryExpression )*
   abbrev pub factors : Reading (List Expression)
-  factors = repeat (sees terminal.Star) (one (the terminal.Star >> unary))
+  factors = each_behind terminal.Star unary
 
   -- ( "*" UnaryExpression )*, behind the first factor
   unfoldable pub product : Expression → Reading Expression
@@ -208,14 +208,14 @@ module _ (expression : Reading Expression) where
   unfoldable pub conditional_and : Reading Expression
   conditional_and = do
     first ← relational
-    others ← repeat (sees terminal.And) (one (the terminal.And >> relational))
+    others ← each_behind terminal.And relational
     pure (chain e.And first others)
 
   -- Expression = ConditionalOrExpression = ConditionalAndExpression ( "||" ConditionalAndExpression )*
   unfoldable pub conditional_or : Reading Expression
   conditional_or = do
     first ← conditional_and
-    others ← repeat (sees terminal.Or) (one (the terminal.Or >> conditional_and))
+    others ← each_behind terminal.Or conditional_and
     pure (chain e.Or first others)
 
   -- Constraint = BrackettedExpression | BuiltInCall

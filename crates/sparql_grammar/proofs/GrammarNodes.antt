@@ -1,6 +1,5 @@
 -- Lists, brackets and nodes are read just as they are derived.
 use Rattle.std.proofs.Common.{◌≡◌, ℕ, zero, suc, ◌<◌, Bool, true, false, List, [], ◌∷◌, ◌++◌, length, Option, Some, None, refl, sym, ◌∙◌, ap, arith, inl, inr, ◌⊎◌}
-use Rattle.std.specs.Prelude.{option_to_list}
 use Rattle.rdf_grammar.specs.declared.tree.Name.{Name}
 use Rattle.rdf_grammar.specs.Steps as steps
 use Rattle.rdf_grammar.specs.Readings as reading
@@ -8,7 +7,8 @@ use Rattle.rdf_grammar.specs.Terminals.{Piece, next_terminal}
 use Rattle.rdf_grammar.specs.Derivations as grammar
 use Rattle.rdf_grammar.specs.Derivations.{Then, Star, stop, more}
 use Rattle.rdf_grammar.proofs.Decides.{always, Decides, then_decides, pure_decides, repeat_decides}
-use Rattle.rdf_grammar.proofs.Terminals.{the_decides, value_decides, after_terminal, starts_with, the_terminal, value_terminal, terminal_seen, seen_terminal, unseen, word_sound, word_complete, word_strict}
+use Rattle.rdf_grammar.proofs.Lists.{MayPart, seen_passes, separated_decides, separated_loosely_decides}
+use Rattle.rdf_grammar.proofs.Terminals.{the_decides, value_decides, the_terminal, value_terminal, terminal_seen, seen_terminal, word_sound, word_complete, word_strict}
 use Rattle.rdf_grammar.proofs.Combinators.{one_decides, seq, last, also, maybe_decides}
 use Rattle.sparql_terminals.specs.declared.terminal.Terminal.{Terminal}
 use Rattle.sparql_terminals.specs.declared.terminal.Terminal.TheVariants as terminal
@@ -172,10 +172,6 @@ literal_node (Some terminal.True) h = refl
 literal_node (Some terminal.False) h = refl
 literal_node _ h = absurd (cc)
 
--- what begins with a lexeme of terminal k passes the tests that k passes
-pub seen_passes : (test : Option Terminal → Bool) (k : Terminal) → test (Some k) ≡ true → (us : Lexemes) → sees k us ≡ true → test (next_terminal us) ≡ true
-seen_passes test k h us s = rw (seen_terminal same_terminal apart k us s) h
-
 -- ---- over a rule for nodes
 
 pub record IsNodeRule (node : Reading Node) (Node' : Derives Node) : Type 0 where
@@ -184,23 +180,12 @@ pub record IsNodeRule (node : Reading Node) (Node' : Derives Node) : Type 0 wher
   pub strict : (ts : Lexemes) (x : Node) (us : Lexemes) → Node' ts x us → length us < length ts
 
 module _ (node : Reading Node) (Node' : Derives Node) (r : IsNodeRule node Node') where
-  comma_starts : (ts : Lexemes) (x : List Node) (us : Lexemes) → grammar.one (grammar.◌>>◌ (grammar.the terminal.Comma) Node') ts x us → (sees terminal.Comma ts ≡ true) × (length us < length ts)
-  comma_starts ts x us h = let s = starts_with same_terminal apart terminal.Comma Node' node after_node r.decides ts h.first h.mid h.reads in (s.0, let l = s.1 in omega (arith, ap length h.goes.1))
-
-  commas_decide : Decides (reading.repeat (sees terminal.Comma) (reading.one (steps.◌>>◌ (lexemes.the terminal.Comma) node))) (Star (grammar.one (grammar.◌>>◌ (grammar.the terminal.Comma) Node'))) ends_objects
-  commas_decide = repeat_decides (sees terminal.Comma) _ _ after_node ends_objects (one_decides _ _ after_node (after_terminal same_terminal apart terminal.Comma node Node' after_node r.decides))
-      comma_starts (unseen same_terminal apart closes_objects terminal.Comma refl) (λ us h. objects_node (next_terminal us) h) (seen_passes ends_node terminal.Comma refl)
-
-  commas_begin : (ts : Lexemes) (xs : List Node) (us : Lexemes) → Star (grammar.one (grammar.◌>>◌ (grammar.the terminal.Comma) Node')) ts xs us → ends_objects us ≡ true → after_node ts ≡ true
-  commas_begin ts xs us stop h = objects_node (next_terminal ts) h
-  commas_begin ts xs us (more {mid = mid} {x = x} q s) h = seen_passes ends_node terminal.Comma refl ts (comma_starts ts x mid q).0
+  commas : MayPart terminal.Comma ends_node closes_objects
+  commas = record { before = refl; apart = refl; goes = objects_node }
 
   objects_decide : Decides (read.objects node) (g.ObjectList Node') ends_objects
   unfolding read.objects
-  objects_decide =
-      then_decides _ _ _ _ after_node ends_objects r.decides
-      (λ first. then_decides _ _ _ _ ends_objects ends_objects commas_decide (λ others. pure_decides (first ∷ others) ends_objects) (λ a mid b us h e. rw h.1 e))
-      (λ a mid b us h e. commas_begin mid h.first h.mid h.reads (rw h.goes.1 e))
+  objects_decide = separated_decides same_terminal apart terminal.Comma node Node' ends_node closes_objects commas r.decides
 
   property_decides : Decides (read.property node) (g.VerbObjects Node') ends_objects
   unfolding read.property
@@ -210,34 +195,13 @@ module _ (node : Reading Node) (Node' : Derives Node) (r : IsNodeRule node Node'
   property_begins : (ts : Lexemes) (x : Property) (us : Lexemes) → g.VerbObjects Node' ts x us → read.sees_verb ts ≡ true
   property_begins ts x us h = verb_begins ts h.first h.mid h.reads
 
-  optional_property_decides : Decides (read.optional_property node) (grammar.maybe (g.VerbObjects Node')) ends_objects
-  unfolding read.optional_property
-  optional_property_decides = maybe_decides read.sees_verb (read.property node) (g.VerbObjects Node') ends_objects ends_objects property_decides
-      property_begins (λ us h. objects_no_verb (next_terminal us) h) (λ us h. h)
-
-  abbrev Some_more : Derives (List Property)
-  Some_more = grammar.◌<$>◌ option_to_list (grammar.maybe (g.VerbObjects Node'))
-
-  some_more_decides : Decides (steps.◌<$>◌ option_to_list (read.optional_property node)) Some_more ends_objects
-  some_more_decides = last option_to_list _ _ ends_objects optional_property_decides
-
-  more_starts : (ts : Lexemes) (x : List Property) (us : Lexemes) → grammar.◌>>◌ (grammar.the terminal.Semicolon) Some_more ts x us → (sees terminal.Semicolon ts ≡ true) × (length us < length ts)
-  more_starts ts x us h = starts_with same_terminal apart terminal.Semicolon Some_more _ ends_objects some_more_decides ts x us h
-
-  mores_decide : Decides (reading.repeat (sees terminal.Semicolon) (read.more node)) (Star (grammar.◌>>◌ (grammar.the terminal.Semicolon) Some_more)) ends_list
-  mores_decide = repeat_decides (sees terminal.Semicolon) _ _ ends_objects ends_list (after_terminal same_terminal apart terminal.Semicolon _ Some_more ends_objects some_more_decides)
-      more_starts (unseen same_terminal apart closes_list terminal.Semicolon refl) (λ us h. list_objects (next_terminal us) h) (seen_passes closes_objects terminal.Semicolon refl)
-
-  mores_begin : (ts : Lexemes) (xs : List Property) (us : Lexemes) → Star (grammar.◌>>◌ (grammar.the terminal.Semicolon) Some_more) ts xs us → ends_list us ≡ true → ends_objects ts ≡ true
-  mores_begin ts xs us stop h = list_objects (next_terminal ts) h
-  mores_begin ts xs us (more {mid = mid} {x = x} q s) h = seen_passes closes_objects terminal.Semicolon refl ts (more_starts ts x mid q).0
+  semicolons : MayPart terminal.Semicolon closes_objects closes_list
+  semicolons = record { before = refl; apart = refl; goes = list_objects }
 
   pub property_list_not_empty_decides : Decides (read.property_list_not_empty node) (g.PropertyListNotEmpty Node') ends_list
   unfolding read.property_list_not_empty
-  property_list_not_empty_decides =
-      then_decides _ _ _ _ ends_objects ends_list property_decides
-      (λ first. then_decides _ _ _ _ ends_list ends_list mores_decide (λ others. pure_decides (first ∷ others) ends_list) (λ a mid b us h e. rw h.1 e))
-      (λ a mid b us h e. mores_begin mid h.first h.mid h.reads (rw h.goes.1 e))
+  property_list_not_empty_decides = separated_loosely_decides same_terminal apart terminal.Semicolon (read.property node) (g.VerbObjects Node') closes_objects closes_list semicolons property_decides
+      read.sees_verb property_begins (λ us h. objects_no_verb (next_terminal us) h)
 
   property_list_not_empty_begins : (ts : Lexemes) (x : List Property) (us : Lexemes) → g.PropertyListNotEmpty Node' ts x us → read.sees_verb ts ≡ true
   property_list_not_empty_begins ts x us h = property_begins ts h.first h.mid h.reads
@@ -279,7 +243,7 @@ module _ (node : Reading Node) (Node' : Derives Node) (r : IsNodeRule node Node'
 
   items_decide : Decides (reading.repeat read.sees_node (reading.one node)) (Star (grammar.one Node')) (sees terminal.Close)
   items_decide = repeat_decides read.sees_node _ _ after_node (sees terminal.Close) (one_decides _ _ after_node r.decides)
-      items_start close_no_node (seen_passes ends_node terminal.Close refl) (λ us h. node_ends (next_terminal us) h)
+      items_start close_no_node (seen_passes same_terminal apart ends_node terminal.Close refl) (λ us h. node_ends (next_terminal us) h)
 
   -- "(" GraphNode* ")"
   abbrev Listed : Derives Node

@@ -8,6 +8,7 @@ use Rattle.rdf_grammar.specs.Terminals.{next_terminal}
 use Rattle.rdf_grammar.specs.Derivations as grammar
 use Rattle.rdf_grammar.specs.Derivations.{Then, Star, stop, more}
 use Rattle.rdf_grammar.proofs.Decides.{always, Decides, then_decides, pure_decides, repeat_decides}
+use Rattle.rdf_grammar.proofs.Lists.{seen_passes}
 use Rattle.rdf_grammar.proofs.Terminals.{the_decides, after_terminal, starts_with, the_terminal, terminal_seen, unseen}
 use Rattle.rdf_grammar.proofs.Combinators.{one_decides, also, maybe_decides}
 use Rattle.sparql_terminals.specs.declared.terminal.Terminal.{Terminal}
@@ -22,7 +23,7 @@ use Rattle.sparql_grammar.specs.Proper.{is_filled, stands_alone}
 use Rattle.sparql_grammar.specs.Reading as read
 use Rattle.sparql_grammar.specs.Grammar as g
 use Rattle.sparql_terminals.proofs.GrammarWords.{after_node}
-use Rattle.sparql_grammar.proofs.GrammarNodes.{closes_list, ends_list, seen_passes, IsNodeRule, node_rule, property_list_not_empty_decides, property_list_decides, not_empty_behind, list_behind}
+use Rattle.sparql_grammar.proofs.GrammarNodes.{closes_list, ends_list, IsNodeRule, node_rule, property_list_not_empty_decides, property_list_decides, not_empty_behind, list_behind}
 use Rattle.sparql_grammar.proofs.Trees.{alone_variable, alone_name, alone_literal, alone_label, alone_blank, alone_collection}
 
 -- ---- which subjects stand alone
@@ -152,7 +153,7 @@ module _ (node : Reading Node) (Inner : Derives Node) (r : IsNodeRule node (g.Gr
       (another_seen ts h.first h.mid h.reads, let l = s.1 in omega (arith, ap length h.goes.1))
 
   another_ends : (us : Lexemes) → read.sees_another us ≡ true → ends_list us ≡ true
-  another_ends us h = seen_passes closes_list terminal.Dot refl us (and_parts (sees terminal.Dot us) (read.sees_node (next us)) h).0
+  another_ends us h = seen_passes same_terminal apart closes_list terminal.Dot refl us (and_parts (sees terminal.Dot us) (read.sees_node (next us)) h).0
 
   others_decide : Decides (reading.repeat read.sees_another (reading.one (steps.◌>>◌ (lexemes.the terminal.Dot) (read.same_subject node)))) (Star Another) ends_triples
   others_decide = repeat_decides read.sees_another _ _ ends_list ends_triples

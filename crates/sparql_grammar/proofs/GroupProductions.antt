@@ -6,9 +6,10 @@ use Rattle.rdf_grammar.specs.Readings as reading
 use Rattle.rdf_grammar.specs.Terminals.{next_terminal}
 use Rattle.rdf_grammar.specs.Derivations as grammar
 use Rattle.rdf_grammar.specs.Derivations.{Then, Star, stop, more}
-use Rattle.rdf_grammar.proofs.Combinators.{one_decides, seq, last, maybe_decides}
+use Rattle.rdf_grammar.proofs.Combinators.{seq, last, maybe_decides}
 use Rattle.rdf_grammar.proofs.Decides.{always, Decides, then_decides, pure_decides, repeat_decides}
-use Rattle.rdf_grammar.proofs.Terminals.{the_decides, after_terminal, starts_with, the_terminal, terminal_seen, seen_terminal, unseen}
+use Rattle.rdf_grammar.proofs.Lists.{MayPart, each_behind_decides}
+use Rattle.rdf_grammar.proofs.Terminals.{the_decides, the_terminal, terminal_seen, seen_terminal, unseen}
 use Rattle.sparql_terminals.specs.declared.terminal.Terminal.{Terminal}
 use Rattle.sparql_terminals.specs.declared.terminal.Terminal.TheVariants as terminal
 use Rattle.sparql_expressions.specs.declared.tree.Expression.{Expression}
@@ -131,17 +132,11 @@ module _ (block : Reading (List Triples)) (Block : Derives (List Triples)) (b : 
 module _ (group : Reading Group) (Group' : Derives Group) (r : IsGroupRule group Group') where
   -- ---- groups with UNION between them
 
-  abbrev Another : Derives (List Group)
-  Another = grammar.one (grammar.◌>>◌ (grammar.the terminal.Union) Group')
+  unions : MayPart terminal.Union (λ k. true) closes_pattern
+  unions = record { before = refl; apart = refl; goes = λ k h. refl }
 
-  another_starts : (ts : Lexemes) (xs : List Group) (us : Lexemes) → Another ts xs us → (sees terminal.Union ts ≡ true) × (length us < length ts)
-  another_starts ts xs us h =
-      let s = starts_with same_terminal apart terminal.Union Group' _ always r.decides ts h.first h.mid h.reads in
-      (s.0, let l = s.1 in omega (arith, ap length h.goes.1))
-
-  others_decide : Decides (reading.repeat (sees terminal.Union) (reading.one (steps.◌>>◌ (lexemes.the terminal.Union) group))) (Star Another) ends_pattern
-  others_decide = repeat_decides (sees terminal.Union) _ _ always ends_pattern (one_decides _ _ always (after_terminal same_terminal apart terminal.Union group Group' always r.decides))
-      another_starts (unseen same_terminal apart closes_pattern terminal.Union refl) (λ us h. refl) (λ us h. refl)
+  others_decide : Decides (lexemes.each_behind terminal.Union group) (grammar.EachBehind terminal.Union Group') ends_pattern
+  others_decide = each_behind_decides same_terminal apart terminal.Union group Group' (λ k. true) closes_pattern unions r.decides
 
   union_decides : Decides (read.group_or_union group) (g.GroupOrUnionGraphPattern Group') ends_pattern
   unfolding read.group_or_union

@@ -1,39 +1,15 @@
 -- Turns of the readers of lists.
-use Rattle.std.proofs.Common.{◌≡◌, ◌<◌, Bool, true, false, if◌then◌else◌, List, [], ◌∷◌, length, Option, Some, None, refl, sym, ◌∙◌, ap, arith}
+use Rattle.std.proofs.Common.{◌≡◌, ◌<◌, Bool, true, false, if◌then◌else◌, List, [], ◌∷◌, length, Some, None, refl, sym, ◌∙◌, ap, arith}
 use Rattle.std.proofs.lemmas.Bool.{and_parts}
-use Rattle.std.specs.Prelude.{option_to_list}
-use Rattle.sparql_terminals.specs.declared.terminal.Terminal.{Terminal}
 use Rattle.sparql_terminals.specs.declared.terminal.Terminal.TheVariants as terminal
 use Rattle.sparql_grammar.specs.declared.tree.Node.{Node}
-use Rattle.sparql_grammar.specs.declared.tree.Property.{Property}
 use Rattle.sparql_grammar.specs.declared.tree.Triples.{Triples}
 use Rattle.sparql_terminals.specs.Lexemes.{Lexemes, Reading, sees, the}
 use Rattle.rdf_grammar.specs.Readings.{next, one, optional, repeat}
 use Rattle.rdf_grammar.specs.Steps.{and_then, ◌>>◌, pure}
 use Rattle.rdf_grammar.specs.Terminals as front
 use Rattle.rdf_grammar.specs.Terminals.{next_terminal}
-use Rattle.sparql_grammar.specs.Reading.{more, optional_property, begins_node, sees_node, sees_another, same_subject, triples_template}
-
-pub node_seen : (ts : Lexemes) {k : Option Terminal} → k ≡ next_terminal ts → true ≡ begins_node k → sees_node ts ≡ true
-node_seen ts p q = ap begins_node (sym p) ∙ sym q
-
-pub node_some : (ts : Lexemes) → sees_node ts ≡ true → 0 < length ts
-node_some [] h = absurd (cc)
-node_some (t ∷ ts) h = omega arith
-
-pub sees_some : (k : Terminal) (ts : Lexemes) → sees k ts ≡ true → 0 < length ts
-sees_some k [] h = absurd (cc)
-sees_some k (t ∷ ts) h = omega arith
-
-module _ (node : Reading Node) where
-  pub more_reads : (now mid behind : Lexemes) (o : Option Property) → sees terminal.Semicolon now ≡ true → mid ≡ next now → optional_property node mid ≡ Some (o, behind)
-      → more node now ≡ Some (option_to_list o, behind)
-  unfolding front.the
-  more_reads now mid behind o s m h = let e : optional_property node (next now) ≡ Some (o, behind) = ap (optional_property node) (sym m) ∙ h in rw (s, e) refl
-
-  pub more_fails : (now mid : Lexemes) → sees terminal.Semicolon now ≡ true → mid ≡ next now → optional_property node mid ≡ None → more node now ≡ None
-  unfolding front.the
-  more_fails now mid s m h = let e : optional_property node (next now) ≡ None = ap (optional_property node) (sym m) ∙ h in rw (s, e) refl
+use Rattle.sparql_grammar.specs.Reading.{sees_node, sees_another, same_subject, triples_template}
 
 -- ---- a dot, and triples behind it
 

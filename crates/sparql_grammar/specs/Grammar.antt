@@ -1,5 +1,5 @@
 -- Triples as the grammar writes them (SPARQL 1.1 Query, section 19.8, by the numbers of its rules), with no look at the next lexeme.
-use Rattle.std.specs.Prelude.{ℕ, zero, suc, Bool, List, [], ◌∷◌, is_some, option_to_list}
+use Rattle.std.specs.Prelude.{ℕ, zero, suc, Bool, List, [], ◌∷◌, is_some}
 use Rattle.sparql_terminals.specs.declared.terminal.Terminal.{Terminal}
 use Rattle.sparql_terminals.specs.declared.terminal.Terminal.TheVariants as terminal
 use Rattle.sparql_grammar.specs.declared.tree.VarOrIri.{VarOrIri}
@@ -10,7 +10,7 @@ use Rattle.sparql_grammar.specs.declared.tree.Node.{Node}
 use Rattle.sparql_grammar.specs.declared.tree.Node.TheVariants as n
 use Rattle.sparql_grammar.specs.declared.tree.Property.{Property}
 use Rattle.sparql_grammar.specs.declared.tree.Triples.{Triples}
-use Rattle.rdf_grammar.specs.Derivations.{◌>>=◌, ◌>>◌, ◌<$>◌, ◌∣◌, pure, the, value, one, maybe, Star}
+use Rattle.rdf_grammar.specs.Derivations.{◌>>=◌, ◌>>◌, ◌<$>◌, ◌∣◌, pure, the, value, one, maybe, Star, EachBehind, Separated, SeparatedLoosely}
 use Rattle.rdf_grammar.specs.Terminals.{Piece}
 use Rattle.sparql_terminals.specs.Lexemes.{Derives}
 use Rattle.sparql_grammar.specs.Reading.{property_with, triples_with, all_of}
@@ -62,10 +62,7 @@ VarOrTerm = (n.Variable <$> Var) ∣ GraphTerm
 module _ (object : Derives Node) where
   -- 79: ObjectList = Object ( "," Object )*, and 80: Object = GraphNode
   abbrev pub ObjectList : Derives (List Node)
-  ObjectList = do
-    first ← object
-    others ← Star (one (the terminal.Comma >> object))
-    pure (first ∷ others)
+  ObjectList = Separated terminal.Comma object
 
   -- Verb ObjectList
   abbrev pub VerbObjects : Derives Property
@@ -76,10 +73,7 @@ module _ (object : Derives Node) where
 
   -- 77: PropertyListNotEmpty = Verb ObjectList ( ";" ( Verb ObjectList )? )*
   abbrev pub PropertyListNotEmpty : Derives (List Property)
-  PropertyListNotEmpty = do
-    first ← VerbObjects
-    others ← Star (the terminal.Semicolon >> option_to_list <$> maybe VerbObjects)
-    pure (first ∷ others)
+  PropertyListNotEmpty = SeparatedLoosely terminal.Semicolon VerbObjects
 
   -- 76: PropertyList = PropertyListNotEmpty?
   abbrev pub PropertyList : Derives (List Property)
@@ -137,6 +131,6 @@ module _ (inner : Derives Node) where
   abbrev pub TriplesTemplate : Derives (List Triples)
   TriplesTemplate = do
     first ← TriplesSameSubject
-    others ← Star (one (the terminal.Dot >> TriplesSameSubject))
+    others ← EachBehind terminal.Dot TriplesSameSubject
     maybe (the terminal.Dot)
     pure (first ∷ others)

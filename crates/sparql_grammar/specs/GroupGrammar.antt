@@ -1,6 +1,6 @@
 -- Groups as they are written (SPARQL 1.1 Query, section 19.8, by the numbers of its rules), with no look at the next lexeme.
 use Rattle.std.specs.Prelude.{ℕ, zero, suc, List, ◌∷◌, ◌++◌, Option, option_to_list}
-use Rattle.rdf_grammar.specs.Derivations.{◌>>=◌, ◌>>◌, ◌<$>◌, ◌∣◌, pure, the, one, maybe, Star}
+use Rattle.rdf_grammar.specs.Derivations.{◌>>=◌, ◌>>◌, ◌<$>◌, ◌∣◌, pure, the, maybe, Star, EachBehind}
 use Rattle.sparql_terminals.specs.declared.terminal.Terminal.TheVariants as terminal
 use Rattle.sparql_expressions.specs.declared.tree.Expression.{Expression}
 use Rattle.sparql_expressions.specs.ExpressionGrammar.{Constraint, Expressions_at}
@@ -24,7 +24,7 @@ module _ (Group' : Derives Group) where
   abbrev pub GroupOrUnionGraphPattern : Derives Member
   GroupOrUnionGraphPattern = do
     first ← Group'
-    others ← Star (one (the terminal.Union >> Group'))
+    others ← EachBehind terminal.Union Group'
     pure (m.Union (first ∷ others))
 
   -- 57: OptionalGraphPattern = "OPTIONAL" GroupGraphPattern

@@ -3,7 +3,7 @@
 use Rattle.std.specs.Prelude.{ℕ, zero, suc, Bool, true, false, List, [], ◌∷◌, ◌++◌, Option, Some, option_to_list}
 use Rattle.rdf_grammar.specs.Steps.{◌>>=◌, ◌>>◌, ◌<$>◌, pure, none}
 use Rattle.rdf_grammar.specs.Terminals.{peek, next_terminal}
-use Rattle.rdf_grammar.specs.Readings.{any, one, optional, repeat}
+use Rattle.rdf_grammar.specs.Readings.{any, optional, repeat}
 use Rattle.sparql_terminals.specs.declared.terminal.Terminal.{Terminal}
 use Rattle.sparql_terminals.specs.declared.terminal.Terminal.TheVariants as terminal
 use Rattle.sparql_expressions.specs.declared.tree.Expression.{Expression}
@@ -14,7 +14,7 @@ use Rattle.sparql_grammar.specs.declared.tree.Group.{Group}
 use Rattle.sparql_grammar.specs.declared.tree.Member.{Member}
 use Rattle.sparql_grammar.specs.declared.tree.Member.TheVariants as m
 use Rattle.sparql_grammar.specs.declared.tree.Triples.{Triples}
-use Rattle.sparql_terminals.specs.Lexemes.{Reading, Test, sees, the}
+use Rattle.sparql_terminals.specs.Lexemes.{Reading, Test, the, each_behind}
 use Rattle.sparql_grammar.specs.Reading.{in_data, node, perhaps, sees_node, triples_template, var_or_iri}
 
 -- ---- a group by what is written in it
@@ -64,7 +64,7 @@ module _ (group : Reading Group) where
   unfoldable pub group_or_union : Reading Member
   group_or_union = do
     first ← group
-    others ← repeat (sees terminal.Union) (one (the terminal.Union >> group))
+    others ← each_behind terminal.Union group
     pure (m.Union (first ∷ others))
 
   -- GraphGraphPattern = "GRAPH" VarOrIri GroupGraphPattern, behind its word

@@ -1,6 +1,6 @@
 -- Triples (SPARQL 1.1 Query, section 19.8), a definition for each production. Where a production has alternatives the next lexeme
 -- chooses.
-use Rattle.std.specs.Prelude.{ℕ, zero, suc, Bool, true, false, ◌&&◌, if◌then◌else◌, List, [], ◌∷◌, Option, Some, None, option_to_list}
+use Rattle.std.specs.Prelude.{ℕ, zero, suc, Bool, true, false, ◌&&◌, if◌then◌else◌, List, [], ◌∷◌, Option, Some, None}
 use Rattle.sparql_terminals.specs.declared.terminal.Terminal.{Terminal}
 use Rattle.sparql_terminals.specs.declared.terminal.Terminal.TheVariants as terminal
 use Rattle.sparql_grammar.specs.declared.tree.VarOrIri.{VarOrIri}
@@ -14,7 +14,7 @@ use Rattle.sparql_grammar.specs.declared.tree.Triples.{Triples}
 use Rattle.rdf_grammar.specs.Readings.{any, one, optional, repeat, next}
 use Rattle.rdf_grammar.specs.Steps.{◌>>=◌, ◌>>◌, ◌<$>◌, pure, none}
 use Rattle.rdf_grammar.specs.Terminals.{peek, next_terminal}
-use Rattle.sparql_terminals.specs.Lexemes.{Reading, Test, sees, the, value}
+use Rattle.sparql_terminals.specs.Lexemes.{Reading, Test, sees, the, value, separated, separated_loosely}
 use Rattle.sparql_grammar.specs.Proper.{stands_alone}
 use Rattle.sparql_terminals.specs.WordReading.{iri, literal}
 
@@ -86,10 +86,7 @@ all_of (Some xs) = xs
 module _ (node : Reading Node) where
   -- ObjectList = Object ( "," Object )*
   unfoldable pub objects : Reading (List Node)
-  objects = do
-    first ← node
-    others ← repeat (sees terminal.Comma) (one (the terminal.Comma >> node))
-    pure (first ∷ others)
+  objects = separated terminal.Comma node
 
   -- Verb ObjectList
   unfoldable pub property : Reading Property
@@ -102,16 +99,9 @@ module _ (node : Reading Node) where
   unfoldable pub optional_property : Reading (Option Property)
   optional_property = optional sees_verb property
 
-  -- ";" ( Verb ObjectList )?
-  abbrev pub more : Reading (List Property)
-  more = the terminal.Semicolon >> (option_to_list <$> optional_property)
-
   -- PropertyListNotEmpty = Verb ObjectList ( ";" ( Verb ObjectList )? )*
   unfoldable pub property_list_not_empty : Reading (List Property)
-  property_list_not_empty = do
-    first ← property
-    others ← repeat (sees terminal.Semicolon) more
-    pure (first ∷ others)
+  property_list_not_empty = separated_loosely terminal.Semicolon sees_verb property
 
   -- PropertyList = PropertyListNotEmpty?
   unfoldable pub property_list : Reading (List Property)

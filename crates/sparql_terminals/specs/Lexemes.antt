@@ -51,3 +51,15 @@ the = terminals.the same_terminal
 -- a lexeme of this terminal, and its characters
 abbrev pub value : Terminal → Reading Piece
 value = terminals.value same_terminal
+
+-- this reading, again behind each lexeme of this terminal
+abbrev pub each_behind : {A : Type 0} → Terminal → Reading A → Reading (List A)
+each_behind = terminals.each_behind same_terminal
+
+-- and once before them
+abbrev pub separated : {A : Type 0} → Terminal → Reading A → Reading (List A)
+separated = terminals.separated same_terminal
+
+-- where it may be left out behind one, and is there if the next lexemes pass the test
+abbrev pub separated_loosely : {A : Type 0} → Terminal → Test → Reading A → Reading (List A)
+separated_loosely = terminals.separated_loosely same_terminal

@@ -1,27 +1,11 @@
 -- The lines of a front of a text.
 use Rattle.std.proofs.Common.{◌≡◌, ◌∙◌, ap, refl, sym, ℕ, Bool, true, false, cond, ◌&&◌, ◌||◌, List, [], ◌∷◌, ◌++◌}
 use Rattle.std.specs.Prelude.{not}
-use Rattle.rdf_lines.specs.Lines.{lines_behind, onto_first, is_line_feed, is_return}
+use Rattle.rdf_terms.specs.LineEnds.{is_line_feed, is_return, is_line_end}
+use Rattle.rdf_lines.specs.Lines.{lines_behind, onto_first}
 use Rattle.rdf_lines.specs.Pieces.{Hold, onto}
-use Rattle.rdf_lines.proofs.PieceLemmas.{onto-cons}
+use Rattle.rdf_lines.proofs.PieceLemmas.{onto-cons, other, ended, not_feed, feed}
 use Rattle.rdf_keeper.specs.Conversion.Converts.{whole_lines, is_empty}
-
-abbrev is_end : ℕ → Bool
-is_end b = is_line_feed b || is_return b
-
--- ---- a byte that is no line end, one that is, and an LF behind a CR
-
-other : (b : ℕ) (bs : List ℕ) → is_end b ≡ false → lines_behind false (b ∷ bs) ≡ onto_first b (lines_behind false bs)
-other b bs e = ap (λ v. cond v ([] ∷ lines_behind (is_return b) bs) (onto_first b (lines_behind false bs))) e
-
-ended : (b : ℕ) (bs : List ℕ) → is_end b ≡ true → lines_behind false (b ∷ bs) ≡ [] ∷ lines_behind (is_return b) bs
-ended b bs e = ap (λ v. cond v ([] ∷ lines_behind (is_return b) bs) (onto_first b (lines_behind false bs))) e
-
-not_feed : (behind : Bool) (b : ℕ) (bs : List ℕ) → (behind && is_line_feed b) ≡ false → lines_behind behind (b ∷ bs) ≡ lines_behind false (b ∷ bs)
-not_feed behind b bs e = ap (λ v. cond v (lines_behind false bs) (cond (is_end b) ([] ∷ lines_behind (is_return b) bs) (onto_first b (lines_behind false bs)))) e
-
-feed : (behind : Bool) (b : ℕ) (bs : List ℕ) → (behind && is_line_feed b) ≡ true → lines_behind behind (b ∷ bs) ≡ lines_behind false bs
-feed behind b bs e = ap (λ v. cond v (lines_behind false bs) (cond (is_end b) ([] ∷ lines_behind (is_return b) bs) (onto_first b (lines_behind false bs)))) e
 
 feed_is_end : (behind f r : Bool) → (behind && f) ≡ true → (f || r) ≡ true
 feed_is_end true true r e = refl
@@ -30,13 +14,13 @@ feed_is_end false f r e = cc
 
 -- ---- the whole lines of a text
 
-keeps_end : (b : ℕ) (bs : List ℕ) → is_end b ≡ true → whole_lines (b ∷ bs) ≡ b ∷ whole_lines bs
+keeps_end : (b : ℕ) (bs : List ℕ) → is_line_end b ≡ true → whole_lines (b ∷ bs) ≡ b ∷ whole_lines bs
 keeps_end b bs e = ap (λ v. cond (v || not (is_empty (whole_lines bs))) (b ∷ whole_lines bs) []) e
 
-nothing_whole : (b : ℕ) (bs : List ℕ) → is_end b ≡ false → whole_lines bs ≡ [] → whole_lines (b ∷ bs) ≡ []
+nothing_whole : (b : ℕ) (bs : List ℕ) → is_line_end b ≡ false → whole_lines bs ≡ [] → whole_lines (b ∷ bs) ≡ []
 nothing_whole b bs e n = ap (λ v. cond (v || not (is_empty (whole_lines bs))) (b ∷ whole_lines bs) []) e ∙ ap (λ w. cond (not (is_empty w)) (b ∷ w) []) n
 
-keeps_front : (b c : ℕ) (bs cs : List ℕ) → is_end b ≡ false → whole_lines bs ≡ c ∷ cs → whole_lines (b ∷ bs) ≡ b ∷ whole_lines bs
+keeps_front : (b c : ℕ) (bs cs : List ℕ) → is_line_end b ≡ false → whole_lines bs ≡ c ∷ cs → whole_lines (b ∷ bs) ≡ b ∷ whole_lines bs
 keeps_front b c bs cs e n = ap (λ v. cond (v || not (is_empty (whole_lines bs))) (b ∷ whole_lines bs) []) e ∙ ap (λ w. cond (not (is_empty w)) (b ∷ whole_lines bs) []) n
 
 onto_some : (b : ℕ) (ls : List (List ℕ)) → (l : List ℕ) × (more : List (List ℕ)) × (onto_first b ls ≡ l ∷ more)
@@ -44,9 +28,9 @@ onto_some b [] = (b ∷ [], [], refl)
 onto_some b (l ∷ ls) = (b ∷ l, ls, refl)
 
 some_line : (c : ℕ) (cs : List ℕ) → (l : List ℕ) × (more : List (List ℕ)) × (lines_behind false (c ∷ cs) ≡ l ∷ more)
-some_line c cs = by (is_end c) refl
+some_line c cs = by (is_line_end c) refl
   where
-    by : (v : Bool) → is_end c ≡ v → (l : List ℕ) × (more : List (List ℕ)) × (lines_behind false (c ∷ cs) ≡ l ∷ more)
+    by : (v : Bool) → is_line_end c ≡ v → (l : List ℕ) × (more : List (List ℕ)) × (lines_behind false (c ∷ cs) ≡ l ∷ more)
     by true e = ([], lines_behind (is_return c) cs, ended c cs e)
     by false e = let some = onto_some c (lines_behind false cs) in (some.0, some.1, other c cs e ∙ some.2)
 
@@ -61,7 +45,7 @@ pub held_by : (behind : Bool) (xs : List ℕ) → Held behind xs
 held_by behind [] = ([], behind, λ tail. refl)
 held_by behind (b ∷ bs) = by (behind && is_line_feed b) refl (held_by false bs) (held_by (is_return b) bs)
   where
-    by_front : (behind && is_line_feed b) ≡ false → is_end b ≡ false → (w : List ℕ) → whole_lines bs ≡ w → Held false bs → Held behind (b ∷ bs)
+    by_front : (behind && is_line_feed b) ≡ false → is_line_end b ≡ false → (w : List ℕ) → whole_lines bs ≡ w → Held false bs → Held behind (b ∷ bs)
     by_front n e [] is later = (
       b ∷ later.0,
       later.1,
@@ -81,7 +65,7 @@ held_by behind (b ∷ bs) = by (behind && is_line_feed b) refl (held_by false bs
               ∙ ap (λ k. k ++ rest) (sym (ap (lines_behind behind) (keeps_front b c bs cs e is) ∙ not_feed behind b (whole_lines bs) n ∙ other b (whole_lines bs) e)),
         )
 
-    by_end : (behind && is_line_feed b) ≡ false → (v : Bool) → is_end b ≡ v → Held false bs → Held (is_return b) bs → Held behind (b ∷ bs)
+    by_end : (behind && is_line_feed b) ≡ false → (v : Bool) → is_line_end b ≡ v → Held false bs → Held (is_return b) bs → Held behind (b ∷ bs)
     by_end n true e plain later = (
       later.0,
       later.1,
@@ -101,7 +85,7 @@ held_by behind (b ∷ bs) = by (behind && is_line_feed b) refl (held_by false bs
           feed behind b (bs ++ tail) e ∙ plain.2 tail
           ∙ ap (λ k. k ++ rest) (sym (ap (lines_behind behind) (keeps_end b bs (feed_is_end behind (is_line_feed b) (is_return b) e)) ∙ feed behind b (whole_lines bs) e)),
     )
-    by false e plain later = by_end e (is_end b) refl plain later
+    by false e plain later = by_end e (is_line_end b) refl plain later
 
 -- ---- the whole lines are determined
 

@@ -7,7 +7,7 @@ use Rattle.rdf_lines.specs.declared.format.LineFormat.{LineFormat}
 use Rattle.rdf_terms.specs.declared.quad.Quad.{Quad}
 use Rattle.rdf_lines.specs.Document as lines
 use Rattle.rdf_lines.specs.declared.format.LineFormat.TheVariants as line
-use Rattle.rdf_lines.specs.Lines.{is_line_feed, is_return}
+use Rattle.rdf_terms.specs.LineEnds.{is_line_end}
 use Rattle.rdf_lines.specs.QuadText.{quad_text}
 use Rattle.rdf_turtle.specs.Document as turtle
 use Rattle.rdf_session.specs.declared.format.Format.{Format}
@@ -27,7 +27,7 @@ is_empty (b ∷ bs) = false
 -- the lines of a text that have their end: the text up to its last line end, an LF or a CR
 abbrev pub whole_lines : List ℕ → List ℕ
 whole_lines [] = []
-whole_lines (b ∷ bs) = if (is_line_feed b || is_return b) || not (is_empty (whole_lines bs)) then b ∷ whole_lines bs else []
+whole_lines (b ∷ bs) = if is_line_end b || not (is_empty (whole_lines bs)) then b ∷ whole_lines bs else []
 
 -- What is written of a text of lines, of which this is left unread, and how it ends. No statement is left out, none is written
 -- twice.

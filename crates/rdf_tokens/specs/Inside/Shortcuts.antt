@@ -1,6 +1,6 @@
 -- Characters at which a reader needn't look further.
 use Rattle.std.specs.Prelude.{ℕ, Bool, ◌==◌, ◌||◌, not}
-use Rattle.rdf_tokens.specs.Characters.{is_line_end}
+use Rattle.rdf_terms.specs.LineEnds.{is_line_end}
 
 -- a comment goes on
 abbrev pub in_line : ℕ → Bool

@@ -4,10 +4,12 @@ use Rattle.std.specs.Char.{is_ascii_digit, is_ascii_alphabetic}
 use Rattle.rdf_tokens.specs.declared.token.Kind.{Kind}
 use Rattle.rdf_tokens.specs.declared.token.Kind.TheVariants.{Iri, Pname, BlankLabel, AtWord, Text, Integer, Decimal, Double, Var, Word, Symbol}
 use Rattle.rdf_terms.specs.Characters.{is_pn_chars_base, is_pn_chars}
+use Rattle.rdf_terms.specs.LineEnds.{is_line_end}
 use Rattle.rdf_terms.specs.Reading.{◌>>=◌, byte_count, expect, hex_at, character_at, iri_at, quoted_at}
-use Rattle.rdf_terms.specs.Skips.{skip, some_of}
+use Rattle.rdf_terms.specs.Dotted.{dotted_at}
+use Rattle.rdf_terms.specs.Skips.{some_of, one_of}
 use Rattle.rdf_terms.specs.Tags.{tag_end_at}
-use Rattle.rdf_tokens.specs.Characters.{is_white, is_line_end, is_sign, is_exponent_letter, is_word_part, is_name_start, is_variable_part, is_local_escape}
+use Rattle.rdf_tokens.specs.Characters.{is_white, is_sign, is_exponent_letter, is_word_part, is_name_start, is_variable_part, is_local_escape}
 
 abbrev pub or_else : {A : Type 0} → Option A → Option A → Option A
 or_else None other = other
@@ -133,24 +135,11 @@ variable_at cs = some_of is_name_start is_variable_part cs
 
 -- ---- dotted names
 
-abbrev pub skip_dots : List ℕ → List ℕ
-skip_dots cs = skip (λ c. c == 46) cs
+abbrev pub name_part_at : List ℕ → Option (List ℕ)
+name_part_at cs = one_of is_pn_chars cs
 
--- what follows units with dots between them: dots belong to it only where a unit follows
-unfoldable pub dotted : (List ℕ → Option (List ℕ)) → ℕ → List ℕ → List ℕ
-dotted one zero cs = cs
-dotted one (suc n) cs = or_just (option_map (dotted one n) (one (skip_dots cs))) cs
-
-unfoldable pub dotted_at : (List ℕ → Option (List ℕ)) → List ℕ → List ℕ
-dotted_at one cs = dotted one (length cs) cs
-
-unfoldable pub name_part_at : List ℕ → Option (List ℕ)
-name_part_at [] = None
-name_part_at (c ∷ cs) = if is_pn_chars c then Some cs else None
-
-unfoldable pub local_escape_at : List ℕ → Option (List ℕ)
-local_escape_at [] = None
-local_escape_at (c ∷ cs) = if is_local_escape c then Some cs else None
+abbrev pub local_escape_at : List ℕ → Option (List ℕ)
+local_escape_at cs = one_of is_local_escape cs
 
 unfoldable pub plx_at : List ℕ → Option (List ℕ)
 plx_at [] = None

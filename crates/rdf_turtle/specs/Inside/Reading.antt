@@ -1,6 +1,6 @@
 -- The grammar of Turtle (Turtle 1.1, section 6.5), a definition for each production. Where a production has alternatives the
 -- next lexeme chooses.
-use Rattle.std.specs.Prelude.{ℕ, zero, suc, Bool, true, false, List, [], ◌∷◌, Option, Some, option_to_list}
+use Rattle.std.specs.Prelude.{ℕ, zero, suc, Bool, true, false, List, [], ◌∷◌, Option, Some}
 use Rattle.rdf_turtle.specs.declared.terminal.Terminal.{Terminal}
 use Rattle.rdf_turtle.specs.declared.terminal.Terminal.TheVariants as terminal
 use Rattle.rdf_grammar.specs.declared.tree.Name.{Name}
@@ -16,7 +16,7 @@ use Rattle.rdf_grammar.specs.Steps.{◌>>=◌, ◌>>◌, ◌<$>◌, pure, none}
 use Rattle.rdf_grammar.specs.ProductionReadings as productions
 use Rattle.rdf_grammar.specs.Terminals.{peek, next_terminal}
 use Rattle.rdf_turtle.specs.Grammar.{bound, property_with, all_of}
-use Rattle.rdf_turtle.specs.Lexemes.{Lexemes, Reading, sees, the, value}
+use Rattle.rdf_turtle.specs.Lexemes.{Lexemes, Reading, the, value, separated, separated_loosely}
 use Rattle.rdf_turtle.specs.Terminals.{word}
 use Rattle.rdf_grammar.specs.Readings.{any, one, optional, repeat, is_more}
 
@@ -74,10 +74,7 @@ begins_subject _ = false
 module _ (node : Reading Node) where
   -- objectList = object ( "," object )*
   unfoldable pub objects : Reading (List Node)
-  objects = do
-    first ← node
-    others ← repeat (sees terminal.Comma) (one (the terminal.Comma >> node))
-    pure (first ∷ others)
+  objects = separated terminal.Comma node
 
   -- verb objectList
   unfoldable pub property : Reading Property
@@ -90,16 +87,9 @@ module _ (node : Reading Node) where
   unfoldable pub optional_property : Reading (Option Property)
   optional_property = optional sees_verb property
 
-  -- ";" ( verb objectList )?
-  abbrev pub more : Reading (List Property)
-  more = the terminal.Semicolon >> (option_to_list <$> optional_property)
-
   -- predicateObjectList = verb objectList ( ";" ( verb objectList )? )*
   unfoldable pub predicate_object_list : Reading (List Property)
-  predicate_object_list = do
-    first ← property
-    others ← repeat (sees terminal.Semicolon) more
-    pure (first ∷ others)
+  predicate_object_list = separated_loosely terminal.Semicolon sees_verb property
 
   -- predicateObjectList?
   unfoldable pub optional_predicate_object_list : Reading (List Property)

@@ -9,15 +9,15 @@ use Rattle.rdf_turtle.specs.declared.tree.Node.{Node}
 use Rattle.rdf_turtle.specs.declared.tree.Node.TheVariants as n
 
 -- the outcome is missing, but where memory was wanting
-abbrev pub Fails : {A : Type 0} → Option A → PrologueFault → Type 0
-Fails outcome (NoMemory e) = Unit {0}
-Fails outcome (Relative start) = outcome ≡ None
-Fails outcome (UnknownPrefix start) = outcome ≡ None
+abbrev pub Lacks : {A : Type 0} → Option A → PrologueFault → Type 0
+Lacks outcome (NoMemory e) = Unit {0}
+Lacks outcome (Relative start) = outcome ≡ None
+Lacks outcome (UnknownPrefix start) = outcome ≡ None
 
 -- what is answered, and the state that is left: the step's outcome, unless memory was wanting
-abbrev pub Gives : {S A : Type 0} → Outcome S A → Result A PrologueFault → S → Type 0
-Gives outcome (Ok a) new = outcome ≡ Some (a, new)
-Gives outcome (Err e) new = Fails outcome e
+abbrev pub Answers : {S A : Type 0} → Outcome S A → Result A PrologueFault → S → Type 0
+Answers outcome (Ok a) new = outcome ≡ Some (a, new)
+Answers outcome (Err e) new = Lacks outcome e
 
 -- each prefix is declared of a node but for those inside it
 abbrev pub known_leaf : List (List ℕ) → Node → Bool

@@ -1,15 +1,9 @@
-use Rattle.std.proofs.Common.{sym, ap, ◌∙◌}
-use Rattle.rdf_lines.specs.Reading.{label_part_at}
-use Rattle.rdf_lines.proofs.BlankLabelLemmas.{label_less, label_step, label_stop}
+use Rattle.std.proofs.Common.{rules, of_calls}
+use Rattle.rdf_lines.proofs.BlankLabelLemmas.{part_at, part_shortens}
 use Rattle.rdf_lines.proofs.name.label_rest.Goals as goal
 
-pub loop-behind-smaller : goal.loop-behind-smaller
-loop-behind-smaller c = label_less c.loop-behind.rest c.in-Some.behind (ap label_part_at (sym c.skip_dots.ensures) ∙ sym c.in-Some.ensures)
-
-pub loop-behind-preserved : goal.loop-behind-preserved
-loop-behind-preserved c =
-    sym (label_step c.loop-behind.rest c.in-Some.behind (ap label_part_at (sym c.skip_dots.ensures) ∙ sym c.in-Some.ensures)) ∙ c.loop-behind.invariant
+pub dotted-requires : goal.dotted-requires
+dotted-requires c κs = (search rules, (search of_calls, (part_at, record { answered = λ cs answer h. search rules; shorter = part_shortens })))
 
 pub returns : goal.returns
-returns c =
-    sym (label_stop c.loop-behind.rest (ap label_part_at (sym c.skip_dots.ensures) ∙ sym c.in_default.ensures)) ∙ c.loop-behind.invariant
+returns c = c.dotted.ensures part_at (record { answered = λ cs answer h. search rules; shorter = part_shortens })

@@ -1,5 +1,6 @@
 use Rattle.std.proofs.Common.{List, ℕ, ap, sym, ◌∙◌}
-use Rattle.rdf_tokens.specs.Inside.TokenReading.{dotted_at, local_part_at}
+use Rattle.rdf_terms.specs.Dotted.{dotted_at}
+use Rattle.rdf_tokens.specs.Inside.TokenReading.{local_part_at}
 use Rattle.rdf_tokens.proofs.TokenRuns.{local_over_word}
 use Rattle.rdf_tokens.proofs.TokenStops.{local_is_word}
 use Rattle.rdf_tokens.proofs.dotted.local_rest.Goals as goal

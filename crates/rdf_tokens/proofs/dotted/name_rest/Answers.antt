@@ -1,5 +1,6 @@
 use Rattle.std.proofs.Common.{List, ℕ, ap, sym, ◌∙◌}
-use Rattle.rdf_tokens.specs.Inside.TokenReading.{dotted_at, name_part_at}
+use Rattle.rdf_terms.specs.Dotted.{dotted_at}
+use Rattle.rdf_tokens.specs.Inside.TokenReading.{name_part_at}
 use Rattle.rdf_tokens.proofs.TokenRuns.{name_over_word}
 use Rattle.rdf_tokens.proofs.TokenStops.{name_is_word}
 use Rattle.rdf_tokens.proofs.dotted.name_rest.Goals as goal

@@ -1,20 +1,10 @@
-use Rattle.std.proofs.Common.{List, ℕ, sym, ap, ◌∙◌}
-use Rattle.rdf_tokens.specs.Inside.TokenReading.{dotted_at, name_part_at}
-use Rattle.rdf_tokens.proofs.TokenRuns.{name_over_word, behind_word}
-use Rattle.rdf_tokens.proofs.TokenUnits.{unit_less, dotted_step, dotted_stop, name_unit}
+use Rattle.std.proofs.Common.{rules, of_calls, ◌∙◌}
+use Rattle.rdf_tokens.specs.Inside.TokenReading.{name_part_at}
+use Rattle.rdf_tokens.proofs.TokenRuns.{with_word, name_shortens, name_units}
 use Rattle.rdf_tokens.proofs.dotted.name_units.Goals as goal
 
-pub loop-behind-smaller : goal.loop-behind-smaller
-loop-behind-smaller c =
-    behind_word c.loop-behind.rest c.in-Some.behind c.skip_word-rest.result
-    (unit_less name_part_at name_unit c.loop-behind.rest c.in-Some.behind (ap name_part_at (sym c.skip_dots.ensures) ∙ sym c.in-Some.ensures))
-    c.skip_word-rest.ensures
-
-pub loop-behind-preserved : goal.loop-behind-preserved
-loop-behind-preserved c =
-    ap (λ (t : List ℕ). dotted_at name_part_at t) c.skip_word-rest.ensures ∙ name_over_word c.in-Some.behind
-    ∙ sym (dotted_step name_part_at name_unit c.loop-behind.rest c.in-Some.behind (ap name_part_at (sym c.skip_dots.ensures) ∙ sym c.in-Some.ensures)) ∙ c.loop-behind.invariant
+pub dotted-requires : goal.dotted-requires
+dotted-requires c κs = (search rules, (search of_calls, (with_word name_part_at, record { answered = λ cs answer h. search rules; shorter = name_shortens })))
 
 pub returns : goal.returns
-returns c =
-    sym (dotted_stop name_part_at c.loop-behind.rest (ap name_part_at (sym c.skip_dots.ensures) ∙ sym c.in_default.ensures)) ∙ c.loop-behind.invariant
+returns c = c.dotted.ensures (with_word name_part_at) (record { answered = λ cs answer h. search rules; shorter = name_shortens }) ∙ name_units c.args.cursor.now

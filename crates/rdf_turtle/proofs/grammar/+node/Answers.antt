@@ -1,10 +1,9 @@
 use Rattle.std.proofs.Common.{arith, sym}
 use Rattle.std.proofs.lemmas.Result.{err_from_is_err_and}
 use Rattle.rdf_turtle.specs.declared.terminal.Terminal.TheVariants as terminal
-use Rattle.rdf_turtle.specs.Inside.Reading.{node, objects, predicate_object_list}
+use Rattle.rdf_turtle.specs.Inside.Reading.{begins_node, node, objects, optional_property, property, predicate_object_list, sees_verb}
 use Rattle.rdf_grammar.proofs.Repeats.{grown_starts, grown_on, going_fails, fails_on, fails_first, fails_then, deeper, one_reads, none_pushed, one_pushed}
-use Rattle.rdf_grammar.proofs.Terminals.{grown_behind, grown_fails_behind}
-use Rattle.rdf_turtle.proofs.GrammarLists.{node_seen, sees_some, more_reads, more_fails}
+use Rattle.rdf_grammar.proofs.Terminals.{grown_behind, grown_fails_behind, maybe_reads, looked, maybe_fails, seen_more}
 use Rattle.rdf_turtle.proofs.grammar.+node.Goals as goal
 use Rattle.rdf_turtle.specs.Terminals.{same_terminal}
 
@@ -41,7 +40,7 @@ collection-loop-items-init t c = rw c.new-items.ensures record { grown = grown_s
 
 pub collection-loop-items-preserved : goal.collection-loop-items-preserved
 collection-loop-items-preserved t c =
-    let seen = node_seen c.loop-items.parser c.peek.ensures c.loop-items-test.ensures in
+    let seen = looked begins_node c.loop-items.parser c.peek.ensures c.loop-items-test.ensures in
     record {
       grown = grown_on _ _ _ c.loop-items.invariant.grown seen (one_reads (node c.args.depth) _ _ _ c.in_ok-node.ensures.reads) c.in_ok-node.ensures.shorter c.in_ok-push.ensures.ok;
       shorter = omega (arith, c.in_ok-node.ensures.shorter);
@@ -53,26 +52,28 @@ pub predicate_object_list-loop-parser-init : goal.predicate_object_list-loop-par
 predicate_object_list-loop-parser-init t c = record { grown = grown_starts _ _ _ _; shorter = omega arith }
 
 pub predicate_object_list-returns-in_err-property-2-clause-reads : goal.predicate_object_list-returns-in_err-property-2-clause-reads
-unfolding predicate_object_list
+unfolding predicate_object_list optional_property
 predicate_object_list-returns-in_err-property-2-clause-reads t c =
     let seen = sym c.loop-parser-test.ensures.found in
     let p = err_from_is_err_and c.from_residual-in_err-property-2.result c.from_residual-in_err-property-2.ensures.1 in
     rw (p.1, p.2) (fails_then _ _ _ _ _ c.in_ok-property.ensures.reads (fails_first _ _ _ (fails_on _ c.in_err-property-2.ensures.reads
-    (λ none. going_fails c.loop-parser.invariant.grown.going (sees_some terminal.Semicolon _ seen) seen (more_fails (node c.args.depth) _ _ seen c.loop-parser-test.ensures.left none)))))
+    (λ none. going_fails c.loop-parser.invariant.grown.going (seen_more same_terminal terminal.Semicolon _ seen) seen (maybe_fails same_terminal terminal.Semicolon sees_verb (property (node c.args.depth)) _ _ seen c.loop-parser-test.ensures.left none)))))
 
 pub predicate_object_list-loop-parser-preserved-in_ok-push-2 : goal.predicate_object_list-loop-parser-preserved-in_ok-push-2
+unfolding optional_property
 predicate_object_list-loop-parser-preserved-in_ok-push-2 t c =
     let seen = sym c.loop-parser-test.ensures.found in
-    let read = more_reads (node c.args.depth) _ _ _ _ seen c.loop-parser-test.ensures.left c.in_ok-property-2.ensures.reads in
+    let read = maybe_reads same_terminal terminal.Semicolon sees_verb (property (node c.args.depth)) _ _ _ _ seen c.loop-parser-test.ensures.left c.in_ok-property-2.ensures.reads in
     record {
       grown = grown_on _ _ _ c.loop-parser.invariant.grown seen read (omega (arith, c.in_ok-property-2.ensures.shorter, c.loop-parser-test.ensures.shorter)) (one_pushed _ _ _ _ c.in_ok-push-2.ensures.ok c.in-Some.is);
       shorter = omega (arith, c.in_ok-property-2.ensures.shorter, c.loop-parser-test.ensures.shorter);
     }
 
 pub predicate_object_list-loop-parser-preserved : goal.predicate_object_list-loop-parser-preserved
+unfolding optional_property
 predicate_object_list-loop-parser-preserved t c =
     let seen = sym c.loop-parser-test.ensures.found in
-    let read = more_reads (node c.args.depth) _ _ _ _ seen c.loop-parser-test.ensures.left c.in_ok-property-2.ensures.reads in
+    let read = maybe_reads same_terminal terminal.Semicolon sees_verb (property (node c.args.depth)) _ _ _ _ seen c.loop-parser-test.ensures.left c.in_ok-property-2.ensures.reads in
     record {
       grown = grown_on _ _ _ c.loop-parser.invariant.grown seen read (omega (arith, c.in_ok-property-2.ensures.shorter, c.loop-parser-test.ensures.shorter)) (none_pushed _ _ c.in_default.is);
       shorter = omega (arith, c.in_ok-property-2.ensures.shorter, c.loop-parser-test.ensures.shorter);

@@ -1,6 +1,8 @@
 use Rattle.std.proofs.Common.{◌≤◌, ◌+◌, ◌*◌, length}
 use Rattle.rdf_turtle.specs.declared.terminal.Terminal.TheVariants as terminal
 use Rattle.rdf_grammar.specs.Steps.{◌>>◌}
+use Rattle.rdf_grammar.specs.Terminals.{maybe_behind}
+use Rattle.rdf_turtle.specs.Terminals.{same_terminal}
 use Rattle.rdf_turtle.specs.Lexemes.{sees, the}
 use Rattle.rdf_grammar.specs.Readings.{one, repeat}
 use Rattle.rdf_turtle.specs.Inside.Reading as spec
@@ -48,7 +50,7 @@ abbrev pub decreases-objects-loop-all : goal.decreases-objects-loop-all
 decreases-objects-loop-all l = length l.parser
 
 abbrev pub invariant-predicate_object_list-loop-parser : goal.invariant-predicate_object_list-loop-parser
-invariant-predicate_object_list-loop-parser l = let p = spec.more (spec.node l.depth) in record {
+invariant-predicate_object_list-loop-parser l = let p = maybe_behind same_terminal terminal.Semicolon spec.sees_verb (spec.property (spec.node l.depth)) in record {
   grown : Grown (sees terminal.Semicolon) p (repeat (sees terminal.Semicolon) p l.initial.parser) l.initial.all l.all l.parser;
   shorter : length l.parser ≤ length l.initial.parser;
 }

@@ -1,6 +1,8 @@
 use Rattle.std.proofs.Common.{◌≤◌, ◌+◌, ◌*◌, length}
 use Rattle.sparql_terminals.specs.declared.terminal.Terminal.TheVariants as terminal
 use Rattle.rdf_grammar.specs.Steps.{◌>>◌}
+use Rattle.rdf_grammar.specs.Terminals.{maybe_behind}
+use Rattle.sparql_terminals.specs.Terminals.{same_terminal}
 use Rattle.sparql_terminals.specs.Lexemes.{sees, the}
 use Rattle.rdf_grammar.specs.Readings.{one, repeat}
 use Rattle.sparql_grammar.specs.Reading as spec
@@ -45,7 +47,7 @@ abbrev pub decreases-objects-loop-all : goal.decreases-objects-loop-all
 decreases-objects-loop-all l = length l.parser
 
 abbrev pub invariant-property_list_not_empty-loop-parser : goal.invariant-property_list_not_empty-loop-parser
-invariant-property_list_not_empty-loop-parser l = let p = spec.more (spec.node l.depth) in record {
+invariant-property_list_not_empty-loop-parser l = let p = maybe_behind same_terminal terminal.Semicolon spec.sees_verb (spec.property (spec.node l.depth)) in record {
   grown : Grown (sees terminal.Semicolon) p (repeat (sees terminal.Semicolon) p l.initial.parser) l.initial.all l.all l.parser;
   shorter : length l.parser ≤ length l.initial.parser;
 }
