@@ -25,7 +25,9 @@ use std::marker::Model;
 #[derive(Drop)]
 pub struct Parser<'l, 'a, T: Terminal> {
     alloc: Global,
-    next: Option<Lexeme<'a, T>>,
+    // the next lexeme's terminal, if there is one, and then its text
+    terminal: Option<T>,
+    text: Slice<'a>,
     rest: Rest<'l, 'a, T>,
 }
 
@@ -36,9 +38,9 @@ impl<'l, 'a, T: Terminal> Model for Parser<'l, 'a, T> {
 
     ghost Value = { Lexemes T };
 
-    ghost view = { λ p. ahead p.next p.rest };
+    ghost view = { λ p. ahead p.terminal p.text p.rest };
 
-    ghost invariant = { λ p. length (ahead p.next p.rest) ≤ most };
+    ghost invariant = { λ p. length (ahead p.terminal p.text p.rest) ≤ most };
 }
 
 // A cursor before the first of these lexemes.
@@ -46,8 +48,20 @@ fn before<'l, 'a, T: Terminal>(alloc: Global, mut rest: Rest<'l, 'a, T>) -> Pars
     requires { length rest ≤ most }
     ensures { result ≡ rest.entry }
 {
-    let next = rest.take();
-    Parser { alloc, next, rest }
+    match rest.take() {
+        None => Parser {
+            alloc,
+            terminal: None,
+            text: Slice::new("", 0),
+            rest,
+        },
+        Some(Lexeme { terminal, text }) => Parser {
+            alloc,
+            terminal: Some(terminal),
+            text,
+            rest,
+        },
+    }
 }
 
 impl<'a, T: Terminal> Parser<'a, 'a, T> {
@@ -78,7 +92,7 @@ impl<'l, 'a, T: Terminal> Parser<'l, 'a, T> {
     pub fn left(&self) -> usize
         ensures { result ≡ length self.now }
     {
-        match &self.next {
+        match self.terminal {
             None => 0,
             Some(_) => 1 + self.rest.count(),
         }
@@ -88,7 +102,7 @@ impl<'l, 'a, T: Terminal> Parser<'l, 'a, T> {
     pub fn is_more(&self) -> bool
         ensures { result ≡ is_more self.now }
     {
-        match &self.next {
+        match self.terminal {
             None => false,
             Some(_) => true,
         }
@@ -98,10 +112,7 @@ impl<'l, 'a, T: Terminal> Parser<'l, 'a, T> {
     pub fn peek(&self) -> Option<T>
         ensures { result ≡ spec.next_terminal self.now }
     {
-        match &self.next {
-            None => None,
-            Some(lexeme) => Some(lexeme.terminal),
-        }
+        self.terminal.as_ref().copied()
     }
 
     /// The terminal of the lexeme behind the next.
@@ -122,9 +133,9 @@ impl<'l, 'a, T: Terminal> Parser<'l, 'a, T> {
     pub fn sees(&self, terminal: T) -> bool
         ensures { result ≡ spec.sees T.same terminal self.now }
     {
-        match &self.next {
+        match self.terminal {
             None => false,
-            Some(lexeme) => lexeme.terminal.same(terminal),
+            Some(next) => next.same(terminal),
         }
     }
 
@@ -133,7 +144,13 @@ impl<'l, 'a, T: Terminal> Parser<'l, 'a, T> {
         ensures { self.new ≡ next self.old }
     {
         if self.is_more() {
-            self.next = self.rest.take();
+            match self.rest.take() {
+                None => self.terminal = None,
+                Some(Lexeme { terminal, text }) => {
+                    self.terminal = Some(terminal);
+                    self.text = text;
+                }
+            }
         }
     }
 
@@ -141,9 +158,9 @@ impl<'l, 'a, T: Terminal> Parser<'l, 'a, T> {
     fn text(&self) -> Slice<'a>
         ensures { result ≡ spec.next_text self.now }
     {
-        match &self.next {
+        match self.terminal {
             None => Slice::new("", 0),
-            Some(lexeme) => lexeme.text.fork(),
+            Some(_) => self.text.fork(),
         }
     }
 
@@ -203,9 +220,9 @@ impl<'l, 'a, T: Words> Parser<'l, 'a, T> {
     pub fn peek_word(&self) -> Option<Word>
         ensures { result ≡ words.next_word T.word self.now }
     {
-        match &self.next {
+        match self.terminal {
             None => None,
-            Some(lexeme) => lexeme.terminal.word(),
+            Some(next) => next.word(),
         }
     }
 
