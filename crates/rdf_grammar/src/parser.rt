@@ -155,6 +155,7 @@ impl<'l, 'a, T: Terminal> Parser<'l, 'a, T> {
     }
 
     // The next lexeme's characters.
+    #[inline(always)]
     fn text(&self) -> Slice<'a>
         ensures { result ≡ spec.next_text self.now }
     {
@@ -200,6 +201,7 @@ impl<'l, 'a, T: Terminal> Parser<'l, 'a, T> {
     /// # Errors
     /// `Syntax` where it isn't; it is then still the next.
     #[tactic(auto, unfolding(crate::specs::Terminals::value))]
+    #[inline(always)]
     pub fn value(&mut self, terminal: T) -> Result<Slice<'a>, GrammarFault>
         ensures reads { Reads (spec.value T.same terminal self.old) result self.new }
         ensures fault { IfErr result (λ e. e ≡ Syntax) }
@@ -241,6 +243,7 @@ impl<'l, 'a, T: Words> Parser<'l, 'a, T> {
     /// # Errors
     /// `Syntax` where it isn't; it is then still the next.
     #[tactic(auto, unfolding(crate::specs::Words::value))]
+    #[inline(always)]
     pub fn word(&mut self, word: Word) -> Result<Slice<'a>, GrammarFault>
         ensures reads { Reads (words.value T.word word self.old) result self.new }
         ensures fault { IfErr result (λ e. e ≡ Syntax) }
