@@ -170,10 +170,5 @@ module _ {T : Type 0} (terminal : Kind → List ℕ → T) where
 
 -- ---- the next one ahead
 
-pub fits_ahead : {X : Type 0} (size : ℕ) (next : Option X) (before after : List X) → length before ≤ size → MatchOption next ((before ≡ []) × (after ≡ [])) (λ first. before ≡ first ∷ after)
-    → length (ahead next after) ≤ size
-fits_ahead size None before after fits h = omega arith
-fits_ahead size (Some x) before after fits h = omega (arith, fits, ap length h)
-
-pub text_none : {T : Type 0} (next : Option (Lexeme T)) (rest view : Lexemes T) (piece : List ℕ) → ahead next rest ≡ view → next ≡ None → piece ≡ chars [] → piece ≡ next_text view
-text_none {T = T} next rest view piece is none e = e ∙ chars-nil ∙ ap next_text (ap (λ (o : Option (Lexeme T)). ahead o rest) (sym none) ∙ is)
+pub text_none : {T : Type 0} (next : Option T) (text : List ℕ) (rest view : Lexemes T) (piece : List ℕ) → ahead next text rest ≡ view → next ≡ None → piece ≡ chars [] → piece ≡ next_text view
+text_none {T = T} next text rest view piece is none e = e ∙ chars-nil ∙ ap next_text (ap (λ (o : Option T). ahead o text rest) (sym none) ∙ is)

@@ -1,14 +1,11 @@
 -- The IRIs of references and names.
-use Rattle.std.proofs.Common.{◌≡◌, ◌↔◌, ◌∙◌, ap, refl, sym, subst, ℕ, Bool, true, false, ◌&&◌, ◌||◌, not, List, ◌++◌, Option, Some, Result, Ok, Err, IsTrue, true≢false}
-use Rattle.std.specs.Prelude.{IsErrOf}
+use Rattle.std.proofs.Common.{◌≡◌, ◌∙◌, ap, refl, sym, subst, ℕ, Bool, true, false, ◌&&◌, ◌||◌, not, List, ◌++◌, Option, Some, None, IsTrue, true≢false}
+use Rattle.std.specs.Prelude.{if◌then◌else◌}
 use Rattle.std.proofs.lemmas.Bool.{and_parts}
 use Rattle.std.proofs.lemmas.List.Folds.{list_any-append}
 use Rattle.std.specs.Str.{is_utf8}
 use Rattle.rdf_terms.specs.Iri.{is_iri, is_forbidden, has_scheme, has_forbidden}
-use Rattle.rdf_terms.specs.Names.{no_memory}
 use Rattle.rdf_terms.specs.Resolution.{Means}
-use Rattle.rdf_terms.specs.declared.fault.IriFault.{IriFault}
-use Rattle.rdf_terms.specs.declared.fault.IriFault.TheVariants as fault
 use Rattle.rdf_grammar.specs.Prologue.{Prologue, resolved}
 use Rattle.rdf_tokens.specs.Values.{iri_value}
 use Rattle.rdf_grammar.proofs.ScopeReferences.{resolve_found}
@@ -37,11 +34,6 @@ behind_iri iri more h allowed =
     let q = and_parts (has_scheme iri) (not (has_forbidden iri)) p.1 in
     (has_scheme_after iri more q.0, list_any-append is_forbidden iri more ∙ neither (has_forbidden iri) (has_forbidden more) q.1 allowed)
 
--- what has a scheme and no forbidden character is taken for an IRI
-pub never_refused : {A : Type 0} (r : Result A IriFault) (text : List ℕ) → has_scheme text ≡ true → has_forbidden text ≡ false
-    → (IsErrOf r fault.Relative ↔ (has_scheme text ≡ false)) → (IsErrOf r fault.BadCharacter ↔ IsTrue (has_scheme text && has_forbidden text)) → (IsErrOf r no_memory → ⊥)
-    → ((x : A) → r ≡ Ok x → ⊥) → ⊥
-never_refused (Ok x) text scheme allowed relative bad memory not_ok = not_ok x refl
-never_refused (Err fault.Relative) text scheme allowed relative bad memory not_ok = true≢false (sym scheme ∙ relative.0 refl)
-never_refused (Err fault.BadCharacter) text scheme allowed relative bad memory not_ok = true≢false (sym (and_parts (has_scheme text) (has_forbidden text) (bad.0 refl)).1 ∙ allowed)
-never_refused (Err (fault.NoMemory _)) text scheme allowed relative bad memory not_ok = memory refl
+-- what has a scheme is taken for an IRI
+pub taken : (o : Option (List ℕ)) (text : List ℕ) → has_scheme text ≡ true → o ≡ (if has_scheme text then Some text else None) → o ≡ Some text
+taken o text scheme e = e ∙ rw scheme refl

@@ -2,7 +2,7 @@
 ghost use Rattle.std.specs.Prelude.{◌≡◌, IfOk, IfSome};
 ghost use Rattle.rdf_grammar.specs.Literals as spec;
 
-use crate::names::place_of;
+use crate::names::mark_of;
 use rdf_terms::{Iri, Literal, NoMemory, Text};
 use std::alloc::Global;
 
@@ -12,11 +12,18 @@ const PLACES: usize = 256;
 /// How many bytes of a lexical form are looked up at most.
 const LONGEST: usize = 32;
 
+// A literal, and the mark of its lexical form.
+#[derive(Drop)]
+struct KeptLiteral {
+    mark: usize,
+    literal: Literal,
+}
+
 /// Literals without a tag that were told, so that the next with the same lexical form and datatype
 /// shares their parts. Of those with one place the last is kept.
 #[derive(Drop)]
 pub(crate) struct KeptLiterals {
-    places: Vec<Option<Literal>>,
+    places: Vec<Option<KeptLiteral>>,
 }
 
 impl KeptLiterals {
@@ -29,14 +36,18 @@ impl KeptLiterals {
         Ok(KeptLiterals { places })
     }
 
-    // The literal with this lexical form and datatype that is kept at a place.
-    fn kept(&self, place: usize, lexical: &str, datatype: &Iri) -> Result<Option<Literal>, NoMemory>
+    // The literal with this lexical form and datatype that is kept with a mark.
+    fn kept(&self, mark: usize, lexical: &str, datatype: &Iri) -> Result<Option<Literal>, NoMemory>
         ensures { IfOk result (λ kept. IfSome kept
             (λ literal. literal ≡ spec.untagged lexical.now datatype.now)) }
     {
-        let Some(Some(literal)) = self.places.get(place) else {
+        let Some(Some(kept)) = self.places.get(mark % PLACES) else {
             return Ok(None);
         };
+        if kept.mark != mark {
+            return Ok(None);
+        }
+        let literal = &kept.literal;
         if literal.tag().is_none()
             && literal.lexical() == lexical
             && *literal.datatype() == *datatype
@@ -46,11 +57,11 @@ impl KeptLiterals {
         Ok(None)
     }
 
-    // Keeps a literal at a place.
-    fn keep(&mut self, place: usize, literal: &Literal) -> Result<(), NoMemory> {
-        let copy = literal.copy()?;
-        if let Some(kept) = self.places.get_mut(place) {
-            *kept = Some(copy);
+    // Keeps a literal with the mark of its lexical form.
+    fn keep(&mut self, mark: usize, literal: &Literal) -> Result<(), NoMemory> {
+        let literal = literal.copy()?;
+        if let Some(place) = self.places.get_mut(mark % PLACES) {
+            *place = Some(KeptLiteral { mark, literal });
         }
         Ok(())
     }
@@ -70,12 +81,12 @@ impl KeptLiterals {
         if lexical.as_str().len() > LONGEST {
             return Literal::from_text(alloc, lexical, datatype.copy()?);
         }
-        let place = place_of(lexical.as_str());
-        if let Some(literal) = self.kept(place, lexical.as_str(), datatype)? {
+        let mark = mark_of(lexical.as_str());
+        if let Some(literal) = self.kept(mark, lexical.as_str(), datatype)? {
             return Ok(literal);
         }
         let literal = Literal::from_text(alloc, lexical, datatype.copy()?)?;
-        self.keep(place, &literal)?;
+        self.keep(mark, &literal)?;
         Ok(literal)
     }
 
@@ -92,12 +103,12 @@ impl KeptLiterals {
     ) -> Result<Literal, NoMemory>
         ensures { IfOk result (λ literal. literal ≡ spec.untagged word.now datatype.now) }
     {
-        let place = place_of(word);
-        if let Some(literal) = self.kept(place, word, datatype)? {
+        let mark = mark_of(word);
+        if let Some(literal) = self.kept(mark, word, datatype)? {
             return Ok(literal);
         }
         let literal = Literal::new(alloc, word, datatype.copy()?)?;
-        self.keep(place, &literal)?;
+        self.keep(mark, &literal)?;
         Ok(literal)
     }
 }

@@ -34,7 +34,7 @@ fn pname(alloc: Global, front: &Iri, local: &Slice<'_>) -> Result<Iri, NoMemory>
     ensures { IfOk result (λ iri. iri ≡ front.now ++ values.local_value local.now) }
 {
     let text = joined_local(alloc, front.as_str(), local)?;
-    let Ok(iri) = Iri::from_text(text) else {
+    let Some(iri) = Iri::from_allowed(text) else {
         unreachable!()
     };
     Ok(iri)
@@ -43,27 +43,29 @@ fn pname(alloc: Global, front: &Iri, local: &Slice<'_>) -> Result<Iri, NoMemory>
 /// How many names are kept at once.
 const PLACES: usize = 256;
 
-/// How many bytes of a text its place depends on at most, beside its length and its first: the last.
+/// How many bytes of a text its mark depends on at most, beside its length and its first: the last.
 const MIXED: usize = 8;
 
-/// The place below 256 at which what is written so is kept: a local part, a tag or a lexical form. Those
-/// that begin with a digit, of which many stand once only, have places of their own.
-pub(crate) fn place_of(written: &str) -> usize {
+/// The mark of what is written so: a local part, a tag or a lexical form. Few that differ have one mark,
+/// so most are told apart without a look at what is kept. The marks of those that begin with a digit, of
+/// which many stand once only, are odd, and no others are.
+pub(crate) fn mark_of(written: &str) -> usize {
     let bytes = written.as_bytes();
     let mut mixed = bytes.len();
     for byte in &bytes[bytes.len().saturating_sub(MIXED)..] {
         mixed = mixed.wrapping_mul(31).wrapping_add(*byte as usize);
     }
-    let half = mixed % (PLACES / 2);
+    let even = mixed.wrapping_mul(2);
     match bytes.first() {
-        Some(b'0'..=b'9') => half + PLACES / 2,
-        _ => half,
+        Some(b'0'..=b'9') => even.wrapping_add(1),
+        _ => even,
     }
 }
 
-// A name: what its prefix stands for, its local part, and the IRI that it stands for.
+// A name: the mark of its local part, what its prefix stands for, the local part, and the IRI that it stands for.
 #[derive(Drop)]
 struct KeptName<'a> {
+    mark: usize,
     front: Iri,
     local: Slice<'a>,
     iri: Iri,
@@ -87,27 +89,24 @@ impl<'a> Names<'a> {
         Ok(Names { places })
     }
 
-    // The IRI of a name that is kept at a place.
-    fn kept(&self, place: usize, front: &Iri, local: &Slice<'a>) -> Result<Option<Iri>, NoMemory>
+    // The IRI of a name that is kept with a mark.
+    fn kept(&self, mark: usize, front: &Iri, local: &Slice<'a>) -> Result<Option<Iri>, NoMemory>
         ensures { IfOk result (λ kept. IfSome kept
             (λ iri. iri ≡ front.now ++ values.local_value local.now)) }
     {
-        match self.places.get(place) {
-            Some(Some(name)) => {
-                if name.local.as_str() == local.as_str() && name.front == *front {
-                    Ok(Some(name.iri.copy()?))
-                } else {
-                    Ok(None)
-                }
-            }
-            _ => Ok(None),
+        let Some(Some(name)) = self.places.get(mark % PLACES) else {
+            return Ok(None);
+        };
+        if name.mark == mark && name.local.as_str() == local.as_str() && name.front == *front {
+            return Ok(Some(name.iri.copy()?));
         }
+        Ok(None)
     }
 
-    // Keeps a name with its IRI at a place.
+    // Keeps a name with its IRI, and the mark of its local part.
     fn keep(
         &mut self,
-        place: usize,
+        mark: usize,
         front: &Iri,
         local: &Slice<'a>,
         iri: &Iri,
@@ -117,11 +116,12 @@ impl<'a> Names<'a> {
         let front = front.copy()?;
         let iri = iri.copy()?;
         let name = KeptName {
+            mark,
             front,
             local: local.fork(),
             iri,
         };
-        if let Some(kept) = self.places.get_mut(place) {
+        if let Some(kept) = self.places.get_mut(mark % PLACES) {
             *kept = Some(name);
         }
         Ok(())
@@ -141,12 +141,12 @@ impl<'a> Names<'a> {
         requires { has_forbidden (values.local_value local.now) ≡ false }
         ensures { IfOk result (λ iri. iri ≡ front.now ++ values.local_value local.now) }
     {
-        let place = place_of(local.as_str());
-        if let Some(iri) = self.kept(place, front, local)? {
+        let mark = mark_of(local.as_str());
+        if let Some(iri) = self.kept(mark, front, local)? {
             return Ok(iri);
         }
         let iri = pname(alloc, front, local)?;
-        self.keep(place, front, local, &iri)?;
+        self.keep(mark, front, local, &iri)?;
         Ok(iri)
     }
 }

@@ -25,7 +25,9 @@ use std::marker::Model;
 #[derive(Drop)]
 pub struct Parser<'l, 'a, T: Terminal> {
     alloc: Global,
-    next: Option<Lexeme<'a, T>>,
+    // the next lexeme's terminal, if there is one, and then its text
+    terminal: Option<T>,
+    text: Slice<'a>,
     rest: Rest<'l, 'a, T>,
 }
 
@@ -36,9 +38,9 @@ impl<'l, 'a, T: Terminal> Model for Parser<'l, 'a, T> {
 
     ghost Value = { Lexemes T };
 
-    ghost view = { λ p. ahead p.next p.rest };
+    ghost view = { λ p. ahead p.terminal p.text p.rest };
 
-    ghost invariant = { λ p. length (ahead p.next p.rest) ≤ most };
+    ghost invariant = { λ p. length (ahead p.terminal p.text p.rest) ≤ most };
 }
 
 // A cursor before the first of these lexemes.
@@ -46,8 +48,20 @@ fn before<'l, 'a, T: Terminal>(alloc: Global, mut rest: Rest<'l, 'a, T>) -> Pars
     requires { length rest ≤ most }
     ensures { result ≡ rest.entry }
 {
-    let next = rest.take();
-    Parser { alloc, next, rest }
+    match rest.take() {
+        None => Parser {
+            alloc,
+            terminal: None,
+            text: Slice::new("", 0),
+            rest,
+        },
+        Some(Lexeme { terminal, text }) => Parser {
+            alloc,
+            terminal: Some(terminal),
+            text,
+            rest,
+        },
+    }
 }
 
 impl<'a, T: Terminal> Parser<'a, 'a, T> {
@@ -78,7 +92,7 @@ impl<'l, 'a, T: Terminal> Parser<'l, 'a, T> {
     pub fn left(&self) -> usize
         ensures { result ≡ length self.now }
     {
-        match &self.next {
+        match self.terminal {
             None => 0,
             Some(_) => 1 + self.rest.count(),
         }
@@ -88,7 +102,7 @@ impl<'l, 'a, T: Terminal> Parser<'l, 'a, T> {
     pub fn is_more(&self) -> bool
         ensures { result ≡ is_more self.now }
     {
-        match &self.next {
+        match self.terminal {
             None => false,
             Some(_) => true,
         }
@@ -98,10 +112,7 @@ impl<'l, 'a, T: Terminal> Parser<'l, 'a, T> {
     pub fn peek(&self) -> Option<T>
         ensures { result ≡ spec.next_terminal self.now }
     {
-        match &self.next {
-            None => None,
-            Some(lexeme) => Some(lexeme.terminal),
-        }
+        self.terminal.as_ref().copied()
     }
 
     /// The terminal of the lexeme behind the next.
@@ -122,9 +133,9 @@ impl<'l, 'a, T: Terminal> Parser<'l, 'a, T> {
     pub fn sees(&self, terminal: T) -> bool
         ensures { result ≡ spec.sees T.same terminal self.now }
     {
-        match &self.next {
+        match self.terminal {
             None => false,
-            Some(lexeme) => lexeme.terminal.same(terminal),
+            Some(next) => next.same(terminal),
         }
     }
 
@@ -133,17 +144,24 @@ impl<'l, 'a, T: Terminal> Parser<'l, 'a, T> {
         ensures { self.new ≡ next self.old }
     {
         if self.is_more() {
-            self.next = self.rest.take();
+            match self.rest.take() {
+                None => self.terminal = None,
+                Some(Lexeme { terminal, text }) => {
+                    self.terminal = Some(terminal);
+                    self.text = text;
+                }
+            }
         }
     }
 
     // The next lexeme's characters.
+    #[inline(always)]
     fn text(&self) -> Slice<'a>
         ensures { result ≡ spec.next_text self.now }
     {
-        match &self.next {
+        match self.terminal {
             None => Slice::new("", 0),
-            Some(lexeme) => lexeme.text.fork(),
+            Some(_) => self.text.fork(),
         }
     }
 
@@ -183,6 +201,7 @@ impl<'l, 'a, T: Terminal> Parser<'l, 'a, T> {
     /// # Errors
     /// `Syntax` where it isn't; it is then still the next.
     #[tactic(auto, unfolding(crate::specs::Terminals::value))]
+    #[inline(always)]
     pub fn value(&mut self, terminal: T) -> Result<Slice<'a>, GrammarFault>
         ensures reads { Reads (spec.value T.same terminal self.old) result self.new }
         ensures fault { IfErr result (λ e. e ≡ Syntax) }
@@ -203,9 +222,9 @@ impl<'l, 'a, T: Words> Parser<'l, 'a, T> {
     pub fn peek_word(&self) -> Option<Word>
         ensures { result ≡ words.next_word T.word self.now }
     {
-        match &self.next {
+        match self.terminal {
             None => None,
-            Some(lexeme) => lexeme.terminal.word(),
+            Some(next) => next.word(),
         }
     }
 
@@ -224,6 +243,7 @@ impl<'l, 'a, T: Words> Parser<'l, 'a, T> {
     /// # Errors
     /// `Syntax` where it isn't; it is then still the next.
     #[tactic(auto, unfolding(crate::specs::Words::value))]
+    #[inline(always)]
     pub fn word(&mut self, word: Word) -> Result<Slice<'a>, GrammarFault>
         ensures reads { Reads (words.value T.word word self.old) result self.new }
         ensures fault { IfErr result (λ e. e ≡ Syntax) }

@@ -16,6 +16,7 @@ use rdf_tokens::{Slice, name_parts};
 /// # Errors
 /// `Syntax` where neither comes next; nothing is taken then.
 #[tactic(auto, unfolding(crate::specs::ProductionReadings::iri))]
+#[inline(always)]
 pub fn iri<'a, T: Words>(parser: &mut Parser<'_, 'a, T>) -> Result<Name<'a>, GrammarFault>
     ensures reads { Reads (spec.iri T.word parser.old) result parser.new }
     ensures fault { IfErr result (λ e. e ≡ Syntax) }
@@ -35,6 +36,7 @@ pub fn iri<'a, T: Words>(parser: &mut Parser<'_, 'a, T>) -> Result<Name<'a>, Gra
 
 // A string, alone or with its tag or its datatype.
 #[tactic(auto, unfolding(crate::specs::ProductionReadings::text, crate::specs::Readings::any))]
+#[inline(always)]
 fn text<'a, T: Words>(parser: &mut Parser<'_, 'a, T>) -> Result<Literal<'a>, GrammarFault>
     ensures reads { Reads (spec.text T.word parser.old) result parser.new }
     ensures fault { IfErr result (λ e. e ≡ Syntax) }
@@ -56,6 +58,7 @@ fn text<'a, T: Words>(parser: &mut Parser<'_, 'a, T>) -> Result<Literal<'a>, Gra
 /// # Errors
 /// `Syntax` where none comes next.
 #[tactic(auto, unfolding(crate::specs::ProductionReadings::literal))]
+#[inline(always)]
 pub fn literal<'a, T: Words>(parser: &mut Parser<'_, 'a, T>) -> Result<Literal<'a>, GrammarFault>
     ensures reads { Reads (spec.literal T.word parser.old) result parser.new }
     ensures fault { IfErr result (λ e. e ≡ Syntax) }

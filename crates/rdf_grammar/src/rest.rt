@@ -20,6 +20,7 @@ fn unread<'a, T: Terminal>() -> Lexeme<'a, T>
 }
 
 // The next lexeme of a text.
+#[inline(always)]
 fn read_lexeme<'a, T: Terminal>(text: &mut TokenReader<'a>) -> Option<Lexeme<'a, T>>
     ensures { MatchOption result
         ((lexemes_of T.of text.old ≡ []) × (lexemes_of T.of text.new ≡ []))
@@ -125,6 +126,7 @@ impl<'l, 'a, T: Terminal> Rest<'l, 'a, T> {
     }
 
     /// Takes the first.
+    #[inline(always)]
     pub fn take(&mut self) -> Option<Lexeme<'a, T>>
         ensures { MatchOption result ((self.old ≡ []) × (self.new ≡ []))
             (λ first. self.old ≡ first ∷ self.new) }

@@ -4,7 +4,7 @@ ghost use Rattle.std.specs.Str.{str_to_ascii_lowercase};
 ghost use Rattle.rdf_terms.specs.Literal.{lang_string, is_tag, tagged};
 ghost use Rattle.rdf_tokens.specs.Values as values;
 
-use crate::names::place_of;
+use crate::names::mark_of;
 use rdf_terms::{Literal, NoMemory, Text};
 use rdf_tokens::{Slice, tag_value, text_value};
 use std::alloc::Global;
@@ -19,6 +19,11 @@ struct KeptTag<'a> {
     literal: Literal,
     ghost datatype_is: { literal.datatype ≡ lang_string },
     ghost tag_is: { literal.tag ≡ Some (str_to_ascii_lowercase (values.tag_value tag)) },
+}
+
+// The place of a tag, whose mark is even.
+fn place_of(tag: &Slice<'_>) -> usize {
+    mark_of(tag.as_str()) / 2 % PLACES
 }
 
 /// Tags that were looked at, each with a literal that has it. A literal whose tag is kept shares the
@@ -44,7 +49,7 @@ impl<'a> Tags<'a> {
         ensures tag { let lowered = str_to_ascii_lowercase (values.tag_value tag.now) in
             IfSome result (λ l. l.now.tag ≡ Some lowered) }
     {
-        match self.places.get(place_of(tag.as_str()) % PLACES) {
+        match self.places.get(place_of(tag)) {
             Some(Some(kept)) => {
                 if kept.tag.as_str() == tag.as_str() {
                     Some(&kept.literal)
@@ -67,7 +72,7 @@ impl<'a> Tags<'a> {
             tag: tag.fork(),
             literal,
         };
-        if let Some(place) = self.places.get_mut(place_of(tag.as_str()) % PLACES) {
+        if let Some(place) = self.places.get_mut(place_of(tag)) {
             *place = Some(kept);
         }
         Ok(())

@@ -94,7 +94,7 @@ impl<'a> Cursor<'a> {
 
     /// The place behind characters that stand for themselves in a string between such quotes, which
     /// begin here: all of them where the quote is ASCII.
-    pub(crate) fn past_string_run(&self, quote: char) -> Cursor<'a>
+    pub fn past_string_run(&self, quote: char) -> Cursor<'a>
         ensures over { IsPast (ends_run quote) self.now result }
         ensures up_to { quote < 128 → IsStopped (ends_run quote) result }
     {

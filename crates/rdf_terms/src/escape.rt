@@ -132,7 +132,7 @@ pub fn unescape(alloc: Global, text: &str) -> Result<Option<String>, NoMemory>
     ensures { IfOk result (λ o. Unescapes text.now (option_map string_bytes o)) }
 {
     let mut rest = Cursor::new(text);
-    let mut value = String::new(alloc);
+    let mut value = String::with_capacity(alloc, text.len())?;
     while rest.peek().is_some() {
         let Some((c, behind)) = rest.character() else {
             return Ok(None);

@@ -67,7 +67,7 @@ impl Iri {
 
     /// The IRI of this text, which has no character that stands in no IRI, or `None` where it has
     /// no scheme.
-    pub(crate) fn from_allowed(text: Text) -> Option<Iri>
+    pub fn from_allowed(text: Text) -> Option<Iri>
         requires { has_forbidden text ≡ false }
         ensures { result ≡ (if has_scheme text then Some text else None) }
     {

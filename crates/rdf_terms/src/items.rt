@@ -75,6 +75,7 @@ impl<T: Drop> Items<T> {
     ///
     /// # Errors
     /// [`NoMemory`] where memory is wanting; the items are then as before.
+    #[inline(always)]
     pub fn push(&mut self, item: T) -> Result<(), NoMemory>
         ensures ok { OnOk result (self.new ≡ self.old ++ item ∷ []) }
         ensures err { OnErr result (self.new ≡ self.old) }

@@ -10,6 +10,7 @@ use crate::fault::NoMemory;
 use crate::iri::Iri;
 use crate::literal::Literal;
 use crate::term::Term;
+use itoa::Buffer;
 use std::alloc::Global;
 
 /// Appends the text of the term: an IRI between `<` and `>`, `_:b` and the number of a blank node,
@@ -17,36 +18,35 @@ use std::alloc::Global;
 ///
 /// # Errors
 /// [`NoMemory`] where memory is wanting; the vector is then as it was.
-pub fn write_term(alloc: Global, term: &Term, out: &mut Vec<u8>) -> Result<(), NoMemory>
+pub fn write_term(_alloc: Global, term: &Term, out: &mut Vec<u8>) -> Result<(), NoMemory>
     ensures ok { OnOk result (out.new.items ≡ out.old.items ++ term_text term.now) }
     ensures err { OnErr result (out.new.items ≡ out.old.items) }
 {
     let start = out.len();
-    let written = append_term(alloc, term, out);
+    let written = append_term(term, out);
     if written.is_err() {
         out.truncate(start);
     }
     written
 }
 
-fn append_term(alloc: Global, term: &Term, out: &mut Vec<u8>) -> Result<(), NoMemory>
+fn append_term(term: &Term, out: &mut Vec<u8>) -> Result<(), NoMemory>
     ensures ok { OnOk result (out.new.items ≡ out.old.items ++ term_text term.now) }
     ensures kept { take (length out.old.items) out.new.items ≡ out.old.items }
 {
     match term {
-        Term::Blank(number) => append_blank(alloc, *number, out),
+        Term::Blank(number) => append_blank(*number, out),
         Term::Iri(iri) => append_iri(iri, out),
         Term::Literal(literal) => append_literal(literal, out),
     }
 }
 
-fn append_blank(alloc: Global, number: u64, out: &mut Vec<u8>) -> Result<(), NoMemory>
+fn append_blank(number: u64, out: &mut Vec<u8>) -> Result<(), NoMemory>
     ensures ok { OnOk result (out.new.items ≡ out.old.items ++ codes "_:b" ++ decimal number) }
     ensures kept { take (length out.old.items) out.new.items ≡ out.old.items }
 {
-    let digits = number.to_string(alloc)?;
     out.extend_from_slice(b"_:b")?;
-    out.extend_from_slice(digits.as_bytes())?;
+    out.extend_from_slice(Buffer::new().format(number).as_bytes())?;
     Ok(())
 }
 

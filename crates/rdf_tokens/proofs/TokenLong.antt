@@ -1,11 +1,13 @@
 -- Long strings: the first three quotes that stand together close them.
-use Rattle.std.proofs.Common.{◌≡◌, ◌≢◌, ◌⊎◌, ◌<◌, ◌≤◌, ℕ, zero, suc, eqb, List, [], ◌∷◌, ◌++◌, length, Some, None, refl, sym, ap, subst, ◌∙◌, inl, inr, append_assoc, length-append, arith}
-use Rattle.std.proofs.lemmas.Bool.{cases_Bool, eqb-true, eqb-false, ne_eqb}
+use Rattle.std.proofs.Common.{◌≡◌, ◌≢◌, ◌⊎◌, ◌||◌, ◌<◌, ◌≤◌, ℕ, zero, suc, false, eqb, List, [], ◌∷◌, ◌++◌, length, Some, None, refl, sym, ap, subst, ◌∙◌, inl, inr, append_assoc, length-append, arith}
+use Rattle.std.proofs.lemmas.Bool.{cases_Bool, eqb-true, eqb-false, ne_eqb, or_parts}
+use Rattle.std.specs.List.{list_any}
 use Rattle.rdf_tokens.specs.declared.token.Kind.TheVariants as kind
 use Rattle.rdf_terms.specs.Escapes.{IsNumericEscape, IsShortEscape, Writes}
 use Rattle.rdf_terms.specs.Quoted.{IsStringCharacter}
 use Rattle.rdf_tokens.specs.Forms.{IsLongCharacter, IsLongBody, IsLong, IsShort}
 use Rattle.rdf_terms.specs.Reading.{expect, escape_at, character_at}
+use Rattle.rdf_terms.specs.Runs.{IsPast, ends_run}
 use Rattle.rdf_tokens.specs.Inside.TokenReading.{or_else, as_kind, two_at, three_at, long_up, long_body_at, long_at, text_at}
 use Rattle.rdf_terms.proofs.OptionLemmas.{cases_Option, bind_some, some_is, some_pair, none_is}
 use Rattle.rdf_terms.proofs.QuotedLemmas.{expect_sound, expect_complete, escape_sound, escape-short, escape-numeric, numeric_begins, string_character_begins}
@@ -135,6 +137,24 @@ long_on q [] v rest e f = absurd (omega (arith, long_shrinks [] v rest e))
 long_on q (c ∷ cs) v rest e f =
     let short = long_shrinks (c ∷ cs) v rest e in
     rw (f, e) (enough q (length cs) (length rest) rest (omega (arith, short)) (omega arith))
+
+-- over characters that are no quote and no backslash
+
+over_plain : (q c : ℕ) → ends_run q c ≡ false → (c ≢ q) × (c ≢ 92)
+over_plain q c h =
+    let parts = or_parts (eqb c 92) ((eqb c q || eqb c 10) || eqb c 13) h in
+    let quote = or_parts (eqb c q) (eqb c 10) (or_parts (eqb c q || eqb c 10) (eqb c 13) parts.1).0 in
+    (eqb-false c q quote.0, eqb-false c 92 parts.0)
+
+long_over : (q : ℕ) (over stop : List ℕ) → list_any (ends_run q) over ≡ false → long_body_at q (over ++ stop) ≡ long_body_at q stop
+long_over q [] stop h = refl
+long_over q (c ∷ cs) stop h =
+    let parts = or_parts (ends_run q c) (list_any (ends_run q) cs) h in
+    let plain = over_plain q c parts.0 in
+    long_on q (c ∷ (cs ++ stop)) c (cs ++ stop) (plain_read c (cs ++ stop) plain.1) (no_three q (c ∷ (cs ++ stop)) (not_first q c (cs ++ stop) plain.0)) ∙ long_over q cs stop parts.1
+
+pub long_past : (q : ℕ) (cs stop : List ℕ) → IsPast (ends_run q) cs stop → long_body_at q cs ≡ long_body_at q stop
+long_past q cs stop past = ap (long_body_at q) past.1 ∙ long_over q past.0 stop past.2
 
 -- ---- what is read is a long string
 

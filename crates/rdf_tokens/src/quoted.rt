@@ -26,10 +26,11 @@ fn long_body<'a>(quote: char, cursor: &Cursor<'a>) -> Option<Cursor<'a>>
 {
     let mut rest = cursor.fork();
     loop {
-        if let Some(behind) = three(quote, &rest) {
+        let stop = rest.past_string_run(quote);
+        if let Some(behind) = three(quote, &stop) {
             return Some(behind);
         }
-        let (_, behind) = rest.character()?;
+        let (_, behind) = stop.character()?;
         rest = behind;
     }
 }

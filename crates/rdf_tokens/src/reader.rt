@@ -85,6 +85,7 @@ impl<'a> TokenReader<'a> {
     /// Takes the next token (Turtle 1.1, section 6.5; SPARQL 1.1 Query, section 19.8), the longest that
     /// begins behind white space and comments. Behind it the next one follows, and behind a place
     /// where none begins, nothing.
+    #[inline(always)]
     pub fn next(&mut self) -> Next<'a>
         ensures { IsNext self.old result self.new }
     {

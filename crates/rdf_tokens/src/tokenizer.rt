@@ -18,6 +18,7 @@ use rdf_terms::{Cursor, is_pn_chars_base};
 use std::alloc::Global;
 
 /// A token of this kind, where one ends.
+#[inline(always)]
 fn of_kind<'a>(kind: Kind, end: Option<Cursor<'a>>) -> Option<(Kind, Cursor<'a>)>
     ensures { result ≡ as_kind kind end.entry }
 {
@@ -26,6 +27,7 @@ fn of_kind<'a>(kind: Kind, end: Option<Cursor<'a>>) -> Option<(Kind, Cursor<'a>)
 
 /// A number, or otherwise a symbol.
 #[tactic(auto, unfolding(crate::specs::Inside::TokenReading::number_or_symbol_at))]
+#[inline(always)]
 fn number_or_symbol<'a>(cursor: &Cursor<'a>) -> Option<(Kind, Cursor<'a>)>
     ensures { result ≡ number_or_symbol_at cursor.now }
 {
@@ -36,6 +38,7 @@ fn number_or_symbol<'a>(cursor: &Cursor<'a>) -> Option<(Kind, Cursor<'a>)>
 }
 
 /// An IRI, or otherwise a symbol.
+#[inline(always)]
 fn iri_or_symbol<'a>(cursor: &Cursor<'a>) -> Option<(Kind, Cursor<'a>)>
     ensures { let iri = as_kind Iri (iri_end_at cursor.now) in
         result ≡ or_else iri (number_or_symbol_at cursor.now) }
@@ -47,6 +50,7 @@ fn iri_or_symbol<'a>(cursor: &Cursor<'a>) -> Option<(Kind, Cursor<'a>)>
 }
 
 /// A prefixed name, or otherwise a word. `nameless` is [`pname`]'s.
+#[inline(always)]
 fn pname_or_word<'a>(cursor: &Cursor<'a>, nameless: &mut usize) -> Option<(Kind, Cursor<'a>)>
     requires { NoPnameBefore cursor.now nameless.old }
     ensures token { let name = as_kind Pname (pname_at cursor.now) in
@@ -61,6 +65,7 @@ fn pname_or_word<'a>(cursor: &Cursor<'a>, nameless: &mut usize) -> Option<(Kind,
 
 /// The longest token that begins here, and the place behind it. `nameless` is [`pname`]'s.
 #[tactic(auto, unfolding(crate::specs::Inside::TokenReading::token_at))]
+#[inline(always)]
 pub(crate) fn token<'a>(cursor: &Cursor<'a>, nameless: &mut usize) -> Option<(Kind, Cursor<'a>)>
     requires { NoPnameBefore cursor.now nameless.old }
     ensures token { result ≡ token_at cursor.now }

@@ -59,6 +59,7 @@ fn begins_node(terminal: Option<Terminal>) -> bool
 }
 
 #[tactic(auto, unfolding(crate::specs::Inside::Reading::verb, rdf_grammar::specs::Readings::any))]
+#[inline(always)]
 fn verb<'a>(parser: &mut Parser<'_, 'a>) -> Result<Verb<'a>, GrammarFault>
     ensures reads { Reads (spec.verb parser.old) result parser.new }
     ensures fault { IfErr result (λ e. e ≡ Syntax) }
@@ -88,6 +89,7 @@ fn node<'a>(parser: &mut Parser<'_, 'a>, depth: usize) -> Result<Node<'a>, Gramm
 
 #[cycle(node)]
 #[tactic(auto, unfolding(crate::specs::Inside::Reading::object))]
+#[inline(always)]
 fn object<'a>(parser: &mut Parser<'_, 'a>, depth: usize) -> Result<Node<'a>, GrammarFault>
     ensures reads { Reads (spec.object (spec.node depth) parser.old) result parser.new }
     ensures shorter { OnOk result (length parser.new < length parser.old) }
@@ -101,6 +103,7 @@ fn object<'a>(parser: &mut Parser<'_, 'a>, depth: usize) -> Result<Node<'a>, Gra
 
 #[cycle(node)]
 #[tactic(auto, unfolding(crate::specs::Inside::Reading::subject))]
+#[inline(always)]
 pub fn subject<'a>(parser: &mut Parser<'_, 'a>, depth: usize) -> Result<Node<'a>, GrammarFault>
     ensures reads { Reads (spec.subject (spec.node depth) parser.old) result parser.new }
     ensures shorter { OnOk result (length parser.new < length parser.old) }
@@ -224,6 +227,7 @@ fn property<'a>(parser: &mut Parser<'_, 'a>, depth: usize) -> Result<Property<'a
 const SEVERAL: usize = 4;
 
 // The first object of a verb, with room for those behind it.
+#[inline(always)]
 fn first_object<'a>(parser: &Parser<'_, 'a>, first: Node<'a>) -> Result<Items<Node<'a>>, NoMemory>
     ensures { IfOk result (λ objects. objects ≡ first.entry ∷ []) }
 {
@@ -239,6 +243,7 @@ fn first_object<'a>(parser: &Parser<'_, 'a>, first: Node<'a>) -> Result<Items<No
 
 #[cycle(node)]
 #[tactic(auto, unfolding(crate::specs::Inside::Reading::objects))]
+#[inline(always)]
 fn objects<'a>(parser: &mut Parser<'_, 'a>, depth: usize) -> Result<Items<Node<'a>>, GrammarFault>
     ensures reads { Reads (spec.objects (spec.node depth) parser.old) result parser.new }
     ensures shorter { OnOk result (length parser.new < length parser.old) }

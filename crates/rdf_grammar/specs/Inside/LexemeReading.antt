@@ -37,10 +37,10 @@ module _ {T : Type 0} (terminal : Kind → List ℕ → T) where
   following None lexemes = lexemes
   following (Some cs) lexemes = lexemes_of cs
 
--- what comes next, and what follows it
-abbrev pub ahead : {X : Type 0} → Option X → List X → List X
-ahead None rest = []
-ahead (Some x) rest = x ∷ rest
+-- what comes next, by its terminal and its text, and what follows it
+abbrev pub ahead : {T : Type 0} → Option T → List ℕ → Lexemes T → Lexemes T
+ahead None text rest = []
+ahead (Some terminal) text rest = record { terminal = terminal; text = text } ∷ rest
 
 -- as many as can be counted
 abbrev pub most : ℕ
