@@ -1,5 +1,5 @@
 -- A term that a place of a row refuses, it refuses in each row that grows from that one.
-use Rattle.std.proofs.Common.{◌≡◌, ℕ, zero, suc, ◌<◌, Bool, true, false, cond, ◌&&◌, ◌||◌, List, [], ◌∷◌, ◌++◌, length, get_or, Option, Some, None, refl, sym, ap, ◌∙◌, is_some, subst}
+use Rattle.std.proofs.Common.{◌≡◌, ℕ, zero, suc, ◌<◌, Bool, true, false, cond, ◌&&◌, ◌||◌, List, [], ◌∷◌, length, get_or, Option, Some, None, refl, sym, ap, ◌∙◌, is_some, subst}
 use Rattle.std.specs.Prelude.{IfSome, slice_get, slice_set, option_and_then}
 use Rattle.std.specs.List.{list_all, list_any, IsLastAndRest}
 use Rattle.std.specs.Ordering.{eq_by_cmp, is_eq}

@@ -1,7 +1,5 @@
 //! Rows in order, and each once.
 ghost use Rattle.std.specs.Prelude.{◌≡◌, IfOk, OnOk, IsPermutation, IsSorted, count_by};
-ghost use Rattle.std.specs.List.{dedup};
-ghost use Rattle.std.specs.Ordering.{eq_by_cmp};
 ghost use Rattle.sparql_values.specs.Mapping.{Mapping, same_mapping};
 ghost use Rattle.sparql_algebra.specs.Order.{mapping_cmp};
 ghost use Rattle.sparql_algebra.specs.Results.{times_selected};
@@ -18,14 +16,6 @@ pub(crate) fn sort_rows(rows: &mut Vec<Row>) -> Result<(), NoMemory>
     Ok(())
 }
 
-// Rows that are the same as the one before them are left out.
-fn distinct_rows(mut rows: Vec<Row>) -> Vec<Row>
-    ensures { result.items ≡ dedup (eq_by_cmp mapping_cmp) rows.items }
-{
-    rows.dedup_by(|row, before| row.compare(before).is_eq());
-    rows
-}
-
 /// The rows sorted by their values from the left, unbound first; under DISTINCT each once.
 pub(crate) fn ordered(mut rows: Vec<Row>, distinct: bool) -> Result<Vec<Row>, NoMemory>
     ensures sorted { IfOk result (λ out. IsSorted mapping_cmp out.items) }
@@ -34,7 +24,8 @@ pub(crate) fn ordered(mut rows: Vec<Row>, distinct: bool) -> Result<Vec<Row>, No
 {
     sort_rows(&mut rows)?;
     if distinct {
-        return Ok(distinct_rows(rows));
+        rows.dedup_by(|row, before| row.compare(before).is_eq());
+        return Ok(rows);
     }
     Ok(rows)
 }

@@ -1,7 +1,7 @@
 //! Rows: mappings over the columns of a pattern (SPARQL 1.1 Query, section 18.1.4).
 ghost use Rattle.std.specs.Prelude.{◌≡◌, ◌+◌, ◌<◌, length, is_some, slice_get, slice_set, Some, IfOk, IfSome, IsTrue, cond, replicate, None, take, if◌then◌else◌, nat_lt, map};
 ghost use Rattle.std.specs.Option.{option_copied, option_map};
-ghost use Rattle.sparql_values.specs.Mapping.{agrees, first_of, compatible, merge, same_mapping, same_term, same_value, single, value_at, value_in};
+ghost use Rattle.sparql_values.specs.Mapping.{agrees, compatible, merge, same_mapping, same_term, same_value, single, value_at, value_in};
 ghost use Rattle.sparql_algebra.specs.Order.{mapping_cmp};
 ghost use Rattle.sparql_solve.specs.LookUps.{widened};
 ghost use Rattle.sparql_solve.specs.Matching.{assigned, held, vacant};
@@ -65,12 +65,6 @@ pub(crate) fn copy_value(value: Option<&Term>) -> Result<Option<Term>, NoMemory>
     })
 }
 
-fn first_of(x: &Option<Term>, y: &Option<Term>) -> Result<Option<Term>, NoMemory>
-    ensures { IfOk result (λ value. value ≡ first_of (x.now, y.now)) }
-{
-    copy_value(if x.is_some() { x.as_ref() } else { y.as_ref() })
-}
-
 impl Row {
     /// Its values in the order of the columns.
     pub fn values(&self) -> &[Option<Term>]
@@ -104,7 +98,7 @@ impl Row {
     {
         let mut values = Vec::with_capacity(alloc, self.values.len())?;
         for (x, y) in self.values.iter().zip(&other.values) {
-            values.push(first_of(x, y)?)?;
+            values.push(copy_value(x.as_ref().or(y.as_ref()))?)?;
         }
         Ok(Row { values })
     }

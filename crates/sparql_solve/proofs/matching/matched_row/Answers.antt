@@ -1,4 +1,4 @@
-use Rattle.std.proofs.Common.{◌≡◌, cond, Some, None, refl, ap, ◌∙◌}
+use Rattle.std.proofs.Common.{cond, Some, None, refl, ap, ◌∙◌}
 use Rattle.rdf_dataset.specs.State.{fits_place}
 use Rattle.sparql_algebra.proofs.CallerLemmas.{and_left, and_right}
 use Rattle.sparql_solve.specs.Matching.{held}
