@@ -1,12 +1,11 @@
 -- Rows as lists.
-use Rattle.std.proofs.Common.{◌≡◌, ℕ, ◌+◌, ◌<◌, Bool, true, false, ◌&&◌, List, [], ◌∷◌, ◌++◌, map, Option, refl, sym, ap, ◌∙◌, subst, ◌⊎◌, inl, inr, append-nil, append_assoc, arith, length, drop, get_or, nat_eq}
+use Rattle.std.proofs.Common.{◌≡◌, ℕ, ◌+◌, ◌<◌, Bool, true, false, ◌&&◌, List, [], ◌∷◌, ◌++◌, map, Option, refl, sym, ap, ◌∙◌, ◌⊎◌, inl, inr, append-nil, append_assoc, arith, length, drop, get_or, nat_eq}
 use Rattle.std.proofs.lemmas.Bool.{eqb-false}
 use Rattle.std.proofs.lemmas.List.{drop_more, length-map}
-use Rattle.std.specs.Prelude.{◌↔◌, IsTrue}
 use Rattle.std.specs.List.{list_all, zip}
 use Rattle.rdf_terms.specs.declared.term.Term.{Term}
-use Rattle.sparql_values.specs.Mapping.{Mapping, same_mapping, same_term, same_value, value_in}
-use Rattle.sparql_algebra.proofs.CallerLemmas.{same_mapping_is, same_term_is, same_term_own}
+use Rattle.sparql_values.specs.Mapping.{Mapping, same_mapping, same_value, value_in}
+use Rattle.sparql_algebra.proofs.CallerLemmas.{same_mapping_is}
 
 module _ {A B : Type 0} where
   zip_none : (xs : List A) (ys : List B) → ys ≡ [] → zip xs ys ≡ []
@@ -54,12 +53,3 @@ projected_apart m columns other e = by_test (same_mapping (map (value_in m) colu
     by_test false h = refl
     by_test true h =
         absurd (eqb-false (length columns) (length other) e (sym (length-map columns (value_in m)) ∙ ap length (same_mapping_is (map (value_in m) columns) other h)))
-
--- two terms are the same just where they are equal
-pub same_where_equal : (s t : Term) (b : Bool) → IsTrue b ↔ (s ≡ t) → b ≡ same_term s t
-same_where_equal s t true h = sym (subst (λ (u : Term). same_term s u ≡ true) (h.0 refl) (same_term_own s))
-same_where_equal s t false h = by_test (same_term s t) refl
-  where
-    by_test : (b : Bool) → same_term s t ≡ b → false ≡ b
-    by_test true e = h.1 (same_term_is s t e)
-    by_test false e = refl

@@ -7,7 +7,7 @@ ghost use Rattle.sparql_solve.specs.LookUps.{widened};
 ghost use Rattle.sparql_solve.specs.Matching.{assigned, held, vacant};
 
 use crate::place::Place;
-use rdf_terms::{NoMemory, Term, Text, same_term};
+use rdf_terms::{NoMemory, Term, Text};
 use sparql_values::column;
 use std::alloc::Global;
 use std::cmp::Ordering;
@@ -28,10 +28,11 @@ impl Model for Row {
     ghost view = { λ r. r.values.items };
 }
 
+// By the order, which compares texts faster than `==` does.
 fn is_same(a: &Term, b: &Term) -> bool
     ensures { result ≡ same_term a.now b.now }
 {
-    same_term(a, b)
+    a.cmp(b).is_eq()
 }
 
 // Whether two values aren't two different terms.
