@@ -1,11 +1,12 @@
 -- Sorted rows of which each stands once.
-use Rattle.std.proofs.Common.{◌≡◌, ℕ, zero, suc, ◌+◌, ◌<◌, Bool, true, false, cond, not, ◌&&◌, List, [], ◌∷◌, refl, sym, ap, ◌∙◌, arith, subst}
+use Rattle.std.proofs.Common.{◌≡◌, ℕ, zero, suc, ◌+◌, ◌<◌, ◌≤◌, Bool, true, false, cond, not, ◌&&◌, List, [], ◌∷◌, ◌++◌, map, refl, sym, ap, ◌∙◌, append_assoc, append-nil, arith, subst, length, drop, get_or}
 use mathlib.Core.Bool.{true≢false}
 use Rattle.std.specs.List.{count_by, list_all, dedup, dedup_from}
 use Rattle.std.specs.List.Sorted.{IsSorted, IsPermutation}
 use Rattle.std.specs.Ordering.{is_eq, eq_by_cmp}
 use Rattle.std.specs.Cmp.{Equal-is, tied_itself}
-use Rattle.std.proofs.lemmas.List.Sums.{sum_by-cons}
+use Rattle.std.proofs.lemmas.List.{drop_all, drop_more}
+use Rattle.std.proofs.lemmas.List.Sums.{sum_by-append, sum_by-cons}
 use Rattle.std.proofs.lemmas.List.Sorted.{sum_by-IsPermutation}
 use Rattle.sparql_algebra.specs.Bags.{once_if_any}
 use Rattle.sparql_values.specs.Mapping.{Mapping, same_mapping}
@@ -115,61 +116,67 @@ kept_counted : (rows : List Mapping) → IsSorted mapping_cmp rows → (m : Mapp
 kept_counted [] h m = refl
 kept_counted (k ∷ xs) h m = repeats_counted m k xs (rises_from (k ∷ xs) h)
 
--- ---- repeats that stand together, in any list
-
--- a count that is raised by a row is of one at least
-once_with : (m k : Mapping) (xs : List Mapping) → same_mapping m k ≡ true → once_if_any (count_by (same_mapping m) (k ∷ xs)) ≡ 1
-once_with m k xs e = let one_k : one (same_mapping m k) ≡ 1 = ap one e in counted_once (count_by (same_mapping m) (k ∷ xs)) (omega (arith, one_k, counted m k xs))
-
-count_without : (m k : Mapping) (xs : List Mapping) → same_mapping m k ≡ false → count_by (same_mapping m) (k ∷ xs) ≡ count_by (same_mapping m) xs
-count_without m k xs e = let none_k : one (same_mapping m k) ≡ 0 = ap one e in omega (arith, none_k, counted m k xs)
-
-behind_once : (m k : Mapping) (xs ys : List Mapping) → once_if_any (count_by (same_mapping m) xs) ≡ once_if_any (count_by (same_mapping m) ys) →
-    once_if_any (count_by (same_mapping m) (k ∷ xs)) ≡ once_if_any (count_by (same_mapping m) (k ∷ ys))
-behind_once m k xs ys h = by_first (same_mapping m k) refl
-  where
-    by_first : (b : Bool) → same_mapping m k ≡ b → once_if_any (count_by (same_mapping m) (k ∷ xs)) ≡ once_if_any (count_by (same_mapping m) (k ∷ ys))
-    by_first true e = once_with m k xs e ∙ sym (once_with m k ys e)
-    by_first false e = ap once_if_any (count_without m k xs e) ∙ h ∙ sym (ap once_if_any (count_without m k ys e))
-
-twice_once : (m k : Mapping) (xs : List Mapping) →
-    once_if_any (count_by (same_mapping m) (k ∷ xs)) ≡ once_if_any (count_by (same_mapping m) (k ∷ k ∷ xs))
-twice_once m k xs = by_first (same_mapping m k) refl
-  where
-    by_first : (b : Bool) → same_mapping m k ≡ b → once_if_any (count_by (same_mapping m) (k ∷ xs)) ≡ once_if_any (count_by (same_mapping m) (k ∷ k ∷ xs))
-    by_first true e = once_with m k xs e ∙ sym (once_with m k (k ∷ xs) e)
-    by_first false e = ap once_if_any (sym (count_without m k (k ∷ xs) e))
-
-fewer_from : (m k : Mapping) (xs : List Mapping) →
-    once_if_any (count_by (same_mapping m) (dedup_from same k xs)) ≡ once_if_any (count_by (same_mapping m) (k ∷ xs))
-fewer_from m k [] = refl
-fewer_from m k (x ∷ xs) = by_same (same x k) refl (fewer_from m k xs) (fewer_from m x xs)
-  where
-    by_same : (b : Bool) → same x k ≡ b →
-        once_if_any (count_by (same_mapping m) (dedup_from same k xs)) ≡ once_if_any (count_by (same_mapping m) (k ∷ xs)) →
-        once_if_any (count_by (same_mapping m) (dedup_from same x xs)) ≡ once_if_any (count_by (same_mapping m) (x ∷ xs)) →
-        once_if_any (count_by (same_mapping m) (cond b (dedup_from same k xs) (k ∷ dedup_from same x xs))) ≡ once_if_any (count_by (same_mapping m) (k ∷ x ∷ xs))
-    by_same true e here behind =
-        here ∙ twice_once m k xs
-        ∙ sym (ap (λ (z : Mapping). once_if_any (count_by (same_mapping m) (k ∷ z ∷ xs))) (same_is x k e))
-    by_same false e here behind = behind_once m k (dedup_from same x xs) (x ∷ xs) behind
-
-fewer : (m : Mapping) (rows : List Mapping) → once_if_any (count_by (same_mapping m) (dedup same rows)) ≡ once_if_any (count_by (same_mapping m) rows)
-fewer m [] = refl
-fewer m (k ∷ xs) = fewer_from m k xs
-
-pub ordered_once : (old fewer_rows rows out : List Mapping) → fewer_rows ≡ dedup same old → IsPermutation fewer_rows rows → IsSorted mapping_cmp rows →
-    out ≡ dedup same rows → (m : Mapping) → count_by (same_mapping m) out ≡ once_if_any (count_by (same_mapping m) old)
-ordered_once old fewer_rows rows out f p h e m =
-    ap (count_by (same_mapping m)) e ∙ kept_counted rows h m ∙ ap once_if_any (sum_by-IsPermutation (λ x. cond (same_mapping m x) 1 0) fewer_rows rows p)
-    ∙ ap (λ (l : List Mapping). once_if_any (count_by (same_mapping m) l)) f ∙ fewer m old
-
-pub ordered_distinct : (old out : List Mapping) (b : Bool) → b ≡ true →
-    ((m : Mapping) → count_by (same_mapping m) out ≡ once_if_any (count_by (same_mapping m) old)) →
+pub ordered_distinct : (old rows out : List Mapping) (b : Bool) → b ≡ true → IsPermutation old rows → IsSorted mapping_cmp rows → out ≡ dedup same rows →
     (m : Mapping) → count_by (same_mapping m) out ≡ times_selected b (count_by (same_mapping m) old)
-ordered_distinct old out b t h m = h m ∙ ap (λ c. times_selected c (count_by (same_mapping m) old)) (sym t)
+ordered_distinct old rows out b t p h e m =
+    ap (count_by (same_mapping m)) e ∙ kept_counted rows h m ∙ ap once_if_any (sum_by-IsPermutation (λ x. cond (same_mapping m x) 1 0) old rows p)
+    ∙ ap (λ c. times_selected c (count_by (same_mapping m) old)) (sym t)
 
 pub ordered_all : (old rows : List Mapping) (b : Bool) → IsPermutation old rows → b ≡ false →
     (m : Mapping) → count_by (same_mapping m) rows ≡ times_selected b (count_by (same_mapping m) old)
 ordered_all old rows b p t m =
     sum_by-IsPermutation (λ x. cond (same_mapping m x) 1 0) old rows p ∙ ap (λ c. times_selected c (count_by (same_mapping m) old)) (sym t)
+
+-- ---- repeats of a row that stands there already
+
+counted_both : (m : Mapping) (xs ys : List Mapping) → count_by (same_mapping m) (xs ++ ys) ≡ count_by (same_mapping m) xs + count_by (same_mapping m) ys
+counted_both m xs ys = sum_by-append (λ x. cond (same_mapping m x) 1 0) xs ys
+
+repeat_counted : (m k : Mapping) (out rest : List Mapping) → 0 < count_by (same_mapping k) out →
+    once_if_any (count_by (same_mapping m) (out ++ rest)) ≡ once_if_any (count_by (same_mapping m) (out ++ k ∷ rest))
+repeat_counted m k out rest h = by_same (same_mapping m k) refl
+  where
+    by_same : (b : Bool) → same_mapping m k ≡ b → once_if_any (count_by (same_mapping m) (out ++ rest)) ≡ once_if_any (count_by (same_mapping m) (out ++ k ∷ rest))
+    by_same true e =
+        let there : 0 < count_by (same_mapping m) out = subst (λ (z : Mapping). 0 < count_by (same_mapping z) out) (sym (same_mapping_is m k e)) h in
+        counted_once (count_by (same_mapping m) (out ++ rest)) (omega (arith, there, counted_both m out rest))
+        ∙ sym (counted_once (count_by (same_mapping m) (out ++ k ∷ rest)) (omega (arith, there, counted_both m out (k ∷ rest))))
+    by_same false e =
+        let none_k : one (same_mapping m k) ≡ 0 = ap one e in
+        let is : count_by (same_mapping m) (out ++ rest) ≡ count_by (same_mapping m) (out ++ k ∷ rest) =
+        omega (arith, none_k, counted m k rest, counted_both m out rest, counted_both m out (k ∷ rest)) in
+        ap once_if_any is
+
+module _ (f : Mapping → Mapping) (rows : List Mapping) (i : ℕ) (row : Mapping) (out : List Mapping) (distinct : Bool) (lt : i < length rows)
+    (here : row ≡ get_or rows i row)
+    (h : (m : Mapping) → times_selected distinct (count_by (same_mapping m) (out ++ map f (drop i rows))) ≡ times_selected distinct (count_by (same_mapping m) (map f rows))) where
+  next : drop i rows ≡ row ∷ drop (i + 1) rows
+  next = drop_more rows i row lt ∙ ap (λ (x : Mapping). x ∷ drop (i + 1) rows) (sym here)
+
+  opened : (m : Mapping) →
+      times_selected distinct (count_by (same_mapping m) (out ++ f row ∷ map f (drop (i + 1) rows))) ≡ times_selected distinct (count_by (same_mapping m) (map f rows))
+  opened m = ap (λ (xs : List Mapping). times_selected distinct (count_by (same_mapping m) (out ++ map f xs))) (sym next) ∙ h m
+
+  -- the row comes behind those so far
+  pub row_kept : (k : Mapping) (after : List Mapping) → k ≡ f row → after ≡ out ++ k ∷ [] → (m : Mapping) →
+      times_selected distinct (count_by (same_mapping m) (after ++ map f (drop (i + 1) rows))) ≡ times_selected distinct (count_by (same_mapping m) (map f rows))
+  row_kept k after ek ea m =
+      let is : after ++ map f (drop (i + 1) rows) ≡ out ++ f row ∷ map f (drop (i + 1) rows) =
+      ap (λ (xs : List Mapping). xs ++ map f (drop (i + 1) rows)) ea ∙ append_assoc out (k ∷ []) (map f (drop (i + 1) rows))
+      ∙ ap (λ (x : Mapping). out ++ x ∷ map f (drop (i + 1) rows)) ek in
+      ap (λ (xs : List Mapping). times_selected distinct (count_by (same_mapping m) xs)) is ∙ opened m
+
+  -- under DISTINCT it is left out, where it stands among them
+  pub row_left : distinct ≡ true → 0 < count_by (same_mapping (f row)) out → (m : Mapping) →
+      times_selected distinct (count_by (same_mapping m) (out ++ map f (drop (i + 1) rows))) ≡ times_selected distinct (count_by (same_mapping m) (map f rows))
+  row_left e there m =
+      let rest : List Mapping = map f (drop (i + 1) rows) in
+      ap (λ b. times_selected b (count_by (same_mapping m) (out ++ rest))) e ∙ repeat_counted m (f row) out rest there
+      ∙ ap (λ b. times_selected b (count_by (same_mapping m) (out ++ f row ∷ rest))) (sym e) ∙ opened m
+
+pub rows_done : (f : Mapping → Mapping) (rows : List Mapping) (i : ℕ) (out : List Mapping) (distinct : Bool) → length rows ≤ i →
+    ((m : Mapping) → times_selected distinct (count_by (same_mapping m) (out ++ map f (drop i rows))) ≡ times_selected distinct (count_by (same_mapping m) (map f rows))) →
+    (m : Mapping) → times_selected distinct (count_by (same_mapping m) out) ≡ times_selected distinct (count_by (same_mapping m) (map f rows))
+rows_done f rows i out distinct e h m =
+    let is : out ≡ out ++ map f (drop i rows) = sym (append-nil out) ∙ ap (λ (xs : List Mapping). out ++ map f xs) (sym (drop_all i rows e)) in
+    ap (λ (xs : List Mapping). times_selected distinct (count_by (same_mapping m) xs)) is ∙ h m

@@ -1,10 +1,12 @@
 -- A condition asked expression by expression.
-use Rattle.std.proofs.Common.{◌≡◌, ℕ, ◌+◌, ◌<◌, Bool, ◌&&◌, List, ◌∷◌, sym, ap, ◌∙◌, length, drop, get_or}
+use Rattle.std.proofs.Common.{◌≡◌, ℕ, ◌+◌, ◌<◌, Bool, true, ◌&&◌, List, [], ◌∷◌, filter, sym, ap, ◌∙◌, arith, length, drop, get_or, nat_eq}
+use Rattle.std.proofs.lemmas.Bool.{eqb-true}
 use Rattle.std.proofs.lemmas.List.{drop_more}
 use Rattle.sparql_trees.specs.declared.expression.Expression.{Expression}
 use Rattle.sparql_values.specs.Mapping.{Variables, Mapping, value_of}
 use Rattle.sparql_values.specs.Values.{is_satisfied}
 use Rattle.sparql_algebra.specs.Solutions.{satisfies}
+use Rattle.sparql_algebra.proofs.CallerLemmas.{filter_always}
 
 -- the answer of the expression at this place, asked of the values that a row gives
 pub asked : (vs : Variables) (F : List Expression) (i : ℕ) (x : Expression) (m values : Mapping) (answer whole : Bool) → i < length F → x ≡ get_or F i x →
@@ -14,3 +16,8 @@ asked vs F i x m values answer whole lt here h ev e =
     let next : drop i F ≡ x ∷ rest = drop_more F i x lt ∙ ap (λ (y : Expression). y ∷ rest) (sym here) in
     ap (λ b. b && satisfies vs rest m) (e ∙ ap (λ (w : Mapping). is_satisfied (value_of vs w) x) ev)
     ∙ ap (λ (G : List Expression). satisfies vs G m) (sym next) ∙ h
+
+-- no expression leaves each row
+pub no_filters : (vs : Variables) (F : List Expression) (rows : List Mapping) (b : Bool) → b ≡ nat_eq (length F) 0 → b ≡ true → rows ≡ filter (satisfies vs F) rows
+no_filters vs [] rows b e t = sym (filter_always rows)
+no_filters vs (x ∷ F) rows b e t = absurd (omega (arith, eqb-true (length (x ∷ F)) 0 (sym e ∙ t)))

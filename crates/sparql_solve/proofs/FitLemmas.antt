@@ -1,12 +1,12 @@
 -- A term that a place of a row refuses, it refuses in each row that grows from that one.
 use Rattle.std.proofs.Common.{◌≡◌, ℕ, zero, suc, ◌<◌, Bool, true, false, cond, ◌&&◌, ◌||◌, List, [], ◌∷◌, length, get_or, Option, Some, None, refl, sym, ap, ◌∙◌, is_some, subst}
 use Rattle.std.specs.Prelude.{IfSome, slice_get, slice_set, option_and_then}
-use Rattle.std.specs.List.{list_all, list_any}
+use Rattle.std.specs.List.{list_all, list_any, IsLastAndRest}
 use Rattle.std.specs.Ordering.{eq_by_cmp, is_eq}
 use Rattle.std.specs.Cmp.{tied_itself}
 use Rattle.std.specs.FinSet as set
 use Rattle.std.specs.FinSet.{contains-from_list, contains-retain}
-use Rattle.std.proofs.lemmas.List.Folds.{list_all_at}
+use Rattle.std.proofs.lemmas.List.Folds.{list_all_at, list_all-append}
 use mathlib.Core.Bool.{true≢false}
 use Rattle.rdf_dataset.specs.State.{State, fits_place, matches}
 use Rattle.rdf_dataset.specs.Sorted.{ListsOnce}
@@ -230,3 +230,9 @@ held_at p m qs i q lt here a = ap (has_held p m) here ∙ by_test (has_held p m 
     by_test : (b : Bool) → has_held p m (get_or qs i q) ≡ b → b ≡ true
     by_test true e = refl
     by_test false e = absurd (true≢false (sym a ∙ list_all_at (has_held p m) qs i q lt e))
+
+pub held_last : (p : Places) (m : Mapping) (qs others : List QuadParts) (last : QuadParts) → IsLastAndRest qs last others → list_all (has_held p m) qs ≡ true → has_held p m last ≡ true
+held_last p m qs others last h a =
+    let split : (list_all (has_held p m) others && list_all (has_held p m) (last ∷ [])) ≡ true =
+    sym (list_all-append (has_held p m) others (last ∷ [])) ∙ sym (ap (list_all (has_held p m)) h.0) ∙ a in
+    and_left (has_held p m last) true (and_right (list_all (has_held p m) others) _ split)

@@ -48,6 +48,10 @@ same_quads s g p m n a = λ i. set.retain s.quads (matches g (a.subject i) (a.pr
 pub asked_before : (s : State) (g : GraphName) (p : Places) (m n : Mapping) (found : List QuadParts) → AsksSame p m n → ListsOnce (quads_under s g p m) found → ListsOnce (quads_under s g p n) found
 asked_before s g p m n found a h = subst (λ (quads : Quads). ListsOnce quads found) (same_quads s g p m n a) h
 
+pub looked_as : (s : State) (g : GraphName) (p : Places) (m : Mapping) (found given : List QuadParts) → given ≡ found → ListsOnce (quads_under s g p m) found →
+    ListsOnce (quads_under s g p m) given
+looked_as s g p m found given e h = subst (λ (quads : List QuadParts). ListsOnce (quads_under s g p m) quads) (sym e) h
+
 -- ---- one triple pattern after another
 
 SameBag-matching : (quads : List QuadParts) (ps : List Places) (ms ns : List Mapping) → SameBag ms ns → SameBag (matching quads ps ms) (matching quads ps ns)
@@ -56,15 +60,14 @@ SameBag-matching quads (p ∷ ps) ms ns h =
     SameBag-matching quads ps (stepped quads ms p) (stepped quads ns p)
     (SameBag-flat_map (matches_of quads p) (matches_of quads p) ms ns h (λ m. SameBag-refl (matches_of quads p m)))
 
-pub matching_more : (s : State) (g : GraphName) (ps : List Places) (i : ℕ) (p : Places) (rows given after start : List Mapping) → i < length ps → p ≡ get_or ps i p →
-    ((d : Listing) → Lists s d → SameBag (matching (d.quads g) (drop i ps) rows) (matching (d.quads g) ps start)) → given ≡ rows →
-    Gives s after (λ d. stepped (d.quads g) given p) →
+pub matching_more : (s : State) (g : GraphName) (ps : List Places) (i : ℕ) (p : Places) (rows after start : List Mapping) → i < length ps → p ≡ get_or ps i p →
+    ((d : Listing) → Lists s d → SameBag (matching (d.quads g) (drop i ps) rows) (matching (d.quads g) ps start)) →
+    Gives s after (λ d. stepped (d.quads g) rows p) →
     (d : Listing) → Lists s d → SameBag (matching (d.quads g) (drop (i + 1) ps) after) (matching (d.quads g) ps start)
-matching_more s g ps i p rows given after start lt here h eg r d l f =
+matching_more s g ps i p rows after start lt here h r d l f =
     let rest : List Places = drop (i + 1) ps in
     let next : drop i ps ≡ p ∷ rest = drop_more ps i p lt ∙ ap (λ (q : Places). q ∷ rest) (sym here) in
-    let one : SameBag after (stepped (d.quads g) rows p) = subst (λ (xs : List Mapping). SameBag after (stepped (d.quads g) xs p)) eg (r d l) in
-    SameBag-matching (d.quads g) rest after (stepped (d.quads g) rows p) one f
+    SameBag-matching (d.quads g) rest after (stepped (d.quads g) rows p) (r d l) f
     ∙ ap (λ (qs : List Places). sum_by f (matching (d.quads g) qs rows)) (sym next) ∙ h d l f
 
 -- ---- under one row, in one graph

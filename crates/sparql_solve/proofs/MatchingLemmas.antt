@@ -1,6 +1,7 @@
 -- How often the matches of a basic graph pattern hold a mapping.
-use Rattle.std.proofs.Common.{◌≡◌, ℕ, ◌+◌, ◌≤◌, Bool, true, false, cond, ◌&&◌, ◌||◌, List, [], ◌∷◌, map, Option, Some, None, refl, sym, ap, ◌∙◌, arith}
-use Rattle.std.specs.List.{sum_by, count_by, filter_map, cons_option, list_all}
+use Rattle.std.proofs.Common.{◌≡◌, ℕ, ◌+◌, ◌≤◌, Bool, true, false, cond, ◌&&◌, ◌||◌, List, [], ◌∷◌, ◌++◌, map, Option, Some, None, refl, sym, ap, ◌∙◌, append_assoc, append-nil, arith}
+use Rattle.std.specs.List.{sum_by, count_by, filter_map, cons_option, list_all, IsLastAndRest}
+use Rattle.std.proofs.lemmas.List.Elements.{filter_map-append}
 use Rattle.std.proofs.lemmas.List.Sums.{sum_by-cons}
 use Rattle.rdf_terms.specs.Quad.{QuadParts}
 use Rattle.rdf_terms.specs.declared.term.Term.{Term}
@@ -10,6 +11,7 @@ use Rattle.sparql_algebra.specs.Solutions.{var_or_term, term_at, occurs, is_trip
 use Rattle.sparql_algebra.specs.Growth.{grows}
 use Rattle.sparql_algebra.proofs.CallerLemmas.{one, sum_by-cong, sum_by-flat_map, and_false, and_swap, and_assoc, sum_zero, sum_of_tests, at_most_once}
 use Rattle.sparql_solve.specs.Matching.{places_of, matched, matches_of, stepped, matching}
+use Rattle.sparql_solve.specs.declared.place.Places.{Places}
 use Rattle.sparql_solve.proofs.GrowthLemmas.{opt, opt_and, is_term, is_instance, in_pattern, matched_grows}
 
 abbrev pub num : {A : Type 0} → Option A → (A → ℕ) → ℕ
@@ -25,6 +27,23 @@ module _ {X Y : Type 0} where
           sum_by f (cons_option o (filter_map h xs)) ≡ num o f + sum_by (λ y. num (h y) f) xs
       by_case None e = omega (arith, e)
       by_case (Some y) e = omega (arith, e, sum_by-cons f y (filter_map h xs))
+
+-- ---- the matches of the last triple, after those of the others
+
+module _ (p : Places) (m : Mapping) (quads others : List QuadParts) (last : QuadParts) (h : IsLastAndRest quads last others) (before after : List Mapping)
+    (e : after ≡ before ++ matches_of others p m) where
+  matches_split : before ++ matches_of quads p m ≡ after ++ matches_of (last ∷ []) p m
+  matches_split =
+      ap (λ (qs : List QuadParts). before ++ matches_of qs p m) h.0
+      ∙ ap (λ (l : List Mapping). before ++ l) (filter_map-append (matched p m) others (last ∷ []))
+      ∙ sym (append_assoc before (matches_of others p m) (matches_of (last ∷ []) p m))
+      ∙ ap (λ (l : List Mapping). l ++ matches_of (last ∷ []) p m) (sym e)
+
+  pub last_matched : (k : Mapping) (out : List Mapping) → Some k ≡ matched p m last → out ≡ after ++ k ∷ [] → out ≡ before ++ matches_of quads p m
+  last_matched k out f g = g ∙ ap (λ (o : Option Mapping). after ++ cons_option o []) f ∙ sym matches_split
+
+  pub last_unmatched : None ≡ matched p m last → after ≡ before ++ matches_of quads p m
+  last_unmatched f = sym (append-nil after) ∙ ap (λ (o : Option Mapping). after ++ cons_option o []) f ∙ sym matches_split
 
 num_one : {A : Type 0} (o : Option A) (f : A → Bool) → num o (λ x. one (f x)) ≡ one (opt o f)
 num_one None f = refl

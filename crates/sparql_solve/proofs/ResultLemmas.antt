@@ -48,21 +48,25 @@ map_same : (f g : Mapping → Mapping) (xs : List Mapping) → ((x : Mapping) �
 map_same f g [] e = refl
 map_same f g (x ∷ xs) e = ap (λ (y : Mapping). y ∷ map f xs) (e x) ∙ ap (λ (l : List Mapping). g x ∷ l) (map_same f g xs e)
 
-pub selected : (q : Select) (s : State) (vs given names : Variables) (found held rows out : List Mapping) (columns cs : List (Option ℕ)) →
+pub selected : (q : Select) (s : State) (vs given names : Variables) (found held fewer out : List Mapping) (columns cs : List (Option ℕ)) →
     Solves q.pattern Default s vs found → given ≡ vs → names ≡ q.columns → columns ≡ map (column given) names → cs ≡ columns → held ≡ found →
-    rows ≡ map (λ m. map (value_in m) cs) held → IsSorted mapping_cmp out →
-    ((m : Mapping) → count_by (same_mapping m) out ≡ times_selected q.distinct (count_by (same_mapping m) rows)) → IsSelection q s out
-selected q s vs given names found held rows out columns cs h eg en ec es eh er sorted counted = record {
+    ((m : Mapping) → times_selected q.distinct (count_by (same_mapping m) fewer)
+    ≡ times_selected q.distinct (count_by (same_mapping m) (map (λ r. map (value_in r) cs) held))) → IsSorted mapping_cmp out →
+    ((m : Mapping) → count_by (same_mapping m) out ≡ times_selected q.distinct (count_by (same_mapping m) fewer)) → IsSelection q s out
+selected q s vs given names found held fewer out columns cs h eg en ec es eh kept sorted counted = record {
   sorted = sorted;
-  counted = λ d l m. counted m ∙ ap (times_selected q.distinct) (bag d l (λ x. cond (same_mapping m x) 1 0));
+  counted = λ d l m. counted m ∙ kept m ∙ ap (times_selected q.distinct) (bag d l (λ x. cond (same_mapping m x) 1 0));
 }
   where
+    rows : List Mapping
+    rows = map (λ m. map (value_in m) cs) held
+
     cols : cs ≡ map (column (visible q.pattern)) q.columns
     cols = es ∙ ec ∙ ap (λ (ns : Variables). map (column given) ns) en ∙ ap (λ (ns : Variables). map (column ns) q.columns) (eg ∙ h.variables_are)
 
     is : rows ≡ map (projected (visible q.pattern) q.columns) found
     is =
-        er ∙ ap (map (λ m. map (value_in m) cs)) eh ∙ ap (λ (ks : List (Option ℕ)). map (λ m. map (value_in m) ks) found) cols
+        ap (map (λ m. map (value_in m) cs)) eh ∙ ap (λ (ks : List (Option ℕ)). map (λ m. map (value_in m) ks) found) cols
         ∙ map_same (λ m. map (value_in m) (map (column (visible q.pattern)) q.columns)) (projected (visible q.pattern) q.columns) found
         (λ m. project_is (visible q.pattern) q.columns m)
 

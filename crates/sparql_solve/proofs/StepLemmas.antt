@@ -107,6 +107,35 @@ module _ {X : Type 0} (s : State) (F : Listing → X → List Mapping) where
       let e7 : sum_by f (out ++ left) ≡ sum_by f (flat_map (F d) xs) = h d l f in
       omega (arith, j, split, e1, e2, e3, e5, e6, e7)
 
+-- ---- lists that come one after another, the first one apart from the rest
+
+pub none_left : {X : Type 0} (xs : List X) → length xs ≡ 0 → xs ≡ []
+none_left [] e = refl
+none_left (x ∷ xs) e = absurd (omega (arith, e))
+
+module _ {X : Type 0} (s : State) (F : Listing → X → List Mapping) (whole : List X) where
+  pub first_gives : (x : X) (rest : List X) (out : List Mapping) → whole ≡ x ∷ rest → out ≡ [] →
+      GivesMore s out (λ d. flat_map (F d) (x ∷ rest)) (λ d. flat_map (F d) whole)
+  first_gives x rest out e n d l f =
+      ap (λ (o : List Mapping). sum_by f (o ++ flat_map (F d) (x ∷ rest))) n ∙ ap (λ (ys : List X). sum_by f (flat_map (F d) ys)) (sym e)
+
+  pub next_gives : (x : X) (xs rest : List X) (out rows after : List Mapping) → GivesMore s out (λ d. flat_map (F d) (x ∷ xs)) (λ d. flat_map (F d) whole) →
+      Gives s rows (λ d. F d x) → after ≡ out ++ rows → xs ≡ rest → GivesMore s after (λ d. flat_map (F d) rest) (λ d. flat_map (F d) whole)
+  next_gives x xs rest out rows after h r e is d l f =
+      let left = flat_map (F d) xs in
+      let j : sum_by f rows ≡ sum_by f (F d x) = r d l f in
+      let e0 : sum_by f (after ++ flat_map (F d) rest) ≡ sum_by f (after ++ left) = ap (λ (ys : List X). sum_by f (after ++ flat_map (F d) ys)) (sym is) in
+      let e1 : sum_by f (after ++ left) ≡ sum_by f after + sum_by f left = sum_by-append f after left in
+      let e2 : sum_by f after ≡ sum_by f (out ++ rows) = ap (sum_by f) e in
+      let e3 : sum_by f (out ++ rows) ≡ sum_by f out + sum_by f rows = sum_by-append f out rows in
+      let e4 : sum_by f (F d x ++ left) ≡ sum_by f (F d x) + sum_by f left = sum_by-append f (F d x) left in
+      let e5 : sum_by f (out ++ (F d x ++ left)) ≡ sum_by f out + sum_by f (F d x ++ left) = sum_by-append f out (F d x ++ left) in
+      let e6 : sum_by f (out ++ (F d x ++ left)) ≡ sum_by f (flat_map (F d) whole) = h d l f in
+      omega (arith, j, e0, e1, e2, e3, e4, e5, e6)
+
+  pub last_gives : (after : List Mapping) → GivesMore s after (λ d. []) (λ d. flat_map (F d) whole) → Gives s after (λ d. flat_map (F d) whole)
+  last_gives after h d l f = sym (ap (sum_by f) (append-nil after)) ∙ h d l f
+
 -- ---- GRAPH
 
 module _ (vs : Variables) (s : State) where

@@ -37,6 +37,9 @@ pub(crate) fn filtered_rows(
     ensures { IfOk result
         (λ out. out.items ≡ filter (satisfies variables.now filters.now) rows.items) }
 {
+    if filters.is_empty() {
+        return Ok(rows);
+    }
     let mut out = Vec::new(alloc);
     for row in rows {
         if satisfies(alloc, variables, vocabulary, &row, filters)? {

@@ -13,7 +13,7 @@ ghost use Rattle.sparql_solve.specs.Steps.{Gives};
 
 use crate::matching::{cut_rows, matching_rows};
 use crate::place::{Places, all_places};
-use crate::rows::Row;
+use crate::rows::{Row, copy_value};
 use rdf_dataset::Source;
 use rdf_terms::{GraphName, Items, NoMemory, Term, Text};
 use sparql_trees::{BasicGraphPattern, VarOrIri};
@@ -196,7 +196,7 @@ pub(crate) fn found_rows<S: Source>(
         Graphs::One(graph) => rows_in_graph(alloc, graph, source, look_up, row),
         Graphs::Missing => Ok(Vec::new(alloc)),
         Graphs::Each(variable) => {
-            let value = row.value_in(column(variables, variable))?;
+            let value = copy_value(row.value_in(column(variables, variable)))?;
             let names = tried_names(alloc, source, value)?;
             rows_under_names(alloc, variables, variable, &names, source, look_up, row)
         }

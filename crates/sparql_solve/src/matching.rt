@@ -14,30 +14,27 @@ use std::alloc::Global;
 
 // The row with what the triple binds, which was looked up under it; a variable that stands twice may
 // still want two terms.
-fn matched_row(
-    alloc: Global,
-    row: &Row,
-    places: &Places,
-    quad: &Quad,
-) -> Result<Option<Row>, NoMemory>
-    requires { IsTrue (has_held places.now row.now quad.now) }
-    ensures { IfOk result (λ out. out ≡ matched places.now row.now quad.now) }
+fn matched_row(mut row: Row, places: &Places, quad: &Quad) -> Result<Option<Row>, NoMemory>
+    requires { IsTrue (has_held places.now row quad.now) }
+    ensures { IfOk result (λ out. out ≡ matched places.now row quad.now) }
 {
-    let mut found = row.copy(alloc)?;
-    if !found.take(row, &places.predicate, quad.predicate())? {
+    let has_predicate = row.has(&places.predicate);
+    let has_subject = row.has(&places.subject);
+    let has_object = row.has(&places.object);
+    if !row.take(&places.predicate, quad.predicate(), has_predicate)? {
         return Ok(None);
     }
-    if !found.take(row, &places.subject, quad.subject())? {
+    if !row.take(&places.subject, quad.subject(), has_subject)? {
         return Ok(None);
     }
-    if !found.take(row, &places.object, quad.object())? {
+    if !row.take(&places.object, quad.object(), has_object)? {
         return Ok(None);
     }
-    Ok(Some(found))
+    Ok(Some(row))
 }
 
-// Appends the rows that the triples make of a row under which they were looked up.
-fn append_matches(
+// Appends the rows that the triples make of copies of a row under which they were looked up.
+fn append_copies(
     alloc: Global,
     row: &Row,
     places: &Places,
@@ -49,9 +46,32 @@ fn append_matches(
         ≡ out.old.items ++ matches_of quads.now places.now row.now) }
 {
     for quad in quads {
-        if let Some(found) = matched_row(alloc, row, places, quad)? {
+        if let Some(found) = matched_row(row.copy(alloc)?, places, quad)? {
             out.push(found)?;
         }
+    }
+    Ok(())
+}
+
+// Appends the rows that the triples make of a row under which they were looked up: the last one of
+// the row itself.
+fn append_matches(
+    alloc: Global,
+    row: Row,
+    places: &Places,
+    quads: &[Quad],
+    out: &mut Vec<Row>,
+) -> Result<(), NoMemory>
+    requires { IsTrue (list_all (has_held places.now row) quads.now) }
+    ensures { OnOk result (out.new.items
+        ≡ out.old.items ++ matches_of quads.now places.now row) }
+{
+    let Some((last, others)) = quads.split_last() else {
+        return Ok(());
+    };
+    append_copies(alloc, &row, places, others, out)?;
+    if let Some(found) = matched_row(row, places, last)? {
+        out.push(found)?;
     }
     Ok(())
 }
@@ -87,28 +107,6 @@ fn quads_under<S: Source>(
     Ok(())
 }
 
-// The same, where the quads are those under the row before, if there was one.
-fn look_up<S: Source>(
-    graph: &GraphName,
-    source: &S,
-    places: &Places,
-    before: Option<&Row>,
-    row: &Row,
-    quads: &mut Vec<Quad>,
-) -> Result<(), NoMemory>
-    requires { IfSome (option_copied before) (λ m. ListsOnce
-        (quads_under (S.contents source.now) graph.now places.now m) quads.old.items) }
-    ensures { OnOk result (ListsOnce (quads_under (S.contents source.now) graph.now
-        places.now row.now) quads.new.items) }
-{
-    if let Some(before) = before {
-        if asks_same(before, row, places) {
-            return Ok(());
-        }
-    }
-    quads_under(graph, source, places, row, quads)
-}
-
 // The rows that one triple pattern makes of these, by look-ups of its triples. Rows that ask the
 // same one after another share a look-up.
 fn step<S: Source>(
@@ -116,19 +114,27 @@ fn step<S: Source>(
     graph: &GraphName,
     source: &S,
     places: &Places,
-    rows: &[Row],
+    rows: Vec<Row>,
 ) -> Result<Vec<Row>, NoMemory>
     ensures { IfOk result (λ out. Gives (S.contents source.now) out.items
-        (λ d. stepped (d.quads graph.now) rows.now places.now)) }
+        (λ d. stepped (d.quads graph.now) rows.items places.now)) }
 {
     let mut out = Vec::new(alloc);
+    let mut rest = rows.into_iter();
+    let Some(mut row) = rest.next() else {
+        return Ok(out);
+    };
     let mut quads = Vec::new(alloc);
-    let mut before = None;
-    for row in rows {
-        look_up(graph, source, places, before, row, &mut quads)?;
+    quads_under(graph, source, places, &row, &mut quads)?;
+    for next in rest {
+        let is_shared = asks_same(&row, &next, places);
         append_matches(alloc, row, places, &quads, &mut out)?;
-        before = Some(row);
+        if !is_shared {
+            quads_under(graph, source, places, &next, &mut quads)?;
+        }
+        row = next;
     }
+    append_matches(alloc, row, places, &quads, &mut out)?;
     Ok(out)
 }
 
@@ -146,7 +152,7 @@ pub(crate) fn matching_rows<S: Source>(
 {
     let mut rows = start;
     for places in patterns {
-        rows = step(alloc, graph, source, places, &rows)?;
+        rows = step(alloc, graph, source, places, rows)?;
     }
     Ok(rows)
 }

@@ -1,9 +1,6 @@
 //! Rows in order, and each once.
 ghost use Rattle.std.specs.Prelude.{◌≡◌, IfOk, OnOk, IsPermutation, IsSorted, count_by};
-ghost use Rattle.std.specs.List.{dedup};
-ghost use Rattle.std.specs.Ordering.{eq_by_cmp};
 ghost use Rattle.sparql_values.specs.Mapping.{Mapping, same_mapping};
-ghost use Rattle.sparql_algebra.specs.Bags.{once_if_any};
 ghost use Rattle.sparql_algebra.specs.Order.{mapping_cmp};
 ghost use Rattle.sparql_algebra.specs.Results.{times_selected};
 
@@ -19,35 +16,16 @@ pub(crate) fn sort_rows(rows: &mut Vec<Row>) -> Result<(), NoMemory>
     Ok(())
 }
 
-// Rows that are the same as the one before them are left out.
-fn distinct_rows(mut rows: Vec<Row>) -> Vec<Row>
-    ensures { result.items ≡ dedup (eq_by_cmp mapping_cmp) rows.items }
-{
-    rows.dedup_by(|row, before| row.compare(before).is_eq());
-    rows
-}
-
-// The rows sorted, each once. Repeats that stand together go before the sort, which orders the fewer
-// rows.
-fn ordered_once(rows: Vec<Row>) -> Result<Vec<Row>, NoMemory>
-    ensures sorted { IfOk result (λ out. IsSorted mapping_cmp out.items) }
-    ensures counted { IfOk result (λ out. (m : Mapping) → count_by (same_mapping m) out.items
-        ≡ once_if_any (count_by (same_mapping m) rows.items)) }
-{
-    let mut fewer = distinct_rows(rows);
-    sort_rows(&mut fewer)?;
-    Ok(distinct_rows(fewer))
-}
-
 /// The rows sorted by their values from the left, unbound first; under DISTINCT each once.
 pub(crate) fn ordered(mut rows: Vec<Row>, distinct: bool) -> Result<Vec<Row>, NoMemory>
     ensures sorted { IfOk result (λ out. IsSorted mapping_cmp out.items) }
     ensures counted { IfOk result (λ out. (m : Mapping) → count_by (same_mapping m) out.items
         ≡ times_selected distinct (count_by (same_mapping m) rows.items)) }
 {
-    if distinct {
-        return ordered_once(rows);
-    }
     sort_rows(&mut rows)?;
+    if distinct {
+        rows.dedup_by(|row, before| row.compare(before).is_eq());
+        return Ok(rows);
+    }
     Ok(rows)
 }

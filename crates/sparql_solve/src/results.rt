@@ -1,7 +1,7 @@
 //! The results of queries (SPARQL 1.1 Query, sections 16.1, 16.3 and 18.2.5).
-ghost use Rattle.std.specs.Prelude.{◌≡◌, IfOk, map};
-ghost use Rattle.sparql_values.specs.Mapping.{column, value_in};
-ghost use Rattle.sparql_algebra.specs.Results.{HasSolution, IsSelection, Solves};
+ghost use Rattle.std.specs.Prelude.{◌≡◌, ◌<◌, IfOk, IsTrue, count_by, map};
+ghost use Rattle.sparql_values.specs.Mapping.{Mapping, column, same_mapping, value_in};
+ghost use Rattle.sparql_algebra.specs.Results.{HasSolution, IsSelection, Solves, times_selected};
 ghost use Rattle.sparql_algebra.specs.Sorted.{sorted_solutions};
 ghost use Rattle.sparql_trees.specs.Visible.{visible};
 
@@ -80,16 +80,35 @@ fn columns_of(
     Ok(columns)
 }
 
-// The columns of each row.
+// Whether the columns of the row are the last of these rows.
+fn is_repeat(row: &Row, columns: &[Option<usize>], before: &[Row]) -> bool
+    ensures { IsTrue result →
+        0 < count_by (same_mapping (map (value_in row.now) columns.now)) before.now }
+{
+    match before.last() {
+        Some(last) => row.is_projected(columns, last),
+        None => false,
+    }
+}
+
+// The columns of each row, under DISTINCT without those that are the same as of the row before.
 fn projected_rows(
     alloc: Global,
     rows: &[Row],
     columns: &[Option<usize>],
+    distinct: bool,
 ) -> Result<Vec<Row>, NoMemory>
-    ensures { IfOk result (λ out. out.items ≡ map (λ m. map (value_in m) columns.now) rows.now) }
+    ensures { IfOk result (λ out. (m : Mapping) →
+        times_selected distinct (count_by (same_mapping m) out.items)
+        ≡ times_selected distinct (count_by (same_mapping m)
+        (map (λ r. map (value_in r) columns.now) rows.now))) }
 {
-    let mut out = Vec::with_capacity(alloc, rows.len())?;
+    let room = if distinct { 0 } else { rows.len() };
+    let mut out = Vec::with_capacity(alloc, room)?;
     for row in rows {
+        if distinct && is_repeat(row, columns, out.as_slice()) {
+            continue;
+        }
         out.push(row.projected(alloc, columns)?)?;
     }
     Ok(out)
@@ -105,8 +124,9 @@ pub fn select<S: Source>(alloc: Global, query: &Select, source: &S) -> Result<Ve
 {
     let found = solve(alloc, &query.pattern, &GraphName::Default, source)?;
     let columns = columns_of(alloc, found.variables.as_slice(), query.columns.as_slice())?;
-    let rows = projected_rows(alloc, found.rows.as_slice(), columns.as_slice())?;
-    Ok(ordered(rows, query.distinct)?)
+    let rows = found.rows.as_slice();
+    let fewer = projected_rows(alloc, rows, columns.as_slice(), query.distinct)?;
+    Ok(ordered(fewer, query.distinct)?)
 }
 
 /// Whether a pattern has a solution in a dataset, whose default graph is the active one (ASK).

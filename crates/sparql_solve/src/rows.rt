@@ -1,7 +1,7 @@
 //! Rows: mappings over the columns of a pattern (SPARQL 1.1 Query, section 18.1.4).
 ghost use Rattle.std.specs.Prelude.{◌≡◌, ◌+◌, ◌<◌, length, is_some, slice_get, slice_set, Some, IfOk, IfSome, IsTrue, cond, replicate, None, take, if◌then◌else◌, nat_lt, map};
 ghost use Rattle.std.specs.Option.{option_copied, option_map};
-ghost use Rattle.sparql_values.specs.Mapping.{agrees, first_of, compatible, merge, same_term, single, value_at, value_in};
+ghost use Rattle.sparql_values.specs.Mapping.{agrees, compatible, merge, same_mapping, same_term, same_value, single, value_at, value_in};
 ghost use Rattle.sparql_algebra.specs.Order.{mapping_cmp};
 ghost use Rattle.sparql_solve.specs.LookUps.{widened};
 ghost use Rattle.sparql_solve.specs.Matching.{assigned, held, vacant};
@@ -28,6 +28,7 @@ impl Model for Row {
     ghost view = { λ r. r.values.items };
 }
 
+// By the order, which compares texts faster than `==` does.
 fn is_same(a: &Term, b: &Term) -> bool
     ensures { result ≡ same_term a.now b.now }
 {
@@ -46,7 +47,7 @@ fn agree(x: &Option<Term>, y: &Option<Term>) -> bool
 
 // Whether two values are one term, or both nothing.
 fn is_same_value(x: Option<&Term>, y: Option<&Term>) -> bool
-    ensures { IsTrue result → option_copied x.entry ≡ option_copied y.entry }
+    ensures { result ≡ same_value (option_copied x.entry) (option_copied y.entry) }
 {
     match (x, y) {
         (Some(s), Some(t)) => is_same(s, t),
@@ -55,19 +56,14 @@ fn is_same_value(x: Option<&Term>, y: Option<&Term>) -> bool
     }
 }
 
-fn copy_value(value: &Option<Term>) -> Result<Option<Term>, NoMemory>
-    ensures { IfOk result (λ copy. copy ≡ value.now) }
+/// A copy of the value.
+pub(crate) fn copy_value(value: Option<&Term>) -> Result<Option<Term>, NoMemory>
+    ensures { IfOk result (λ copy. copy ≡ option_copied value.entry) }
 {
     Ok(match value {
         Some(term) => Some(term.copy()?),
         None => None,
     })
-}
-
-fn first_of(x: &Option<Term>, y: &Option<Term>) -> Result<Option<Term>, NoMemory>
-    ensures { IfOk result (λ value. value ≡ first_of (x.now, y.now)) }
-{
-    copy_value(if x.is_some() { x } else { y })
 }
 
 impl Row {
@@ -103,7 +99,7 @@ impl Row {
     {
         let mut values = Vec::with_capacity(alloc, self.values.len())?;
         for (x, y) in self.values.iter().zip(&other.values) {
-            values.push(first_of(x, y)?)?;
+            values.push(copy_value(x.as_ref().or(y.as_ref()))?)?;
         }
         Ok(Row { values })
     }
@@ -113,7 +109,7 @@ impl Row {
     {
         let mut values = Vec::with_capacity(alloc, self.values.len())?;
         for value in &self.values {
-            values.push(copy_value(value)?)?;
+            values.push(copy_value(value.as_ref())?)?;
         }
         Ok(Row { values })
     }
@@ -204,8 +200,8 @@ impl Row {
         }
     }
 
-    // Whether the place has a term in the row.
-    fn has(&self, place: &Place) -> bool
+    /// Whether the place has a term in the row.
+    pub(crate) fn has(&self, place: &Place) -> bool
         ensures { result ≡ is_some (held self.now place.now) }
     {
         self.held(place).is_some()
@@ -238,15 +234,19 @@ impl Row {
         }
     }
 
-    /// Puts the term at the place, and answers whether it may stand there: nothing else does. What
-    /// the place had at the start, it has; so no term is compared there.
-    pub(crate) fn take(&mut self, start: &Row, place: &Place, term: &Term) -> Result<bool, NoMemory>
-        requires { IfSome (held start.now place.now)
-            (λ t. (held self.old place.now ≡ Some t) × IsTrue (same_term t term.now)) }
+    /// Puts the term at the place, and answers whether it may stand there: nothing else does. Where
+    /// the place is known to have it, no term is compared.
+    pub(crate) fn take(
+        &mut self,
+        place: &Place,
+        term: &Term,
+        is_known: bool,
+    ) -> Result<bool, NoMemory>
+        requires { IsTrue is_known → assigned self.old place.now term.now ≡ Some self.old }
         ensures { IfOk result (λ fits.
             assigned self.old place.now term.now ≡ cond fits (Some self.new) None) }
     {
-        if start.has(place) {
+        if is_known {
             return Ok(true);
         }
         let Some(column) = self.vacant(place) else {
@@ -264,24 +264,13 @@ impl Row {
         self
     }
 
-    // A copy of what stands at the column.
-    fn value_at(&self, column: usize) -> Result<Option<Term>, NoMemory>
-        ensures { IfOk result (λ value. value ≡ value_at self.now column) }
-    {
-        if column < self.values.len() {
-            copy_value(&self.values[column])
-        } else {
-            Ok(None)
-        }
-    }
-
-    /// A copy of what stands at the column, if there is one.
-    pub(crate) fn value_in(&self, column: Option<usize>) -> Result<Option<Term>, NoMemory>
-        ensures { IfOk result (λ value. value ≡ value_in self.now column) }
+    /// What stands at the column, if there is one.
+    pub(crate) fn value_in(&self, column: Option<usize>) -> Option<&Term>
+        ensures { option_copied result ≡ value_in self.now column }
     {
         match column {
-            Some(column) => self.value_at(column),
-            None => Ok(None),
+            Some(column) => self.value(column),
+            None => None,
         }
     }
 
@@ -295,9 +284,27 @@ impl Row {
     {
         let mut values = Vec::with_capacity(alloc, columns.len())?;
         for column in columns {
-            values.push(self.value_in(*column)?)?;
+            values.push(copy_value(self.value_in(*column))?)?;
         }
         Ok(Row { values })
+    }
+
+    // Whether what stands at the column, if there is one, is this value.
+    fn has_value(&self, column: Option<usize>, value: &Option<Term>) -> bool
+        ensures { result ≡ same_value (value_in self.now column) value.now }
+    {
+        is_same_value(self.value_in(column), value.as_ref())
+    }
+
+    /// Whether these columns of it are another row.
+    pub(crate) fn is_projected(&self, columns: &[Option<usize>], other: &Row) -> bool
+        ensures { result ≡ same_mapping (map (value_in self.now) columns.now) other.now }
+    {
+        columns.len() == other.values.len()
+            && columns
+                .iter()
+                .zip(&other.values)
+                .all(|(column, value)| self.has_value(*column, value))
     }
 
     /// By the values from the left, unbound first.

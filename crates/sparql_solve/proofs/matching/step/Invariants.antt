@@ -1,13 +1,14 @@
-use Rattle.std.proofs.Common.{drop}
-use Rattle.std.specs.Prelude.{IfSome, option_copied}
+use Rattle.std.proofs.Common.{◌≡◌, ◌∷◌, length}
+use Rattle.std.specs.Vec.Iter.{into_iter_items, into_iter_len}
 use Rattle.rdf_dataset.specs.Sorted.{ListsOnce}
 use Rattle.sparql_solve.specs.Matching.{stepped, quads_under}
 use Rattle.sparql_solve.specs.Steps.{GivesMore}
 use Rattle.sparql_solve.proofs.matching.step.Given as goal
 
-abbrev pub invariant-loop-row : goal.invariant-loop-row
-invariant-loop-row g l = record {
-  gives : GivesMore (g.S.Source.contents l.source) l.out.items (λ d. stepped (d.quads l.graph) (drop l.row-index l.rows) l.places)
-      (λ d. stepped (d.quads l.graph) l.rows l.places);
-  looked : IfSome (option_copied l.before) (λ m. ListsOnce (quads_under (g.S.Source.contents l.source) l.graph l.places m) l.quads.items);
+abbrev pub invariant-loop-next : goal.invariant-loop-next
+invariant-loop-next g l = record {
+  gives : GivesMore (g.S.Source.contents l.source) l.out.items (λ d. stepped (d.quads l.graph) (l.row ∷ into_iter_items l.next-iterator) l.places)
+      (λ d. stepped (d.quads l.graph) l.fn.rows.items l.places);
+  looked : ListsOnce (quads_under (g.S.Source.contents l.source) l.graph l.places l.row) l.quads.items;
+  count : into_iter_len l.next-iterator ≡ length (into_iter_items l.next-iterator);
 }

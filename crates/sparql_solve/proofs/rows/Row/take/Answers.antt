@@ -1,6 +1,5 @@
-use Rattle.sparql_solve.proofs.FitLemmas.{ready_taken}
+use Rattle.std.proofs.Common.{rules}
 use Rattle.sparql_solve.proofs.rows.Row.take.Goals as goal
 
-pub returns-then-has : goal.returns-then-has
-returns-then-has c =
-    ready_taken c.args.start.now c.args.self.now c.args.place.now c.args.term.now c.has.result c.has.ensures c.if-has.true c.requires
+pub returns-then-is_known : goal.returns-then-is_known
+returns-then-is_known c = search rules

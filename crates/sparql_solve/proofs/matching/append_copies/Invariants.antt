@@ -1,6 +1,6 @@
 use Rattle.std.proofs.Common.{◌≡◌, ◌++◌, drop}
 use Rattle.sparql_solve.specs.Matching.{matches_of}
-use Rattle.sparql_solve.proofs.matching.append_matches.Given as goal
+use Rattle.sparql_solve.proofs.matching.append_copies.Given as goal
 
 abbrev pub invariant-loop-quad : goal.invariant-loop-quad
 invariant-loop-quad l = l.out.items ++ matches_of (drop l.quad-index l.quads) l.places l.row ≡ l.fn.out.items ++ matches_of l.quads l.places l.row
