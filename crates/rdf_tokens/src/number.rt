@@ -41,6 +41,7 @@ fn exponent<'a>(cursor: &Cursor<'a>) -> Option<Cursor<'a>>
 
 /// A double where an exponent follows, otherwise what was read so far.
 #[tactic(auto, unfolding(crate::specs::Inside::TokenReading::with_exponent))]
+#[inline(always)]
 fn with_exponent<'a>(kind: Kind, cursor: &Cursor<'a>) -> (Kind, Cursor<'a>)
     ensures { result ≡ with_exponent kind cursor.now }
 {
@@ -52,6 +53,7 @@ fn with_exponent<'a>(kind: Kind, cursor: &Cursor<'a>) -> (Kind, Cursor<'a>)
 
 /// A dot, digits, and perhaps an exponent.
 #[tactic(auto, unfolding(crate::specs::Inside::TokenReading::fraction_at))]
+#[inline(always)]
 fn fraction<'a>(cursor: &Cursor<'a>) -> Option<(Kind, Cursor<'a>)>
     ensures { result ≡ fraction_at cursor.now }
 {
@@ -69,6 +71,7 @@ fn dot_exponent<'a>(cursor: &Cursor<'a>) -> Option<Cursor<'a>>
 
 /// What digits that end here are the beginning of.
 #[tactic(auto, unfolding(crate::specs::Inside::TokenReading::whole_at))]
+#[inline(always)]
 fn whole<'a>(cursor: &Cursor<'a>) -> (Kind, Cursor<'a>)
     ensures { result ≡ whole_at cursor.now }
 {
@@ -83,6 +86,7 @@ fn whole<'a>(cursor: &Cursor<'a>) -> (Kind, Cursor<'a>)
 
 /// A number without a sign.
 #[tactic(auto, unfolding(crate::specs::Inside::TokenReading::unsigned_at))]
+#[inline(always)]
 fn unsigned<'a>(cursor: &Cursor<'a>) -> Option<(Kind, Cursor<'a>)>
     ensures { result ≡ unsigned_at cursor.now }
 {
@@ -94,6 +98,7 @@ fn unsigned<'a>(cursor: &Cursor<'a>) -> Option<(Kind, Cursor<'a>)>
 
 /// INTEGER, DECIMAL or DOUBLE (Turtle 1.1, section 6.5), the longest that begins here, and the place behind it.
 #[tactic(auto, unfolding(crate::specs::Inside::TokenReading::number_at))]
+#[inline(always)]
 pub fn number<'a>(cursor: &Cursor<'a>) -> Option<(Kind, Cursor<'a>)>
     ensures { result ≡ number_at cursor.now }
 {

@@ -61,6 +61,7 @@ fn has_forbidden(text: &[u8]) -> bool
 }
 
 // What stands between a mark at the front and one at the end.
+#[inline(always)]
 fn enclosed(text: &str, first: char, last: char) -> Option<&str>
     requires first { first < 128 }
     requires last { last < 128 }
@@ -72,6 +73,7 @@ fn enclosed(text: &str, first: char, last: char) -> Option<&str>
 
 // What stands between three such quotes and three more.
 #[tactic(auto, unfolding(crate::specs::Values::enclosed_thrice))]
+#[inline(always)]
 fn enclosed_thrice(text: &str, quote: char) -> Option<&str>
     requires { quote < 128 }
     ensures { MatchOption result (spec.enclosed_thrice quote (chars text.now) ≡ None)
@@ -84,6 +86,7 @@ fn enclosed_thrice(text: &str, quote: char) -> Option<&str>
 
 // What stands between the quotes of a string, a long one or else a short one.
 #[tactic(auto, unfolding(crate::specs::Values::quoted_body))]
+#[inline(always)]
 fn quoted_body(text: &str, quote: char) -> Option<&str>
     requires { quote < 128 }
     ensures { MatchOption result (spec.quoted_body quote (chars text.now) ≡ None)
@@ -96,6 +99,7 @@ fn quoted_body(text: &str, quote: char) -> Option<&str>
 }
 
 #[tactic(auto, unfolding(crate::specs::Values::text_body))]
+#[inline(always)]
 fn text_body(text: &str) -> Option<&str>
     ensures { MatchOption result (spec.text_body (chars text.now) ≡ None)
         (λ b. spec.text_body (chars text.now) ≡ Some (chars b.now)) }
@@ -107,6 +111,7 @@ fn text_body(text: &str) -> Option<&str>
 }
 
 // The text that a string's body writes.
+#[inline(always)]
 fn unescaped(alloc: Global, body: &str) -> Result<Text, NoMemory>
     ensures { IfOk result (λ v. v ≡ encode_utf8_all (spec.unescaped (chars body.now))) }
 {
@@ -142,6 +147,7 @@ fn first_colon(text: &[u8]) -> Option<usize>
 
 /// The prefix of a prefixed name and its local part: what stands before its first colon, and what stands
 /// behind it.
+#[inline(always)]
 pub fn name_parts<'a>(slice: &Slice<'a>) -> (Slice<'a>, Slice<'a>)
     ensures prefix { result.0 ≡ spec.prefix_part slice.now }
     ensures local { result.1 ≡ spec.local_part slice.now }

@@ -18,12 +18,15 @@ pub enum Ending {
 /// The read calls of one session.
 pub const READ_CALLS: u64 = 1 << 40;
 
+// How many bytes are read at once at most.
+const PIECE: usize = 65536;
+
 /// Reads to the end or to the first fault, and keeps what was read.
 pub fn read_all<R: Read>(reader: &mut R, held: &mut Vec<u8>) -> Ending
     ensures { ReadsTo (R.remaining reader.old) (R.remaining reader.new)
         held.old.items result held.new.items }
 {
-    let mut buffer = [0u8; 4096];
+    let mut buffer = [0u8; PIECE];
     for _ in 0..READ_CALLS {
         match reader.read(&mut buffer) {
             Ok(0) => return Ending::AtEnd,
