@@ -15,10 +15,14 @@ pub record Decides {X A : Type 0} (p : Reading X A) (P : Derives X A) (ends : Te
   pub complete : (ts : List X) (a : A) (us : List X) → P ts a us → ends us ≡ true → p ts ≡ Some (a, us)
   pub shorter : (ts : List X) (a : A) (us : List X) → P ts a us → length us ≤ length ts
 
+-- the parts of a step behind another
+pub then_parts : {S A B : Type 0} (o : steps.Outcome S A) (f : A → steps.Step S B) (r : B × S) → and_then o f ≡ Some r → (a : A) × (s : S) × (o ≡ Some (a, s)) × (f a s ≡ Some r)
+then_parts None f r h = absurd (cc)
+then_parts (Some p) f r h = (p.0, p.1, refl, h)
+
 pub and_then_some : {X A B : Type 0} (o : Outcome X A) (f : A → Reading X B) (b : B) (us : List X) → and_then o f ≡ Some (b, us)
     → (a : A) × (mid : List X) × (o ≡ Some (a, mid)) × (f a mid ≡ Some (b, us))
-and_then_some None f b us h = absurd (cc)
-and_then_some (Some p) f b us h = (p.0, p.1, refl, h)
+and_then_some o f b us h = then_parts o f (b, us) h
 
 -- one reading behind the other: what the second derives, or what ends the whole, ends the first
 pub then_decides : {X A B : Type 0} (p : Reading X A) (P : Derives X A) (f : A → Reading X B) (F : A → Derives X B) (e1 e2 : Test X)

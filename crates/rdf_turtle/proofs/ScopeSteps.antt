@@ -11,16 +11,13 @@ use Rattle.rdf_terms.specs.Quad.{QuadParts, has_right_kinds}
 use Rattle.rdf_terms.specs.declared.term.Term.{Term}
 use Rattle.rdf_terms.specs.declared.term.Term.TheVariants.{Blank, Iri, Literal}
 use Rattle.rdf_terms.specs.Blanks.{blanks_in, blanks_of, AreNumberedInOrder}
+pub use Rattle.rdf_grammar.proofs.Decides.{then_parts}
+use Rattle.rdf_grammar.proofs.KeyEntries.{more_labels, label_below, label_inserted, lt_or_is}
 use Rattle.rdf_turtle.specs.Blanks.{IsTriple}
 use Rattle.rdf_grammar.specs.Steps.{Outcome, Step, and_then}
 use Rattle.rdf_grammar.specs.Keys.{same_key}
 use Rattle.rdf_grammar.specs.Numbering.{labelled_as}
 use Rattle.rdf_turtle.specs.State.{State, Does, fresh, labelled, blank, triple, says}
-
--- the parts of a step behind another
-pub then_parts : {S A B : Type 0} (o : Outcome S A) (f : A → Step S B) (r : B × S) → and_then o f ≡ Some r → (a : A) × (s : S) × (o ≡ Some (a, s)) × (f a s ≡ Some r)
-then_parts None f r h = absurd (cc)
-then_parts (Some p) f r h = (p.0, p.1, refl, h)
 
 -- ---- numbers
 
@@ -223,33 +220,6 @@ module _ (subject o : Term) (predicate : List ℕ) (pending : Term) (s : State) 
 -- a step gives a term, pending from then on
 abbrev pub TermKeeps : Does Term → Type 0
 TermKeeps f = (pending : Term) (s u : State) (t : Term) → Numbered pending s → f s ≡ Some (t, u) → BothNumbered pending t u × (s.numbering.next ≤ u.numbering.next) × IsBelow t u
-
-more_labels : (m n : ℕ) (es : List (List ℕ × ℕ)) → m ≤ n → AllByRecursion (λ e. e.1 < m) es → AllByRecursion (λ e. e.1 < n) es
-more_labels m n [] l h = tt
-more_labels m n (e ∷ es) l h = ((let z : e.1 < m = h.0 in omega (arith, z, l)), more_labels m n es l h.1)
-
-label_below : (n : ℕ) (test : List ℕ → Bool) (es : List (List ℕ × ℕ)) (k : ℕ) → AllByRecursion (λ e. e.1 < n) es → lookup test es ≡ Some k → k < n
-label_below n test [] k h e = absurd (cc e)
-label_below n test (x ∷ es) k h e = by (test x.0) refl (λ r. label_below n test es k h.1 r)
-  where
-    by : (b : Bool) → test x.0 ≡ b → (lookup test es ≡ Some k → k < n) → k < n
-    by true t rest = (let s : Some x.1 ≡ Some k = rw t at e in subst (λ (i : ℕ). i < n) (same_Some _ _ s) h.0)
-    by false t rest = (let s : lookup test es ≡ Some k = rw t at e in rest s)
-
-label_inserted : (n : ℕ) (key : List ℕ) (k : ℕ) (es : List (List ℕ × ℕ)) → k < n → AllByRecursion (λ e. e.1 < n) es → AllByRecursion (λ e. e.1 < n) (insert_entry same_key es key k)
-label_inserted n key k [] l h = (l, tt)
-label_inserted n key k (x ∷ es) l h = by (same_key key x.0) (label_inserted n key k es l h.1)
-  where
-    by : (b : Bool) → AllByRecursion (λ e. e.1 < n) (insert_entry same_key es key k)
-        → AllByRecursion (λ e. e.1 < n) (if◌then◌else◌ {A = List (List ℕ × ℕ)} b ((x.0, k) ∷ es) (x ∷ insert_entry same_key es key k))
-    by true rest = (l, h.1)
-    by false rest = (h.0, rest)
-
-lt_or_is : (m n : ℕ) → m < n + 1 → (m < n) ⊎ (m ≡ n)
-lt_or_is m n h = elim (cases_lt m n) [
-  | inl l ↦ inl l
-  | inr l ↦ inr (omega (arith, h, l))
-]
 
 -- a new number
 numbered_on : (pending : Term) (s u : State) → Numbered pending s → u.numbering.next ≡ s.numbering.next + 1 → u.quads ≡ s.quads → AllByRecursion (λ e. e.1 < s.numbering.next + 1) u.numbering.labels
