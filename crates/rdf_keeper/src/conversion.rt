@@ -24,7 +24,7 @@ use std::io::{Read, Write};
 /// labels. A line that is faulty, a failed read or want of memory ends it: what comes before is written.
 ///
 /// A document of Turtle is read whole, its relative IRIs against the base, and then written: a faulty one and a failed
-/// read write nothing. Its quads are never let go: a conversion is the last that a program does.
+/// read write nothing.
 ///
 /// # Errors
 /// A [`ConvertFault`]. A write call that fails or takes nothing ends a conversion too.

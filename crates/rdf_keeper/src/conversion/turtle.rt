@@ -41,8 +41,7 @@ pub(crate) fn convert_turtle<R: Read, W: Write>(
     let mut held = Vec::new(alloc);
     match read_all(reader, &mut held) {
         Ending::AtEnd => match read_turtle(alloc, held.as_slice(), base) {
-            // the program ends behind it, so the quads aren't let go one by one
-            Ok(quads) => write_quads(alloc, quads.leak(), writer),
+            Ok(quads) => write_quads(alloc, quads.as_slice(), writer),
             Err(fault) => Err(turtle_fault(fault)),
         },
         Ending::Failed => Err(ConvertFault::Read),
