@@ -49,7 +49,7 @@ fn is_kept(alloc: Global, term: &Term, wanted: &[u8]) -> bool {
         copied => copied,
     };
     match (copied, begun(alloc)) {
-        (Ok(copy), Some(text)) => appends(alloc, &copy, text, wanted),
+        (Ok(copy), Some(text)) => appends(&copy, text, wanted),
         _ => false,
     }
 }
@@ -61,12 +61,12 @@ fn begun(alloc: Global) -> Option<Vec<u8>> {
     }
 }
 
-fn appends(alloc: Global, term: &Term, mut text: Vec<u8>, wanted: &[u8]) -> bool {
+fn appends(term: &Term, mut text: Vec<u8>, wanted: &[u8]) -> bool {
     let before = text.len();
-    let written = write_term(alloc, term, &mut text);
+    let written = write_term(term, &mut text);
     if written.is_ok() {
         return text.as_slice() == wanted;
     }
     let kept = text.len() == before;
-    kept && write_term(alloc, term, &mut text).is_ok() && text.as_slice() == wanted
+    kept && write_term(term, &mut text).is_ok() && text.as_slice() == wanted
 }

@@ -63,7 +63,7 @@ fn are_lines(alloc: Global, quads: &[Quad]) -> bool {
 fn text_of(alloc: Global, quads: &[Quad]) -> Result<Vec<u8>, NoMemory> {
     let mut text = Vec::new(alloc);
     for quad in quads {
-        write_quad(alloc, quad, &mut text)?;
+        write_quad(quad, &mut text)?;
     }
     Ok(text)
 }

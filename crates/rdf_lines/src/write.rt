@@ -13,47 +13,47 @@ use std::alloc::Global;
 ///
 /// # Errors
 /// [`NoMemory`] where memory is wanting; the vector is then as it was.
-pub fn write_quad(alloc: Global, quad: &Quad, out: &mut Vec<u8>) -> Result<(), NoMemory>
+pub fn write_quad(quad: &Quad, out: &mut Vec<u8>) -> Result<(), NoMemory>
     ensures ok { OnOk result (out.new.items ≡ out.old.items ++ quad_text quad.now) }
     ensures err { OnErr result (out.new.items ≡ out.old.items) }
 {
     let start = out.len();
-    let written = append_quad(alloc, quad, out);
+    let written = append_quad(quad, out);
     if written.is_err() {
         out.truncate(start);
     }
     written
 }
 
-fn append_quad(alloc: Global, quad: &Quad, out: &mut Vec<u8>) -> Result<(), NoMemory>
+fn append_quad(quad: &Quad, out: &mut Vec<u8>) -> Result<(), NoMemory>
     ensures ok { OnOk result (out.new.items ≡ out.old.items ++ quad_text quad.now) }
     ensures kept { take (length out.old.items) out.new.items ≡ out.old.items }
 {
-    append_term(alloc, quad.subject(), out)?;
-    append_term(alloc, quad.predicate(), out)?;
-    append_term(alloc, quad.object(), out)?;
-    append_graph(alloc, quad.graph(), out)?;
+    append_term(quad.subject(), out)?;
+    append_term(quad.predicate(), out)?;
+    append_term(quad.object(), out)?;
+    append_graph(quad.graph(), out)?;
     out.extend_from_slice(b".\n")?;
     Ok(())
 }
 
 // The term, and a space.
-fn append_term(alloc: Global, term: &Term, out: &mut Vec<u8>) -> Result<(), NoMemory>
+fn append_term(term: &Term, out: &mut Vec<u8>) -> Result<(), NoMemory>
     ensures ok { OnOk result (out.new.items ≡ out.old.items ++ (term_text term.now ++ codes " ")) }
     ensures kept { take (length out.old.items) out.new.items ≡ out.old.items }
 {
-    write_term(alloc, term, out)?;
+    write_term(term, out)?;
     out.push(b' ')?;
     Ok(())
 }
 
-fn append_graph(alloc: Global, graph: &GraphName, out: &mut Vec<u8>) -> Result<(), NoMemory>
+fn append_graph(graph: &GraphName, out: &mut Vec<u8>) -> Result<(), NoMemory>
     ensures ok { OnOk result (out.new.items ≡ out.old.items ++ graph_text graph.now) }
     ensures kept { take (length out.old.items) out.new.items ≡ out.old.items }
 {
     match graph {
         GraphName::Default => Ok(()),
-        GraphName::Named(name) => append_term(alloc, name, out),
+        GraphName::Named(name) => append_term(name, out),
     }
 }
 
@@ -82,7 +82,7 @@ fn append_sorted(alloc: Global, quads: &[Quad], out: &mut Vec<u8>) -> Result<(),
     let mut sorted = references(alloc, quads)?;
     sorted.sort()?;
     for quad in &sorted {
-        write_quad(alloc, *quad, out)?;
+        write_quad(*quad, out)?;
     }
     Ok(())
 }

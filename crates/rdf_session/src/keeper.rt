@@ -279,7 +279,7 @@ impl Keeper {
         ensures err { OnErr result (out.new.items ≡ out.old.items) }
     {
         let quads = self.dataset.quads()?;
-        write_lines(self.alloc, &quads, out)?;
+        write_lines(&quads, out)?;
         Ok(quads.len() as u64)
     }
 

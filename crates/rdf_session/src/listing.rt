@@ -5,16 +5,15 @@ ghost use Rattle.rdf_lines.specs.QuadText.{quad_text};
 
 use rdf_lines::write_quad;
 use rdf_terms::{NoMemory, Quad};
-use std::alloc::Global;
 
 /// Appends the lines of the quads; a refusal leaves the vector as it was.
-pub(crate) fn write_lines(alloc: Global, quads: &[Quad], out: &mut Vec<u8>) -> Result<(), NoMemory>
+pub(crate) fn write_lines(quads: &[Quad], out: &mut Vec<u8>) -> Result<(), NoMemory>
     ensures ok { OnOk result (out.new.items ≡ out.old.items ++ concat (map quad_text quads.now)) }
     ensures err { OnErr result (out.new.items ≡ out.old.items) }
 {
     let start = out.len();
     for quad in quads {
-        if let Err(refused) = write_quad(alloc, quad, out) {
+        if let Err(refused) = write_quad(quad, out) {
             out.truncate(start);
             return Err(refused);
         }

@@ -11,14 +11,13 @@ use crate::iri::Iri;
 use crate::literal::Literal;
 use crate::term::Term;
 use itoa::Buffer;
-use std::alloc::Global;
 
 /// Appends the text of the term: an IRI between `<` and `>`, `_:b` and the number of a blank node,
 /// or a literal in quotes with its tag or datatype, of which xsd:string isn't written.
 ///
 /// # Errors
 /// [`NoMemory`] where memory is wanting; the vector is then as it was.
-pub fn write_term(_alloc: Global, term: &Term, out: &mut Vec<u8>) -> Result<(), NoMemory>
+pub fn write_term(term: &Term, out: &mut Vec<u8>) -> Result<(), NoMemory>
     ensures ok { OnOk result (out.new.items ≡ out.old.items ++ term_text term.now) }
     ensures err { OnErr result (out.new.items ≡ out.old.items) }
 {

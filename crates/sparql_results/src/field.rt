@@ -19,7 +19,7 @@ pub(crate) fn append_field(
         return Ok(());
     };
     let mut text = Vec::new(alloc);
-    write_term(alloc, term, &mut text)?;
+    write_term(term, &mut text)?;
     append_without_tabs(text.as_slice(), out)
 }
 

@@ -20,7 +20,7 @@ fn tagged_of(alloc: Global, lexical: &str, tag: &str) -> Result<Term, Fail> {
 
 fn text_of(alloc: Global, term: &Term) -> Result<Vec<u8>, Fail> {
     let mut out = Vec::new(alloc);
-    write_term(alloc, term, &mut out)?;
+    write_term(term, &mut out)?;
     Ok(out)
 }
 
@@ -209,7 +209,7 @@ fn text_of_typed_literals(rt: HostRuntime) -> Result<(), Fail> {
 fn text_is_appended(rt: HostRuntime) -> Result<(), Fail> {
     let alloc = rt.alloc();
     let mut out = text_of(alloc, &Term::Blank(7))?;
-    write_term(alloc, &Term::Blank(8), &mut out)?;
+    write_term(&Term::Blank(8), &mut out)?;
     assert_eq!(rt; out.as_slice(), b"_:b7_:b8".as_slice());
     Ok(())
 }

@@ -7,7 +7,6 @@ use crate::conversion::fault::ConvertFault;
 use crate::streams::writing::write_whole;
 use rdf_lines::write_quad;
 use rdf_terms::Quad;
-use std::alloc::Global;
 use std::io::Write;
 
 // The number of bytes of gathered lines from which on they are written.
@@ -29,7 +28,6 @@ pub(crate) fn finish<W: Write>(
 
 /// Gathers the line of a quad, and writes the gathered lines where they fill a piece.
 pub(crate) fn gather<W: Write>(
-    alloc: Global,
     quad: &Quad,
     lines: &mut Vec<u8>,
     writer: &mut W,
@@ -37,7 +35,7 @@ pub(crate) fn gather<W: Write>(
     ensures { Gathers (W.contents writer.old) lines.old.items (quad_text quad.now) result
         (W.contents writer.new) lines.new.items }
 {
-    if let Err(refused) = write_quad(alloc, quad, lines) {
+    if let Err(refused) = write_quad(quad, lines) {
         let answer = Err(ConvertFault::NoMemory(refused));
         return finish(lines.as_slice(), writer, answer);
     }

@@ -45,7 +45,7 @@ pub(crate) fn convert_lines<R: Read, W: Write>(
     let mut lines = Vec::new(alloc);
     loop {
         match document.next(reader) {
-            Ok(Some(quad)) => match gather(alloc, &quad, &mut lines, writer) {
+            Ok(Some(quad)) => match gather(&quad, &mut lines, writer) {
                 Ok(()) => drop(quad),
                 Err(fault) => {
                     drop(quad);

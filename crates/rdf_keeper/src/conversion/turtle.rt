@@ -55,7 +55,7 @@ fn write_quads<W: Write>(alloc: Global, quads: &[Quad], writer: &mut W) -> Resul
 {
     let mut lines = Vec::new(alloc);
     for quad in quads {
-        match gather(alloc, quad, &mut lines, writer) {
+        match gather(quad, &mut lines, writer) {
             Ok(()) => {}
             Err(fault) => return Err(fault),
         }

@@ -108,20 +108,15 @@ fn answered(alloc: Global, reply: Result<QueryAnswer, KeeperFault>) -> Answer
 }
 
 // Appends the lines of what the session shows, and answers how many there are.
-fn append_listing(
-    alloc: Global,
-    keeper: &Keeper,
-    listing: Listing,
-    out: &mut Vec<u8>,
-) -> Result<u64, NoMemory>
+fn append_listing(keeper: &Keeper, listing: Listing, out: &mut Vec<u8>) -> Result<u64, NoMemory>
     ensures { IfOk result (λ count. (lines : List (List ℕ)) × Shows listing keeper.now lines
         × (out.new.items ≡ out.old.items ++ concat lines) × (count ≡ length lines)) }
 {
     match listing {
-        Listing::Changes => append_change(alloc, &keeper.changes()?, out),
+        Listing::Changes => append_change(&keeper.changes()?, out),
         Listing::Graphs => {
             let names = keeper.names()?;
-            append_names(alloc, b"", names.as_slice(), out)?;
+            append_names(b"", names.as_slice(), out)?;
             Ok(names.len() as u64)
         }
         Listing::Quads => keeper.write_quads(out),
@@ -133,7 +128,7 @@ fn show(alloc: Global, keeper: &Keeper, listing: Listing) -> Answer
         (result.payload.items ++ result.line.items) result.refused keeper.now }
 {
     let mut payload = Vec::new(alloc);
-    match append_listing(alloc, keeper, listing, &mut payload) {
+    match append_listing(keeper, listing, &mut payload) {
         Ok(count) => Answer {
             payload,
             line: count_line(count),

@@ -7,59 +7,48 @@ ghost use Rattle.rdf_keeper.specs.Script.Listing.{ListsChange, name_line};
 use rdf_dataset::Net;
 use rdf_lines::write_quad;
 use rdf_terms::{NoMemory, Quad, Term, write_term};
-use std::alloc::Global;
 
-fn append_name(alloc: Global, before: &[u8], name: &Term, out: &mut Vec<u8>) -> Result<(), NoMemory>
+fn append_name(before: &[u8], name: &Term, out: &mut Vec<u8>) -> Result<(), NoMemory>
     ensures { OnOk result (out.new.items ≡ out.old.items ++ (before.now ++ name_line name.now)) }
 {
     out.extend_from_slice(before)?;
-    write_term(alloc, name, out)?;
+    write_term(name, out)?;
     out.push(b'\n')?;
     Ok(())
 }
 
-fn append_quad(alloc: Global, before: &[u8], quad: &Quad, out: &mut Vec<u8>) -> Result<(), NoMemory>
+fn append_quad(before: &[u8], quad: &Quad, out: &mut Vec<u8>) -> Result<(), NoMemory>
     ensures { OnOk result (out.new.items ≡ out.old.items ++ (before.now ++ quad_text quad.now)) }
 {
     out.extend_from_slice(before)?;
-    write_quad(alloc, quad, out)?;
+    write_quad(quad, out)?;
     Ok(())
 }
 
 /// Appends a line for each name. A refusal may leave some of the lines.
-pub(crate) fn append_names(
-    alloc: Global,
-    before: &[u8],
-    names: &[Term],
-    out: &mut Vec<u8>,
-) -> Result<(), NoMemory>
+pub(crate) fn append_names(before: &[u8], names: &[Term], out: &mut Vec<u8>) -> Result<(), NoMemory>
     ensures { OnOk result (out.new.items ≡
         out.old.items ++ concat (map (λ n. before.now ++ name_line n) names.now)) }
 {
     for name in names {
-        append_name(alloc, before, name, out)?;
+        append_name(before, name, out)?;
     }
     Ok(())
 }
 
 // Appends a line for each quad. A refusal may leave some of the lines.
-fn append_quads(
-    alloc: Global,
-    before: &[u8],
-    quads: &[Quad],
-    out: &mut Vec<u8>,
-) -> Result<(), NoMemory>
+fn append_quads(before: &[u8], quads: &[Quad], out: &mut Vec<u8>) -> Result<(), NoMemory>
     ensures { OnOk result (out.new.items ≡
         out.old.items ++ concat (map (λ q. before.now ++ quad_text q) quads.now)) }
 {
     for quad in quads {
-        append_quad(alloc, before, quad, out)?;
+        append_quad(before, quad, out)?;
     }
     Ok(())
 }
 
 /// Appends the lines of a net, and answers how many there are. A refusal may leave some of the lines.
-pub(crate) fn append_change(alloc: Global, net: &Net, out: &mut Vec<u8>) -> Result<u64, NoMemory>
+pub(crate) fn append_change(net: &Net, out: &mut Vec<u8>) -> Result<u64, NoMemory>
     ensures { IfOk result (λ count. (lines : List (List ℕ)) × ListsChange net.now lines
         × (out.new.items ≡ out.old.items ++ concat lines) × (count ≡ length lines)) }
 {
@@ -67,10 +56,10 @@ pub(crate) fn append_change(alloc: Global, net: &Net, out: &mut Vec<u8>) -> Resu
     let removed = net.removed();
     let names_added = net.names_added();
     let added = net.added();
-    append_names(alloc, b"- graph ", names_removed, out)?;
-    append_quads(alloc, b"- ", removed, out)?;
-    append_names(alloc, b"+ graph ", names_added, out)?;
-    append_quads(alloc, b"+ ", added, out)?;
+    append_names(b"- graph ", names_removed, out)?;
+    append_quads(b"- ", removed, out)?;
+    append_names(b"+ graph ", names_added, out)?;
+    append_quads(b"+ ", added, out)?;
     let names = names_removed.len() + names_added.len();
     let quads = removed.len() + added.len();
     Ok((names + quads) as u64)
