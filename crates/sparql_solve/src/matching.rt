@@ -1,6 +1,6 @@
 //! Basic graph patterns: the rows under which every instance lies in the graph
 //! (SPARQL 1.1 Query, section 18.3.1), by look-ups.
-ghost use Rattle.std.specs.Prelude.{◌≡◌, ◌++◌, IfOk, IfSome, IsTrue, OnOk, map, option_copied, take};
+ghost use Rattle.std.specs.Prelude.{◌≡◌, ◌++◌, IfOk, IsTrue, None, OnOk, Some, cond, map, take};
 ghost use Rattle.std.specs.List.{list_all};
 ghost use Rattle.rdf_dataset.specs.Sorted.{ListsOnce};
 ghost use Rattle.sparql_solve.specs.Matching.{AsksSame, has_held, matched, matches_of, stepped, matching, quads_under};
@@ -12,25 +12,23 @@ use rdf_dataset::Source;
 use rdf_terms::{GraphName, NoMemory, Quad};
 use std::alloc::Global;
 
-// The row with what the triple binds, which was looked up under it; a variable that stands twice may
-// still want two terms.
-fn matched_row(mut row: Row, places: &Places, quad: &Quad) -> Result<Option<Row>, NoMemory>
-    requires { IsTrue (has_held places.now row quad.now) }
-    ensures { IfOk result (λ out. out ≡ matched places.now row quad.now) }
+// Binds in the row what the triple binds, which was looked up under it, and answers whether it fits;
+// a variable that stands twice may still want two terms.
+fn matches_row(row: &mut Row, places: &Places, quad: &Quad) -> Result<bool, NoMemory>
+    requires { IsTrue (has_held places.now row.old quad.now) }
+    ensures { IfOk result (λ fits.
+        matched places.now row.old quad.now ≡ cond fits (Some row.new) None) }
 {
     let has_predicate = row.has(&places.predicate);
     let has_subject = row.has(&places.subject);
     let has_object = row.has(&places.object);
     if !row.take(&places.predicate, quad.predicate(), has_predicate)? {
-        return Ok(None);
+        return Ok(false);
     }
     if !row.take(&places.subject, quad.subject(), has_subject)? {
-        return Ok(None);
+        return Ok(false);
     }
-    if !row.take(&places.object, quad.object(), has_object)? {
-        return Ok(None);
-    }
-    Ok(Some(row))
+    row.take(&places.object, quad.object(), has_object)
 }
 
 // Appends the rows that the triples make of copies of a row under which they were looked up.
@@ -46,7 +44,8 @@ fn append_copies(
         ≡ out.old.items ++ matches_of quads.now places.now row.now) }
 {
     for quad in quads {
-        if let Some(found) = matched_row(row.copy(alloc)?, places, quad)? {
+        let mut found = row.copy(alloc)?;
+        if matches_row(&mut found, places, quad)? {
             out.push(found)?;
         }
     }
@@ -57,7 +56,7 @@ fn append_copies(
 // the row itself.
 fn append_matches(
     alloc: Global,
-    row: Row,
+    mut row: Row,
     places: &Places,
     quads: &[Quad],
     out: &mut Vec<Row>,
@@ -70,8 +69,8 @@ fn append_matches(
         return Ok(());
     };
     append_copies(alloc, &row, places, others, out)?;
-    if let Some(found) = matched_row(row, places, last)? {
-        out.push(found)?;
+    if matches_row(&mut row, places, last)? {
+        out.push(row)?;
     }
     Ok(())
 }

@@ -3,11 +3,11 @@ use Rattle.rdf_dataset.specs.State.{fits_place}
 use Rattle.sparql_algebra.proofs.CallerLemmas.{and_left, and_right}
 use Rattle.sparql_solve.specs.Matching.{held}
 use Rattle.sparql_solve.proofs.FitLemmas.{ready_first, ready_next, ready_taken}
-use Rattle.sparql_solve.proofs.matching.matched_row.Goals as goal
+use Rattle.sparql_solve.proofs.matching.matches_row.Goals as goal
 
 pub take-requires : goal.take-requires
 take-requires c known =
-    let m = c.args.row in
+    let m = c.args.row.now in
     let p = c.args.places.now in
     ready_taken m m p.predicate c.predicate.result.now c.has-has_predicate.result c.has-has_predicate.ensures known
     (ready_first m m p.predicate c.predicate.result.now refl
@@ -16,7 +16,7 @@ take-requires c known =
 
 pub take-requires-2 : goal.take-requires-2
 take-requires-2 c known =
-    let m = c.args.row in
+    let m = c.args.row.now in
     let p = c.args.places.now in
     ready_taken m c.take.new.self p.subject c.subject.result.now c.has-has_subject.result c.has-has_subject.ensures known
     (ready_next m m c.take.new.self p.subject p.predicate c.subject.result.now c.predicate.result.now
@@ -26,7 +26,7 @@ take-requires-2 c known =
 
 pub take-requires-3 : goal.take-requires-3
 take-requires-3 c known =
-    let m = c.args.row in
+    let m = c.args.row.now in
     let p = c.args.places.now in
     ready_taken m c.take-2.new.self p.object c.object.result.now c.has-has_object.result c.has-has_object.ensures known
     (ready_next m c.take.new.self c.take-2.new.self p.object p.subject c.object.result.now c.subject.result.now
