@@ -18,7 +18,8 @@ use Rattle.rdf_terms.specs.declared.quad.GraphName.{GraphName}
 use Rattle.rdf_terms.specs.declared.quad.GraphName.TheVariants.{Default, Named}
 use Rattle.rdf_terms.specs.declared.term.Term.{Term}
 use Rattle.rdf_terms.specs.declared.term.Term.TheVariants.{Blank, Iri, Literal}
-use Rattle.rdf_session.proofs.OneReplyLemmas.{Laws, one_document}
+use Rattle.rdf_session.proofs.OneReplyLemmas.{one_document}
+use Rattle.rdf_session.specs.Inside.ReaderLaws.{ReaderLaws}
 use Rattle.rdf_session.specs.BlankCount.{HasBlankCount, LimitIsTheCount, LoadTakesTheCount, LoadWantsTheCount}
 use Rattle.rdf_session.specs.Documents.{IsDocument}
 use Rattle.rdf_session.specs.Request.{blank_limit, graph_limit, quad_limit, term_limit}
@@ -162,14 +163,14 @@ module _ (line_law : line_blanks.BlankNumbersAreBelow) (turtle_law : turtle_blan
       let all = counted format base text quads is in
       (subst (HasBlankCount quads) (one_count quads all.0 all.2 all.1) all.1, λ count has. one_count quads count all.2 has)
 
-  pub load_takes_the_count : Laws → LoadTakesTheCount
+  pub load_takes_the_count : ReaderLaws → LoadTakesTheCount
   load_takes_the_count laws format base text quads count s t is has made =
       let same = one_document laws format base text made.0 quads made.1 is in
       ap (λ (x : State). x.next) made.3
       ∙ ap (λ qs. s.next + blank_limit qs) same
       ∙ ap (λ n. s.next + n) (sym ((limit_is_the_count format base text quads is).1 count has))
 
-  pub load_wants_the_count : Laws → LoadWantsTheCount
+  pub load_wants_the_count : ReaderLaws → LoadWantsTheCount
   load_wants_the_count laws format base text quads count s is has =
       let same = (limit_is_the_count format base text quads is).1 count has in (
         λ refused. subst (λ n. last_number < s.next + n) (ap blank_limit (one_document laws format base text refused.0 quads refused.1 is) ∙ sym same) refused.2,

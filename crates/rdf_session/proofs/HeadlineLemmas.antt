@@ -4,7 +4,8 @@ use Rattle.rdf_dataset.specs.State.{State, net_between}
 use Rattle.rdf_session.proofs.GivesBackLemmas.{now_accepted, redo_gives_again, undo_gives_back}
 use Rattle.rdf_session.proofs.InsertionLemmas.{load_inserts}
 use Rattle.rdf_session.proofs.NetLemmas.{applied_is, turned_is}
-use Rattle.rdf_session.proofs.OneReplyLemmas.{Laws, never_refused, one_document}
+use Rattle.rdf_session.proofs.OneReplyLemmas.{never_refused, one_document}
+use Rattle.rdf_session.specs.Inside.ReaderLaws.{ReaderLaws}
 use Rattle.rdf_session.proofs.StandingLemmas.{Agrees, fresh_agrees, run_agrees, standing, step_agrees}
 use Rattle.rdf_session.specs.Headline.{HasOperations, HaveOperations, MakeExactly, committed_by, committed, standing_since, still_standing, HaveEntries, Headline}
 use Rattle.rdf_session.specs.History.{nothing}
@@ -64,7 +65,7 @@ all_operations_of base (request ∷ requests) s t m =
     let rest = all_operations_of base requests m.0 t m.2 in
     (first.0 ++ rest.0, (first.0, rest.0, first.1, rest.1, refl), steps_on first.0 rest.0 s m.0 first.2 ∙ rest.2)
 
-module _ (laws : Laws) where
+module _ (laws : ReaderLaws) where
   one_list : (base : Base) (request : Request) (xs ys : Operations) → HasOperations base request xs → HasOperations base request ys → xs ≡ ys
   one_list base (Load format text) xs ys a b = a.2 ∙ ap (λ quads. insertion quads ∷ []) (one_document laws format base text a.0 b.0 a.1 b.1) ∙ sym b.2
   one_list base (Update text) xs ys a b = a.2 ∙ ap (λ (x : UpdateRequest). x.operations) (laws.request base text a.0 b.0 a.1 b.1) ∙ sym b.2
@@ -143,11 +144,11 @@ one_end base requests s t u a b = same_end (steps s a.operations) t u a.lead (ap
 -- ---- all of it
 
 -- after a run the base is what the committed requests make, and the state what those that still stand do
-run_lasts : Laws → (base : Base) (start : State) (events : List (Command × Reply)) (session : Session) → Run (fresh base start) events session → MakeExactly base (committed nothing events) start session.base
+run_lasts : ReaderLaws → (base : Base) (start : State) (events : List (Command × Reply)) (session : Session) → Run (fresh base start) events session → MakeExactly base (committed nothing events) start session.base
 run_lasts laws base start events session run =
     make_exactly laws base (committed nothing events) start session.base (run_base base events (fresh base start) session nothing (fresh_agrees base start) run)
 
-run_stands : Laws → (base : Base) (start : State) (events : List (Command × Reply)) (session : Session) → Run (fresh base start) events session → MakeExactly base (still_standing events) start (now session)
+run_stands : ReaderLaws → (base : Base) (start : State) (events : List (Command × Reply)) (session : Session) → Run (fresh base start) events session → MakeExactly base (still_standing events) start (now session)
 run_stands laws base start events session run =
     let begun = fresh_agrees base start in
     make_exactly laws base (still_standing events) start (now session)
@@ -155,7 +156,7 @@ run_stands laws base start events session run =
     (run_base base events (fresh base start) session nothing begun run)
     (stands_now base session (requests_of nothing events) (run_agrees base (fresh base start) session events nothing begun run)))
 
-pub headline : Laws → Headline
+pub headline : ReaderLaws → Headline
 headline laws base start events session run =
     let a = run_agrees base (fresh base start) session events nothing (fresh_agrees base start) run in
     record {

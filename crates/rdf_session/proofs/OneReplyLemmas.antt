@@ -5,7 +5,6 @@ use Rattle.rdf_lines.specs.declared.fault.LineFault.{LineFault}
 use Rattle.rdf_lines.specs.declared.format.LineFormat.{LineFormat}
 use Rattle.rdf_lines.specs.declared.format.LineFormat.TheVariants as line
 use Rattle.rdf_lines.specs.Document as lines
-use Rattle.rdf_lines.specs.Document.{EachTextIsOneDocument}
 use Rattle.rdf_turtle.specs.Document as turtle
 use Rattle.rdf_turtle.specs.DocumentLaws as turtle_laws
 use Rattle.rdf_turtle.specs.declared.fault.TurtleFault.{TurtleFault}
@@ -17,6 +16,7 @@ use Rattle.sparql_syntax.specs.declared.fault.SyntaxFault.{SyntaxFault}
 use Rattle.sparql_trees.specs.declared.operation.Request.{Request as UpdateRequest}
 use Rattle.rdf_dataset.specs.State.{State, last_number}
 use Rattle.rdf_session.specs.Documents.{IsDocument, IsFaulty}
+use Rattle.rdf_session.specs.Inside.ReaderLaws.{ReaderLaws}
 use Rattle.rdf_session.specs.History.{place_of}
 use Rattle.rdf_session.specs.OneReply.{DifferInLine, IsFull, OneReply, SameReply}
 use Rattle.rdf_session.specs.Request.{Request, Load, Update, Makes, blank_limit, loaded}
@@ -210,17 +210,7 @@ in_update : (text : List ℕ) (x y : SyntaxFault) → update_laws.SameFault x y 
 in_update text x y same true e = inr (e, ap update_laws.has_free_line (sym same.0) ∙ e, same.0)
 in_update text x y same false e = inl (λ i. SyntaxFaultOf (record { line = same.1 e i; kind = same.0 i }))
 
--- the laws of the readers
-pub record Laws : Type 0 where
-  pub text : EachTextIsOneDocument
-  pub document : turtle_laws.OneDocument
-  pub never_both : turtle_laws.NeverBoth
-  pub fault : turtle_laws.OneFault
-  pub request : update_laws.OneRequest
-  pub request_or_fault : update_laws.NeverBoth
-  pub request_fault : update_laws.OneFault
-
-module _ (laws : Laws) where
+module _ (laws : ReaderLaws) where
   in_lines : (format : LineFormat) (text : List ℕ) (quads others : List QuadParts) (ending end : Option LineFault) → lines.IsDocument format text quads ending → lines.IsDocument format text others end → (quads ≡ others) × (ending ≡ end)
   in_lines format text quads others ending end a b =
       let d = laws.text format text in

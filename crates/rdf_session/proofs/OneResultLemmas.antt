@@ -12,7 +12,8 @@ use Rattle.rdf_turtle.specs.DocumentLaws as turtle_laws
 use Rattle.sparql_eval.specs.Operations.{steps}
 use Rattle.sparql_eval.specs.declared.fault.ApplyFault.{ApplyFault}
 use Rattle.sparql_syntax.specs.UpdateLaws as update_laws
-use Rattle.rdf_session.proofs.OneReplyLemmas.{Laws, never_refused, one_meaning}
+use Rattle.rdf_session.proofs.OneReplyLemmas.{never_refused, one_meaning}
+use Rattle.rdf_session.specs.Inside.ReaderLaws.{ReaderLaws}
 use Rattle.rdf_session.specs.Documents.{IsDocument, IsFaulty}
 use Rattle.rdf_session.specs.OneResult.{SomeResult, OneResult, ResultOrRefusal}
 use Rattle.rdf_session.specs.Request.{Request, Load, Update, Makes, IsRefused, blank_limit, loaded}
@@ -105,10 +106,10 @@ may : (base : Option (List ℕ)) (request : Request) (s : State) (fault : Keeper
 may base request s (NoMemory _) h = tt
 may base request s fault h = h
 
-pub one_result : Laws → OneResult
+pub one_result : ReaderLaws → OneResult
 one_result laws base request s t u = one_meaning laws base request s t u
 
-pub result_or_refusal : Laws → ResultOrRefusal
+pub result_or_refusal : ReaderLaws → ResultOrRefusal
 result_or_refusal laws base request s t fault made refused =
     never_refused laws (fresh base s) request fault t (may base request s fault refused)
     (λ e. no_want base request s (subst (IsRefused base request s) e refused)) made

@@ -1,4 +1,5 @@
--- What only private functions speak of: what a keeper holds, and how a request is read and staged.
+-- What only private functions speak of: what a keeper holds, how a request is read and staged, and the laws of the readers together.
 pub mod Kept
 pub mod Marks
 pub mod Staging
+pub mod ReaderLaws

@@ -12,11 +12,21 @@ ghost use Rattle.rdf_session.specs.ComesAbout.{MayBeAccepted, EachCommandRuns};
 ghost use Rattle.rdf_session.specs.Commits.{CommitKeepsTheState, BaseIsTheFirst, BaseIsTheLastCommitted};
 ghost use Rattle.rdf_session.specs.GivesBack.{RunsAreWhole, UndoGivesBack, RedoGivesAgain, RollbackGivesBack, RefusalsLeave};
 ghost use Rattle.rdf_session.specs.Headline.{Headline};
+ghost use Rattle.rdf_session.specs.Inside.ReaderLaws.{ReaderLaws};
 ghost use Rattle.rdf_session.specs.LoadLaws.{LoadInserts, LoadIsRefusedAlike};
 ghost use Rattle.rdf_session.specs.OneQueryReply.{OneQueryReply};
 ghost use Rattle.rdf_session.specs.OneReply.{OneReply};
 ghost use Rattle.rdf_session.specs.OneResult.{SomeResult, OneResult, ResultOrRefusal};
 ghost use Rattle.rdf_session.specs.UndoRedo.{UndoThenRedo, RedoThenUndo};
+
+// The laws of the readers, which those below stand on.
+fn readers_keep_laws()
+    ensures { ReaderLaws }
+{
+    rdf_lines::each_text_is_one_document();
+    rdf_turtle::one_meaning();
+    sparql_syntax::one_request();
+}
 
 /// The promise of the whole. For every state to start with, after any commands with any replies (loads, updates, undos, redos,
 /// marks, rollbacks, commits and refusals): an accepted request leaves exactly the state that its operations make of the state
@@ -33,9 +43,7 @@ pub fn the_headline()
     ensures accepted { MayBeAccepted }
     ensures each_runs { EachCommandRuns }
 {
-    rdf_lines::each_text_is_one_document();
-    rdf_turtle::one_meaning();
-    sparql_syntax::one_request();
+    readers_keep_laws();
 }
 
 /// After any commands with any replies, refusals and want of memory among them, each state is what
@@ -85,9 +93,7 @@ pub fn one_reply()
     ensures result { OneResult }
     ensures never_both { ResultOrRefusal }
 {
-    rdf_lines::each_text_is_one_document();
-    rdf_turtle::one_meaning();
-    sparql_syntax::one_request();
+    readers_keep_laws();
     sparql_syntax::one_query();
     sparql_algebra::one_selection();
     sparql_algebra::one_answer();
@@ -103,9 +109,7 @@ pub fn a_load_is_insert_data()
     ensures takes { LoadTakesTheCount }
     ensures wants { LoadWantsTheCount }
 {
-    rdf_lines::each_text_is_one_document();
+    readers_keep_laws();
     rdf_lines::blank_numbers_are_below();
-    rdf_turtle::one_meaning();
     rdf_turtle::blank_numbers_are_below();
-    sparql_syntax::one_request();
 }

@@ -12,25 +12,7 @@ pub returns-clause-limit : goal.returns-clause-limit
 returns-clause-limit c = limit_is_the_count c.blank_numbers_are_below.ensures c.blank_numbers_are_below-2.ensures
 
 pub returns-clause-takes : goal.returns-clause-takes
-returns-clause-takes c =
-    load_takes_the_count c.blank_numbers_are_below.ensures c.blank_numbers_are_below-2.ensures (record {
-      text = c.each_text_is_one_document.ensures;
-      document = c.one_meaning.ensures.document;
-      never_both = c.one_meaning.ensures.never_both;
-      fault = c.one_meaning.ensures.fault;
-      request = c.one_request.ensures.request;
-      request_or_fault = c.one_request.ensures.never_both;
-      request_fault = c.one_request.ensures.fault;
-    })
+returns-clause-takes c = load_takes_the_count c.blank_numbers_are_below.ensures c.blank_numbers_are_below-2.ensures c.readers_keep_laws.ensures
 
 pub returns-clause-wants : goal.returns-clause-wants
-returns-clause-wants c =
-    load_wants_the_count c.blank_numbers_are_below.ensures c.blank_numbers_are_below-2.ensures (record {
-      text = c.each_text_is_one_document.ensures;
-      document = c.one_meaning.ensures.document;
-      never_both = c.one_meaning.ensures.never_both;
-      fault = c.one_meaning.ensures.fault;
-      request = c.one_request.ensures.request;
-      request_or_fault = c.one_request.ensures.never_both;
-      request_fault = c.one_request.ensures.fault;
-    })
+returns-clause-wants c = load_wants_the_count c.blank_numbers_are_below.ensures c.blank_numbers_are_below-2.ensures c.readers_keep_laws.ensures

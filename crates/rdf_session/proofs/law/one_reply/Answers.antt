@@ -4,16 +4,7 @@ use Rattle.rdf_session.proofs.OneResultLemmas as result
 use Rattle.rdf_session.proofs.law.one_reply.Goals as goal
 
 pub returns-clause-commands : goal.returns-clause-commands
-returns-clause-commands c =
-    one_reply (record {
-      text = c.each_text_is_one_document.ensures;
-      document = c.one_meaning.ensures.document;
-      never_both = c.one_meaning.ensures.never_both;
-      fault = c.one_meaning.ensures.fault;
-      request = c.one_request.ensures.request;
-      request_or_fault = c.one_request.ensures.never_both;
-      request_fault = c.one_request.ensures.fault;
-    })
+returns-clause-commands c = one_reply c.readers_keep_laws.ensures
 
 pub returns-clause-queries : goal.returns-clause-queries
 returns-clause-queries c =
@@ -26,28 +17,10 @@ returns-clause-queries c =
     })
 
 pub returns-clause-there : goal.returns-clause-there
-returns-clause-there c = result.some_result c.each_text_is_one_document.ensures c.one_meaning.ensures.there c.one_request.ensures.there
+returns-clause-there c = let laws = c.readers_keep_laws.ensures in result.some_result laws.text laws.some_document laws.some_request
 
 pub returns-clause-result : goal.returns-clause-result
-returns-clause-result c =
-    result.one_result (record {
-      text = c.each_text_is_one_document.ensures;
-      document = c.one_meaning.ensures.document;
-      never_both = c.one_meaning.ensures.never_both;
-      fault = c.one_meaning.ensures.fault;
-      request = c.one_request.ensures.request;
-      request_or_fault = c.one_request.ensures.never_both;
-      request_fault = c.one_request.ensures.fault;
-    })
+returns-clause-result c = result.one_result c.readers_keep_laws.ensures
 
 pub returns-clause-never_both : goal.returns-clause-never_both
-returns-clause-never_both c =
-    result.result_or_refusal (record {
-      text = c.each_text_is_one_document.ensures;
-      document = c.one_meaning.ensures.document;
-      never_both = c.one_meaning.ensures.never_both;
-      fault = c.one_meaning.ensures.fault;
-      request = c.one_request.ensures.request;
-      request_or_fault = c.one_request.ensures.never_both;
-      request_fault = c.one_request.ensures.fault;
-    })
+returns-clause-never_both c = result.result_or_refusal c.readers_keep_laws.ensures
