@@ -1,6 +1,5 @@
 -- What is written of a document of Turtle.
 use Rattle.std.proofs.Common.{◌≡◌, ◌∙◌, inl, inr, ap, refl, sym, subst, ℕ, ◌+◌, ◌<◌, ◌≤◌, List, [], ◌∷◌, ◌++◌, length, take, drop, get_or, append_assoc, append-nil, Option, Some, None}
-use Rattle.std.proofs.lemmas.List.{take-append-drop, take_all, take_more}
 use Rattle.std.specs.Prelude.{Result, Ok, Err}
 use Rattle.std.specs.Io.KnownBytes.{Appends, Consumes, IsAtEnd}
 use Rattle.rdf_terms.specs.declared.quad.Quad.{Quad}
@@ -19,50 +18,58 @@ use Rattle.rdf_keeper.proofs.StreamLemmas.{Appends-chain}
 use Rattle.rdf_keeper.proofs.ConversionLemmas.Converts.{Appends-none, lines_of-append, lines_of-push, more_left}
 use Rattle.rdf_keeper.specs.Conversion.Faults.{no_memory}
 
--- ---- the quads of a slice, one after another
+-- ---- the quads, one after another
 
--- the lines of the first quads are written, but for what is held
-abbrev pub Written : Option (List ℕ) → Option (List ℕ) → List Quad → ℕ → List ℕ → Type 0
-Written before now quads i held = (out : List ℕ) × Appends before now out × (out ++ held ≡ lines_of (take i quads))
+-- the lines of the quads before the rest are written, but for what is held
+pub record Written (before now : Option (List ℕ)) (quads rest : List Quad) (held : List ℕ) : Type 0 where
+  pub front : List Quad
+  pub parts : quads ≡ front ++ rest
+  pub out : List ℕ
+  pub appended : Appends before now out
+  pub lines : out ++ held ≡ lines_of front
 
-pub none_written : (before : Option (List ℕ)) (quads : List Quad) → Written before before quads 0 []
-none_written before quads = ([], Appends-none before, refl)
+pub none_written : (before : Option (List ℕ)) (quads rest : List Quad) → rest ≡ quads → Written before before quads rest []
+none_written before quads rest all = record { front = []; parts = sym all; out = []; appended = Appends-none before; lines = refl }
 
-one_more : (quads : List Quad) (i : ℕ) (q : Quad) → i < length quads → q ≡ get_or quads i q → lines_of (take (i + 1) quads) ≡ lines_of (take i quads) ++ quad_text q
-one_more quads i q h is =
-    ap lines_of (take_more quads i q h ∙ ap (λ x. take i quads ++ x ∷ []) (sym is)) ∙ lines_of-push (take i quads) q
+module _ (before now after : Option (List ℕ)) (quads rest behind : List Quad) (q : Quad) (held left : List ℕ) (next : rest ≡ q ∷ behind) (w : Written before now quads rest held) where
+  parts_on : quads ≡ (w.front ++ q ∷ []) ++ behind
+  parts_on = w.parts ∙ ap (λ t. w.front ++ t) next ∙ sym (append_assoc w.front (q ∷ []) behind)
 
-parts_of : (quads : List Quad) (i : ℕ) → lines_of quads ≡ lines_of (take i quads) ++ lines_of (drop i quads)
-parts_of quads i = ap lines_of (sym (take-append-drop i quads)) ∙ lines_of-append (take i quads) (drop i quads)
+  lines_on : lines_of (w.front ++ q ∷ []) ≡ w.out ++ (held ++ quad_text q)
+  lines_on = lines_of-push w.front q ∙ ap (λ t. t ++ quad_text q) (sym w.lines) ∙ append_assoc w.out held (quad_text q)
 
-module _ (before now after : Option (List ℕ)) (quads : List Quad) (i : ℕ) (q : Quad) (held rest : List ℕ) (h : i < length quads) (is : q ≡ get_or quads i q) where
-  pub one_written : (u : Unit {0}) → Written before now quads i held → Gathers now held (quad_text q) (Ok u) after rest → Written before after quads (i + 1) rest
-  one_written u (out, wrote, are) (front, w, parts) = (
-    out ++ front,
-    Appends-chain before now after out front wrote w,
-    append_assoc out front rest ∙ ap (λ t. out ++ t) (sym parts) ∙ sym (append_assoc out held (quad_text q)) ∙ ap (λ t. t ++ quad_text q) are ∙ sym (one_more quads i q h is),
-  )
+  pub one_written : (u : Unit {0}) → Gathers now held (quad_text q) (Ok u) after left → Written before after quads behind left
+  one_written u (more, a, parts) = record {
+    front = w.front ++ q ∷ [];
+    parts = parts_on;
+    out = w.out ++ more;
+    appended = Appends-chain before now after w.out more w.appended a;
+    lines = append_assoc w.out more left ∙ ap (λ t. w.out ++ t) (sym parts) ∙ sym lines_on;
+  }
 
-  pub stopped : (fault : ConvertFault) → Written before now quads i held → Gathers now held (quad_text q) (Err fault) after rest → WritesQuads before quads (Err fault) after
-  stopped (Document at) s g = absurd g
-  stopped Read s g = absurd g
-  stopped Write (out, wrote, are) (front, more, w, parts, some) =
-      let later = lines_of (drop (i + 1) quads) in
-      let lines : lines_of (take (i + 1) quads) ≡ (out ++ front) ++ more =
-      one_more quads i q h is ∙ ap (λ t. t ++ quad_text q) (sym are) ∙ append_assoc out held (quad_text q) ∙ ap (λ t. out ++ t) parts ∙ sym (append_assoc out front more) in
-      (out ++ front, more ++ later, Appends-chain before now after out front wrote w, parts_of quads (i + 1) ∙ ap (λ t. t ++ later) lines ∙ append_assoc (out ++ front) more later, more_left more later some)
-  stopped (NoMemory _) (out, wrote, are) w =
-      (take i quads, drop i quads, sym (take-append-drop i quads), subst (Appends before after) are (Appends-chain before now after out held wrote w))
+  pub stopped : (fault : ConvertFault) → Gathers now held (quad_text q) (Err fault) after left → WritesQuads before quads (Err fault) after
+  stopped (Document at) g = absurd g
+  stopped Read g = absurd g
+  stopped Write (some, more, a, parts, is) =
+      let later = lines_of behind in
+      let lines : lines_of (w.front ++ q ∷ []) ≡ (w.out ++ some) ++ more = lines_on ∙ ap (λ t. w.out ++ t) parts ∙ sym (append_assoc w.out some more) in (
+        w.out ++ some,
+        more ++ later,
+        Appends-chain before now after w.out some w.appended a,
+        ap lines_of parts_on ∙ lines_of-append (w.front ++ q ∷ []) behind ∙ ap (λ t. t ++ later) lines ∙ append_assoc (w.out ++ some) more later,
+        more_left more later is,
+      )
+  stopped (NoMemory _) a = (w.front, rest, w.parts, subst (Appends before after) w.lines (Appends-chain before now after w.out held w.appended a))
 
-pub all_written : (before now after : Option (List ℕ)) (quads : List Quad) (i : ℕ) (held : List ℕ) (answer : Result (Unit {0}) ConvertFault) → length quads ≤ i → Written before now quads i held → Finishes now held (Ok tt) answer after → WritesQuads before quads answer after
-all_written before now after quads i held answer h (out, wrote, are) f =
-    let all : out ++ held ≡ lines_of quads = are ∙ ap lines_of (take_all i quads h) in
+pub all_written : (before now after : Option (List ℕ)) (quads rest : List Quad) (held : List ℕ) (answer : Result (Unit {0}) ConvertFault) → rest ≡ [] → Written before now quads rest held → Finishes now held (Ok tt) answer after → WritesQuads before quads answer after
+all_written before now after quads rest held answer none w f =
+    let all : w.out ++ held ≡ lines_of quads = w.lines ∙ ap lines_of (sym (w.parts ∙ ap (λ t. w.front ++ t) none ∙ append-nil w.front)) in
     elim f [
-      | inl done ↦ subst (λ (a : Result (Unit {0}) ConvertFault). WritesQuads before quads a after) (sym done.0) (subst (Appends before after) all (Appends-chain before now after out held wrote done.1))
+      | inl done ↦ subst (λ (a : Result (Unit {0}) ConvertFault). WritesQuads before quads a after) (sym done.0) (subst (Appends before after) all (Appends-chain before now after w.out held w.appended done.1))
       | inr cut ↦
           let c = cut.1 in
           subst (λ (a : Result (Unit {0}) ConvertFault). WritesQuads before quads a after) (sym cut.0)
-          (out ++ c.0, c.1, Appends-chain before now after out c.0 wrote c.2, sym all ∙ ap (λ t. out ++ t) c.3 ∙ sym (append_assoc out c.0 c.1), c.4)
+          (w.out ++ c.0, c.1, Appends-chain before now after w.out c.0 w.appended c.2, sym all ∙ ap (λ t. w.out ++ t) c.3 ∙ sym (append_assoc w.out c.0 c.1), c.4)
     ]
 
 -- ---- a whole text

@@ -41,7 +41,7 @@ pub(crate) fn convert_turtle<R: Read, W: Write>(
     let mut held = Vec::new(alloc);
     match read_all(reader, &mut held) {
         Ending::AtEnd => match read_turtle(alloc, held.as_slice(), base) {
-            Ok(quads) => write_quads(alloc, quads.as_slice(), writer),
+            Ok(quads) => write_quads(alloc, quads, writer),
             Err(fault) => Err(turtle_fault(fault)),
         },
         Ending::Failed => Err(ConvertFault::Read),
@@ -49,13 +49,17 @@ pub(crate) fn convert_turtle<R: Read, W: Write>(
     }
 }
 
-// Writes the lines of the quads.
-fn write_quads<W: Write>(alloc: Global, quads: &[Quad], writer: &mut W) -> Result<(), ConvertFault>
-    ensures { WritesQuads (W.contents writer.old) quads.now result (W.contents writer.new) }
+// Writes the lines of the quads, and lets each quad go behind its line, while it is at hand.
+fn write_quads<W: Write>(
+    alloc: Global,
+    quads: Vec<Quad>,
+    writer: &mut W,
+) -> Result<(), ConvertFault>
+    ensures { WritesQuads (W.contents writer.old) quads.items result (W.contents writer.new) }
 {
     let mut lines = Vec::new(alloc);
     for quad in quads {
-        match gather(quad, &mut lines, writer) {
+        match gather(&quad, &mut lines, writer) {
             Ok(()) => {}
             Err(fault) => return Err(fault),
         }

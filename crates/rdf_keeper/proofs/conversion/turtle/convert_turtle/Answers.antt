@@ -20,7 +20,7 @@ returns-in-Ok g c text e =
     let is : c.as_slice.result.now ≡ text = c.as_slice.ensures.value ∙ whole_text before after text held e reads in
     document wrote now (option_copied c.args.base) text quads c.write_quads.result
     (subst (λ (t : List ℕ). turtle.IsDocument (option_copied c.args.base) t quads) is c.in-Ok.ensures)
-    (subst (λ (qs : List Quad). WritesQuads wrote qs c.write_quads.result now) c.as_slice-in-Ok.ensures.value c.write_quads.ensures)
+    c.write_quads.ensures
 
 pub returns-in-AtEnd : goal.returns-in-AtEnd
 returns-in-AtEnd g c text e =
