@@ -26,19 +26,19 @@ Shaped [] = Unit {0}
 Shaped (p ∷ earlier) = ((s : List ℕ) × (p ≡ 47 ∷ s) × Lacks 47 s × Shaped earlier) ⊎ ((earlier ≡ []) × Lacks 47 p)
 
 -- where the loop stands
-pub record State (path input output : List ℕ) : Type 0 where
+pub record DoneSoFar (path input output : List ℕ) : Type 0 where
   pub done : List (List ℕ)
   pub shaped : Shaped done
   pub rooted : (done ≡ []) ⊎ (is_rooted input ≡ true)
   pub output_is : output ≡ joined done
   pub meaning_is : joined (kept done (pieces (undotted (segments input)))) ≡ without_dots path
 
-pub state_start : (path : List ℕ) → State path path []
+pub done_start : (path : List ℕ) → DoneSoFar path path []
 unfolding without_dots
-state_start path = record { done = []; shaped = tt; rooted = inl refl; output_is = refl; meaning_is = refl }
+done_start path = record { done = []; shaped = tt; rooted = inl refl; output_is = refl; meaning_is = refl }
 
-pub state_end : (path output : List ℕ) → State path [] output → output ≡ without_dots path
-state_end path output state = state.output_is ∙ state.meaning_is
+pub done_end : (path output : List ℕ) → DoneSoFar path [] output → output ≡ without_dots path
+done_end path output so_far = so_far.output_is ∙ so_far.meaning_is
 
 -- ---- words
 
@@ -157,40 +157,40 @@ s7 input = is_text input (codes ".") || is_text input (codes "..")
 
 -- what one step leaves
 record Next (path input output : List ℕ) : Type 0 where
-  state : State path (step_input input) (step_output input output)
+  so_far : DoneSoFar path (step_input input) (step_output input output)
   smaller : length (step_input input) < length input
 
-next_from : (path input output rest more : List ℕ) → step_input input ≡ rest → step_output input output ≡ more → State path rest more → length rest < length input → Next path input output
-next_from path input output rest more e f state smaller =
-    record { state = rw (e, f) state; smaller = rw e smaller }
+next_from : (path input output rest more : List ℕ) → step_input input ≡ rest → step_output input output ≡ more → DoneSoFar path rest more → length rest < length input → Next path input output
+next_from path input output rest more e f so_far smaller =
+    record { so_far = rw (e, f) so_far; smaller = rw e smaller }
 
 -- ---- the cases
 
-leading : (path r output : List ℕ) (input : List ℕ) → is_rooted input ≡ false → ((done : List (List ℕ)) → meaning done input ≡ meaning done r) → State path input output → State path r output
-leading path r output input plain same state = record {
-  done = state.done;
-  shaped = state.shaped;
-  rooted = inl (none_done state.done (subst (λ (b : Bool). (state.done ≡ []) ⊎ (b ≡ true)) plain state.rooted));
-  output_is = state.output_is;
-  meaning_is = sym (same state.done) ∙ state.meaning_is;
+leading : (path r output : List ℕ) (input : List ℕ) → is_rooted input ≡ false → ((done : List (List ℕ)) → meaning done input ≡ meaning done r) → DoneSoFar path input output → DoneSoFar path r output
+leading path r output input plain same so_far = record {
+  done = so_far.done;
+  shaped = so_far.shaped;
+  rooted = inl (none_done so_far.done (subst (λ (b : Bool). (so_far.done ≡ []) ⊎ (b ≡ true)) plain so_far.rooted));
+  output_is = so_far.output_is;
+  meaning_is = sym (same so_far.done) ∙ so_far.meaning_is;
 }
 
-case_1 : (path input output : List ℕ) → s1 input ≡ true → State path input output → Next path input output
+case_1 : (path input output : List ℕ) → s1 input ≡ true → DoneSoFar path input output → Next path input output
 unfolding step_input step_output
-case_1 path input output e state =
+case_1 path input output e so_far =
     let shape : input ≡ 46 ∷ 46 ∷ 47 ∷ drop 3 input = begins input (codes "../") e in
     let len = ap length shape in
     next_from path input output (drop 3 input) output (rw e refl) (rw e refl)
-    (leading path (drop 3 input) output (46 ∷ 46 ∷ 47 ∷ drop 3 input) refl (λ done. refl) (subst (λ (i : List ℕ). State path i output) shape state))
+    (leading path (drop 3 input) output (46 ∷ 46 ∷ 47 ∷ drop 3 input) refl (λ done. refl) (subst (λ (i : List ℕ). DoneSoFar path i output) shape so_far))
     (omega arith)
 
-case_2 : (path input output : List ℕ) → s1 input ≡ false → s2 input ≡ true → State path input output → Next path input output
+case_2 : (path input output : List ℕ) → s1 input ≡ false → s2 input ≡ true → DoneSoFar path input output → Next path input output
 unfolding step_input step_output
-case_2 path input output n1 e state =
+case_2 path input output n1 e so_far =
     let shape : input ≡ 46 ∷ 47 ∷ drop 2 input = begins input (codes "./") e in
     let len = ap length shape in
     next_from path input output (drop 2 input) output (rw (n1, e) refl) (rw (n1, e) refl)
-    (leading path (drop 2 input) output (46 ∷ 47 ∷ drop 2 input) refl (λ done. refl) (subst (λ (i : List ℕ). State path i output) shape state))
+    (leading path (drop 2 input) output (46 ∷ 47 ∷ drop 2 input) refl (λ done. refl) (subst (λ (i : List ℕ). DoneSoFar path i output) shape so_far))
     (omega arith)
 
 -- a dropped piece with a further one after it
@@ -200,81 +200,81 @@ drops_dot done r = ap (λ (t : List (List ℕ)). joined (kept (t ++ done) (map s
 drops_dots : (done : List (List ℕ)) (r : List ℕ) → meaning done (47 ∷ 46 ∷ 46 ∷ 47 ∷ r) ≡ meaning (drop 1 done) (47 ∷ r)
 drops_dots done r = ap (λ (t : List (List ℕ)). joined (kept (t ++ drop 1 done) (map slashed (segments r)))) (closing_split r)
 
-dropped : (path r output input : List ℕ) → is_rooted r ≡ true → ((done : List (List ℕ)) → meaning done input ≡ meaning done r) → State path input output → State path r output
-dropped path r output input root same state = record {
-  done = state.done;
-  shaped = state.shaped;
+dropped : (path r output input : List ℕ) → is_rooted r ≡ true → ((done : List (List ℕ)) → meaning done input ≡ meaning done r) → DoneSoFar path input output → DoneSoFar path r output
+dropped path r output input root same so_far = record {
+  done = so_far.done;
+  shaped = so_far.shaped;
   rooted = inr root;
-  output_is = state.output_is;
-  meaning_is = sym (same state.done) ∙ state.meaning_is;
+  output_is = so_far.output_is;
+  meaning_is = sym (same so_far.done) ∙ so_far.meaning_is;
 }
 
-dropped_up : (path r output input : List ℕ) → is_rooted r ≡ true → ((done : List (List ℕ)) → meaning done input ≡ meaning (drop 1 done) r) → State path input output → State path r (without_last output)
-dropped_up path r output input root same state = record {
-  done = drop 1 state.done;
-  shaped = Shaped-drop state.done state.shaped;
+dropped_up : (path r output input : List ℕ) → is_rooted r ≡ true → ((done : List (List ℕ)) → meaning done input ≡ meaning (drop 1 done) r) → DoneSoFar path input output → DoneSoFar path r (without_last output)
+dropped_up path r output input root same so_far = record {
+  done = drop 1 so_far.done;
+  shaped = Shaped-drop so_far.done so_far.shaped;
   rooted = inr root;
-  output_is = ap without_last state.output_is ∙ popped state.done state.shaped;
-  meaning_is = sym (same state.done) ∙ state.meaning_is;
+  output_is = ap without_last so_far.output_is ∙ popped so_far.done so_far.shaped;
+  meaning_is = sym (same so_far.done) ∙ so_far.meaning_is;
 }
 
-case_3 : (path input output : List ℕ) → s1 input ≡ false → s2 input ≡ false → s3 input ≡ true → State path input output → Next path input output
+case_3 : (path input output : List ℕ) → s1 input ≡ false → s2 input ≡ false → s3 input ≡ true → DoneSoFar path input output → Next path input output
 unfolding step_input step_output
-case_3 path input output n1 n2 e state =
+case_3 path input output n1 n2 e so_far =
     let shape : input ≡ 47 ∷ 46 ∷ 47 ∷ drop 3 input = begins input (codes "/./") e in
     let rest : drop 2 input ≡ 47 ∷ drop 3 input = ap (drop 2) shape in
     let len = ap length shape in
     next_from path input output (47 ∷ drop 3 input) output (rw (n1, n2, e) rest) (rw (n1, n2, e) refl)
-    (dropped path (47 ∷ drop 3 input) output (47 ∷ 46 ∷ 47 ∷ drop 3 input) refl (λ done. drops_dot done (drop 3 input)) (subst (λ (i : List ℕ). State path i output) shape state))
+    (dropped path (47 ∷ drop 3 input) output (47 ∷ 46 ∷ 47 ∷ drop 3 input) refl (λ done. drops_dot done (drop 3 input)) (subst (λ (i : List ℕ). DoneSoFar path i output) shape so_far))
     (omega arith)
 
-case_4 : (path input output : List ℕ) → s1 input ≡ false → s2 input ≡ false → s3 input ≡ false → s4 input ≡ true → State path input output → Next path input output
+case_4 : (path input output : List ℕ) → s1 input ≡ false → s2 input ≡ false → s3 input ≡ false → s4 input ≡ true → DoneSoFar path input output → Next path input output
 unfolding step_input step_output
-case_4 path input output n1 n2 n3 e state =
+case_4 path input output n1 n2 n3 e so_far =
     let shape : input ≡ 47 ∷ 46 ∷ [] = text_is input (codes "/.") e in
     let rest : take 1 input ≡ 47 ∷ [] = ap (take 1) shape in
     let len = ap length shape in
     next_from path input output (47 ∷ []) output (rw (n1, n2, n3, e) rest) (rw (n1, n2, n3, e) refl)
-    (dropped path (47 ∷ []) output (47 ∷ 46 ∷ []) refl (λ done. refl) (subst (λ (i : List ℕ). State path i output) shape state))
+    (dropped path (47 ∷ []) output (47 ∷ 46 ∷ []) refl (λ done. refl) (subst (λ (i : List ℕ). DoneSoFar path i output) shape so_far))
     (omega arith)
 
-case_5 : (path input output : List ℕ) → s1 input ≡ false → s2 input ≡ false → s3 input ≡ false → s4 input ≡ false → s5 input ≡ true → State path input output → Next path input output
+case_5 : (path input output : List ℕ) → s1 input ≡ false → s2 input ≡ false → s3 input ≡ false → s4 input ≡ false → s5 input ≡ true → DoneSoFar path input output → Next path input output
 unfolding step_input step_output
-case_5 path input output n1 n2 n3 n4 e state =
+case_5 path input output n1 n2 n3 n4 e so_far =
     let shape : input ≡ 47 ∷ 46 ∷ 46 ∷ 47 ∷ drop 4 input = begins input (codes "/../") e in
     let rest : drop 3 input ≡ 47 ∷ drop 4 input = ap (drop 3) shape in
     let len = ap length shape in
     next_from path input output (47 ∷ drop 4 input) (without_last output) (rw (n1, n2, n3, n4, e) rest) (rw (n1, n2, n3, n4, e) refl)
-    (dropped_up path (47 ∷ drop 4 input) output (47 ∷ 46 ∷ 46 ∷ 47 ∷ drop 4 input) refl (λ done. drops_dots done (drop 4 input)) (subst (λ (i : List ℕ). State path i output) shape state))
+    (dropped_up path (47 ∷ drop 4 input) output (47 ∷ 46 ∷ 46 ∷ 47 ∷ drop 4 input) refl (λ done. drops_dots done (drop 4 input)) (subst (λ (i : List ℕ). DoneSoFar path i output) shape so_far))
     (omega arith)
 
-case_6 : (path input output : List ℕ) → s1 input ≡ false → s2 input ≡ false → s3 input ≡ false → s4 input ≡ false → s5 input ≡ false → s6 input ≡ true → State path input output → Next path input output
+case_6 : (path input output : List ℕ) → s1 input ≡ false → s2 input ≡ false → s3 input ≡ false → s4 input ≡ false → s5 input ≡ false → s6 input ≡ true → DoneSoFar path input output → Next path input output
 unfolding step_input step_output
-case_6 path input output n1 n2 n3 n4 n5 e state =
+case_6 path input output n1 n2 n3 n4 n5 e so_far =
     let shape : input ≡ 47 ∷ 46 ∷ 46 ∷ [] = text_is input (codes "/..") e in
     let rest : take 1 input ≡ 47 ∷ [] = ap (take 1) shape in
     let len = ap length shape in
     next_from path input output (47 ∷ []) (without_last output) (rw (n1, n2, n3, n4, n5, e) rest) (rw (n1, n2, n3, n4, n5, e) refl)
-    (dropped_up path (47 ∷ []) output (47 ∷ 46 ∷ 46 ∷ []) refl (λ done. refl) (subst (λ (i : List ℕ). State path i output) shape state))
+    (dropped_up path (47 ∷ []) output (47 ∷ 46 ∷ 46 ∷ []) refl (λ done. refl) (subst (λ (i : List ℕ). DoneSoFar path i output) shape so_far))
     (omega arith)
 
-whole_dots : (path input output : List ℕ) → s7 input ≡ true → State path input output → State path [] output × (0 < length input)
-whole_dots path input output e state =
+whole_dots : (path input output : List ℕ) → s7 input ≡ true → DoneSoFar path input output → DoneSoFar path [] output × (0 < length input)
+whole_dots path input output e so_far =
     elim (or_cases (is_text input (codes ".")) (is_text input (codes "..")) e) [
       | inl one ↦
           let shape : input ≡ 46 ∷ [] = text_is input (codes ".") one in
           let len = ap length shape in
-          (dropped path [] output (46 ∷ []) refl (λ done. refl) (subst (λ (i : List ℕ). State path i output) shape state), omega arith)
+          (dropped path [] output (46 ∷ []) refl (λ done. refl) (subst (λ (i : List ℕ). DoneSoFar path i output) shape so_far), omega arith)
       | inr two ↦
           let shape : input ≡ 46 ∷ 46 ∷ [] = text_is input (codes "..") two in
           let len = ap length shape in
-          (dropped path [] output (46 ∷ 46 ∷ []) refl (λ done. refl) (subst (λ (i : List ℕ). State path i output) shape state), omega arith)
+          (dropped path [] output (46 ∷ 46 ∷ []) refl (λ done. refl) (subst (λ (i : List ℕ). DoneSoFar path i output) shape so_far), omega arith)
     ]
 
-case_7 : (path input output : List ℕ) → s1 input ≡ false → s2 input ≡ false → s3 input ≡ false → s4 input ≡ false → s5 input ≡ false → s6 input ≡ false → s7 input ≡ true → State path input output → Next path input output
+case_7 : (path input output : List ℕ) → s1 input ≡ false → s2 input ≡ false → s3 input ≡ false → s4 input ≡ false → s5 input ≡ false → s6 input ≡ false → s7 input ≡ true → DoneSoFar path input output → Next path input output
 unfolding step_input step_output
-case_7 path input output n1 n2 n3 n4 n5 n6 e state =
-    let w = whole_dots path input output e state in
+case_7 path input output n1 n2 n3 n4 n5 n6 e so_far =
+    let w = whole_dots path input output e so_far in
     next_from path input output [] output (rw (n1, n2, n3, n4, n5, n6, e) refl) (rw (n1, n2, n3, n4, n5, n6, e) refl) w.0 w.1
 
 rest_rooted : (a : Option (List ℕ)) → is_rooted (marked (codes "/") a) ≡ true
@@ -284,42 +284,42 @@ rest_rooted (Some r) = refl
 -- the first piece goes to the output
 moved : (path : List ℕ) (c : ℕ) (s : List ℕ) (a : Option (List ℕ)) (output : List ℕ) → Lacks 47 s
     → is_text (c ∷ s) (codes ".") ≡ false → is_text (c ∷ s) (codes "..") ≡ false → is_text (c ∷ s) (codes "/.") ≡ false → is_text (c ∷ s) (codes "/..") ≡ false
-    → State path (c ∷ (s ++ marked (codes "/") a)) output → State path (marked (codes "/") a) (output ++ c ∷ s)
-moved path c s a output lacks m1 m2 m3 m4 state =
+    → DoneSoFar path (c ∷ (s ++ marked (codes "/") a)) output → DoneSoFar path (marked (codes "/") a) (output ++ c ∷ s)
+moved path c s a output lacks m1 m2 m3 m4 so_far =
     elim (cases_Bool (eqb c 47)) [
       | inl is ↦ record {
-        done = (c ∷ s) ∷ state.done;
-        shaped = inl (s, ap (λ (x : ℕ). x ∷ s) (eqb-true c 47 is), lacks, state.shaped);
+        done = (c ∷ s) ∷ so_far.done;
+        shaped = inl (s, ap (λ (x : ℕ). x ∷ s) (eqb-true c 47 is), lacks, so_far.shaped);
         rooted = inr (rest_rooted a);
-        output_is = ap (λ (t : List ℕ). t ++ c ∷ s) state.output_is;
+        output_is = ap (λ (t : List ℕ). t ++ c ∷ s) so_far.output_is;
         meaning_is =
             let slash = eqb-true c 47 is in
-            ap (λ (ps : List (List ℕ)). joined (kept ((c ∷ s) ∷ state.done) ps)) (pieces_tails a)
-            ∙ sym (ap joined (kept_piece state.done (map slashed (tails a)) (c ∷ s) m3 m4))
-            ∙ sym (ap (λ (ps : List (List ℕ)). joined (kept state.done ps))
+            ap (λ (ps : List (List ℕ)). joined (kept ((c ∷ s) ∷ so_far.done) ps)) (pieces_tails a)
+            ∙ sym (ap joined (kept_piece so_far.done (map slashed (tails a)) (c ∷ s) m3 m4))
+            ∙ sym (ap (λ (ps : List (List ℕ)). joined (kept so_far.done ps))
             (ap (λ (x : ℕ). pieces (undotted (segments (x ∷ (s ++ marked (codes "/") a))))) slash ∙ pieces_slash s a lacks ∙ ap (λ (x : ℕ). (x ∷ s) ∷ map slashed (tails a)) (sym slash)))
-            ∙ state.meaning_is;
+            ∙ so_far.meaning_is;
       }
       | inr plain ↦
-          let none : state.done ≡ [] = none_done state.done (subst (λ (b : Bool). (state.done ≡ []) ⊎ (b ≡ true)) plain state.rooted) in
+          let none : so_far.done ≡ [] = none_done so_far.done (subst (λ (b : Bool). (so_far.done ≡ []) ⊎ (b ≡ true)) plain so_far.rooted) in
           record {
-            done = (c ∷ s) ∷ state.done;
+            done = (c ∷ s) ∷ so_far.done;
             shaped = inr (none, (plain, lacks));
             rooted = inr (rest_rooted a);
-            output_is = ap (λ (t : List ℕ). t ++ c ∷ s) state.output_is;
+            output_is = ap (λ (t : List ℕ). t ++ c ∷ s) so_far.output_is;
             meaning_is =
-                ap (λ (ps : List (List ℕ)). joined (kept ((c ∷ s) ∷ state.done) ps)) (pieces_tails a)
-                ∙ sym (ap joined (kept_piece state.done (map slashed (tails a)) (c ∷ s) m3 m4))
-                ∙ sym (ap (λ (ps : List (List ℕ)). joined (kept state.done ps)) (pieces_plain c s a plain lacks m1 m2))
-                ∙ state.meaning_is;
+                ap (λ (ps : List (List ℕ)). joined (kept ((c ∷ s) ∷ so_far.done) ps)) (pieces_tails a)
+                ∙ sym (ap joined (kept_piece so_far.done (map slashed (tails a)) (c ∷ s) m3 m4))
+                ∙ sym (ap (λ (ps : List (List ℕ)). joined (kept so_far.done ps)) (pieces_plain c s a plain lacks m1 m2))
+                ∙ so_far.meaning_is;
           }
     ]
 
 case_8 : (path input output : List ℕ) → (input ≡ [] → ⊥) → s1 input ≡ false → s2 input ≡ false → s3 input ≡ false → s4 input ≡ false → s5 input ≡ false → s6 input ≡ false → s7 input ≡ false
-    → State path input output → Next path input output
+    → DoneSoFar path input output → Next path input output
 unfolding step_input step_output
-case_8 path [] output some n1 n2 n3 n4 n5 n6 n7 state = absurd (some refl)
-case_8 path (c ∷ t) output some n1 n2 n3 n4 n5 n6 n7 state =
+case_8 path [] output some n1 n2 n3 n4 n5 n6 n7 so_far = absurd (some refl)
+case_8 path (c ∷ t) output some n1 n2 n3 n4 n5 n6 n7 so_far =
     let split : c ∷ t ≡ c ∷ (before 47 t ++ marked (codes "/") (after 47 t)) = ap (λ (x : List ℕ). c ∷ x) (cut_joins 47 t) in
     let n = or_parts (is_text (c ∷ t) (codes ".")) (is_text (c ∷ t) (codes "..")) n7 in
     let rest : drop (length (before 47 t)) t ≡ marked (codes "/") (after 47 t) =
@@ -336,26 +336,26 @@ case_8 path (c ∷ t) output some n1 n2 n3 n4 n5 n6 n7 state =
     (not_word (codes "..") (c ∷ before 47 t) (after 47 t) (c ∷ t) split n.1 n1)
     (not_word (codes "/.") (c ∷ before 47 t) (after 47 t) (c ∷ t) split n4 n3)
     (not_word (codes "/..") (c ∷ before 47 t) (after 47 t) (c ∷ t) split n6 n5)
-    (subst (λ (i : List ℕ). State path i output) split state))
+    (subst (λ (i : List ℕ). DoneSoFar path i output) split so_far))
     (omega arith)
 
-next : (path input output : List ℕ) → (input ≡ [] → ⊥) → State path input output → Next path input output
-next path input output some state =
+next : (path input output : List ℕ) → (input ≡ [] → ⊥) → DoneSoFar path input output → Next path input output
+next path input output some so_far =
     elim (cases_Bool (s1 input)) [
-      | inl e ↦ case_1 path input output e state
+      | inl e ↦ case_1 path input output e so_far
       | inr n1 ↦ elim (cases_Bool (s2 input)) [
-        | inl e ↦ case_2 path input output n1 e state
+        | inl e ↦ case_2 path input output n1 e so_far
         | inr n2 ↦ elim (cases_Bool (s3 input)) [
-          | inl e ↦ case_3 path input output n1 n2 e state
+          | inl e ↦ case_3 path input output n1 n2 e so_far
           | inr n3 ↦ elim (cases_Bool (s4 input)) [
-            | inl e ↦ case_4 path input output n1 n2 n3 e state
+            | inl e ↦ case_4 path input output n1 n2 n3 e so_far
             | inr n4 ↦ elim (cases_Bool (s5 input)) [
-              | inl e ↦ case_5 path input output n1 n2 n3 n4 e state
+              | inl e ↦ case_5 path input output n1 n2 n3 n4 e so_far
               | inr n5 ↦ elim (cases_Bool (s6 input)) [
-                | inl e ↦ case_6 path input output n1 n2 n3 n4 n5 e state
+                | inl e ↦ case_6 path input output n1 n2 n3 n4 n5 e so_far
                 | inr n6 ↦ elim (cases_Bool (s7 input)) [
-                  | inl e ↦ case_7 path input output n1 n2 n3 n4 n5 n6 e state
-                  | inr n7 ↦ case_8 path input output some n1 n2 n3 n4 n5 n6 n7 state
+                  | inl e ↦ case_7 path input output n1 n2 n3 n4 n5 n6 e so_far
+                  | inr n7 ↦ case_8 path input output some n1 n2 n3 n4 n5 n6 n7 so_far
                 ]
               ]
             ]
@@ -364,11 +364,11 @@ next path input output some state =
       ]
     ]
 
-pub state_next : (path input output rest more : List ℕ) → (input ≡ [] → ⊥) → rest ≡ step_input input → more ≡ step_output input output → State path input output → State path rest more
-state_next path input output rest more some e f state = rw (e, f) (next path input output some state).state
+pub done_next : (path input output rest more : List ℕ) → (input ≡ [] → ⊥) → rest ≡ step_input input → more ≡ step_output input output → DoneSoFar path input output → DoneSoFar path rest more
+done_next path input output rest more some e f so_far = rw (e, f) (next path input output some so_far).so_far
 
-pub smaller_next : (path input output rest : List ℕ) → (input ≡ [] → ⊥) → rest ≡ step_input input → State path input output → length rest < length input
-smaller_next path input output rest some e state = rw e (next path input output some state).smaller
+pub smaller_next : (path input output rest : List ℕ) → (input ≡ [] → ⊥) → rest ≡ step_input input → DoneSoFar path input output → length rest < length input
+smaller_next path input output rest some e so_far = rw e (next path input output some so_far).smaller
 
 -- ---- the pieces of a path are the path
 

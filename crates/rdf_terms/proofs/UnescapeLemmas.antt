@@ -50,14 +50,14 @@ shorter cs rest c e = let s = character_sound cs c rest e in let some = characte
 -- ---- the loop
 
 -- what the text writes is what was read so far and what the rest writes
-pub record State (all rest value : List ℕ) : Type 0 where
+pub record ReadSoFar (all rest value : List ℕ) : Type 0 where
   pub front : List ℕ
   pub value_is : value ≡ encode_utf8_all front
   pub joins : (cs : List ℕ) → Writes IsCharacter rest cs → Writes IsCharacter all (front ++ cs)
   pub parts : (whole : List ℕ) → Writes IsCharacter all whole → (cs : List ℕ) × (whole ≡ front ++ cs) × Writes IsCharacter rest cs
 
-pub state_start : (all : List ℕ) → State all all []
-state_start all = record { front = []; value_is = refl; joins = λ cs w. w; parts = λ whole w. (whole, refl, w) }
+pub read_start : (all : List ℕ) → ReadSoFar all all []
+read_start all = record { front = []; value_is = refl; joins = λ cs w. w; parts = λ whole w. (whole, refl, w) }
 
 push_encodes : (front : List ℕ) (c : ℕ) → encode_utf8_all front ++ encode_utf8 c ≡ encode_utf8_all (front ++ c ∷ [])
 push_encodes [] c = sym (append-nil (encode_utf8 c))
@@ -75,21 +75,21 @@ first_of rest next c (d ∷ cs) e w =
     let p = some_pair d c w.1 next (sym here ∙ e) in
     (cs, ap (λ (x : ℕ). x ∷ cs) p.0, subst (λ (t : List ℕ). Writes IsCharacter t cs) p.1 w.4)
 
-pub state_next : (all rest next value : List ℕ) (c : ℕ) → character_at rest ≡ Some (c, next) → State all rest value → State all next (value ++ encode_utf8 c)
-state_next all rest next value c e state =
+pub read_next : (all rest next value : List ℕ) (c : ℕ) → character_at rest ≡ Some (c, next) → ReadSoFar all rest value → ReadSoFar all next (value ++ encode_utf8 c)
+read_next all rest next value c e so_far =
     let s = character_sound rest c next e in record {
-      front = state.front ++ c ∷ [];
-      value_is = ap (λ (t : List ℕ). t ++ encode_utf8 c) state.value_is ∙ push_encodes state.front c;
-      joins = λ cs w. subst (λ (t : List ℕ). Writes IsCharacter all t) (sym (append_assoc state.front (c ∷ []) cs)) (state.joins (c ∷ cs) (s.0, next, s.1, s.2, w));
+      front = so_far.front ++ c ∷ [];
+      value_is = ap (λ (t : List ℕ). t ++ encode_utf8 c) so_far.value_is ∙ push_encodes so_far.front c;
+      joins = λ cs w. subst (λ (t : List ℕ). Writes IsCharacter all t) (sym (append_assoc so_far.front (c ∷ []) cs)) (so_far.joins (c ∷ cs) (s.0, next, s.1, s.2, w));
       parts = λ whole w.
-          let p = state.parts whole w in
+          let p = so_far.parts whole w in
           let f = first_of rest next c p.0 e p.2 in
-          (f.0, p.1 ∙ ap (λ (t : List ℕ). state.front ++ t) f.1 ∙ sym (append_assoc state.front (c ∷ []) f.0), f.2);
+          (f.0, p.1 ∙ ap (λ (t : List ℕ). so_far.front ++ t) f.1 ∙ sym (append_assoc so_far.front (c ∷ []) f.0), f.2);
     }
 
-pub state_end : (all rest value : List ℕ) → rest ≡ [] → State all rest value → (cs : List ℕ) × Writes IsCharacter all cs × (value ≡ encode_utf8_all cs)
-state_end all rest value e state =
-    (state.front ++ [], state.joins [] e, state.value_is ∙ ap encode_utf8_all (sym (append-nil state.front)))
+pub read_end : (all rest value : List ℕ) → rest ≡ [] → ReadSoFar all rest value → (cs : List ℕ) × Writes IsCharacter all cs × (value ≡ encode_utf8_all cs)
+read_end all rest value e so_far =
+    (so_far.front ++ [], so_far.joins [] e, so_far.value_is ∙ ap encode_utf8_all (sym (append-nil so_far.front)))
 
 -- no character at the front of a text that isn't empty: it writes nothing
 none_of : (rest cs : List ℕ) → character_at rest ≡ None → (rest ≡ [] → ⊥) → Writes IsCharacter rest cs → ⊥
@@ -97,8 +97,8 @@ none_of rest [] e some w = some w
 none_of rest (d ∷ cs) e some w =
     let here : character_at rest ≡ Some (d, w.1) = ap character_at w.2 ∙ character_complete w.0 d w.1 w.3 in none_is (d, w.1) (sym e ∙ here)
 
-pub state_fails : (all rest value : List ℕ) → character_at rest ≡ None → (rest ≡ [] → ⊥) → State all rest value → (cs : List ℕ) → ¬ Writes IsCharacter all cs
-state_fails all rest value e some state cs = λ w. let p = state.parts cs w in none_of rest p.0 e some p.2
+pub read_fails : (all rest value : List ℕ) → character_at rest ≡ None → (rest ≡ [] → ⊥) → ReadSoFar all rest value → (cs : List ℕ) → ¬ Writes IsCharacter all cs
+read_fails all rest value e some so_far cs = λ w. let p = so_far.parts cs w in none_of rest p.0 e some p.2
 
 pub peek_some : (o : Option ℕ) (cs : List ℕ) → MatchOption o (cs ≡ []) (λ c. (others : List ℕ) × (cs ≡ c ∷ others)) → is_some o ≡ true → cs ≡ [] → ⊥
 peek_some None cs h e = absurd (let bad : ⊥ = cc in bad)

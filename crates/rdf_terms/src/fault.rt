@@ -1,5 +1,5 @@
 //! The refusals of this crate.
-ghost use Rattle.std.specs.Prelude.{◌≡◌, codes};
+ghost use Rattle.std.specs.Prelude.{◌≡◌, OnErr, OnOk, codes, take};
 ghost use Rattle.rdf_terms.specs.Names.{iri_fault_name, no_memory};
 ghost use Rattle.rdf_terms.specs.declared.fault.NoMemory.{NoMemory};
 ghost use Rattle.rdf_terms.specs.declared.fault.IriFault.TheVariants as fault;
@@ -36,6 +36,26 @@ impl<T: Drop> From<AllocFailed<T>> for NoMemory {
             cause: AllocError::from(e),
         }
     }
+}
+
+/// What an append answered; where it was refused, the list keeps only its first items, as many as it
+/// had before.
+///
+/// # Errors
+/// The refusal.
+pub fn or_truncate<T: Drop>(
+    appended: Result<(), NoMemory>,
+    out: &mut Vec<T>,
+    before: usize,
+) -> Result<(), NoMemory>
+    ensures answer { result ≡ appended }
+    ensures ok { OnOk result (out.new.items ≡ out.old.items) }
+    ensures err { OnErr result (out.new.items ≡ take before out.old.items) }
+{
+    if appended.is_err() {
+        out.truncate(before);
+    }
+    appended
 }
 
 /// Why a text is no IRI (RDF 1.1 Concepts, section 3.2).

@@ -195,7 +195,9 @@ pub(crate) fn has_scheme(text: &[u8]) -> bool
     rest.is_some() && is_scheme(front)
 }
 
-pub(crate) fn has_forbidden(text: &[u8]) -> bool
+/// Whether a text has a character that may not stand in an IRI, by the bytes of its UTF-8: each such
+/// character is ASCII.
+pub fn has_forbidden(text: &[u8]) -> bool
     ensures { result ≡ has_forbidden text.now }
 {
     text.iter().any(|b| is_forbidden(*b))

@@ -36,9 +36,9 @@ pub use character::{is_forbidden_in_iri, is_pn_chars, is_pn_chars_base, is_pn_ch
 pub use cursor::Cursor;
 pub use escape::{characters_are_read, escapes_are_read, one_value, unescape};
 pub use examples::the_standards_examples_hold;
-pub use fault::{IriFault, NoMemory};
+pub use fault::{IriFault, NoMemory, or_truncate};
 pub use integer::{integer_literal, integer_value, integers_are_read};
-pub use iri::Iri;
+pub use iri::{Iri, has_forbidden};
 pub use iri_reference::IriReference;
 pub use items::Items;
 pub use laws::{

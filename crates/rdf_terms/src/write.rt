@@ -6,7 +6,7 @@ ghost use Rattle.rdf_terms.specs.Literal.{xsd_string};
 ghost use Rattle.rdf_terms.specs.Runs.{is_escaped};
 ghost use Rattle.rdf_terms.specs.TermText.{escaped, suffix_text, datatype_text, literal_text, term_text};
 
-use crate::fault::NoMemory;
+use crate::fault::{NoMemory, or_truncate};
 use crate::iri::Iri;
 use crate::literal::Literal;
 use crate::term::Term;
@@ -21,12 +21,8 @@ pub fn write_term(term: &Term, out: &mut Vec<u8>) -> Result<(), NoMemory>
     ensures ok { OnOk result (out.new.items ≡ out.old.items ++ term_text term.now) }
     ensures err { OnErr result (out.new.items ≡ out.old.items) }
 {
-    let start = out.len();
-    let written = append_term(term, out);
-    if written.is_err() {
-        out.truncate(start);
-    }
-    written
+    let before = out.len();
+    or_truncate(append_term(term, out), out, before)
 }
 
 fn append_term(term: &Term, out: &mut Vec<u8>) -> Result<(), NoMemory>

@@ -1,9 +1,9 @@
 use Rattle.std.proofs.Common.{rules}
-use Rattle.rdf_terms.proofs.DotLemmas.{state_start, state_next, smaller_next}
+use Rattle.rdf_terms.proofs.DotLemmas.{done_start, done_next, smaller_next}
 use Rattle.rdf_terms.proofs.dots.without_dots.Goals as goal
 
 pub loop-input-init : goal.loop-input-init
-loop-input-init c = rw c.new-output.ensures.items (state_start c.args.path.now)
+loop-input-init c = rw c.new-output.ensures.items (done_start c.args.path.now)
 
 pub loop-input-smaller : goal.loop-input-smaller
 loop-input-smaller c =
@@ -11,4 +11,4 @@ loop-input-smaller c =
 
 pub loop-input-preserved : goal.loop-input-preserved
 loop-input-preserved c =
-    state_next c.args.path.now c.loop-input.input.now c.loop-input.output.items c.in_ok-input.input.now c.step.new.output.items (search rules) c.in_ok-input.ensures.input c.in_ok-input.ensures.output c.loop-input.invariant
+    done_next c.args.path.now c.loop-input.input.now c.loop-input.output.items c.in_ok-input.input.now c.step.new.output.items (search rules) c.in_ok-input.ensures.input c.in_ok-input.ensures.output c.loop-input.invariant
