@@ -5,7 +5,7 @@ ghost use Rattle.rdf_terms.specs.Order.{graph_cmp};
 ghost use Rattle.rdf_dataset.specs.State.{matches, fits_place};
 
 use rdf_sets::{Item, append_copy};
-use rdf_terms::{GraphName, NoMemory, Quad, Term};
+use rdf_terms::{GraphName, NoMemory, Quad, Term, or_truncate};
 
 fn is_same_graph(graph: &GraphName, other: &GraphName) -> bool
     ensures { result ≡ eq_by_cmp graph_cmp graph.now other.now }
@@ -55,10 +55,7 @@ pub(crate) fn append_matching(
     let before = out.len();
     for quad in quads {
         if is_match(quad, graph, subject, predicate, object) {
-            if let Err(refused) = append_copy(out, quad) {
-                out.truncate(before);
-                return Err(refused);
-            }
+            or_truncate(append_copy(out, quad), out, before)?;
         }
     }
     Ok(())

@@ -5,7 +5,7 @@ ghost use Rattle.rdf_terms.specs.Order.{quad_cmp};
 ghost use Rattle.rdf_terms.specs.TermText.{term_text};
 ghost use Rattle.rdf_lines.specs.QuadText.{graph_text, quad_text, IsSortedText, SortedTextIsOne};
 
-use rdf_terms::{GraphName, NoMemory, Quad, Term, write_term};
+use rdf_terms::{GraphName, NoMemory, Quad, Term, or_truncate, write_term};
 use std::alloc::Global;
 
 /// Appends the line of the quad: its terms as canonical N-Triples, then its graph if it has a name, one space after each, then
@@ -17,12 +17,8 @@ pub fn write_quad(quad: &Quad, out: &mut Vec<u8>) -> Result<(), NoMemory>
     ensures ok { OnOk result (out.new.items ≡ out.old.items ++ quad_text quad.now) }
     ensures err { OnErr result (out.new.items ≡ out.old.items) }
 {
-    let start = out.len();
-    let written = append_quad(quad, out);
-    if written.is_err() {
-        out.truncate(start);
-    }
-    written
+    let before = out.len();
+    or_truncate(append_quad(quad, out), out, before)
 }
 
 fn append_quad(quad: &Quad, out: &mut Vec<u8>) -> Result<(), NoMemory>
@@ -66,12 +62,8 @@ pub fn write_sorted(alloc: Global, quads: &[Quad], out: &mut Vec<u8>) -> Result<
         × (out.new.items ≡ out.old.items ++ text)) }
     ensures err { OnErr result (out.new.items ≡ out.old.items) }
 {
-    let start = out.len();
-    let written = append_sorted(alloc, quads, out);
-    if written.is_err() {
-        out.truncate(start);
-    }
-    written
+    let before = out.len();
+    or_truncate(append_sorted(alloc, quads, out), out, before)
 }
 
 fn append_sorted(alloc: Global, quads: &[Quad], out: &mut Vec<u8>) -> Result<(), NoMemory>

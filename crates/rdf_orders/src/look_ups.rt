@@ -6,7 +6,7 @@ ghost use Rattle.rdf_orders.specs.Runs.{BeginsWith, AppendsKeysOnce, raised_by};
 
 use crate::order::{Key, Order};
 use crate::orders::Orders;
-use rdf_terms::NoMemory;
+use rdf_terms::{NoMemory, or_truncate};
 use std::alloc::Global;
 
 /// The numbers that the keys of a run begin with.
@@ -77,10 +77,8 @@ pub fn look_up<O: Orders>(
     let before = out.len();
     let mut after: Option<Key> = None;
     while let Some(key) = orders.next_in(order, prefix, after.as_ref()) {
-        if let Err(refused) = out.push(order.restore(&key)) {
-            out.truncate(before);
-            return Err(NoMemory::from(refused));
-        }
+        let pushed = out.push(order.restore(&key)).map_err(NoMemory::from);
+        or_truncate(pushed, out, before)?;
         after = Some(key);
     }
     Ok(())

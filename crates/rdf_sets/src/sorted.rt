@@ -9,7 +9,7 @@ ghost use Rattle.rdf_sets.specs.Inside.Merging.{PopsGreatest};
 ghost use Rattle.rdf_terms.specs.Lists.{ListsOnce, ListsSorted};
 
 use crate::item::Item;
-use rdf_terms::NoMemory;
+use rdf_terms::{NoMemory, or_truncate};
 use std::alloc::Global;
 use std::cmp::Ordering;
 use std::marker::Model;
@@ -158,10 +158,7 @@ pub fn append_copies<T: Item>(out: &mut Vec<T>, items: &[T]) -> Result<(), NoMem
 {
     let before = out.len();
     for item in items {
-        if let Err(refused) = append_copy(out, item) {
-            out.truncate(before);
-            return Err(refused);
-        }
+        or_truncate(append_copy(out, item), out, before)?;
     }
     Ok(())
 }

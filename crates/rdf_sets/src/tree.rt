@@ -5,7 +5,7 @@ ghost use Rattle.std.specs.List.Sorted.{IsStrictlySortedBy};
 
 use crate::item::Item;
 use crate::sorted::{Sorted, append_copy};
-use rdf_terms::NoMemory;
+use rdf_terms::{NoMemory, or_truncate};
 use std::alloc::Global;
 use std::collections::BTreeSet;
 use std::marker::Model;
@@ -89,10 +89,7 @@ impl<T: Item> Tree<T> {
     {
         let before = out.len();
         for item in &self.items {
-            if let Err(refused) = append_copy(out, item) {
-                out.truncate(before);
-                return Err(refused);
-            }
+            or_truncate(append_copy(out, item), out, before)?;
         }
         Ok(())
     }

@@ -11,7 +11,9 @@ use crate::numbers::quad_from;
 use crate::pattern::{Pattern, pattern_of};
 use crate::store::Store;
 use rdf_orders::Key;
-use rdf_terms::{GraphName, NoMemory, Quad, Term, TermId, TermTable, terms_are_held_once};
+use rdf_terms::{
+    GraphName, NoMemory, Quad, Term, TermId, TermTable, or_truncate, terms_are_held_once,
+};
 use std::collections::BTreeSet;
 
 // Appends the quad that has a key in `Spo`.
@@ -51,10 +53,7 @@ fn append_all(table: &TermTable, keys: &[Key], out: &mut Vec<Quad>) -> Result<()
     }
     let before = out.len();
     for key in keys {
-        if let Err(refused) = append_quad(table, key, out) {
-            out.truncate(before);
-            return Err(refused);
-        }
+        or_truncate(append_quad(table, key, out), out, before)?;
     }
     Ok(())
 }
@@ -68,10 +67,7 @@ fn append_tree(table: &TermTable, keys: &BTreeSet<Key>, out: &mut Vec<Quad>) -> 
 {
     let before = out.len();
     for key in keys {
-        if let Err(refused) = append_quad(table, key, out) {
-            out.truncate(before);
-            return Err(refused);
-        }
+        or_truncate(append_quad(table, key, out), out, before)?;
     }
     Ok(())
 }
@@ -89,10 +85,7 @@ fn append_terms(
 {
     let before = out.len();
     for number in numbers {
-        if let Err(refused) = append_term(table, *number, out) {
-            out.truncate(before);
-            return Err(refused);
-        }
+        or_truncate(append_term(table, *number, out), out, before)?;
     }
     Ok(())
 }

@@ -1,8 +1,6 @@
 //! What slices of a text stand for (Turtle 1.1, sections 6.3 to 6.5).
 ghost use Rattle.std.specs.Prelude.{◌≡◌, ◌<◌, None, Some, false, length, position, string_bytes, IfOk, IfSome, MatchOption};
 ghost use Rattle.std.specs.Str.{chars, encode_utf8_all};
-ghost use Rattle.std.specs.List.{list_any};
-ghost use Rattle.rdf_terms.specs.Iri.{is_forbidden, has_forbidden};
 ghost use Rattle.rdf_tokens.specs.Inside.Shortcuts.{is_colon};
 ghost use Rattle.rdf_tokens.specs.Inside.TokenValues.{value_by};
 ghost use Rattle.rdf_tokens.specs.TokenTexts.{TokenSays, SaysText, OneTokenText};
@@ -12,7 +10,7 @@ ghost use Rattle.rdf_tokens.specs.ValueLaws.{IrisHaveValues, IriValuesAreAllowed
 
 use crate::slice::{Slice, slice_of};
 use crate::token::{Kind, Token};
-use rdf_terms::{Cursor, NoMemory, Text, unescape};
+use rdf_terms::{Cursor, NoMemory, Text, has_forbidden, unescape};
 use std::alloc::Global;
 
 /// The reference that an IRIREF writes, or nothing where none stands at the front.
@@ -41,23 +39,6 @@ fn plain_reference(text: &str) -> Option<&str>
     } else {
         Some(reference)
     }
-}
-
-// Whether a byte may not stand in an IRI.
-fn is_forbidden(b: u8) -> bool
-    ensures { result ≡ is_forbidden b }
-{
-    b <= b' '
-        || matches!(
-            b,
-            b'<' | b'>' | b'"' | b'{' | b'}' | b'|' | b'^' | b'`' | b'\\'
-        )
-}
-
-fn has_forbidden(text: &[u8]) -> bool
-    ensures { result ≡ has_forbidden text.now }
-{
-    text.iter().any(|b| is_forbidden(*b))
 }
 
 // What stands between a mark at the front and one at the end.

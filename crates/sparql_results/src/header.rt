@@ -2,7 +2,7 @@
 ghost use Rattle.std.specs.Prelude.{◌≡◌, ◌++◌, take, length, OnOk, OnErr};
 ghost use Rattle.sparql_results.specs.ResultsText.{column_text, header_text};
 
-use rdf_terms::{NoMemory, Text};
+use rdf_terms::{NoMemory, Text, or_truncate};
 use std::alloc::Global;
 
 // Appends the name of a column behind `?`.
@@ -24,12 +24,8 @@ pub fn write_header(_alloc: Global, columns: &[Text], out: &mut Vec<u8>) -> Resu
     ensures ok { OnOk result (out.new.items ≡ out.old.items ++ header_text columns.now) }
     ensures err { OnErr result (out.new.items ≡ out.old.items) }
 {
-    let start = out.len();
-    let written = append_header(columns, out);
-    if written.is_err() {
-        out.truncate(start);
-    }
-    written
+    let before = out.len();
+    or_truncate(append_header(columns, out), out, before)
 }
 
 fn append_header(columns: &[Text], out: &mut Vec<u8>) -> Result<(), NoMemory>

@@ -3,7 +3,7 @@ ghost use Rattle.std.specs.Prelude.{◌≡◌, ◌++◌, take, length, OnOk, OnE
 ghost use Rattle.sparql_results.specs.ResultsText.{row_text};
 
 use crate::field::append_field;
-use rdf_terms::{NoMemory, Term};
+use rdf_terms::{NoMemory, Term, or_truncate};
 use std::alloc::Global;
 
 /// Appends the line of a row, its values in the order of the columns: a tab between two, and LF behind the last. A term stands in
@@ -16,12 +16,8 @@ pub fn write_row(alloc: Global, values: &[Option<Term>], out: &mut Vec<u8>) -> R
     ensures ok { OnOk result (out.new.items ≡ out.old.items ++ row_text values.now) }
     ensures err { OnErr result (out.new.items ≡ out.old.items) }
 {
-    let start = out.len();
-    let written = append_row(alloc, values, out);
-    if written.is_err() {
-        out.truncate(start);
-    }
-    written
+    let before = out.len();
+    or_truncate(append_row(alloc, values, out), out, before)
 }
 
 fn append_row(alloc: Global, values: &[Option<Term>], out: &mut Vec<u8>) -> Result<(), NoMemory>
