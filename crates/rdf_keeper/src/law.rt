@@ -1,6 +1,6 @@
 //! Laws over the definitions alone: that a script's lines are its text, that its pieces are the script, that it has one output, that its refusals change nothing, and
 //! that what is printed is read back in each format.
-ghost use Rattle.rdf_keeper.specs.Script.Promised.{AnswersAreSteps, ScriptsArePromised, UndoneInAScript, RedoneInAScript};
+ghost use Rattle.rdf_keeper.specs.Script.Promised.{AnswersAreTransitions, ScriptsArePromised, UndoneInAScript, RedoneInAScript};
 ghost use Rattle.rdf_keeper.specs.Script.Refusals.{RefusedAnswersLeave};
 ghost use Rattle.rdf_keeper.specs.Script.LineLaws.{LinesAreTheText, LinesAreEnded, OneCut};
 ghost use Rattle.rdf_keeper.specs.Script.Printed.{LinesAreDocuments, SortedTextsAreDocuments, PrintedLinesAreDocuments};
@@ -31,7 +31,7 @@ pub fn a_script_has_one_output()
 /// gives back the state before it, and a `%redo` behind that the state after, whatever queries,
 /// listings, marks and refusals come between.
 pub fn a_script_keeps_the_promise()
-    ensures steps { AnswersAreSteps }
+    ensures transitions { AnswersAreTransitions }
     ensures promise { ScriptsArePromised }
     ensures undone { UndoneInAScript }
     ensures redone { RedoneInAScript }

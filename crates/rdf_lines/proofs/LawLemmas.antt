@@ -6,7 +6,7 @@ use Rattle.std.specs.Io.KnownBytes.{Consumes, IsAtEnd}
 use Rattle.rdf_lines.specs.declared.fault.FaultKind.{FaultKind}
 use Rattle.rdf_lines.specs.declared.fault.FaultKind.TheVariants.{NotUtf8, Syntax, Relative, Read, NoMemory, Failed as FailedKind}
 use Rattle.rdf_lines.specs.declared.fault.LineFault.{LineFault}
-use Rattle.rdf_lines.specs.declared.state.State.TheVariants.{Reading, Ended, Failed}
+use Rattle.rdf_lines.specs.declared.state.ReaderState.TheVariants.{Reading, Ended, Failed}
 use Rattle.rdf_terms.specs.declared.quad.Quad.{Quad}
 use Rattle.rdf_lines.specs.declared.statement.Statement.{Statement}
 use Rattle.rdf_lines.specs.declared.format.LineFormat.{LineFormat}
@@ -15,7 +15,7 @@ use Rattle.rdf_lines.specs.Line.{Says}
 use Rattle.rdf_lines.proofs.LineLaws.{one_answer, some_answer}
 use Rattle.rdf_lines.specs.Labels.{all_noted, labels_of, labels_after, quad_in, numbered}
 use Rattle.rdf_lines.specs.Document.{ReadsAll, EachTextIsOneDocument}
-use Rattle.rdf_lines.specs.Reader.{LineState, Answer, AreSilent, Taken, Passes, ReadsOn, StepAt, state_after, FaultOf, fault, Calls, Agrees, fresh, AnswersAreTheDocument}
+use Rattle.rdf_lines.specs.Reader.{LineState, Answer, AreSilent, Taken, Passes, ReadsOn, CallAt, state_after, FaultOf, fault, Calls, Agrees, fresh, AnswersAreTheDocument}
 use Rattle.rdf_lines.proofs.LabelLemmas.{quad_in-kept, all_noted-append}
 
 -- ---- a line says one thing
@@ -97,14 +97,14 @@ taken_lines old new ls true xs e t =
 pub ended_calls : (answers : List Answer) (s end : LineState) → s.state ≡ Ended → Calls s answers end → AllByRecursion (λ a. a ≡ Ok None) answers
 ended_calls [] s end e c = tt
 ended_calls (a ∷ answers) s end e c =
-    let step = subst (λ t. StepAt t s a c.0) e c.1 in
-    (step.0, ended_calls answers c.0 end (ap (λ (t : LineState). t.state) step.1 ∙ e) c.2)
+    let call = subst (λ t. CallAt t s a c.0) e c.1 in
+    (call.0, ended_calls answers c.0 end (ap (λ (t : LineState). t.state) call.1 ∙ e) c.2)
 
 failed_calls : (answers : List Answer) (s end : LineState) (n : ℕ) → s.state ≡ Failed → s.number ≡ n → Calls s answers end → AllByRecursion (λ a. a ≡ Err (fault n FailedKind)) answers
 failed_calls [] s end n e m c = tt
 failed_calls (a ∷ answers) s end n e m c =
-    let step = subst (λ t. StepAt t s a c.0) e c.1 in
-    (step.0 ∙ ap (λ k. Err (fault k FailedKind)) m, failed_calls answers c.0 end n (ap (λ (t : LineState). t.state) step.1 ∙ e) (ap (λ (t : LineState). t.number) step.1 ∙ m) c.2)
+    let call = subst (λ t. CallAt t s a c.0) e c.1 in
+    (call.0 ∙ ap (λ k. Err (fault k FailedKind)) m, failed_calls answers c.0 end n (ap (λ (t : LineState). t.state) call.1 ∙ e) (ap (λ (t : LineState). t.number) call.1 ∙ m) c.2)
 
 all_none : (answers : List Answer) → AllByRecursion (λ a. a ≡ Ok None) answers → Agrees answers [] None
 all_none [] h = tt
@@ -176,10 +176,10 @@ fails s new end f answers xs ss ending a r (ls, still, number, state, at, why) c
 
 pub follows : (answers : List Answer) (s : LineState) → From s answers
 follows [] s end xs ss ending e a c r = tt
-follows (Ok None ∷ answers) s end xs ss ending e a c r = ends s c.0 end answers xs ss ending a r (subst (λ t. StepAt t s (Ok None) c.0) e c.1) c.2
+follows (Ok None ∷ answers) s end xs ss ending e a c r = ends s c.0 end answers xs ss ending a r (subst (λ t. CallAt t s (Ok None) c.0) e c.1) c.2
 follows (Ok (Some quad) ∷ answers) s end xs ss ending e a c r =
-    goes_on s c.0 end quad answers xs ss ending (follows answers c.0) a r (subst (λ t. StepAt t s (Ok (Some quad)) c.0) e c.1) c.2
-follows (Err f ∷ answers) s end xs ss ending e a c r = fails s c.0 end f answers xs ss ending a r (subst (λ t. StepAt t s (Err f) c.0) e c.1) c.2
+    goes_on s c.0 end quad answers xs ss ending (follows answers c.0) a r (subst (λ t. CallAt t s (Ok (Some quad)) c.0) e c.1) c.2
+follows (Err f ∷ answers) s end xs ss ending e a c r = fails s c.0 end f answers xs ss ending a r (subst (λ t. CallAt t s (Err f) c.0) e c.1) c.2
 
 pub law : AnswersAreTheDocument
 law format text answers end quads ending calls (ss, reads, are) =

@@ -20,7 +20,7 @@ mod SharedLemmas
 pub mod SortLemmas
 pub mod SoundLemmas
 pub mod StatementSteps
-pub mod StepLemmas
+pub mod CallLemmas
 pub mod SuffixSteps
 pub mod TermLemmas
 pub mod WrittenLabelLemmas

@@ -1,18 +1,18 @@
--- The steps of a reader of lines.
+-- The call_is of a reader of lines.
 use Rattle.std.proofs.Common.{◌≡◌, ◌≢◌, ◌∙◌, inl, inr, ap, refl, sym, subst, ℕ, ◌+◌, arith, Bool, true, false, cond, List, [], ◌∷◌, ◌++◌, length, append_assoc, append-nil, length-append, Some, None}
 use Rattle.std.specs.Prelude.{Ok, Err, is_ok}
 use Rattle.std.specs.Io.KnownBytes.{Consumes, IsAtEnd}
 use Rattle.rdf_lines.specs.declared.fault.FaultKind.{FaultKind}
 use Rattle.rdf_lines.specs.declared.fault.FaultKind.TheVariants.{NotUtf8, Syntax, Relative, Read, NoMemory, Failed as FailedKind}
-use Rattle.rdf_lines.specs.declared.state.State.{State}
-use Rattle.rdf_lines.specs.declared.state.State.TheVariants.{Reading, Ended, Failed}
+use Rattle.rdf_lines.specs.declared.state.ReaderState.{ReaderState}
+use Rattle.rdf_lines.specs.declared.state.ReaderState.TheVariants.{Reading, Ended, Failed}
 use Rattle.rdf_lines.specs.declared.fault.LineFault.{LineFault}
 use Rattle.rdf_lines.specs.declared.format.LineFormat.{LineFormat}
 use Rattle.rdf_lines.specs.Lines.{lines_behind}
 use Rattle.rdf_lines.specs.Line.{Says}
 use Rattle.rdf_lines.specs.Labels.{all_noted, labels_of}
 use Rattle.rdf_lines.specs.Pieces.{Hold, onto, TakesLine}
-use Rattle.rdf_lines.specs.Reader.{LineState, Answer, AreSilent, Taken, FailsBehind, Passes, ReadsOn, OneLine, ReadsLine, Step, StepAt, state_after, FaultOf}
+use Rattle.rdf_lines.specs.Reader.{LineState, Answer, AreSilent, Taken, FailsBehind, Passes, ReadsOn, OneLine, ReadsLine, Call, CallAt, state_after, FaultOf}
 use Rattle.rdf_lines.proofs.PieceLemmas.{Consumes-chain, Consumes-none, Hold-none, onto-none}
 
 -- ---- one line
@@ -115,5 +115,5 @@ reads_on a b c ls (Err f) p r =
       ],
     )
 
-pub steps : (s : State) (old new : LineState) (answer : Answer) → old.state ≡ s → StepAt s old answer new → Step old answer new
-steps s old new answer e r = subst (λ t. StepAt t old answer new) (sym e) r
+pub call_is : (s : ReaderState) (old new : LineState) (answer : Answer) → old.state ≡ s → CallAt s old answer new → Call old answer new
+call_is s old new answer e r = subst (λ t. CallAt t old answer new) (sym e) r

@@ -8,8 +8,8 @@ use Rattle.rdf_lines.specs.declared.fault.LineFault.{LineFault}
 use Rattle.rdf_lines.specs.declared.format.LineFormat.{LineFormat}
 use Rattle.rdf_lines.specs.declared.statement.Statement.{Statement}
 use Rattle.rdf_terms.specs.declared.quad.Quad.{Quad}
-use Rattle.rdf_lines.specs.declared.state.State.{State}
-use Rattle.rdf_lines.specs.declared.state.State.TheVariants.{Reading, Ended, Failed}
+use Rattle.rdf_lines.specs.declared.state.ReaderState.{ReaderState}
+use Rattle.rdf_lines.specs.declared.state.ReaderState.TheVariants.{Reading, Ended, Failed}
 use Rattle.rdf_lines.specs.Lines.{lines_behind}
 use Rattle.rdf_lines.specs.Line.{Says}
 use Rattle.rdf_lines.specs.Labels.{quad_in, labels_of, all_noted}
@@ -26,7 +26,7 @@ pub record LineState : Type 0 where
   pub number : ℕ
   -- the labels so far
   pub labels : List (List ℕ)
-  pub state : State
+  pub state : ReaderState
 
 -- what a reader holds between two calls
 pub record Between : Type 0 where
@@ -38,12 +38,12 @@ pub record Between : Type 0 where
   pub number : ℕ
   -- the labels so far
   pub labels : List (List ℕ)
-  pub state : State
+  pub state : ReaderState
   -- more than the quads that can still come
   pub left : ℕ
 
 -- of what is left, one is for going on at all
-abbrev pub going : State → ℕ
+abbrev pub going : ReaderState → ℕ
 going Reading = 1
 going Ended = 0
 going Failed = 0
@@ -73,7 +73,7 @@ abbrev pub Taken : LineState → List (List ℕ) → LineState → Bool → Type
 Taken old ls new false = (read : List ℕ) × Consumes old.ahead new.ahead read × Hold old.behind_return read ls [] new.behind_return
 Taken old ls new true = (read : List ℕ) × Consumes old.ahead new.ahead read × (lines_behind old.behind_return read ≡ ls) × IsAtEnd new.ahead
 
-abbrev pub state_after : Bool → State
+abbrev pub state_after : Bool → ReaderState
 state_after false = Reading
 state_after true = Ended
 
@@ -121,18 +121,18 @@ OneLine old (Ok None) new = (ls : List (List ℕ)) × (ended : Bool) × Passes o
 OneLine old answer new = ReadsOn old answer new
 
 -- One call of next, by how far the reader is.
-abbrev pub StepAt : State → LineState → Answer → LineState → Type 0
-StepAt Reading old answer new = ReadsOn old answer new
-StepAt Ended old answer new = (answer ≡ Ok None) × (new ≡ old)
-StepAt Failed old answer new = (answer ≡ Err (fault old.number FailedKind)) × (new ≡ old)
+abbrev pub CallAt : ReaderState → LineState → Answer → LineState → Type 0
+CallAt Reading old answer new = ReadsOn old answer new
+CallAt Ended old answer new = (answer ≡ Ok None) × (new ≡ old)
+CallAt Failed old answer new = (answer ≡ Err (fault old.number FailedKind)) × (new ≡ old)
 
-abbrev pub Step : LineState → Answer → LineState → Type 0
-Step old answer new = StepAt old.state old answer new
+abbrev pub Call : LineState → Answer → LineState → Type 0
+Call old answer new = CallAt old.state old answer new
 
 -- one call after another
 abbrev pub Calls : LineState → List Answer → LineState → Type 0
 Calls old [] new = new ≡ old
-Calls old (answer ∷ answers) new = (mid : LineState) × Step old answer mid × Calls mid answers new
+Calls old (answer ∷ answers) new = (mid : LineState) × Call old answer mid × Calls mid answers new
 
 -- The answers are those of a document: its quads in order, then its fault or None; but a fault of the reader or want of
 -- memory may come at any time. After a fault all is Failed, after None all is None.
@@ -173,17 +173,17 @@ StartsWithNothing = (format : LineFormat) (text : Option (List ℕ)) → HasRead
 -- a quad is one more,
 abbrev pub QuadsAddUp : Type 0
 QuadsAddUp = (format : LineFormat) (text : Option (List ℕ)) (quads : List Quad) (quad : Quad) (old new : LineState) →
-    HasRead format text quads old → Step old (Ok (Some quad)) new → HasRead format text (quads ++ quad ∷ []) new
+    HasRead format text quads old → Call old (Ok (Some quad)) new → HasRead format text (quads ++ quad ∷ []) new
 
 -- at the end they are the document, and all of the text was read,
 abbrev pub EndIsTheDocument : Type 0
 EndIsTheDocument = (format : LineFormat) (text : List ℕ) (quads : List Quad) (old new : LineState) →
-    HasRead format (Some text) quads old → Step old (Ok None) new → IsDocument format text quads None × (new.ahead ≡ Some [])
+    HasRead format (Some text) quads old → Call old (Ok None) new → IsDocument format text quads None × (new.ahead ≡ Some [])
 
 -- and at a fault they are what stands before it.
 abbrev pub FaultStops : Type 0
 FaultStops = (format : LineFormat) (text : List ℕ) (quads : List Quad) (f : LineFault) (old new : LineState) →
-    HasRead format (Some text) quads old → Step old (Err f) new → StopsAt format text quads f
+    HasRead format (Some text) quads old → Call old (Err f) new → StopsAt format text quads f
 
 -- where a read failed, nothing that was read is held back
 abbrev pub HoldsNothing : Answer → List ℕ → Type 0

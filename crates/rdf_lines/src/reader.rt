@@ -1,7 +1,7 @@
 //! Statements from a reader, one at a time.
 ghost use Rattle.std.specs.Prelude.{◌≡◌, ◌≢◌, IfOk, MatchBool, Result, Ok, Err, Some, None, is_ok, if◌then◌else◌};
-ghost use Rattle.rdf_lines.specs.Reader.{Step, OneLine, IsFresh, over, HoldsNothing, FallsAtOk, FallsAtQuad, AnswersAreTheDocument, StartsWithNothing, QuadsAddUp, EndIsTheDocument, FaultStops};
-ghost use Rattle.rdf_lines.specs.declared.state.State.TheVariants.{Reading, Failed};
+ghost use Rattle.rdf_lines.specs.Reader.{Call, OneLine, IsFresh, over, HoldsNothing, FallsAtOk, FallsAtQuad, AnswersAreTheDocument, StartsWithNothing, QuadsAddUp, EndIsTheDocument, FaultStops};
+ghost use Rattle.rdf_lines.specs.declared.state.ReaderState.TheVariants.{Reading, Failed};
 
 use crate::cut::{Cut, next_line, whole_line};
 use crate::fault::{FaultKind, LineFault};
@@ -9,7 +9,7 @@ use crate::format::LineFormat;
 use crate::labels::Labels;
 use crate::pieces::Pieces;
 use crate::progress::Progress;
-use crate::state::State;
+use crate::state::ReaderState;
 use rdf_terms::{NoMemory, Quad};
 use std::alloc::Global;
 use std::io::Read;
@@ -25,7 +25,7 @@ pub struct LineReader {
     behind_return: bool,
     line: Vec<u8>,
     progress: Progress,
-    state: State,
+    state: ReaderState,
 }
 
 impl Model for LineReader {
@@ -48,10 +48,14 @@ impl Model for LineReader {
     ghost invariant = { λ r. r.progress.number + room r.pieces ≤ 2 ^ 56 + 1 };
 }
 
-fn state_after(answer: &Result<Option<Quad>, LineFault>, next: State) -> State
+fn state_after(answer: &Result<Option<Quad>, LineFault>, next: ReaderState) -> ReaderState
     ensures { result ≡ (if is_ok answer.now then next else Failed) }
 {
-    if answer.is_ok() { next } else { State::Failed }
+    if answer.is_ok() {
+        next
+    } else {
+        ReaderState::Failed
+    }
 }
 
 impl LineReader {
@@ -73,7 +77,7 @@ impl LineReader {
                 number: 1,
                 labels: Labels::new(alloc),
             },
-            state: State::Reading,
+            state: ReaderState::Reading,
         })
     }
 
@@ -91,7 +95,7 @@ impl LineReader {
                 let answer = self.progress.line(self.alloc, self.format, line);
                 self.behind_return = place.by_return;
                 self.pieces.advance(place.end + 1);
-                self.state = state_after(&answer, State::Reading);
+                self.state = state_after(&answer, ReaderState::Reading);
                 answer
             }
             None => self.gathered_line(stream),
@@ -116,22 +120,22 @@ impl LineReader {
                 let answer = self
                     .progress
                     .line(self.alloc, self.format, self.line.as_slice());
-                self.state = state_after(&answer, State::Reading);
+                self.state = state_after(&answer, ReaderState::Reading);
                 answer
             }
             Ok(Cut::Last) => {
                 let answer = self
                     .progress
                     .line(self.alloc, self.format, self.line.as_slice());
-                self.state = state_after(&answer, State::Ended);
+                self.state = state_after(&answer, ReaderState::Ended);
                 answer
             }
             Ok(Cut::End) => {
-                self.state = State::Ended;
+                self.state = ReaderState::Ended;
                 Ok(None)
             }
             Err(kind) => {
-                self.state = State::Failed;
+                self.state = ReaderState::Failed;
                 Err(self.progress.fault(kind))
             }
         }
@@ -140,7 +144,7 @@ impl LineReader {
     fn is_reading(&self) -> bool
         ensures { MatchBool result (self.now.state ≡ Reading) (self.now.state ≢ Reading) }
     {
-        matches!(self.state, State::Reading)
+        matches!(self.state, ReaderState::Reading)
     }
 
     /// The quad of the next statement of the stream, which is the same at each call, or `None` at the end and from then on. Labels are numbered from 0 by first appearance.
@@ -150,15 +154,15 @@ impl LineReader {
     /// next line that isn't blank is faulty; [`FaultKind::Read`] and [`FaultKind::NoMemory`] at the line that isn't wholly
     /// read; and [`FaultKind::Failed`], with the line of the fault before, from the first fault on.
     pub fn next<R: Read>(&mut self, stream: &mut R) -> Result<Option<Quad>, LineFault>
-        ensures step { Step (over (R.remaining stream.old) self.old) result
+        ensures call { Call (over (R.remaining stream.old) self.old) result
             (over (R.remaining stream.new) self.new) }
         ensures empty { HoldsNothing result self.new.held }
         ensures falls { FallsAtQuad self.old result self.new }
     {
         match self.state {
-            State::Failed => return Err(self.progress.fault(FaultKind::Failed)),
-            State::Ended => return Ok(None),
-            State::Reading => {}
+            ReaderState::Failed => return Err(self.progress.fault(FaultKind::Failed)),
+            ReaderState::Ended => return Ok(None),
+            ReaderState::Reading => {}
         }
         while self.is_reading() {
             match self.one_line(stream) {

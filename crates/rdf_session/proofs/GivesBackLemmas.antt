@@ -8,7 +8,7 @@ use Rattle.rdf_session.specs.GivesBack.{IsPlaced, IsWholeSession, Accepts, RunsA
 use Rattle.rdf_session.specs.Request.{Request}
 use Rattle.rdf_session.specs.History.{Marks, place_of}
 use Rattle.rdf_session.specs.Standing.{Run}
-use Rattle.rdf_session.specs.Session.{Session, Command, Reply, Do, Undo, Redo, Mark, Rollback, Commit, Changed, Done, Refused, Step, accepted, at_place, counts_between, fresh, now, with_marks}
+use Rattle.rdf_session.specs.Session.{Session, Command, Reply, Do, Undo, Redo, Mark, Rollback, Commit, Changed, Done, Refused, Transition, accepted, at_place, counts_between, fresh, now, with_marks}
 use Rattle.rdf_session.specs.declared.fault.Counts.{Counts}
 
 -- ---- a session stays whole
@@ -16,26 +16,26 @@ use Rattle.rdf_session.specs.declared.fault.Counts.{Counts}
 pub length_pushed : (ss : List State) (k : ℕ) (t : State) → k ≤ length ss → length (take k ss ++ t ∷ []) ≡ k + 1
 length_pushed ss k t h = simp (length-append, length-take) (omega (arith, h))
 
-step_whole : (old new : Session) (c : Command) (r : Reply) → IsWholeSession old → Step old c r new → IsWholeSession new
-step_whole old new c (Refused fault) w st = subst IsWholeSession (sym st.1) w
-step_whole old new (Do request) (Changed counts) w st =
+transition_whole : (old new : Session) (c : Command) (r : Reply) → IsWholeSession old → Transition old c r new → IsWholeSession new
+transition_whole old new c (Refused fault) w st = subst IsWholeSession (sym st.1) w
+transition_whole old new (Do request) (Changed counts) w st =
     let n = length_pushed old.states.items old.states.cursor st.0 w.cursor in
     subst IsWholeSession (sym st.2) (record { cursor = omega (arith, n); marks = lie_kept _ old.states.cursor old.states.marks (omega (arith, n)) })
-step_whole old new (Do request) Done w st = absurd st
-step_whole old new Undo (Changed counts) w st = subst IsWholeSession (sym st.1) (record { cursor = omega (arith, w.cursor); marks = w.marks })
-step_whole old new Undo Done w st = absurd st
-step_whole old new Redo (Changed counts) w st = subst IsWholeSession (sym st.1) (record { cursor = omega (arith, st.0); marks = w.marks })
-step_whole old new Redo Done w st = absurd st
-step_whole old new (Mark name) (Changed counts) w st = absurd st
-step_whole old new (Mark name) Done w st = subst IsWholeSession (sym st) (record { cursor = w.cursor; marks = lie_marked _ old.states.cursor name old.states.marks w.cursor w.marks })
-step_whole old new (Rollback name) (Changed counts) w st = subst IsWholeSession (sym st.3) (record { cursor = omega (arith, st.2, w.cursor); marks = w.marks })
-step_whole old new (Rollback name) Done w st = absurd st
-step_whole old new Commit (Changed counts) w st = absurd st
-step_whole old new Commit Done w st = subst IsWholeSession (sym st) (record { cursor = omega arith; marks = lie_nowhere 0 })
+transition_whole old new (Do request) Done w st = absurd st
+transition_whole old new Undo (Changed counts) w st = subst IsWholeSession (sym st.1) (record { cursor = omega (arith, w.cursor); marks = w.marks })
+transition_whole old new Undo Done w st = absurd st
+transition_whole old new Redo (Changed counts) w st = subst IsWholeSession (sym st.1) (record { cursor = omega (arith, st.0); marks = w.marks })
+transition_whole old new Redo Done w st = absurd st
+transition_whole old new (Mark name) (Changed counts) w st = absurd st
+transition_whole old new (Mark name) Done w st = subst IsWholeSession (sym st) (record { cursor = w.cursor; marks = lie_marked _ old.states.cursor name old.states.marks w.cursor w.marks })
+transition_whole old new (Rollback name) (Changed counts) w st = subst IsWholeSession (sym st.3) (record { cursor = omega (arith, st.2, w.cursor); marks = w.marks })
+transition_whole old new (Rollback name) Done w st = absurd st
+transition_whole old new Commit (Changed counts) w st = absurd st
+transition_whole old new Commit Done w st = subst IsWholeSession (sym st) (record { cursor = omega arith; marks = lie_nowhere 0 })
 
 run_whole : (old new : Session) (events : List (Command × Reply)) → IsWholeSession old → Run old events new → IsWholeSession new
 run_whole old new [] w run = subst IsWholeSession (sym run) w
-run_whole old new (event ∷ events) w run = run_whole run.0 new events (step_whole old run.0 event.0 event.1 w run.1) run.2
+run_whole old new (event ∷ events) w run = run_whole run.0 new events (transition_whole old run.0 event.0 event.1 w run.1) run.2
 
 pub runs_are_whole : RunsAreWhole
 runs_are_whole base_iri start events session run = run_whole (fresh base_iri start) session events (record { cursor = omega arith; marks = lie_nowhere 0 }) run
@@ -66,7 +66,7 @@ now_undone after s w =
     ap (λ j. now (at_place j (accepted after s))) (back_one s.states.cursor) ∙ stands s.base s.states.items s.states.cursor s.states.cursor s.base after (omega arith) w
 
 -- what an undo behind an accepted request leaves, whatever marks are put since
-undone : (old mid later new : Session) (request : Request) (c d : Counts) (st : Step old (Do request) (Changed c) mid) → Quietly mid later → Step later Undo (Changed d) new → (marks : Marks) × (new ≡ with_marks marks (at_place ((old.states.cursor + 1) - 1) (accepted st.0 old)))
+undone : (old mid later new : Session) (request : Request) (c d : Counts) (st : Transition old (Do request) (Changed c) mid) → Quietly mid later → Transition later Undo (Changed d) new → (marks : Marks) × (new ≡ with_marks marks (at_place ((old.states.cursor + 1) - 1) (accepted st.0 old)))
 undone old mid later new request c d st quiet un =
     let q = quiet_accepted old mid later request c st quiet in
     (q.0, un.1 ∙ ap (λ (x : Session). at_place (x.states.cursor - 1) x) q.1)

@@ -6,12 +6,12 @@ use Rattle.rdf_session.proofs.InsertionLemmas.{load_inserts}
 use Rattle.rdf_session.proofs.NetLemmas.{applied_is, turned_is}
 use Rattle.rdf_session.proofs.OneReplyLemmas.{never_refused, one_document}
 use Rattle.rdf_session.specs.Inside.ReaderLaws.{ReaderLaws}
-use Rattle.rdf_session.proofs.StandingLemmas.{Agrees, fresh_agrees, run_agrees, standing, step_agrees}
+use Rattle.rdf_session.proofs.StandingLemmas.{Agrees, fresh_agrees, run_agrees, standing, transition_agrees}
 use Rattle.rdf_session.specs.Headline.{HasOperations, HaveOperations, MakeExactly, committed_by, committed, standing_since, still_standing, HaveEntries, Headline}
 use Rattle.rdf_session.specs.History.{nothing}
 use Rattle.rdf_session.specs.LoadLaws.{insertion}
 use Rattle.rdf_session.specs.Request.{Request, Load, Update, Makes}
-use Rattle.rdf_session.specs.Session.{Session, Command, Reply, Do, Undo, Redo, Mark, Rollback, Commit, Changed, Done, Refused, Step, fresh, nets_between, now}
+use Rattle.rdf_session.specs.Session.{Session, Command, Reply, Do, Undo, Redo, Mark, Rollback, Commit, Changed, Done, Refused, Transition, fresh, nets_between, now}
 use Rattle.rdf_session.specs.Standing.{Run, Requests, Follows, MakesAll, kept_after, requests_of}
 use Rattle.sparql_eval.specs.Operations.{go_on, step, steps}
 use Rattle.sparql_eval.specs.declared.fault.ApplyFault.{ApplyFault}
@@ -110,7 +110,7 @@ stands_now base s h a =
     subst (λ k. MakesAll base (take k h.items) s.base (now s)) (sym a.cursor) (standing base s.base h.items s.states.items s.states.cursor s.base a.follows a.within)
 
 -- the base moves over the requests that a command commits
-base_after : (base : Base) (old new : Session) (c : Command) (r : Reply) (h : Requests) → Agrees base old h → Step old c r new → MakesAll base (committed_by h (c, r)) old.base new.base
+base_after : (base : Base) (old new : Session) (c : Command) (r : Reply) (h : Requests) → Agrees base old h → Transition old c r new → MakesAll base (committed_by h (c, r)) old.base new.base
 base_after base old new c (Refused fault) h a st = ap (λ (x : Session). x.base) st.1
 base_after base old new (Do request) (Changed counts) h a st = ap (λ (x : Session). x.base) st.2
 base_after base old new (Do request) Done h a st = absurd st
@@ -131,7 +131,7 @@ run_base base [] old new h a run = ap (λ (x : Session). x.base) run
 run_base base (event ∷ events) old new h a run =
     let mid : Session = run.0 in
     makes_on base (committed_by h event) (committed (kept_after h event) events) old.base mid.base new.base (base_after base old mid event.0 event.1 h a run.1)
-    (run_base base events mid new (kept_after h event) (step_agrees base old mid event.0 event.1 h a run.1) run.2)
+    (run_base base events mid new (kept_after h event) (transition_agrees base old mid event.0 event.1 h a run.1) run.2)
 
 -- ---- the same requests make the same state
 

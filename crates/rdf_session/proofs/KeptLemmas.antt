@@ -9,7 +9,7 @@ use Rattle.rdf_session.proofs.MarkLemmas.{lie_kept, lie_marked}
 use Rattle.rdf_session.proofs.NetLemmas.{applied_is, turned_is, one_end}
 use Rattle.rdf_session.specs.GivesBack.{IsWholeSession}
 use Rattle.rdf_session.specs.History.{Marks, marks_upto, place_of}
-use Rattle.rdf_session.specs.Session.{Session, Step, Undo, Redo, Rollback, Changed, Refused, all_states, counts_between, now, accepted}
+use Rattle.rdf_session.specs.Session.{Session, Transition, Undo, Redo, Rollback, Changed, Refused, all_states, counts_between, now, accepted}
 use Rattle.rdf_session.specs.Inside.Kept.{before_all, states_after, AreNets, session_from, base_of, IsKept}
 use Rattle.rdf_session.specs.Session.{nets_between}
 use Rattle.rdf_session.specs.declared.fault.Counts.{Counts}
@@ -87,8 +87,8 @@ module _ (iri : Base) (base s : State) (ns : List Change) (k : ℕ) (marks : Mar
   old_session = session_from iri base ns k marks
 
   -- going to another place of the chain
-  pub step_to : (t : State) (j : ℕ) (counts : Counts) → IsKept base t ns j marks → counts.added ≡ set.len (net_between s t).added → counts.removed ≡ set.len (net_between s t).removed → (session_from iri (base_of t ns j) ns j marks ≡ session_from iri base ns j marks) × (counts ≡ counts_between (now old_session) (now (session_from iri (base_of t ns j) ns j marks)))
-  step_to t j counts d a r =
+  pub transition_to : (t : State) (j : ℕ) (counts : Counts) → IsKept base t ns j marks → counts.added ≡ set.len (net_between s t).added → counts.removed ≡ set.len (net_between s t).removed → (session_from iri (base_of t ns j) ns j marks ≡ session_from iri base ns j marks) × (counts ≡ counts_between (now old_session) (now (session_from iri (base_of t ns j) ns j marks)))
+  transition_to t j counts d a r =
       let there = session_at iri base t ns j marks d in
       (there, same_counts counts s t a r ∙ ap (λ x. counts_between x t) c.current ∙ ap (counts_between (now old_session)) d.current ∙ ap (λ x. counts_between (now old_session) (now x)) (sym there))
 
@@ -135,56 +135,56 @@ module _ (iri : Base) (base s : State) (ns : List Change) (k : ℕ) (marks : Mar
   begins_here e b = (b.0, b.1, b.2 ∙ ap (λ x. net_between x b.0) (sym now_is))
 
   -- an undo over the entry e
-  pub undo_step : (t : State) (counts : Counts) (e : Change) → 0 < k → e ≡ get_or ns (k - 1) e → ((start : State) → e ≡ net_between start s → t ≡ start) → counts.added ≡ set.len e.removed → counts.removed ≡ set.len e.added → IsKept base t ns (k - 1) marks × Step o Undo (Changed counts) (session_from iri (base_of t ns (k - 1)) ns (k - 1) marks)
-  undo_step t counts e h is ends a r =
+  pub undo_transition : (t : State) (counts : Counts) (e : Change) → 0 < k → e ≡ get_or ns (k - 1) e → ((start : State) → e ≡ net_between start s → t ≡ start) → counts.added ≡ set.len e.removed → counts.removed ≡ set.len e.added → IsKept base t ns (k - 1) marks × Transition o Undo (Changed counts) (session_from iri (base_of t ns (k - 1)) ns (k - 1) marks)
+  undo_transition t counts e h is ends a r =
       let n = undo_entry e h is in
       let back = ends (at base ns (k - 1) base) n in
       let there = kept_at base s t ns k (k - 1) marks c (omega (arith, c.within)) back in
       let n' : e ≡ net_between t s = n ∙ ap (λ x. net_between x s) (sym back) in
-      let st = step_to t (k - 1) counts there (a ∙ ap (λ (x : Change). set.len x.removed) n') (r ∙ ap (λ (x : Change). set.len x.added) n') in
-      (there, subst (λ x. Step x Undo (Changed counts) (session_from iri (base_of t ns (k - 1)) ns (k - 1) marks)) view (h, st.0, st.1))
+      let st = transition_to t (k - 1) counts there (a ∙ ap (λ (x : Change). set.len x.removed) n') (r ∙ ap (λ (x : Change). set.len x.added) n') in
+      (there, subst (λ x. Transition x Undo (Changed counts) (session_from iri (base_of t ns (k - 1)) ns (k - 1) marks)) view (h, st.0, st.1))
 
-  pub redo_step : (t : State) (counts : Counts) (e : Change) → k < length ns → e ≡ get_or ns k e → ((end : State) → e ≡ net_between s end → t ≡ end) → counts.added ≡ set.len e.added → counts.removed ≡ set.len e.removed → IsKept base t ns (k + 1) marks × Step o Redo (Changed counts) (session_from iri (base_of t ns (k + 1)) ns (k + 1) marks)
-  redo_step t counts e h is ends a r =
+  pub redo_transition : (t : State) (counts : Counts) (e : Change) → k < length ns → e ≡ get_or ns k e → ((end : State) → e ≡ net_between s end → t ≡ end) → counts.added ≡ set.len e.added → counts.removed ≡ set.len e.removed → IsKept base t ns (k + 1) marks × Transition o Redo (Changed counts) (session_from iri (base_of t ns (k + 1)) ns (k + 1) marks)
+  redo_transition t counts e h is ends a r =
       let n = redo_entry e h is in
       let on = ends (at base ns (k + 1) base) n in
       let there = kept_at base s t ns k (k + 1) marks c (omega (arith, h)) on in
       let n' : e ≡ net_between s t = n ∙ ap (net_between s) (sym on) in
-      let st = step_to t (k + 1) counts there (a ∙ ap (λ (x : Change). set.len x.added) n') (r ∙ ap (λ (x : Change). set.len x.removed) n') in
-      (there, subst (λ x. Step x Redo (Changed counts) (session_from iri (base_of t ns (k + 1)) ns (k + 1) marks)) view (rw (length-states_after base ns) h, st.0, st.1))
+      let st = transition_to t (k + 1) counts there (a ∙ ap (λ (x : Change). set.len x.added) n') (r ∙ ap (λ (x : Change). set.len x.removed) n') in
+      (there, subst (λ x. Transition x Redo (Changed counts) (session_from iri (base_of t ns (k + 1)) ns (k + 1) marks)) view (rw (length-states_after base ns) h, st.0, st.1))
 
   -- a rollback to the place j over one net
-  pub rollback_step : (name : List ℕ) (t : State) (counts : Counts) (e : Change) (j : ℕ) → j ≤ k → place_of name old_session.states ≡ Some j → e ≡ net_between (at base ns j base) s → ((start : State) → e ≡ net_between start s → t ≡ start) → counts.added ≡ set.len e.removed → counts.removed ≡ set.len e.added → IsKept base t ns j marks × Step o (Rollback name) (Changed counts) (session_from iri (base_of t ns j) ns j marks)
-  rollback_step name t counts e j h found n ends a r =
+  pub rollback_transition : (name : List ℕ) (t : State) (counts : Counts) (e : Change) (j : ℕ) → j ≤ k → place_of name old_session.states ≡ Some j → e ≡ net_between (at base ns j base) s → ((start : State) → e ≡ net_between start s → t ≡ start) → counts.added ≡ set.len e.removed → counts.removed ≡ set.len e.added → IsKept base t ns j marks × Transition o (Rollback name) (Changed counts) (session_from iri (base_of t ns j) ns j marks)
+  rollback_transition name t counts e j h found n ends a r =
       let back = ends (at base ns j base) n in
       let there = kept_at base s t ns k j marks c (omega (arith, h, c.within)) back in
       let n' : e ≡ net_between t s = n ∙ ap (λ x. net_between x s) (sym back) in
-      let st = step_to t j counts there (a ∙ ap (λ (x : Change). set.len x.removed) n') (r ∙ ap (λ (x : Change). set.len x.added) n') in
-      (there, subst (λ x. Step x (Rollback name) (Changed counts) (session_from iri (base_of t ns j) ns j marks)) view (j, found, h, st.0, st.1))
+      let st = transition_to t j counts there (a ∙ ap (λ (x : Change). set.len x.removed) n') (r ∙ ap (λ (x : Change). set.len x.added) n') in
+      (there, subst (λ x. Transition x (Rollback name) (Changed counts) (session_from iri (base_of t ns j) ns j marks)) view (j, found, h, st.0, st.1))
 
   -- want of memory, which leaves the session
-  pub undo_refused : (t : State) (e : Change) → 0 < k → e ≡ get_or ns (k - 1) e → (e.removed ≡ set.empty → e.names_removed ≡ set.empty → false ≡ true) → t ≡ s → Step o Undo (Refused no_memory) (session_from iri (base_of t ns k) ns k marks)
+  pub undo_refused : (t : State) (e : Change) → 0 < k → e ≡ get_or ns (k - 1) e → (e.removed ≡ set.empty → e.names_removed ≡ set.empty → false ≡ true) → t ≡ s → Transition o Undo (Refused no_memory) (session_from iri (base_of t ns k) ns k marks)
   undo_refused t e h is some same =
       let n = undo_entry e h is in
-      subst (λ x. Step x Undo (Refused no_memory) (session_from iri (base_of t ns k) ns k marks)) view (
+      subst (λ x. Transition x Undo (Refused no_memory) (session_from iri (base_of t ns k) ns k marks)) view (
         (h, λ z. let f = n ∙ ap (net_between (at base ns (k - 1) base)) c.current in no_truth (some (ap (λ (x : Change). x.removed) f ∙ z.0) (ap (λ (x : Change). x.names_removed) f ∙ z.1))),
         ap (λ x. session_from iri (base_of x ns k) ns k marks) same ∙ session_at iri base s ns k marks c,
       )
 
-  pub redo_refused : (t : State) (e : Change) → k < length ns → e ≡ get_or ns k e → (e.added ≡ set.empty → e.names_added ≡ set.empty → false ≡ true) → t ≡ s → Step o Redo (Refused no_memory) (session_from iri (base_of t ns k) ns k marks)
+  pub redo_refused : (t : State) (e : Change) → k < length ns → e ≡ get_or ns k e → (e.added ≡ set.empty → e.names_added ≡ set.empty → false ≡ true) → t ≡ s → Transition o Redo (Refused no_memory) (session_from iri (base_of t ns k) ns k marks)
   redo_refused t e h is some same =
       let n = redo_entry e h is in
-      subst (λ x. Step x Redo (Refused no_memory) (session_from iri (base_of t ns k) ns k marks)) view (
+      subst (λ x. Transition x Redo (Refused no_memory) (session_from iri (base_of t ns k) ns k marks)) view (
         (rw (length-states_after base ns) h, λ z. let f = n ∙ ap (λ x. net_between x (at base ns (k + 1) base)) c.current in no_truth (some (ap (λ (x : Change). x.added) f ∙ z.0) (ap (λ (x : Change). x.names_added) f ∙ z.1))),
         ap (λ x. session_from iri (base_of x ns k) ns k marks) same ∙ session_at iri base s ns k marks c,
       )
 
-  pub rollback_refused : (name : List ℕ) (t : State) → t ≡ s → Step o (Rollback name) (Refused no_memory) (session_from iri (base_of t ns k) ns k marks)
-  rollback_refused name t same = subst (λ x. Step x (Rollback name) (Refused no_memory) (session_from iri (base_of t ns k) ns k marks)) view (tt, ap (λ x. session_from iri (base_of x ns k) ns k marks) same ∙ session_at iri base s ns k marks c)
+  pub rollback_refused : (name : List ℕ) (t : State) → t ≡ s → Transition o (Rollback name) (Refused no_memory) (session_from iri (base_of t ns k) ns k marks)
+  rollback_refused name t same = subst (λ x. Transition x (Rollback name) (Refused no_memory) (session_from iri (base_of t ns k) ns k marks)) view (tt, ap (λ x. session_from iri (base_of x ns k) ns k marks) same ∙ session_at iri base s ns k marks c)
 
   -- an accepted request
-  pub accept_step : (t after : State) (counts : Counts) (e : Change) (ns' : List Change) (j : ℕ) (marks' : Marks) → IsSound after → e ≡ net_between s after → ((end : State) → e ≡ net_between s end → t ≡ end) → ns' ≡ take k ns ++ e ∷ [] → j ≡ k + 1 → marks' ≡ marks_upto k marks → counts.added ≡ set.len e.added → counts.removed ≡ set.len e.removed → IsKept base t ns' j marks' × ((session_from iri (base_of t ns' j) ns' j marks' ≡ accepted after o) × (counts ≡ counts_between (now o) after))
-  accept_step t after counts e ns' j marks' sound n ends pn pj pm a r =
+  pub accept_transition : (t after : State) (counts : Counts) (e : Change) (ns' : List Change) (j : ℕ) (marks' : Marks) → IsSound after → e ≡ net_between s after → ((end : State) → e ≡ net_between s end → t ≡ end) → ns' ≡ take k ns ++ e ∷ [] → j ≡ k + 1 → marks' ≡ marks_upto k marks → counts.added ≡ set.len e.added → counts.removed ≡ set.len e.removed → IsKept base t ns' j marks' × ((session_from iri (base_of t ns' j) ns' j marks' ≡ accepted after o) × (counts ≡ counts_between (now o) after))
+  accept_transition t after counts e ns' j marks' sound n ends pn pj pm a r =
       let x = extended base ns k base e after c.nets c.within sound (n ∙ ap (λ y. net_between y after) c.current) in
       let on = ends after n in
       let marks'' : Marks = marks_upto k marks in
@@ -208,7 +208,7 @@ module _ (iri : Base) (base s : State) (ns : List Change) (k : ℕ) (marks : Mar
   unfolding begins_here
   accepted_any t counts e ns' j marks' b ends pn pj pm a r =
       let h = begins_here e b in
-      let st = accept_step t h.0 counts e ns' j marks' h.1 h.2 ends pn pj pm a r in
+      let st = accept_transition t h.0 counts e ns' j marks' h.1 h.2 ends pn pj pm a r in
       (st.0, λ after n. subst (λ x. (session_from iri (base_of t ns' j) ns' j marks' ≡ accepted x o) × (counts ≡ counts_between (now o) x)) (one_end (now o) h.0 after e b.2 n) st.1)
 
 pub entries_are : (base : State) (ns : List Change) → AreNets base ns → ns ≡ nets_between base (states_after base ns)

@@ -20,7 +20,7 @@ use Rattle.rdf_session.specs.Inside.ReaderLaws.{ReaderLaws}
 use Rattle.rdf_session.specs.History.{place_of}
 use Rattle.rdf_session.specs.OneReply.{DifferInLine, IsFull, OneReply, SameReply}
 use Rattle.rdf_session.specs.Request.{Request, Load, Update, Makes, blank_limit, loaded}
-use Rattle.rdf_session.specs.Session.{Session, Command, Reply, Do, Undo, Redo, Mark, Rollback, Commit, Changed, Done, Refused as RefusedReply, MayRefuse, Step, accepted, counts_between, now}
+use Rattle.rdf_session.specs.Session.{Session, Command, Reply, Do, Undo, Redo, Mark, Rollback, Commit, Changed, Done, Refused as RefusedReply, MayRefuse, Transition, accepted, counts_between, now}
 use Rattle.rdf_session.specs.declared.fault.KeeperFault.{KeeperFault}
 use Rattle.rdf_session.specs.declared.fault.KeeperFault.TheVariants.{NothingToUndo, NothingToRedo, NoSuchMark, MarkAhead, NoMemory as NoMemoryFault, BlankNumbers, Line as LineFaultOf, Turtle as TurtleFaultOf, Syntax as SyntaxFaultOf, Apply as ApplyFaultOf}
 use Rattle.rdf_session.specs.declared.format.Format.{Format}
@@ -103,7 +103,7 @@ no_place o k e f = absurd (none_some k (sym e ∙ f))
     none_some : (k : ℕ) → None ≡ Some k → ⊥
     none_some k e = cc
 
-undo_same : (s t u : Session) (r q : Reply) → Step s Undo r t → Step s Undo q u → IsFull r → IsFull q → Same r t q u
+undo_same : (s t u : Session) (r q : Reply) → Transition s Undo r t → Transition s Undo q u → IsFull r → IsFull q → Same r t q u
 undo_same s t u (RefusedReply f) (RefusedReply g) a b n m =
     let p = undo_fault s f a.0 (full_fault f n) in let p' = undo_fault s g b.0 (full_fault g m) in both_refused (p.0 ∙ sym p'.0) a.1 b.1
 undo_same s t u (RefusedReply f) (Changed c) a b n m = let p = undo_fault s f a.0 (full_fault f n) in absurd (omega (arith, p.1, b.0))
@@ -114,7 +114,7 @@ undo_same s t u (Changed c) (Changed d) a b n m =
 undo_same s t u (Changed c) Done a b n m = absurd b
 undo_same s t u Done q a b n m = absurd a
 
-redo_same : (s t u : Session) (r q : Reply) → Step s Redo r t → Step s Redo q u → IsFull r → IsFull q → Same r t q u
+redo_same : (s t u : Session) (r q : Reply) → Transition s Redo r t → Transition s Redo q u → IsFull r → IsFull q → Same r t q u
 redo_same s t u (RefusedReply f) (RefusedReply g) a b n m =
     let p = redo_fault s f a.0 (full_fault f n) in let p' = redo_fault s g b.0 (full_fault g m) in both_refused (p.0 ∙ sym p'.0) a.1 b.1
 redo_same s t u (RefusedReply f) (Changed c) a b n m = let p = redo_fault s f a.0 (full_fault f n) in absurd (omega (arith, p.1, b.0))
@@ -125,14 +125,14 @@ redo_same s t u (Changed c) (Changed d) a b n m =
 redo_same s t u (Changed c) Done a b n m = absurd b
 redo_same s t u Done q a b n m = absurd a
 
-mark_same : (s t u : Session) (name : List ℕ) (r q : Reply) → Step s (Mark name) r t → Step s (Mark name) q u → IsFull r → IsFull q → Same r t q u
+mark_same : (s t u : Session) (name : List ℕ) (r q : Reply) → Transition s (Mark name) r t → Transition s (Mark name) q u → IsFull r → IsFull q → Same r t q u
 mark_same s t u name (RefusedReply f) q a b n m = mark_fault s name f a.0 (full_fault f n)
 mark_same s t u name (Changed c) q a b n m = absurd a
 mark_same s t u name Done (RefusedReply g) a b n m = mark_fault s name g b.0 (full_fault g m)
 mark_same s t u name Done (Changed d) a b n m = absurd b
 mark_same s t u name Done Done a b n m = (refl, a ∙ sym b)
 
-commit_same : (s t u : Session) (r q : Reply) → Step s Commit r t → Step s Commit q u → Same r t q u
+commit_same : (s t u : Session) (r q : Reply) → Transition s Commit r t → Transition s Commit q u → Same r t q u
 commit_same s t u (RefusedReply f) q a b = commit_fault s f a.0
 commit_same s t u (Changed c) q a b = absurd a
 commit_same s t u Done (RefusedReply g) a b = commit_fault s g b.0
@@ -149,7 +149,7 @@ rollback_not : {A : Type 0} (s : Session) (name : List ℕ) (f : KeeperFault) (k
 rollback_not s name f k (inl a) p h = no_place _ k a.1 p
 rollback_not s name f k (inr a) p h = let e = some_place a.1.0 k (sym a.1.1 ∙ p) in absurd (omega (arith, e, a.1.2, h))
 
-rollback_same : (s t u : Session) (name : List ℕ) (r q : Reply) → Step s (Rollback name) r t → Step s (Rollback name) q u → IsFull r → IsFull q → Same r t q u
+rollback_same : (s t u : Session) (name : List ℕ) (r q : Reply) → Transition s (Rollback name) r t → Transition s (Rollback name) q u → IsFull r → IsFull q → Same r t q u
 rollback_same s t u name (RefusedReply f) (RefusedReply g) a b n m =
     both_refused (rollback_faults s name f g (rollback_fault s name f a.0 (full_fault f n)) (rollback_fault s name g b.0 (full_fault g m))) a.1 b.1
 rollback_same s t u name (RefusedReply f) (Changed c) a b n m = rollback_not s name f b.0 (rollback_fault s name f a.0 (full_fault f n)) b.1 b.2
@@ -296,7 +296,7 @@ module _ (laws : ReaderLaws) where
   refusals s t u request f g (inl e) p q = (inl (ap RefusedReply e), p ∙ sym q)
   refusals s t u request f g (inr free) p q = (inr (f, g, refl, refl, free), p ∙ sym q)
 
-  request_same : (s t u : Session) (request : Request) (r q : Reply) → Step s (Do request) r t → Step s (Do request) q u → IsFull r → IsFull q → SameReply (Do request) r q × (t ≡ u)
+  request_same : (s t u : Session) (request : Request) (r q : Reply) → Transition s (Do request) r t → Transition s (Do request) q u → IsFull r → IsFull q → SameReply (Do request) r q × (t ≡ u)
   request_same s t u request (RefusedReply f) (RefusedReply g) a b n m =
       refusals s t u request f g (refused_alike s request f g a.0 b.0 (full_fault f n) (full_fault g m)) a.1 b.1
   request_same s t u request (RefusedReply f) (Changed c) a b n m = never_refused s request f b.0 a.0 (full_fault f n) b.1

@@ -5,7 +5,7 @@ use Rattle.std.specs.Prelude.{unwrap_or}
 use Rattle.rdf_dataset.specs.State.{State}
 use Rattle.rdf_session.specs.Request.{Request, Makes}
 use Rattle.rdf_session.specs.History.{Marks, nothing, pushed, moved, marked, marks_upto, place_of}
-use Rattle.rdf_session.specs.Session.{Session, Command, Reply, Do, Undo, Redo, Mark, Rollback, Commit, Changed, Done, Refused, Step, fresh, now}
+use Rattle.rdf_session.specs.Session.{Session, Command, Reply, Do, Undo, Redo, Mark, Rollback, Commit, Changed, Done, Refused, Transition, fresh, now}
 use Rattle.rdf_session.specs.Standing.{Run, Requests, kept_after, requests_of, Follows, MakesAll}
 
 -- the standing requests belong to the states of the session, which has this base IRI
@@ -34,9 +34,9 @@ length-push : (ss : List State) (k : ℕ) (t : State) → k ≤ length ss → k 
 length-push ss k t h = simp (length-append, length-take) (omega (arith, h))
 
 -- one command
-pub step_agrees : (iri : Option (List ℕ)) (old new : Session) (c : Command) (r : Reply) (h : Requests) → Agrees iri old h → Step old c r new → Agrees iri new (kept_after h (c, r))
-step_agrees iri old new c (Refused fault) h a st = subst (λ s. Agrees iri s h) (sym st.1) a
-step_agrees iri old new (Do request) (Changed counts) h a st =
+pub transition_agrees : (iri : Option (List ℕ)) (old new : Session) (c : Command) (r : Reply) (h : Requests) → Agrees iri old h → Transition old c r new → Agrees iri new (kept_after h (c, r))
+transition_agrees iri old new c (Refused fault) h a st = subst (λ s. Agrees iri s h) (sym st.1) a
+transition_agrees iri old new (Do request) (Changed counts) h a st =
     subst (λ s. Agrees iri s (pushed request h)) (sym st.2)
     (record {
       base_iri = a.base_iri;
@@ -45,17 +45,17 @@ step_agrees iri old new (Do request) (Changed counts) h a st =
       marks = ap (λ k. marks_upto k h.marks) a.cursor ∙ ap (marks_upto old.states.cursor) a.marks;
       within = length-push old.states.items old.states.cursor st.0 a.within;
     })
-step_agrees iri old new (Do request) Done h a st = absurd st
-step_agrees iri old new Undo (Changed counts) h a st =
+transition_agrees iri old new (Do request) Done h a st = absurd st
+transition_agrees iri old new Undo (Changed counts) h a st =
     subst (λ s. Agrees iri s (moved (h.cursor - 1) h)) (sym st.1)
     (record { base_iri = a.base_iri; follows = a.follows; cursor = ap (λ k. k - 1) a.cursor; marks = a.marks; within = omega (arith, a.within) })
-step_agrees iri old new Undo Done h a st = absurd st
-step_agrees iri old new Redo (Changed counts) h a st =
+transition_agrees iri old new Undo Done h a st = absurd st
+transition_agrees iri old new Redo (Changed counts) h a st =
     subst (λ s. Agrees iri s (moved (h.cursor + 1) h)) (sym st.1)
     (record { base_iri = a.base_iri; follows = a.follows; cursor = ap (λ k. k + 1) a.cursor; marks = a.marks; within = omega (arith, st.0) })
-step_agrees iri old new Redo Done h a st = absurd st
-step_agrees iri old new (Mark name) (Changed counts) h a st = absurd st
-step_agrees iri old new (Mark name) Done h a st =
+transition_agrees iri old new Redo Done h a st = absurd st
+transition_agrees iri old new (Mark name) (Changed counts) h a st = absurd st
+transition_agrees iri old new (Mark name) Done h a st =
     subst (λ s. Agrees iri s (marked name h)) (sym st)
     (record {
       base_iri = a.base_iri;
@@ -64,7 +64,7 @@ step_agrees iri old new (Mark name) Done h a st =
       marks = ap (map.insert h.marks name) a.cursor ∙ ap (λ (marks : Marks). map.insert marks name old.states.cursor) a.marks;
       within = a.within;
     })
-step_agrees iri old new (Rollback name) (Changed counts) h a st =
+transition_agrees iri old new (Rollback name) (Changed counts) h a st =
     subst (λ s. Agrees iri s (moved (unwrap_or (place_of name h) 0) h)) (sym st.3)
     (record {
       base_iri = a.base_iri;
@@ -73,13 +73,13 @@ step_agrees iri old new (Rollback name) (Changed counts) h a st =
       marks = a.marks;
       within = omega (arith, st.2, a.within);
     })
-step_agrees iri old new (Rollback name) Done h a st = absurd st
-step_agrees iri old new Commit (Changed counts) h a st = absurd st
-step_agrees iri old new Commit Done h a st = subst (λ s. Agrees iri s nothing) (sym st) (record { base_iri = a.base_iri; follows = tt; cursor = refl; marks = refl; within = omega arith })
+transition_agrees iri old new (Rollback name) Done h a st = absurd st
+transition_agrees iri old new Commit (Changed counts) h a st = absurd st
+transition_agrees iri old new Commit Done h a st = subst (λ s. Agrees iri s nothing) (sym st) (record { base_iri = a.base_iri; follows = tt; cursor = refl; marks = refl; within = omega arith })
 
 pub run_agrees : (iri : Option (List ℕ)) (old new : Session) (events : List (Command × Reply)) (h : Requests) → Agrees iri old h → Run old events new → Agrees iri new (requests_of h events)
 run_agrees iri old new [] h a run = subst (λ s. Agrees iri s h) (sym run) a
-run_agrees iri old new (event ∷ events) h a run = run_agrees iri run.0 new events (kept_after h event) (step_agrees iri old run.0 event.0 event.1 h a run.1) run.2
+run_agrees iri old new (event ∷ events) h a run = run_agrees iri run.0 new events (kept_after h event) (transition_agrees iri old run.0 event.0 event.1 h a run.1) run.2
 
 pub fresh_agrees : (iri : Option (List ℕ)) (s : State) → Agrees iri (fresh iri s) nothing
 fresh_agrees iri s = record { base_iri = refl; follows = tt; cursor = refl; marks = refl; within = omega arith }

@@ -6,7 +6,7 @@ use Rattle.sparql_trees.specs.declared.operation.Operation.{Operation}
 use Rattle.rdf_session.specs.GivesBack.{IsPlaced}
 use Rattle.rdf_session.specs.Headline.{HasOperations}
 use Rattle.rdf_session.specs.Request.{Request, Load}
-use Rattle.rdf_session.specs.Session.{Session, Command, Reply, Do, Undo, Redo, Mark, Rollback, Commit, Changed, Done, Step, fresh, now}
+use Rattle.rdf_session.specs.Session.{Session, Command, Reply, Do, Undo, Redo, Mark, Rollback, Commit, Changed, Done, Transition, fresh, now}
 use Rattle.rdf_session.specs.Standing.{Run}
 use Rattle.rdf_session.specs.declared.fault.Counts.{Counts}
 use Rattle.rdf_session.specs.declared.format.Format.TheVariants.{NQuads}
@@ -16,7 +16,7 @@ abbrev pub MayBeAccepted : Type 0
 MayBeAccepted = (session : Session) (request : Request) (operations : List Operation) (t : State) → IsPlaced session
     → HasOperations session.base_iri request operations → steps (now session) operations ≡ Ok t
     → (mid back new : Session) × (c d e : Counts)
-    × Step session (Do request) (Changed c) mid × Step mid Undo (Changed d) back × Step back Redo (Changed e) new
+    × Transition session (Do request) (Changed c) mid × Transition mid Undo (Changed d) back × Transition back Redo (Changed e) new
 
 -- the document of an empty text comes in and is marked, undone, redone, rolled back to and committed
 abbrev pub each_command : Counts → Counts → Counts → Counts → List (Command × Reply)

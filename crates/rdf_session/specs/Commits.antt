@@ -3,7 +3,7 @@ use Rattle.std.specs.Prelude.{◌≡◌, ℕ, List, [], ◌∷◌, Option, None}
 use Rattle.std.specs.List.{AllByRecursion}
 use Rattle.rdf_dataset.specs.State.{State}
 use Rattle.rdf_session.specs.History.{place_of}
-use Rattle.rdf_session.specs.Session.{Session, Command, Reply, Commit, Done, Refused, Step, all_states, fresh, now}
+use Rattle.rdf_session.specs.Session.{Session, Command, Reply, Commit, Done, Refused, Transition, all_states, fresh, now}
 use Rattle.rdf_session.specs.Standing.{Run}
 
 -- any command but an accepted commit
@@ -19,7 +19,7 @@ pub record HasCommitted (old new : Session) : Type 0 where
   pub no_mark : (name : List ℕ) → place_of name new.states ≡ None
 
 abbrev pub CommitKeepsTheState : Type 0
-CommitKeepsTheState = (old new : Session) → Step old Commit Done new → HasCommitted old new
+CommitKeepsTheState = (old new : Session) → Transition old Commit Done new → HasCommitted old new
 
 -- Where nothing was committed, the base is the state that the session began with.
 abbrev pub BaseIsTheFirst : Type 0
@@ -29,5 +29,5 @@ BaseIsTheFirst = (base_iri : Option (List ℕ)) (start : State) (events : List (
 -- Else it is the state at the last commit, whatever commands came before and behind it.
 abbrev pub BaseIsTheLastCommitted : Type 0
 BaseIsTheLastCommitted = (base_iri : Option (List ℕ)) (start : State) (before behind : List (Command × Reply)) (at committed session : Session)
-    → Run (fresh base_iri start) before at → Step at Commit Done committed
+    → Run (fresh base_iri start) before at → Transition at Commit Done committed
     → AllByRecursion IsNoCommit behind → Run committed behind session → session.base ≡ now at

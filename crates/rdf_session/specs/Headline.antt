@@ -12,7 +12,7 @@ use Rattle.rdf_session.specs.Faults.{no_memory}
 use Rattle.rdf_session.specs.History.{nothing}
 use Rattle.rdf_session.specs.LoadLaws.{insertion}
 use Rattle.rdf_session.specs.Request.{Request, Load, Update}
-use Rattle.rdf_session.specs.Session.{Session, Command, Reply, Do, Undo, Redo, Commit, Changed, Refused, Step, fresh, nets_between, now}
+use Rattle.rdf_session.specs.Session.{Session, Command, Reply, Do, Undo, Redo, Commit, Changed, Refused, Transition, fresh, nets_between, now}
 use Rattle.rdf_session.specs.Standing.{Run, Requests, kept_after, requests_of}
 use Rattle.rdf_session.specs.declared.fault.Counts.{Counts}
 use Rattle.rdf_session.specs.declared.fault.KeeperFault.{KeeperFault}
@@ -81,18 +81,18 @@ HaveEntries base_iri requests entries s states = ⊥
 -- What is promised where these commands with these replies led from the start to the session.
 pub record Promise (base_iri : Option (List ℕ)) (start : State) (events : List (Command × Reply)) (session : Session) : Type 0 where
   -- An accepted request leaves exactly the state that its operations make of the state before.
-  pub exactly : (request : Request) (c : Counts) (new : Session) → Step session (Do request) (Changed c) new
+  pub exactly : (request : Request) (c : Counts) (new : Session) → Transition session (Do request) (Changed c) new
       → MakeExactly base_iri (request ∷ []) (now session) (now new)
   -- An undo then gives back the state before: quads, names of graphs and blank counter.
-  pub undone : (request : Request) (c d : Counts) (mid later new : Session) → Step session (Do request) (Changed c) mid
-      → Quietly mid later → Step later Undo (Changed d) new → now new ≡ now session
+  pub undone : (request : Request) (c d : Counts) (mid later new : Session) → Transition session (Do request) (Changed c) mid
+      → Quietly mid later → Transition later Undo (Changed d) new → now new ≡ now session
   -- And a redo then the state after.
-  pub redone : (request : Request) (c d e : Counts) (mid later back after new : Session) → Step session (Do request) (Changed c) mid
-      → Quietly mid later → Step later Undo (Changed d) back → Quietly back after → Step after Redo (Changed e) new → now new ≡ now mid
+  pub redone : (request : Request) (c d e : Counts) (mid later back after new : Session) → Transition session (Do request) (Changed c) mid
+      → Quietly mid later → Transition later Undo (Changed d) back → Quietly back after → Transition after Redo (Changed e) new → now new ≡ now mid
   -- A refused command changes nothing, history and marks neither.
-  pub unchanged : (command : Command) (fault : KeeperFault) (new : Session) → Step session command (Refused fault) new → new ≡ session
+  pub unchanged : (command : Command) (fault : KeeperFault) (new : Session) → Transition session command (Refused fault) new → new ≡ session
   -- A request is refused only where its operations lead to no state, or memory is wanting.
-  pub rightly : (request : Request) (fault : KeeperFault) (new : Session) → Step session (Do request) (Refused fault) new → fault ≢ no_memory
+  pub rightly : (request : Request) (fault : KeeperFault) (new : Session) → Transition session (Do request) (Refused fault) new → fault ≢ no_memory
       → (operations : List Operation) → HasOperations base_iri request operations → (t : State) → steps (now session) operations ≢ Ok t
   -- The base is exactly what the requests that were committed make of the start.
   pub lasting : MakeExactly base_iri (committed nothing events) start session.base

@@ -3,7 +3,7 @@ use Rattle.std.specs.Prelude.{◌≡◌, ◌≢◌, ◌⊎◌, true}
 use Rattle.rdf_turtle.specs.DocumentLaws as turtle
 use Rattle.sparql_syntax.specs.UpdateLaws as update
 use Rattle.rdf_session.specs.Request.{Load, Update}
-use Rattle.rdf_session.specs.Session.{Session, Command, Reply, Do, Refused, Step}
+use Rattle.rdf_session.specs.Session.{Session, Command, Reply, Do, Refused, Transition}
 use Rattle.rdf_session.specs.declared.fault.KeeperFault.{KeeperFault}
 use Rattle.rdf_session.specs.declared.fault.KeeperFault.TheVariants.{Turtle as InTurtle, Syntax as InUpdate}
 use Rattle.rdf_session.specs.declared.format.Format.TheVariants.{Turtle}
@@ -39,5 +39,5 @@ IsFull reply = reply ≢ Refused no_memory
 -- Where memory isn't wanting, a command has one reply, but for such a line, and leads to one session.
 abbrev pub OneReply : Type 0
 OneReply = (old new another : Session) (command : Command) (reply other : Reply)
-    → Step old command reply new → IsFull reply → Step old command other another → IsFull other
+    → Transition old command reply new → IsFull reply → Transition old command other another → IsFull other
     → SameReply command reply other × (new ≡ another)

@@ -96,19 +96,19 @@ MayRefuse s (Rollback name) (NoMemory _) = Unit {0}
 MayRefuse s _ _ = ⊥
 
 -- from old, the command may have this reply and lead to new
-abbrev pub Step : Session → Command → Reply → Session → Type 0
-Step old c (Refused fault) new = MayRefuse old c fault × (new ≡ old)
-Step old (Do request) (Changed counts) new =
+abbrev pub Transition : Session → Command → Reply → Session → Type 0
+Transition old c (Refused fault) new = MayRefuse old c fault × (new ≡ old)
+Transition old (Do request) (Changed counts) new =
     (after : State) × Makes old.base_iri request (now old) after × (new ≡ accepted after old) × (counts ≡ counts_between (now old) after)
-Step old Undo (Changed counts) new =
+Transition old Undo (Changed counts) new =
     (0 < old.states.cursor) × (new ≡ at_place (old.states.cursor - 1) old) × (counts ≡ counts_between (now old) (now new))
-Step old Redo (Changed counts) new =
+Transition old Redo (Changed counts) new =
     (old.states.cursor < length old.states.items) × (new ≡ at_place (old.states.cursor + 1) old) × (counts ≡ counts_between (now old) (now new))
-Step old (Rollback name) (Changed counts) new =
+Transition old (Rollback name) (Changed counts) new =
     (k : ℕ) × (place_of name old.states ≡ Some k) × (k ≤ old.states.cursor) × (new ≡ at_place k old) × (counts ≡ counts_between (now old) (now new))
-Step old (Mark name) Done new = new ≡ with_mark name old
-Step old Commit Done new = new ≡ fresh old.base_iri (now old)
-Step old _ _ new = ⊥
+Transition old (Mark name) Done new = new ≡ with_mark name old
+Transition old Commit Done new = new ≡ fresh old.base_iri (now old)
+Transition old _ _ new = ⊥
 
 abbrev pub reply_of : Result Counts KeeperFault → Reply
 reply_of (Ok counts) = Changed counts

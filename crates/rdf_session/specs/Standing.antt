@@ -3,12 +3,12 @@ use Rattle.std.specs.Prelude.{◌≡◌, ℕ, ◌+◌, ◌-◌, List, [], ◌∷
 use Rattle.rdf_dataset.specs.State.{State}
 use Rattle.rdf_session.specs.History.{History, nothing, pushed, moved, marked, place_of}
 use Rattle.rdf_session.specs.Request.{Request, Makes}
-use Rattle.rdf_session.specs.Session.{Session, Command, Reply, Do, Undo, Redo, Mark, Rollback, Commit, Refused, Step}
+use Rattle.rdf_session.specs.Session.{Session, Command, Reply, Do, Undo, Redo, Mark, Rollback, Commit, Refused, Transition}
 
 -- the session after commands with these replies
 abbrev pub Run : Session → List (Command × Reply) → Session → Type 0
 Run old [] new = new ≡ old
-Run old (event ∷ events) new = (mid : Session) × Step old event.0 event.1 mid × Run mid events new
+Run old (event ∷ events) new = (mid : Session) × Transition old event.0 event.1 mid × Run mid events new
 
 abbrev pub Requests : Type 0
 Requests = History Request

@@ -12,7 +12,7 @@ ghost use Rattle.rdf_dataset.specs.Sorted.{ListsSorted};
 ghost use Rattle.rdf_session.specs.Listing.{ListsQuads};
 ghost use Rattle.rdf_session.specs.Query.{Replies};
 ghost use Rattle.rdf_session.specs.Request.{Load, Update};
-ghost use Rattle.rdf_session.specs.Session.{Commit, Do, Done, Mark, Redo, Rollback, Session, Step, Undo, accepted, all_states, counts_between, fresh, now, reply_of, reply_of_mark};
+ghost use Rattle.rdf_session.specs.Session.{Commit, Do, Done, Mark, Redo, Rollback, Session, Transition, Undo, accepted, all_states, counts_between, fresh, now, reply_of, reply_of_mark};
 ghost use Rattle.rdf_session.specs.Faults.{no_memory};
 
 use crate::fault::{Counts, KeeperFault};
@@ -85,7 +85,7 @@ impl Keeper {
     /// `Line` at the first faulty line, `Turtle` where the text is no document of Turtle, `BlankNumbers` where the counter would pass 10^18, `NoMemory`; the
     /// session is then as it was.
     pub fn load(&mut self, format: Format, text: &[u8]) -> Result<Counts, KeeperFault>
-        ensures { Step self.old (Do (Load format text.now)) (reply_of result) self.new }
+        ensures { Transition self.old (Do (Load format text.now)) (reply_of result) self.new }
     {
         let quads = self.document(format, text)?;
         self.insert(quads)
@@ -96,7 +96,7 @@ impl Keeper {
     /// # Errors
     /// Those of [`load`](Keeper::load); the session is then as it was.
     pub fn load_text(&mut self, format: Format, text: Vec<u8>) -> Result<Counts, KeeperFault>
-        ensures { Step self.old (Do (Load format text.items)) (reply_of result) self.new }
+        ensures { Transition self.old (Do (Load format text.items)) (reply_of result) self.new }
     {
         let quads = self.document(format, text.as_slice())?;
         drop(text);
@@ -116,7 +116,7 @@ impl Keeper {
     fn insert(&mut self, quads: Vec<Quad>) -> Result<Counts, KeeperFault>
         ensures { (format : Format) (text : List ℕ) →
             IsDocument format self.old.base_iri text quads.items →
-            Step self.old (Do (Load format text)) (reply_of result) self.new }
+            Transition self.old (Do (Load format text)) (reply_of result) self.new }
     {
         let net = stage(self.alloc, &self.dataset, quads)?;
         self.accept(net)
@@ -129,7 +129,7 @@ impl Keeper {
     /// `Syntax` where the text is no request, then `Apply` at the first operation that is refused; `NoMemory`; the session is
     /// then as it was, whatever operations come before.
     pub fn update(&mut self, text: &[u8]) -> Result<Counts, KeeperFault>
-        ensures { Step self.old (Do (Update text.now)) (reply_of result) self.new }
+        ensures { Transition self.old (Do (Update text.now)) (reply_of result) self.new }
     {
         let request = read_request(self.alloc, text, self.base_iri.as_ref())?;
         let net = stage_request(self.alloc, &self.dataset, &request)?;
@@ -173,7 +173,7 @@ impl Keeper {
     /// # Errors
     /// `NothingToUndo` at the base, `NoMemory`; the session is then as it was.
     pub fn undo(&mut self) -> Result<Counts, KeeperFault>
-        ensures { Step self.old Undo (reply_of result) self.new }
+        ensures { Transition self.old Undo (reply_of result) self.new }
     {
         if self.cursor == 0 {
             return Err(KeeperFault::NothingToUndo);
@@ -191,7 +191,7 @@ impl Keeper {
     /// # Errors
     /// `NothingToRedo` at the last request, `NoMemory`; the session is then as it was.
     pub fn redo(&mut self) -> Result<Counts, KeeperFault>
-        ensures { Step self.old Redo (reply_of result) self.new }
+        ensures { Transition self.old Redo (reply_of result) self.new }
     {
         if self.cursor == self.entries.len() {
             return Err(KeeperFault::NothingToRedo);
@@ -208,7 +208,7 @@ impl Keeper {
     /// # Errors
     /// [`NoMemory`](rdf_terms::NoMemory): the marks are then as they were.
     pub fn mark(&mut self, name: &[u8]) -> Result<(), NoMemoryFault>
-        ensures { Step self.old (Mark name.now) (reply_of_mark result) self.new }
+        ensures { Transition self.old (Mark name.now) (reply_of_mark result) self.new }
     {
         self.marks.put(name, self.cursor)?;
         Ok(())
@@ -219,7 +219,7 @@ impl Keeper {
     /// # Errors
     /// `NoSuchMark`, `MarkAhead` where the mark lies past the cursor, `NoMemory`; the session is then as it was.
     pub fn rollback(&mut self, name: &[u8]) -> Result<Counts, KeeperFault>
-        ensures { Step self.old (Rollback name.now) (reply_of result) self.new }
+        ensures { Transition self.old (Rollback name.now) (reply_of result) self.new }
     {
         let Some(place) = self.marks.place_of(name) else {
             return Err(KeeperFault::NoSuchMark);
@@ -241,7 +241,7 @@ impl Keeper {
 
     /// Makes the state now the base, and forgets requests and marks. It takes no memory.
     pub fn commit(&mut self)
-        ensures { Step self.old Commit Done self.new }
+        ensures { Transition self.old Commit Done self.new }
     {
         self.entries.clear();
         self.marks.clear();

@@ -18,7 +18,7 @@ use Rattle.sparql_drafts.specs.declared.draft.QuadPattern.{QuadPattern}
 use Rattle.sparql_drafts.specs.declared.draft.VarOrIri.{VarOrIri}
 use Rattle.sparql_drafts.specs.declared.draft.VarOrTerm.{VarOrTerm}
 use Rattle.sparql_drafts.specs.declared.draft.VarOrTerm.TheVariants.{Variable, Term}
-use Rattle.sparql_drafts.specs.State.{State, Does, fresh, labelled, labels_behind, says}
+use Rattle.sparql_drafts.specs.Drafting.{Drafting, Does, fresh, labelled, labels_behind, says}
 
 -- ---- numbers
 
@@ -34,15 +34,15 @@ Pending [] n = ⊥
 Pending (t ∷ ts) n = (t ≡ node n) ⊎ Pending ts n
 
 -- each number so far stands in a pattern or is pending, and the patterns have no other
-pub record Numbered (pending : List VarOrTerm) (s : State) : Type 0 where
+pub record Numbered (pending : List VarOrTerm) (s : Drafting) : Type 0 where
   pub covered : (n : ℕ) → n < s.numbering.next → Said s.patterns n ⊎ Pending pending n
   pub below : (n : ℕ) → Said s.patterns n → n < s.numbering.next
   pub labels : AllByRecursion (λ e. e.1 < s.numbering.next) s.numbering.labels
 
-abbrev pub IsBelow : VarOrTerm → State → Type 0
+abbrev pub IsBelow : VarOrTerm → Drafting → Type 0
 IsBelow t s = (n : ℕ) → t ≡ node n → n < s.numbering.next
 
-pub wider : (a b : List VarOrTerm) (s : State) → ((n : ℕ) → Pending a n → Pending b n) → Numbered a s → Numbered b s
+pub wider : (a b : List VarOrTerm) (s : Drafting) → ((n : ℕ) → Pending a n → Pending b n) → Numbered a s → Numbered b s
 wider a b s w h = record {
   covered = λ n l. elim (h.covered n l) [ inl x ↦ inl x | inr y ↦ inr (w n y) ];
   below = h.below;
@@ -50,10 +50,10 @@ wider a b s w h = record {
 }
 
 -- one may be pending once more
-pub also : (t : VarOrTerm) (pending : List VarOrTerm) (s : State) → Numbered pending s → Numbered (t ∷ pending) s
+pub also : (t : VarOrTerm) (pending : List VarOrTerm) (s : Drafting) → Numbered pending s → Numbered (t ∷ pending) s
 also t pending s h = wider pending (t ∷ pending) s (λ n p. inr p) h
 
-pub below_on : (t : VarOrTerm) (s u : State) → s.numbering.next ≤ u.numbering.next → IsBelow t s → IsBelow t u
+pub below_on : (t : VarOrTerm) (s u : Drafting) → s.numbering.next ≤ u.numbering.next → IsBelow t s → IsBelow t u
 below_on t s u l h = λ n e. (let z : n < s.numbering.next = h n e in omega (arith, z, l))
 
 in_place : (t : VarOrTerm) (n : ℕ) → t ≡ node n → Contains (place_blanks t) n
@@ -74,10 +74,10 @@ of_place (Term (Literal l)) n h = absurd (nowhere n h)
 
 -- ---- a pattern
 
-abbrev grown : State → QuadPattern → State
+abbrev grown : Drafting → QuadPattern → Drafting
 grown s q = record s { patterns = s.patterns ++ q ∷ [] }
 
-module _ (subject o : VarOrTerm) (predicate : VarOrIri) (pending : List VarOrTerm) (s : State) where
+module _ (subject o : VarOrTerm) (predicate : VarOrIri) (pending : List VarOrTerm) (s : Drafting) where
   abbrev q : QuadPattern
   q = record { graph = s.graph; subject = subject; predicate = predicate; object = o }
 
@@ -108,20 +108,20 @@ module _ (subject o : VarOrTerm) (predicate : VarOrIri) (pending : List VarOrTer
     labels = h.labels;
   }
 
-  pub says_numbered : (u : State) → Numbered (o ∷ subject ∷ pending) s → IsBelow subject s → IsBelow o s → says subject predicate o s ≡ Some (tt, u) → Numbered pending u × (u.numbering.next ≡ s.numbering.next)
+  pub says_numbered : (u : Drafting) → Numbered (o ∷ subject ∷ pending) s → IsBelow subject s → IsBelow o s → says subject predicate o s ≡ Some (tt, u) → Numbered pending u × (u.numbering.next ≡ s.numbering.next)
   unfolding says
   says_numbered u h sb ob e =
       let same : grown s q ≡ u = ap (λ p. p.1) (same_Some _ _ e) in
-      (subst (Numbered pending) same (grown_numbered h sb ob), ap (λ (x : State). x.numbering.next) (sym same))
+      (subst (Numbered pending) same (grown_numbered h sb ob), ap (λ (x : Drafting). x.numbering.next) (sym same))
 
 -- ---- terms
 
 -- a step gives what a node stands for, pending from then on
 abbrev pub TermKeeps : Does VarOrTerm → Type 0
-TermKeeps f = (pending : List VarOrTerm) (s u : State) (t : VarOrTerm) → Numbered pending s → f s ≡ Some (t, u) → Numbered (t ∷ pending) u × (s.numbering.next ≤ u.numbering.next) × IsBelow t u
+TermKeeps f = (pending : List VarOrTerm) (s u : Drafting) (t : VarOrTerm) → Numbered pending s → f s ≡ Some (t, u) → Numbered (t ∷ pending) u × (s.numbering.next ≤ u.numbering.next) × IsBelow t u
 
 -- a new number
-numbered_on : (pending : List VarOrTerm) (s u : State) → Numbered pending s → u.numbering.next ≡ s.numbering.next + 1 → u.patterns ≡ s.patterns → AllByRecursion (λ e. e.1 < s.numbering.next + 1) u.numbering.labels
+numbered_on : (pending : List VarOrTerm) (s u : Drafting) → Numbered pending s → u.numbering.next ≡ s.numbering.next + 1 → u.patterns ≡ s.patterns → AllByRecursion (λ e. e.1 < s.numbering.next + 1) u.numbering.labels
     → Numbered (node s.numbering.next ∷ pending) u
 numbered_on pending s u h next patterns labels = record {
   covered = λ n l. elim (lt_or_is n s.numbering.next (omega (arith, l, next))) [
@@ -139,12 +139,12 @@ node_number : (t : VarOrTerm) (m n : ℕ) → t ≡ node m → t ≡ node n → 
 node_number t m n a b = cc
 
 -- the new blank node
-new_keeps : (pending : List VarOrTerm) (s v u : State) (t : VarOrTerm) → Numbered pending s → v.numbering.next ≡ s.numbering.next + 1 → v.patterns ≡ s.patterns → AllByRecursion (λ e. e.1 < s.numbering.next + 1) v.numbering.labels
-    → ◌≡◌ {A = Outcome State VarOrTerm} (Some (node s.numbering.next, v)) (Some (t, u)) → Numbered (t ∷ pending) u × (s.numbering.next ≤ u.numbering.next) × IsBelow t u
+new_keeps : (pending : List VarOrTerm) (s v u : Drafting) (t : VarOrTerm) → Numbered pending s → v.numbering.next ≡ s.numbering.next + 1 → v.patterns ≡ s.patterns → AllByRecursion (λ e. e.1 < s.numbering.next + 1) v.numbering.labels
+    → ◌≡◌ {A = Outcome Drafting VarOrTerm} (Some (node s.numbering.next, v)) (Some (t, u)) → Numbered (t ∷ pending) u × (s.numbering.next ≤ u.numbering.next) × IsBelow t u
 new_keeps pending s v u t h next patterns labels e =
     let is_t : node s.numbering.next ≡ t = ap (λ p. p.0) (same_Some _ _ e) in
     let is_u : v ≡ u = ap (λ p. p.1) (same_Some _ _ e) in
-    let grows : u.numbering.next ≡ s.numbering.next + 1 = ap (λ (x : State). x.numbering.next) (sym is_u) ∙ next in (
+    let grows : u.numbering.next ≡ s.numbering.next + 1 = ap (λ (x : Drafting). x.numbering.next) (sym is_u) ∙ next in (
       subst (λ (x : VarOrTerm). Numbered (x ∷ pending) u) is_t (subst (Numbered (node s.numbering.next ∷ pending)) is_u (numbered_on pending s v h next patterns labels)),
       omega (arith, grows),
       λ n b. (let z : n ≡ s.numbering.next = node_number t n s.numbering.next b (sym is_t) in omega (arith, z, grows)),
@@ -161,12 +161,12 @@ labelled_by label o s =
     let step = labelled_as (key_of label) o s.numbering in
     Some (node step.0, record s { numbering = step.1; labels = labels_behind label o s.labels })
 
-labelled_by_keeps : (label : List ℕ) (o : Option ℕ) (pending : List VarOrTerm) (s u : State) (t : VarOrTerm) → lookup (same_key (key_of label)) s.numbering.labels ≡ o → Numbered pending s → labelled_by label o s ≡ Some (t, u)
+labelled_by_keeps : (label : List ℕ) (o : Option ℕ) (pending : List VarOrTerm) (s u : Drafting) (t : VarOrTerm) → lookup (same_key (key_of label)) s.numbering.labels ≡ o → Numbered pending s → labelled_by label o s ≡ Some (t, u)
     → Numbered (t ∷ pending) u × (s.numbering.next ≤ u.numbering.next) × IsBelow t u
 labelled_by_keeps label (Some k) pending s u t found h e =
     let is_t : node k ≡ t = ap (λ p. p.0) (same_Some _ _ e) in
     let is_u : s ≡ u = ap (λ p. p.1) (same_Some _ _ e) in
-    let same : s.numbering.next ≡ u.numbering.next = ap (λ (x : State). x.numbering.next) is_u in (
+    let same : s.numbering.next ≡ u.numbering.next = ap (λ (x : Drafting). x.numbering.next) is_u in (
       also t pending u (subst (Numbered pending) is_u h),
       omega (arith, same),
       λ n b. (let z : n ≡ k = node_number t n k b (sym is_t) in let l : k < s.numbering.next = label_below s.numbering.next (same_key (key_of label)) s.numbering.labels k h.labels found in omega (arith, z, l, same)),
@@ -179,14 +179,14 @@ pub labelled_keeps : (label : List ℕ) → TermKeeps (labelled label)
 unfolding labelled
 labelled_keeps label pending s u t h e = labelled_by_keeps label (lookup (same_key (key_of label)) s.numbering.labels) pending s u t refl h e
 
--- a step that gives no blank node and leaves the state
+-- a step that gives no blank node and leaves the drafting
 abbrev pub Stays : Does VarOrTerm → Type 0
-Stays f = (s u : State) (t : VarOrTerm) → f s ≡ Some (t, u) → (s ≡ u) × ((n : ℕ) → t ≡ node n → ⊥)
+Stays f = (s u : Drafting) (t : VarOrTerm) → f s ≡ Some (t, u) → (s ≡ u) × ((n : ℕ) → t ≡ node n → ⊥)
 
 pub stays_keeps : (f : Does VarOrTerm) → Stays f → TermKeeps f
 stays_keeps f h pending s u t old e =
     let st = h s u t e in
-    let same : s.numbering.next ≡ u.numbering.next = ap (λ (x : State). x.numbering.next) st.0 in (
+    let same : s.numbering.next ≡ u.numbering.next = ap (λ (x : Drafting). x.numbering.next) st.0 in (
       also t pending u (subst (Numbered pending) st.0 old),
       omega (arith, same),
       λ n b. absurd (st.1 n b),

@@ -33,36 +33,36 @@ use Rattle.sparql_drafts.specs.declared.draft.VarOrIri.{VarOrIri}
 use Rattle.sparql_drafts.specs.declared.draft.VarOrIri.TheVariants as i
 use Rattle.sparql_drafts.specs.declared.draft.VarOrTerm.{VarOrTerm}
 use Rattle.sparql_drafts.specs.declared.draft.VarOrTerm.TheVariants as x
-use Rattle.sparql_drafts.specs.State.{State, Does, start, quads, told, fresh, in_default, in_graph, says}
+use Rattle.sparql_drafts.specs.Drafting.{Drafting, Does, start, quads, told, fresh, in_default, in_graph, says}
 use Rattle.sparql_drafts.specs.Meaning.{Meaning, Says, iri, verb, var_or_iri, literal, object, objects, first, rest, nil, next_cell, behind, list_term, list_inside, node_of, property_of, meaning, property, subject_with, triples, graph, block, quads_in, pattern_in}
 use Rattle.sparql_drafts.proofs.BlankSteps.{then_parts, node, Numbered, IsBelow, Said, wider, also, below_on, says_numbered, TermKeeps, fresh_keeps, labelled_keeps, Stays, stays_keeps}
 
 -- ---- leaves
 
-told_same : {A : Type 0} (f : Prologue → Option A) (s u : State) (a : A) → told f s ≡ Some (a, u) → s ≡ u
+told_same : {A : Type 0} (f : Prologue → Option A) (s u : Drafting) (a : A) → told f s ≡ Some (a, u) → s ≡ u
 told_same {A = A} f s u a e = by (f s.prologue) e
   where
-    by : (o : Option A) → option_map {U = A × State} (λ x. (x, s)) o ≡ Some (a, u) → s ≡ u
+    by : (o : Option A) → option_map {U = A × Drafting} (λ x. (x, s)) o ≡ Some (a, u) → s ≡ u
     by None e = absurd (cc e)
     by (Some x) e = ap (λ p. p.1) (same_Some _ _ e)
 
-iri_same : (name : Name) (s u : State) (a : List ℕ) → iri name s ≡ Some (a, u) → s ≡ u
+iri_same : (name : Name) (s u : Drafting) (a : List ℕ) → iri name s ≡ Some (a, u) → s ≡ u
 unfolding iri
 iri_same name s u a e = told_same (iri_of name) s u a e
 
 -- a step behind an IRI
-behind_iri_same : {A : Type 0} (name : Name) (f : List ℕ → A) (s u : State) (a : A) → and_then (iri name s) (λ i z. Some (f i, z)) ≡ Some (a, u) → s ≡ u
+behind_iri_same : {A : Type 0} (name : Name) (f : List ℕ → A) (s u : Drafting) (a : A) → and_then (iri name s) (λ i z. Some (f i, z)) ≡ Some (a, u) → s ≡ u
 behind_iri_same name f s u a e =
     let p = then_parts (iri name s) _ (a, u) e in
     iri_same name s p.1 p.0 p.2 ∙ ap (λ q. q.1) (same_Some _ _ p.3)
 
-verb_same : (word : Verb) (s u : State) (a : VarOrIri) → verb word s ≡ Some (a, u) → s ≡ u
+verb_same : (word : Verb) (s u : Drafting) (a : VarOrIri) → verb word s ≡ Some (a, u) → s ≡ u
 unfolding verb
 verb_same (v.Variable name) s u a e = ap (λ p. p.1) (same_Some _ _ e)
 verb_same (v.Name name) s u a e = behind_iri_same name (λ z. i.Iri z) s u a e
 verb_same v.Type s u a e = ap (λ p. p.1) (same_Some _ _ e)
 
-var_or_iri_same : (word : written.VarOrIri) (s u : State) (a : VarOrIri) → var_or_iri word s ≡ Some (a, u) → s ≡ u
+var_or_iri_same : (word : written.VarOrIri) (s u : Drafting) (a : VarOrIri) → var_or_iri word s ≡ Some (a, u) → s ≡ u
 unfolding var_or_iri
 var_or_iri_same (n.Variable name) s u a e = ap (λ p. p.1) (same_Some _ _ e)
 var_or_iri_same (n.Name name) s u a e = behind_iri_same name (λ z. i.Iri z) s u a e
@@ -92,7 +92,7 @@ name_stays name s u b e =
       apart (x.Term (t.Iri p.0)) b (ap (λ q. q.0) same) (iri_apart p.0),
     )
 
-literal_same : (w : Literal) (s u : State) (a : LiteralParts) → literal w s ≡ Some (a, u) → s ≡ u
+literal_same : (w : Literal) (s u : Drafting) (a : LiteralParts) → literal w s ≡ Some (a, u) → s ≡ u
 unfolding literal
 literal_same w s u a e = told_same (literal_of w) s u a e
 
@@ -107,15 +107,15 @@ literal_stays w s u b e =
 -- ---- nodes and properties
 
 -- patterns are said; nothing is left pending that wasn't
-abbrev Keeps : Does (Unit {0}) → State → Type 0
-Keeps f s = (pending : List VarOrTerm) (u : State) → Numbered pending s → f s ≡ Some (tt, u) → Numbered pending u × (s.numbering.next ≤ u.numbering.next)
+abbrev Keeps : Does (Unit {0}) → Drafting → Type 0
+Keeps f s = (pending : List VarOrTerm) (u : Drafting) → Numbered pending s → f s ≡ Some (tt, u) → Numbered pending u × (s.numbering.next ≤ u.numbering.next)
 
 abbrev InsideKeeps : (VarOrTerm → Does (Unit {0})) → Type 0
-InsideKeeps f = (a : VarOrTerm) (s : State) → IsBelow a s → Keeps (f a) s
+InsideKeeps f = (a : VarOrTerm) (s : Drafting) → IsBelow a s → Keeps (f a) s
 
 -- and the subject stands in one
 abbrev Uses : (VarOrTerm → Does (Unit {0})) → Type 0
-Uses f = (a : VarOrTerm) (pending : List VarOrTerm) (s u : State) → IsBelow a s → Numbered (a ∷ pending) s → f a s ≡ Some (tt, u) → Numbered pending u × (s.numbering.next ≤ u.numbering.next)
+Uses f = (a : VarOrTerm) (pending : List VarOrTerm) (s u : Drafting) → IsBelow a s → Numbered (a ∷ pending) s → f a s ≡ Some (tt, u) → Numbered pending u × (s.numbering.next ≤ u.numbering.next)
 
 record Good (m : Meaning) : Type 0 where
   term : TermKeeps m.term
@@ -123,7 +123,7 @@ record Good (m : Meaning) : Type 0 where
 
 nothing_keeps : InsideKeeps (λ _ s. Some (tt, s))
 nothing_keeps a s b pending u h e =
-    let same : s ≡ u = ap (λ p. p.1) (same_Some _ _ e) in (subst (Numbered pending) same h, (let z : s.numbering.next ≡ u.numbering.next = ap (λ (y : State). y.numbering.next) same in omega (arith, z)))
+    let same : s ≡ u = ap (λ p. p.1) (same_Some _ _ e) in (subst (Numbered pending) same h, (let z : s.numbering.next ≡ u.numbering.next = ap (λ (y : Drafting). y.numbering.next) same in omega (arith, z)))
 
 uses_keeps : (f : VarOrTerm → Does (Unit {0})) → Uses f → InsideKeeps f
 uses_keeps f h a s b pending u numbered e = h a pending s u b (also a pending s numbered) e
@@ -167,7 +167,7 @@ property_uses : (word : Verb) (ms : List Meaning) → AllByRecursion Good ms →
 property_uses word ms all a pending s u b numbered e =
     let p = then_parts (verb word s) _ (tt, u) e in
     let same : p.1 ≡ s = sym (verb_same word s p.1 p.0 p.2) in
-    let h : objects a p.0 ms s ≡ Some (tt, u) = subst (λ (z : State). objects a p.0 ms z ≡ Some (tt, u)) same p.3 in
+    let h : objects a p.0 ms s ≡ Some (tt, u) = subst (λ (z : Drafting). objects a p.0 ms z ≡ Some (tt, u)) same p.3 in
     objects_use p.0 ms all a pending s u b numbered h
 
 properties_keep : (ps : List Says) → AllByRecursion Uses ps → InsideKeeps (λ a. each (λ p. p a) ps)
@@ -179,7 +179,7 @@ properties_use f ps all = then_uses f (λ a. each (λ p. p a) ps) all.0 (propert
 
 -- ---- lists
 
-next_cell_keeps : (m : Meaning) → Good m → (a next : VarOrTerm) (pending : List VarOrTerm) (s u : State) → IsBelow a s → Numbered pending s → next_cell a m s ≡ Some (next, u)
+next_cell_keeps : (m : Meaning) → Good m → (a next : VarOrTerm) (pending : List VarOrTerm) (s u : Drafting) → IsBelow a s → Numbered pending s → next_cell a m s ≡ Some (next, u)
     → Numbered pending u × (s.numbering.next ≤ u.numbering.next) × IsBelow next u
 next_cell_keeps m good a next pending s u b numbered e =
     let p = then_parts (fresh s) _ (next, u) e in
@@ -194,7 +194,7 @@ next_cell_keeps m good a next pending s u b numbered e =
     let is_next : p.0 ≡ next = ap (λ z. z.0) (same_Some _ _ r.3) in
     let is_u : r.1 ≡ u = ap (λ z. z.1) (same_Some _ _ r.3) in (
       subst (Numbered pending) is_u one.0,
-      (let y : s.numbering.next ≤ p.1.numbering.next = new.1 in let z : r.1.numbering.next ≡ u.numbering.next = ap (λ (v : State). v.numbering.next) is_u in omega (arith, y, far, z)),
+      (let y : s.numbering.next ≤ p.1.numbering.next = new.1 in let z : r.1.numbering.next ≡ u.numbering.next = ap (λ (v : Drafting). v.numbering.next) is_u in omega (arith, y, far, z)),
       subst (λ (v : VarOrTerm). IsBelow v u) is_next (subst (IsBelow p.0) is_u (below_on p.0 p.1 r.1 far new.2)),
     )
 
@@ -307,7 +307,7 @@ all_good (p ∷ ps) = (properties_good p, all_good ps)
 -- ---- data
 
 abbrev Closed : Does (Unit {0}) → Type 0
-Closed f = (s u : State) → Numbered [] s → f s ≡ Some (tt, u) → Numbered [] u
+Closed f = (s u : Drafting) → Numbered [] s → f s ≡ Some (tt, u) → Numbered [] u
 
 each_closed : (fs : List (Does (Unit {0}))) → AllByRecursion Closed fs → Closed (each (λ f. f) fs)
 each_closed [] all s u h e = subst (Numbered []) (ap (λ p. p.1) (same_Some _ _ e)) h
@@ -344,7 +344,7 @@ triples_closed ts = by (stands_alone ts.subject || is_filled ts.properties) refl
     by true h = subject_closed ts.subject ts.properties (either (stands_alone ts.subject) (is_filled ts.properties) h)
     by false h = λ s u numbered e. absurd (cc e)
 
-same_numbers : (s u : State) → Numbered [] s → s.numbering ≡ u.numbering → s.patterns ≡ u.patterns → Numbered [] u
+same_numbers : (s u : Drafting) → Numbered [] s → s.numbering ≡ u.numbering → s.patterns ≡ u.patterns → Numbered [] u
 same_numbers s u h numbering patterns = record {
   covered = λ k l. elim (h.covered k (subst (λ z. k < z.next) (sym numbering) l)) [ inl y ↦ inl (subst (λ (z : List QuadPattern). Said z k) patterns y) | inr y ↦ inr y ];
   below = λ k y. subst (λ z. k < z.next) numbering (h.below k (subst (λ (z : List QuadPattern). Said z k) (sym patterns) y));
@@ -353,11 +353,11 @@ same_numbers s u h numbering patterns = record {
 
 default_closed : Closed in_default
 unfolding in_default
-default_closed s u h e = let same = ap (λ p. p.1) (same_Some _ _ e) in same_numbers s u h (ap (λ (z : State). z.numbering) same) (ap (λ (z : State). z.patterns) same)
+default_closed s u h e = let same = ap (λ p. p.1) (same_Some _ _ e) in same_numbers s u h (ap (λ (z : Drafting). z.numbering) same) (ap (λ (z : Drafting). z.patterns) same)
 
 graph_is_closed : (name : VarOrIri) → Closed (in_graph name)
 unfolding in_graph
-graph_is_closed name s u h e = let same = ap (λ p. p.1) (same_Some _ _ e) in same_numbers s u h (ap (λ (z : State). z.numbering) same) (ap (λ (z : State). z.patterns) same)
+graph_is_closed name s u h e = let same = ap (λ p. p.1) (same_Some _ _ e) in same_numbers s u h (ap (λ (z : Drafting). z.numbering) same) (ap (λ (z : Drafting). z.patterns) same)
 
 graph_closed : (name : Option written.VarOrIri) → Closed (graph name)
 graph_closed None s u h e = default_closed s u h e
@@ -385,13 +385,13 @@ start_numbered p = record {
   labels = tt;
 }
 
-numbered_quads : (s : State) → Numbered [] s → IsNumbered (quads s)
+numbered_quads : (s : Drafting) → Numbered [] s → IsNumbered (quads s)
 numbered_quads s h = λ k. ((λ l. elim (h.covered k l) [ inl said ↦ said | inr none ↦ absurd none ]), (λ said. h.below k said))
 
 all_numbered : (fs : List (Does (Unit {0}))) (p : Prologue) (q : Quads) → AllByRecursion Closed fs → option_map (λ z. quads z.1) (each (λ f. f) fs (start p)) ≡ Some q → IsNumbered q
 all_numbered fs p q closed e = by (each (λ f. f) fs (start p)) refl e
   where
-    by : (r : Outcome State (Unit {0})) → each (λ f. f) fs (start p) ≡ r → option_map (λ z. quads z.1) r ≡ Some q → IsNumbered q
+    by : (r : Outcome Drafting (Unit {0})) → each (λ f. f) fs (start p) ≡ r → option_map (λ z. quads z.1) r ≡ Some q → IsNumbered q
     by None d e = absurd (cc e)
     by (Some z) d e = subst IsNumbered (same_Some _ _ e) (numbered_quads z.1 (each_closed fs closed (start p) z.1 (start_numbered p) d))
 

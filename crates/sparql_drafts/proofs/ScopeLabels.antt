@@ -3,7 +3,7 @@ use Rattle.std.proofs.Common.{◌≡◌, ◌≢◌, ℕ, List, [], ◌∷◌, �
 use Rattle.std.specs.Map.{lookup}
 use Rattle.rdf_grammar.specs.Keys.{key_of, same_key}
 use Rattle.rdf_grammar.specs.Numbering.{Numbering, labelled, labelled_as}
-use Rattle.sparql_drafts.specs.State.{labels_behind}
+use Rattle.sparql_drafts.specs.Drafting.{labels_behind}
 
 known_as : (label : List ℕ) (o : Option ℕ) (n : Numbering) (labels : List (List ℕ)) → (labelled_as (key_of label) o n).1.next ≡ n.next → labels_behind label o labels ≡ labels
 known_as label (Some number) n labels e = refl

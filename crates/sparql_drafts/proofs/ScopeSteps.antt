@@ -14,7 +14,7 @@ use Rattle.rdf_grammar.specs.Literals.{ExplainsLiteral, known_literal, literal_o
 use Rattle.rdf_terms.specs.Literal.{LiteralParts}
 use Rattle.rdf_grammar.specs.Kept.{Gives, Tells}
 use Rattle.sparql_drafts.specs.Meaning.{iri, literal}
-use Rattle.sparql_drafts.specs.State.{State, told}
+use Rattle.sparql_drafts.specs.Drafting.{Drafting, told}
 
 pub reference_tells : (reference : List ℕ) (p : Prologue) (r : Result (List ℕ) PrologueFault) → IfOk r (λ i. resolved reference p ≡ Some i) → IfErr r (λ e. Explains p (Full reference) e) → Tells (resolved reference p) r
 reference_tells reference p (Ok i) value fault = value
@@ -28,13 +28,13 @@ iri_tells name p (Err (NoMemory e)) known value fault = tt
 iri_tells name p (Err (UnknownPrefix place)) known value fault = true≢false (sym known ∙ fault)
 iri_tells name p (Err (Relative place)) known value fault = name_lacking name p place fault
 
-told_gives : {A : Type 0} (f : Prologue → Option A) (s u : State) (r : Result A PrologueFault) → Tells (f s.prologue) r → u ≡ s → Gives (told f s) r u
-told_gives {A = A} f s u (Ok a) tells same = ap (λ (o : Option A). option_map {U = A × State} (λ a. (a, s)) o) tells ∙ ap (λ (z : State). Some (a, z)) (sym same)
+told_gives : {A : Type 0} (f : Prologue → Option A) (s u : Drafting) (r : Result A PrologueFault) → Tells (f s.prologue) r → u ≡ s → Gives (told f s) r u
+told_gives {A = A} f s u (Ok a) tells same = ap (λ (o : Option A). option_map {U = A × Drafting} (λ a. (a, s)) o) tells ∙ ap (λ (z : Drafting). Some (a, z)) (sym same)
 told_gives f s u (Err (NoMemory e)) tells same = tt
 told_gives f s u (Err (UnknownPrefix place)) tells same = absurd tells
-told_gives {A = A} f s u (Err (Relative place)) tells same = ap (λ (o : Option A). option_map {U = A × State} (λ a. (a, s)) o) tells
+told_gives {A = A} f s u (Err (Relative place)) tells same = ap (λ (o : Option A). option_map {U = A × Drafting} (λ a. (a, s)) o) tells
 
-pub iri_gives : (name : Name) (s u : State) (r : Result (List ℕ) PrologueFault) → Tells (iri_of name s.prologue) r → u ≡ s → Gives (iri name s) r u
+pub iri_gives : (name : Name) (s u : Drafting) (r : Result (List ℕ) PrologueFault) → Tells (iri_of name s.prologue) r → u ≡ s → Gives (iri name s) r u
 unfolding iri
 iri_gives name s u r tells same = told_gives (iri_of name) s u r tells same
 
@@ -44,6 +44,6 @@ literal_tells w p (Err (NoMemory e)) known value fault = tt
 literal_tells w p (Err (UnknownPrefix place)) known value fault = literal_known w p place known fault
 literal_tells w p (Err (Relative place)) known value fault = literal_lacking w p place fault
 
-pub literal_gives : (w : Literal) (s u : State) (r : Result LiteralParts PrologueFault) → Tells (literal_of w s.prologue) r → u ≡ s → Gives (literal w s) r u
+pub literal_gives : (w : Literal) (s u : Drafting) (r : Result LiteralParts PrologueFault) → Tells (literal_of w s.prologue) r → u ≡ s → Gives (literal w s) r u
 unfolding literal
 literal_gives w s u r tells same = told_gives (literal_of w) s u r tells same

@@ -3,4 +3,4 @@ pub mod Drafts
 pub mod Known
 pub mod Meaning
 pub mod Room
-pub mod State
+pub mod Drafting

@@ -30,7 +30,7 @@ use Rattle.sparql_drafts.specs.declared.draft.VarOrIri.{VarOrIri}
 use Rattle.sparql_drafts.specs.declared.draft.VarOrIri.TheVariants as i
 use Rattle.sparql_drafts.specs.declared.draft.VarOrTerm.{VarOrTerm}
 use Rattle.sparql_drafts.specs.declared.draft.VarOrTerm.TheVariants as x
-use Rattle.sparql_drafts.specs.State.{Does, start, quads, told, fresh, labelled, in_default, in_graph, says}
+use Rattle.sparql_drafts.specs.Drafting.{Does, start, quads, told, fresh, labelled, in_default, in_graph, says}
 
 -- ---- IRIs and literals
 

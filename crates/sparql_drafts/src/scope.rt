@@ -7,7 +7,7 @@ ghost use Rattle.rdf_grammar.specs.Kept.{Gives, Tells};
 ghost use Rattle.sparql_drafts.specs.Known.{declared_behind};
 ghost use Rattle.sparql_drafts.specs.Meaning as meaning;
 ghost use Rattle.sparql_drafts.specs.Room.{HasRoom, TakesAtMost, SaysAtLeast, longest};
-ghost use Rattle.sparql_drafts.specs.State as state;
+ghost use Rattle.sparql_drafts.specs.Drafting as drafting;
 
 use crate::draft::{Place, QuadPattern, Quads, VarOrIri, VarOrTerm};
 use rdf_grammar::{Literal as Written, Name, Numbering, Prologue, PrologueFault};
@@ -36,9 +36,9 @@ pub struct Scope<'a> {
 }
 
 impl<'a> Model for Scope<'a> {
-    ghost use Rattle.sparql_drafts.specs.State.{State};
+    ghost use Rattle.sparql_drafts.specs.Drafting.{Drafting};
 
-    ghost Value = { State };
+    ghost Value = { Drafting };
 
     ghost view = { λ s. record {
       prologue = s.prologue;
@@ -56,7 +56,7 @@ impl<'a> Scope<'a> {
     /// # Errors
     /// [`NoMemory`] where memory is wanting.
     pub fn new(alloc: Global, base: Option<Iri>) -> Result<Scope<'a>, NoMemory>
-        ensures { IfOk result (λ scope. scope ≡ state.start (prologue.start base)) }
+        ensures { IfOk result (λ scope. scope ≡ drafting.start (prologue.start base)) }
     {
         Ok(Scope {
             alloc,
@@ -75,7 +75,7 @@ impl<'a> Scope<'a> {
 
     /// Nothing is said: the data of an operation begins.
     pub(crate) fn begin(&mut self)
-        ensures { self.new ≡ state.start self.old.prologue }
+        ensures { self.new ≡ drafting.start self.old.prologue }
     {
         self.graph = None;
         self.patterns = Vec::new(self.alloc);
@@ -89,7 +89,7 @@ impl<'a> Scope<'a> {
 
     /// What was said: the data of an operation ends.
     pub(crate) fn end(&mut self) -> Quads<'a>
-        ensures value { result ≡ state.quads self.old }
+        ensures value { result ≡ drafting.quads self.old }
         ensures prologue { self.new.prologue ≡ self.old.prologue }
     {
         let patterns = mem::replace(&mut self.patterns, Vec::new(self.alloc));
@@ -137,10 +137,10 @@ impl<'a> Scope<'a> {
     }
 
     /// A new blank node.
-    #[tactic(auto, unfolding(crate::specs::State::fresh))]
+    #[tactic(auto, unfolding(crate::specs::Drafting::fresh))]
     pub(crate) fn fresh(&mut self) -> VarOrTerm<'a>
         requires room { HasRoom 0 self.old }
-        ensures gives { state.fresh self.old ≡ Some (result, self.new) }
+        ensures gives { drafting.fresh self.old ≡ Some (result, self.new) }
         ensures prologue { self.new.prologue ≡ self.old.prologue }
         ensures room { TakesAtMost 1 self.old self.new }
         ensures says { SaysAtLeast 0 self.old self.new }
@@ -149,10 +149,10 @@ impl<'a> Scope<'a> {
     }
 
     /// The blank node of a label.
-    #[tactic(auto, using(crate::proofs::ScopeLabels::known_label, crate::proofs::ScopeLabels::new_label), unfolding(crate::specs::State::labelled))]
+    #[tactic(auto, using(crate::proofs::ScopeLabels::known_label, crate::proofs::ScopeLabels::new_label), unfolding(crate::specs::Drafting::labelled))]
     pub(crate) fn labelled(&mut self, label: &Slice<'a>) -> Result<VarOrTerm<'a>, NoMemory>
         requires room { HasRoom 0 self.old }
-        ensures gives { let step = state.labelled label.now in
+        ensures gives { let step = drafting.labelled label.now in
             IfOk result (λ node. step self.old ≡ Some (node, self.new)) }
         ensures prologue { self.new.prologue ≡ self.old.prologue }
         ensures room { TakesAtMost 1 self.old self.new }
@@ -167,14 +167,14 @@ impl<'a> Scope<'a> {
     }
 
     /// Says a triple in the graph where it stands.
-    #[tactic(auto, unfolding(crate::specs::State::says))]
+    #[tactic(auto, unfolding(crate::specs::Drafting::says))]
     pub(crate) fn says(
         &mut self,
         subject: &VarOrTerm<'a>,
         predicate: &VarOrIri<'a>,
         object: VarOrTerm<'a>,
     ) -> Result<(), NoMemory>
-        ensures gives { let step = state.says subject.now predicate.now object.entry in
+        ensures gives { let step = drafting.says subject.now predicate.now object.entry in
             OnOk result (step self.old ≡ Some (tt, self.new)) }
         ensures prologue { self.new.prologue ≡ self.old.prologue }
         ensures number { self.new.numbering ≡ self.old.numbering }
@@ -196,9 +196,9 @@ impl<'a> Scope<'a> {
     }
 
     /// The triples that follow stand in the default graph.
-    #[tactic(auto, unfolding(crate::specs::State::in_default))]
+    #[tactic(auto, unfolding(crate::specs::Drafting::in_default))]
     pub(crate) fn in_default(&mut self)
-        ensures gives { state.in_default self.old ≡ Some (tt, self.new) }
+        ensures gives { drafting.in_default self.old ≡ Some (tt, self.new) }
         ensures prologue { self.new.prologue ≡ self.old.prologue }
         ensures number { self.new.numbering ≡ self.old.numbering }
         ensures patterns { self.new.patterns ≡ self.old.patterns }
@@ -207,9 +207,9 @@ impl<'a> Scope<'a> {
     }
 
     /// The triples that follow stand in the graph of this name.
-    #[tactic(auto, unfolding(crate::specs::State::in_graph))]
+    #[tactic(auto, unfolding(crate::specs::Drafting::in_graph))]
     pub(crate) fn in_graph(&mut self, name: VarOrIri<'a>) -> Result<(), NoMemory>
-        ensures gives { OnOk result (state.in_graph name.entry self.old ≡ Some (tt, self.new)) }
+        ensures gives { OnOk result (drafting.in_graph name.entry self.old ≡ Some (tt, self.new)) }
         ensures prologue { self.new.prologue ≡ self.old.prologue }
         ensures number { self.new.numbering ≡ self.old.numbering }
         ensures patterns { self.new.patterns ≡ self.old.patterns }

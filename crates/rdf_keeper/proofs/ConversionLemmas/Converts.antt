@@ -9,7 +9,7 @@ use Rattle.rdf_lines.specs.declared.format.LineFormat.{LineFormat}
 use Rattle.rdf_terms.specs.declared.quad.Quad.{Quad}
 use Rattle.rdf_lines.specs.Document.{IsDocument, EachTextIsOneDocument}
 use Rattle.rdf_lines.specs.QuadText.{quad_text}
-use Rattle.rdf_lines.specs.Reader.{LineState, Step, Calls, fresh, AnswersAreTheDocument}
+use Rattle.rdf_lines.specs.Reader.{LineState, Call, Calls, fresh, AnswersAreTheDocument}
 use Rattle.rdf_keeper.specs.Conversion.Converts.{lines_of, ConvertsLines}
 use Rattle.rdf_keeper.specs.Inside.Held.{Gathers, Finishes, fault_of_kind}
 use Rattle.rdf_keeper.specs.declared.conversion.fault.ConvertFault.{ConvertFault}
@@ -77,12 +77,12 @@ module _ (law : AnswersAreTheDocument) (each : EachTextIsOneDocument) (format : 
   none_read before = let doc = each format text in ([], Appends-none before, wanting format left text [] [] (doc.0, doc.1, doc.2) refl)
 
   module _ (before now : Option (List ℕ)) (document next : LineState) (held : List ℕ) where
-    pub at_end : (after : Option (List ℕ)) (answer : Result (Unit {0}) ConvertFault) → SoFar before now (fresh format (Some text)) document held → Step document (Ok None) next → Finishes now held (Ok tt) answer after → Outcome before after format text left answer
+    pub at_end : (after : Option (List ℕ)) (answer : Result (Unit {0}) ConvertFault) → SoFar before now (fresh format (Some text)) document held → Call document (Ok None) next → Finishes now held (Ok tt) answer after → Outcome before after format text left answer
     at_end after answer (quads, out, wrote, calls, are) step f =
         finished before now after left format text out held quads (Ok tt) answer wrote are (begins law each format text quads document calls)
         (quads, whole law each format text quads document next calls step, are) f
 
-    of_fault : (quads : List Quad) (out : List ℕ) (f : LineFault) (k : FaultKind) → f.kind ≡ k → Calls (fresh format (Some text)) (found quads) document → out ++ held ≡ lines_of quads → Step document (Err f) next
+    of_fault : (quads : List Quad) (out : List ℕ) (f : LineFault) (k : FaultKind) → f.kind ≡ k → Calls (fresh format (Some text)) (found quads) document → out ++ held ≡ lines_of quads → Call document (Err f) next
         → (f.kind ≡ kind.Read → next.ahead ≡ left) → IsDocument format text quads (Some f) ⊎ ((f.kind ≡ kind.Read) ⊎ (f.kind ≡ line_names.no_memory)) → ConvertsLines format text left (out ++ held) (Err (fault_of_kind f k))
     of_fault quads out f kind.Read is calls are step over why =
         let front = before_read_fault format text quads document next f is calls step in
@@ -93,7 +93,7 @@ module _ (law : AnswersAreTheDocument) (each : EachTextIsOneDocument) (format : 
     of_fault quads out f kind.Relative is calls are step over why = elim why [ inl doc ↦ (quads, doc, are) | inr (inl r) ↦ (let e = sym is ∙ r in cc) | inr (inr m) ↦ (let e = sym is ∙ m in cc) ]
     of_fault quads out f kind.Failed is calls are step over why = elim why [ inl doc ↦ (quads, doc, are) | inr (inl r) ↦ (let e = sym is ∙ r in cc) | inr (inr m) ↦ (let e = sym is ∙ m in cc) ]
 
-    pub at_fault : (after : Option (List ℕ)) (f : LineFault) (given : ConvertFault) (answer : Result (Unit {0}) ConvertFault) → SoFar before now (fresh format (Some text)) document held → Step document (Err f) next
+    pub at_fault : (after : Option (List ℕ)) (f : LineFault) (given : ConvertFault) (answer : Result (Unit {0}) ConvertFault) → SoFar before now (fresh format (Some text)) document held → Call document (Err f) next
         → (f.kind ≡ kind.Read → next.ahead ≡ left) → given ≡ fault_of_kind f f.kind → Finishes now held (Err given) answer after → Outcome before after format text left answer
     at_fault after f given answer (quads, out, wrote, calls, are) step over is ends =
         finished before now after left format text out held quads (Err given) answer wrote are (begins law each format text quads document calls)
@@ -101,7 +101,7 @@ module _ (law : AnswersAreTheDocument) (each : EachTextIsOneDocument) (format : 
         (of_fault quads out f f.kind refl calls are step over (faulty law each format text quads document next f calls step))) ends
 
     -- one more statement, whose line is gathered or not
-    pub gathered_fault : (after : Option (List ℕ)) (q : Quad) (rest : List ℕ) (fault : ConvertFault) → SoFar before now (fresh format (Some text)) document held → Step document (Ok (Some q)) next
+    pub gathered_fault : (after : Option (List ℕ)) (q : Quad) (rest : List ℕ) (fault : ConvertFault) → SoFar before now (fresh format (Some text)) document held → Call document (Ok (Some q)) next
         → Gathers now held (quad_text q) (Err fault) after rest → Outcome before after format text left (Err fault)
     gathered_fault after q rest (Document f) s step g = absurd g
     gathered_fault after q rest Read s step g = absurd g
@@ -113,7 +113,7 @@ module _ (law : AnswersAreTheDocument) (each : EachTextIsOneDocument) (format : 
     gathered_fault after q rest (NoMemory _) (quads, out, wrote, calls, are) step w =
         (out ++ held, Appends-chain before now after out held wrote w, wanting format left text (out ++ held) quads (begins law each format text quads document calls) are)
 
-pub gathered : (before now after : Option (List ℕ)) (start document next : LineState) (held rest : List ℕ) (q : Quad) (u : Unit {0}) → SoFar before now start document held → Step document (Ok (Some q)) next
+pub gathered : (before now after : Option (List ℕ)) (start document next : LineState) (held rest : List ℕ) (q : Quad) (u : Unit {0}) → SoFar before now start document held → Call document (Ok (Some q)) next
     → Gathers now held (quad_text q) (Ok u) after rest → SoFar before after start next rest
 gathered before now after start document next held rest q u (quads, out, wrote, calls, are) step (front, w, parts) = (
   quads ++ q ∷ [],

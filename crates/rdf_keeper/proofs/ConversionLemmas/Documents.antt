@@ -6,21 +6,21 @@ use Rattle.rdf_lines.specs.declared.fault.FaultKind.TheVariants.{Read}
 use Rattle.rdf_lines.specs.declared.format.LineFormat.{LineFormat}
 use Rattle.rdf_terms.specs.declared.quad.Quad.{Quad}
 use Rattle.rdf_lines.specs.Document.{IsDocument, EachTextIsOneDocument}
-use Rattle.rdf_lines.specs.Reader.{LineState, Answer, Step, Calls, Agrees, fresh, AnswersAreTheDocument}
+use Rattle.rdf_lines.specs.Reader.{LineState, Answer, Call, Calls, Agrees, fresh, AnswersAreTheDocument}
 use Rattle.rdf_lines.specs.FaultName.{no_memory}
 
 abbrev pub found : List Quad → List Answer
 found quads = map (λ q. Ok (Some q)) quads
 
-pub one_more : (answers : List Answer) (start mid end : LineState) (a : Answer) → Calls start answers mid → Step mid a end → Calls start (answers ++ a ∷ []) end
-one_more [] start mid end a c s = (end, subst (λ m. Step m a end) c s, refl)
+pub one_more : (answers : List Answer) (start mid end : LineState) (a : Answer) → Calls start answers mid → Call mid a end → Calls start (answers ++ a ∷ []) end
+one_more [] start mid end a c s = (end, subst (λ m. Call m a end) c s, refl)
 one_more (b ∷ answers) start mid end a c s = (c.0, c.1, one_more answers c.0 mid end a c.2 s)
 
 found-push : (quads : List Quad) (q : Quad) → found (quads ++ q ∷ []) ≡ found quads ++ Ok (Some q) ∷ []
 found-push [] q = refl
 found-push (p ∷ quads) q = ap (λ l. Ok (Some p) ∷ l) (found-push quads q)
 
-pub one_quad : (start mid end : LineState) (quads : List Quad) (q : Quad) → Calls start (found quads) mid → Step mid (Ok (Some q)) end → Calls start (found (quads ++ q ∷ [])) end
+pub one_quad : (start mid end : LineState) (quads : List Quad) (q : Quad) → Calls start (found quads) mid → Call mid (Ok (Some q)) end → Calls start (found (quads ++ q ∷ [])) end
 one_quad start mid end quads q calls step = subst (λ (answers : List Answer). Calls start answers end) (sym (found-push quads q)) (one_more (found quads) start mid end (Ok (Some q)) calls step)
 
 at_none : (quads all : List Quad) (ending : Option LineFault) → Agrees (found quads ++ Ok None ∷ []) all ending → (all ≡ quads) × (ending ≡ None)
@@ -41,13 +41,13 @@ abbrev pub Begins : LineFormat → List ℕ → List Quad → Type 0
 Begins format text quads = (others : List Quad) × (ending : Option LineFault) × IsDocument format text (quads ++ others) ending
 
 module _ (law : AnswersAreTheDocument) (each : EachTextIsOneDocument) (format : LineFormat) (text : List ℕ) (quads : List Quad) where
-  pub whole : (mid end : LineState) → Calls (fresh format (Some text)) (found quads) mid → Step mid (Ok None) end → IsDocument format text quads None
+  pub whole : (mid end : LineState) → Calls (fresh format (Some text)) (found quads) mid → Call mid (Ok None) end → IsDocument format text quads None
   whole mid end calls step =
       let doc = each format text in
       let same = at_none quads doc.0 doc.1 (law format text (found quads ++ Ok None ∷ []) end doc.0 doc.1 (one_more (found quads) _ mid end (Ok None) calls step) doc.2) in
       subst (λ q. IsDocument format text q None) same.0 (subst (IsDocument format text doc.0) same.1 doc.2)
 
-  pub faulty : (mid end : LineState) (f : LineFault) → Calls (fresh format (Some text)) (found quads) mid → Step mid (Err f) end
+  pub faulty : (mid end : LineState) (f : LineFault) → Calls (fresh format (Some text)) (found quads) mid → Call mid (Err f) end
       → IsDocument format text quads (Some f) ⊎ ((f.kind ≡ Read) ⊎ (f.kind ≡ no_memory))
   faulty mid end f calls step =
       let doc = each format text in

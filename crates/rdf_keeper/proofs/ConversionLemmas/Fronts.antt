@@ -8,13 +8,13 @@ use Rattle.rdf_lines.specs.declared.fault.LineFault.{LineFault}
 use Rattle.rdf_lines.specs.declared.format.LineFormat.{LineFormat}
 use Rattle.rdf_lines.specs.declared.statement.Statement.{Statement}
 use Rattle.rdf_terms.specs.declared.quad.Quad.{Quad}
-use Rattle.rdf_lines.specs.declared.state.State.TheVariants.{Reading, Ended}
+use Rattle.rdf_lines.specs.declared.state.ReaderState.TheVariants.{Reading, Ended}
 use Rattle.rdf_lines.specs.Document.{IsDocument, ReadsAll}
 use Rattle.rdf_lines.specs.Labels.{labels_of, all_noted, quad_in}
 use Rattle.rdf_lines.specs.Line.{Says}
 use Rattle.rdf_lines.specs.Lines.{lines_behind}
 use Rattle.rdf_lines.specs.Pieces.{Hold, onto}
-use Rattle.rdf_lines.specs.Reader.{LineState, AreSilent, Taken, FaultOf, ReadsOn, Step, StepAt, Calls, fresh}
+use Rattle.rdf_lines.specs.Reader.{LineState, AreSilent, Taken, FaultOf, ReadsOn, Call, CallAt, Calls, fresh}
 use Rattle.rdf_lines.proofs.LawLemmas.{quads_of, first_quad}
 use Rattle.rdf_keeper.specs.Conversion.Converts.{whole_lines}
 use Rattle.rdf_keeper.proofs.ConversionLemmas.Documents.{found}
@@ -57,12 +57,12 @@ at_read s end xs f is_read ahead (ls, still, line, state, number, why) = elim wh
   | inr (inr memory) ↦ (let bad : Read ≡ no_memory = sym is_read ∙ memory.2 in cc)
 ]
 
-never_ended : (s mid end : LineState) (quads : List Quad) (f : LineFault) → s.state ≡ Ended → Calls s (found quads) mid → Step mid (Err f) end → ⊥
+never_ended : (s mid end : LineState) (quads : List Quad) (f : LineFault) → s.state ≡ Ended → Calls s (found quads) mid → Call mid (Err f) end → ⊥
 never_ended s mid end [] f is calls step =
-    let here : StepAt Ended s (Err f) end = subst (λ t. StepAt t s (Err f) end) is (subst (λ (m : LineState). Step m (Err f) end) calls step) in
+    let here : CallAt Ended s (Err f) end = subst (λ t. CallAt t s (Err f) end) is (subst (λ (m : LineState). Call m (Err f) end) calls step) in
     (let e = here.0 in cc)
 never_ended s mid end (q ∷ quads) f is calls step =
-    let here : StepAt Ended s (Ok (Some q)) calls.0 = subst (λ t. StepAt t s (Ok (Some q)) calls.0) is calls.1 in
+    let here : CallAt Ended s (Ok (Some q)) calls.0 = subst (λ t. CallAt t s (Ok (Some q)) calls.0) is calls.1 in
     (let e = here.0 in cc)
 
 -- from the lines behind a statement to those from it on
@@ -91,17 +91,17 @@ module _ (s new mid end : LineState) (xs : List ℕ) (q : Quad) (quads : List Qu
         later.10,
       )
 
-  behind_quad : s.ahead ≡ Some xs → Calls new (found quads) mid → Step mid (Err f) end → Later → ReadsOn s (Ok (Some q)) new → Front s end.ahead xs (q ∷ quads)
+  behind_quad : s.ahead ≡ Some xs → Calls new (found quads) mid → Call mid (Err f) end → Later → ReadsOn s (Ok (Some q)) new → Front s end.ahead xs (q ∷ quads)
   behind_quad ahead calls step behind (ls, line, st, false, still, took, says, labels, is_quad, number, state, format) = on_line ls line st ahead behind still took says labels is_quad number state format
   behind_quad ahead calls step behind (ls, line, st, true, still, took, says, labels, is_quad, number, state, format) = absurd (never_ended new mid end quads f state calls step)
 
-front : (quads : List Quad) (s mid end : LineState) (xs : List ℕ) (f : LineFault) → f.kind ≡ Read → s.state ≡ Reading → s.ahead ≡ Some xs → Calls s (found quads) mid → Step mid (Err f) end → Front s end.ahead xs quads
+front : (quads : List Quad) (s mid end : LineState) (xs : List ℕ) (f : LineFault) → f.kind ≡ Read → s.state ≡ Reading → s.ahead ≡ Some xs → Calls s (found quads) mid → Call mid (Err f) end → Front s end.ahead xs quads
 front [] s mid end xs f is_read is ahead calls step =
-    at_read s end xs f is_read ahead (subst (λ t. StepAt t s (Err f) end) is (subst (λ (m : LineState). Step m (Err f) end) calls step))
+    at_read s end xs f is_read ahead (subst (λ t. CallAt t s (Err f) end) is (subst (λ (m : LineState). Call m (Err f) end) calls step))
 front (q ∷ quads) s mid end xs f is_read is ahead calls step =
-    behind_quad s calls.0 mid end xs q quads f ahead calls.2 step (λ ys state left. front quads calls.0 mid end ys f is_read state left calls.2 step) (subst (λ t. StepAt t s (Ok (Some q)) calls.0) is calls.1)
+    behind_quad s calls.0 mid end xs q quads f ahead calls.2 step (λ ys state left. front quads calls.0 mid end ys f is_read state left calls.2 step) (subst (λ t. CallAt t s (Ok (Some q)) calls.0) is calls.1)
 
-pub before_read_fault : (format : LineFormat) (text : List ℕ) (quads : List Quad) (mid end : LineState) (f : LineFault) → f.kind ≡ Read → Calls (fresh format (Some text)) (found quads) mid → Step mid (Err f) end
+pub before_read_fault : (format : LineFormat) (text : List ℕ) (quads : List Quad) (mid end : LineState) (f : LineFault) → f.kind ≡ Read → Calls (fresh format (Some text)) (found quads) mid → Call mid (Err f) end
     → (read rest : List ℕ) × (text ≡ read ++ rest) × (end.ahead ≡ Some rest) × IsDocument format (whole_lines read) quads None
 before_read_fault format text quads mid end f is_read calls step =
     let all = front quads (fresh format (Some text)) mid end text f is_read refl refl calls step in (

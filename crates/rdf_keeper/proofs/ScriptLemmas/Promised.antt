@@ -5,13 +5,13 @@ use Rattle.rdf_session.specs.Between.{IsQuiet, Quietly}
 use Rattle.rdf_session.specs.GivesBack.{UndoGivesBack, RedoGivesAgain}
 use Rattle.rdf_session.specs.Headline.{Headline}
 use Rattle.rdf_session.specs.Request.{Request}
-use Rattle.rdf_session.specs.Session.{Session, Command, Reply, Do, Undo, Redo, Mark, Rollback, Commit, Changed, Done, Refused, Step, fresh, now}
+use Rattle.rdf_session.specs.Session.{Session, Command, Reply, Do, Undo, Redo, Mark, Rollback, Commit, Changed, Done, Refused, Transition, fresh, now}
 use Rattle.rdf_session.specs.Standing.{Run}
 use Rattle.rdf_session.specs.declared.fault.Counts.{Counts}
 use Rattle.rdf_keeper.specs.Script.Answers.{Answers, is_refused, reply_line}
 use Rattle.rdf_keeper.specs.Script.Commands.{Asked, act, ask, bad, commands, show, unended}
 use Rattle.rdf_keeper.specs.Script.Lines.{raw_lines, upto_last_end}
-use Rattle.rdf_keeper.specs.Script.Promised.{Tells, AreTold, AnswersAreSteps, ScriptsArePromised, IsQuietAnswer, AnswersQuietly, UndoneInAScript, RedoneInAScript}
+use Rattle.rdf_keeper.specs.Script.Promised.{Tells, AreTold, AnswersAreTransitions, ScriptsArePromised, IsQuietAnswer, AnswersQuietly, UndoneInAScript, RedoneInAScript}
 use Rattle.rdf_keeper.specs.declared.script.status.Status.{Status}
 use Rattle.rdf_keeper.specs.declared.script.status.Status.TheVariants.{Accepted, ReadFailed}
 
@@ -40,19 +40,19 @@ none_told : (status : Status) (asked : List Asked) → AreTold status asked [] [
 none_told status [] = refl
 none_told status (a ∷ asked) = refl
 
-pub answers_are_steps : AnswersAreSteps
-answers_are_steps stop last refused [] old answers new status run = same_answers status [] answers [] old new run.0 ([], refl, run.1)
-answers_are_steps stop last refused (c ∷ cs) old answers new status (inl taken) =
+pub answers_are_transitions : AnswersAreTransitions
+answers_are_transitions stop last refused [] old answers new status run = same_answers status [] answers [] old new run.0 ([], refl, run.1)
+answers_are_transitions stop last refused (c ∷ cs) old answers new status (inl taken) =
     same_answers status (c ∷ cs) answers [] old new taken.0 ([], refl, taken.1)
-answers_are_steps stop last refused (c ∷ cs) old answers new status (inr (text, is, mid, may, inl broken)) =
+answers_are_transitions stop last refused (c ∷ cs) old answers new status (inr (text, is, mid, may, inl broken)) =
     same_answers status (c ∷ cs) answers (broken.0 ∷ []) old new broken.4
     (tell status c cs text broken.0 [] is old mid new may
     (λ reply e. inr (broken.1, sym e ∙ broken.2, refl, broken.6)) [] (none_told status cs) broken.5)
-answers_are_steps stop last refused (c ∷ cs) old answers new status (inr (text, is, mid, may, inr (inl stopped))) =
+answers_are_transitions stop last refused (c ∷ cs) old answers new status (inr (text, is, mid, may, inr (inl stopped))) =
     same_answers status (c ∷ cs) answers (text ∷ []) old new stopped.1
     (tell status c cs text text [] is old mid new may (λ reply e. inl e) [] (none_told status cs) stopped.2)
-answers_are_steps stop last refused (c ∷ cs) old answers new status (inr (text, is, mid, may, inr (inr on))) =
-    let rest = answers_are_steps stop last _ cs mid on.1 new status on.3 in
+answers_are_transitions stop last refused (c ∷ cs) old answers new status (inr (text, is, mid, may, inr (inr on))) =
+    let rest = answers_are_transitions stop last _ cs mid on.1 new status on.3 in
     same_answers status (c ∷ cs) answers (text ∷ on.1) old new on.2
     (tell status c cs text text on.1 is old mid new may (λ reply e. inl e) rest.0 rest.1 rest.2)
 
@@ -63,10 +63,10 @@ scripts_are_promised headline base_iri start stop before after answers session s
     let read = over.read ++ over.last in
     elim over.ends [
       | inl ended ↦
-          let run = answers_are_steps stop Accepted false (commands true None (raw_lines read)) (fresh base_iri start) answers session status ended.1 in
+          let run = answers_are_transitions stop Accepted false (commands true None (raw_lines read)) (fresh base_iri start) answers session status ended.1 in
           (read, over.consumed, record { asked = commands true None (raw_lines read); theirs = inl refl; events = run.0; told = run.1; promise = headline base_iri start run.0 session run.2 })
       | inr front ↦
-          let run = answers_are_steps stop ReadFailed false (commands false None (raw_lines (upto_last_end read))) (fresh base_iri start) answers session status front in
+          let run = answers_are_transitions stop ReadFailed false (commands false None (raw_lines (upto_last_end read))) (fresh base_iri start) answers session status front in
           (read, over.consumed, record { asked = commands false None (raw_lines (upto_last_end read)); theirs = inr refl; events = run.0; told = run.1; promise = headline base_iri start run.0 session run.2 })
     ]
 
@@ -107,17 +107,17 @@ quiet_answers (bad ∷ more) old new a = before_quiet old a.2 new a.4.0 (quiet_a
 quiet_answers (unended ∷ more) old new a = before_quiet old a.2 new a.4.0 (quiet_answers more a.2 new a.5)
 
 -- an answer that is no refusal tells of counts
-request_done : (old new : Session) (request : Request) (reply : Reply) → Step old (Do request) reply new → false ≡ is_refused reply → (c : Counts) × Step old (Do request) (Changed c) new
+request_done : (old new : Session) (request : Request) (reply : Reply) → Transition old (Do request) reply new → false ≡ is_refused reply → (c : Counts) × Transition old (Do request) (Changed c) new
 request_done old new request (Changed c) st e = (c, st)
 request_done old new request Done st e = absurd st
 request_done old new request (Refused fault) st e = absurd (true≢false (sym e))
 
-undo_done : (old new : Session) (reply : Reply) → Step old Undo reply new → false ≡ is_refused reply → (c : Counts) × Step old Undo (Changed c) new
+undo_done : (old new : Session) (reply : Reply) → Transition old Undo reply new → false ≡ is_refused reply → (c : Counts) × Transition old Undo (Changed c) new
 undo_done old new (Changed c) st e = (c, st)
 undo_done old new Done st e = absurd st
 undo_done old new (Refused fault) st e = absurd (true≢false (sym e))
 
-redo_done : (old new : Session) (reply : Reply) → Step old Redo reply new → false ≡ is_refused reply → (c : Counts) × Step old Redo (Changed c) new
+redo_done : (old new : Session) (reply : Reply) → Transition old Redo reply new → false ≡ is_refused reply → (c : Counts) × Transition old Redo (Changed c) new
 redo_done old new (Changed c) st e = (c, st)
 redo_done old new Done st e = absurd st
 redo_done old new (Refused fault) st e = absurd (true≢false (sym e))

@@ -1,7 +1,7 @@
 -- How a session begins with data, and how it ends the program.
 use Rattle.std.specs.Prelude.{◌≡◌, ℕ, List, Option}
 use Rattle.rdf_session.specs.Request.{Load}
-use Rattle.rdf_session.specs.Session.{Session, Step, Do, Commit, Changed, Done}
+use Rattle.rdf_session.specs.Session.{Session, Transition, Do, Commit, Changed, Done}
 use Rattle.rdf_session.specs.declared.fault.Counts.{Counts}
 use Rattle.rdf_session.specs.declared.fault.KeeperFault.TheVariants as keeper
 use Rattle.rdf_session.specs.declared.format.Format.{Format}
@@ -14,7 +14,7 @@ use Rattle.rdf_keeper.specs.declared.program.outcome.Outcome.TheVariants as prog
 abbrev pub BeginsWithData : Format → Session → Session → Type 0
 BeginsWithData format old new =
     (text : List ℕ) × (counts : Counts) × (loaded : Session)
-    × Step old (Do (Load format text)) (Changed counts) loaded × Step loaded Commit Done new
+    × Transition old (Do (Load format text)) (Changed counts) loaded × Transition loaded Commit Done new
 
 -- The data aren't said to be faulty where memory was wanting.
 abbrev pub IsNoWantOfMemory : Outcome → Type 0

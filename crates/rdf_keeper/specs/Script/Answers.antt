@@ -5,7 +5,7 @@ use Rattle.rdf_keeper.specs.Script.Commands.{Asked, act, ask, show, bad, unended
 use Rattle.rdf_session.specs.Faults.{line_of, name_of, no_memory}
 use Rattle.rdf_keeper.specs.Script.Listing.{Shows}
 use Rattle.rdf_session.specs.Query.{Replies}
-use Rattle.rdf_session.specs.Session.{Session, Step, Reply, Changed, Done, Refused}
+use Rattle.rdf_session.specs.Session.{Session, Transition, Reply, Changed, Done, Refused}
 use Rattle.rdf_session.specs.declared.fault.KeeperFault.{KeeperFault}
 use Rattle.rdf_session.specs.declared.fault.KeeperFault.TheVariants.{BadCommand, NoEnd}
 use Rattle.rdf_session.specs.declared.query.Answer.{Answer}
@@ -48,7 +48,7 @@ pub record AnswersQuery (s : Session) (query text : List ℕ) (refused : Bool) :
 
 -- the bytes of an answer, whether it is a refusal, and the session after it
 abbrev pub Answers : Asked → Session → List ℕ → Bool → Session → Type 0
-Answers (act c) s text refused t = (reply : Reply) × Step s c reply t × (text ≡ reply_line reply) × (refused ≡ is_refused reply)
+Answers (act c) s text refused t = (reply : Reply) × Transition s c reply t × (text ≡ reply_line reply) × (refused ≡ is_refused reply)
 Answers (ask query) s text refused t = (t ≡ s) × AnswersQuery s query text refused
 Answers (show listing) s text refused t =
     (t ≡ s) × (((lines : List (List ℕ)) × Shows listing s lines × (text ≡ concat lines ++ count_line (length lines)) × (refused ≡ false))

@@ -13,7 +13,7 @@ use Rattle.rdf_keeper.specs.declared.script.command.Listing.{Listing}
 use Rattle.rdf_keeper.specs.declared.script.command.Listing.TheVariants.{Changes, Graphs, Quads}
 
 pub data Asked : Type 0 where
-  -- a step of the session
+  -- a transition of the session
   act : session.Command → Asked
   -- a query, by its text
   ask : List ℕ → Asked

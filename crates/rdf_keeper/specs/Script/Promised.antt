@@ -33,8 +33,8 @@ AreTold status (bad ∷ asked) (text ∷ texts) events = AreTold status asked te
 AreTold status (unended ∷ asked) (text ∷ texts) events = AreTold status asked texts events
 
 -- However commands are answered, those of the session, with these replies, lead from its beginning to its end.
-abbrev pub AnswersAreSteps : Type 0
-AnswersAreSteps = (stop : Bool) (last : Status) (refused : Bool) (asked : List Asked) (old : Session) (answers : List (List ℕ)) (new : Session) (status : Status)
+abbrev pub AnswersAreTransitions : Type 0
+AnswersAreTransitions = (stop : Bool) (last : Status) (refused : Bool) (asked : List Asked) (old : Session) (answers : List (List ℕ)) (new : Session) (status : Status)
     → Runs Answers stop last refused asked old answers new status
     → (events : List (Command × Reply)) × AreTold status asked answers events × Run old events new
 

@@ -1,4 +1,4 @@
-use Rattle.std.proofs.Common.{refl, ◌∙◌}
+use Rattle.std.proofs.Common.{refl, ◌∙◌, rules}
 use Rattle.rdf_orders.proofs.LookUpLemmas.{progress_start, progress_push, progress_found, fewer_left}
 use Rattle.rdf_orders.proofs.look_ups.look_up.Goals as goal
 
@@ -15,7 +15,7 @@ loop-key-preserved g c =
     let next = rw (c.loop-key.invariant.kept, c.as_ref.ensures.value) at c.in-Some.ensures.next in
     record {
       kept = c.next_in.ensures.kept ∙ c.loop-key.invariant.kept;
-      progress = progress_push _ _ _ _ c.prefix_of-order.ensures _ _ _ _ _ _ _ _ _ c.loop-key.invariant.progress next c.restore.ensures c.in_default-push.ensures.items c.in-Some.ensures.counted;
+      progress = progress_push _ _ _ _ c.prefix_of-order.ensures _ _ _ _ _ _ _ _ _ c.loop-key.invariant.progress next c.restore.ensures (search rules) c.in-Some.ensures.counted;
     }
 
 pub returns-clause-found : goal.returns-clause-found

@@ -1,7 +1,7 @@
 use Rattle.std.proofs.Common.{sym, subst, ℕ, List, Option}
 use Rattle.std.specs.Prelude.{Ok, Err}
 use Rattle.rdf_terms.specs.declared.quad.Quad.{Quad}
-use Rattle.rdf_lines.specs.Reader.{Step, fresh, over}
+use Rattle.rdf_lines.specs.Reader.{Call, fresh, over}
 use Rattle.rdf_keeper.specs.Inside.Held.{Finishes}
 use Rattle.rdf_keeper.proofs.ConversionLemmas.Converts.{SoFar, none_read, nothing_yet, at_end, at_fault, gathered, gathered_fault, none_held}
 use Rattle.rdf_keeper.proofs.conversion.lines.convert_lines.Goals as goal
@@ -23,7 +23,7 @@ returns-in-Err-gather g c text e =
     let left = g.R.Read.remaining c.next.new.stream in
     let document = over (g.R.Read.remaining c.loop-quad.reader) c.loop-quad.document in
     let next = over left c.next.new.self in
-    let step = subst (λ (a : Option Quad). Step document (Ok a) next) c.in-Ok-Some.field-0-is c.in-Ok-Some.ensures.step in
+    let step = subst (λ (a : Option Quad). Call document (Ok a) next) c.in-Ok-Some.field-0-is c.in-Ok-Some.ensures.call in
     let far = subst (λ (r : Option (List ℕ)). SoFar w now (fresh c.args.format r) document c.loop-quad.lines.items) e c.loop-quad.invariant in
     gathered_fault c.answers_are_the_document.ensures c.each_text_is_one_document.ensures c.args.format text left w now document next c.loop-quad.lines.items
     (g.W.Write.contents c.gather.new.writer) c.in-Ok-Some.quad c.gather.new.lines.items c.in-Err-gather.fault far step c.in-Err-gather.ensures
@@ -36,7 +36,7 @@ loop-quad-preserved g c =
     let left = g.R.Read.remaining c.next.new.stream in
     let document = over (g.R.Read.remaining c.loop-quad.reader) c.loop-quad.document in
     let next = over left c.next.new.self in
-    let step = subst (λ (a : Option Quad). Step document (Ok a) next) c.in-Ok-Some.field-0-is c.in-Ok-Some.ensures.step in
+    let step = subst (λ (a : Option Quad). Call document (Ok a) next) c.in-Ok-Some.field-0-is c.in-Ok-Some.ensures.call in
     gathered w now (g.W.Write.contents c.gather.new.writer) start document next c.loop-quad.lines.items c.gather.new.lines.items c.in-Ok-Some.quad c.in-Ok-gather.field-0
     c.loop-quad.invariant step c.in-Ok-gather.ensures
 
@@ -48,7 +48,7 @@ returns-in-Ok-None g c text e =
     let document = over (g.R.Read.remaining c.loop-quad.reader) c.loop-quad.document in
     let next = over left c.next.new.self in
     let after = g.W.Write.contents c.finish.new.writer in
-    let step = subst (λ (a : Option Quad). Step document (Ok a) next) c.in-Ok-None.field-0-is c.in-Ok-None.ensures.step in
+    let step = subst (λ (a : Option Quad). Call document (Ok a) next) c.in-Ok-None.field-0-is c.in-Ok-None.ensures.call in
     let far = subst (λ (r : Option (List ℕ)). SoFar w now (fresh c.args.format r) document c.loop-quad.lines.items) e c.loop-quad.invariant in
     at_end c.answers_are_the_document.ensures c.each_text_is_one_document.ensures c.args.format text left w now document next c.loop-quad.lines.items
     after c.finish.result far step (subst (λ (held : List ℕ). Finishes now held (Ok tt) c.finish.result after) c.as_slice.ensures.value c.finish.ensures)
@@ -63,5 +63,5 @@ returns-in-Err-next g c text e =
     let after = g.W.Write.contents c.finish-in-Err-next.new.writer in
     let far = subst (λ (r : Option (List ℕ)). SoFar w now (fresh c.args.format r) document c.loop-quad.lines.items) e c.loop-quad.invariant in
     at_fault c.answers_are_the_document.ensures c.each_text_is_one_document.ensures c.args.format text left w now document next c.loop-quad.lines.items
-    after c.in-Err-next.fault c.fault_of.result c.finish-in-Err-next.result far c.in-Err-next.ensures.step (λ is. none_held c.next.new.self.held left (c.in-Err-next.ensures.empty is)) c.fault_of.ensures
+    after c.in-Err-next.fault c.fault_of.result c.finish-in-Err-next.result far c.in-Err-next.ensures.call (λ is. none_held c.next.new.self.held left (c.in-Err-next.ensures.empty is)) c.fault_of.ensures
     (subst (λ (held : List ℕ). Finishes now held (Err c.fault_of.result) c.finish-in-Err-next.result after) c.as_slice-in-Err-next.ensures.value c.finish-in-Err-next.ensures)

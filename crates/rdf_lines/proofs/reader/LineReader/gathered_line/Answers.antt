@@ -1,8 +1,8 @@
 use Rattle.std.proofs.Common.{refl, subst, true, false, Ok}
 use Rattle.rdf_lines.specs.declared.cut.Cut.{Cut}
 use Rattle.std.proofs.Common.{ℕ, Bool, List, Option}
-use Rattle.rdf_lines.specs.declared.state.State.{State}
-use Rattle.rdf_lines.specs.declared.state.State.TheVariants.{Ended, Failed}
+use Rattle.rdf_lines.specs.declared.state.ReaderState.{ReaderState}
+use Rattle.rdf_lines.specs.declared.state.ReaderState.TheVariants.{Ended, Failed}
 use Rattle.rdf_lines.specs.declared.format.LineFormat.{LineFormat}
 use Rattle.rdf_lines.specs.Pieces.{ahead, TakesLine}
 use Rattle.rdf_lines.specs.Reader.{LineState}
@@ -10,7 +10,7 @@ use Rattle.rdf_lines.proofs.ReaderLemmas.{line_taken, no_line, line_failed, is_l
 use Rattle.rdf_lines.proofs.reader.LineReader.gathered_line.Goals as goal
 
 -- what the fields say
-abbrev at : LineFormat → Option (List ℕ) → Bool → ℕ → List (List ℕ) → State → LineState
+abbrev at : LineFormat → Option (List ℕ) → Bool → ℕ → List (List ℕ) → ReaderState → LineState
 at format left behind number labels state = record { format = format; ahead = left; behind_return = behind; number = number; labels = labels; state = state }
 
 pub returns-in-Ok-Line-clause-line : goal.returns-in-Ok-Line-clause-line

@@ -1,5 +1,5 @@
 use Rattle.std.proofs.Common.{refl, subst, false, ℕ, Bool, List, Option, ◌+◌, take, slice_range}
-use Rattle.rdf_lines.specs.declared.state.State.{State}
+use Rattle.rdf_lines.specs.declared.state.ReaderState.{ReaderState}
 use Rattle.rdf_lines.specs.declared.format.LineFormat.{LineFormat}
 use Rattle.rdf_lines.specs.Pieces.{ahead, HasLine}
 use Rattle.rdf_lines.specs.Reader.{LineState, ReadsLine}
@@ -8,7 +8,7 @@ use Rattle.rdf_lines.proofs.ReaderLemmas.{line_taken}
 use Rattle.rdf_lines.proofs.reader.LineReader.one_line.Goals as goal
 
 -- what the fields say
-abbrev at : LineFormat → Option (List ℕ) → Bool → ℕ → List (List ℕ) → State → LineState
+abbrev at : LineFormat → Option (List ℕ) → Bool → ℕ → List (List ℕ) → ReaderState → LineState
 at format left behind number labels state = record { format = format; ahead = left; behind_return = behind; number = number; labels = labels; state = state }
 
 pub returns-in-Some-clause-line : goal.returns-in-Some-clause-line

@@ -3,7 +3,7 @@ use Rattle.std.proofs.lemmas.Result.{IfOk-weaker}
 use Rattle.rdf_dataset.specs.State.{State, last_number, net_between}
 use Rattle.rdf_session.specs.Request.{Load, Makes, blank_limit, loaded}
 use Rattle.rdf_session.specs.Session.{now}
-use Rattle.rdf_session.proofs.AnswerLemmas.{accept_step}
+use Rattle.rdf_session.proofs.AnswerLemmas.{accept_transition}
 use Rattle.rdf_session.proofs.KeptLemmas.{now_is}
 use Rattle.rdf_session.proofs.keeper.Keeper.insert.Goals as goal
 
@@ -22,5 +22,5 @@ returns c = λ format text is.
     let after = loaded (now c.args.self.now) qs in
     let net : c.in_ok-net.net ≡ net_between (now c.args.self.now) after = st.1.1 ∙ ap (λ s. net_between s (loaded s qs)) n in
     let makes : Makes c.args.self.now.base_iri (Load format text) (now c.args.self.now) after = (qs, is, subst (λ (s : State). s.next + blank_limit qs ≤ last_number) n st.0, refl) in
-    accept_step _ _ (Load format text) after c.accept.result makes
+    accept_transition _ _ (Load format text) after c.accept.result makes
     (IfOk-weaker c.accept.result _ _ (λ x h. h after net) c.accept.ensures.ok) c.accept.ensures.refused c.accept.ensures.err

@@ -1,7 +1,7 @@
 use Rattle.std.proofs.Common.{◌≡◌, ◌≢◌, ℕ, ◌<◌, ◌≤◌, refl, sym, ◌∙◌, subst, arith, length}
 use Rattle.std.proofs.lemmas.Result.{err_from_is_err_and}
 use Rattle.rdf_session.specs.Session.{Session}
-use Rattle.rdf_session.proofs.KeptLemmas.{redo_begins, redo_step, redo_refused, kept, length-states_after}
+use Rattle.rdf_session.proofs.KeptLemmas.{redo_begins, redo_transition, redo_refused, kept, length-states_after}
 use Rattle.rdf_session.proofs.keeper.Keeper.redo.Goals as goal
 
 below : (k n m l : ℕ) → k ≤ l → n ≡ m → m ≡ l → k ≢ n → k < l
@@ -23,8 +23,8 @@ returns-in_err-commit c =
 
 pub invariant_of-self-2 : goal.invariant_of-self-2
 invariant_of-self-2 c =
-    kept _ _ _ _ _ (redo_step _ _ _ _ _ c.self.inside.marks c.self.invariant _ c.self.view_is c.commit.new.self c.counts_of-counts.result _ (below _ _ _ _ c.self.invariant.within c.len.ensures c.self.inside.entries.ok.0 c.if-self-len.false) c.index-entry.ensures c.in_ok-commit.ensures.ok c.counts_of-counts.ensures.added c.counts_of-counts.ensures.removed).0
+    kept _ _ _ _ _ (redo_transition _ _ _ _ _ c.self.inside.marks c.self.invariant _ c.self.view_is c.commit.new.self c.counts_of-counts.result _ (below _ _ _ _ c.self.invariant.within c.len.ensures c.self.inside.entries.ok.0 c.if-self-len.false) c.index-entry.ensures c.in_ok-commit.ensures.ok c.counts_of-counts.ensures.added c.counts_of-counts.ensures.removed).0
 
 pub returns : goal.returns
 returns c =
-    (redo_step _ _ _ _ _ c.self.inside.marks c.self.invariant _ c.self.view_is c.commit.new.self c.counts_of-counts.result _ (below _ _ _ _ c.self.invariant.within c.len.ensures c.self.inside.entries.ok.0 c.if-self-len.false) c.index-entry.ensures c.in_ok-commit.ensures.ok c.counts_of-counts.ensures.added c.counts_of-counts.ensures.removed).1
+    (redo_transition _ _ _ _ _ c.self.inside.marks c.self.invariant _ c.self.view_is c.commit.new.self c.counts_of-counts.result _ (below _ _ _ _ c.self.invariant.within c.len.ensures c.self.inside.entries.ok.0 c.if-self-len.false) c.index-entry.ensures c.in_ok-commit.ensures.ok c.counts_of-counts.ensures.added c.counts_of-counts.ensures.removed).1

@@ -1,6 +1,6 @@
 use Rattle.std.proofs.Common.{◌≢◌, ℕ, ◌<◌, arith}
 use Rattle.std.proofs.lemmas.Result.{err_from_is_err_and}
-use Rattle.rdf_session.proofs.KeptLemmas.{undo_ends, undo_step, undo_refused, kept}
+use Rattle.rdf_session.proofs.KeptLemmas.{undo_ends, undo_transition, undo_refused, kept}
 use Rattle.rdf_session.proofs.keeper.Keeper.undo.Goals as goal
 
 above_zero : (k : ℕ) → k ≢ 0 → 0 < k
@@ -17,8 +17,8 @@ returns-in_err-revert c =
 
 pub invariant_of-self-2 : goal.invariant_of-self-2
 invariant_of-self-2 c =
-    kept _ _ _ _ _ (undo_step _ _ _ _ _ c.self.inside.marks c.self.invariant _ c.self.view_is c.revert.new.self c.back_counts_of-counts.result _ (above_zero _ c.if-self-eq0.false) c.index-entry.ensures c.in_ok-revert.ensures.ok c.back_counts_of-counts.ensures.added c.back_counts_of-counts.ensures.removed).0
+    kept _ _ _ _ _ (undo_transition _ _ _ _ _ c.self.inside.marks c.self.invariant _ c.self.view_is c.revert.new.self c.back_counts_of-counts.result _ (above_zero _ c.if-self-eq0.false) c.index-entry.ensures c.in_ok-revert.ensures.ok c.back_counts_of-counts.ensures.added c.back_counts_of-counts.ensures.removed).0
 
 pub returns : goal.returns
 returns c =
-    (undo_step _ _ _ _ _ c.self.inside.marks c.self.invariant _ c.self.view_is c.revert.new.self c.back_counts_of-counts.result _ (above_zero _ c.if-self-eq0.false) c.index-entry.ensures c.in_ok-revert.ensures.ok c.back_counts_of-counts.ensures.added c.back_counts_of-counts.ensures.removed).1
+    (undo_transition _ _ _ _ _ c.self.inside.marks c.self.invariant _ c.self.view_is c.revert.new.self c.back_counts_of-counts.result _ (above_zero _ c.if-self-eq0.false) c.index-entry.ensures c.in_ok-revert.ensures.ok c.back_counts_of-counts.ensures.added c.back_counts_of-counts.ensures.removed).1

@@ -6,7 +6,7 @@ use Rattle.sparql_syntax.specs.Update.{IsUpdate}
 use Rattle.rdf_session.specs.Inside.Staging.{StagesSteps, TellsSyntaxFault}
 use Rattle.rdf_session.specs.Request.{Update, Makes}
 use Rattle.rdf_session.specs.Session.{Session, now}
-use Rattle.rdf_session.proofs.AnswerLemmas.{accept_step, stopped, unread}
+use Rattle.rdf_session.proofs.AnswerLemmas.{accept_transition, stopped, unread}
 use Rattle.rdf_session.proofs.KeptLemmas.{now_is}
 use Rattle.rdf_session.proofs.keeper.Keeper.update.Goals as goal
 
@@ -27,7 +27,7 @@ returns c =
       subst (λ b. IsUpdate b c.args.text.now request) (c.as_ref.ensures.value ∙ ap (λ (o : Session). o.base_iri) c.self.view_is) c.in_ok-request.ensures,
       subst (λ (s : State). steps s request.operations ≡ Ok st.0) n st.1,
     ) in
-    accept_step _ _ (Update c.args.text.now) st.0 c.accept.result makes
+    accept_transition _ _ (Update c.args.text.now) st.0 c.accept.result makes
     (IfOk-weaker c.accept.result _ _ (λ x h. h st.0 net) c.accept.ensures.ok) c.accept.ensures.refused c.accept.ensures.err
 
 pub returns-in_err-request : goal.returns-in_err-request

@@ -6,7 +6,7 @@ use Rattle.sparql_grammar.specs.Proper.{holds, proper_block}
 use Rattle.sparql_drafts.specs.Known.{known_block}
 use Rattle.sparql_drafts.specs.Meaning as spec
 use Rattle.sparql_drafts.specs.Room.{IsPaired}
-use Rattle.sparql_drafts.specs.State.{start}
+use Rattle.sparql_drafts.specs.Drafting.{start}
 use Rattle.sparql_drafts.proofs.scope.Scope.data.Given as goal
 
 abbrev pub invariant-loop-block : goal.invariant-loop-block

@@ -1,4 +1,4 @@
--- The state in which the data of an operation is read: the prologue, the graph around the triples, the numbering, and what is said so far.
+-- How far what an operation says is drafted: the prologue, the graph around the triples, the numbering, and what is said so far.
 use Rattle.std.specs.Prelude.{ℕ, List, [], ◌∷◌, ◌++◌, Option, Some, None}
 use Rattle.std.specs.Map.{lookup}
 use Rattle.std.specs.Option.{option_map}
@@ -14,7 +14,7 @@ use Rattle.sparql_drafts.specs.declared.draft.VarOrIri.{VarOrIri}
 use Rattle.sparql_drafts.specs.declared.draft.VarOrTerm.{VarOrTerm}
 use Rattle.sparql_drafts.specs.declared.draft.VarOrTerm.TheVariants.{Term}
 
-pub record State : Type 0 where
+pub record Drafting : Type 0 where
   pub prologue : Prologue
   -- what GRAPH names around the triples; none in the default graph
   pub graph : Option VarOrIri
@@ -24,14 +24,14 @@ pub record State : Type 0 where
   pub labels : List (List ℕ)
 
 abbrev pub Does : Type 0 → Type 0
-Does A = Step State A
+Does A = Step Drafting A
 
 -- nothing is said
-abbrev pub start : Prologue → State
+abbrev pub start : Prologue → Drafting
 start p = record { prologue = p; graph = None; numbering = numbering.start; patterns = []; graphs = []; labels = [] }
 
 -- the data that was said
-abbrev pub quads : State → Quads
+abbrev pub quads : Drafting → Quads
 quads s = record {
   patterns = s.patterns;
   graphs = s.graphs;

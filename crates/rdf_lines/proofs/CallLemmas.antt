@@ -9,7 +9,7 @@ use Rattle.rdf_lines.specs.Line.{Says}
 use Rattle.rdf_lines.specs.Labels.{all_noted, labels_of, quad_in}
 use Rattle.rdf_lines.specs.Pieces.{onto}
 use Rattle.rdf_lines.specs.Document.{ReadsAll, IsDocument, HasSaid, ReadsFront}
-use Rattle.rdf_lines.specs.Reader.{LineState, Answer, AreSilent, Taken, FaultOf, Step, StepAt, HasRead, StopsAt, StartsWithNothing, QuadsAddUp, EndIsTheDocument, FaultStops, fresh, fault, state_after}
+use Rattle.rdf_lines.specs.Reader.{LineState, Answer, AreSilent, Taken, FaultOf, Call, CallAt, HasRead, StopsAt, StartsWithNothing, QuadsAddUp, EndIsTheDocument, FaultStops, fresh, fault, state_after}
 use Rattle.rdf_lines.proofs.PieceLemmas.{Consumes-none, Hold-none}
 use Rattle.rdf_lines.proofs.ReaderLemmas.{taken_on, fails_on}
 use Rattle.rdf_lines.proofs.LawLemmas.{known, at_end, taken_lines, fault_says, same_fault}
@@ -18,8 +18,8 @@ use Rattle.rdf_lines.proofs.FrontLemmas.{said_nothing, said_silent, said_stateme
 pub starts : StartsWithNothing
 starts format text = ([], false, ([], Consumes-none text, Hold-none false), refl, refl, said_nothing format)
 
-step_at : (old new : LineState) (answer : Answer) (ended : Bool) → old.state ≡ state_after ended → Step old answer new → StepAt (state_after ended) old answer new
-step_at old new answer ended e s = subst (λ t. StepAt t old answer new) e s
+call_at : (old new : LineState) (answer : Answer) (ended : Bool) → old.state ≡ state_after ended → Call old answer new → CallAt (state_after ended) old answer new
+call_at old new answer ended e s = subst (λ t. CallAt t old answer new) e s
 
 some_is_none : {B : Type 0} (q : Quad) → ◌≡◌ {A = Answer} (Ok (Some q)) (Ok None) → B
 some_is_none q e = cc
@@ -33,9 +33,9 @@ said_then : (format : LineFormat) (quads : List Quad) (front ls : List (List ℕ
 said_then format quads front ls s e said silent = said_silent format front s.number s.labels quads said ls (subst (λ f. AreSilent f ls) e silent)
 
 pub goes_on : QuadsAddUp
-goes_on format text quads quad old new (front, ended, taken, state, is_format, said) step = by ended taken (step_at old new (Ok (Some quad)) ended state step)
+goes_on format text quads quad old new (front, ended, taken, state, is_format, said) call = by ended taken (call_at old new (Ok (Some quad)) ended state call)
   where
-    by : (ended : Bool) → Taken (fresh format text) front old ended → StepAt (state_after ended) old (Ok (Some quad)) new → HasRead format text (quads ++ quad ∷ []) new
+    by : (ended : Bool) → Taken (fresh format text) front old ended → CallAt (state_after ended) old (Ok (Some quad)) new → HasRead format text (quads ++ quad ∷ []) new
     by true taken s = some_is_none quad s.0
     by false taken (ls, line, s, over, silent, took, says, labels, is_quad, number, now, same) =
         let before = said_then format quads front ls old is_format said silent in
@@ -62,21 +62,21 @@ whole format text quads front s n labels taken said =
     )
 
 pub ends : EndIsTheDocument
-ends format text quads old new (front, ended, taken, state, is_format, said) step = by ended taken (step_at old new (Ok None) ended state step)
+ends format text quads old new (front, ended, taken, state, is_format, said) call = by ended taken (call_at old new (Ok None) ended state call)
   where
-    by : (ended : Bool) → Taken (fresh format (Some text)) front old ended → StepAt (state_after ended) old (Ok None) new → IsDocument format text quads None × (new.ahead ≡ Some [])
+    by : (ended : Bool) → Taken (fresh format (Some text)) front old ended → CallAt (state_after ended) old (Ok None) new → IsDocument format text quads None × (new.ahead ≡ Some [])
     by true taken s =
         let is = whole format text quads front old old.number old.labels taken said in (is.0, ap (λ (t : LineState). t.ahead) s.1 ∙ is.1)
     by false taken (ls, passes) =
         whole format text quads (front ++ ls) new (old.number + length ls) old.labels (taken_on (fresh format (Some text)) old new front ls true taken passes.1) (said_then format quads front ls old is_format said passes.0)
 
 pub stops : FaultStops
-stops format text quads f old new (front, ended, taken, state, is_format, said) step = by ended taken (step_at old new (Err f) ended state step)
+stops format text quads f old new (front, ended, taken, state, is_format, said) call = by ended taken (call_at old new (Err f) ended state call)
   where
     reached : (n : ℕ) → f.line ≡ n → (before behind : List (List ℕ)) → lines text ≡ before ++ behind → HasSaid format before n old.labels quads → ReadsFront format text f.line quads behind
     reached n line before behind e had = (before, old.labels, e, subst (λ m. HasSaid format before m old.labels quads) (sym line) had)
 
-    by : (ended : Bool) → Taken (fresh format (Some text)) front old ended → StepAt (state_after ended) old (Err f) new → StopsAt format text quads f
+    by : (ended : Bool) → Taken (fresh format (Some text)) front old ended → CallAt (state_after ended) old (Err f) new → StopsAt format text quads f
     by true taken s = err_is_none f s.0
     by false taken (ls, silent, line, now, number, why) =
         let start = fresh format (Some text) in
