@@ -17,7 +17,7 @@ use Rattle.rdf_terms.specs.OrderLaws.{term_cmp_total, term_cmp-IsAntisymmetric, 
 use Rattle.rdf_dataset.specs.State.{State, Change, Quads, Names, IsSound, IsQuadBelow, IsGraphBelow, IsTermBelow, IsNamed, IsEmptyGraph, IsKnownGraph, is_graph_name, with_graph, with_quad, without_quad, with_name, without_name, with_blanks, net_between, applied, last_number}
 use Rattle.rdf_dataset.specs.Staging.{Staging}
 use Rattle.rdf_sets.specs.Delta.{IsDelta}
-use Rattle.rdf_dataset.specs.Inside.Delta.{Leads}
+use Rattle.rdf_dataset.specs.Inside.Delta.{IsStateDelta}
 use Rattle.rdf_sets.proofs.SortedLemmas.{tie_same, tie_itself, at_tie, insert_there}
 use Rattle.rdf_sets.proofs.DeltaLemmas.{ends_at, applied as delta_applied, taken_back as delta_taken_back}
 
@@ -26,21 +26,21 @@ use Rattle.rdf_sets.proofs.DeltaLemmas.{ends_at, applied as delta_applied, taken
 abbrev pub net : List QuadParts → List QuadParts → List Term → List Term → ℕ → ℕ → Change
 net a r na nr before after = record { added = from_list a; removed = from_list r; names_added = from_list na; names_removed = from_list nr; before = before; after = after }
 
-pub leads_of : (s t : State) (a r : List QuadParts) (na nr : List Term) (before after : ℕ) → net a r na nr before after ≡ net_between s t → Leads s t a r na nr after
+pub leads_of : (s t : State) (a r : List QuadParts) (na nr : List Term) (before after : ℕ) → net a r na nr before after ≡ net_between s t → IsStateDelta s t a r na nr after
 leads_of s t a r na nr before after e = record {
   quads = record { gained = ap (λ (n : Change). n.added) e; lost = ap (λ (n : Change). n.removed) e };
   names = record { gained = ap (λ (n : Change). n.names_added) e; lost = ap (λ (n : Change). n.names_removed) e };
   next = ap (λ (n : Change). n.after) e;
 }
 
-pub leads_back : (s t : State) (a r : List QuadParts) (na nr : List Term) (before after : ℕ) → net a r na nr before after ≡ net_between s t → Leads t s r a nr na before
+pub leads_back : (s t : State) (a r : List QuadParts) (na nr : List Term) (before after : ℕ) → net a r na nr before after ≡ net_between s t → IsStateDelta t s r a nr na before
 leads_back s t a r na nr before after e = record {
   quads = record { gained = ap (λ (n : Change). n.removed) e; lost = ap (λ (n : Change). n.added) e };
   names = record { gained = ap (λ (n : Change). n.names_removed) e; lost = ap (λ (n : Change). n.names_added) e };
   next = ap (λ (n : Change). n.before) e;
 }
 
-pub net_of : (s t : State) (a r : List QuadParts) (na nr : List Term) (before after : ℕ) → Leads s t a r na nr after → before ≡ s.next → net a r na nr before after ≡ net_between s t
+pub net_of : (s t : State) (a r : List QuadParts) (na nr : List Term) (before after : ℕ) → IsStateDelta s t a r na nr after → before ≡ s.next → net a r na nr before after ≡ net_between s t
 net_of s t a r na nr before after l b = λ i. record {
   added = l.quads.gained i;
   removed = l.quads.lost i;
@@ -227,13 +227,13 @@ no_items {R = R} o (x ∷ xs) e = absurd (not_in_empty R (from_list (x ∷ xs)) 
 
 -- ---- what a dataset goes to
 
-pub gone_to : (s t : State) (a r : List QuadParts) (na nr : List Term) (after : ℕ) (mid new : Quads) (names_mid names_new : Names) → Leads s t a r na nr after
+pub gone_to : (s t : State) (a r : List QuadParts) (na nr : List Term) (after : ℕ) (mid new : Quads) (names_mid names_new : Names) → IsStateDelta s t a r na nr after
     → mid ≡ union s.quads (from_list a) → new ≡ difference mid (from_list r) → names_mid ≡ union s.names (from_list na) → names_new ≡ difference names_mid (from_list nr)
     → state new names_new after ≡ t
 gone_to s t a r na nr after mid new names_mid names_new l m n p q =
     same_state (delta_applied quad_cmp_total quad_cmp-IsAntisymmetric s.quads t.quads a r l.quads mid new m n) (delta_applied term_cmp_total term_cmp-IsAntisymmetric s.names t.names na nr l.names names_mid names_new p q) l.next
 
-pub gone_back : (s t : State) (a r : List QuadParts) (na nr : List Term) (after : ℕ) (mid new : Quads) (names_new : Names) → Leads s t a r na nr after
+pub gone_back : (s t : State) (a r : List QuadParts) (na nr : List Term) (after : ℕ) (mid new : Quads) (names_new : Names) → IsStateDelta s t a r na nr after
     → mid ≡ union s.quads (from_list a) → new ≡ difference mid (from_list a) → names_new ≡ s.names → state new names_new s.next ≡ s
 gone_back s t a r na nr after mid new names_new l m n p =
     same_state (delta_taken_back quad_cmp_total quad_cmp-IsAntisymmetric s.quads t.quads a r l.quads mid new m n) p refl

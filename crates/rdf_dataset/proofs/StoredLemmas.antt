@@ -8,7 +8,7 @@ use Rattle.rdf_terms.specs.Quad.{QuadParts}
 use Rattle.rdf_store.specs.Stored.{Stored, with_all, without_all}
 use Rattle.rdf_dataset.specs.State.{State}
 use Rattle.rdf_terms.specs.Lists.{AppendsOnce, ListsOnce}
-use Rattle.rdf_dataset.specs.Inside.Delta.{Leads}
+use Rattle.rdf_dataset.specs.Inside.Delta.{IsStateDelta}
 use Rattle.rdf_dataset.proofs.StateLemmas.{gone_to, state}
 
 -- a list that was empty lists what it has gained
@@ -16,7 +16,7 @@ pub lists_gained : {K : Type 0} {R : K → K → Ordering} (members : set.FinSet
 lists_gained members old new a e = subst (ListsOnce members) (sym (a.appended ∙ ap (λ xs. xs ++ a.found) e)) a.each_once
 
 -- quads and names of a state that leads to another
-pub stored_to : (from : Stored) (before : ℕ) (t : State) (a r a' r' : List QuadParts) (na nr na' nr' : List Term) (after : ℕ) (mid new : Stored) → Leads (state from.quads from.names before) t a r na nr after
+pub stored_to : (from : Stored) (before : ℕ) (t : State) (a r a' r' : List QuadParts) (na nr na' nr' : List Term) (after : ℕ) (mid new : Stored) → IsStateDelta (state from.quads from.names before) t a r na nr after
     → a' ≡ a → r' ≡ r → na' ≡ na → nr' ≡ nr → mid ≡ with_all from a' na' → new ≡ without_all mid r' nr' → state new.quads new.names after ≡ t
 stored_to from before t a r a' r' na nr na' nr' after mid new l e f g h m n =
     gone_to (state from.quads from.names before) t a r na nr after mid.quads new.quads mid.names new.names l

@@ -1,7 +1,7 @@
 //! A dataset.
 ghost use Rattle.std.specs.Prelude.{◌≡◌, ◌≤◌, ◌+◌, [], length, option_copied, IsOk, IfOk, OnOk, OnErr};
 ghost use Rattle.std.specs.FinSet as set;
-ghost use Rattle.rdf_dataset.specs.Inside.Delta.{Leads};
+ghost use Rattle.rdf_dataset.specs.Inside.Delta.{IsStateDelta};
 ghost use Rattle.rdf_terms.specs.Lists.{AppendsOnce, ListsSorted};
 ghost use Rattle.rdf_dataset.specs.State.{State, IsSound, Begins, Ends, net_between, empty_state, last_number, matches};
 
@@ -141,9 +141,9 @@ impl Dataset {
         next: u64,
     ) -> Result<(), NoMemory>
         requires { (t : State) × IsSound t
-            × Leads self.old t added.now removed.now names_added.now names_removed.now next }
+            × IsStateDelta self.old t added.now removed.now names_added.now names_removed.now next }
         ensures ok { OnOk result ((t : State) →
-            Leads self.old t added.now removed.now names_added.now names_removed.now next →
+            IsStateDelta self.old t added.now removed.now names_added.now names_removed.now next →
             self.new ≡ t) }
         ensures err { OnErr result (self.new ≡ self.old) }
         ensures free { added.now ≡ [] → names_added.now ≡ [] → IsOk result }

@@ -77,12 +77,13 @@ AnswersNoOther text answers status state = (after : Option (List ℕ)) (others :
     → RunsOver false (Some text) after begin others end otherwise → IsWhole otherwise → AreFull others
     → (others ≡ answers) × (otherwise ≡ status) × (now end ≡ state)
 
-abbrev pub IsAnswered : List ℕ → List (List ℕ) → Status → State → Type 0
-IsAnswered text answers status state = MayAnswer text answers status state × AnswersNoOther text answers status state
+-- both
+abbrev pub MustAnswer : List ℕ → List (List ℕ) → Status → State → Type 0
+MustAnswer text answers status state = MayAnswer text answers status state × AnswersNoOther text answers status state
 
 -- the empty script
 abbrev pub NothingAnswered : Type 0
-NothingAnswered = IsAnswered [] [] Accepted (empty_state 0)
+NothingAnswered = MustAnswer [] [] Accepted (empty_state 0)
 
 -- a document of one statement, its quad, and the state of that quad alone
 abbrev pub document : List ℕ
@@ -96,27 +97,27 @@ one_quad = record { quads = set.from_list (quad ∷ []); names = set.empty; next
 
 -- a load, printed, undone and printed
 abbrev pub LoadUndone : Type 0
-LoadUndone = IsAnswered (codes "%load nquads\n<e:s> <e:p> <e:o> .\n%end\n%print\n%undo\n%print\n")
+LoadUndone = MustAnswer (codes "%load nquads\n<e:s> <e:p> <e:o> .\n%end\n%print\n%undo\n%print\n")
     (codes "ok +1 -0\n" ∷ codes "<e:s> <e:p> <e:o> .\nok 1\n" ∷ codes "ok +0 -1\n" ∷ codes "ok 0\n" ∷ []) Accepted (empty_state 0)
 
 -- the same document twice: the second load brings nothing new, and an undo takes back that one alone
 abbrev pub LoadTwice : Type 0
-LoadTwice = IsAnswered (codes "%load nquads\n<e:s> <e:p> <e:o> .\n%end\n%load nquads\n<e:s> <e:p> <e:o> .\n%end\n%undo\n%print\n")
+LoadTwice = MustAnswer (codes "%load nquads\n<e:s> <e:p> <e:o> .\n%end\n%load nquads\n<e:s> <e:p> <e:o> .\n%end\n%undo\n%print\n")
     (codes "ok +1 -0\n" ∷ codes "ok +0 -0\n" ∷ codes "ok +0 -0\n" ∷ codes "<e:s> <e:p> <e:o> .\nok 1\n" ∷ []) Accepted one_quad
 
 -- a redo, and one more than there is
 abbrev pub LoadRedone : Type 0
-LoadRedone = IsAnswered (codes "%load nquads\n<e:s> <e:p> <e:o> .\n%end\n%undo\n%redo\n%redo\n")
+LoadRedone = MustAnswer (codes "%load nquads\n<e:s> <e:p> <e:o> .\n%end\n%undo\n%redo\n%redo\n")
     (codes "ok +1 -0\n" ∷ codes "ok +0 -1\n" ∷ codes "ok +1 -0\n" ∷ codes "refused: NothingToRedo\n" ∷ []) Refused one_quad
 
 -- a rollback to a mark, and one to a mark that isn't there
 abbrev pub MarkReached : Type 0
-MarkReached = IsAnswered (codes "%mark a\n%load nquads\n<e:s> <e:p> <e:o> .\n%end\n%rollback a\n%rollback b\n")
+MarkReached = MustAnswer (codes "%mark a\n%load nquads\n<e:s> <e:p> <e:o> .\n%end\n%rollback a\n%rollback b\n")
     (codes "ok\n" ∷ codes "ok +1 -0\n" ∷ codes "ok +0 -1\n" ∷ codes "refused: NoSuchMark\n" ∷ []) Refused (empty_state 0)
 
 -- a commit leaves nothing to undo
 abbrev pub Committed : Type 0
-Committed = IsAnswered (codes "%load nquads\n<e:s> <e:p> <e:o> .\n%end\n%commit\n%undo\n")
+Committed = MustAnswer (codes "%load nquads\n<e:s> <e:p> <e:o> .\n%end\n%commit\n%undo\n")
     (codes "ok +1 -0\n" ∷ codes "ok\n" ∷ codes "refused: NothingToUndo\n" ∷ []) Refused one_quad
 
 -- a document of one statement with a blank node, in a named graph, its quad, and the state of that quad alone
@@ -134,18 +135,18 @@ one_named = record { quads = set.from_list (named_quad ∷ []); names = set.from
 
 -- the graph comes with its quad and is shown as a change with it; an undo takes both back, and the blank number
 abbrev pub GraphShown : Type 0
-GraphShown = IsAnswered (codes "%load nquads\n_:b0 <e:p> <e:o> <e:g> .\n%end\n%graphs\n%changes\n%undo\n%graphs\n%changes\n")
+GraphShown = MustAnswer (codes "%load nquads\n_:b0 <e:p> <e:o> <e:g> .\n%end\n%graphs\n%changes\n%undo\n%graphs\n%changes\n")
     (codes "ok +1 -0\n" ∷ codes "<e:g>\nok 1\n" ∷ codes "+ graph <e:g>\n+ _:b0 <e:p> <e:o> <e:g> .\nok 2\n" ∷ codes "ok +0 -1\n" ∷ codes "ok 0\n" ∷ codes "ok 0\n" ∷ [])
     Accepted (empty_state 0)
 
 -- behind a commit nothing has changed, and all is there
 abbrev pub GraphCommitted : Type 0
-GraphCommitted = IsAnswered (codes "%load nquads\n_:b0 <e:p> <e:o> <e:g> .\n%end\n%commit\n%changes\n%graphs\n%print\n")
+GraphCommitted = MustAnswer (codes "%load nquads\n_:b0 <e:p> <e:o> <e:g> .\n%end\n%commit\n%changes\n%graphs\n%print\n")
     (codes "ok +1 -0\n" ∷ codes "ok\n" ∷ codes "ok 0\n" ∷ codes "<e:g>\nok 1\n" ∷ codes "_:b0 <e:p> <e:o> <e:g> .\nok 1\n" ∷ []) Accepted one_named
 
 -- a body that is open at the end isn't loaded
 abbrev pub OpenLoad : Type 0
-OpenLoad = IsAnswered (codes "%print\n%load nquads\n<e:s> <e:p> <e:o> .\n")
+OpenLoad = MustAnswer (codes "%print\n%load nquads\n<e:s> <e:p> <e:o> .\n")
     (codes "ok 0\n" ∷ codes "refused: NoEnd\n" ∷ []) Refused (empty_state 0)
 
 -- ---- histories, and the numbers of blank nodes

@@ -8,7 +8,7 @@ mod HeadlineLemmas
 mod InsertionLemmas
 mod KeptLemmas
 mod LabelLemmas
-mod ListingLemmas
+mod LineLemmas
 mod LoadLemmas
 pub mod MarkLemmas
 mod NetLemmas

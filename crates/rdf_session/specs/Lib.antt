@@ -8,7 +8,7 @@ pub mod GivesBack
 pub mod Headline
 pub mod History
 pub mod Inside
-pub mod Listing
+pub mod QuadLines
 pub mod LoadLaws
 pub mod OneQueryReply
 pub mod OneReply

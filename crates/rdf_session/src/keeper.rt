@@ -9,7 +9,7 @@ ghost use Rattle.rdf_session.specs.Inside.Kept.{AreNets, states_after};
 ghost use Rattle.rdf_session.specs.Inside.Staging.{TellsFault};
 ghost use Rattle.rdf_session.specs.Session.{nets_between};
 ghost use Rattle.rdf_dataset.specs.Sorted.{ListsSorted};
-ghost use Rattle.rdf_session.specs.Listing.{ListsQuads};
+ghost use Rattle.rdf_session.specs.QuadLines.{ListsQuads};
 ghost use Rattle.rdf_session.specs.Query.{Replies};
 ghost use Rattle.rdf_session.specs.Request.{Load, Update};
 ghost use Rattle.rdf_session.specs.Session.{Commit, Do, Done, Mark, Redo, Rollback, Session, Transition, Undo, accepted, all_states, counts_between, fresh, now, reply_of, reply_of_mark};
@@ -17,7 +17,7 @@ ghost use Rattle.rdf_session.specs.Faults.{no_memory};
 
 use crate::fault::{Counts, KeeperFault};
 use crate::format::Format;
-use crate::listing::write_lines;
+use crate::lines::write_lines;
 use crate::load::{read, stage};
 use crate::marks::Marks;
 use crate::query::{Answer, evaluate, read_text};

@@ -5,7 +5,7 @@ mod fault;
 mod format;
 mod keeper;
 mod law;
-mod listing;
+mod lines;
 mod load;
 mod marks;
 mod query;

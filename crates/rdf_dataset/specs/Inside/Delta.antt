@@ -12,7 +12,7 @@ pub record IsQuadDelta (s t added : Quads) (removed : List QuadParts) : Type 0 w
   pub lost : set.from_list removed ≡ set.difference s t
 
 -- lists of quads and names, and a counter, lead from the state s to the state t
-pub record Leads (s t : State) (added removed : List QuadParts) (names_added names_removed : List Term) (after : ℕ) : Type 0 where
+pub record IsStateDelta (s t : State) (added removed : List QuadParts) (names_added names_removed : List Term) (after : ℕ) : Type 0 where
   pub quads : IsDelta s.quads t.quads added removed
   pub names : IsDelta s.names t.names names_added names_removed
   pub next : after ≡ t.next

@@ -24,7 +24,7 @@ use Rattle.rdf_dataset.specs.Sorted.{ListsSorted}
 use Rattle.rdf_dataset.specs.State.{State, empty_state, last_number, net_between}
 use Rattle.rdf_keeper.specs.Script.Answers.{Answers, reply_line}
 use Rattle.rdf_keeper.specs.Script.Commands.{Asked, act, show, unended}
-use Rattle.rdf_keeper.specs.Examples.{IsAnswered, MayAnswer, NothingAnswered, LoadUndone, LoadTwice, LoadRedone, MarkReached, Committed, GraphShown, GraphCommitted, OpenLoad, HistoryCut, begin, document, graph_name, named_document, named_quad, one_named, one_quad, quad, script}
+use Rattle.rdf_keeper.specs.Examples.{MustAnswer, MayAnswer, NothingAnswered, LoadUndone, LoadTwice, LoadRedone, MarkReached, Committed, GraphShown, GraphCommitted, OpenLoad, HistoryCut, begin, document, graph_name, named_document, named_quad, one_named, one_quad, quad, script}
 use Rattle.rdf_keeper.specs.Script.OneOutput.{FirmAnswers, IsFree, IsWhole, OneText}
 use Rattle.rdf_session.specs.Request.{Load, loaded}
 use Rattle.rdf_keeper.specs.Script.Listing.{ListsChange}
@@ -169,7 +169,7 @@ differs : (text : List ℕ) (k : ℕ) → nat_eq (get_or text k 0) (get_or wanti
 differs text k n e = true≢false (sym (same_byte (get_or wanting k 0)) ∙ sym (ap (λ t. nat_eq (get_or t k 0) (get_or wanting k 0)) e) ∙ n)
 
 -- the answers of one are those of all
-answered : OneText → (text : List ℕ) (answers : List (List ℕ)) (status : Status) (state : State) → IsWhole status → MayAnswer text answers status state → IsAnswered text answers status state
+answered : OneText → (text : List ℕ) (answers : List (List ℕ)) (status : Status) (state : State) → IsWhole status → MayAnswer text answers status state → MustAnswer text answers status state
 answered one text answers status state w may = (
   may,
   λ after others end otherwise run whole full.

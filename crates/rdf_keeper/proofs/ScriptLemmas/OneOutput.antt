@@ -12,7 +12,7 @@ use Rattle.rdf_session.specs.Session.{Session, Command, Reply, Refused as Refuse
 use Rattle.rdf_session.specs.Faults.{no_memory as no_memory_fault}
 use Rattle.rdf_session.specs.declared.fault.KeeperFault.{KeeperFault}
 use Rattle.rdf_session.specs.declared.query.Answer.{Answer}
-use Rattle.rdf_keeper.specs.Script.Answers.{AnswersQuery, count_line, is_refused, query_text, reply_line}
+use Rattle.rdf_keeper.specs.Script.Answers.{WritesReply, count_line, is_refused, query_text, reply_line}
 use Rattle.rdf_keeper.specs.Script.Commands.{Asked, act, ask, bad, show, unended}
 use Rattle.rdf_keeper.specs.Script.Listing.{Shows, name_line}
 use Rattle.rdf_keeper.specs.Script.OneOutput.{FirmAnswers, FullAnswers, IsWhole, OneOutput, OneText, SameAnswer, SameAnswers}
@@ -60,7 +60,7 @@ same_reply c t u text other refused otherwise r q (inr (x, y, p, p', free)) same
 full_query : (r : Result Answer KeeperFault) (text : List ℕ) → text ≡ query_text r → text ≢ reply_line (RefusedReply no_memory_fault) → r ≢ Err no_memory_fault
 full_query r text e n f = n (e ∙ ap query_text f)
 
-same_query : (query : List ℕ) (s t u : Session) (text other : List ℕ) (refused otherwise : Bool) (a : AnswersQuery s query text refused) (b : AnswersQuery s query other otherwise) → (a.reply ≡ b.reply) ⊎ DifferInFreeLine a.reply b.reply → t ≡ u → Alike (ask query) text refused t other otherwise u
+same_query : (query : List ℕ) (s t u : Session) (text other : List ℕ) (refused otherwise : Bool) (a : WritesReply s query text refused) (b : WritesReply s query other otherwise) → (a.reply ≡ b.reply) ⊎ DifferInFreeLine a.reply b.reply → t ≡ u → Alike (ask query) text refused t other otherwise u
 same_query query s t u text other refused otherwise a b (inl e) same =
     (inl (a.bytes ∙ ap query_text e ∙ sym b.bytes), a.refuses ∙ ap is_err e ∙ sym b.refuses, same)
 same_query query s t u text other refused otherwise a b (inr d) same = (

@@ -39,8 +39,8 @@ abbrev pub query_text : Result Answer KeeperFault → List ℕ
 query_text (Ok answer) = answer.payload ++ count_line answer.rows
 query_text (Err fault) = reply_line (Refused fault)
 
--- the bytes answer the query at the session, and whether they refuse it
-pub record AnswersQuery (s : Session) (query text : List ℕ) (refused : Bool) : Type 0 where
+-- the bytes are those of a reply to the query at the session, and whether they refuse it
+pub record WritesReply (s : Session) (query text : List ℕ) (refused : Bool) : Type 0 where
   pub reply : Result Answer KeeperFault
   pub replies : Replies s query reply
   pub bytes : text ≡ query_text reply
@@ -49,7 +49,7 @@ pub record AnswersQuery (s : Session) (query text : List ℕ) (refused : Bool) :
 -- the bytes of an answer, whether it is a refusal, and the session after it
 abbrev pub Answers : Asked → Session → List ℕ → Bool → Session → Type 0
 Answers (act c) s text refused t = (reply : Reply) × Transition s c reply t × (text ≡ reply_line reply) × (refused ≡ is_refused reply)
-Answers (ask query) s text refused t = (t ≡ s) × AnswersQuery s query text refused
+Answers (ask query) s text refused t = (t ≡ s) × WritesReply s query text refused
 Answers (show listing) s text refused t =
     (t ≡ s) × (((lines : List (List ℕ)) × Shows listing s lines × (text ≡ concat lines ++ count_line (length lines)) × (refused ≡ false))
     ⊎ ((text ≡ reply_line (Refused no_memory)) × (refused ≡ true)))

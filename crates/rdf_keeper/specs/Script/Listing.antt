@@ -6,7 +6,7 @@ use Rattle.rdf_terms.specs.declared.term.Term.{Term}
 use Rattle.rdf_dataset.specs.State.{Change, net_between}
 use Rattle.rdf_lines.specs.QuadText.{quad_text}
 use Rattle.rdf_terms.specs.TermText.{term_text}
-use Rattle.rdf_session.specs.Listing.{ListsQuads}
+use Rattle.rdf_session.specs.QuadLines.{ListsQuads}
 use Rattle.rdf_session.specs.Session.{Session, now}
 use Rattle.rdf_keeper.specs.declared.script.command.Listing.{Listing}
 use Rattle.rdf_keeper.specs.declared.script.command.Listing.TheVariants.{Changes, Graphs, Quads}

@@ -1,6 +1,6 @@
 use Rattle.std.proofs.Common.{◌∙◌, ◌++◌, ap, append_assoc}
 use Rattle.rdf_lines.specs.QuadText.{quad_text}
-use Rattle.rdf_session.proofs.ListingLemmas.{line_more, lines_end}
+use Rattle.rdf_session.proofs.LineLemmas.{line_more, lines_end}
 use Rattle.rdf_session.proofs.listing.write_lines.Goals as goal
 
 pub loop-quad-preserved : goal.loop-quad-preserved
