@@ -1,7 +1,7 @@
 use Rattle.std.proofs.Common.{◌∙◌, ◌++◌, ap, append_assoc}
 use Rattle.rdf_lines.specs.QuadText.{quad_text}
 use Rattle.rdf_session.proofs.LineLemmas.{line_more, lines_end}
-use Rattle.rdf_session.proofs.listing.write_lines.Goals as goal
+use Rattle.rdf_session.proofs.lines.write_lines.Goals as goal
 
 pub loop-quad-preserved : goal.loop-quad-preserved
 loop-quad-preserved c =

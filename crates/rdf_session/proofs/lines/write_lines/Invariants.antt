@@ -1,7 +1,7 @@
 use Rattle.std.proofs.Common.{◌≡◌, ◌++◌, drop, map, List, ℕ}
 use Rattle.std.specs.List.{concat}
 use Rattle.rdf_lines.specs.QuadText.{quad_text}
-use Rattle.rdf_session.proofs.listing.write_lines.Given as goal
+use Rattle.rdf_session.proofs.lines.write_lines.Given as goal
 
 abbrev pub invariant-loop-quad : goal.invariant-loop-quad
 invariant-loop-quad l = record {
