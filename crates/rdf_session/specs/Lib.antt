@@ -8,11 +8,11 @@ pub mod GivesBack
 pub mod Headline
 pub mod History
 pub mod Inside
-pub mod QuadLines
 pub mod LoadLaws
 pub mod OneQueryReply
 pub mod OneReply
 pub mod OneResult
+pub mod QuadLines
 pub mod Query
 pub mod Request
 pub mod Session

@@ -71,14 +71,15 @@ impl<T: Item> Sorted<T> {
     pub fn listing(&self) -> &[T]
         ensures { ListsSorted (set.from_list {R = T.order} self.now) result.now }
     {
-        self.items.as_slice()
+        self.as_slice()
     }
 
     /// The same items as a list.
     pub fn into_listing(self) -> Vec<T>
         ensures { ListsSorted (set.from_list {R = T.order} self) result.items }
     {
-        self.items
+        let Sorted { items } = self;
+        items
     }
 
     // Where the item stands, or where it would go.
