@@ -1,87 +1,41 @@
 -- Lexemes that are read one at a time.
-use Rattle.std.proofs.Common.{◌≡◌, ◌<◌, ◌≤◌, ◌+◌, ℕ, zero, suc, false, List, [], ◌∷◌, ◌++◌, length, Option, Some, None, Result, Ok, Err, refl, sym, ap, subst, ◌∙◌, arith, length-append, append_assoc}
-use Rattle.std.specs.Prelude.{MatchOption}
+use Rattle.std.proofs.Common.{◌≡◌, ◌≤◌, ℕ, List, [], ◌∷◌, ◌++◌, length, Option, None, Result, Ok, Err, refl, sym, ap, subst, ◌∙◌, arith, append_assoc}
 use Rattle.std.proofs.lemmas.List.{append-nil}
 use Rattle.std.proofs.lemmas.Str.{encodes-chars, length-le-encodes, chars-nil}
 use Rattle.std.specs.Str.{chars, encode_utf8_all, IsUtf8}
-use Rattle.rdf_terms.proofs.OptionLemmas.{none_is}
 use Rattle.rdf_terms.proofs.PlaceLemmas.{between_is}
 use Rattle.rdf_terms.specs.Reading.{between, byte_count}
 use Rattle.rdf_tokens.specs.declared.token.Kind.{Kind}
 use Rattle.rdf_tokens.specs.declared.token.Kind.TheVariants.{Symbol}
 use Rattle.rdf_tokens.specs.declared.token.Token.{Token}
 use Rattle.rdf_tokens.specs.Tokens.{IsToken, HasGap, Ends, NoToken, At, Runs, Says}
-use Rattle.rdf_tokens.specs.Inside.TokenReading.{skip_gap, token_at}
-use Rattle.rdf_tokens.proofs.CallerLemmas.{end_skipped, fault_read, next_read, no_longer_behind_gap, same_place, shorter_behind_token, some_token_list, token_nil}
+use Rattle.rdf_tokens.proofs.CallerLemmas.{each_end, each_few, each_nil, each_token, none_told, same_place, some_token_list}
 use Rattle.rdf_grammar.specs.declared.lexeme.Lexeme.{Lexeme}
 use Rattle.rdf_grammar.specs.Terminals.{Lexemes, next_text}
 use Rattle.rdf_grammar.specs.Lexemes.{IsLexeme, AreLexemes, AreReadFrom, AreReadOf, unread}
-use Rattle.rdf_grammar.specs.Inside.LexemeReading.{ahead, lexeme_of, from_token, from_start, lexemes_within, lexemes_of}
-
-gap_nil : skip_gap false [] ≡ []
-unfolding skip_gap
-gap_nil = refl
+use Rattle.rdf_grammar.specs.Inside.LexemeReading.{ahead, lexeme_of, lexemes_of}
 
 module _ {T : Type 0} (terminal : Kind → List ℕ → T) where
-  -- ---- the turns
-
-  from_same : (f g : List ℕ → Lexemes T) (start : List ℕ) → ((t : Kind × List ℕ) → token_at start ≡ Some t → f t.1 ≡ g t.1) → from_start terminal f start ≡ from_start terminal g start
-  from_same f g [] h = refl
-  from_same f g (c ∷ cs) h = by_token (token_at (c ∷ cs)) refl
-    where
-      by_token : (o : Option (Kind × List ℕ)) → token_at (c ∷ cs) ≡ o → from_token terminal f (c ∷ cs) o ≡ from_token terminal g (c ∷ cs) o
-      by_token None e = refl
-      by_token (Some t) e = ap (λ (ls : Lexemes T). lexeme_of terminal t.0 (between (c ∷ cs) t.1) ∷ ls) (h t e)
-
-  nothing_within : (n : ℕ) (cs : List ℕ) → length cs ≤ 0 → lexemes_within terminal n cs ≡ []
-  unfolding lexemes_within
-  nothing_within zero cs h = refl
-  nothing_within (suc n) [] h = ap (from_start terminal (lexemes_within terminal n)) gap_nil
-  nothing_within (suc n) (c ∷ cs) h = absurd (omega (arith, h))
-
-  enough : (n m : ℕ) (cs : List ℕ) → length cs ≤ n → length cs ≤ m → lexemes_within terminal n cs ≡ lexemes_within terminal m cs
-  unfolding lexemes_within
-  enough zero m cs h k = sym (nothing_within m cs h)
-  enough (suc n) zero cs h k = nothing_within (suc n) cs k
-  enough (suc n) (suc m) cs h k =
-      from_same (lexemes_within terminal n) (lexemes_within terminal m) (skip_gap false cs)
-      (λ t read. let less = shorter_behind_token cs t read in enough n m t.1 (omega (arith, less, h)) (omega (arith, less, k)))
-
-  lexemes_next : (cs : List ℕ) → lexemes_of terminal cs ≡ from_start terminal (lexemes_of terminal) (skip_gap false cs)
-  unfolding lexemes_of lexemes_within
-  lexemes_next cs =
-      enough (length cs) (suc (length cs)) cs (omega arith) (omega arith)
-      ∙ from_same (lexemes_within terminal (length cs)) (lexemes_of terminal) (skip_gap false cs)
-      (λ t read. let less = shorter_behind_token cs t read in enough (length cs) (length t.1) t.1 (omega (arith, less)) (omega arith))
-
-  -- ---- what comes next
-
   pub lexemes_nil : lexemes_of terminal [] ≡ []
-  unfolding lexemes_of lexemes_within
-  lexemes_nil = refl
+  unfolding lexemes_of
+  lexemes_nil = each_nil _ _
 
   pub lexemes_end : (cs : List ℕ) → Ends cs → lexemes_of terminal cs ≡ []
-  lexemes_end cs h = lexemes_next cs ∙ ap (from_start terminal (lexemes_of terminal)) (end_skipped cs h)
-
-  from_a_token : (start : List ℕ) (k : Kind) (after : List ℕ) → token_at start ≡ Some (k, after)
-      → from_start terminal (lexemes_of terminal) start ≡ lexeme_of terminal k (between start after) ∷ lexemes_of terminal after
-  from_a_token [] k after e = none_is (k, after) (sym token_nil ∙ e)
-  from_a_token (c ∷ cs) k after e = ap (from_token terminal (lexemes_of terminal) (c ∷ cs)) e
+  unfolding lexemes_of
+  lexemes_end cs h = each_end _ _ cs h
 
   pub lexemes_token : (cs start : List ℕ) (k : Kind) (after : List ℕ) → HasGap cs start → IsToken start k after
       → lexemes_of terminal cs ≡ lexeme_of terminal k (between start after) ∷ lexemes_of terminal after
-  lexemes_token cs start k after gap is =
-      let read = next_read cs start k after gap is in
-      lexemes_next cs ∙ ap (from_start terminal (lexemes_of terminal)) read.0 ∙ from_a_token start k after read.1
-
-  from_no_token : (start : List ℕ) → NoToken start → token_at start ≡ None → from_start terminal (lexemes_of terminal) start ≡ unread terminal ∷ []
-  from_no_token [] n e = absurd n
-  from_no_token (c ∷ cs) n e = ap (from_token terminal (lexemes_of terminal) (c ∷ cs)) e
+  unfolding lexemes_of
+  lexemes_token cs start k after gap is = each_token _ _ cs start k after gap is
 
   pub lexemes_none : (cs start : List ℕ) → HasGap cs start → NoToken start → lexemes_of terminal cs ≡ unread terminal ∷ []
-  lexemes_none cs start gap none =
-      let read = fault_read cs start gap none in
-      lexemes_next cs ∙ ap (from_start terminal (lexemes_of terminal)) read.0 ∙ from_no_token start none read.1
+  unfolding lexemes_of
+  lexemes_none cs start gap none = none_told _ _ cs start gap none
+
+  few : (cs : List ℕ) → length (lexemes_of terminal cs) ≤ length cs
+  unfolding lexemes_of
+  few cs = each_few _ _ cs
 
   -- ---- what is made of it
 
@@ -103,26 +57,6 @@ module _ {T : Type 0} (terminal : Kind → List ℕ → T) where
 
   pub made_of_end : (cs left : List ℕ) → Ends cs × (left ≡ []) → (lexemes_of terminal cs ≡ []) × (lexemes_of terminal left ≡ [])
   made_of_end cs left h = (lexemes_end cs h.0, ap (lexemes_of terminal) h.1 ∙ lexemes_nil)
-
-  -- ---- how many there are
-
-  few_behind : (later : List ℕ → Lexemes T) (cs start : List ℕ) (o : Option (Kind × List ℕ)) → ((us : List ℕ) → length (later us) ≤ length us) → skip_gap false cs ≡ start → token_at start ≡ o
-      → 1 ≤ length start → length (from_token terminal later start o) ≤ length cs
-  few_behind later cs start None few e read some = omega (arith, some, no_longer_behind_gap cs, ap length e)
-  few_behind later cs start (Some t) few e read some = omega (arith, few t.1, shorter_behind_token cs t (ap token_at e ∙ read))
-
-  few_from : (later : List ℕ → Lexemes T) (cs start : List ℕ) → ((us : List ℕ) → length (later us) ≤ length us) → skip_gap false cs ≡ start → length (from_start terminal later start) ≤ length cs
-  few_from later cs [] few e = omega arith
-  few_from later cs (c ∷ others) few e = few_behind later cs (c ∷ others) (token_at (c ∷ others)) few e refl (omega arith)
-
-  few_within : (n : ℕ) (cs : List ℕ) → length (lexemes_within terminal n cs) ≤ length cs
-  unfolding lexemes_within
-  few_within zero cs = omega arith
-  few_within (suc n) cs = few_from (lexemes_within terminal n) cs (skip_gap false cs) (few_within n) refl
-
-  few : (cs : List ℕ) → length (lexemes_of terminal cs) ≤ length cs
-  unfolding lexemes_of
-  few cs = few_within (length cs) cs
 
   pub few_bytes : (cs : List ℕ) → length (lexemes_of terminal cs) ≤ byte_count cs
   few_bytes cs = omega (arith, few cs, length-le-encodes cs)

@@ -1,5 +1,5 @@
 -- Two blank nodes have one number just where one label writes both.
-use Rattle.std.proofs.Common.{◌≡◌, ◌≢◌, ◌↔◌, ◌∙◌, ◌⊎◌, ap, refl, sym, subst, inl, inr, ℕ, ◌+◌, ◌<◌, arith, Bool, true, false, List, [], ◌∷◌, Option, Some, None}
+use Rattle.std.proofs.Common.{◌≡◌, ◌≢◌, ◌∙◌, ◌⊎◌, ap, refl, sym, subst, inl, inr, ℕ, ◌+◌, ◌<◌, arith, Bool, true, false, List, [], ◌∷◌, Option, Some, None}
 use Rattle.std.proofs.lemmas.List.Elements.{All-cons, All-nil}
 use Rattle.std.proofs.lemmas.List.Kept.{AllPairs-cons}
 use Rattle.std.proofs.lemmas.Slice.Eq.{bytes_eq-Decides}
@@ -7,7 +7,7 @@ use Rattle.std.specs.Map.{lookup}
 use Rattle.std.specs.Prelude.{All, AllPairs}
 use Rattle.indexmap.specs.IndexMap.{insert_entry}
 use Rattle.rdf_grammar.specs.Keys.{same_key}
-use Rattle.rdf_grammar.specs.Numbering.{Numbering, start, fresh, labelled, labelled_as}
+use Rattle.rdf_grammar.specs.Numbering.{Numbering, start, labelled_as}
 use Rattle.rdf_grammar.specs.NumberingLaws.{Written, numbered, all_numbered, IsOneLabel, HaveOneNumber, OneLabelIsOneNode}
 use Rattle.rdf_grammar.proofs.KeyEntries.{found, kept}
 

@@ -1,4 +1,5 @@
 pub mod CallerLemmas
+mod EachTokenLemmas
 mod LineLemmas
 mod ReaderLemmas
 mod SliceLemmas

@@ -1,6 +1,6 @@
 -- Tokens that are read one at a time.
-use Rattle.std.proofs.Common.{◌≡◌, ◌<◌, ◌≤◌, ℕ, true, false, List, [], ◌∷◌, ◌++◌, length, Option, Some, None, refl, sym, ap, subst, ◌∙◌, arith, length-append}
-use Rattle.std.proofs.lemmas.Str.{encodes-chars, scalars-chars, chars-encodes, chars-nil}
+use Rattle.std.proofs.Common.{◌≡◌, ◌<◌, ◌≤◌, ℕ, true, false, List, [], ◌∷◌, ◌++◌, length, Some, None, refl, sym, ap, subst, ◌∙◌, arith, length-append}
+use Rattle.std.proofs.lemmas.Str.{encodes-chars, scalars-chars, chars-encodes}
 use Rattle.std.specs.Str.{chars, encode_utf8_all, IsUtf8}
 use lib.Utf8.{scalars}
 use Rattle.rdf_terms.proofs.OptionLemmas.{none_is}

@@ -1,10 +1,9 @@
 -- A walk comes to the tokens of its text.
-use Rattle.std.proofs.Common.{◌≡◌, ◌<◌, ◌≤◌, ◌-◌, ◌+◌, ℕ, zero, suc, false, List, [], ◌∷◌, ◌++◌, length, Option, Some, None, Result, Ok, Err, refl, sym, ap, subst, ◌∙◌, arith, append_assoc}
+use Rattle.std.proofs.Common.{◌≡◌, ◌-◌, ℕ, false, List, [], ◌∷◌, ◌++◌, length, Option, Some, None, Result, Ok, Err, refl, sym, ap, subst, ◌∙◌, arith, append_assoc}
 use Rattle.std.specs.Prelude.{MatchOption}
 use Rattle.std.proofs.lemmas.List.{append-nil}
 use Rattle.std.proofs.lemmas.Str.{encodes-chars}
 use Rattle.std.specs.Str.{chars, IsUtf8}
-use Rattle.rdf_terms.proofs.OptionLemmas.{none_is}
 use Rattle.rdf_terms.proofs.PlaceLemmas.{between_is}
 use Rattle.rdf_terms.specs.Reading.{between, byte_count}
 use Rattle.rdf_tokens.specs.declared.token.Kind.{Kind}
@@ -13,77 +12,29 @@ use Rattle.rdf_tokens.specs.declared.walk.Found.{Found}
 use Rattle.rdf_tokens.specs.declared.walk.Found.TheVariants as found
 use Rattle.rdf_tokens.specs.Tokens.{IsToken, HasGap, Ends, NoToken, At, Runs, Says}
 use Rattle.rdf_tokens.specs.Walks.{IsFound, AreFound, AreFoundFrom, AreFoundIn}
-use Rattle.rdf_tokens.specs.Inside.TokenReading.{skip_gap, token_at}
-use Rattle.rdf_tokens.specs.Inside.WalkReading.{byte_of, from_token, from_start, found_within, found_of}
-use Rattle.rdf_tokens.proofs.ReaderLemmas.{shorter_behind_token}
-use Rattle.rdf_tokens.proofs.TokenGaps.{end_skipped}
+use Rattle.rdf_tokens.specs.Inside.TokenReading.{skip_gap}
+use Rattle.rdf_tokens.specs.Inside.WalkReading.{byte_of, found_of}
+use Rattle.rdf_tokens.proofs.EachTokenLemmas.{each_nil, each_end, each_token, none_told}
 use Rattle.rdf_tokens.proofs.TokenLaws.{some_token_list}
-use Rattle.rdf_tokens.proofs.TokenLists.{at_place, fault_read, next_read, same_place, token_nil}
-
-gap_nil : skip_gap false [] ≡ []
-unfolding skip_gap
-gap_nil = refl
+use Rattle.rdf_tokens.proofs.TokenLists.{at_place, fault_read, next_read, same_place}
 
 module _ (size : ℕ) where
-  -- ---- the turns
-
-  from_same : (f g : List ℕ → List Found) (start : List ℕ) → ((t : Kind × List ℕ) → token_at start ≡ Some t → f t.1 ≡ g t.1) → from_start size f start ≡ from_start size g start
-  from_same f g [] h = refl
-  from_same f g (c ∷ cs) h = by_token (token_at (c ∷ cs)) refl
-    where
-      by_token : (o : Option (Kind × List ℕ)) → token_at (c ∷ cs) ≡ o → from_token size f (c ∷ cs) o ≡ from_token size g (c ∷ cs) o
-      by_token None e = refl
-      by_token (Some t) e = ap (λ (fs : List Found). found.Token (byte_of size (c ∷ cs)) t.0 (between (c ∷ cs) t.1) ∷ fs) (h t e)
-
-  nothing_within : (n : ℕ) (cs : List ℕ) → length cs ≤ 0 → found_within size n cs ≡ []
-  unfolding found_within
-  nothing_within zero cs h = refl
-  nothing_within (suc n) [] h = ap (from_start size (found_within size n)) gap_nil
-  nothing_within (suc n) (c ∷ cs) h = absurd (omega (arith, h))
-
-  enough : (n m : ℕ) (cs : List ℕ) → length cs ≤ n → length cs ≤ m → found_within size n cs ≡ found_within size m cs
-  unfolding found_within
-  enough zero m cs h k = sym (nothing_within m cs h)
-  enough (suc n) zero cs h k = nothing_within (suc n) cs k
-  enough (suc n) (suc m) cs h k =
-      from_same (found_within size n) (found_within size m) (skip_gap false cs)
-      (λ t read. let less = shorter_behind_token cs t read in enough n m t.1 (omega (arith, less, h)) (omega (arith, less, k)))
-
-  found_next : (cs : List ℕ) → found_of size cs ≡ from_start size (found_of size) (skip_gap false cs)
-  unfolding found_of found_within
-  found_next cs =
-      enough (length cs) (suc (length cs)) cs (omega arith) (omega arith)
-      ∙ from_same (found_within size (length cs)) (found_of size) (skip_gap false cs)
-      (λ t read. let less = shorter_behind_token cs t read in enough (length cs) (length t.1) t.1 (omega (arith, less)) (omega arith))
-
-  -- ---- what comes next
-
   found_nil : found_of size [] ≡ []
-  unfolding found_of found_within
-  found_nil = refl
+  unfolding found_of
+  found_nil = each_nil _ _
 
   found_end : (cs : List ℕ) → Ends cs → found_of size cs ≡ []
-  found_end cs h = found_next cs ∙ ap (from_start size (found_of size)) (end_skipped cs h)
-
-  from_a_token : (start : List ℕ) (k : Kind) (after : List ℕ) → token_at start ≡ Some (k, after)
-      → from_start size (found_of size) start ≡ found.Token (byte_of size start) k (between start after) ∷ found_of size after
-  from_a_token [] k after e = none_is (k, after) (sym token_nil ∙ e)
-  from_a_token (c ∷ cs) k after e = ap (from_token size (found_of size) (c ∷ cs)) e
+  unfolding found_of
+  found_end cs h = each_end _ _ cs h
 
   found_token : (cs start : List ℕ) (k : Kind) (after : List ℕ) → HasGap cs start → IsToken start k after
       → found_of size cs ≡ found.Token (byte_of size start) k (between start after) ∷ found_of size after
-  found_token cs start k after gap is =
-      let read = next_read cs start k after gap is in
-      found_next cs ∙ ap (from_start size (found_of size)) read.0 ∙ from_a_token start k after read.1
-
-  from_no_token : (start : List ℕ) → NoToken start → token_at start ≡ None → from_start size (found_of size) start ≡ found.NoToken (byte_of size start) ∷ []
-  from_no_token [] n e = absurd n
-  from_no_token (c ∷ cs) n e = ap (from_token size (found_of size) (c ∷ cs)) e
+  unfolding found_of
+  found_token cs start k after gap is = each_token _ _ cs start k after gap is
 
   found_none : (cs start : List ℕ) → HasGap cs start → NoToken start → found_of size cs ≡ found.NoToken (byte_of size start) ∷ []
-  found_none cs start gap none =
-      let read = fault_read cs start gap none in
-      found_next cs ∙ ap (from_start size (found_of size)) read.0 ∙ from_no_token start none read.1
+  unfolding found_of
+  found_none cs start gap none = none_told _ _ cs start gap none
 
   -- ---- a step
 

@@ -1,4 +1,5 @@
 -- What only private functions speak of.
+pub mod EachToken
 pub mod Places
 pub mod Shortcuts
 pub mod TokenReading

@@ -1,4 +1,4 @@
-use Rattle.std.proofs.Common.{List, ℕ, false, sym, ap, ◌∙◌}
+use Rattle.std.proofs.Common.{false, sym, ap, ◌∙◌}
 use Rattle.rdf_terms.specs.Skips.{skip}
 use Rattle.rdf_tokens.specs.Characters.{is_white}
 use Rattle.rdf_tokens.specs.Inside.TokenReading.{skip_gap}
