@@ -2,10 +2,11 @@
 use Rattle.std.proofs.Common.{◌≡◌, ℕ, Bool, true, false, ◌&&◌, not, List, [], ◌∷◌, ◌++◌, map, refl, sym, ap, subst, ◌∙◌, inl, inr}
 use mathlib.Core.Bool.{true≢false}
 use Rattle.std.specs.Prelude.{IsTrue}
+use Rattle.std.specs.declared.cmp.Ordering.{Ordering}
 use Rattle.std.specs.Ordering.{eq_by_cmp, nat_cmp}
-use Rattle.std.specs.Cmp.{nat_cmp_total}
+use Rattle.std.specs.Cmp.{IsTotalOrder, nat_cmp_total}
 use Rattle.std.specs.FinSet as set
-use Rattle.std.specs.FinSet.{nat_cmp-IsAntisymmetric, contains-insert, contains-remove, contains-union, contains-empty, contains-retain, same_set}
+use Rattle.std.specs.FinSet.{IsAntisymmetric, nat_cmp-IsAntisymmetric, contains-insert, contains-remove, contains-union, contains-empty, contains-retain, same_set}
 use Rattle.rdf_terms.specs.declared.term.Term.{Term}
 use Rattle.rdf_terms.specs.Quad.{QuadParts}
 use Rattle.rdf_terms.specs.Order.{term_cmp, quad_cmp}
@@ -233,29 +234,20 @@ module _ (table : List Term) (c : Contents) (kept : AreKept table c) where
 
 -- ---- what is not there stays away
 
-pub remove_absent_quad : (s : Stored) (q : QuadParts) → set.contains s.quads q ≡ false → s ≡ without_quad s q
-remove_absent_quad s q none = λ i. record { quads = removed i; names = s.names }
-  where
-    stays : (a b : Bool) → (a ≡ true → b ≡ false) → b ≡ (not a && b)
-    stays true b h = h refl
-    stays false b h = refl
+stays : (a b : Bool) → (a ≡ true → b ≡ false) → b ≡ (not a && b)
+stays true b h = h refl
+stays false b h = refl
 
-    removed : s.quads ≡ set.remove s.quads q
-    removed = same_set quad_cmp_total quad_cmp-IsAntisymmetric _ _ (λ x.
-        stays (eq_by_cmp quad_cmp x q) (set.contains s.quads x) (λ e. ap (set.contains s.quads) (same_of_eq quad_cmp_total quad_cmp-IsAntisymmetric x q e) ∙ none)
-        ∙ sym (contains-remove quad_cmp_total s.quads q x))
+remove_absent : {K : Type 0} {R : K → K → Ordering} → IsTotalOrder R → IsAntisymmetric R → (s : set.FinSet R) (x : K) → set.contains s x ≡ false → s ≡ set.remove s x
+remove_absent {R = R} total apart s x none = same_set total apart _ _ (λ y.
+    stays (eq_by_cmp R y x) (set.contains s y) (λ e. ap (set.contains s) (same_of_eq total apart y x e) ∙ none)
+    ∙ sym (contains-remove total s x y))
+
+pub remove_absent_quad : (s : Stored) (q : QuadParts) → set.contains s.quads q ≡ false → s ≡ without_quad s q
+remove_absent_quad s q none = λ i. record { quads = remove_absent quad_cmp_total quad_cmp-IsAntisymmetric s.quads q none i; names = s.names }
 
 pub remove_absent_name : (s : Stored) (t : Term) → set.contains s.names t ≡ false → s ≡ without_name s t
-remove_absent_name s t none = λ i. record { quads = s.quads; names = removed i }
-  where
-    stays : (a b : Bool) → (a ≡ true → b ≡ false) → b ≡ (not a && b)
-    stays true b h = h refl
-    stays false b h = refl
-
-    removed : s.names ≡ set.remove s.names t
-    removed = same_set term_cmp_total term_cmp-IsAntisymmetric _ _ (λ x.
-        stays (eq_by_cmp term_cmp x t) (set.contains s.names x) (λ e. ap (set.contains s.names) (same_of_eq term_cmp_total term_cmp-IsAntisymmetric x t e) ∙ none)
-        ∙ sym (contains-remove term_cmp_total s.names t x))
+remove_absent_name s t none = λ i. record { quads = s.quads; names = remove_absent term_cmp_total term_cmp-IsAntisymmetric s.names t none i }
 
 -- ---- one more goes
 
