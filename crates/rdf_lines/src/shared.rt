@@ -4,7 +4,7 @@ ghost use Rattle.std.specs.Prelude.{◌≡◌, ◌++◌, ◌∷◌, [], IfOk, On
 use rdf_terms::{GraphName, NoMemory, Quad, Term, TermTable};
 
 // An equal term: one that the table holds from now on, unless it is a blank node, which has no text.
-fn shared_term(terms: &mut TermTable, term: Term) -> Result<Term, NoMemory>
+fn kept_term(terms: &mut TermTable, term: Term) -> Result<Term, NoMemory>
     ensures { IfOk result (λ shared. shared ≡ term) }
 {
     if let Term::Blank(number) = term {
@@ -14,35 +14,78 @@ fn shared_term(terms: &mut TermTable, term: Term) -> Result<Term, NoMemory>
     terms.term(id).copy()
 }
 
-fn shared_graph(terms: &mut TermTable, graph: GraphName) -> Result<GraphName, NoMemory>
+// An equal term: the one in its place of the quad before, where the two are equal, or one that the table holds.
+fn shared_term(terms: &mut TermTable, before: Option<&Term>, term: Term) -> Result<Term, NoMemory>
+    ensures { IfOk result (λ shared. shared ≡ term) }
+{
+    if let Some(other) = before {
+        if *other == term {
+            return other.copy();
+        }
+    }
+    kept_term(terms, term)
+}
+
+fn shared_name(
+    terms: &mut TermTable,
+    before: Option<&GraphName>,
+    name: Term,
+) -> Result<Term, NoMemory>
+    ensures { IfOk result (λ shared. shared ≡ name) }
+{
+    match before {
+        Some(GraphName::Named(other)) => shared_term(terms, Some(other), name),
+        _ => kept_term(terms, name),
+    }
+}
+
+fn shared_graph(
+    terms: &mut TermTable,
+    before: Option<&GraphName>,
+    graph: GraphName,
+) -> Result<GraphName, NoMemory>
     ensures { IfOk result (λ shared. shared ≡ graph) }
 {
     match graph {
         GraphName::Default => Ok(GraphName::Default),
-        GraphName::Named(name) => Ok(GraphName::Named(shared_term(terms, name)?)),
+        GraphName::Named(name) => Ok(GraphName::Named(shared_name(terms, before, name)?)),
     }
 }
 
-fn shared_quad(terms: &mut TermTable, quad: Quad) -> Result<Quad, NoMemory>
+// The graph, the subject and the predicate of a quad, if there is one.
+fn front(quad: Option<&Quad>) -> (Option<&GraphName>, Option<&Term>, Option<&Term>) {
+    match quad {
+        Some(quad) => (
+            Some(quad.graph()),
+            Some(quad.subject()),
+            Some(quad.predicate()),
+        ),
+        None => (None, None, None),
+    }
+}
+
+fn shared_quad(terms: &mut TermTable, before: Option<&Quad>, quad: Quad) -> Result<Quad, NoMemory>
     ensures { IfOk result (λ shared. shared ≡ quad) }
 {
+    let (graph_before, subject_before, predicate_before) = front(before);
     let (graph, subject, predicate, object) = quad.into_parts();
-    let graph = shared_graph(terms, graph)?;
-    let subject = shared_term(terms, subject)?;
-    let predicate = shared_term(terms, predicate)?;
-    let object = shared_term(terms, object)?;
+    let graph = shared_graph(terms, graph_before, graph)?;
+    let subject = shared_term(terms, subject_before, subject)?;
+    let predicate = shared_term(terms, predicate_before, predicate)?;
+    let object = kept_term(terms, object)?;
     match Quad::new(graph, subject, predicate, object) {
         Some(shared) => Ok(shared),
         None => unreachable!(),
     }
 }
 
-/// Appends an equal quad, or nothing. Its terms share their texts with those that the table held, or are held from now on.
+/// Appends an equal quad, or nothing. Its terms share their texts with those of the quad before it, or with those that the table held,
+/// or are held from now on.
 pub fn push_shared(terms: &mut TermTable, quads: &mut Vec<Quad>, quad: Quad) -> Result<(), NoMemory>
     ensures ok { OnOk result (quads.new.items ≡ quads.old.items ++ quad ∷ []) }
     ensures err { OnErr result (quads.new.items ≡ quads.old.items) }
 {
-    let shared = shared_quad(terms, quad)?;
+    let shared = shared_quad(terms, quads.last(), quad)?;
     quads.push(shared)?;
     Ok(())
 }

@@ -2,7 +2,7 @@
 ghost use Rattle.std.specs.Prelude.{◌≡◌, ℕ, [], IsOk, IfOk, IfNone, IfSome};
 ghost use Rattle.rdf_terms.specs.Table.{IsIdOf};
 ghost use Rattle.rdf_orders.specs.Quads.{IdQuad, quad_of};
-ghost use Rattle.rdf_store.specs.Inside.Numbers.{IsGraphNumber, IsNumbered, IsGrown, AreKeys, AreIds, IsKept, parts_of, graph_at};
+ghost use Rattle.rdf_store.specs.Inside.Numbers.{IsGraphNumber, IsNumbered, IsFront, IsGrown, AreKeys, AreIds, IsKept, parts_of, graph_at};
 
 use rdf_orders::Key;
 use rdf_terms::{GraphName, NoMemory, Quad, Term, TermId, TermTable, terms_are_held_once};
@@ -46,17 +46,32 @@ pub(crate) fn find_quad(table: &TermTable, quad: &Quad) -> Option<Key>
     Some([graph, subject, predicate, object])
 }
 
-/// The number of a term, which the table keeps if it is new. One that is held takes no memory.
+/// The number of a term, which the table keeps if it is new. A copy of a term shares its text, so it is
+/// looked for once.
 pub(crate) fn number_term(table: &mut TermTable, term: &Term) -> Result<u64, NoMemory>
     ensures number { IfOk result (λ id. IsIdOf table.new id term.now) }
     ensures grown { IsGrown table.old table.new }
 {
-    if let Some(id) = table.find(term) {
-        return Ok(id.0);
-    }
     let term = term.copy()?;
     let id = table.intern(term)?;
     Ok(id.0)
+}
+
+// The number of a term, which is that of another one where the two are equal.
+fn number_like(
+    table: &mut TermTable,
+    other: &Term,
+    number: u64,
+    term: &Term,
+) -> Result<u64, NoMemory>
+    requires { IsIdOf table.old number other.now }
+    ensures number { IfOk result (λ id. IsIdOf table.new id term.now) }
+    ensures grown { IsGrown table.old table.new }
+{
+    if *other == *term {
+        return Ok(number);
+    }
+    number_term(table, term)
 }
 
 /// The number of a graph, whose name the table keeps if it is new.
@@ -72,6 +87,23 @@ pub(crate) fn number_graph(table: &mut TermTable, graph: &GraphName) -> Result<u
     Ok(number)
 }
 
+// The number of a graph, which is that of another one where the two are equal.
+fn number_like_graph(
+    table: &mut TermTable,
+    other: &GraphName,
+    number: u64,
+    graph: &GraphName,
+) -> Result<u64, NoMemory>
+    requires { IsGraphNumber table.old number other.now }
+    ensures number { IfOk result (λ id. IsGraphNumber table.new id graph.now) }
+    ensures grown { IsGrown table.old table.new }
+{
+    if *other == *graph {
+        return Ok(number);
+    }
+    number_graph(table, graph)
+}
+
 /// The key in `Spo` of a quad, of whose terms the table keeps the new ones.
 pub(crate) fn number_quad(table: &mut TermTable, quad: &Quad) -> Result<Key, NoMemory>
     ensures number { IfOk result (λ key. IsNumbered table.new (quad_of key) quad.now) }
@@ -82,6 +114,46 @@ pub(crate) fn number_quad(table: &mut TermTable, quad: &Quad) -> Result<Key, NoM
     let predicate = number_term(table, quad.predicate())?;
     let object = number_term(table, quad.object())?;
     Ok([graph, subject, predicate, object])
+}
+
+// A quad, with the numbers of its graph, subject and predicate.
+#[derive(Clone, Copy)]
+struct Front<'q> {
+    quad: &'q Quad,
+    graph: u64,
+    subject: u64,
+    predicate: u64,
+}
+
+// The key in `Spo` of a quad that stands behind another one. In a sorted list the two often have one
+// graph, subject or predicate, which isn't looked for again.
+fn number_behind(table: &mut TermTable, before: Front<'_>, quad: &Quad) -> Result<Key, NoMemory>
+    requires { IsFront table.old before.graph before.subject before.predicate before.quad.now }
+    ensures number { IfOk result (λ key. IsNumbered table.new (quad_of key) quad.now) }
+    ensures grown { IsGrown table.old table.new }
+{
+    let other = before.quad;
+    let graph = number_like_graph(table, other.graph(), before.graph, quad.graph())?;
+    let subject = number_like(table, other.subject(), before.subject, quad.subject())?;
+    let predicate = number_like(table, other.predicate(), before.predicate, quad.predicate())?;
+    let object = number_term(table, quad.object())?;
+    Ok([graph, subject, predicate, object])
+}
+
+// The key in `Spo` of a quad, which stands behind another one or is the first.
+fn number_next(
+    table: &mut TermTable,
+    before: Option<Front<'_>>,
+    quad: &Quad,
+) -> Result<Key, NoMemory>
+    requires { IfSome before (λ f. IsFront table.old f.graph f.subject f.predicate f.quad.now) }
+    ensures number { IfOk result (λ key. IsNumbered table.new (quad_of key) quad.now) }
+    ensures grown { IsGrown table.old table.new }
+{
+    match before {
+        Some(front) => number_behind(table, front, quad),
+        None => number_quad(table, quad),
+    }
 }
 
 /// The keys in `Spo` of quads. Where there are none it takes no memory.
@@ -95,9 +167,16 @@ pub(crate) fn number_quads(
     ensures free { quads.now ≡ [] → IsOk result }
 {
     let mut keys = Vec::new(alloc);
+    let mut before = None;
     for quad in quads {
-        let key = number_quad(table, quad)?;
+        let key = number_next(table, before, quad)?;
         keys.push(key)?;
+        before = Some(Front {
+            quad,
+            graph: key[0],
+            subject: key[1],
+            predicate: key[2],
+        });
     }
     Ok(keys)
 }

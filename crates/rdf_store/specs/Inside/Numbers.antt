@@ -33,6 +33,12 @@ pub record IsNumbered (table : List Term) (k : IdQuad) (q : QuadParts) : Type 0 
   pub predicate : IsIdOf table k.predicate q.predicate
   pub object : IsIdOf table k.object q.object
 
+-- the numbers of a quad's graph, subject and predicate
+pub record IsFront (table : List Term) (graph subject predicate : ℕ) (q : QuadParts) : Type 0 where
+  pub graph_is : IsGraphNumber table graph q.graph
+  pub subject_is : IsIdOf table subject q.subject
+  pub predicate_is : IsIdOf table predicate q.predicate
+
 -- a term keeps its number
 pub record IsGrown (old new : List Term) : Type 0 where
   pub keeps : (id : ℕ) (t : Term) → IsIdOf old id t → IsIdOf new id t

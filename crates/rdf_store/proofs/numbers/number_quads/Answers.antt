@@ -5,5 +5,10 @@ use Rattle.rdf_store.proofs.numbers.number_quads.Goals as goal
 pub loop-quad-preserved : goal.loop-quad-preserved
 loop-quad-preserved c = record {
   numbers = next_key _ _ c.loop-quad.keys.items _ c.args.quads.now c.loop-quad.quad-index _ _ c.loop-quad.invariant.numbers c.in_ok-key.ensures.grown c.in_ok-key.ensures.number c.in_ok-push.ensures.items c.loop-quad-test.true c.quad-item.is;
+  front = record {
+    graph_is = c.in_ok-key.ensures.number.graph;
+    subject_is = c.in_ok-key.ensures.number.subject;
+    predicate_is = c.in_ok-key.ensures.number.predicate;
+  };
   grown = grown_then _ _ _ c.loop-quad.invariant.grown c.in_ok-key.ensures.grown;
 }

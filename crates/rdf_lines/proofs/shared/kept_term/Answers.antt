@@ -1,7 +1,7 @@
 use Rattle.std.proofs.Common.{sym, ◌∙◌}
 use Rattle.std.proofs.lemmas.Option.{same_Some, slice_get_within}
 use Rattle.std.proofs.lemmas.Result.{IfOk-weaker}
-use Rattle.rdf_lines.proofs.shared.shared_term.Goals as goal
+use Rattle.rdf_lines.proofs.shared.kept_term.Goals as goal
 
 pub term-requires : goal.term-requires
 term-requires c = slice_get_within _ _ _ c.in_ok-id.ensures.id
