@@ -2,5 +2,6 @@
 pub mod Converts
 pub mod Documents
 pub mod Fronts
+pub mod TripleLines
 pub mod Turtle
 pub mod WholeLines

@@ -5,3 +5,4 @@ pub mod Outcomes
 pub mod Starts
 pub mod Says
 pub mod Streams
+pub mod TripleLines

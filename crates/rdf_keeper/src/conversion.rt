@@ -6,6 +6,7 @@ ghost use Rattle.rdf_keeper.specs.Conversion.Converts.{Converts};
 mod fault;
 mod held;
 mod lines;
+mod triple_lines;
 mod turtle;
 
 use crate::conversion::lines::convert_lines;
@@ -23,8 +24,8 @@ use std::io::{Read, Write};
 /// A document of lines is written while it is read, so the memory that is taken doesn't grow with it, but for its
 /// labels. A line that is faulty, a failed read or want of memory ends it: what comes before is written.
 ///
-/// A document of Turtle is read whole, its relative IRIs against the base, and then written: a faulty one and a failed
-/// read write nothing.
+/// A document of Turtle is read whole, its relative IRIs against the base, and then its lines are written: a faulty one,
+/// a failed read and want of memory write nothing.
 ///
 /// # Errors
 /// A [`ConvertFault`]. A write call that fails or takes nothing ends a conversion too.

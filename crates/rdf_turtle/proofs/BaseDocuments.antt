@@ -22,8 +22,8 @@ use Rattle.rdf_turtle.specs.Document.{HasTree}
 use Rattle.rdf_turtle.specs.Meaning.{answer, meaning, property, properties, has_properties, statement, document, triples_of}
 use Rattle.rdf_grammar.specs.Keys.{key_of, same_key}
 use Rattle.rdf_grammar.specs.Prologue.{Prologue, resolved, declares, moves_base}
-use Rattle.rdf_turtle.specs.State as state
-use Rattle.rdf_turtle.specs.State.{State, Does, start, told}
+use Rattle.rdf_turtle.specs.ParserState as state
+use Rattle.rdf_turtle.specs.ParserState.{ParserState, Does, start, told}
 use Rattle.rdf_grammar.specs.Steps.{Outcome, and_then}
 use Rattle.rdf_turtle.proofs.BaseLeaves.{lexemes_formed}
 use Rattle.rdf_turtle.proofs.BaseSteps.{Holds, Given, Any, IsIri, Fits, WellQuad, Comes, Goes, NodeGoes, then_goes, resolved_goes, each_goes}
@@ -66,18 +66,18 @@ moved_given based declared i u iri g = record { base = refl; base_iri = iri; kno
 -- ---- a statement
 
 -- the state behind a statement, missing just where the flag is set
-abbrev Behind : Bool → List (List ℕ) → Bool → Outcome State (Unit {0}) → Type 0
+abbrev Behind : Bool → List (List ℕ) → Bool → Outcome ParserState (Unit {0}) → Type 0
 Behind based declared true o = o ≡ None
-Behind based declared false o = (u : State) × (o ≡ Some (tt, u)) × Given based declared u
+Behind based declared false o = (u : ParserState) × (o ≡ Some (tt, u)) × Given based declared u
 
-then_behind : (based later : Bool) (declared more : List (List ℕ)) (flag : Bool) (o : Outcome State (List ℕ)) (f : List ℕ → Does (Unit {0})) → Comes based declared flag IsIri o
-    → ((i : List ℕ) → IsIri i → (u : State) → Given based declared u → (v : State) × (f i u ≡ Some (tt, v)) × Given later more v) → Behind later more flag (and_then o f)
-then_behind based later declared more true o f h q = ap (λ (x : Outcome State (List ℕ)). and_then x f) h
+then_behind : (based later : Bool) (declared more : List (List ℕ)) (flag : Bool) (o : Outcome ParserState (List ℕ)) (f : List ℕ → Does (Unit {0})) → Comes based declared flag IsIri o
+    → ((i : List ℕ) → IsIri i → (u : ParserState) → Given based declared u → (v : ParserState) × (f i u ≡ Some (tt, v)) × Given later more v) → Behind later more flag (and_then o f)
+then_behind based later declared more true o f h q = ap (λ (x : Outcome ParserState (List ℕ)). and_then x f) h
 then_behind based later declared more false o f h q =
     let k = q h.value h.good h.state h.given in
-    (k.0, ap (λ (x : Outcome State (List ℕ)). and_then x f) h.is ∙ k.1, k.2)
+    (k.0, ap (λ (x : Outcome ParserState (List ℕ)). and_then x f) h.is ∙ k.1, k.2)
 
-comes_behind : (based : Bool) (declared : List (List ℕ)) (flag : Bool) (o : Outcome State (Unit {0})) → Comes based declared flag Any o → Behind based declared flag o
+comes_behind : (based : Bool) (declared : List (List ℕ)) (flag : Bool) (o : Outcome ParserState (Unit {0})) → Comes based declared flag Any o → Behind based declared flag o
 comes_behind based declared true o h = h
 comes_behind based declared false o h = (h.state, h.is, h.given)
 
@@ -99,7 +99,7 @@ triples_go based declared node ps good known_subject known_ps =
     rw some (subst (λ (b : Bool). Goes based declared b Any (λ z. and_then ((meaning node).term z) (λ y. λ a. and_then ((meaning node).inside y a) (λ _ c. properties y ps c))))
     (or_grouped g.term_flag g.inside_flag rest ∙ ap (λ (b : Bool). b || rest) g.both) whole)
 
-statement_behind : (based : Bool) (declared : List (List ℕ)) (w : Statement) → GoodStatement w → known_statement declared w ≡ true → (z : State) → Given based declared z
+statement_behind : (based : Bool) (declared : List (List ℕ)) (w : Statement) → GoodStatement w → known_statement declared w ≡ true → (z : ParserState) → Given based declared z
     → Behind (based_behind based w) (declared_behind declared w) (lacks_statement based w) (statement w z)
 unfolding statement known_statement
 statement_behind based declared (s.Prefix prefix reference) good k z h =
@@ -114,20 +114,20 @@ statement_behind based declared (s.Triples node ps) good k z h =
 
 -- ---- a document
 
-abbrev Ended : Bool → Outcome State (Unit {0}) → Type 0
+abbrev Ended : Bool → Outcome ParserState (Unit {0}) → Type 0
 Ended true o = o ≡ None
-Ended false o = (u : State) × (o ≡ Some (tt, u)) × AllByRecursion WellQuad u.quads
+Ended false o = (u : ParserState) × (o ≡ Some (tt, u)) × AllByRecursion WellQuad u.quads
 
-chain : (based : Bool) (declared : List (List ℕ)) (flag rest : Bool) (o : Outcome State (Unit {0})) (f : Does (Unit {0})) → Behind based declared flag o → ((u : State) → Given based declared u → Ended rest (f u))
+chain : (based : Bool) (declared : List (List ℕ)) (flag rest : Bool) (o : Outcome ParserState (Unit {0})) (f : Does (Unit {0})) → Behind based declared flag o → ((u : ParserState) → Given based declared u → Ended rest (f u))
     → Ended (flag || rest) (and_then o (λ _. f))
-chain based declared true rest o f h q = ap (λ (x : Outcome State (Unit {0})). and_then x (λ _. f)) h
-chain based declared false rest o f h q = subst (λ (x : Outcome State (Unit {0})). Ended rest (and_then x (λ _. f))) (sym h.1) (q h.0 h.2)
+chain based declared true rest o f h q = ap (λ (x : Outcome ParserState (Unit {0})). and_then x (λ _. f)) h
+chain based declared false rest o f h q = subst (λ (x : Outcome ParserState (Unit {0})). Ended rest (and_then x (λ _. f))) (sym h.1) (q h.0 h.2)
 
 known_first : (b c : Bool) → cond b c false ≡ true → (b ≡ true) × (c ≡ true)
 known_first true c e = (refl, e)
 known_first false c e = absurd (true≢false (sym e))
 
-document_ended : (ws : List Statement) → AllByRecursion GoodStatement ws → (based : Bool) (declared : List (List ℕ)) (z : State) → Given based declared z → declares_first declared ws ≡ true
+document_ended : (ws : List Statement) → AllByRecursion GoodStatement ws → (based : Bool) (declared : List (List ℕ)) (z : ParserState) → Given based declared z → declares_first declared ws ≡ true
     → Ended (lacks_base based ws) (document ws z)
 document_ended [] good based declared z h k = (z, refl, h.1)
 document_ended (w ∷ ws) good based declared z h k =
@@ -139,7 +139,7 @@ document_ended (w ∷ ws) good based declared z h k =
 start_given : (base : Option (List ℕ)) → IfSome base (λ b. IsTrue (is_iri b)) → Given (is_some base) [] (start base)
 start_given base iri = (record { base = refl; base_iri = iri; known = λ p e. absurd (true≢false (sym e)) }, tt)
 
-abbrev Answered : Bool → Outcome State (Unit {0}) → Result (List QuadParts) TurtleFaultKind
+abbrev Answered : Bool → Outcome ParserState (Unit {0}) → Result (List QuadParts) TurtleFaultKind
 Answered known o = if known then ok_or (option_map (λ p. (p.1).quads) o) Relative else Err UnknownPrefix
 
 ok_err : (a : List QuadParts) (k : TurtleFaultKind) → ◌≡◌ {A = Result (List QuadParts) TurtleFaultKind} (Ok a) (Err k) → ⊥
@@ -148,12 +148,12 @@ ok_err a k e = cc
 other_fault : ◌≡◌ {A = Result (List QuadParts) TurtleFaultKind} (Err UnknownPrefix) (Err Relative) → ⊥
 other_fault e = cc
 
-relative_by : (known lacking : Bool) (o : Outcome State (Unit {0})) → (known ≡ true → Ended lacking o) → (Answered known o ≡ Err Relative) ↔ ((known ≡ true) × (lacking ≡ true))
+relative_by : (known lacking : Bool) (o : Outcome ParserState (Unit {0})) → (known ≡ true → Ended lacking o) → (Answered known o ≡ Err Relative) ↔ ((known ≡ true) × (lacking ≡ true))
 relative_by false lacking o h = (λ e. absurd (other_fault e), λ k. absurd (true≢false (sym k.0)))
-relative_by true true o h = (λ e. (refl, refl), λ k. ap (λ (x : Outcome State (Unit {0})). Answered true x) (h refl))
+relative_by true true o h = (λ e. (refl, refl), λ k. ap (λ (x : Outcome ParserState (Unit {0})). Answered true x) (h refl))
 relative_by true false o h =
     let end = h refl in
-    let is : Answered true o ≡ Ok (end.0).quads = ap (λ (x : Outcome State (Unit {0})). Answered true x) end.1 in
+    let is : Answered true o ≡ Ok (end.0).quads = ap (λ (x : Outcome ParserState (Unit {0})). Answered true x) end.1 in
     (λ e. absurd (ok_err (end.0).quads Relative (sym is ∙ e)), λ k. absurd (true≢false (sym k.1)))
 
 pub relative_lacks_a_base : RelativeLacksABase
@@ -164,12 +164,12 @@ relative_lacks_a_base base text tree iri has =
 
 -- ---- well formed quads
 
-well_by : (known lacking : Bool) (o : Outcome State (Unit {0})) (quads : List QuadParts) → (known ≡ true → Ended lacking o) → Answered known o ≡ Ok quads → AllByRecursion WellQuad quads
+well_by : (known lacking : Bool) (o : Outcome ParserState (Unit {0})) (quads : List QuadParts) → (known ≡ true → Ended lacking o) → Answered known o ≡ Ok quads → AllByRecursion WellQuad quads
 well_by false lacking o quads h e = absurd (cc e)
-well_by true true o quads h e = absurd (ok_err quads Relative (sym e ∙ ap (λ (x : Outcome State (Unit {0})). Answered true x) (h refl)))
+well_by true true o quads h e = absurd (ok_err quads Relative (sym e ∙ ap (λ (x : Outcome ParserState (Unit {0})). Answered true x) (h refl)))
 well_by true false o quads h e =
     let end = h refl in
-    let is : Answered true o ≡ Ok (end.0).quads = ap (λ (x : Outcome State (Unit {0})). Answered true x) end.1 in
+    let is : Answered true o ≡ Ok (end.0).quads = ap (λ (x : Outcome ParserState (Unit {0})). Answered true x) end.1 in
     let same : Ok (end.0).quads ≡ Ok quads = sym is ∙ e in
     let quads_same : (end.0).quads ≡ quads = cc same in
     subst (λ (x : List QuadParts). AllByRecursion WellQuad x) quads_same end.2

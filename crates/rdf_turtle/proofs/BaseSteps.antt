@@ -33,7 +33,7 @@ use Rattle.rdf_grammar.specs.Numbering as numbering
 use Rattle.rdf_grammar.specs.Numbering.{Numbering}
 use Rattle.rdf_grammar.specs.Prologue.{Prologue, iri_of, knows, resolved, prefixed}
 use Rattle.rdf_grammar.specs.References.{resolve}
-use Rattle.rdf_turtle.specs.State.{State, Does, told, blank, fresh, labelled, triple, says}
+use Rattle.rdf_turtle.specs.ParserState.{ParserState, Does, told, blank, fresh, labelled, triple, says}
 use Rattle.rdf_grammar.specs.Steps.{Outcome, and_then, each}
 use Rattle.rdf_tokens.specs.Values.{iri_value, local_value, text_value, tag_value}
 use Rattle.rdf_tokens.proofs.CallerLemmas.{iri_value_allowed}
@@ -60,12 +60,12 @@ pub record WellQuad (q : QuadParts) : Type 0 where
   pub object : WellTerm q.object
 
 -- and what is said is well formed
-abbrev pub Given : Bool → List (List ℕ) → State → Type 0
+abbrev pub Given : Bool → List (List ℕ) → ParserState → Type 0
 Given based declared s = Holds based declared s.prologue × AllByRecursion WellQuad s.quads
 
-pub record Fine {A : Type 0} (based : Bool) (declared : List (List ℕ)) (Good : A → Type 0) (o : Outcome State A) : Type 0 where
+pub record Fine {A : Type 0} (based : Bool) (declared : List (List ℕ)) (Good : A → Type 0) (o : Outcome ParserState A) : Type 0 where
   pub value : A
-  pub state : State
+  pub state : ParserState
   pub is : o ≡ Some (value, state)
   pub given : Given based declared state
   pub good : Good value
@@ -131,12 +131,12 @@ IsMore (x ∷ xs) = Unit {0}
 
 module _ (based : Bool) (declared : List (List ℕ)) where
   -- an outcome that is missing just where the flag is set
-  abbrev pub Comes : {A : Type 0} → Bool → (A → Type 0) → Outcome State A → Type 0
+  abbrev pub Comes : {A : Type 0} → Bool → (A → Type 0) → Outcome ParserState A → Type 0
   Comes true Good o = o ≡ None
   Comes false Good o = Fine based declared Good o
 
   abbrev pub Goes : {A : Type 0} → Bool → (A → Type 0) → Does A → Type 0
-  Goes flag Good f = (s : State) → Given based declared s → Comes flag Good (f s)
+  Goes flag Good f = (s : ParserState) → Given based declared s → Comes flag Good (f s)
 
   pub then_goes : {A B : Type 0} (b c : Bool) (f : Does A) (g : A → Does B) (P : A → Type 0) (Q : B → Type 0)
       → Goes b P f → ((a : A) → P a → Goes c Q (g a)) → Goes (b || c) Q (λ s. and_then (f s) g)
@@ -170,8 +170,8 @@ module _ (based : Bool) (declared : List (List ℕ)) where
   Finds false P o = There P o
 
   told_goes : {A : Type 0} (b : Bool) (f : Prologue → Option A) (P : A → Type 0) → ((p : Prologue) → Holds based declared p → Finds b P (f p)) → Goes b P (told f)
-  told_goes {A = A} true f P p = λ s h. ap (λ o. option_map {U = A × State} (λ a. (a, s)) o) (p s.prologue h.0)
-  told_goes {A = A} false f P p = λ s h. (let r = p s.prologue h.0 in record { value = r.value; state = s; is = ap (λ o. option_map {U = A × State} (λ a. (a, s)) o) r.is; given = h; good = r.good })
+  told_goes {A = A} true f P p = λ s h. ap (λ o. option_map {U = A × ParserState} (λ a. (a, s)) o) (p s.prologue h.0)
+  told_goes {A = A} false f P p = λ s h. (let r = p s.prologue h.0 in record { value = r.value; state = s; is = ap (λ o. option_map {U = A × ParserState} (λ a. (a, s)) o) r.is; given = h; good = r.good })
 
   resolve_finds : (o : Option (List ℕ)) (v : List ℕ) (has : Bool) → IfSome o (λ b. IsTrue (is_iri b)) → IsUtf8 v → has_forbidden v ≡ false → has_scheme v ≡ has
       → Finds (not (is_some o) && not has) IsIri (resolve o v)

@@ -15,20 +15,20 @@ use Rattle.rdf_grammar.specs.Prologue.{Prologue, declared, knows, iri_of, resolv
 use Rattle.rdf_grammar.specs.Keys.{key_of, same_key}
 use Rattle.rdf_tokens.specs.Values.{local_value, text_value}
 use Rattle.rdf_grammar.specs.PrologueFaults.{Explains}
-use Rattle.rdf_turtle.specs.State.{State, told}
+use Rattle.rdf_turtle.specs.ParserState.{ParserState, told}
 use Rattle.rdf_grammar.proofs.LiteralLemmas.{reference_lacking, name_lacking, literal_lacking}
 use Rattle.rdf_grammar.specs.declared.tree.Literal.{Literal}
 use Rattle.rdf_grammar.specs.declared.tree.Literal.TheVariants as l
 use Rattle.rdf_grammar.specs.Literals.{ExplainsLiteral, known_literal, literal_of, untagged}
 use Rattle.rdf_terms.specs.Literal.{LiteralParts}
 
-told_is : {A : Type 0} (f : Prologue → Option A) (s u : State) (a : A) → f s.prologue ≡ Some a → u ≡ s → told f s ≡ Some (a, u)
-told_is {A = A} f s u a e same = ap (λ (o : Option A). option_map {U = A × State} (λ b. (b, s)) o) e ∙ ap (λ (z : State). Some (a, z)) (sym same)
+told_is : {A : Type 0} (f : Prologue → Option A) (s u : ParserState) (a : A) → f s.prologue ≡ Some a → u ≡ s → told f s ≡ Some (a, u)
+told_is {A = A} f s u a e same = ap (λ (o : Option A). option_map {U = A × ParserState} (λ b. (b, s)) o) e ∙ ap (λ (z : ParserState). Some (a, z)) (sym same)
 
-not_told : {A : Type 0} (f : Prologue → Option A) (s : State) → f s.prologue ≡ None → told f s ≡ None
-not_told {A = A} f s e = ap (λ (o : Option A). option_map {U = A × State} (λ b. (b, s)) o) e
+not_told : {A : Type 0} (f : Prologue → Option A) (s : ParserState) → f s.prologue ≡ None → told f s ≡ None
+not_told {A = A} f s e = ap (λ (o : Option A). option_map {U = A × ParserState} (λ b. (b, s)) o) e
 
-pub reference_gives : (reference : List ℕ) (s u : State) (r : Result (List ℕ) PrologueFault) → IfOk r (λ i. resolved reference s.prologue ≡ Some i) → IfErr r (λ e. Explains s.prologue (Full reference) e) → u ≡ s
+pub reference_gives : (reference : List ℕ) (s u : ParserState) (r : Result (List ℕ) PrologueFault) → IfOk r (λ i. resolved reference s.prologue ≡ Some i) → IfErr r (λ e. Explains s.prologue (Full reference) e) → u ≡ s
     → Answers (told (resolved reference) s) r u
 reference_gives reference s u (Ok i) value fault same = told_is (resolved reference) s u i value same
 reference_gives reference s u (Err (NoMemory e)) value fault same = tt
@@ -77,7 +77,7 @@ some_known {A = A} false o x h e = absurd (let n : o ≡ None = h refl in cc)
 
 -- ---- and what is told
 
-pub iri_gives : (name : Name) (s u : State) (r : Result (List ℕ) PrologueFault) → IfOk r (λ i. iri_of name s.prologue ≡ Some i) → IfErr r (λ e. Explains s.prologue name e) → u ≡ s
+pub iri_gives : (name : Name) (s u : ParserState) (r : Result (List ℕ) PrologueFault) → IfOk r (λ i. iri_of name s.prologue ≡ Some i) → IfErr r (λ e. Explains s.prologue name e) → u ≡ s
     → Answers (iri name s) r u
 unfolding iri
 iri_gives name s u (Ok i) value fault same = told_is (iri_of name) s u i value same
@@ -89,7 +89,7 @@ pub iri_knows : (name : Name) (p : Prologue) (r : Result (List ℕ) PrologueFaul
 iri_knows name p (Ok i) value = some_known (knows (declared p) name) (iri_of name p) i (name_unknown name p) value
 iri_knows name p (Err e) value = tt
 
-pub literal_gives : (w : Literal) (s u : State) (r : Result LiteralParts PrologueFault) → IfOk r (λ l. literal_of w s.prologue ≡ Some l) → IfErr r (λ e. ExplainsLiteral s.prologue w e) → u ≡ s
+pub literal_gives : (w : Literal) (s u : ParserState) (r : Result LiteralParts PrologueFault) → IfOk r (λ l. literal_of w s.prologue ≡ Some l) → IfErr r (λ e. ExplainsLiteral s.prologue w e) → u ≡ s
     → Answers (literal w s) r u
 unfolding literal
 literal_gives w s u (Ok l) value fault same = told_is (literal_of w) s u l value same

@@ -27,25 +27,25 @@ use Rattle.rdf_turtle.specs.Known.{declares_first}
 use Rattle.rdf_grammar.specs.Keys.{key_of}
 use Rattle.rdf_grammar.specs.Prologue.{Prologue, iri_of, resolved, declares, moves_base}
 use Rattle.rdf_grammar.specs.Steps.{Outcome, each, and_then}
-use Rattle.rdf_turtle.specs.State.{State, Does, start, told, declared, fresh, says}
+use Rattle.rdf_turtle.specs.ParserState.{ParserState, Does, start, told, declared, fresh, says}
 use Rattle.rdf_turtle.specs.Meaning.{answer, Meaning, Says, iri, verb, literal, object, objects, behind, list_term, list_inside, is_some_property, node_of, property_of, meaning, property, properties, has_properties, statement, document, triples_of}
 use Rattle.rdf_turtle.proofs.ScopeSteps.{then_parts, Numbered, IsAt, IsBelow, Said, nothing, nothing_at, iri_apart, also, beside, only_last, below_on, says_numbered, TermKeeps, fresh_keeps, labelled_keeps, Stays, stays_keeps}
 use Rattle.rdf_grammar.specs.Literals.{literal_of}
 
 -- ---- leaves
 
-told_same : {A : Type 0} (f : Prologue → Option A) (s u : State) (a : A) → told f s ≡ Some (a, u) → s ≡ u
+told_same : {A : Type 0} (f : Prologue → Option A) (s u : ParserState) (a : A) → told f s ≡ Some (a, u) → s ≡ u
 told_same {A = A} f s u a e = by (f s.prologue) e
   where
-    by : (o : Option A) → option_map {U = A × State} (λ x. (x, s)) o ≡ Some (a, u) → s ≡ u
+    by : (o : Option A) → option_map {U = A × ParserState} (λ x. (x, s)) o ≡ Some (a, u) → s ≡ u
     by None e = absurd (cc e)
     by (Some x) e = ap (λ p. p.1) (same_Some _ _ e)
 
-iri_same : (name : Name) (s u : State) (a : List ℕ) → iri name s ≡ Some (a, u) → s ≡ u
+iri_same : (name : Name) (s u : ParserState) (a : List ℕ) → iri name s ≡ Some (a, u) → s ≡ u
 unfolding iri
 iri_same name s u a e = told_same (iri_of name) s u a e
 
-verb_same : (w : Verb) (s u : State) (a : List ℕ) → verb w s ≡ Some (a, u) → s ≡ u
+verb_same : (w : Verb) (s u : ParserState) (a : List ℕ) → verb w s ≡ Some (a, u) → s ≡ u
 unfolding verb
 verb_same (v.Name name) s u a e = iri_same name s u a e
 verb_same v.Type s u a e = ap (λ p. p.1) (same_Some _ _ e)
@@ -65,7 +65,7 @@ name_stays name s u x e =
 literal_apart : (w : LiteralParts) (n : ℕ) → t.Literal w ≡ t.Blank n → ⊥
 literal_apart w n e = cc
 
-literal_same : (w : Literal) (s u : State) (a : LiteralParts) → literal w s ≡ Some (a, u) → s ≡ u
+literal_same : (w : Literal) (s u : ParserState) (a : LiteralParts) → literal w s ≡ Some (a, u) → s ≡ u
 unfolding literal
 literal_same w s u a e = told_same (literal_of w) s u a e
 
@@ -84,36 +84,36 @@ nil_stays s u x e =
 -- ---- nodes and properties
 
 -- what is numbered after a step, when these were before
-record Kept (pending : Term) (s u : State) : Type 0 where
+record Kept (pending : Term) (s u : ParserState) : Type 0 where
   numbered : Numbered pending u
   grows : s.numbering.next ≤ u.numbering.next
 
 -- triples are said, about this subject first; nothing is left pending that wasn't
 abbrev InsideKeeps : (Term → Does (Unit {0})) → Type 0
-InsideKeeps f = (x pending : Term) (s u : State) → IsBelow x s → IsAt pending x → Numbered pending s → f x s ≡ Some (tt, u) → Kept pending s u
+InsideKeeps f = (x pending : Term) (s u : ParserState) → IsBelow x s → IsAt pending x → Numbered pending s → f x s ≡ Some (tt, u) → Kept pending s u
 
 -- and the subject stands in one
 abbrev Uses : (Term → Does (Unit {0})) → Type 0
-Uses f = (x pending : Term) (s u : State) → IsBelow x s → IsAt pending x → Numbered pending s → f x s ≡ Some (tt, u) → Kept nothing s u
+Uses f = (x pending : Term) (s u : ParserState) → IsBelow x s → IsAt pending x → Numbered pending s → f x s ≡ Some (tt, u) → Kept nothing s u
 
 record Good (m : Meaning) : Type 0 where
   term : TermKeeps m.term
   inside : InsideKeeps m.inside
   alone : m.alone ≡ true → Uses m.inside
 
-kept_also : (pending : Term) (s u : State) → Kept nothing s u → Kept pending s u
+kept_also : (pending : Term) (s u : ParserState) → Kept nothing s u → Kept pending s u
 kept_also pending s u k = record { numbered = also pending u k.numbered; grows = k.grows }
 
-kept_then : (a b : Term) (s v u : State) → Kept a s v → Kept b v u → Kept b s u
+kept_then : (a b : Term) (s v u : ParserState) → Kept a s v → Kept b v u → Kept b s u
 kept_then a b s v u k r =
     let first : s.numbering.next ≤ v.numbering.next = k.grows in
     let rest : v.numbering.next ≤ u.numbering.next = r.grows in
     record { numbered = r.numbered; grows = omega (arith, first, rest) }
 
-kept_same : (pending : Term) (s u : State) → Numbered pending s → ◌≡◌ {A = Outcome State (Unit {0})} (Some (tt, s)) (Some (tt, u)) → Kept pending s u
+kept_same : (pending : Term) (s u : ParserState) → Numbered pending s → ◌≡◌ {A = Outcome ParserState (Unit {0})} (Some (tt, s)) (Some (tt, u)) → Kept pending s u
 kept_same pending s u n e =
     let same : s ≡ u = ap (λ p. p.1) (same_Some _ _ e) in
-    let next : s.numbering.next ≡ u.numbering.next = ap (λ (z : State). z.numbering.next) same in
+    let next : s.numbering.next ≡ u.numbering.next = ap (λ (z : ParserState). z.numbering.next) same in
     record { numbered = subst (Numbered pending) same n; grows = omega (arith, next) }
 
 uses_keeps : (f : Term → Does (Unit {0})) → Uses f → InsideKeeps f
@@ -131,7 +131,7 @@ object_uses predicate m g x pending s u b at n e =
     kept_then nothing nothing s q.1 u (record { numbered = said.0; grows = grown }) (g.inside p.0 nothing q.1 u (below_on p.0 p.1 q.1 l o.2) (nothing_at p.0) said.0 q.3)
 
 -- one step that uses the subject, and others behind it
-then_keeps : (f g : Term → Does (Unit {0})) → Uses f → InsideKeeps g → (x pending : Term) (s u : State) → IsBelow x s → IsAt pending x → Numbered pending s
+then_keeps : (f g : Term → Does (Unit {0})) → Uses f → InsideKeeps g → (x pending : Term) (s u : ParserState) → IsBelow x s → IsAt pending x → Numbered pending s
     → and_then (f x s) (λ _. g x) ≡ Some (tt, u) → Kept nothing s u
 then_keeps f g h k x pending s u b at n e =
     let p = then_parts (f x s) (λ _. g x) (tt, u) e in
@@ -152,7 +152,7 @@ property_uses : (w : Verb) (ms : List Meaning) → AllByRecursion Good ms → Us
 property_uses w ms all x pending s u b at n e =
     let p = then_parts (verb w s) _ (tt, u) e in
     let same : p.1 ≡ s = sym (verb_same w s p.1 p.0 p.2) in
-    let h : objects x p.0 ms s ≡ Some (tt, u) = subst (λ (z : State). objects x p.0 ms z ≡ Some (tt, u)) same p.3 in
+    let h : objects x p.0 ms s ≡ Some (tt, u) = subst (λ (z : ParserState). objects x p.0 ms z ≡ Some (tt, u)) same p.3 in
     objects_use p.0 ms all x pending s u b at n h
 
 properties_keep : (ps : List Says) → AllByRecursion Uses ps → InsideKeeps (λ x. each (λ p. p x) ps)
@@ -252,9 +252,9 @@ all_good (p ∷ ps) = (properties_good p, all_good ps)
 -- ---- statements
 
 abbrev Closed : Does (Unit {0}) → Type 0
-Closed f = (s u : State) → Numbered nothing s → f s ≡ Some (tt, u) → Numbered nothing u
+Closed f = (s u : ParserState) → Numbered nothing s → f s ≡ Some (tt, u) → Numbered nothing u
 
-same_numbers : (s u : State) → Numbered nothing s → s.numbering.next ≡ u.numbering.next → s.quads ≡ u.quads → s.numbering.labels ≡ u.numbering.labels → Numbered nothing u
+same_numbers : (s u : ParserState) → Numbered nothing s → s.numbering.next ≡ u.numbering.next → s.quads ≡ u.quads → s.numbering.labels ≡ u.numbering.labels → Numbered nothing u
 same_numbers s u h next quads labels = record {
   covered = λ n l. elim (h.covered n (subst (λ (i : ℕ). n < i) (sym next) l)) [ inl x ↦ inl (subst (λ (z : List QuadParts). Said z n) quads x) | inr y ↦ inr y ];
   below = λ n x. subst (λ (i : ℕ). n < i) next (h.below n (subst (λ (z : List QuadParts). Said z n) (sym quads) x));
@@ -266,7 +266,7 @@ same_numbers s u h next quads labels = record {
 declared_closed : (f : Prologue → Prologue) → Closed (declared f)
 declared_closed f s u h e =
     let same = ap (λ p. p.1) (same_Some _ _ e) in
-    same_numbers s u h (ap (λ (z : State). z.numbering.next) same) (ap (λ (z : State). z.quads) same) (ap (λ (z : State). z.numbering.labels) same)
+    same_numbers s u h (ap (λ (z : ParserState). z.numbering.next) same) (ap (λ (z : ParserState). z.quads) same) (ap (λ (z : ParserState). z.numbering.labels) same)
 
 resolved_closed : (r : List ℕ) (f : List ℕ → Does (Unit {0})) → ((i : List ℕ) → Closed (f i)) → Closed (λ s. and_then (told (resolved r) s) f)
 resolved_closed r f h s u n e =
@@ -300,7 +300,7 @@ statement_closed (s.Prefix prefix reference) = resolved_closed reference (λ i. 
 statement_closed (s.Base reference) = resolved_closed reference (λ i. declared (moves_base i)) (λ i. declared_closed (moves_base i))
 statement_closed (s.Triples node ps) = λ x u n e. by x u n (has_properties (meaning node).alone ps) refl e
   where
-    by : (x u : State) → Numbered nothing x → (b : Bool) → has_properties (meaning node).alone ps ≡ b
+    by : (x u : ParserState) → Numbered nothing x → (b : Bool) → has_properties (meaning node).alone ps ≡ b
         → if◌then◌else◌ {A = Does (Unit {0})} b (λ z. and_then ((meaning node).term z) (λ y. λ a. and_then ((meaning node).inside y a) (λ _ c. properties y ps c))) (λ z. None) x ≡ Some (tt, u) → Numbered nothing u
     by x u n true h e = triples_closed (meaning node) (map property ps) (nodes_good node) (all_good ps) (some_of (meaning node).alone ps h) x u n e
     by x u n false h e = absurd (cc e)
@@ -331,11 +331,11 @@ answered true None quads e = absurd (cc e)
 answered true (Some qs) quads e = (let same : qs ≡ quads = cc e in ap (λ z. Some z) same)
 answered false o quads e = absurd (cc e)
 
-at_end : (base : Option (List ℕ)) (ws : List Statement) (quads : List QuadParts) → triples_of base ws ≡ Some quads → (u : State) × Numbered nothing u × (u.quads ≡ quads)
+at_end : (base : Option (List ℕ)) (ws : List Statement) (quads : List QuadParts) → triples_of base ws ≡ Some quads → (u : ParserState) × Numbered nothing u × (u.quads ≡ quads)
 unfolding triples_of
 at_end base ws quads e = by (document ws (start base)) refl e
   where
-    by : (o : Outcome State (Unit {0})) → document ws (start base) ≡ o → option_map (λ p. (p.1).quads) o ≡ Some quads → (u : State) × Numbered nothing u × (u.quads ≡ quads)
+    by : (o : Outcome ParserState (Unit {0})) → document ws (start base) ≡ o → option_map (λ p. (p.1).quads) o ≡ Some quads → (u : ParserState) × Numbered nothing u × (u.quads ≡ quads)
     by None d e = absurd (cc e)
     by (Some p) d e = (p.1, document_closed ws (start base) p.1 (start_numbered base) d, same_Some _ _ e)
 

@@ -17,7 +17,7 @@ use Rattle.rdf_turtle.specs.Blanks.{IsTriple}
 use Rattle.rdf_grammar.specs.Steps.{Outcome, Step, and_then}
 use Rattle.rdf_grammar.specs.Keys.{same_key}
 use Rattle.rdf_grammar.specs.Numbering.{labelled_as}
-use Rattle.rdf_turtle.specs.State.{State, Does, fresh, labelled, blank, triple, says}
+use Rattle.rdf_turtle.specs.ParserState.{ParserState, Does, fresh, labelled, blank, triple, says}
 
 -- ---- numbers
 
@@ -29,7 +29,7 @@ abbrev pub nothing : Term
 nothing = Iri []
 
 -- each number so far stands in a triple or is pending, the triples have no other, and they come in order
-pub record Numbered (pending : Term) (s : State) : Type 0 where
+pub record Numbered (pending : Term) (s : ParserState) : Type 0 where
   pub covered : (n : ℕ) → n < s.numbering.next → Said s.quads n ⊎ (pending ≡ Blank n)
   pub below : (n : ℕ) → Said s.quads n → n < s.numbering.next
   pub labels : AllByRecursion (λ e. e.1 < s.numbering.next) s.numbering.labels
@@ -37,14 +37,14 @@ pub record Numbered (pending : Term) (s : State) : Type 0 where
   pub order : AreNumberedInOrder s.quads
 
 -- a second term is pending, which has the last number if it has a new one
-pub record BothNumbered (pending last : Term) (s : State) : Type 0 where
+pub record BothNumbered (pending last : Term) (s : ParserState) : Type 0 where
   pub covered : (n : ℕ) → n < s.numbering.next → (Said s.quads n ⊎ (pending ≡ Blank n)) ⊎ ((last ≡ Blank n) × (s.numbering.next ≡ n + 1))
   pub below : (n : ℕ) → Said s.quads n → n < s.numbering.next
   pub labels : AllByRecursion (λ e. e.1 < s.numbering.next) s.numbering.labels
   pub triples : AllByRecursion IsTriple s.quads
   pub order : AreNumberedInOrder s.quads
 
-abbrev pub IsBelow : Term → State → Type 0
+abbrev pub IsBelow : Term → ParserState → Type 0
 IsBelow t s = (n : ℕ) → t ≡ Blank n → n < s.numbering.next
 
 -- where this is a blank node, it is that one
@@ -57,7 +57,7 @@ iri_apart i n e = cc
 pub nothing_at : (t : Term) → IsAt nothing t
 nothing_at t n e = absurd (iri_apart [] n e)
 
-pub wider : (a b : Term) (s : State) → IsAt a b → Numbered a s → Numbered b s
+pub wider : (a b : Term) (s : ParserState) → IsAt a b → Numbered a s → Numbered b s
 wider a b s w h = record {
   covered = λ n l. elim (h.covered n l) [ inl x ↦ inl x | inr y ↦ inr (w n y) ];
   below = h.below;
@@ -67,14 +67,14 @@ wider a b s w h = record {
 }
 
 -- a term may be pending where nothing is
-pub also : (t : Term) (s : State) → Numbered nothing s → Numbered t s
+pub also : (t : Term) (s : ParserState) → Numbered nothing s → Numbered t s
 also t s h = wider nothing t s (nothing_at t) h
 
 -- an old term beside the one that is pending
-pub beside : (t pending : Term) (s : State) → Numbered pending s → BothNumbered pending t s
+pub beside : (t pending : Term) (s : ParserState) → Numbered pending s → BothNumbered pending t s
 beside t pending s h = record { covered = λ n l. inl (h.covered n l); below = h.below; labels = h.labels; triples = h.triples; order = h.order }
 
-pub only_last : (t : Term) (s : State) → BothNumbered nothing t s → Numbered t s
+pub only_last : (t : Term) (s : ParserState) → BothNumbered nothing t s → Numbered t s
 only_last t s h = record {
   covered = λ n l. elim (h.covered n l) [ inl (inl x) ↦ inl x | inl (inr y) ↦ absurd (iri_apart [] n y) | inr z ↦ inr z.0 ];
   below = h.below;
@@ -83,7 +83,7 @@ only_last t s h = record {
   order = h.order;
 }
 
-pub below_on : (t : Term) (s u : State) → s.numbering.next ≤ u.numbering.next → IsBelow t s → IsBelow t u
+pub below_on : (t : Term) (s u : ParserState) → s.numbering.next ≤ u.numbering.next → IsBelow t s → IsBelow t u
 below_on t s u l h = λ n e. (let z : n < s.numbering.next = h n e in omega (arith, z, l))
 
 in_term : (t : Term) (n : ℕ) → t ≡ Blank n → Contains (blanks_in t) n
@@ -140,10 +140,10 @@ blank_number t m n a b = cc
 
 -- ---- a triple
 
-abbrev grown : State → QuadParts → State
+abbrev grown : ParserState → QuadParts → ParserState
 grown s q = record s { quads = s.quads ++ q ∷ [] }
 
-module _ (subject o : Term) (predicate : List ℕ) (pending : Term) (s : State) where
+module _ (subject o : Term) (predicate : List ℕ) (pending : Term) (s : ParserState) where
   abbrev q : QuadParts
   q = triple subject predicate o
 
@@ -207,22 +207,22 @@ module _ (subject o : Term) (predicate : List ℕ) (pending : Term) (s : State) 
       order = grown_order;
     }
 
-    pub says_numbered : (u : State) → says subject predicate o s ≡ Some (tt, u) → Numbered nothing u × (u.numbering.next ≡ s.numbering.next)
+    pub says_numbered : (u : ParserState) → says subject predicate o s ≡ Some (tt, u) → Numbered nothing u × (u.numbering.next ≡ s.numbering.next)
     unfolding says
     says_numbered u e = by (has_right_kinds q) refl e
       where
-        by : (b : Bool) → has_right_kinds q ≡ b → if◌then◌else◌ {A = Outcome State (Unit {0})} b (Some (tt, grown s q)) None ≡ Some (tt, u) → Numbered nothing u × (u.numbering.next ≡ s.numbering.next)
-        by true right e = (let same : grown s q ≡ u = ap (λ p. p.1) (same_Some _ _ e) in (subst (Numbered nothing) same (grown_numbered right), ap (λ (x : State). x.numbering.next) (sym same)))
+        by : (b : Bool) → has_right_kinds q ≡ b → if◌then◌else◌ {A = Outcome ParserState (Unit {0})} b (Some (tt, grown s q)) None ≡ Some (tt, u) → Numbered nothing u × (u.numbering.next ≡ s.numbering.next)
+        by true right e = (let same : grown s q ≡ u = ap (λ p. p.1) (same_Some _ _ e) in (subst (Numbered nothing) same (grown_numbered right), ap (λ (x : ParserState). x.numbering.next) (sym same)))
         by false right e = absurd (cc e)
 
 -- ---- terms
 
 -- a step gives a term, pending from then on
 abbrev pub TermKeeps : Does Term → Type 0
-TermKeeps f = (pending : Term) (s u : State) (t : Term) → Numbered pending s → f s ≡ Some (t, u) → BothNumbered pending t u × (s.numbering.next ≤ u.numbering.next) × IsBelow t u
+TermKeeps f = (pending : Term) (s u : ParserState) (t : Term) → Numbered pending s → f s ≡ Some (t, u) → BothNumbered pending t u × (s.numbering.next ≤ u.numbering.next) × IsBelow t u
 
 -- a new number
-numbered_on : (pending : Term) (s u : State) → Numbered pending s → u.numbering.next ≡ s.numbering.next + 1 → u.quads ≡ s.quads → AllByRecursion (λ e. e.1 < s.numbering.next + 1) u.numbering.labels
+numbered_on : (pending : Term) (s u : ParserState) → Numbered pending s → u.numbering.next ≡ s.numbering.next + 1 → u.quads ≡ s.quads → AllByRecursion (λ e. e.1 < s.numbering.next + 1) u.numbering.labels
     → BothNumbered pending (Blank s.numbering.next) u
 numbered_on pending s u h next quads labels = record {
   covered = λ n l. elim (lt_or_is n s.numbering.next (omega (arith, l, next))) [
@@ -239,12 +239,12 @@ numbered_on pending s u h next quads labels = record {
 }
 
 -- the new blank node
-new_keeps : (pending : Term) (s v u : State) (t : Term) → Numbered pending s → v.numbering.next ≡ s.numbering.next + 1 → v.quads ≡ s.quads → AllByRecursion (λ e. e.1 < s.numbering.next + 1) v.numbering.labels
-    → ◌≡◌ {A = Outcome State Term} (Some (Blank s.numbering.next, v)) (Some (t, u)) → BothNumbered pending t u × (s.numbering.next ≤ u.numbering.next) × IsBelow t u
+new_keeps : (pending : Term) (s v u : ParserState) (t : Term) → Numbered pending s → v.numbering.next ≡ s.numbering.next + 1 → v.quads ≡ s.quads → AllByRecursion (λ e. e.1 < s.numbering.next + 1) v.numbering.labels
+    → ◌≡◌ {A = Outcome ParserState Term} (Some (Blank s.numbering.next, v)) (Some (t, u)) → BothNumbered pending t u × (s.numbering.next ≤ u.numbering.next) × IsBelow t u
 new_keeps pending s v u t h next quads labels e =
     let is_t : Blank s.numbering.next ≡ t = ap (λ p. p.0) (same_Some _ _ e) in
     let is_u : v ≡ u = ap (λ p. p.1) (same_Some _ _ e) in
-    let grows : u.numbering.next ≡ s.numbering.next + 1 = ap (λ (x : State). x.numbering.next) (sym is_u) ∙ next in (
+    let grows : u.numbering.next ≡ s.numbering.next + 1 = ap (λ (x : ParserState). x.numbering.next) (sym is_u) ∙ next in (
       subst (λ (x : Term). BothNumbered pending x u) is_t (subst (BothNumbered pending (Blank s.numbering.next)) is_u (numbered_on pending s v h next quads labels)),
       omega (arith, grows),
       λ n b. (let z : n ≡ s.numbering.next = blank_number t n s.numbering.next b (sym is_t) in omega (arith, z, grows)),
@@ -255,12 +255,12 @@ unfolding fresh
 fresh_keeps pending s u t h e =
     new_keeps pending s (record s { numbering = record s.numbering { next = s.numbering.next + 1 } }) u t h refl refl (more_labels s.numbering.next (s.numbering.next + 1) s.numbering.labels (omega arith) h.labels) e
 
-labelled_as_keeps : (label : List ℕ) (o : Option ℕ) (pending : Term) (s u : State) (t : Term) → lookup (same_key label) s.numbering.labels ≡ o → Numbered pending s → blank (labelled_as label o) s ≡ Some (t, u)
+labelled_as_keeps : (label : List ℕ) (o : Option ℕ) (pending : Term) (s u : ParserState) (t : Term) → lookup (same_key label) s.numbering.labels ≡ o → Numbered pending s → blank (labelled_as label o) s ≡ Some (t, u)
     → BothNumbered pending t u × (s.numbering.next ≤ u.numbering.next) × IsBelow t u
 labelled_as_keeps label (Some k) pending s u t found h e =
     let is_t : Blank k ≡ t = ap (λ p. p.0) (same_Some _ _ e) in
     let is_u : s ≡ u = ap (λ p. p.1) (same_Some _ _ e) in
-    let same : s.numbering.next ≡ u.numbering.next = ap (λ (x : State). x.numbering.next) is_u in (
+    let same : s.numbering.next ≡ u.numbering.next = ap (λ (x : ParserState). x.numbering.next) is_u in (
       beside t pending u (subst (Numbered pending) is_u h),
       omega (arith, same),
       λ n b. (let z : n ≡ k = blank_number t n k b (sym is_t) in let l : k < s.numbering.next = label_below s.numbering.next (same_key label) s.numbering.labels k h.labels found in omega (arith, z, l, same)),
@@ -275,12 +275,12 @@ labelled_keeps label pending s u t h e = labelled_as_keeps label (lookup (same_k
 
 -- a step that gives no blank node and leaves the state
 abbrev pub Stays : Does Term → Type 0
-Stays f = (s u : State) (t : Term) → f s ≡ Some (t, u) → (s ≡ u) × ((n : ℕ) → t ≡ Blank n → ⊥)
+Stays f = (s u : ParserState) (t : Term) → f s ≡ Some (t, u) → (s ≡ u) × ((n : ℕ) → t ≡ Blank n → ⊥)
 
 pub stays_keeps : (f : Does Term) → Stays f → TermKeeps f
 stays_keeps f h pending s u t old e =
     let st = h s u t e in
-    let same : s.numbering.next ≡ u.numbering.next = ap (λ (x : State). x.numbering.next) st.0 in (
+    let same : s.numbering.next ≡ u.numbering.next = ap (λ (x : ParserState). x.numbering.next) st.0 in (
       beside t pending u (subst (Numbered pending) st.0 old),
       omega (arith, same),
       λ n b. absurd (st.1 n b),

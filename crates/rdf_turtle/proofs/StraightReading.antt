@@ -10,7 +10,6 @@ use Rattle.rdf_turtle.specs.declared.straight.Pending.TheVariants.{Nothing, Rela
 use Rattle.rdf_turtle.specs.declared.tree.Statement.{Statement}
 use Rattle.rdf_turtle.specs.Inside.Formed.{Formed}
 use Rattle.rdf_turtle.specs.Inside.Proper.{proper_statement}
-use Rattle.rdf_turtle.specs.Inside.Room.{longest}
 use Rattle.rdf_turtle.specs.Inside.Room as rooms
 use Rattle.rdf_turtle.specs.Known.{known_statement, declared_behind, declares_first}
 use Rattle.rdf_turtle.specs.Meaning as meaning
@@ -18,7 +17,7 @@ use Rattle.rdf_grammar.specs.Prologue as prologue
 use Rattle.rdf_grammar.specs.Readings.{is_more, one, repeat}
 use Rattle.rdf_turtle.specs.Inside.Reading.{node, statement, document}
 use Rattle.rdf_turtle.specs.Lexemes.{Lexemes}
-use Rattle.rdf_turtle.specs.State.{State, start}
+use Rattle.rdf_turtle.specs.ParserState.{ParserState, longest, start}
 use Rattle.rdf_grammar.specs.Steps.{and_then}
 use Rattle.rdf_turtle.specs.Inside.Turns.{IfNothing, Becomes, Said, Turn, Leaves, Turns, Tells, Stops, StopsWith}
 use Rattle.rdf_turtle.proofs.BaseTrees.{statement_of_formed}
@@ -28,26 +27,26 @@ use Rattle.rdf_turtle.proofs.GrammarWhole.{found_within}
 
 -- ---- what was said, behind statements that leave these prefixes
 
-pub record Saying (before : State) (whole now : Lexemes) (state : State) (declared : List (List ℕ)) (tree : List Statement) : Type 0 where
+pub record Saying (before : ParserState) (whole now : Lexemes) (state : ParserState) (declared : List (List ℕ)) (tree : List Statement) : Type 0 where
   pub says : (ss : List Statement) → meaning.document (tree ++ ss) before ≡ meaning.document ss state
   pub known : (ss : List Statement) → declares_first [] (tree ++ ss) ≡ declares_first declared ss
   pub prefixes : declared ≡ prologue.declared state.prologue
   pub room : state.numbering.next + length now ≤ length state.quads + length whole
 
-pub record Lacking (before : State) (declared : List (List ℕ)) (tree : List Statement) : Type 0 where
+pub record Lacking (before : ParserState) (declared : List (List ℕ)) (tree : List Statement) : Type 0 where
   pub fails : (ss : List Statement) → meaning.document (tree ++ ss) before ≡ None
   pub known : (ss : List Statement) → declares_first [] (tree ++ ss) ≡ declares_first declared ss
 
 pub record Unbound (tree : List Statement) : Type 0 where
   pub unknown : (ss : List Statement) → declares_first [] (tree ++ ss) ≡ false
 
-abbrev pub SoFar : Pending → State → Lexemes → Lexemes → State → List (List ℕ) → List Statement → Type 0
+abbrev pub SoFar : Pending → ParserState → Lexemes → Lexemes → ParserState → List (List ℕ) → List Statement → Type 0
 SoFar Nothing before whole now state declared tree = Saying before whole now state declared tree
 SoFar Relative before whole now state declared tree = Lacking before declared tree
 SoFar UnknownPrefix before whole now state declared tree = Unbound tree
 
 -- The lexemes but for those that are left were read as statements, and this is pending behind them.
-pub record Read (depth : ℕ) (before : State) (whole now : Lexemes) (pending : Pending) (state : State) (declared : List (List ℕ)) : Type 0 where
+pub record Read (depth : ℕ) (before : ParserState) (whole now : Lexemes) (pending : Pending) (state : ParserState) (declared : List (List ℕ)) : Type 0 where
   pub tree : List Statement
   pub going : Going is_more (one (statement (node depth) (node (depth + 1)))) (document depth whole) tree now
   pub formed : AllByRecursion Formed now
@@ -61,7 +60,7 @@ going_first depth whole =
     subst (λ (n : ℕ). Going is_more (one (statement (node depth) (node n))) (repeat is_more (one (statement (node depth) (node (suc depth)))) whole) [] whole) (sym (add-one depth))
     (going_starts is_more (one (statement (node depth) (node (suc depth)))) whole)
 
-pub read_starts : (depth : ℕ) (before : State) (whole : Lexemes) (declared : List (List ℕ)) → AllByRecursion Formed whole → prologue.declared before.prologue ≡ [] → before.numbering.next ≤ length before.quads
+pub read_starts : (depth : ℕ) (before : ParserState) (whole : Lexemes) (declared : List (List ℕ)) → AllByRecursion Formed whole → prologue.declared before.prologue ≡ [] → before.numbering.next ≤ length before.quads
     → declared ≡ [] → Read depth before whole whole Nothing before declared
 read_starts depth before whole declared formed none room p =
     let first : Read depth before whole whole Nothing before [] = record {
@@ -101,7 +100,7 @@ unknown_on declared tree s h known = record {
   unknown = λ ss. ap (declares_first []) (append_assoc tree (s ∷ []) ss) ∙ h (s ∷ ss) ∙ unknown_behind s ss declared known;
 }
 
-so_far_on : (before : State) (whole now then : Lexemes) (pending later : Pending) (state u : State) (declared more : List (List ℕ)) (tree : List Statement) (s : Statement)
+so_far_on : (before : ParserState) (whole now then : Lexemes) (pending later : Pending) (state u : ParserState) (declared more : List (List ℕ)) (tree : List Statement) (s : Statement)
     → length then < length now → SoFar pending before whole now state declared tree → Becomes pending later s state u declared more → SoFar later before whole then u more (tree ++ s ∷ [])
 so_far_on before whole now then Nothing Nothing state u declared more tree s less r b = record {
   says = λ ss. ap (λ (l : List Statement). meaning.document l before) (append_assoc tree (s ∷ []) ss) ∙ r.says (s ∷ ss) ∙ ap (λ o. and_then o (λ _. meaning.document ss)) b.says;
@@ -126,7 +125,7 @@ so_far_on before whole now then UnknownPrefix UnknownPrefix state u declared mor
   unknown = one_more tree s (λ (l : List Statement). declares_first [] l ≡ false) r.unknown;
 }
 
-pub read_on : {depth : ℕ} {before : State} {whole now then : Lexemes} {pending later : Pending} {state u : State} {declared more : List (List ℕ)}
+pub read_on : {depth : ℕ} {before : ParserState} {whole now then : Lexemes} {pending later : Pending} {state u : ParserState} {declared more : List (List ℕ)}
     → Read depth before whole now pending state declared → is_more now ≡ true → Turn depth now then pending later state u declared more → Read depth before whole then later u more
 read_on {depth = depth} {before = before} {whole = whole} {now = now} {then = then} {pending = pending} {later = later} {state = state} {u = u} {declared = declared} {more = more} r is_left t =
     let s = t.tree in
@@ -139,13 +138,13 @@ read_on {depth = depth} {before = before} {whole = whole} {now = now} {then = th
 
 -- ---- what a turn wants
 
-known_so_far : (pending : Pending) (before : State) (whole now : Lexemes) (state : State) (declared : List (List ℕ)) (tree : List Statement)
+known_so_far : (pending : Pending) (before : ParserState) (whole now : Lexemes) (state : ParserState) (declared : List (List ℕ)) (tree : List Statement)
     → SoFar pending before whole now state declared tree → IfNothing pending (declared ≡ prologue.declared state.prologue)
 known_so_far Nothing before whole now state declared tree r = r.prefixes
 known_so_far Relative before whole now state declared tree r = tt
 known_so_far UnknownPrefix before whole now state declared tree r = tt
 
-pub read_known : {depth : ℕ} {before : State} {whole now : Lexemes} {pending : Pending} {state : State} {declared : List (List ℕ)} → Read depth before whole now pending state declared
+pub read_known : {depth : ℕ} {before : ParserState} {whole now : Lexemes} {pending : Pending} {state : ParserState} {declared : List (List ℕ)} → Read depth before whole now pending state declared
     → IfNothing pending (declared ≡ prologue.declared state.prologue)
 read_known {before = before} {whole = whole} {now = now} {pending = pending} {state = state} {declared = declared} r = known_so_far pending before whole now state declared r.tree r.so_far
 
@@ -154,13 +153,13 @@ some_left : (now : Lexemes) → is_more now ≡ true → 1 ≤ length now
 some_left [] e = absurd (cc)
 some_left (t ∷ ts) e = omega arith
 
-room_so_far : (pending : Pending) (before : State) (whole now : Lexemes) (state : State) (declared : List (List ℕ)) (tree : List Statement)
+room_so_far : (pending : Pending) (before : ParserState) (whole now : Lexemes) (state : ParserState) (declared : List (List ℕ)) (tree : List Statement)
     → 1 ≤ length now → length whole ≤ longest → SoFar pending before whole now state declared tree → IfNothing pending (rooms.HasRoom 1 state)
 room_so_far Nothing before whole now state declared tree some fits r = omega (arith, r.room, some, fits)
 room_so_far Relative before whole now state declared tree some fits r = tt
 room_so_far UnknownPrefix before whole now state declared tree some fits r = tt
 
-pub read_room : {depth : ℕ} {before : State} {whole now : Lexemes} {pending : Pending} {state : State} {declared : List (List ℕ)} → Read depth before whole now pending state declared
+pub read_room : {depth : ℕ} {before : ParserState} {whole now : Lexemes} {pending : Pending} {state : ParserState} {declared : List (List ℕ)} → Read depth before whole now pending state declared
     → is_more now ≡ true → length whole ≤ longest → IfNothing pending (rooms.HasRoom 1 state)
 read_room {before = before} {whole = whole} {now = now} {pending = pending} {state = state} {declared = declared} r is_left fits =
     room_so_far pending before whole now state declared r.tree (some_left now is_left) fits r.so_far
@@ -170,7 +169,7 @@ if_nothing {P = P} pending e h = subst (λ (p : Pending). IfNothing p P) e h
 
 -- ---- where reading ends
 
-leaves_so_far : (pending : Pending) (before : State) (whole now : Lexemes) (state : State) (declared : List (List ℕ)) (tree : List Statement)
+leaves_so_far : (pending : Pending) (before : ParserState) (whole now : Lexemes) (state : ParserState) (declared : List (List ℕ)) (tree : List Statement)
     → SoFar pending before whole now state declared tree → Leaves pending tree before state
 leaves_so_far Nothing before whole now state declared tree r = (
   ap (declares_first []) (sym (append-nil tree)) ∙ r.known [],
@@ -182,7 +181,7 @@ leaves_so_far Relative before whole now state declared tree r = (
 )
 leaves_so_far UnknownPrefix before whole now state declared tree r = ap (declares_first []) (sym (append-nil tree)) ∙ r.unknown []
 
-pub read_done : {depth : ℕ} {before : State} {whole now : Lexemes} {pending : Pending} {state : State} {declared : List (List ℕ)} → Read depth before whole now pending state declared
+pub read_done : {depth : ℕ} {before : ParserState} {whole now : Lexemes} {pending : Pending} {state : ParserState} {declared : List (List ℕ)} → Read depth before whole now pending state declared
     → is_more now ≡ false → Turns depth whole pending before state
 read_done {depth = depth} {before = before} {whole = whole} {now = now} {pending = pending} {state = state} {declared = declared} r no_more_left = record {
   tree = r.tree;
@@ -200,7 +199,7 @@ stops_by depth whole now tree fault.TooDeep g is_left h = h
 stops_by depth whole now tree fault.UnknownPrefix g is_left h = h
 stops_by depth whole now tree fault.Relative g is_left h = h
 
-pub read_stops : {depth : ℕ} {before : State} {whole now : Lexemes} {pending : Pending} {state : State} {declared : List (List ℕ)} (kind : TurtleFaultKind) → Read depth before whole now pending state declared
+pub read_stops : {depth : ℕ} {before : ParserState} {whole now : Lexemes} {pending : Pending} {state : ParserState} {declared : List (List ℕ)} (kind : TurtleFaultKind) → Read depth before whole now pending state declared
     → is_more now ≡ true → Stops (statement (node depth) (node (depth + 1)) now) kind → Stops (document depth whole) kind
 read_stops {depth = depth} {whole = whole} {now = now} kind r is_left h = stops_by depth whole now r.tree kind r.going is_left h
 
@@ -216,7 +215,7 @@ stops_with depth lexemes base fault.TooDeep h = h
 -- ---- what is answered
 
 -- what is said from the start is the answer
-pub said_answers : (depth : ℕ) (base b : Option (List ℕ)) (lexemes : Lexemes) (before behind : State) (quads : List QuadParts)
+pub said_answers : (depth : ℕ) (base b : Option (List ℕ)) (lexemes : Lexemes) (before behind : ParserState) (quads : List QuadParts)
     → Turns depth lexemes Nothing before behind → before ≡ start b → b ≡ base → quads ≡ behind.quads → Tells depth lexemes base (Ok quads)
 unfolding meaning.triples_of
 said_answers depth base b lexemes before behind quads t s e q =
@@ -224,7 +223,7 @@ said_answers depth base b lexemes before behind quads t s e q =
     let known = t.leaves.0 in
     record { tree = t.tree; reads = t.reads; answers = rw (known, said, q) refl }
 
-pub lacking_answers : (depth : ℕ) (base b : Option (List ℕ)) (lexemes : Lexemes) (before behind : State)
+pub lacking_answers : (depth : ℕ) (base b : Option (List ℕ)) (lexemes : Lexemes) (before behind : ParserState)
     → Turns depth lexemes Relative before behind → before ≡ start b → b ≡ base → Tells depth lexemes base (Err fault.Relative)
 unfolding meaning.triples_of
 lacking_answers depth base b lexemes before behind t s e =
@@ -232,15 +231,15 @@ lacking_answers depth base b lexemes before behind t s e =
     let known = t.leaves.0 in
     record { tree = t.tree; reads = t.reads; answers = rw (known, fails) refl }
 
-pub unbound_answers : (depth : ℕ) (base : Option (List ℕ)) (lexemes : Lexemes) (before behind : State)
+pub unbound_answers : (depth : ℕ) (base : Option (List ℕ)) (lexemes : Lexemes) (before behind : ParserState)
     → Turns depth lexemes UnknownPrefix before behind → Tells depth lexemes base (Err fault.UnknownPrefix)
 unbound_answers depth base lexemes before behind t =
     let unknown = t.leaves in
     record { tree = t.tree; reads = t.reads; answers = rw unknown refl }
 
 -- a statement that has no meaning lacks a base where its prefixes are declared
-pub look_lacking : {E : Type 0} (r : Result Pending E) (tree : Statement) (before behind : State) (declared more : List (List ℕ))
-    → IfOk r (λ later. (s u : State) → Becomes Relative later tree s u declared more) → meaning.statement tree before ≡ None
+pub look_lacking : {E : Type 0} (r : Result Pending E) (tree : Statement) (before behind : ParserState) (declared more : List (List ℕ))
+    → IfOk r (λ later. (s u : ParserState) → Becomes Relative later tree s u declared more) → meaning.statement tree before ≡ None
     → IfOk r (λ later. Becomes Nothing later tree before behind declared more)
 look_lacking (Ok Nothing) tree before behind declared more h e = absurd (h before behind)
 look_lacking (Ok Relative) tree before behind declared more h e = let k = h before behind in (k.0, k.1, e)

@@ -39,7 +39,7 @@ use Rattle.rdf_turtle.specs.Meaning.{Meaning, Says, only, iri, verb, literal, ob
 use Rattle.rdf_turtle.specs.Grammar.{property_with}
 use Rattle.rdf_grammar.specs.Prologue.{resolved}
 use Rattle.rdf_grammar.specs.References.{resolve}
-use Rattle.rdf_turtle.specs.State.{State, Does, start, labelled, triple, says}
+use Rattle.rdf_turtle.specs.ParserState.{ParserState, Does, start, labelled, triple, says}
 use Rattle.rdf_grammar.specs.Steps.{◌>>=◌, ◌>>◌, ◌<$>◌, each}
 use Rattle.rdf_tokens.specs.Values.{iri_value, text_value, tag_value}
 use Rattle.rdf_turtle.specs.WrittenLaws.{IsDefaultQuad}
@@ -57,7 +57,7 @@ resolves base i h =
     let e : iri_value (iri_slice i) ≡ i = sym (iri_value_is (iri_slice i) i (iri_form i h)) in
     rw (e, iri_allowed i h, iri_scheme i h) refl
 
-iri_goes : (i : List ℕ) (st : State) → is_iri i ≡ true → iri (Full (iri_slice i)) st ≡ Some (i, st)
+iri_goes : (i : List ℕ) (st : ParserState) → is_iri i ≡ true → iri (Full (iri_slice i)) st ≡ Some (i, st)
 unfolding iri resolved
 iri_goes i st h = rw (resolves st.prologue.base i h) refl
 
@@ -77,7 +77,7 @@ literal_term lexical datatype tag = t.Literal (record { lexical = lexical; datat
 abbrev literal_term_of : Literal → Does Term
 literal_term_of w = t.Literal <$> literal w
 
-tagged_goes : (lexical datatype tag : List ℕ) (st : State) → IsUtf8 lexical → tag_fits datatype (Some tag) ≡ true
+tagged_goes : (lexical datatype tag : List ℕ) (st : ParserState) → IsUtf8 lexical → tag_fits datatype (Some tag) ≡ true
     → literal_term_of (l.Tagged (text_slice lexical) (tag_slice tag)) st ≡ Some (literal_term lexical datatype (Some tag), st)
 unfolding literal literal_of
 tagged_goes lexical datatype tag st u k =
@@ -86,7 +86,7 @@ tagged_goes lexical datatype tag st u k =
     λ i. literal_term (text_is lexical u i) (sym p.0 i) (Some (lower_stays tag p.2 i)) in
     rw (tag_is tag p.1, p.1) (ap (λ (x : Term). Some (x, st)) same)
 
-datatype_goes : (b : Bool) (lexical datatype : List ℕ) (st : State) → IsUtf8 lexical → is_iri datatype ≡ true → pointwise nat_eq datatype xsd_string ≡ b
+datatype_goes : (b : Bool) (lexical datatype : List ℕ) (st : ParserState) → IsUtf8 lexical → is_iri datatype ≡ true → pointwise nat_eq datatype xsd_string ≡ b
     → literal_term_of (datatype_tree b lexical datatype) st ≡ Some (literal_term lexical datatype None, st)
 unfolding literal literal_of resolved
 datatype_goes true lexical datatype st u h is =
@@ -95,7 +95,7 @@ datatype_goes true lexical datatype st u h is =
     ap (λ (x : Term). Some (x, st)) same
 datatype_goes false lexical datatype st u h is = rw (resolves st.prologue.base datatype h, text_is lexical u) refl
 
-literal_goes : (lexical datatype : List ℕ) (tag : Option (List ℕ)) (st : State) → IsUtf8 lexical → is_iri datatype ≡ true → tag_fits datatype tag ≡ true
+literal_goes : (lexical datatype : List ℕ) (tag : Option (List ℕ)) (st : ParserState) → IsUtf8 lexical → is_iri datatype ≡ true → tag_fits datatype tag ≡ true
     → literal_term_of (literal_tree lexical datatype tag) st ≡ Some (literal_term lexical datatype tag, st)
 literal_goes lexical datatype (Some tag) st u h k = tagged_goes lexical datatype tag st u k
 literal_goes lexical datatype None st u h k = datatype_goes (pointwise nat_eq datatype xsd_string) lexical datatype st u h refl
@@ -126,16 +126,16 @@ node_means (t.Iri i) = by-Name node_of property_of (Full (iri_slice i))
 node_means (t.Literal w) = by-Literal node_of property_of (literal_tree w.lexical w.datatype w.tag)
 
 -- a term stands for itself, and no triple is said
-record Goes (x : Term) (before : State) (m : ℕ) : Type 0 where
-  after : State
+record Goes (x : Term) (before : ParserState) (m : ℕ) : Type 0 where
+  after : ParserState
   goes : means x before ≡ Some (x, after)
   names : Names after m
   same : after.quads ≡ before.quads
 
-unmoved : (x : Term) (st : State) (n m : ℕ) → means x st ≡ Some (x, st) → n ≡ m → Names st n → Goes x st m
+unmoved : (x : Term) (st : ParserState) (n m : ℕ) → means x st ≡ Some (x, st) → n ≡ m → Names st n → Goes x st m
 unmoved x st n m e is names = record { after = st; goes = e; names = subst (Names st) is names; same = refl }
 
-term_goes : (x : Term) (st : State) (n m : ℕ) → is_term x ≡ true → Names st n → Follows n (blanks_in x) m → Goes x st m
+term_goes : (x : Term) (st : ParserState) (n m : ℕ) → is_term x ≡ true → Names st n → Follows n (blanks_in x) m → Goes x st m
 term_goes (t.Blank number) st n m h names f =
     let g = label_goes number n m st (ltb-true number 18446744073709551616 h) names f in
     record { after = g.0; goes = g.1; names = g.2; same = g.3 }
@@ -168,31 +168,31 @@ statement_means q =
     statement_about (tree.node_of q.subject) (property_with (verb_of q.predicate) (tree.node_of q.object ∷ []))
     ∙ λ i. about (node_means q.subject i) (property_means (verb_of q.predicate) q.object i ∷ [])
 
-abbrev grown : State → Quad → State
+abbrev grown : ParserState → Quad → ParserState
 grown st q = record st { quads = st.quads ++ q ∷ [] }
 
-says_goes : (subject : Term) (p : List ℕ) (object : Term) (st : State) → has_right_kinds (triple subject p object) ≡ true
+says_goes : (subject : Term) (p : List ℕ) (object : Term) (st : ParserState) → has_right_kinds (triple subject p object) ≡ true
     → says subject p object st ≡ Some (tt, grown st (triple subject p object))
 unfolding says
 says_goes subject p object st h = rw h refl
 
-verb_goes : (i : List ℕ) (st : State) → is_iri i ≡ true → verb (v.Name (Full (iri_slice i))) st ≡ Some (i, st)
+verb_goes : (i : List ℕ) (st : ParserState) → is_iri i ≡ true → verb (v.Name (Full (iri_slice i))) st ≡ Some (i, st)
 unfolding verb
 verb_goes i st h = iri_goes i st h
 
-about_goes : (x : Term) (i : List ℕ) (y : Term) (a b c : State) → means x a ≡ Some (x, b) → is_iri i ≡ true → means y b ≡ Some (y, c) → has_right_kinds (triple x i y) ≡ true
+about_goes : (x : Term) (i : List ℕ) (y : Term) (a b c : ParserState) → means x a ≡ Some (x, b) → is_iri i ≡ true → means y b ≡ Some (y, c) → has_right_kinds (triple x i y) ≡ true
     → about (only (means x)) (saying (v.Name (Full (iri_slice i))) (only (means y)) ∷ []) a ≡ Some (tt, grown c (triple x i y))
 unfolding object
 about_goes x i y a b c first h second k = rw (first, verb_goes i b h, second, says_goes x i y c k) refl
 
 -- a triple is said, and no other
-record Said (q : Quad) (before : State) (m : ℕ) : Type 0 where
-  after : State
+record Said (q : Quad) (before : ParserState) (m : ℕ) : Type 0 where
+  after : ParserState
   goes : statement (statement_of q) before ≡ Some (tt, after)
   names : Names after m
   more : after.quads ≡ before.quads ++ q ∷ []
 
-statement_goes : (q : Quad) (st : State) (n m : ℕ) → QuadTests q → q.graph ≡ Default → Names st n → Follows n (blanks_of q) m → Said q st m
+statement_goes : (q : Quad) (st : ParserState) (n m : ℕ) → QuadTests q → q.graph ≡ Default → Names st n → Follows n (blanks_of q) m → Said q st m
 statement_goes q st n m h d names f = by q.predicate refl
   where
     by : (p : Term) → q.predicate ≡ p → Said q st m
@@ -218,8 +218,8 @@ statement_goes q st n m h d names f = by q.predicate refl
 
 -- ---- documents
 
-document_goes : (quads : List Quad) (st : State) (n m : ℕ) → AllByRecursion IsDefaultQuad quads → Names st n → Follows n (flat_map blanks_of quads) m
-    → (u : State) × (document (map statement_of quads) st ≡ Some (tt, u)) × (u.quads ≡ st.quads ++ quads)
+document_goes : (quads : List Quad) (st : ParserState) (n m : ℕ) → AllByRecursion IsDefaultQuad quads → Names st n → Follows n (flat_map blanks_of quads) m
+    → (u : ParserState) × (document (map statement_of quads) st ≡ Some (tt, u)) × (u.quads ≡ st.quads ++ quads)
 document_goes [] st n m h names f = (st, refl, sym (append-nil st.quads))
 document_goes (q ∷ quads) st n m h names f =
     let parts = follows_split (blanks_of q) (flat_map blanks_of quads) n m f in

@@ -13,7 +13,7 @@ use Rattle.rdf_terms.specs.Blanks.{AreNumberedInOrder, blanks_of}
 use Rattle.rdf_terms.proofs.WrittenNumberLemmas.{blank_ascii}
 use Rattle.rdf_grammar.specs.Keys.{key_of, same_key}
 use Rattle.rdf_grammar.proofs.KeyEntries.{found, kept}
-use Rattle.rdf_turtle.specs.State.{State, start, labelled}
+use Rattle.rdf_turtle.specs.ParserState.{ParserState, start, labelled}
 use Rattle.rdf_turtle.proofs.WrittenTerms.{label_slice}
 
 -- ---- numbers in order
@@ -63,7 +63,7 @@ keys_apart m n h k apart e = apart (decimal_injective m n h k (ap (λ (t : List 
 -- ---- states
 
 -- The labels of the numbers below n are known by these numbers, and no others.
-pub record Names (s : State) (n : ℕ) : Type 0 where
+pub record Names (s : ParserState) (n : ℕ) : Type 0 where
   pub next : s.numbering.next ≡ n
   pub known : (k : ℕ) → k < 2 ^ 64 → k < n → lookup (same_key (key k)) s.numbering.labels ≡ Some k
   pub new : (k : ℕ) → k < 2 ^ 64 → n ≤ k → lookup (same_key (key k)) s.numbering.labels ≡ None
@@ -73,7 +73,7 @@ starts base = record { next = refl; known = λ k h l. absurd (omega (arith, l));
 
 -- ---- the blank node of a label
 
-pub label_goes : (k n m : ℕ) (s : State) → k < 2 ^ 64 → Names s n → Follows n (k ∷ []) m → (u : State) × (labelled (key k) s ≡ Some (Blank k, u)) × Names u m × (u.quads ≡ s.quads)
+pub label_goes : (k n m : ℕ) (s : ParserState) → k < 2 ^ 64 → Names s n → Follows n (k ∷ []) m → (u : ParserState) × (labelled (key k) s ≡ Some (Blank k, u)) × Names u m × (u.quads ≡ s.quads)
 unfolding labelled
 label_goes k n m s low names (inl h) =
     let is : n ≡ m = h.1 in
@@ -89,7 +89,7 @@ label_goes k n m s low names (inr h) =
     let here : k ≡ n = h.0 in
     let behind : n + 1 ≡ m = h.1 in
     let own : s.numbering.next ≡ k = names.next ∙ sym here in
-    let u : State = record s { numbering = record { labels = insert_entry same_key s.numbering.labels (key k) s.numbering.next; next = s.numbering.next + 1 } } in (
+    let u : ParserState = record s { numbering = record { labels = insert_entry same_key s.numbering.labels (key k) s.numbering.next; next = s.numbering.next + 1 } } in (
       u,
       rw (names.new k low (omega (arith, here))) (ap (λ (j : ℕ). Some (Blank j, u)) own),
       record {

@@ -13,8 +13,8 @@ pub mod Leaves
 pub mod Lexemes
 pub mod Meaning
 pub mod Nesting
+pub mod ParserState
 pub mod ReadBack
-pub mod State
 pub mod Terminals
 pub mod TokenFaults
 pub mod WrittenLaws

@@ -23,7 +23,7 @@ use Rattle.rdf_grammar.specs.Keys.{key_of}
 use Rattle.rdf_grammar.specs.Literals.{literal_of}
 use Rattle.rdf_grammar.specs.Prologue.{iri_of, resolved, declares, moves_base}
 use Rattle.rdf_grammar.specs.Steps.{◌>>=◌, ◌>>◌, ◌<$>◌, pure, none, each}
-use Rattle.rdf_turtle.specs.State.{Does, start, told, declared, fresh, labelled, says}
+use Rattle.rdf_turtle.specs.ParserState.{Does, start, told, declared, fresh, labelled, says}
 
 -- ---- IRIs and literals
 

@@ -12,7 +12,8 @@ ghost use Rattle.rdf_turtle.specs.Inside.Walks.{IsShallow};
 use crate::fault::{TurtleFault, TurtleFaultKind, fault_at};
 use crate::faulty_name::{first_lacking, first_unbound};
 use crate::lexeme::Parser;
-use crate::straight::quads_of;
+use crate::sink::TripleSink;
+use crate::straight::triples_of;
 use crate::survey::{start_of, survey};
 use rdf_grammar::MAX_OPEN;
 use rdf_terms::{Iri, NoMemory, Quad};
@@ -45,16 +46,20 @@ fn told(alloc: Global, text: &str, based: bool, kind: TurtleFaultKind) -> Turtle
     }
 }
 
-// The quads of a text that was surveyed, or its fault. It says Syntax where it stopped.
-fn read_surveyed(alloc: Global, text: &str, base: Option<&Iri>) -> Result<Vec<Quad>, TurtleFault>
+// The triples of a text that was surveyed, or its fault. It says Syntax where it stopped.
+fn read_surveyed<S: TripleSink>(
+    alloc: Global,
+    text: &str,
+    base: Option<&Iri>,
+) -> Result<S, TurtleFault>
     requires { IsShallow text.now }
     ensures { MatchResult result
-        (λ quads. IsDocument (option_copied base.entry) text.now quads.items)
+        (λ sink. IsDocument (option_copied base.entry) text.now (S.taken sink))
         (λ fault. TellsFault (option_copied base.entry) text.now fault fault.kind) }
 {
     let mut parser = Parser::over(alloc, text);
-    match quads_of(&mut parser, base, MAX_OPEN) {
-        Ok(quads) => Ok(quads),
+    match triples_of(&mut parser, base, MAX_OPEN) {
+        Ok(sink) => Ok(sink),
         Err(kind) => match kind {
             TurtleFaultKind::Syntax => {
                 let all = Parser::over(alloc, text).left();
@@ -66,17 +71,17 @@ fn read_surveyed(alloc: Global, text: &str, base: Option<&Iri>) -> Result<Vec<Qu
     }
 }
 
-// The quads of a text that is UTF-8, or its first fault. Only where the text may be no document, or have 100
+// The triples of a text that is UTF-8, or its first fault. Only where the text may be no document, or have 100
 // brackets open at once, is it surveyed and read once more: a fault of its tokens goes before.
-fn read_text(alloc: Global, text: &str, base: Option<&Iri>) -> Result<Vec<Quad>, TurtleFault>
+fn read_text<S: TripleSink>(alloc: Global, text: &str, base: Option<&Iri>) -> Result<S, TurtleFault>
     requires { IsUtf8 text.now }
     ensures { MatchResult result
-        (λ quads. IsDocument (option_copied base.entry) text.now quads.items)
+        (λ sink. IsDocument (option_copied base.entry) text.now (S.taken sink))
         (λ fault. TellsFault (option_copied base.entry) text.now fault fault.kind) }
 {
     let mut parser = Parser::over(alloc, text);
-    match quads_of(&mut parser, base, MAX_OPEN - 1) {
-        Ok(quads) => Ok(quads),
+    match triples_of(&mut parser, base, MAX_OPEN - 1) {
+        Ok(sink) => Ok(sink),
         Err(kind) => match kind {
             TurtleFaultKind::Syntax => match survey(text) {
                 Ok(()) => read_surveyed(alloc, text, base),
@@ -103,6 +108,23 @@ pub fn read_turtle(
 ) -> Result<Vec<Quad>, TurtleFault>
     ensures { MatchResult result
         (λ quads. IsDocument (option_copied base.entry) bytes.now quads.items)
+        (λ fault. TellsFault (option_copied base.entry) bytes.now fault fault.kind) }
+{
+    read_turtle_into(alloc, bytes, base)
+}
+
+/// A sink that has taken just the triples of a Turtle document, as [`read_turtle`] answers them. Of a
+/// faulty document none comes back.
+///
+/// # Errors
+/// Those of [`read_turtle`].
+pub fn read_turtle_into<S: TripleSink>(
+    alloc: Global,
+    bytes: &[u8],
+    base: Option<&Iri>,
+) -> Result<S, TurtleFault>
+    ensures { MatchResult result
+        (λ sink. IsDocument (option_copied base.entry) bytes.now (S.taken sink))
         (λ fault. TellsFault (option_copied base.entry) bytes.now fault fault.kind) }
 {
     match str::from_utf8(bytes) {

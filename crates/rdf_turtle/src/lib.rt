@@ -1,4 +1,4 @@
-//! Turtle: documents read as quads, and the tokens of a text.
+//! Turtle: documents read triple by triple or as quads, and the tokens of a text.
 #![tactic(auto)]
 
 mod document;
@@ -10,6 +10,7 @@ mod laws;
 mod lexeme;
 mod meaning;
 mod scope;
+mod sink;
 mod statement;
 mod straight;
 mod survey;
@@ -17,7 +18,7 @@ mod terminal;
 mod token_list;
 mod tree;
 
-pub use document::{one_meaning, read_turtle};
+pub use document::{one_meaning, read_turtle, read_turtle_into};
 pub use fault::{TurtleFault, TurtleFaultKind};
 pub use laws::{
     documents_are_read_back, documents_have_subjects, faulty_names_are_found, leaves_are_lexemes,
@@ -31,6 +32,7 @@ pub use rdf_tokens::{
     one_token_list, one_token_text, pnames_are_iris, pnames_have_parts, some_token_list,
     texts_have_values, token_text, tokens_have_forms,
 };
+pub use sink::TripleSink;
 pub use terminal::Terminal;
 pub use token_list::tokens;
 pub use tree::{Literal, Name, Node, Property, Statement, Verb};

@@ -14,6 +14,7 @@ ghost use Rattle.rdf_turtle.specs.Inside.Told.{Answers, known_leaf};
 ghost use Rattle.rdf_turtle.specs.Inside.Room.{HasRoom, TakesAtMost};
 
 use crate::scope::Scope;
+use crate::sink::TripleSink;
 use crate::tree::{Node, Property, Statement, Verb};
 use rdf_grammar::PrologueFault;
 use rdf_terms::{Iri, NoMemory, Term};
@@ -28,7 +29,7 @@ pub(crate) fn copied(base: Option<&Iri>) -> Result<Option<Iri>, NoMemory>
     }
 }
 
-impl<'a> Scope<'a> {
+impl<'a, S: TripleSink> Scope<'a, S> {
     #[tactic(auto, unfolding(crate::specs::Meaning::verb))]
     fn verb(&mut self, verb: &Verb<'a>) -> Result<Iri, PrologueFault>
         requires proper { IsTrue (proper.proper_verb verb.now) }

@@ -8,40 +8,44 @@ ghost use Rattle.rdf_grammar.specs.Prologue as prologue;
 ghost use Rattle.rdf_grammar.specs.Prologue.{declared, knows, is_proper};
 ghost use Rattle.rdf_turtle.specs.Inside.Room.{HasRoom, TakesAtMost};
 ghost use Rattle.rdf_turtle.specs.Inside.Told.{Answers};
-ghost use Rattle.rdf_turtle.specs.State as state;
+ghost use Rattle.rdf_turtle.specs.ParserState as state;
 
+use crate::sink::TripleSink;
 use crate::tree::{Literal as Written, Name};
 use rdf_grammar::{Numbering, Prologue, PrologueFault};
-use rdf_terms::{GraphName, Iri, Literal, NoMemory, Quad, Term, Vocabulary};
+use rdf_terms::{Iri, Literal, NoMemory, Term, Vocabulary};
 use rdf_tokens::Slice;
 use std::alloc::Global;
 use std::marker::Model;
 
-/// The prologue and the numbering, as the text so far leaves them, and the triples said so far.
+/// The prologue and the numbering, as the text so far leaves them, and what takes the triples that are said.
 #[derive(Drop)]
-pub(crate) struct Scope<'a> {
+pub(crate) struct Scope<'a, S: TripleSink> {
     pub(crate) alloc: Global,
     pub(crate) vocabulary: Vocabulary,
     pub(crate) prologue: Prologue<'a>,
     numbering: Numbering<'a>,
-    quads: Vec<Quad>,
+    sink: S,
 }
 
-impl<'a> Model for Scope<'a> {
-    ghost use Rattle.rdf_turtle.specs.State.{State};
+impl<'a, S: TripleSink> Model for Scope<'a, S> {
+    ghost use Rattle.std.specs.Prelude.{◌≤◌, length};
+    ghost use Rattle.rdf_turtle.specs.ParserState.{ParserState, longest};
 
-    ghost Value = { State };
+    ghost Value = { ParserState };
 
     ghost view = { λ s. record {
       prologue = s.prologue;
       numbering = s.numbering;
-      quads = s.quads.items;
+      quads = S.taken s.sink;
     } };
+
+    ghost invariant = { λ s. length (S.taken s.sink) ≤ longest };
 }
 
-impl<'a> Scope<'a> {
+impl<'a, S: TripleSink> Scope<'a, S> {
     /// Nothing is declared, and nothing said.
-    pub(crate) fn new(alloc: Global, base: Option<Iri>) -> Result<Scope<'a>, NoMemory>
+    pub(crate) fn new(alloc: Global, base: Option<Iri>) -> Result<Scope<'a, S>, NoMemory>
         ensures { IfOk result (λ scope. scope ≡ state.start base) }
     {
         let vocabulary = Vocabulary::new(alloc)?;
@@ -51,20 +55,20 @@ impl<'a> Scope<'a> {
             vocabulary,
             prologue,
             numbering: Numbering::new(alloc),
-            quads: Vec::new(alloc),
+            sink: S::empty(alloc),
         })
     }
 
-    /// The triples said.
-    pub(crate) fn into_quads(self) -> Vec<Quad>
-        ensures { result.items ≡ self.entry.quads }
+    /// What has taken the triples said.
+    pub(crate) fn into_sink(self) -> S
+        ensures { S.taken result ≡ self.entry.quads }
     {
-        let Scope { quads, .. } = self;
-        quads
+        let Scope { sink, .. } = self;
+        sink
     }
 
     /// A new blank node.
-    #[tactic(auto, unfolding(crate::specs::State::fresh))]
+    #[tactic(auto, unfolding(crate::specs::ParserState::fresh))]
     pub(crate) fn fresh(&mut self) -> Term
         requires room { HasRoom 0 self.old }
         ensures gives { state.fresh self.old ≡ Some (result, self.new) }
@@ -76,7 +80,7 @@ impl<'a> Scope<'a> {
     }
 
     /// The blank node of a label.
-    #[tactic(auto, unfolding(crate::specs::State::labelled))]
+    #[tactic(auto, unfolding(crate::specs::ParserState::labelled))]
     pub(crate) fn labelled(&mut self, label: &Slice<'a>) -> Result<Term, NoMemory>
         requires room { HasRoom 0 self.old }
         ensures gives { let step = state.labelled (key_of label.now) in
@@ -89,7 +93,7 @@ impl<'a> Scope<'a> {
     }
 
     /// Says a triple.
-    #[tactic(auto, unfolding(crate::specs::State::says))]
+    #[tactic(auto, unfolding(crate::specs::ParserState::says))]
     pub(crate) fn says(
         &mut self,
         subject: &Term,
@@ -103,13 +107,7 @@ impl<'a> Scope<'a> {
         ensures number { self.new.numbering ≡ self.old.numbering }
         ensures more { OnOk result (length self.new.quads ≡ length self.old.quads + 1) }
     {
-        let subject = subject.copy()?;
-        let predicate = Term::Iri(predicate.copy()?);
-        let Some(quad) = Quad::new(GraphName::Default, subject, predicate, object) else {
-            unreachable!()
-        };
-        self.quads.push(quad)?;
-        Ok(())
+        self.sink.take(subject, predicate, object)
     }
 
     /// The IRI of a name.

@@ -5,9 +5,9 @@ ghost use Rattle.std.specs.Option.{option_copied};
 ghost use Rattle.rdf_turtle.specs.Inside.Formed.{Formed};
 ghost use Rattle.rdf_grammar.specs.Prologue as prologue;
 ghost use Rattle.rdf_turtle.specs.Inside.Reading as spec;
-ghost use Rattle.rdf_turtle.specs.Inside.Room.{HasRoom, longest};
+ghost use Rattle.rdf_turtle.specs.Inside.Room.{HasRoom};
 ghost use Rattle.rdf_turtle.specs.Inside.Proper.{proper_statement};
-ghost use Rattle.rdf_turtle.specs.State.{State};
+ghost use Rattle.rdf_turtle.specs.ParserState.{ParserState, longest};
 ghost use Rattle.rdf_turtle.specs.declared.straight.Pending.TheVariants.{Nothing, Relative};
 ghost use Rattle.rdf_turtle.specs.Inside.Turns.{IfNothing, Becomes, Turn, Turns, Tells, Stops, StopsWith};
 
@@ -16,11 +16,12 @@ use crate::known::{declare, unknown_in};
 use crate::lexeme::Parser;
 use crate::meaning::copied;
 use crate::scope::Scope;
+use crate::sink::TripleSink;
 use crate::statement::statement;
 use crate::tree::Statement;
 use indexmap::IndexSet;
 use rdf_grammar::{Key, PrologueFault};
-use rdf_terms::{Iri, NoMemory, Quad};
+use rdf_terms::{Iri, NoMemory};
 
 /// What of the statements so far has no meaning. It is told behind the last statement, since a later one
 /// may have a fault that goes before it.
@@ -36,8 +37,8 @@ pub(crate) enum Pending {
 
 // Says the triples of a statement, or declares its prefix or base. Where one of its names has no IRI, a look at
 // its prefixes tells which fault that is.
-fn say<'a>(
-    scope: &mut Scope<'a>,
+fn say<'a, S: TripleSink>(
+    scope: &mut Scope<'a, S>,
     declared: &mut IndexSet<Key<'a>>,
     statement: &Statement<'a>,
 ) -> Result<Pending, NoMemory>
@@ -63,7 +64,7 @@ fn look<'a>(
     declared: &mut IndexSet<Key<'a>>,
     statement: &Statement<'a>,
 ) -> Result<Pending, NoMemory>
-    ensures { IfOk result (λ later. (before behind : State) → Becomes Relative later
+    ensures { IfOk result (λ later. (before behind : ParserState) → Becomes Relative later
         statement.now before behind declared.old.keys declared.new.keys) }
 {
     let known = unknown_in(declared, statement).is_none();
@@ -76,8 +77,8 @@ fn look<'a>(
 }
 
 // What is pending behind a statement. It is said as long as nothing is.
-fn behind<'a>(
-    scope: &mut Scope<'a>,
+fn behind<'a, S: TripleSink>(
+    scope: &mut Scope<'a, S>,
     declared: &mut IndexSet<Key<'a>>,
     pending: Pending,
     statement: &Statement<'a>,
@@ -97,9 +98,9 @@ fn behind<'a>(
 
 // Reads the next statement, and says it where nothing is pending. A bracket around nothing may be one
 // deeper than one around something.
-fn turn<'a>(
+fn turn<'a, S: TripleSink>(
     parser: &mut Parser<'_, 'a>,
-    scope: &mut Scope<'a>,
+    scope: &mut Scope<'a, S>,
     declared: &mut IndexSet<Key<'a>>,
     pending: Pending,
     depth: usize,
@@ -118,9 +119,9 @@ fn turn<'a>(
 }
 
 // Reads one statement after the other, to the end of the lexemes.
-fn turns<'a>(
+fn turns<'a, S: TripleSink>(
     parser: &mut Parser<'_, 'a>,
-    scope: &mut Scope<'a>,
+    scope: &mut Scope<'a, S>,
     depth: usize,
 ) -> Result<Pending, TurtleFaultKind>
     requires depth { depth ≤ 100 }
@@ -140,30 +141,30 @@ fn turns<'a>(
     Ok(pending)
 }
 
-/// The quads of the document that the lexemes are, with so many brackets inside one another at most, or
-/// one more around nothing. Nothing of them is held but the statement that is read: its tree is let go
-/// when its triples are said.
+/// A sink with the triples of the document that the lexemes are, with so many brackets inside one another at
+/// most, or one more around nothing. Nothing of them is held but the statement that is read: its tree is let
+/// go when its triples are said.
 ///
 /// # Errors
 /// `Syntax` where they are no such document, and the parser is where that is seen; else `UnknownPrefix`
 /// where a prefix is used that isn't declared before; else `Relative` where a relative reference has no
 /// base; `NoMemory` where memory is wanting.
-pub(crate) fn quads_of(
+pub(crate) fn triples_of<S: TripleSink>(
     parser: &mut Parser<'_, '_>,
     base: Option<&Iri>,
     depth: usize,
-) -> Result<Vec<Quad>, TurtleFaultKind>
+) -> Result<S, TurtleFaultKind>
     requires depth { depth ≤ 100 }
     requires formed { AllByRecursion Formed parser.old }
     requires fits { length parser.old ≤ longest }
     ensures { MatchResult result
-        (λ quads. Tells depth parser.old (option_copied base.entry) (Ok quads.items))
+        (λ sink. Tells depth parser.old (option_copied base.entry) (Ok (S.taken sink)))
         (λ kind. StopsWith depth parser.old (option_copied base.entry) kind) }
 {
     let base = copied(base)?;
     let mut scope = Scope::new(parser.alloc(), base)?;
     match turns(parser, &mut scope, depth)? {
-        Pending::Nothing => Ok(scope.into_quads()),
+        Pending::Nothing => Ok(scope.into_sink()),
         Pending::Relative => Err(TurtleFaultKind::Relative),
         Pending::UnknownPrefix => Err(TurtleFaultKind::UnknownPrefix),
     }

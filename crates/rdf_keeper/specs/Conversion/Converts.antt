@@ -1,5 +1,5 @@
 -- What a conversion writes (RDF 1.1 N-Quads, sections 2 and 4): the canonical lines of a document's statements, in their order.
-use Rattle.std.specs.Prelude.{◌≡◌, ◌≢◌, ◌⊎◌, ℕ, Bool, true, false, ◌||◌, not, List, [], ◌∷◌, ◌++◌, if◌then◌else◌, Option, Some, None, Result, Ok, Err}
+use Rattle.std.specs.Prelude.{◌≡◌, ◌≢◌, ℕ, Bool, true, false, ◌||◌, not, List, [], ◌∷◌, ◌++◌, if◌then◌else◌, Option, Some, None, Result, Ok, Err}
 use Rattle.std.specs.List.{flat_map}
 use Rattle.std.specs.Io.KnownBytes.{Consumes}
 use Rattle.rdf_lines.specs.declared.fault.LineFault.{LineFault}
@@ -59,9 +59,8 @@ ConvertsTurtle base text out (Err Read) = out ≡ []
 -- A write failed: a proper front of the lines of its quads.
 ConvertsTurtle base text out (Err Write) =
     (quads : List Quad) × (more : List ℕ) × turtle.IsDocument base text quads × (lines_of quads ≡ out ++ more) × (more ≢ [])
--- Memory was wanting, before all was read: nothing; or behind that: the lines of the first quads.
-ConvertsTurtle base text out (Err (NoMemory _)) =
-    (out ≡ []) ⊎ ((quads others : List Quad) × turtle.IsDocument base text (quads ++ others) × (out ≡ lines_of quads))
+-- Memory was wanting: nothing.
+ConvertsTurtle base text out (Err (NoMemory _)) = out ≡ []
 
 -- What is written of a text in a format, against a base IRI for which the line formats don't ask, of which this is left unread,
 -- and how it ends.

@@ -4,22 +4,12 @@ use Rattle.std.specs.Io.KnownBytes.{Appends}
 use Rattle.rdf_lines.specs.declared.fault.LineFault.{LineFault}
 use Rattle.rdf_lines.specs.declared.fault.FaultKind.{FaultKind}
 use Rattle.rdf_lines.specs.declared.fault.FaultKind.TheVariants as kind
-use Rattle.rdf_terms.specs.declared.quad.Quad.{Quad}
 use Rattle.rdf_turtle.specs.declared.fault.TurtleFault.{TurtleFault}
 use Rattle.rdf_turtle.specs.declared.fault.TurtleFaultKind.{TurtleFaultKind}
 use Rattle.rdf_turtle.specs.declared.fault.TurtleFaultKind.TheVariants as turtle_kind
-use Rattle.rdf_keeper.specs.Conversion.Converts.{lines_of}
 use Rattle.rdf_keeper.specs.declared.conversion.fault.DocumentFault.TheVariants.{Line as InLine, Turtle as InTurtle}
 use Rattle.rdf_keeper.specs.declared.conversion.fault.ConvertFault.{ConvertFault}
 use Rattle.rdf_keeper.specs.declared.conversion.fault.ConvertFault.TheVariants.{Document, Read, Write, NoMemory}
-
--- what is written of quads, as far as it is
-abbrev pub WritesQuads : Option (List ℕ) → List Quad → Result (Unit {0}) ConvertFault → Option (List ℕ) → Type 0
-WritesQuads before quads (Ok u) after = Appends before after (lines_of quads)
-WritesQuads before quads (Err Write) after = (out more : List ℕ) × Appends before after out × (lines_of quads ≡ out ++ more) × (more ≢ [])
-WritesQuads before quads (Err (NoMemory _)) after = (written others : List Quad) × (quads ≡ written ++ others) × Appends before after (lines_of written)
-WritesQuads before quads (Err Read) after = ⊥
-WritesQuads before quads (Err (Document fault)) after = ⊥
 
 -- one more line behind those that are held: all but what is still held is written
 abbrev pub Gathers : Option (List ℕ) → List ℕ → List ℕ → Result (Unit {0}) ConvertFault → Option (List ℕ) → List ℕ → Type 0

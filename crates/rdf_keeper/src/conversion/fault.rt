@@ -54,8 +54,7 @@ pub enum ConvertFault {
     /// The bytes could not be written.
     #[error("write failed")]
     Write,
-    /// A growth was refused. Of a document of lines the statements before it are written; of one of Turtle nothing while
-    /// it is read, and afterwards the first of its lines.
+    /// A growth was refused. Of a document of lines the statements before it are written, of one of Turtle nothing.
     #[error("no memory")]
     NoMemory(NoMemory),
 }

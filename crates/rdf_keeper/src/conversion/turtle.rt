@@ -3,13 +3,14 @@ ghost use Rattle.std.specs.Prelude.{◌≡◌, ℕ, List, Some};
 ghost use Rattle.std.specs.Option.{option_copied};
 ghost use Rattle.std.specs.Io.KnownBytes.{Appends};
 ghost use Rattle.rdf_keeper.specs.Conversion.Converts.{ConvertsTurtle};
-ghost use Rattle.rdf_keeper.specs.Inside.Held.{WritesQuads, turtle_fault};
+ghost use Rattle.rdf_keeper.specs.Inside.Held.{turtle_fault};
 
 use crate::conversion::fault::{ConvertFault, DocumentFault};
-use crate::conversion::held::{finish, gather};
+use crate::conversion::held::finish;
+use crate::conversion::triple_lines::TripleLines;
 use crate::streams::reading::{Ending, read_all};
-use rdf_terms::{Iri, Quad};
-use rdf_turtle::{TurtleFault, TurtleFaultKind, read_turtle};
+use rdf_terms::Iri;
+use rdf_turtle::{TurtleFault, TurtleFaultKind, read_turtle_into};
 use std::alloc::Global;
 use std::io::{Read, Write};
 
@@ -40,29 +41,11 @@ pub(crate) fn convert_turtle<R: Read, W: Write>(
 {
     let mut held = Vec::new(alloc);
     match read_all(reader, &mut held) {
-        Ending::AtEnd => match read_turtle(alloc, held.as_slice(), base) {
-            Ok(quads) => write_quads(alloc, quads, writer),
+        Ending::AtEnd => match read_turtle_into::<TripleLines>(alloc, held.as_slice(), base) {
+            Ok(lines) => finish(lines.as_slice(), writer, Ok(())),
             Err(fault) => Err(turtle_fault(fault)),
         },
         Ending::Failed => Err(ConvertFault::Read),
         Ending::NoMemory(refused) => Err(ConvertFault::NoMemory(refused)),
     }
-}
-
-// Writes the lines of the quads, and lets each quad go behind its line, while it is at hand.
-fn write_quads<W: Write>(
-    alloc: Global,
-    quads: Vec<Quad>,
-    writer: &mut W,
-) -> Result<(), ConvertFault>
-    ensures { WritesQuads (W.contents writer.old) quads.items result (W.contents writer.new) }
-{
-    let mut lines = Vec::new(alloc);
-    for quad in quads {
-        match gather(&quad, &mut lines, writer) {
-            Ok(()) => {}
-            Err(fault) => return Err(fault),
-        }
-    }
-    finish(lines.as_slice(), writer, Ok(()))
 }

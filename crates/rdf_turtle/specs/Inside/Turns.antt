@@ -14,7 +14,7 @@ use Rattle.rdf_grammar.specs.Prologue as prologue
 use Rattle.rdf_turtle.specs.Inside.Reading.{node, statement, document}
 use Rattle.rdf_turtle.specs.Lexemes.{Lexeme, Lexemes}
 use Rattle.rdf_turtle.specs.Inside.Room.{TakesAtMost}
-use Rattle.rdf_turtle.specs.State.{State}
+use Rattle.rdf_turtle.specs.ParserState.{ParserState}
 
 -- a fact that is wanted as long as all is said
 abbrev pub IfNothing : Pending → Type 0 → Type 0
@@ -22,7 +22,7 @@ IfNothing Nothing P = P
 IfNothing _ P = Unit {0}
 
 -- A statement is said: the state and the declared prefixes before it, and those behind it.
-pub record Said (tree : Statement) (before behind : State) (declared more : List (List ℕ)) : Type 0 where
+pub record Said (tree : Statement) (before behind : ParserState) (declared more : List (List ℕ)) : Type 0 where
   pub known : known_statement declared tree ≡ true
   pub declares : more ≡ declared_behind declared tree
   pub says : meaning.statement tree before ≡ Some (tt, behind)
@@ -31,7 +31,7 @@ pub record Said (tree : Statement) (before behind : State) (declared more : List
 
 -- What is pending before a statement and behind it: its prefixes are declared as long as no prefix is unknown, and it is said as long as
 -- nothing is pending.
-abbrev pub Becomes : Pending → Pending → Statement → State → State → List (List ℕ) → List (List ℕ) → Type 0
+abbrev pub Becomes : Pending → Pending → Statement → ParserState → ParserState → List (List ℕ) → List (List ℕ) → Type 0
 Becomes Nothing Nothing tree before behind declared more = Said tree before behind declared more
 Becomes Nothing Relative tree before behind declared more =
     (known_statement declared tree ≡ true) × (more ≡ declared_behind declared tree) × (meaning.statement tree before ≡ None)
@@ -43,20 +43,20 @@ Becomes UnknownPrefix UnknownPrefix tree before behind declared more = Unit {0}
 Becomes UnknownPrefix _ tree before behind declared more = ⊥
 
 -- The next statement is read: the lexemes before it, and those behind it.
-pub record Turn (depth : ℕ) (now then : Lexemes) (pending later : Pending) (before behind : State) (declared more : List (List ℕ)) : Type 0 where
+pub record Turn (depth : ℕ) (now then : Lexemes) (pending later : Pending) (before behind : ParserState) (declared more : List (List ℕ)) : Type 0 where
   pub tree : Statement
   pub reads : statement (node depth) (node (depth + 1)) now ≡ Some (tree, then)
   pub shorter : length then < length now
   pub becomes : Becomes pending later tree before behind declared more
 
 -- what is pending behind all of a tree
-abbrev pub Leaves : Pending → List Statement → State → State → Type 0
+abbrev pub Leaves : Pending → List Statement → ParserState → ParserState → Type 0
 Leaves Nothing tree before behind = (declares_first [] tree ≡ true) × (meaning.document tree before ≡ Some (tt, behind))
 Leaves Relative tree before behind = (declares_first [] tree ≡ true) × (meaning.document tree before ≡ None)
 Leaves UnknownPrefix tree before behind = declares_first [] tree ≡ false
 
 -- The lexemes are a document with so many brackets inside one another at most, but for one around nothing.
-pub record Turns (depth : ℕ) (lexemes : Lexemes) (pending : Pending) (before behind : State) : Type 0 where
+pub record Turns (depth : ℕ) (lexemes : Lexemes) (pending : Pending) (before behind : ParserState) : Type 0 where
   pub tree : List Statement
   pub reads : Document depth lexemes tree []
   pub leaves : Leaves pending tree before behind

@@ -1,15 +1,16 @@
-use Rattle.std.proofs.Common.{◌≡◌, ◌∙◌, sym, subst, true, map, drop, ◌+◌, arith}
+use Rattle.std.proofs.Common.{◌≡◌, ◌∙◌, ap, sym, subst, true, map, drop, ◌+◌, arith}
 use Rattle.std.specs.List.{list_all}
 use Rattle.rdf_turtle.specs.Known.{holds, known_node, known_property}
 use Rattle.rdf_turtle.specs.Meaning as spec
+use Rattle.rdf_turtle.specs.ParserState.{ParserState}
 use Rattle.rdf_grammar.specs.Prologue.{Prologue, declared}
 use Rattle.rdf_turtle.specs.Inside.Proper.{proper_node, proper_property}
 use Rattle.rdf_grammar.proofs.Members.{next_member, next_step}
-use Rattle.rdf_turtle.proofs.ScopeLoops.{next_cell, member_holds, on_ok, collection_known}
+use Rattle.rdf_turtle.proofs.ScopeLoops.{next_cell, member_holds, on_ok, collection_known, property_known}
 use Rattle.rdf_turtle.proofs.scope.Scope.+inside.Goals as goal
 
 pub behind-loop-item-preserved : goal.behind-loop-item-preserved
-behind-loop-item-preserved t c =
+behind-loop-item-preserved g t c =
     let i = c.loop-item.item-index in
     let items = c.args.items.now in
     let same : c.next_cell.new.self.prologue ≡ c.loop-item.self.prologue = c.next_cell.ensures.prologue in
@@ -29,7 +30,7 @@ behind-loop-item-preserved t c =
     }
 
 pub objects-loop-node-preserved : goal.objects-loop-node-preserved
-objects-loop-node-preserved t c =
+objects-loop-node-preserved g t c =
     let i = c.loop-node.node-index in
     let nodes = c.args.nodes.now in
     let same : c.object.new.self.prologue ≡ c.loop-node.self.prologue = c.object.ensures.prologue in
@@ -48,7 +49,7 @@ objects-loop-node-preserved t c =
     }
 
 pub properties-loop-property-preserved : goal.properties-loop-property-preserved
-properties-loop-property-preserved t c =
+properties-loop-property-preserved g t c =
     let i = c.loop-property.property-index in
     let properties = c.args.properties.now in
     let same : c.property.new.self.prologue ≡ c.loop-property.self.prologue = c.property.ensures.prologue in
@@ -67,7 +68,13 @@ properties-loop-property-preserved t c =
     }
 
 pub inside-returns-in_ok-object-in-len1-up-clause-known : goal.inside-returns-in_ok-object-in-len1-up-clause-known
-inside-returns-in_ok-object-in-len1-up-clause-known t c =
+inside-returns-in_ok-object-in-len1-up-clause-known g t c =
     λ _. on_ok _ (known_node (declared c.args.self.now.prologue) c.args.node.now ≡ true) c.behind.result c.behind.ensures.known
     (collection_known c.args.self.now.prologue c.object.new.self.prologue c.args.node.now _ c.as_slice-in-Collection.result.now c.first-item.result c.in-Collection.is c.as_slice-in-Collection.ensures
     c.in-len1-up.len_at_least c.first-item.is c.in_ok-object-in-len1-up.ensures.prologue c.in_ok-object-in-len1-up.ensures.known)
+
+pub property-returns-clause-known : goal.property-returns-clause-known
+property-returns-clause-known g t c =
+    on_ok _ (known_property (declared c.args.self.now.prologue) c.args.property.now ≡ true) c.objects.result c.objects.ensures.known
+    (property_known c.args.self.now.prologue c.verb.new.self.prologue c.args.property.now c.as_slice.result.now (ap (λ (s : ParserState). s.prologue) c.verb.ensures.same) c.as_slice.ensures
+    c.in_ok-predicate.ensures.known)

@@ -10,7 +10,7 @@ use Rattle.rdf_grammar.specs.Steps.{each}
 use Rattle.rdf_turtle.proofs.scope.Scope.+inside.Given as goal
 
 abbrev pub invariant-behind-loop-item : goal.invariant-behind-loop-item
-invariant-behind-loop-item l = record {
+invariant-behind-loop-item g l = record {
   says : spec.behind l.initial.cell (map spec.meaning l.items) l.initial.self ≡ spec.behind l.cell (map spec.meaning (drop l.item-index l.items)) l.self;
   prologue : l.self.prologue ≡ l.initial.self.prologue;
   known : let f = known_node (declared l.initial.self.prologue) in list_all holds (map f l.items) ≡ list_all holds (map f (drop l.item-index l.items));
@@ -21,7 +21,7 @@ invariant-behind-loop-item l = record {
 }
 
 abbrev pub invariant-objects-loop-node : goal.invariant-objects-loop-node
-invariant-objects-loop-node l =
+invariant-objects-loop-node g l =
     let f = spec.object l.subject l.predicate in
     record {
       says : each f (map spec.meaning l.nodes) l.initial.self ≡ each f (map spec.meaning (drop l.node-index l.nodes)) l.self;
@@ -33,7 +33,7 @@ invariant-objects-loop-node l =
     }
 
 abbrev pub invariant-properties-loop-property : goal.invariant-properties-loop-property
-invariant-properties-loop-property l = record {
+invariant-properties-loop-property g l = record {
   says : spec.properties l.subject l.properties l.initial.self ≡ spec.properties l.subject (drop l.property-index l.properties) l.self;
   prologue : l.self.prologue ≡ l.initial.self.prologue;
   known : let f = known_property (declared l.initial.self.prologue) in list_all holds (map f l.properties) ≡ list_all holds (map f (drop l.property-index l.properties));

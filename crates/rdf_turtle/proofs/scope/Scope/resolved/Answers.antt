@@ -7,7 +7,7 @@ use Rattle.rdf_turtle.proofs.PrologueSteps.{reference_gives}
 use Rattle.rdf_turtle.proofs.scope.Scope.resolved.Goals as goal
 
 pub returns : goal.returns
-returns c =
+returns g c =
     let value : IfOk c.resolve.result (λ i. resolved c.args.reference.now c.args.self.now.prologue ≡ Some i) = search rules in
     let fault : IfErr c.resolve.result (λ e. Explains c.args.self.now.prologue (Full c.args.reference.now) e) = search rules in
     reference_gives c.args.reference.now c.args.self.now _ c.resolve.result value fault (search rules)

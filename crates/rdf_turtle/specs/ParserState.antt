@@ -12,15 +12,15 @@ use Rattle.rdf_grammar.specs.Prologue as prologue
 use Rattle.rdf_grammar.specs.Prologue.{Prologue}
 use Rattle.rdf_grammar.specs.Steps.{Step}
 
-pub record State : Type 0 where
+pub record ParserState : Type 0 where
   pub prologue : Prologue
   pub numbering : Numbering
   pub quads : List QuadParts
 
 abbrev pub Does : Type 0 → Type 0
-Does A = Step State A
+Does A = Step ParserState A
 
-abbrev pub start : Option (List ℕ) → State
+abbrev pub start : Option (List ℕ) → ParserState
 start base = record { prologue = prologue.start base; numbering = numbering.start; quads = [] }
 
 -- what the prologue tells, if it does
@@ -50,3 +50,7 @@ unfoldable pub says : Term → List ℕ → Term → Does (Unit {0})
 says subject predicate object s =
     if has_right_kinds (triple subject predicate object)
     then Some (tt, record s { quads = s.quads ++ triple subject predicate object ∷ [] }) else None
+
+-- No list in memory is longer than this.
+abbrev pub longest : ℕ
+longest = 9223372036854775807

@@ -1,0 +1,48 @@
+//! What takes the triples of a document.
+ghost use Rattle.std.specs.Prelude.{◌≡◌, ◌≤◌, ◌++◌, ◌∷◌, [], ℕ, List, false, length, OnOk, OnErr};
+ghost use Rattle.rdf_terms.specs.Quad.{QuadParts};
+ghost use Rattle.rdf_terms.specs.Term.{is_literal_term};
+ghost use Rattle.rdf_turtle.specs.ParserState.{triple, longest};
+
+use rdf_terms::{GraphName, Iri, NoMemory, Quad, Term};
+use std::alloc::Global;
+
+/// What takes the triples of a document, one after the other.
+pub trait TripleSink: Drop {
+    /// The triples that were taken, in order.
+    ghost taken: { Self → List QuadParts };
+
+    /// A sink that has taken nothing yet. It takes no memory.
+    fn empty(alloc: Global) -> Self
+        ensures { taken result ≡ [] };
+
+    /// Takes a triple, which lies in the default graph, behind those before it.
+    ///
+    /// # Errors
+    /// [`NoMemory`] where memory is wanting; it isn't taken then.
+    fn take(&mut self, subject: &Term, predicate: &Iri, object: Term) -> Result<(), NoMemory>
+        requires subject { is_literal_term subject.now ≡ false }
+        ensures ok { OnOk result (taken self.new
+            ≡ taken self.old ++ triple subject.now predicate.now object ∷ []) }
+        ensures err { OnErr result (taken self.new ≡ taken self.old) }
+        ensures fits { length (taken self.new) ≤ longest };
+}
+
+/// The quads themselves.
+impl TripleSink for Vec<Quad> {
+    ghost taken = { λ quads. quads.items };
+
+    fn empty(alloc: Global) -> Vec<Quad> {
+        Vec::new(alloc)
+    }
+
+    fn take(&mut self, subject: &Term, predicate: &Iri, object: Term) -> Result<(), NoMemory> {
+        let subject = subject.copy()?;
+        let predicate = Term::Iri(predicate.copy()?);
+        let Some(quad) = Quad::new(GraphName::Default, subject, predicate, object) else {
+            unreachable!()
+        };
+        self.push(quad)?;
+        Ok(())
+    }
+}
