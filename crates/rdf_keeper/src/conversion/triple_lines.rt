@@ -4,7 +4,7 @@ ghost use Rattle.rdf_lines.specs.QuadText.{quad_text};
 ghost use Rattle.rdf_turtle.specs.ParserState.{triple};
 ghost use Rattle.rdf_keeper.specs.Conversion.Converts.{lines_of};
 
-use rdf_terms::{Iri, NoMemory, Term, term_is_one, write_term};
+use rdf_terms::{Iri, NoMemory, Term, or_truncate, term_is_one, write_term};
 use rdf_turtle::TripleSink;
 use std::alloc::Global;
 use std::marker::Model;
@@ -63,12 +63,8 @@ fn write_triple(
         ≡ out.old.items ++ quad_text (triple subject.now predicate.now object.now)) }
     ensures err { OnErr result (out.new.items ≡ out.old.items) }
 {
-    let start = out.len();
-    let written = append_triple(subject, predicate, object, out);
-    if written.is_err() {
-        out.truncate(start);
-    }
-    written
+    let before = out.len();
+    or_truncate(append_triple(subject, predicate, object, out), out, before)
 }
 
 fn append_triple(
