@@ -1,16 +1,15 @@
 use Rattle.std.proofs.Common.{◌≡◌, ◌∙◌, ap, sym, subst, rules, refl, true, Some, Option, List, [], ◌∷◌, ◌++◌, ◌+◌, map, drop}
-use Rattle.std.specs.Prelude.{option_map}
 use Rattle.std.proofs.lemmas.Bool.{and_parts}
 use Rattle.sparql_queries.proofs.KnownLemmas.{each_holds, sum_known, sum_proper}
 use Rattle.rdf_grammar.specs.Prologue.{Prologue, declared}
 use Rattle.sparql_expressions.specs.declared.tree.Expression as written
 use Rattle.rdf_grammar.proofs.Members.{next_member}
-use Rattle.rdf_grammar.specs.Kept.{Fails, Tells}
+use Rattle.rdf_grammar.specs.Kept.{Fails}
 use Rattle.sparql_expressions.specs.ProperExpressions as proper
 use Rattle.sparql_queries.specs.Addends as addends
 use Rattle.sparql_queries.specs.Expressions as spec
 use Rattle.sparql_queries.specs.Known as known
-use Rattle.sparql_queries.proofs.ExpressionLemmas.{all_behind, next_part, part_fails, addend_fails, left_fails, right_fails, both_there, or_is, and_is, product_is, compare_is, same_term_is, sum_is, all_at_start, not_is, signed_is, call_is}
+use Rattle.sparql_queries.proofs.ExpressionLemmas.{all_behind, next_part, part_fails, addend_fails, left_fails, right_fails, both_there, compare_is, same_term_is, sum_is, all_at_start}
 use Rattle.sparql_trees.specs.declared.expression.Expression.{Expression}
 use Rattle.sparql_trees.specs.declared.expression.Expression.TheVariants as e
 use Rattle.sparql_trees.specs.declared.expression.Sign.{Sign}
