@@ -14,7 +14,6 @@ use Rattle.sparql_queries.specs.Expressions.{both, all, addend, expression_in, e
 use Rattle.sparql_trees.specs.declared.expression.Comparison.{Comparison}
 use Rattle.sparql_trees.specs.declared.expression.Expression.TheVariants as e
 use Rattle.sparql_trees.specs.declared.expression.Expression.{Expression}
-use Rattle.sparql_trees.specs.declared.expression.Function.{Function}
 use Rattle.sparql_trees.specs.declared.expression.Sign.{Sign}
 use Rattle.rdf_grammar.proofs.Members.{drop_is}
 
@@ -88,24 +87,6 @@ pub sum_is : (p : Prologue) (first : written.Expression) (parts : List (Sign × 
 sum_is p first parts =
     ap (expression_in p) (sym (w.rolls-Sum first parts)) ∙ fold-roll-Expression (Option Expression) (expression_of p) (Expression-F.Sum first parts)
     ∙ ap (λ xs. both e.Sum (expression_in p first) (all xs)) (addends_are p parts)
-
-pub or_is : (p : Prologue) (operands : List written.Expression) → expression_in p (w.Or operands) ≡ option_map e.Or (all (map (expression_in p) operands))
-or_is p operands = ap (expression_in p) (sym (w.rolls-Or operands)) ∙ fold-roll-Expression (Option Expression) (expression_of p) (Expression-F.Or operands)
-
-pub and_is : (p : Prologue) (operands : List written.Expression) → expression_in p (w.And operands) ≡ option_map e.And (all (map (expression_in p) operands))
-and_is p operands = ap (expression_in p) (sym (w.rolls-And operands)) ∙ fold-roll-Expression (Option Expression) (expression_of p) (Expression-F.And operands)
-
-pub product_is : (p : Prologue) (operands : List written.Expression) → expression_in p (w.Product operands) ≡ option_map e.Product (all (map (expression_in p) operands))
-product_is p operands = ap (expression_in p) (sym (w.rolls-Product operands)) ∙ fold-roll-Expression (Option Expression) (expression_of p) (Expression-F.Product operands)
-
-pub not_is : (p : Prologue) (operand : written.Expression) → expression_in p (w.Not operand) ≡ option_map e.Not (expression_in p operand)
-not_is p operand = ap (expression_in p) (sym (w.rolls-Not operand)) ∙ fold-roll-Expression (Option Expression) (expression_of p) (Expression-F.Not operand)
-
-pub signed_is : (p : Prologue) (sign : Sign) (operand : written.Expression) → expression_in p (w.Signed sign operand) ≡ option_map (e.Signed sign) (expression_in p operand)
-signed_is p sign operand = ap (expression_in p) (sym (w.rolls-Signed sign operand)) ∙ fold-roll-Expression (Option Expression) (expression_of p) (Expression-F.Signed sign operand)
-
-pub call_is : (p : Prologue) (function : Function) (operand : written.Expression) → expression_in p (w.Call function operand) ≡ option_map (e.Call function) (expression_in p operand)
-call_is p function operand = ap (expression_in p) (sym (w.rolls-Call function operand)) ∙ fold-roll-Expression (Option Expression) (expression_of p) (Expression-F.Call function operand)
 
 -- ---- the loops' starts
 

@@ -15,7 +15,7 @@ use rdf_grammar::{Literal, Name, PrologueFault};
 use rdf_terms::{Items, Term};
 use sparql_drafts::Scope;
 use sparql_expressions::Expression as Written;
-use sparql_trees::{Boxed, Expression, Function, Sign};
+use sparql_trees::{Boxed, Expression, Sign};
 use std::alloc::Global;
 
 fn name<'a>(scope: &mut Scope<'a>, written: &Name<'a>) -> Result<Expression, PrologueFault>
@@ -52,8 +52,14 @@ pub(crate) fn expression<'a>(
     ensures prologue { scope.new.prologue ≡ scope.old.prologue }
 {
     match written {
-        Written::Or(operands) => or(alloc, scope, operands.as_slice()),
-        Written::And(operands) => and(alloc, scope, operands.as_slice()),
+        Written::Or(operands) => {
+            let said = expressions(alloc, scope, operands.as_slice())?;
+            Ok(Expression::Or(said))
+        }
+        Written::And(operands) => {
+            let said = expressions(alloc, scope, operands.as_slice())?;
+            Ok(Expression::And(said))
+        }
         Written::Compare(operator, left, right) => {
             let left = boxed(alloc, scope, left)?;
             let right = boxed(alloc, scope, right)?;
@@ -64,9 +70,18 @@ pub(crate) fn expression<'a>(
             let right = addends(alloc, scope, others.as_slice())?;
             Ok(Expression::Sum(left, right))
         }
-        Written::Product(operands) => product(alloc, scope, operands.as_slice()),
-        Written::Not(operand) => not(alloc, scope, operand),
-        Written::Signed(sign, operand) => signed(alloc, scope, *sign, operand),
+        Written::Product(operands) => {
+            let said = expressions(alloc, scope, operands.as_slice())?;
+            Ok(Expression::Product(said))
+        }
+        Written::Not(operand) => {
+            let said = boxed(alloc, scope, operand)?;
+            Ok(Expression::Not(said))
+        }
+        Written::Signed(sign, operand) => {
+            let said = boxed(alloc, scope, operand)?;
+            Ok(Expression::Signed(*sign, said))
+        }
         Written::Variable(variable) => Ok(Expression::Variable(variable_name(alloc, variable)?)),
         Written::Name(written) => name(scope, written),
         Written::Literal(written) => literal(scope, written),
@@ -76,106 +91,11 @@ pub(crate) fn expression<'a>(
             let right = boxed(alloc, scope, right)?;
             Ok(Expression::SameTerm(left, right))
         }
-        Written::Call(function, operand) => call(alloc, scope, *function, operand),
+        Written::Call(function, operand) => {
+            let said = boxed(alloc, scope, operand)?;
+            Ok(Expression::Call(*function, said))
+        }
     }
-}
-
-#[cycle(expression)]
-fn or<'a>(
-    alloc: Global,
-    scope: &mut Scope<'a>,
-    operands: &[Written<'a>],
-) -> Result<Expression, PrologueFault>
-    requires known { let knows = known.known_expression (declared scope.old.prologue) in
-        IsTrue (list_all holds (map knows operands.now)) }
-    requires proper { IsTrue (list_all holds (map proper.proper_expression operands.now)) }
-    ensures tells { let says = spec.expression_in scope.old.prologue in
-        Tells (option_map Expression.Or (spec.all (map says operands.now))) result }
-    ensures prologue { scope.new.prologue ≡ scope.old.prologue }
-{
-    Ok(Expression::Or(expressions(alloc, scope, operands)?))
-}
-
-#[cycle(expression)]
-fn and<'a>(
-    alloc: Global,
-    scope: &mut Scope<'a>,
-    operands: &[Written<'a>],
-) -> Result<Expression, PrologueFault>
-    requires known { let knows = known.known_expression (declared scope.old.prologue) in
-        IsTrue (list_all holds (map knows operands.now)) }
-    requires proper { IsTrue (list_all holds (map proper.proper_expression operands.now)) }
-    ensures tells { let says = spec.expression_in scope.old.prologue in
-        Tells (option_map Expression.And (spec.all (map says operands.now))) result }
-    ensures prologue { scope.new.prologue ≡ scope.old.prologue }
-{
-    Ok(Expression::And(expressions(alloc, scope, operands)?))
-}
-
-#[cycle(expression)]
-fn product<'a>(
-    alloc: Global,
-    scope: &mut Scope<'a>,
-    operands: &[Written<'a>],
-) -> Result<Expression, PrologueFault>
-    requires known { let knows = known.known_expression (declared scope.old.prologue) in
-        IsTrue (list_all holds (map knows operands.now)) }
-    requires proper { IsTrue (list_all holds (map proper.proper_expression operands.now)) }
-    ensures tells { let says = spec.expression_in scope.old.prologue in
-        Tells (option_map Expression.Product (spec.all (map says operands.now))) result }
-    ensures prologue { scope.new.prologue ≡ scope.old.prologue }
-{
-    Ok(Expression::Product(expressions(alloc, scope, operands)?))
-}
-
-#[cycle(expression)]
-fn not<'a>(
-    alloc: Global,
-    scope: &mut Scope<'a>,
-    operand: &Boxed<Written<'a>>,
-) -> Result<Expression, PrologueFault>
-    requires known { let knows = known.known_expression (declared scope.old.prologue) in
-        IsTrue (knows operand.now) }
-    requires proper { IsTrue (proper.proper_expression operand.now) }
-    ensures tells { let says = spec.expression_in scope.old.prologue in
-        Tells (option_map Expression.Not (says operand.now)) result }
-    ensures prologue { scope.new.prologue ≡ scope.old.prologue }
-{
-    Ok(Expression::Not(boxed(alloc, scope, operand)?))
-}
-
-#[cycle(expression)]
-fn signed<'a>(
-    alloc: Global,
-    scope: &mut Scope<'a>,
-    sign: Sign,
-    operand: &Boxed<Written<'a>>,
-) -> Result<Expression, PrologueFault>
-    requires known { let knows = known.known_expression (declared scope.old.prologue) in
-        IsTrue (knows operand.now) }
-    requires proper { IsTrue (proper.proper_expression operand.now) }
-    ensures tells { let says = spec.expression_in scope.old.prologue in
-        Tells (option_map (Expression.Signed sign) (says operand.now)) result }
-    ensures prologue { scope.new.prologue ≡ scope.old.prologue }
-{
-    Ok(Expression::Signed(sign, boxed(alloc, scope, operand)?))
-}
-
-#[cycle(expression)]
-fn call<'a>(
-    alloc: Global,
-    scope: &mut Scope<'a>,
-    function: Function,
-    operand: &Boxed<Written<'a>>,
-) -> Result<Expression, PrologueFault>
-    requires known { let knows = known.known_expression (declared scope.old.prologue) in
-        IsTrue (knows operand.now) }
-    requires proper { IsTrue (proper.proper_expression operand.now) }
-    ensures tells { let says = spec.expression_in scope.old.prologue in
-        Tells (option_map (Expression.Call function) (says operand.now)) result }
-    ensures prologue { scope.new.prologue ≡ scope.old.prologue }
-{
-    Ok(Expression::Call(function, boxed(alloc, scope, operand)?))
 }
 
 #[cycle(expression)]

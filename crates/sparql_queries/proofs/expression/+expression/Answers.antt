@@ -1,16 +1,15 @@
 use Rattle.std.proofs.Common.{◌≡◌, ◌∙◌, ap, sym, subst, rules, refl, true, Some, Option, List, [], ◌∷◌, ◌++◌, ◌+◌, map, drop}
-use Rattle.std.specs.Prelude.{option_map}
 use Rattle.std.proofs.lemmas.Bool.{and_parts}
 use Rattle.sparql_queries.proofs.KnownLemmas.{each_holds, sum_known, sum_proper}
 use Rattle.rdf_grammar.specs.Prologue.{Prologue, declared}
 use Rattle.sparql_expressions.specs.declared.tree.Expression as written
 use Rattle.rdf_grammar.proofs.Members.{next_member}
-use Rattle.rdf_grammar.specs.Kept.{Fails, Tells}
+use Rattle.rdf_grammar.specs.Kept.{Fails}
 use Rattle.sparql_expressions.specs.ProperExpressions as proper
 use Rattle.sparql_queries.specs.Addends as addends
 use Rattle.sparql_queries.specs.Expressions as spec
 use Rattle.sparql_queries.specs.Known as known
-use Rattle.sparql_queries.proofs.ExpressionLemmas.{all_behind, next_part, part_fails, addend_fails, left_fails, right_fails, both_there, or_is, and_is, product_is, compare_is, same_term_is, sum_is, all_at_start, not_is, signed_is, call_is}
+use Rattle.sparql_queries.proofs.ExpressionLemmas.{all_behind, next_part, part_fails, addend_fails, left_fails, right_fails, both_there, compare_is, same_term_is, sum_is, all_at_start}
 use Rattle.sparql_trees.specs.declared.expression.Expression.{Expression}
 use Rattle.sparql_trees.specs.declared.expression.Expression.TheVariants as e
 use Rattle.sparql_trees.specs.declared.expression.Sign.{Sign}
@@ -81,36 +80,6 @@ addends-returns-in_err-said-clause-tells t c =
     let fails : Fails (spec.all (map (addends.addend_in p) all)) fault =
     part_fails (addends.addend_in p) all i x c.loop-one.made (spec.all (map (addends.addend_in p) all)) fault c.loop-one.invariant.says c.loop-one-test.true c.one-item.is (addend_fails x.0 (spec.expression_in p x.1) fault one) in
     search rules
-
-pub expression-returns-in-Or-clause-tells : goal.expression-returns-in-Or-clause-tells
-expression-returns-in-Or-clause-tells t c =
-    let p = c.args.scope.now.prologue in
-    subst (λ (o : Option Expression). Tells o c.or.result) (sym (ap (spec.expression_in p) c.in-Or.is ∙ or_is p c.in-Or.operands)) (subst (λ (xs : List written.Expression). Tells (option_map e.Or (spec.all (map (spec.expression_in p) xs))) c.or.result) c.as_slice.ensures c.or.ensures.tells)
-
-pub expression-returns-in-And-clause-tells : goal.expression-returns-in-And-clause-tells
-expression-returns-in-And-clause-tells t c =
-    let p = c.args.scope.now.prologue in
-    subst (λ (o : Option Expression). Tells o c.and.result) (sym (ap (spec.expression_in p) c.in-And.is ∙ and_is p c.in-And.operands)) (subst (λ (xs : List written.Expression). Tells (option_map e.And (spec.all (map (spec.expression_in p) xs))) c.and.result) c.as_slice-in-And.ensures c.and.ensures.tells)
-
-pub expression-returns-in-Product-clause-tells : goal.expression-returns-in-Product-clause-tells
-expression-returns-in-Product-clause-tells t c =
-    let p = c.args.scope.now.prologue in
-    subst (λ (o : Option Expression). Tells o c.product.result) (sym (ap (spec.expression_in p) c.in-Product.is ∙ product_is p c.in-Product.operands)) (subst (λ (xs : List written.Expression). Tells (option_map e.Product (spec.all (map (spec.expression_in p) xs))) c.product.result) c.as_slice-in-Product.ensures c.product.ensures.tells)
-
-pub expression-returns-in-Not-clause-tells : goal.expression-returns-in-Not-clause-tells
-expression-returns-in-Not-clause-tells t c =
-    let p = c.args.scope.now.prologue in
-    subst (λ (o : Option Expression). Tells o c.not.result) (sym (ap (spec.expression_in p) c.in-Not.is ∙ not_is p c.in-Not.operand)) c.not.ensures.tells
-
-pub expression-returns-in-Signed-clause-tells : goal.expression-returns-in-Signed-clause-tells
-expression-returns-in-Signed-clause-tells t c =
-    let p = c.args.scope.now.prologue in
-    subst (λ (o : Option Expression). Tells o c.signed.result) (sym (ap (spec.expression_in p) c.in-Signed.is ∙ signed_is p c.in-Signed.sign c.in-Signed.operand)) c.signed.ensures.tells
-
-pub expression-returns-in-Call-clause-tells : goal.expression-returns-in-Call-clause-tells
-expression-returns-in-Call-clause-tells t c =
-    let p = c.args.scope.now.prologue in
-    subst (λ (o : Option Expression). Tells o c.call.result) (sym (ap (spec.expression_in p) c.in-Call.is ∙ call_is p c.in-Call.function c.in-Call.operand)) c.call.ensures.tells
 
 pub addends-loop-one-init : goal.addends-loop-one-init
 addends-loop-one-init t c =
