@@ -1,23 +1,26 @@
 -- Lines of triples say these triples.
-use Rattle.std.proofs.Common.{◌≡◌, ◌∙◌, inl, inr, ap, refl, sym, subst, arith, true≢false, ℕ, ◌+◌, ◌<◌, ◌≤◌, ◌^◌, true, false, List, [], ◌∷◌, ◌++◌, codes, drop, length, length-append, map, decimal, Option, Some, None, Result, Ok, Err}
-use Rattle.std.specs.List.{flat_map, AllByRecursion}
+use Rattle.std.proofs.Common.{◌≡◌, ◌∙◌, inl, inr, ap, refl, sym, subst, arith, true≢false, ℕ, ◌+◌, ◌<◌, ◌≤◌, ◌^◌, true, false, List, [], ◌∷◌, ◌++◌, codes, drop, length, length-append, append_assoc, map, Option, Some, None, Ok, Err}
+use Rattle.std.specs.Prelude.{IsTrue, Result, OnOk, OnErr}
+use Rattle.std.specs.List.{AllByRecursion}
 use Rattle.std.specs.Str.{all_ascii_digits}
 use Rattle.std.specs.Str.Parse.{digits_value}
 use Rattle.std.proofs.lemmas.Bool.{ltb-true}
 use Rattle.std.proofs.lemmas.Fmt.{digits_value-decimal}
 use Rattle.std.proofs.lemmas.Str.Parse.{IsNumeralModel, numerals_by_value, tells_all_ascii_digits}
+use Rattle.rdf_terms.specs.Iri.{is_iri}
 use Rattle.rdf_terms.specs.Quad.{QuadParts, is_quad}
 use Rattle.rdf_terms.specs.Term.{is_term, is_literal_term, is_iri_term}
 use Rattle.rdf_terms.specs.declared.term.Term.{Term}
 use Rattle.rdf_terms.specs.declared.term.Term.TheVariants as term
 use Rattle.rdf_terms.proofs.QuadTests.{quad_tests}
 use Rattle.rdf_lines.specs.Document.{ReadsAll}
-use Rattle.rdf_lines.specs.QuadText.{quad_text, graph_text}
+use Rattle.rdf_lines.specs.QuadText.{quad_text}
 use Rattle.rdf_lines.specs.RoundTrip.{label_of, node_of, predicate_of, object_of, statement_of}
 use Rattle.rdf_lines.specs.declared.format.LineFormat.TheVariants.{NQuads}
 use Rattle.rdf_lines.specs.declared.statement.Statement.{Statement}
 use Rattle.rdf_lines.proofs.LineLaws.{one_answer, some_answer}
 use Rattle.rdf_lines.proofs.WrittenLineLemmas.{reads_all}
+use Rattle.rdf_turtle.specs.ParserState.{triple}
 use Rattle.rdf_turtle.specs.WrittenLaws.{IsDefaultQuad}
 use Rattle.rdf_keeper.specs.Conversion.Converts.{lines_of}
 use Rattle.rdf_keeper.specs.Inside.TripleLines.{term_of, object_term, triple_said, before, statements_in, triples_in, AreLinesOfTriples}
@@ -101,6 +104,27 @@ pub line_behind : (text more : List ℕ) (q : QuadParts) → AreLinesOfTriples t
 line_behind text more q lines h is =
     let quads = triples_in text in
     lines_are (quads ++ q ∷ []) more (all_with quads q lines.well_formed h) (is ∙ ap (λ (t : List ℕ). t ++ quad_text q) lines.are ∙ sym (lines_of-push quads q))
+
+-- a triple that is taken
+pub triple_is_one : (subject object : Term) (predicate : List ℕ) → is_literal_term subject ≡ false → IsTrue (is_term subject) → IsTrue (is_iri predicate) → IsTrue (is_term object)
+    → IsDefaultQuad (triple subject predicate object)
+triple_is_one subject object predicate kind s p o = (rw (kind, s, p, o) refl, refl)
+
+module _ {E : Type 0} (text more : List ℕ) (q : QuadParts) (lines : AreLinesOfTriples text) (h : IsDefaultQuad q) where
+  pub lines_on : (r : Result (Unit {0}) E) → OnOk r (more ≡ text ++ quad_text q) → OnErr r (more ≡ text) → AreLinesOfTriples more
+  lines_on (Ok u) ok err = (line_behind text more q lines h ok).1
+  lines_on (Err e) ok err = subst AreLinesOfTriples (sym err) lines
+
+  pub triples_on : (r : Result (Unit {0}) E) (taken : List QuadParts) → triples_in text ≡ taken → OnOk r (more ≡ text ++ quad_text q) → OnOk r (triples_in more ≡ taken ++ q ∷ [])
+  triples_on (Ok u) taken is ok = (line_behind text more q lines h ok).0 ∙ ap (λ (t : List QuadParts). t ++ q ∷ []) is
+  triples_on (Err e) taken is ok = tt
+
+-- a line by its pieces
+pub written : (old a b c d e f s p o : List ℕ) → a ≡ old ++ s → b ≡ a ++ 32 ∷ 60 ∷ [] → c ≡ b ++ p → d ≡ c ++ 62 ∷ 32 ∷ [] → e ≡ d ++ o → f ≡ e ++ 32 ∷ 46 ∷ 10 ∷ []
+    → f ≡ old ++ (s ++ codes " " ++ (codes "<" ++ p ++ codes ">") ++ codes " " ++ o ++ codes " " ++ [] ++ codes ".\n")
+written old a b c d e f s p o h1 h2 h3 h4 h5 h6 =
+    let all : f ≡ (((((old ++ s) ++ 32 ∷ 60 ∷ []) ++ p) ++ 62 ∷ 32 ∷ []) ++ o) ++ 32 ∷ 46 ∷ 10 ∷ [] = cc in
+    all ∙ simp append_assoc
 
 -- no more of them than bytes
 some_bytes : (front : List ℕ) → 1 ≤ length (front ++ codes ".\n")

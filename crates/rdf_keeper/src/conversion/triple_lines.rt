@@ -47,6 +47,7 @@ impl TripleSink for TripleLines {
 
     fn take(&mut self, subject: &Term, predicate: &Iri, object: Term) -> Result<(), NoMemory> {
         term_is_one(subject);
+        let _ = predicate.as_str();
         term_is_one(&object);
         write_triple(subject, predicate, &object, &mut self.text)
     }
