@@ -1,5 +1,5 @@
 -- What is derived inside so many brackets opens no more, and takes no lexeme that Turtle has no use for.
-use Rattle.std.proofs.Common.{◌≡◌, ◌≤◌, ◌<◌, ◌+◌, ℕ, zero, suc, Bool, true, false, List, [], ◌∷◌, ◌++◌, take, Option, Some, None, Result, Ok, Err, refl, sym, ap, subst, ◌∙◌, inl, inr, arith}
+use Rattle.std.proofs.Common.{◌≡◌, ◌≤◌, ◌+◌, ℕ, zero, suc, Bool, true, false, List, [], ◌∷◌, ◌++◌, take, Some, None, Ok, Err, refl, sym, ap, subst, ◌∙◌, inl, inr, arith}
 use Rattle.std.specs.Prelude.{option_to_list}
 use Rattle.std.specs.List.{AllByRecursion}
 use Rattle.std.specs.Str.{chars, IsUtf8}
@@ -17,7 +17,7 @@ use Rattle.rdf_turtle.specs.Document.{HasTokens}
 use Rattle.rdf_turtle.specs.Grammar as g
 use Rattle.rdf_turtle.specs.Lexemes.{Lexeme, Lexemes, Derives}
 use Rattle.rdf_turtle.specs.Nesting.{open_behind, open_after, IsTooDeep}
-use Rattle.rdf_turtle.specs.Terminals.{bracket, terminal_by, word}
+use Rattle.rdf_turtle.specs.Terminals.{terminal_by, word}
 use Rattle.rdf_turtle.specs.declared.terminal.Terminal.{Terminal}
 use Rattle.rdf_turtle.specs.declared.terminal.Terminal.TheVariants as terminal
 use Rattle.rdf_turtle.specs.declared.tree.Node.{Node}

@@ -1,5 +1,5 @@
 -- A turn of each loop of the reading.
-use Rattle.std.proofs.Common.{◌≡◌, ◌∙◌, ◌&&◌, ap, refl, sym, subst, arith, ℕ, suc, ◌+◌, ◌<◌, ◌≤◌, Bool, true, List, ◌∷◌, ◌-◌, map, take, drop, length, length-drop, get_or, add-one, Some, Result, Ok, Err}
+use Rattle.std.proofs.Common.{◌≡◌, ◌∙◌, ◌&&◌, ap, sym, subst, arith, ℕ, suc, ◌+◌, ◌<◌, ◌≤◌, Bool, true, List, ◌∷◌, ◌-◌, map, take, drop, length, length-drop, get_or, add-one, Some, Result, Ok, Err}
 use Rattle.std.proofs.lemmas.List.{take_all}
 use Rattle.std.specs.Prelude.{OnOk}
 use Rattle.std.specs.List.{list_all}

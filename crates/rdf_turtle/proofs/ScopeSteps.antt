@@ -1,6 +1,5 @@
 -- The numbers that are said, in order, and those that are pending, through the steps of a reading.
 use Rattle.std.proofs.Common.{append-nil, append_assoc, ◌≡◌, ◌∙◌, ◌⊎◌, ◌≤◌, ◌<◌, ◌+◌, ap, refl, sym, subst, inl, inr, ℕ, zero, suc, Bool, true, false, if◌then◌else◌, List, [], ◌∷◌, ◌++◌, Option, Some, None, Contains, arith, length}
-use Rattle.std.proofs.lemmas.Bool.{cases_lt}
 use Rattle.std.proofs.lemmas.Option.{same_Some}
 use Rattle.std.proofs.lemmas.List.Elements.{Contains-append_left, Contains-append_right, Contains-append_cases}
 use Rattle.std.proofs.lemmas.Grind.{flat_map-append}
@@ -14,7 +13,7 @@ use Rattle.rdf_terms.specs.Blanks.{blanks_in, blanks_of, AreNumberedInOrder}
 pub use Rattle.rdf_grammar.proofs.Decides.{then_parts}
 use Rattle.rdf_grammar.proofs.KeyEntries.{more_labels, label_below, label_inserted, lt_or_is}
 use Rattle.rdf_turtle.specs.Blanks.{IsTriple}
-use Rattle.rdf_grammar.specs.Steps.{Outcome, Step, and_then}
+use Rattle.rdf_grammar.specs.Steps.{Outcome}
 use Rattle.rdf_grammar.specs.Keys.{same_key}
 use Rattle.rdf_grammar.specs.Numbering.{labelled_as}
 use Rattle.rdf_turtle.specs.ParserState.{ParserState, Does, fresh, labelled, blank, triple, says}

@@ -19,7 +19,7 @@ use Rattle.rdf_turtle.specs.Inside.Reading.{node, statement, document}
 use Rattle.rdf_turtle.specs.Lexemes.{Lexemes}
 use Rattle.rdf_turtle.specs.ParserState.{ParserState, longest, start}
 use Rattle.rdf_grammar.specs.Steps.{and_then}
-use Rattle.rdf_turtle.specs.Inside.Turns.{IfNothing, Becomes, Said, Turn, Leaves, Turns, Tells, Stops, StopsWith}
+use Rattle.rdf_turtle.specs.Inside.Turns.{IfNothing, Becomes, Turn, Leaves, Turns, Tells, Stops, StopsWith}
 use Rattle.rdf_turtle.proofs.BaseTrees.{statement_of_formed}
 use Rattle.rdf_grammar.proofs.Repeats.{one_reads, one_fails, no_more, Going, going_starts, going_on, going_done, going_fails}
 use Rattle.rdf_turtle.proofs.GrammarStatements.{statement_derived}

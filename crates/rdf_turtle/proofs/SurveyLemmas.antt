@@ -1,5 +1,5 @@
 -- What a walk over the tokens of a text finds among its lexemes.
-use Rattle.std.proofs.Common.{◌≡◌, ◌≢◌, ◌<◌, ◌≤◌, ◌+◌, cond, ℕ, zero, suc, Bool, true, false, List, [], ◌∷◌, ◌++◌, length, take, Option, Some, None, Result, Ok, Err, refl, sym, ap, subst, ◌∙◌, inl, inr, add-one, arith}
+use Rattle.std.proofs.Common.{◌≡◌, ◌<◌, ◌≤◌, ◌+◌, cond, ℕ, zero, suc, Bool, true, false, List, [], ◌∷◌, ◌++◌, length, take, Option, Some, None, Result, Ok, Err, refl, sym, ap, subst, ◌∙◌, inl, inr, add-one, arith}
 use Rattle.std.specs.Prelude.{nat_lt}
 use Rattle.std.proofs.lemmas.Bool.{cases_lt, lt-ltb, le-ltb}
 use Rattle.std.specs.List.{slice_get}
@@ -18,7 +18,6 @@ use Rattle.rdf_tokens.proofs.CallerLemmas.{one_token_list}
 use Rattle.rdf_turtle.specs.declared.fault.TurtleFault.{TurtleFault}
 use Rattle.rdf_turtle.specs.declared.fault.TurtleFaultKind.{TurtleFaultKind}
 use Rattle.rdf_turtle.specs.declared.fault.TurtleFaultKind.TheVariants as fault
-use Rattle.rdf_turtle.specs.declared.survey.Depth.{Depth}
 use Rattle.rdf_turtle.specs.declared.survey.Depth.TheVariants.{Open, TooDeep}
 use Rattle.rdf_turtle.specs.Document.{HasTokens, start_of, FaultIs, IsFaulty}
 use Rattle.rdf_turtle.specs.FaultyNames.{taken, declares_behind, is_unbound, bound_behind, unbound_from, first_unbound, moves_behind, is_lacking, base_behind, lacking_from, first_lacking}
@@ -26,7 +25,7 @@ use Rattle.rdf_turtle.specs.Inside.NamePlaces.{StartsAt}
 use Rattle.rdf_turtle.specs.Inside.Walks.{IsShallow, first_fault, depth_behind, start_behind, unbound_start, lacking_start}
 use Rattle.rdf_turtle.specs.Leaves.{takes_tag}
 use Rattle.rdf_turtle.specs.Lexemes.{Lexeme, Lexemes, AreLexemes}
-use Rattle.rdf_turtle.specs.Nesting.{open_behind, open_after, IsTooDeep, IsTooDeepAt}
+use Rattle.rdf_turtle.specs.Nesting.{open_behind, open_after, IsTooDeepAt}
 use Rattle.rdf_turtle.specs.Terminals.{terminal_of, terminal_by, bracket}
 
 -- ---- the lexemes of what is found

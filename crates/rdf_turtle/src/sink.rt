@@ -1,5 +1,5 @@
 //! What takes the triples of a document.
-ghost use Rattle.std.specs.Prelude.{◌≡◌, ◌≤◌, ◌++◌, ◌∷◌, [], ℕ, List, false, length, OnOk, OnErr};
+ghost use Rattle.std.specs.Prelude.{◌≡◌, ◌≤◌, ◌++◌, ◌∷◌, [], ℕ, List, false, length, IfOk, OnOk, OnErr};
 ghost use Rattle.rdf_terms.specs.Quad.{QuadParts};
 ghost use Rattle.rdf_terms.specs.Term.{is_literal_term};
 ghost use Rattle.rdf_turtle.specs.ParserState.{triple, longest};
@@ -37,12 +37,21 @@ impl TripleSink for Vec<Quad> {
     }
 
     fn take(&mut self, subject: &Term, predicate: &Iri, object: Term) -> Result<(), NoMemory> {
-        let subject = subject.copy()?;
-        let predicate = Term::Iri(predicate.copy()?);
-        let Some(quad) = Quad::new(GraphName::Default, subject, predicate, object) else {
-            unreachable!()
-        };
-        self.push(quad)?;
+        self.push(quad_of(subject, predicate, object)?)?;
         Ok(())
     }
+}
+
+// The quad that a triple is in the default graph.
+#[inline(always)]
+fn quad_of(subject: &Term, predicate: &Iri, object: Term) -> Result<Quad, NoMemory>
+    requires { is_literal_term subject.now ≡ false }
+    ensures { IfOk result (λ quad. quad ≡ triple subject.now predicate.now object) }
+{
+    let subject = subject.copy()?;
+    let predicate = Term::Iri(predicate.copy()?);
+    let Some(quad) = Quad::new(GraphName::Default, subject, predicate, object) else {
+        unreachable!()
+    };
+    Ok(quad)
 }

@@ -1,5 +1,5 @@
 -- Statements that are read and said.
-use Rattle.std.specs.Prelude.{◌≡◌, ◌<◌, ◌+◌, ℕ, true, false, List, [], length, Option, Some, None, Result, Ok, Err}
+use Rattle.std.specs.Prelude.{◌≡◌, ◌<◌, ◌+◌, ℕ, true, false, List, [], length, Option, Some, None, Result, Err}
 use Rattle.rdf_grammar.specs.Readings.{Outcome}
 use Rattle.rdf_terms.specs.Quad.{QuadParts}
 use Rattle.rdf_turtle.specs.declared.fault.TurtleFaultKind.{TurtleFaultKind}

@@ -1,4 +1,4 @@
-use Rattle.std.proofs.Common.{rules, ◌≡◌, ◌∙◌, ap, refl}
+use Rattle.std.proofs.Common.{◌∙◌, ap, refl}
 use Rattle.rdf_tokens.specs.Lines.{line_of}
 use Rattle.rdf_turtle.proofs.DocumentLemmas.{name_tells, refused_tells}
 use Rattle.rdf_turtle.proofs.document.told.Goals as goal

@@ -1,4 +1,4 @@
-use Rattle.std.proofs.Common.{rules, ◌≡◌, ◌∙◌, ap, [], ◌∷◌, true, false, length}
+use Rattle.std.proofs.Common.{rules, ◌≡◌, ◌∙◌, ap, [], ◌∷◌, true, length}
 use Rattle.rdf_turtle.specs.FaultyNames.{taken, is_lacking}
 use Rattle.rdf_turtle.specs.Inside.Walks.{lacking_start}
 use Rattle.rdf_turtle.specs.Terminals.{terminal_of}

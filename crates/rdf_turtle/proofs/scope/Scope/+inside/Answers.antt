@@ -1,6 +1,5 @@
-use Rattle.std.proofs.Common.{◌≡◌, ◌∙◌, ap, sym, subst, true, map, drop, ◌+◌, arith}
-use Rattle.std.specs.List.{list_all}
-use Rattle.rdf_turtle.specs.Known.{holds, known_node, known_property}
+use Rattle.std.proofs.Common.{◌≡◌, ◌∙◌, ap, subst, true, arith}
+use Rattle.rdf_turtle.specs.Known.{known_node, known_property}
 use Rattle.rdf_turtle.specs.Meaning as spec
 use Rattle.rdf_turtle.specs.ParserState.{ParserState}
 use Rattle.rdf_grammar.specs.Prologue.{Prologue, declared}
