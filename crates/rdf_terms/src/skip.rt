@@ -45,7 +45,8 @@ impl<'a> Cursor<'a> {
     #[tactic(auto, unfolding(crate::specs::Skips::one_of))]
     pub fn one_of<F: Fn(char) -> bool>(&self, passes: F) -> Option<Cursor<'a>>
         requires { F.IsAlwaysCallable passes }
-        ensures { (class : ℕ → Bool) → IsTest (F.post passes) class → result ≡ one_of class self.now }
+        ensures { (class : ℕ → Bool) → IsTest (F.post passes) class →
+            result ≡ one_of class self.now }
     {
         let mut rest = self.fork();
         if passes(rest.bump()?) {
