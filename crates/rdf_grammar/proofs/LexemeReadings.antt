@@ -47,8 +47,8 @@ module _ {T : Type 0} (terminal : Kind → List ℕ → T) where
       let made : lexeme_of terminal k slice ≡ found = ap (λ (x : T). record { terminal = x; text = slice }) (ap (terminal k) (sym bytes_are) ∙ sym kind) ∙ sym is in
       lexemes_token cs next.0 k left next.1 next.2 ∙ ap (λ (l : Lexeme T). l ∷ lexemes_of terminal left) (ap (lexeme_of terminal k) same ∙ made)
 
-  pub unread_is : (t : T) (piece : List ℕ) → t ≡ terminal Symbol [] → piece ≡ chars [] → record { terminal = t; text = piece } ≡ unread terminal
-  unread_is t piece kind text = ap (λ (x : T). record { terminal = x; text = piece }) kind ∙ ap (λ (x : List ℕ). record { terminal = terminal Symbol []; text = x }) (text ∙ chars-nil)
+  pub unread_is : (t : T) (slice : List ℕ) → t ≡ terminal Symbol [] → slice ≡ chars [] → record { terminal = t; text = slice } ≡ unread terminal
+  unread_is t slice kind text = ap (λ (x : T). record { terminal = x; text = slice }) kind ∙ ap (λ (x : List ℕ). record { terminal = terminal Symbol []; text = x }) (text ∙ chars-nil)
 
   pub made_of_none : (cs left : List ℕ) (found : Lexeme T) → ((start : List ℕ) × HasGap cs start × NoToken start × (left ≡ [])) → found ≡ unread terminal
       → lexemes_of terminal cs ≡ found ∷ lexemes_of terminal left
@@ -104,5 +104,5 @@ module _ {T : Type 0} (terminal : Kind → List ℕ → T) where
 
 -- ---- the next one ahead
 
-pub text_none : {T : Type 0} (next : Option T) (text : List ℕ) (rest view : Lexemes T) (piece : List ℕ) → ahead next text rest ≡ view → next ≡ None → piece ≡ chars [] → piece ≡ next_text view
-text_none {T = T} next text rest view piece is none e = e ∙ chars-nil ∙ ap next_text (ap (λ (o : Option T). ahead o text rest) (sym none) ∙ is)
+pub text_none : {T : Type 0} (next : Option T) (text : List ℕ) (rest view : Lexemes T) (slice : List ℕ) → ahead next text rest ≡ view → next ≡ None → slice ≡ chars [] → slice ≡ next_text view
+text_none {T = T} next text rest view slice is none e = e ∙ chars-nil ∙ ap next_text (ap (λ (o : Option T). ahead o text rest) (sym none) ∙ is)

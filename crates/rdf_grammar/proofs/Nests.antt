@@ -2,7 +2,7 @@
 use Rattle.std.proofs.Common.{◌≡◌, ℕ, suc, ◌+◌, ◌≤◌, List, [], ◌∷◌, take, Some, None, ◌∙◌, ap, inl, inr}
 use Rattle.rdf_grammar.specs.declared.bracket.Bracket.{Bracket}
 use Rattle.rdf_grammar.specs.declared.lexeme.Lexeme.{Lexeme}
-use Rattle.rdf_grammar.specs.Terminals.{Piece, Lexemes}
+use Rattle.rdf_grammar.specs.Terminals.{Slice, Lexemes}
 use Rattle.rdf_grammar.specs.Nesting as nesting
 use Rattle.rdf_grammar.specs.Derivations as grammar
 use Rattle.rdf_grammar.specs.Derivations.{Derives, Then, Star, stop, more}
@@ -60,7 +60,7 @@ module _ {T : Type 0} (bracket : T → Bracket) where
     pub word_keeps : {A : Type 0} (k : T) (a : A) → open_behind b k ≡ b → Keeps limit b (grammar.◌>>◌ (grammar.the k) (grammar.pure a)) (grammar.◌>>◌ (grammar.the k) (grammar.pure a))
     word_keeps k a plain = behind_keeps k _ _ plain (pure_keeps a)
 
-    pub leaf_keeps : {A : Type 0} (f : Piece → A) (k : T) → open_behind b k ≡ b → Keeps limit b (grammar.◌<$>◌ f (grammar.value k)) (grammar.◌<$>◌ f (grammar.value k))
+    pub leaf_keeps : {A : Type 0} (f : Slice → A) (k : T) → open_behind b k ≡ b → Keeps limit b (grammar.◌<$>◌ f (grammar.value k)) (grammar.◌<$>◌ f (grammar.value k))
     leaf_keeps f k plain = map_keeps f _ _ (value_keeps k plain)
 
     pub maybe_keeps : {A : Type 0} (P Q : Derives (Lexeme T) A) → Keeps limit b P Q → Keeps limit b (grammar.maybe P) (grammar.maybe Q)

@@ -7,7 +7,7 @@ use Rattle.rdf_grammar.specs.declared.tree.Name.TheVariants.{Full}
 use Rattle.rdf_grammar.specs.declared.tree.Literal.TheVariants as l
 use Rattle.rdf_grammar.specs.declared.word.Word.{Word}
 use Rattle.rdf_grammar.specs.declared.word.Word.TheVariants as w
-use Rattle.rdf_grammar.specs.Terminals.{Piece, Lexemes}
+use Rattle.rdf_grammar.specs.Terminals.{Slice, Lexemes}
 use Rattle.rdf_grammar.specs.Nesting.{open_behind}
 use Rattle.rdf_grammar.specs.Derivations as grammar
 use Rattle.rdf_grammar.specs.Derivations.{Derives}
@@ -37,7 +37,7 @@ module _ {T : Type 0} (word : T → Option Word) (bracket : T → Bracket) (plai
   either : {A : Type 0} (P Q : Derives (Lexeme T) A) → Stays P → Stays Q → Stays (grammar.◌∣◌ P Q)
   either P Q p q = or_keeps bracket limit b P P Q Q p q
 
-  leaf_keeps : {A : Type 0} (f : Piece → A) (w : Word) → Stays (grammar.◌<$>◌ f (g.value word w))
+  leaf_keeps : {A : Type 0} (f : Slice → A) (w : Word) → Stays (grammar.◌<$>◌ f (g.value word w))
   leaf_keeps f w = map_keeps bracket limit b f _ _ (value_keeps w)
 
   behind_keeps : {A : Type 0} (w : Word) (P : Derives (Lexeme T) A) → Stays P → Stays (grammar.◌>>◌ (g.the word w) P)
@@ -46,7 +46,7 @@ module _ {T : Type 0} (word : T → Option Word) (bracket : T → Bracket) (plai
   pub iri_keeps : Stays (g.Iri word)
   iri_keeps = either _ _ (leaf_keeps Full w.Iri) (leaf_keeps g.prefixed w.Pname)
 
-  suffix_keeps : (form : Piece) → Stays (g.Suffix word form)
+  suffix_keeps : (form : Slice) → Stays (g.Suffix word form)
   suffix_keeps form =
       either _ _ (leaf_keeps (l.Tagged form) w.Tag)
       (either _ _ (behind_keeps w.Caret _ (map_keeps bracket limit b (l.Typed form) _ _ iri_keeps)) (pure_keeps bracket limit b (l.Plain form)))

@@ -9,7 +9,7 @@ use Rattle.rdf_grammar.specs.declared.word.Word.{Word}
 use Rattle.rdf_grammar.specs.declared.word.Word.TheVariants as w
 use Rattle.rdf_grammar.specs.Steps as steps
 use Rattle.rdf_grammar.specs.Readings.{Test}
-use Rattle.rdf_grammar.specs.Terminals.{Piece, Lexemes}
+use Rattle.rdf_grammar.specs.Terminals.{Slice, Lexemes}
 use Rattle.rdf_grammar.specs.Words as front
 use Rattle.rdf_grammar.specs.Words.{next_word}
 use Rattle.rdf_grammar.specs.Derivations as grammar
@@ -24,7 +24,7 @@ use Rattle.rdf_grammar.proofs.Combinators.{seq, last}
 
 module _ {T : Type 0} (word : T → Option Word) where
   -- a lexeme of this word, made into something
-  leaf : {A : Type 0} (f : Piece → A) (w : Word) → Decides (steps.◌<$>◌ f (front.value word w)) (grammar.◌<$>◌ f (g.value word w)) always
+  leaf : {A : Type 0} (f : Slice → A) (w : Word) → Decides (steps.◌<$>◌ f (front.value word w)) (grammar.◌<$>◌ f (g.value word w)) always
   leaf f w = last f _ _ always (value_decides word w)
 
   -- ---- iri
@@ -59,30 +59,30 @@ module _ {T : Type 0} (word : T → Option Word) where
   abbrev pub after_literal : Test (Lexeme T)
   after_literal us = ends_literal (next_word word us)
 
-  typed : (form : Piece) → Decides (steps.◌<$>◌ (l.Typed form) (read.iri word)) (grammar.◌<$>◌ (l.Typed form) (g.Iri word)) always
+  typed : (form : Slice) → Decides (steps.◌<$>◌ (l.Typed form) (read.iri word)) (grammar.◌<$>◌ (l.Typed form) (g.Iri word)) always
   typed form = last (l.Typed form) _ _ always iri_decides
 
-  suffix_sound : (form : Piece) (next : Option Word) (ts : Lexemes T) (x : Literal) (us : Lexemes T) → next_word word ts ≡ next → read.suffix_by word form next ts ≡ Some (x, us) → g.Suffix word form ts x us
+  suffix_sound : (form : Slice) (next : Option Word) (ts : Lexemes T) (x : Literal) (us : Lexemes T) → next_word word ts ≡ next → read.suffix_by word form next ts ≡ Some (x, us) → g.Suffix word form ts x us
   suffix_sound form (Some w.Tag) ts x us q h = inl ((leaf (l.Tagged form) w.Tag).sound ts x us h)
   suffix_sound form (Some w.Caret) ts x us q h = inr (inl (behind_sound word w.Caret _ _ always (typed form) ts x us q h))
   suffix_sound form _ ts x us q h = inr (inr (some_pair (l.Plain form) x ts us h))
 
-  plain_at : (form : Piece) (next : Option Word) → ends_literal next ≡ true → read.suffix_by word form next ≡ steps.pure (l.Plain form)
+  plain_at : (form : Slice) (next : Option Word) → ends_literal next ≡ true → read.suffix_by word form next ≡ steps.pure (l.Plain form)
   plain_at form (Some w.Tag) h = absurd (cc)
   plain_at form (Some w.Caret) h = absurd (cc)
   plain_at form _ h = refl
 
-  suffix_complete : (form : Piece) (ts : Lexemes T) (x : Literal) (us : Lexemes T) → g.Suffix word form ts x us → after_literal us ≡ true → read.suffix_by word form (next_word word ts) ts ≡ Some (x, us)
+  suffix_complete : (form : Slice) (ts : Lexemes T) (x : Literal) (us : Lexemes T) → g.Suffix word form ts x us → after_literal us ≡ true → read.suffix_by word form (next_word word ts) ts ≡ Some (x, us)
   suffix_complete form ts x us (inl h) e = rw (value_word word w.Tag ts h.mid h.first h.reads) ((leaf (l.Tagged form) w.Tag).complete ts x us h refl)
   suffix_complete form ts x us (inr (inl h)) e = rw (the_word word w.Caret ts h.mid h.first h.reads) (behind_complete word w.Caret _ _ always (typed form) ts x us h refl)
   suffix_complete form ts x us (inr (inr h)) e = rw (h.1, plain_at form (next_word word us) e, h.0) refl
 
-  suffix_shorter : (form : Piece) (ts : Lexemes T) (x : Literal) (us : Lexemes T) → g.Suffix word form ts x us → length us ≤ length ts
+  suffix_shorter : (form : Slice) (ts : Lexemes T) (x : Literal) (us : Lexemes T) → g.Suffix word form ts x us → length us ≤ length ts
   suffix_shorter form ts x us (inl h) = (leaf (l.Tagged form) w.Tag).shorter ts x us h
   suffix_shorter form ts x us (inr (inl h)) = let e = behind_strict word w.Caret _ _ always (typed form) ts x us h in omega arith
   suffix_shorter form ts x us (inr (inr h)) = omega (arith, ap length h.1)
 
-  suffix_decides : (form : Piece) → Decides (steps.◌>>=◌ (front.peek word) (read.suffix_by word form)) (g.Suffix word form) after_literal
+  suffix_decides : (form : Slice) → Decides (steps.◌>>=◌ (front.peek word) (read.suffix_by word form)) (g.Suffix word form) after_literal
   suffix_decides form = record {
     sound = λ ts x us h. suffix_sound form (next_word word ts) ts x us refl h;
     complete = suffix_complete form;
@@ -139,7 +139,7 @@ module _ {T : Type 0} (word : T → Option Word) where
   unfolding read.binding
   binding_decides = seq _ _ _ _ always (namespace_decides word) (λ prefix. seq _ _ _ _ always (value_decides word w.Iri) (λ reference. pure_decides (prefix, reference) always))
 
-  pub binding_strict : (ts : Lexemes T) (b : Piece × Piece) (us : Lexemes T) → g.Binding word ts b us → length us < length ts
+  pub binding_strict : (ts : Lexemes T) (b : Slice × Slice) (us : Lexemes T) → g.Binding word ts b us → length us < length ts
   binding_strict ts b us h = omega (arith, ap length h.reads.4, ap length h.goes.reads.3, ap length h.goes.goes.1)
 
   -- ---- what is read is what is derived

@@ -1,4 +1,4 @@
--- The bytes of a piece of the text.
+-- The bytes of a slice of the text.
 use Rattle.std.proofs.Common.{◌≡◌, ℕ, List, sym, ap, ◌∙◌}
 use Rattle.std.proofs.lemmas.Str.{encodes-chars}
 use Rattle.std.specs.Str.{chars, encode_utf8_all, IsUtf8}

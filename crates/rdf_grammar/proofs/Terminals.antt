@@ -7,7 +7,7 @@ use Rattle.rdf_grammar.specs.Steps as steps
 use Rattle.rdf_grammar.specs.Steps.{and_then, ◌>>◌}
 use Rattle.rdf_grammar.specs.Readings.{Outcome, Reading, Test, Fails, is_nil, next, any, one, optional}
 use Rattle.rdf_grammar.specs.Terminals as terminal
-use Rattle.rdf_grammar.specs.Terminals.{Piece, Lexemes, TellsApart, next_terminal}
+use Rattle.rdf_grammar.specs.Terminals.{Slice, Lexemes, TellsApart, next_terminal}
 use Rattle.rdf_grammar.specs.Derivations as grammar
 use Rattle.rdf_grammar.specs.Derivations.{Derives, Then}
 use Rattle.rdf_grammar.proofs.Decides.{always, Decides, then_decides, pure_decides, got, some_pair}
@@ -21,7 +21,7 @@ is_nil_is (x ∷ xs) h = absurd (cc)
 pub the_terminal : {T : Type 0} (k : T) (ts us : Lexemes T) (a : Unit {0}) → grammar.the k ts a us → next_terminal ts ≡ Some k
 the_terminal k ts us a h = ap next_terminal h.2 ∙ ap Some h.1
 
-pub value_terminal : {T : Type 0} (k : T) (ts us : Lexemes T) (v : Piece) → grammar.value k ts v us → next_terminal ts ≡ Some k
+pub value_terminal : {T : Type 0} (k : T) (ts us : Lexemes T) (v : Slice) → grammar.value k ts v us → next_terminal ts ≡ Some k
 value_terminal k ts us v h = ap next_terminal h.3 ∙ ap Some h.1
 
 -- what a look at the next terminal tells
@@ -116,12 +116,12 @@ module _ {T : Type 0} (same : T → T → Bool) (apart : TellsApart same) where
     shorter = λ ts a us d. omega (arith, ap length d.2);
   }
 
-  value_at : (k : T) (t : Lexeme T) (ts : Lexemes T) (b : Bool) (v : Piece) (us : Lexemes T) → same t.terminal k ≡ b
+  value_at : (k : T) (t : Lexeme T) (ts : Lexemes T) (b : Bool) (v : Slice) (us : Lexemes T) → same t.terminal k ≡ b
       → cond b (got t.text ts) None ≡ got v us → (t.terminal ≡ k) × (t.text ≡ v) × (ts ≡ us)
   value_at k t ts true v us s h = let x = some_pair t.text v ts us h in (apart.is t.terminal k s, x.0, x.1)
   value_at k t ts false v us s h = absurd (cc)
 
-  value_sound : (k : T) (ts : Lexemes T) (v : Piece) (us : Lexemes T) → terminal.value same k ts ≡ Some (v, us) → grammar.value k ts v us
+  value_sound : (k : T) (ts : Lexemes T) (v : Slice) (us : Lexemes T) → terminal.value same k ts ≡ Some (v, us) → grammar.value k ts v us
   unfolding terminal.value
   value_sound k [] v us h = absurd (cc)
   value_sound k (t ∷ ts) v us h = let x = value_at k t ts (same t.terminal k) v us refl h in (t, x.0, x.1, ap (λ l. t ∷ l) x.2)

@@ -8,7 +8,7 @@ use Rattle.rdf_grammar.specs.declared.word.Word.TheVariants as w
 use Rattle.rdf_grammar.specs.Steps as steps
 use Rattle.rdf_grammar.specs.Steps.{and_then}
 use Rattle.rdf_grammar.specs.Readings.{Reading, Test, any, is_nil}
-use Rattle.rdf_grammar.specs.Terminals.{Piece, Lexemes}
+use Rattle.rdf_grammar.specs.Terminals.{Slice, Lexemes}
 use Rattle.rdf_grammar.specs.Productions as g
 use Rattle.rdf_grammar.specs.Words as read
 use Rattle.rdf_grammar.specs.Words.{apart, is_word, next_word}
@@ -27,15 +27,15 @@ module _ {T : Type 0} (word : T → Option Word) where
   pub the_word : (w : Word) (ts us : Lexemes T) (a : Unit {0}) → g.the word w ts a us → next_word word ts ≡ Some w
   the_word w ts us a h = ap (next_word word) h.2 ∙ h.1
 
-  pub value_word : (w : Word) (ts us : Lexemes T) (v : Piece) → g.value word w ts v us → next_word word ts ≡ Some w
+  pub value_word : (w : Word) (ts us : Lexemes T) (v : Slice) → g.value word w ts v us → next_word word ts ≡ Some w
   value_word w ts us v h = ap (next_word word) h.3 ∙ h.1
 
-  value_at : (w : Word) (t : Lexeme T) (ts : Lexemes T) (b : Bool) (v : Piece) (us : Lexemes T) → is_word w (word t.terminal) ≡ b
+  value_at : (w : Word) (t : Lexeme T) (ts : Lexemes T) (b : Bool) (v : Slice) (us : Lexemes T) → is_word w (word t.terminal) ≡ b
       → cond b (got t.text ts) None ≡ got v us → (word t.terminal ≡ Some w) × (t.text ≡ v) × (ts ≡ us)
   value_at w t ts true v us s h = let x = some_pair t.text v ts us h in (word_is w (word t.terminal) s, x.0, x.1)
   value_at w t ts false v us s h = absurd (cc)
 
-  value_sound : (w : Word) (ts : Lexemes T) (v : Piece) (us : Lexemes T) → read.value word w ts ≡ Some (v, us) → g.value word w ts v us
+  value_sound : (w : Word) (ts : Lexemes T) (v : Slice) (us : Lexemes T) → read.value word w ts ≡ Some (v, us) → g.value word w ts v us
   unfolding read.value
   value_sound w [] v us h = absurd (cc)
   value_sound w (t ∷ ts) v us h = let x = value_at w t ts (is_word w (word t.terminal)) v us refl h in (t, x.0, x.1, ap (λ l. t ∷ l) x.2)
@@ -53,13 +53,13 @@ module _ {T : Type 0} (word : T → Option Word) where
 
   -- ---- prefixed names without a local part
 
-  namespace_at : (t : Lexeme T) (ts : Lexemes T) (a b : Bool) (v : Piece) (us : Lexemes T) → is_word w.Pname (word t.terminal) ≡ a → is_nil (local_part t.text) ≡ b
+  namespace_at : (t : Lexeme T) (ts : Lexemes T) (a b : Bool) (v : Slice) (us : Lexemes T) → is_word w.Pname (word t.terminal) ≡ a → is_nil (local_part t.text) ≡ b
       → cond (a && b) (got (prefix_part t.text) ts) None ≡ got v us → (word t.terminal ≡ Some w.Pname) × (local_part t.text ≡ []) × (prefix_part t.text ≡ v) × (ts ≡ us)
   namespace_at t ts true true v us p q h = let x = some_pair (prefix_part t.text) v ts us h in (word_is w.Pname (word t.terminal) p, is_nil_is (local_part t.text) q, x.0, x.1)
   namespace_at t ts true false v us p q h = absurd (cc)
   namespace_at t ts false b v us p q h = absurd (cc)
 
-  namespace_sound : (ts : Lexemes T) (v : Piece) (us : Lexemes T) → read.namespace word ts ≡ Some (v, us) → g.namespace word ts v us
+  namespace_sound : (ts : Lexemes T) (v : Slice) (us : Lexemes T) → read.namespace word ts ≡ Some (v, us) → g.namespace word ts v us
   unfolding read.namespace
   namespace_sound [] v us h = absurd (cc)
   namespace_sound (t ∷ ts) v us h =

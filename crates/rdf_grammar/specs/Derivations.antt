@@ -1,7 +1,7 @@
 -- What a grammar derives: relations between lexemes, a tree and the lexemes left. Nothing looks ahead here.
 use Rattle.std.specs.Prelude.{◌≡◌, List, [], ◌∷◌, ◌++◌, Option, ◌⊎◌, MatchOption, option_to_list}
 use Rattle.rdf_grammar.specs.declared.lexeme.Lexeme.{Lexeme}
-use Rattle.rdf_grammar.specs.Terminals.{Piece}
+use Rattle.rdf_grammar.specs.Terminals.{Slice}
 
 abbrev pub Derives : Type 0 → Type 0 → Type 1
 Derives X A = List X → A → List X → Type 0
@@ -37,7 +37,7 @@ abbrev pub the : {T : Type 0} → T → Derives (Lexeme T) (Unit {0})
 the {T} k ts v us = (t : Lexeme T) × (t.terminal ≡ k) × (ts ≡ t ∷ us)
 
 -- a lexeme of this terminal, with its characters
-abbrev pub value : {T : Type 0} → T → Derives (Lexeme T) Piece
+abbrev pub value : {T : Type 0} → T → Derives (Lexeme T) Slice
 value {T} k ts v us = (t : Lexeme T) × (t.terminal ≡ k) × (t.text ≡ v) × (ts ≡ t ∷ us)
 
 -- the list of the one tree that P derives

@@ -5,7 +5,7 @@ use Rattle.rdf_grammar.specs.declared.tree.Literal.{Literal}
 use Rattle.rdf_grammar.specs.declared.word.Word.{Word}
 use Rattle.rdf_grammar.specs.ProductionReadings.{iri, literal, binding, ends_literal}
 use Rattle.rdf_grammar.specs.Productions.{Iri, ALiteral, Binding}
-use Rattle.rdf_grammar.specs.Terminals.{Piece, Lexemes}
+use Rattle.rdf_grammar.specs.Terminals.{Slice, Lexemes}
 use Rattle.rdf_grammar.specs.Words.{next_word}
 
 -- word tells the word that a terminal is, if it is one
@@ -21,4 +21,4 @@ module _ {T : Type 0} (word : T → Option Word) where
       × (ALiteral word ts x us → ends_literal (next_word word us) ≡ true → literal word ts ≡ Some (x, us))
 
   abbrev pub BindingsAreRead : Type 0
-  BindingsAreRead = (ts : Lexemes T) (bound : Piece × Piece) (us : Lexemes T) → (binding word ts ≡ Some (bound, us)) ↔ Binding word ts bound us
+  BindingsAreRead = (ts : Lexemes T) (bound : Slice × Slice) (us : Lexemes T) → (binding word ts ≡ Some (bound, us)) ↔ Binding word ts bound us

@@ -10,7 +10,7 @@ use Rattle.rdf_grammar.specs.declared.word.Word.TheVariants as w
 use Rattle.rdf_grammar.specs.Productions.{prefixed}
 use Rattle.rdf_grammar.specs.Readings.{Reading, any}
 use Rattle.rdf_grammar.specs.Steps.{◌>>=◌, ◌>>◌, ◌<$>◌, pure, none}
-use Rattle.rdf_grammar.specs.Terminals.{Piece}
+use Rattle.rdf_grammar.specs.Terminals.{Slice}
 use Rattle.rdf_grammar.specs.Words.{peek, value, namespace}
 
 -- behind a literal stands no tag and no "^^"
@@ -41,7 +41,7 @@ module _ {T : Type 0} (word : T → Option Word) where
   iri = peek word >>= iri_by
 
   -- ( LANGTAG | "^^" iri )?, behind a String
-  abbrev pub suffix_by : Piece → Option Word → Reading (Lexeme T) Literal
+  abbrev pub suffix_by : Slice → Option Word → Reading (Lexeme T) Literal
   suffix_by form (Some w.Tag) = l.Tagged form <$> value word w.Tag
   suffix_by form (Some w.Caret) = any >> l.Typed form <$> iri
   suffix_by form _ = pure (l.Plain form)
@@ -66,7 +66,7 @@ module _ {T : Type 0} (word : T → Option Word) where
   literal = peek word >>= literal_by
 
   -- PNAME_NS IRIREF
-  unfoldable pub binding : Reading (Lexeme T) (Piece × Piece)
+  unfoldable pub binding : Reading (Lexeme T) (Slice × Slice)
   binding = do
     prefix ← namespace word
     reference ← value word w.Iri

@@ -10,10 +10,10 @@ use Rattle.rdf_grammar.specs.declared.tree.Literal.TheVariants as l
 use Rattle.rdf_grammar.specs.declared.word.Word.{Word}
 use Rattle.rdf_grammar.specs.declared.word.Word.TheVariants as w
 use Rattle.rdf_grammar.specs.Derivations.{Derives, ◌>>=◌, ◌>>◌, ◌<$>◌, ◌∣◌, pure}
-use Rattle.rdf_grammar.specs.Terminals.{Piece}
+use Rattle.rdf_grammar.specs.Terminals.{Slice}
 
 -- a prefix and a local part
-abbrev pub prefixed : Piece → Name
+abbrev pub prefixed : Slice → Name
 prefixed text = Prefixed (prefix_part text) (local_part text)
 
 -- word tells the word that a terminal is, if it is one
@@ -23,11 +23,11 @@ module _ {T : Type 0} (word : T → Option Word) where
   the w ts v us = (t : Lexeme T) × (word t.terminal ≡ Some w) × (ts ≡ t ∷ us)
 
   -- a lexeme of this word, with its characters
-  abbrev pub value : Word → Derives (Lexeme T) Piece
+  abbrev pub value : Word → Derives (Lexeme T) Slice
   value w ts v us = (t : Lexeme T) × (word t.terminal ≡ Some w) × (t.text ≡ v) × (ts ≡ t ∷ us)
 
   -- PNAME_NS (Turtle 139s, SPARQL 140): a prefixed name of which the local part is empty, with its prefix
-  abbrev pub namespace : Derives (Lexeme T) Piece
+  abbrev pub namespace : Derives (Lexeme T) Slice
   namespace ts v us =
       (t : Lexeme T) × (word t.terminal ≡ Some w.Pname) × (local_part t.text ≡ []) × (prefix_part t.text ≡ v) × (ts ≡ t ∷ us)
 
@@ -36,7 +36,7 @@ module _ {T : Type 0} (word : T → Option Word) where
   Iri = (Full <$> value w.Iri) ∣ (prefixed <$> value w.Pname)
 
   -- ( LANGTAG | "^^" iri )?, behind a String
-  abbrev pub Suffix : Piece → Derives (Lexeme T) Literal
+  abbrev pub Suffix : Slice → Derives (Lexeme T) Literal
   Suffix form = (l.Tagged form <$> value w.Tag) ∣ (the w.Caret >> l.Typed form <$> Iri) ∣ pure (l.Plain form)
 
   -- RDFLiteral = String ( LANGTAG | "^^" iri )? (Turtle 128s, SPARQL 129)
@@ -56,7 +56,7 @@ module _ {T : Type 0} (word : T → Option Word) where
   ALiteral = RDFLiteral ∣ NumericLiteral ∣ BooleanLiteral
 
   -- PNAME_NS IRIREF, in the declaration of a prefix (Turtle 4 and 6s, SPARQL 6)
-  abbrev pub Binding : Derives (Lexeme T) (Piece × Piece)
+  abbrev pub Binding : Derives (Lexeme T) (Slice × Slice)
   Binding = do
     prefix ← namespace
     reference ← value w.Iri

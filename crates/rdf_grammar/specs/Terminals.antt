@@ -4,9 +4,9 @@ use Rattle.rdf_grammar.specs.declared.lexeme.Lexeme.{Lexeme}
 use Rattle.rdf_grammar.specs.Readings.{Reading, Test, next, one, optional, repeat}
 use Rattle.rdf_grammar.specs.Steps.{◌>>=◌, ◌>>◌, ◌<$>◌, pure}
 
--- the characters of a piece of the text
-abbrev pub Piece : Type 0
-Piece = List ℕ
+-- the characters of a slice of the text
+abbrev pub Slice : Type 0
+Slice = List ℕ
 
 abbrev pub Lexemes : Type 0 → Type 0
 Lexemes T = List (Lexeme T)
@@ -22,7 +22,7 @@ next_terminal [] = None
 next_terminal (t ∷ ts) = Some t.terminal
 
 -- the next lexeme's characters
-abbrev pub next_text : {T : Type 0} → Lexemes T → Piece
+abbrev pub next_text : {T : Type 0} → Lexemes T → Slice
 next_text [] = []
 next_text (t ∷ ts) = t.text
 
@@ -41,7 +41,7 @@ module _ {T : Type 0} (same : T → T → Bool) where
   the k = λ ts. if sees k ts then Some (tt, next ts) else None
 
   -- a lexeme of this terminal, and its characters
-  unfoldable pub value : T → Reading (Lexeme T) Piece
+  unfoldable pub value : T → Reading (Lexeme T) Slice
   value k = λ ts. if sees k ts then Some (next_text ts, next ts) else None
 
   -- ( k p )*

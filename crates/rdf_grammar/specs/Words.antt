@@ -8,7 +8,7 @@ use Rattle.rdf_grammar.specs.declared.lexeme.Lexeme.{Lexeme}
 use Rattle.rdf_grammar.specs.declared.word.Word.{Word}
 use Rattle.rdf_grammar.specs.declared.word.Word.TheVariants.{Pname}
 use Rattle.rdf_grammar.specs.Readings.{Reading, next, is_nil}
-use Rattle.rdf_grammar.specs.Terminals.{Piece, Lexemes, TellsApart, next_terminal, next_text}
+use Rattle.rdf_grammar.specs.Terminals.{Slice, Lexemes, TellsApart, next_terminal, next_text}
 
 unfoldable pub same_word : Word → Word → Bool
 same_word = sameb the_type
@@ -37,9 +37,9 @@ module _ {T : Type 0} (word : T → Option Word) where
   sees w ts = is_word w (next_word ts)
 
   -- a lexeme of this word, and its characters
-  unfoldable pub value : Word → Reading (Lexeme T) Piece
+  unfoldable pub value : Word → Reading (Lexeme T) Slice
   value w = λ ts. if sees w ts then Some (next_text ts, next ts) else None
 
   -- a prefixed name of which the local part is empty (PNAME_NS), and its prefix
-  unfoldable pub namespace : Reading (Lexeme T) Piece
+  unfoldable pub namespace : Reading (Lexeme T) Slice
   namespace = λ ts. if sees Pname ts && is_nil (local_part (next_text ts)) then Some (prefix_part (next_text ts), next ts) else None

@@ -26,7 +26,7 @@ impl<'a> Model for Key<'a> {
 }
 
 impl<'a> Key<'a> {
-    /// The key of a piece of the text.
+    /// The key of a slice of the text.
     pub fn of(slice: &Slice<'a>) -> Key<'a>
         ensures { result ≡ key_of slice.now }
     {

@@ -2,11 +2,11 @@
 
 use rdf_tokens::Slice;
 
-/// A token: its terminal, and the piece of the text that it is.
+/// A token: its terminal, and the slice of the text that it is.
 #[derive(Debug, Drop)]
 pub struct Lexeme<'a, T> {
     /// What the grammar takes it for.
     pub terminal: T,
-    /// The piece of the text.
+    /// The slice of the text.
     pub text: Slice<'a>,
 }

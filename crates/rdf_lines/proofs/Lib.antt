@@ -11,7 +11,7 @@ pub mod LawLemmas
 pub mod LineEndLemmas
 pub mod LineLaws
 pub mod LineLemmas
-pub mod LinePieceLemmas
+pub mod LinePartLemmas
 pub mod PieceLemmas
 pub mod ReaderLemmas
 pub mod RenamedLemmas
@@ -25,5 +25,5 @@ pub mod SuffixSteps
 pub mod TermLemmas
 pub mod WrittenLabelLemmas
 pub mod WrittenLineLemmas
-pub mod WrittenPieceLemmas
+pub mod WrittenPartLemmas
 pub mod WrittenTagLemmas

@@ -14,7 +14,7 @@ use Rattle.rdf_lines.specs.declared.statement.Object.{Object}
 use Rattle.rdf_lines.specs.declared.statement.Statement.{Statement}
 use Rattle.rdf_lines.specs.Reading.{first_is, skip_white, node_at, object_at, begins_node, graph_at, is_empty_or_comment, is_end, stops_at, statement_at}
 use Rattle.rdf_lines.specs.Grammar.{is_white, HasNode, HasGraph, EmptyOrComment, Ends, IsStatement, Holds}
-use Rattle.rdf_lines.proofs.LinePieceLemmas.{NotWhite, Begins, iri_reader, gap_skip, skip_gap, skip_twice, black_begins, next_sound, next_complete, first_begins, first_other, differs}
+use Rattle.rdf_lines.proofs.LinePartLemmas.{NotWhite, Begins, iri_reader, gap_skip, skip_gap, skip_twice, black_begins, next_sound, next_complete, first_begins, first_other, differs}
 use Rattle.rdf_lines.proofs.TermLemmas.{meant_node, written_node, meant-written, meant_object, NoMark, node_sound, node_begins, node_complete, object_sound, object_complete}
 
 -- ---- the end of a line

@@ -31,7 +31,7 @@ use Rattle.rdf_lines.specs.Line.{Says, IsAbsoluteNode, IsAbsoluteObject, IsAbsol
 use Rattle.rdf_lines.specs.QuadText.{graph_text, quad_text}
 use Rattle.rdf_lines.specs.RoundTrip.{label_of, node_of, predicate_of, object_of, graph_of, statement_of, EachLineIsReadBack, LinesDiffer}
 use Rattle.rdf_lines.proofs.LineLaws.{one_answer}
-use Rattle.rdf_lines.proofs.WrittenPieceLemmas.{predicate_back, node_back, object_back}
+use Rattle.rdf_lines.proofs.WrittenPartLemmas.{predicate_back, node_back, object_back}
 
 -- ---- the line of a quad
 

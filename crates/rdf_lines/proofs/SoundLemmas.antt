@@ -71,10 +71,10 @@ iri_scalars (v ∷ vs) body h w =
     let here : scalar v ≡ true = elim w.3.1 [ inl plain ↦ first_scalar v [] (ap scalars (sym plain) ∙ p.0) | inr escape ↦ escape.scalar ] in
     and_from (scalar v) (scalars vs) here (iri_scalars vs w.1 p.1 w.4)
 
-string_scalar : (q : ℕ) (piece : List ℕ) (c : ℕ) → scalars piece ≡ true → IsStringCharacter q piece c → scalar c ≡ true
-string_scalar q piece c h (inl plain) = first_scalar c [] (ap scalars (sym plain.0) ∙ h)
-string_scalar q piece c h (inr (inl escape)) = escape.scalar
-string_scalar q piece c h (inr (inr short)) =
+string_scalar : (q : ℕ) (unit : List ℕ) (c : ℕ) → scalars unit ≡ true → IsStringCharacter q unit c → scalar c ≡ true
+string_scalar q unit c h (inl plain) = first_scalar c [] (ap scalars (sym plain.0) ∙ h)
+string_scalar q unit c h (inr (inl escape)) = escape.scalar
+string_scalar q unit c h (inr (inr short)) =
     let both : scalars (92 ∷ short.0 ∷ []) ≡ true = ap scalars (sym short.1) ∙ h in
     short_scalar short.0 c (first_scalar short.0 [] (and_parts (scalar 92) (scalars (short.0 ∷ [])) both).1) short.2
 
@@ -84,9 +84,9 @@ string_scalars q (v ∷ vs) body h w =
     let p = scalars-parts w.0 w.1 (ap scalars (sym w.2) ∙ h) in
     and_from (scalar v) (scalars vs) (string_scalar q w.0 v p.0 w.3) (string_scalars q vs w.1 p.1 w.4)
 
--- ---- pieces
+-- ---- parts
 
--- A piece of characters says a sound text.
+-- A part of characters says a sound text.
 abbrev Sound : (List ℕ → List ℕ → Type 0) → (List ℕ → Type 0) → Type 0
 Sound Form Good = (slice text : List ℕ) → scalars slice ≡ true → Form slice text → Good text
 
@@ -113,7 +113,7 @@ marked_sound mark IsName slice text h f =
     let name = (scalars-parts mark f.0 (ap scalars (sym f.1) ∙ h)).1 in
     ap is_utf8 f.3 ∙ text_utf8 f.0 name
 
--- the piece's text is sound, and so are the characters that follow it
+-- the part's text is sound, and so are the characters that follow it
 next_sound : {Form : List ℕ → List ℕ → Type 0} {Good : List ℕ → Type 0} (line text rest : List ℕ) → Sound Form Good → scalars line ≡ true → Next Form line text rest
     → Good text × (scalars rest ≡ true)
 next_sound line text rest sound h n =

@@ -17,7 +17,7 @@ use Rattle.rdf_lines.specs.declared.statement.Object.TheVariants as object
 use Rattle.rdf_lines.specs.Reading.{first_is, skip_white, label_at, tag_at, node_at, tagged_literal, tagged_at, typed_at, suffix_at, literal_at, object_at}
 use Rattle.rdf_lines.specs.Grammar.{IsString, IsBlankLabel, IsTag, Next, HasNode, typed, HasLiteral, HasObject}
 use Rattle.rdf_terms.proofs.TagForms.{tag_form}
-use Rattle.rdf_lines.proofs.LinePieceLemmas.{Begins, iri_reader, string_reader, label_reader, tag_reader, gap_skip, skip_gap, black_begins, next_sound, next_complete, next_begins, first_begins, first_other, differs}
+use Rattle.rdf_lines.proofs.LinePartLemmas.{Begins, iri_reader, string_reader, label_reader, tag_reader, gap_skip, skip_gap, black_begins, next_sound, next_complete, next_begins, first_begins, first_other, differs}
 
 -- ---- nodes
 

@@ -17,7 +17,7 @@ use Rattle.rdf_lines.specs.declared.statement.Object.{Object}
 use Rattle.rdf_lines.specs.declared.statement.Object.TheVariants as object
 use Rattle.rdf_lines.specs.declared.statement.Statement.{Statement}
 
--- ---- pieces
+-- ---- parts
 
 -- `"`, characters, `"`
 abbrev pub IsString : List ℕ → List ℕ → Type 0
@@ -48,7 +48,7 @@ IsBlankLabel slice text = IsMarked (codes "_:") IsLabelName slice text
 abbrev pub IsTag : List ℕ → List ℕ → Type 0
 IsTag slice text = IsMarked (codes "@") IsTagName slice text
 
--- ---- pieces of a line, and the gaps between them
+-- ---- parts of a line, and the gaps between them
 
 -- Some slice at the front of `line` says `value`, `rest` follows it, and no longer front has the same form.
 pub record Takes {V : Type 0} (Form : List ℕ → V → Type 0) (line : List ℕ) (value : V) (rest : List ℕ) : Type 0 where
@@ -65,7 +65,7 @@ is_white c = (c == 32) || (c == 9)
 abbrev pub Gap : List ℕ → List ℕ → Type 0
 Gap line rest = (white : List ℕ) × AllByRecursion (λ c. is_white c ≡ true) white × (line ≡ white ++ rest)
 
--- a gap, and then a piece
+-- a gap, and then a part
 abbrev pub Next : {V : Type 0} → (List ℕ → V → Type 0) → List ℕ → V → List ℕ → Type 0
 Next Form line value rest = (start : List ℕ) × Gap line start × Takes Form start value rest
 

@@ -10,7 +10,7 @@ use Rattle.std.proofs.lemmas.List.Splits.{join_with_byte-slice_split}
 use Rattle.std.proofs.lemmas.Slice.Eq.{starts_is}
 use Rattle.std.proofs.lemmas.Str.{IsUtf8-append, IsUtf8-nil, IsUtf8-take, IsUtf8-drop, IsUtf8-from_is_utf8, IsCharBoundary-before_ascii, IsCharBoundary-after_ascii, IsUtf8-from_ascii}
 use Rattle.rdf_terms.specs.Cuts.{before, after, up_to_slash}
-use Rattle.rdf_terms.specs.Dots.{is_text, segments, undotted, pieces, closing, kept, joined, without_dots}
+use Rattle.rdf_terms.specs.Dots.{is_text, segments, undotted, with_slashes, closing, kept, joined, without_dots}
 use Rattle.rdf_terms.specs.Iri.{is_forbidden, has_forbidden, has_scheme, is_scheme, is_iri}
 use Rattle.rdf_terms.specs.Rewriting.{with_front, components_of, resolved}
 use Rattle.rdf_terms.specs.Reference.{Components, marked, recomposed}
@@ -175,10 +175,10 @@ clean_slashed : (ss : List (List ℕ)) → AllClean ss → AllClean (map (λ s. 
 clean_slashed [] h = tt
 clean_slashed (s ∷ ss) h = (clean_append (codes "/") s clean_slash h.0, clean_slashed ss h.1)
 
-clean_pieces : (ss : List (List ℕ)) → AllClean ss → AllClean (pieces ss)
-clean_pieces [] h = tt
-clean_pieces ([] ∷ ss) h = clean_slashed ss h.1
-clean_pieces ((c ∷ cs) ∷ ss) h = (h.0, clean_slashed ss h.1)
+clean_with_slashes : (ss : List (List ℕ)) → AllClean ss → AllClean (with_slashes ss)
+clean_with_slashes [] h = tt
+clean_with_slashes ([] ∷ ss) h = clean_slashed ss h.1
+clean_with_slashes ((c ∷ cs) ∷ ss) h = (h.0, clean_slashed ss h.1)
 
 clean_closing : (ps done : List (List ℕ)) → AllClean done → AllClean (closing ps ++ done)
 clean_closing [] done h = (clean_slash, h)
@@ -205,7 +205,7 @@ clean_joined (p ∷ ps) h = clean_append (joined ps) p (clean_joined ps h.1) h.0
 
 clean_dots : (path : List ℕ) → Clean path → Clean (without_dots path)
 unfolding without_dots
-clean_dots path h = clean_joined (kept [] (pieces (undotted (segments path)))) (clean_kept [] (pieces (undotted (segments path))) tt (clean_pieces (undotted (segments path)) (clean_undotted (segments path) (clean_segments path h))))
+clean_dots path h = clean_joined (kept [] (with_slashes (undotted (segments path)))) (clean_kept [] (with_slashes (undotted (segments path))) tt (clean_with_slashes (undotted (segments path)) (clean_undotted (segments path) (clean_segments path h))))
 
 -- ---- the result
 

@@ -4,10 +4,10 @@ use Rattle.std.specs.List.{AllByRecursion, list_any, onto_first}
 use Rattle.std.proofs.lemmas.Bool.{cases_Bool, cond_both, or_from, or_parts}
 use Rattle.std.proofs.lemmas.List.{append-nil}
 use Rattle.std.proofs.lemmas.List.Splits.{slice_split_none}
-use Rattle.rdf_terms.specs.Dots.{is_text, is_dot_segment, segments, undotted, pieces, closing, kept, joined, without_dots}
+use Rattle.rdf_terms.specs.Dots.{is_text, is_dot_segment, segments, undotted, with_slashes, closing, kept, joined, without_dots}
 use Rattle.rdf_terms.specs.Reference.{Lacks}
 use Rattle.rdf_terms.specs.ResolutionLaws.{together}
-use Rattle.rdf_terms.proofs.DotLemmas.{slashed, none_slash, kept_piece, pieces_are_the_path}
+use Rattle.rdf_terms.proofs.DotLemmas.{slashed, none_slash, kept_segment, segments_are_the_path}
 
 abbrev has_dots : List (List ℕ) → Bool
 has_dots ss = list_any is_dot_segment ss
@@ -69,7 +69,7 @@ undotted_first (s ∷ ss) =
 
 -- ---- no dot segment is left
 
--- pieces kept, the last one first: none is a slash and a dot segment, nor a leading dot segment
+-- segments kept, the last one first: none is a slash and a dot segment, nor a leading dot segment
 abbrev Plain : List (List ℕ) → Type 0
 Plain [] = Unit {0}
 Plain (p ∷ earlier) =
@@ -111,7 +111,7 @@ kept_plain done (p ∷ ps) h g =
       | inl one ↦ rw one (kept_plain (closing ps ++ done) ps (plain_closing ps done h) g.1)
       | inr not_one ↦ elim (cases_Bool (is_text p (codes "/.."))) [
         | inl two ↦ rw (not_one, two) (kept_plain (closing ps ++ drop 1 done) ps (plain_closing ps (drop 1 done) (plain_less done h)) g.1)
-        | inr not_two ↦ subst Plain (sym (kept_piece done ps p not_one not_two))
+        | inr not_two ↦ subst Plain (sym (kept_segment done ps p not_one not_two))
             (kept_plain (p ∷ done) ps (inl (g.0.0, g.0.1, g.0.2, no_word p g.0.0 g.0.1 not_one not_two, h)) g.1)
       ]
     ]
@@ -119,17 +119,17 @@ kept_plain done (p ∷ ps) h g =
 no_slash_word : (c : ℕ) (cs w : List ℕ) → eqb c 47 ≡ false → is_text (c ∷ cs) (47 ∷ w) ≡ false
 no_slash_word c cs w e = rw e refl
 
-pieces_kept : (ss : List (List ℕ)) → AllLack ss → FirstIsPlain ss → Plain (kept [] (pieces ss))
-pieces_kept [] h first = tt
-pieces_kept ([] ∷ ss) h first = kept_plain [] (map slashed ss) tt (slashed_are ss h.1)
-pieces_kept ((c ∷ cs) ∷ ss) h first =
-    subst Plain (sym (kept_piece [] (map slashed ss) (c ∷ cs) (no_slash_word c cs (codes ".") h.0.0) (no_slash_word c cs (codes "..") h.0.0)))
+segments_kept : (ss : List (List ℕ)) → AllLack ss → FirstIsPlain ss → Plain (kept [] (with_slashes ss))
+segments_kept [] h first = tt
+segments_kept ([] ∷ ss) h first = kept_plain [] (map slashed ss) tt (slashed_are ss h.1)
+segments_kept ((c ∷ cs) ∷ ss) h first =
+    subst Plain (sym (kept_segment [] (map slashed ss) (c ∷ cs) (no_slash_word c cs (codes ".") h.0.0) (no_slash_word c cs (codes "..") h.0.0)))
     (kept_plain ((c ∷ cs) ∷ []) (map slashed ss) (inr (refl, h.0, first)) (slashed_are ss h.1))
 
 pub no_dots_left : (path : List ℕ) → has_dots (segments (without_dots path)) ≡ false
 unfolding without_dots
 no_dots_left path =
-    plain_joined (kept [] (pieces (undotted (segments path)))) (pieces_kept (undotted (segments path)) (undotted_lack (segments path) (segments_lack path)) (undotted_first (segments path)))
+    plain_joined (kept [] (with_slashes (undotted (segments path)))) (segments_kept (undotted (segments path)) (undotted_lack (segments path) (segments_lack path)) (undotted_first (segments path)))
 
 -- ---- other paths stay
 
@@ -138,19 +138,19 @@ kept_slashed done [] h = sym (append-nil (joined done))
 kept_slashed done (s ∷ ss) h =
     let first = or_parts (is_dot_segment s) (has_dots ss) h in
     let words = or_parts (is_text s (codes ".")) (is_text s (codes "..")) first.0 in
-    ap joined (kept_piece done (map slashed ss) (47 ∷ s) words.0 words.1) ∙ kept_slashed ((47 ∷ s) ∷ done) ss first.1
+    ap joined (kept_segment done (map slashed ss) (47 ∷ s) words.0 words.1) ∙ kept_slashed ((47 ∷ s) ∷ done) ss first.1
     ∙ append_assoc (joined done) (47 ∷ s) (together (map slashed ss))
 
-kept_pieces : (ss : List (List ℕ)) → AllLack ss → has_dots ss ≡ false → joined (kept [] (pieces (undotted ss))) ≡ together (pieces ss)
-kept_pieces [] h g = refl
-kept_pieces ([] ∷ ss) h g = kept_slashed [] ss g
-kept_pieces ((c ∷ cs) ∷ ss) h g =
+kept_segments : (ss : List (List ℕ)) → AllLack ss → has_dots ss ≡ false → joined (kept [] (with_slashes (undotted ss))) ≡ together (with_slashes ss)
+kept_segments [] h g = refl
+kept_segments ([] ∷ ss) h g = kept_slashed [] ss g
+kept_segments ((c ∷ cs) ∷ ss) h g =
     let first = or_parts (is_dot_segment (c ∷ cs)) (has_dots ss) g in
     let same : undotted ((c ∷ cs) ∷ ss) ≡ (c ∷ cs) ∷ ss = rw first.0 refl in
-    ap (λ (ts : List (List ℕ)). joined (kept [] (pieces ts))) same
-    ∙ ap joined (kept_piece [] (map slashed ss) (c ∷ cs) (no_slash_word c cs (codes ".") h.0.0) (no_slash_word c cs (codes "..") h.0.0))
+    ap (λ (ts : List (List ℕ)). joined (kept [] (with_slashes ts))) same
+    ∙ ap joined (kept_segment [] (map slashed ss) (c ∷ cs) (no_slash_word c cs (codes ".") h.0.0) (no_slash_word c cs (codes "..") h.0.0))
     ∙ kept_slashed ((c ∷ cs) ∷ []) ss first.1
 
 pub others_kept : (path : List ℕ) → has_dots (segments path) ≡ false → without_dots path ≡ path
 unfolding without_dots
-others_kept path none = kept_pieces (segments path) (segments_lack path) none ∙ pieces_are_the_path path
+others_kept path none = kept_segments (segments path) (segments_lack path) none ∙ segments_are_the_path path

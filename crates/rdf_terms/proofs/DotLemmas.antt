@@ -1,4 +1,4 @@
--- The rewriting of a path's text against the list of its pieces.
+-- The rewriting of a path's text against the list of its segments.
 use Rattle.std.proofs.Common.{◌≡◌, ℕ, ◌+◌, ◌⊎◌, Bool, true, false, eqb, suc, ◌||◌, nat_eq, List, [], ◌∷◌, ◌++◌, codes, map, Option, Some, None, length, take, drop, get_or, zero, ◌<◌, refl, sym, ap, subst, ◌∙◌, inl, inr, arith, append_assoc}
 use Rattle.std.specs.List.{starts_with, onto_first, All, join_with_byte}
 use Rattle.std.proofs.lemmas.Bool.{cases_Bool, eqb-true, or_cases, or_parts, true≢false, false_from_ne_true}
@@ -7,7 +7,7 @@ use Rattle.std.proofs.lemmas.List.{append-nil, take_at, drop_at, length-append}
 use Rattle.std.proofs.lemmas.List.Splits.{slice_split_none, slice_split_at, join_with_byte-slice_split}
 use Rattle.std.proofs.lemmas.Slice.Eq.{starts_is, slice_eq-Decides}
 use Rattle.rdf_terms.specs.Cuts.{before, after}
-use Rattle.rdf_terms.specs.Dots.{is_text, segments, undotted, pieces, closing, kept, joined, without_dots}
+use Rattle.rdf_terms.specs.Dots.{is_text, segments, undotted, with_slashes, closing, kept, joined, without_dots}
 use Rattle.rdf_terms.specs.ResolutionLaws.{together}
 use Rattle.rdf_terms.specs.Rewriting.{without_last, step_input, step_output}
 use Rattle.rdf_terms.specs.Reference.{Lacks, marked, is_rooted}
@@ -16,11 +16,11 @@ use Rattle.rdf_terms.proofs.CutLemmas.{cut_joins, before_lacks_mark, pop_joined,
 abbrev pub slashed : List ℕ → List ℕ
 slashed s = 47 ∷ s
 
--- what the pieces kept and the input left come to
+-- what the segments kept and the input left come to
 abbrev meaning : List (List ℕ) → List ℕ → List ℕ
-meaning done input = joined (kept done (pieces (undotted (segments input))))
+meaning done input = joined (kept done (with_slashes (undotted (segments input))))
 
--- pieces kept, the last one first: a slash and no other slash in each, and none at all in a leading one
+-- segments kept, the last one first: a slash and no other slash in each, and none at all in a leading one
 abbrev pub Shaped : List (List ℕ) → Type 0
 Shaped [] = Unit {0}
 Shaped (p ∷ earlier) = ((s : List ℕ) × (p ≡ 47 ∷ s) × Lacks 47 s × Shaped earlier) ⊎ ((earlier ≡ []) × Lacks 47 p)
@@ -31,7 +31,7 @@ pub record DoneSoFar (path input output : List ℕ) : Type 0 where
   pub shaped : Shaped done
   pub rooted : (done ≡ []) ⊎ (is_rooted input ≡ true)
   pub output_is : output ≡ joined done
-  pub meaning_is : joined (kept done (pieces (undotted (segments input)))) ≡ without_dots path
+  pub meaning_is : joined (kept done (with_slashes (undotted (segments input)))) ≡ without_dots path
 
 pub done_start : (path : List ℕ) → DoneSoFar path path []
 unfolding without_dots
@@ -54,7 +54,7 @@ begins xs w e = (starts_is Decides-eqb xs w (starts_with nat_eq xs w) refl).0 e
 begins_from : (xs w rest : List ℕ) → xs ≡ w ++ rest → starts_with nat_eq xs w ≡ true
 begins_from xs w rest e = (starts_is Decides-eqb xs w (starts_with nat_eq xs w) refl).1 rest e
 
--- a first piece isn't a word where the input neither is that word nor begins with it and a slash
+-- a first segment isn't a word where the input neither is that word nor begins with it and a slash
 not_word : (w p : List ℕ) (a : Option (List ℕ)) (input : List ℕ) → input ≡ p ++ marked (codes "/") a → is_text input w ≡ false → starts_with nat_eq input (w ++ codes "/") ≡ false → is_text p w ≡ false
 not_word w p None input e no_text no_start =
     false_from_ne_true (is_text p w) (λ (h : is_text p w ≡ true). true≢false (sym (is_itself input w (e ∙ append-nil p ∙ text_is p w h)) ∙ no_text))
@@ -62,7 +62,7 @@ not_word w p (Some r) input e no_text no_start =
     false_from_ne_true (is_text p w) (λ (h : is_text p w ≡ true).
     true≢false (sym (begins_from input (w ++ codes "/") r (e ∙ ap (λ (t : List ℕ). t ++ 47 ∷ r) (text_is p w h) ∙ sym (append_assoc w (codes "/") r))) ∙ no_start))
 
--- ---- the pieces of a text
+-- ---- the segments of a text
 
 closing_onto : (c : ℕ) (ss : List (List ℕ)) → closing (map slashed (onto_first c ss)) ≡ []
 closing_onto c [] = refl
@@ -93,28 +93,28 @@ first_segment : (s : List ℕ) (a : Option (List ℕ)) → Lacks 47 s → segmen
 first_segment s None h = rw append-nil (slice_split_none (λ c. eqb c 47) s (none_slash s h))
 first_segment s (Some r) h = slice_split_at (λ c. eqb c 47) s 47 r (none_slash s h) refl
 
-pieces_tails : (a : Option (List ℕ)) → pieces (undotted (segments (marked (codes "/") a))) ≡ map slashed (tails a)
-pieces_tails None = refl
-pieces_tails (Some r) = refl
+tails_with_slashes : (a : Option (List ℕ)) → with_slashes (undotted (segments (marked (codes "/") a))) ≡ map slashed (tails a)
+tails_with_slashes None = refl
+tails_with_slashes (Some r) = refl
 
--- a piece that is no word is kept
-pub kept_piece : (done ps : List (List ℕ)) (p : List ℕ) → is_text p (codes "/.") ≡ false → is_text p (codes "/..") ≡ false → kept done (p ∷ ps) ≡ kept (p ∷ done) ps
-kept_piece done ps p one two = rw (one, two) refl
+-- a segment that is no word is kept
+pub kept_segment : (done ps : List (List ℕ)) (p : List ℕ) → is_text p (codes "/.") ≡ false → is_text p (codes "/..") ≡ false → kept done (p ∷ ps) ≡ kept (p ∷ done) ps
+kept_segment done ps p one two = rw (one, two) refl
 
--- the first piece of an input that begins with a slash
-pieces_slash : (s : List ℕ) (a : Option (List ℕ)) → Lacks 47 s → pieces (undotted (segments (47 ∷ (s ++ marked (codes "/") a)))) ≡ (47 ∷ s) ∷ map slashed (tails a)
-pieces_slash s a lacks = ap (λ (ss : List (List ℕ)). map slashed ss) (first_segment s a lacks)
+-- the first segment of an input that begins with a slash
+slash_first : (s : List ℕ) (a : Option (List ℕ)) → Lacks 47 s → with_slashes (undotted (segments (47 ∷ (s ++ marked (codes "/") a)))) ≡ (47 ∷ s) ∷ map slashed (tails a)
+slash_first s a lacks = ap (λ (ss : List (List ℕ)). map slashed ss) (first_segment s a lacks)
 
 -- and of one that doesn't
-undot : (p : List ℕ) (ss : List (List ℕ)) → is_text p (codes ".") ≡ false → is_text p (codes "..") ≡ false → pieces (undotted (p ∷ ss)) ≡ pieces (p ∷ ss)
+undot : (p : List ℕ) (ss : List (List ℕ)) → is_text p (codes ".") ≡ false → is_text p (codes "..") ≡ false → with_slashes (undotted (p ∷ ss)) ≡ with_slashes (p ∷ ss)
 undot p ss one two = rw (one, two) refl
 
-pieces_plain : (c : ℕ) (s : List ℕ) (a : Option (List ℕ)) → eqb c 47 ≡ false → Lacks 47 s → is_text (c ∷ s) (codes ".") ≡ false → is_text (c ∷ s) (codes "..") ≡ false
-    → pieces (undotted (segments (c ∷ (s ++ marked (codes "/") a)))) ≡ (c ∷ s) ∷ map slashed (tails a)
-pieces_plain c s a plain lacks one two =
+plain_first : (c : ℕ) (s : List ℕ) (a : Option (List ℕ)) → eqb c 47 ≡ false → Lacks 47 s → is_text (c ∷ s) (codes ".") ≡ false → is_text (c ∷ s) (codes "..") ≡ false
+    → with_slashes (undotted (segments (c ∷ (s ++ marked (codes "/") a)))) ≡ (c ∷ s) ∷ map slashed (tails a)
+plain_first c s a plain lacks one two =
     let whole : segments (c ∷ (s ++ marked (codes "/") a)) ≡ (c ∷ s) ∷ tails a =
     rw plain (ap (onto_first c) (first_segment s a lacks)) in
-    ap (λ (ss : List (List ℕ)). pieces (undotted ss)) whole ∙ undot (c ∷ s) (tails a) one two
+    ap (λ (ss : List (List ℕ)). with_slashes (undotted ss)) whole ∙ undot (c ∷ s) (tails a) one two
 
 -- ---- one step
 
@@ -193,7 +193,7 @@ case_2 path input output n1 e so_far =
     (leading path (drop 2 input) output (46 ∷ 47 ∷ drop 2 input) refl (λ done. refl) (subst (λ (i : List ℕ). DoneSoFar path i output) shape so_far))
     (omega arith)
 
--- a dropped piece with a further one after it
+-- a dropped segment with a further one after it
 drops_dot : (done : List (List ℕ)) (r : List ℕ) → meaning done (47 ∷ 46 ∷ 47 ∷ r) ≡ meaning done (47 ∷ r)
 drops_dot done r = ap (λ (t : List (List ℕ)). joined (kept (t ++ done) (map slashed (segments r)))) (closing_split r)
 
@@ -281,7 +281,7 @@ rest_rooted : (a : Option (List ℕ)) → is_rooted (marked (codes "/") a) ≡ t
 rest_rooted None = refl
 rest_rooted (Some r) = refl
 
--- the first piece goes to the output
+-- the first segment goes to the output
 moved : (path : List ℕ) (c : ℕ) (s : List ℕ) (a : Option (List ℕ)) (output : List ℕ) → Lacks 47 s
     → is_text (c ∷ s) (codes ".") ≡ false → is_text (c ∷ s) (codes "..") ≡ false → is_text (c ∷ s) (codes "/.") ≡ false → is_text (c ∷ s) (codes "/..") ≡ false
     → DoneSoFar path (c ∷ (s ++ marked (codes "/") a)) output → DoneSoFar path (marked (codes "/") a) (output ++ c ∷ s)
@@ -294,10 +294,10 @@ moved path c s a output lacks m1 m2 m3 m4 so_far =
         output_is = ap (λ (t : List ℕ). t ++ c ∷ s) so_far.output_is;
         meaning_is =
             let slash = eqb-true c 47 is in
-            ap (λ (ps : List (List ℕ)). joined (kept ((c ∷ s) ∷ so_far.done) ps)) (pieces_tails a)
-            ∙ sym (ap joined (kept_piece so_far.done (map slashed (tails a)) (c ∷ s) m3 m4))
+            ap (λ (ps : List (List ℕ)). joined (kept ((c ∷ s) ∷ so_far.done) ps)) (tails_with_slashes a)
+            ∙ sym (ap joined (kept_segment so_far.done (map slashed (tails a)) (c ∷ s) m3 m4))
             ∙ sym (ap (λ (ps : List (List ℕ)). joined (kept so_far.done ps))
-            (ap (λ (x : ℕ). pieces (undotted (segments (x ∷ (s ++ marked (codes "/") a))))) slash ∙ pieces_slash s a lacks ∙ ap (λ (x : ℕ). (x ∷ s) ∷ map slashed (tails a)) (sym slash)))
+            (ap (λ (x : ℕ). with_slashes (undotted (segments (x ∷ (s ++ marked (codes "/") a))))) slash ∙ slash_first s a lacks ∙ ap (λ (x : ℕ). (x ∷ s) ∷ map slashed (tails a)) (sym slash)))
             ∙ so_far.meaning_is;
       }
       | inr plain ↦
@@ -308,9 +308,9 @@ moved path c s a output lacks m1 m2 m3 m4 so_far =
             rooted = inr (rest_rooted a);
             output_is = ap (λ (t : List ℕ). t ++ c ∷ s) so_far.output_is;
             meaning_is =
-                ap (λ (ps : List (List ℕ)). joined (kept ((c ∷ s) ∷ so_far.done) ps)) (pieces_tails a)
-                ∙ sym (ap joined (kept_piece so_far.done (map slashed (tails a)) (c ∷ s) m3 m4))
-                ∙ sym (ap (λ (ps : List (List ℕ)). joined (kept so_far.done ps)) (pieces_plain c s a plain lacks m1 m2))
+                ap (λ (ps : List (List ℕ)). joined (kept ((c ∷ s) ∷ so_far.done) ps)) (tails_with_slashes a)
+                ∙ sym (ap joined (kept_segment so_far.done (map slashed (tails a)) (c ∷ s) m3 m4))
+                ∙ sym (ap (λ (ps : List (List ℕ)). joined (kept so_far.done ps)) (plain_first c s a plain lacks m1 m2))
                 ∙ so_far.meaning_is;
           }
     ]
@@ -370,18 +370,18 @@ done_next path input output rest more some e f so_far = rw (e, f) (next path inp
 pub smaller_next : (path input output rest : List ℕ) → (input ≡ [] → ⊥) → rest ≡ step_input input → DoneSoFar path input output → length rest < length input
 smaller_next path input output rest some e so_far = rw e (next path input output some so_far).smaller
 
--- ---- the pieces of a path are the path
+-- ---- the segments of a path are the path
 
 together_slashed : (s : List ℕ) (ss : List (List ℕ)) → together (map slashed (s ∷ ss)) ≡ 47 ∷ join_with_byte 47 (s ∷ ss)
 together_slashed s [] = ap (λ (t : List ℕ). 47 ∷ t) (append-nil s)
 together_slashed s (t ∷ ss) = ap (λ (x : List ℕ). 47 ∷ (s ++ x)) (together_slashed t ss)
 
-together_pieces : (ss : List (List ℕ)) → together (pieces ss) ≡ join_with_byte 47 ss
-together_pieces [] = refl
-together_pieces ([] ∷ []) = refl
-together_pieces ([] ∷ s ∷ ss) = together_slashed s ss
-together_pieces ((c ∷ cs) ∷ []) = append-nil (c ∷ cs)
-together_pieces ((c ∷ cs) ∷ s ∷ ss) = ap (λ (x : List ℕ). c ∷ (cs ++ x)) (together_slashed s ss)
+together_segments : (ss : List (List ℕ)) → together (with_slashes ss) ≡ join_with_byte 47 ss
+together_segments [] = refl
+together_segments ([] ∷ []) = refl
+together_segments ([] ∷ s ∷ ss) = together_slashed s ss
+together_segments ((c ∷ cs) ∷ []) = append-nil (c ∷ cs)
+together_segments ((c ∷ cs) ∷ s ∷ ss) = ap (λ (x : List ℕ). c ∷ (cs ++ x)) (together_slashed s ss)
 
-pub pieces_are_the_path : (path : List ℕ) → together (pieces (segments path)) ≡ path
-pieces_are_the_path path = together_pieces (segments path) ∙ join_with_byte-slice_split 47 path
+pub segments_are_the_path : (path : List ℕ) → together (with_slashes (segments path)) ≡ path
+segments_are_the_path path = together_segments (segments path) ∙ join_with_byte-slice_split 47 path

@@ -9,9 +9,9 @@ use Rattle.rdf_terms.proofs.SkipLemmas.{AllPass, skip_no_longer}
 
 -- A reader of one unit gives just what the form has, and no unit begins with a dot.
 pub record IsUnit (Form : List ℕ → Type 0) (one : List ℕ → Option (List ℕ)) : Type 0 where
-  pub sound : (cs rest : List ℕ) → one cs ≡ Some rest → (piece : List ℕ) × (cs ≡ piece ++ rest) × Form piece
-  pub complete : (piece rest : List ℕ) → Form piece → one (piece ++ rest) ≡ Some rest
-  pub begins : (piece : List ℕ) → Form piece → (b : ℕ) × (bs : List ℕ) × (piece ≡ b ∷ bs) × (b ≢ 46)
+  pub sound : (cs rest : List ℕ) → one cs ≡ Some rest → (unit : List ℕ) × (cs ≡ unit ++ rest) × Form unit
+  pub complete : (unit rest : List ℕ) → Form unit → one (unit ++ rest) ≡ Some rest
+  pub begins : (unit : List ℕ) → Form unit → (b : ℕ) × (bs : List ℕ) × (unit ≡ b ∷ bs) × (b ≢ 46)
 
 -- behind a unit less is left
 abbrev pub Shortens : (List ℕ → Option (List ℕ)) → Type 0
@@ -118,7 +118,7 @@ further one two on less short same over cs = by (suc (length cs)) cs (omega arit
 
 -- ---- what is read is the longest run
 
-front_by : {Form : List ℕ → Type 0} (one : List ℕ → Option (List ℕ)) → IsUnit Form one → (n : ℕ) (cs : List ℕ) → (slice : List ℕ) × (pieces : List (List ℕ)) × (cs ≡ slice ++ dotted one n cs) × IsDotted Form slice pieces
+front_by : {Form : List ℕ → Type 0} (one : List ℕ → Option (List ℕ)) → IsUnit Form one → (n : ℕ) (cs : List ℕ) → (slice : List ℕ) × (units : List (List ℕ)) × (cs ≡ slice ++ dotted one n cs) × IsDotted Form slice units
 unfolding dotted
 front_by one is zero cs = ([], [], refl, refl)
 front_by one is (suc n) cs =
@@ -137,46 +137,46 @@ front_by one is (suc n) cs =
           )
     ]
 
-pub dotted_front : {Form : List ℕ → Type 0} (one : List ℕ → Option (List ℕ)) → IsUnit Form one → (cs : List ℕ) → (slice : List ℕ) × (pieces : List (List ℕ)) × (cs ≡ slice ++ dotted_at one cs) × IsDotted Form slice pieces
+pub dotted_front : {Form : List ℕ → Type 0} (one : List ℕ → Option (List ℕ)) → IsUnit Form one → (cs : List ℕ) → (slice : List ℕ) × (units : List (List ℕ)) × (cs ≡ slice ++ dotted_at one cs) × IsDotted Form slice units
 unfolding dotted_at
 dotted_front one is cs = front_by one is (length cs) cs
 
-pub dotted_over : {Form : List ℕ → Type 0} (one : List ℕ → Option (List ℕ)) → IsUnit Form one → (pieces : List (List ℕ)) (slice rest : List ℕ) → IsDotted Form slice pieces → dotted_at one (slice ++ rest) ≡ dotted_at one rest
+pub dotted_over : {Form : List ℕ → Type 0} (one : List ℕ → Option (List ℕ)) → IsUnit Form one → (units : List (List ℕ)) (slice rest : List ℕ) → IsDotted Form slice units → dotted_at one (slice ++ rest) ≡ dotted_at one rest
 dotted_over one is [] slice rest h = ap (λ (t : List ℕ). dotted_at one (t ++ rest)) h
-dotted_over one is (piece ∷ pieces) slice rest h =
+dotted_over one is (unit ∷ units) slice rest h =
     let dots = h.0 in
     let others = h.1 in
-    let b = is.begins piece h.4 in
-    let whole : slice ++ rest ≡ dots ++ (piece ++ (others ++ rest)) =
-    ap (λ (t : List ℕ). t ++ rest) h.2 ∙ append_assoc dots (piece ++ others) rest ∙ ap (λ (t : List ℕ). dots ++ t) (append_assoc piece others rest) in
-    let stops : skip_dots (piece ++ (others ++ rest)) ≡ piece ++ (others ++ rest) =
+    let b = is.begins unit h.4 in
+    let whole : slice ++ rest ≡ dots ++ (unit ++ (others ++ rest)) =
+    ap (λ (t : List ℕ). t ++ rest) h.2 ∙ append_assoc dots (unit ++ others) rest ∙ ap (λ (t : List ℕ). dots ++ t) (append_assoc unit others rest) in
+    let stops : skip_dots (unit ++ (others ++ rest)) ≡ unit ++ (others ++ rest) =
     ap (λ (t : List ℕ). skip_dots (t ++ (others ++ rest))) b.2 ∙ no_dots b.0 (b.1 ++ (others ++ rest)) b.3 ∙ ap (λ (t : List ℕ). t ++ (others ++ rest)) (sym b.2) in
     let read : one (skip_dots (slice ++ rest)) ≡ Some (others ++ rest) =
-    ap (λ (t : List ℕ). one (skip_dots t)) whole ∙ ap one (over_dots dots (piece ++ (others ++ rest)) h.3 ∙ stops) ∙ is.complete piece (others ++ rest) h.4 in
-    dotted_step one (unit_shortens one is) (slice ++ rest) (others ++ rest) read ∙ dotted_over one is pieces others rest h.5
+    ap (λ (t : List ℕ). one (skip_dots t)) whole ∙ ap one (over_dots dots (unit ++ (others ++ rest)) h.3 ∙ stops) ∙ is.complete unit (others ++ rest) h.4 in
+    dotted_step one (unit_shortens one is) (slice ++ rest) (others ++ rest) read ∙ dotted_over one is units others rest h.5
 
 pub dotted_no_longer : {Form : List ℕ → Type 0} (one : List ℕ → Option (List ℕ)) → IsUnit Form one → (cs : List ℕ) → length (dotted_at one cs) ≤ length cs
 dotted_no_longer one is cs = let f = dotted_front one is cs in omega (arith, ap length f.2, length-append f.0 (dotted_at one cs))
 
 -- ---- units of one character
 
-pub one_sound : (class : ℕ → Bool) (cs rest : List ℕ) → one_of class cs ≡ Some rest → (piece : List ℕ) × (cs ≡ piece ++ rest) × IsOne class piece
+pub one_sound : (class : ℕ → Bool) (cs rest : List ℕ) → one_of class cs ≡ Some rest → (unit : List ℕ) × (cs ≡ unit ++ rest) × IsOne class unit
 unfolding one_of
 one_sound class [] rest e = none_is rest e
 one_sound class (c ∷ cs) rest e =
     let g = guard_some (class c) (Some cs) rest e in
     (c ∷ [], ap (λ (t : List ℕ). c ∷ t) (some_is cs rest g.1), (c, refl, g.0))
 
-one_complete : (class : ℕ → Bool) (piece rest : List ℕ) → IsOne class piece → one_of class (piece ++ rest) ≡ Some rest
+one_complete : (class : ℕ → Bool) (unit rest : List ℕ) → IsOne class unit → one_of class (unit ++ rest) ≡ Some rest
 unfolding one_of
-one_complete class piece rest h = rw (h.1, h.2) refl
+one_complete class unit rest h = rw (h.1, h.2) refl
 
 -- characters of a class that has no dot
 pub one_unit : (class : ℕ → Bool) → class 46 ≡ false → IsUnit (IsOne class) (one_of class)
 one_unit class no_dot = record {
   sound = one_sound class;
   complete = one_complete class;
-  begins = λ piece h. (h.0, [], h.1, λ same. true≢false (sym h.2 ∙ ap class same ∙ no_dot));
+  begins = λ unit h. (h.0, [], h.1, λ same. true≢false (sym h.2 ∙ ap class same ∙ no_dot));
 }
 
 pub ones_dotted : (class : ℕ → Bool) (cs : List ℕ) → AllPass class cs → IsDotted (IsOne class) cs (map (λ c. c ∷ []) cs)

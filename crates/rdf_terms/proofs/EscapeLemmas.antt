@@ -77,7 +77,7 @@ scalar_complete n cs h = rw h refl
 
 numeric_sound-short : (cs : List ℕ) (c : ℕ) (rest : List ℕ)
     → (hex4_at cs >>= λ n. scalar_only n.0 n.1) ≡ Some (c, rest)
-    → (piece : List ℕ) × (117 ∷ cs ≡ piece ++ rest) × IsNumericEscape (92 ∷ piece) c
+    → (unit : List ℕ) × (117 ∷ cs ≡ unit ++ rest) × IsNumericEscape (92 ∷ unit) c
 numeric_sound-short cs c rest e =
     let b = bind_some (hex4_at cs) _ (c, rest) e in
     let s = scalar_sound b.0.0 b.0.1 c rest b.2 in
@@ -89,7 +89,7 @@ numeric_sound-short cs c rest e =
 
 numeric_sound-long : (cs : List ℕ) (c : ℕ) (rest : List ℕ)
     → (hex4_at cs >>= λ high. (hex4_at high.1 >>= λ low. scalar_only (high.0 * 65536 + low.0) low.1)) ≡ Some (c, rest)
-    → (piece : List ℕ) × (85 ∷ cs ≡ piece ++ rest) × IsNumericEscape (92 ∷ piece) c
+    → (unit : List ℕ) × (85 ∷ cs ≡ unit ++ rest) × IsNumericEscape (92 ∷ unit) c
 numeric_sound-long cs c rest e =
     let a = bind_some (hex4_at cs) _ (c, rest) e in
     let b = bind_some (hex4_at a.0.1) _ (c, rest) a.2 in
@@ -104,7 +104,7 @@ numeric_sound-long cs c rest e =
     )
 
 pub numeric_sound : (cs : List ℕ) (c : ℕ) (rest : List ℕ) → numeric_at cs ≡ Some (c, rest)
-    → (piece : List ℕ) × (cs ≡ piece ++ rest) × IsNumericEscape (92 ∷ piece) c
+    → (unit : List ℕ) × (cs ≡ unit ++ rest) × IsNumericEscape (92 ∷ unit) c
 unfolding numeric_at
 numeric_sound [] c rest e = none_is (c, rest) e
 numeric_sound (d ∷ cs) c rest e =
@@ -139,13 +139,13 @@ numeric_complete-long ds c rest hex len value is =
 tail_is : (a b : ℕ) (xs ys : List ℕ) → (a ∷ xs) ≡ (b ∷ ys) → xs ≡ ys
 tail_is a b xs ys e = cc
 
-pub numeric_complete : (piece : List ℕ) (c : ℕ) (rest : List ℕ) → IsNumericEscape (92 ∷ piece) c → numeric_at (piece ++ rest) ≡ Some (c, rest)
-numeric_complete piece c rest h =
+pub numeric_complete : (unit : List ℕ) (c : ℕ) (rest : List ℕ) → IsNumericEscape (92 ∷ unit) c → numeric_at (unit ++ rest) ≡ Some (c, rest)
+numeric_complete unit c rest h =
     elim h.form [
       | inl s ↦
-          let e : piece ≡ 117 ∷ h.digits = tail_is 92 92 piece (117 ∷ h.digits) s.0 in
+          let e : unit ≡ 117 ∷ h.digits = tail_is 92 92 unit (117 ∷ h.digits) s.0 in
           ap (λ (t : List ℕ). numeric_at (t ++ rest)) e ∙ numeric_complete-short h.digits c rest h.hex s.1 h.value h.scalar
       | inr l ↦
-          let e : piece ≡ 85 ∷ h.digits = tail_is 92 92 piece (85 ∷ h.digits) l.0 in
+          let e : unit ≡ 85 ∷ h.digits = tail_is 92 92 unit (85 ∷ h.digits) l.0 in
           ap (λ (t : List ℕ). numeric_at (t ++ rest)) e ∙ numeric_complete-long h.digits c rest h.hex l.1 h.value h.scalar
     ]

@@ -82,7 +82,7 @@ is_done one last front cs rest total e so_far =
 -- ---- the same, where only the place behind is kept
 
 abbrev pub behind : Option (List ℕ × List ℕ) → Option (List ℕ)
-behind read = option_map (λ piece. piece.1) read
+behind read = option_map (λ read. read.1) read
 
 behind-front : (front : List ℕ) (read : Option (List ℕ × List ℕ)) → behind (with_front front read) ≡ behind read
 behind-front front None = refl

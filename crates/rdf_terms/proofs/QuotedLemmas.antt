@@ -1,4 +1,4 @@
--- The characters of IRIs and strings, and the two pieces that hold them.
+-- The characters of IRIs and strings, and the two units that hold them.
 use Rattle.std.specs.Str.{encode_utf8_all}
 use Rattle.std.proofs.Common.{◌≡◌, ◌≢◌, ◌⊎◌, ℕ, ◌<◌, true, false, eqb, ◌||◌, List, [], ◌∷◌, ◌++◌, Option, Some, refl, sym, ap, subst, ◌∙◌, inl, inr, append_assoc, arith}
 use Rattle.std.proofs.lemmas.Bool.{cases_Bool, eqb-true, eqb-false, eq-eqb, ne_eqb, or_parts, or_from, true≢false}
@@ -14,8 +14,8 @@ use Rattle.rdf_terms.proofs.EscapeLemmas.{numeric_sound, numeric_complete}
 use Rattle.rdf_terms.proofs.RunLemmas.{IsOne, run_sound, run_complete}
 
 -- an escape begins with its backslash
-pub numeric_begins : (piece : List ℕ) (c : ℕ) → IsNumericEscape piece c → (bs : List ℕ) × (piece ≡ 92 ∷ bs)
-numeric_begins piece c h = elim h.form [ inl s ↦ (117 ∷ h.digits, s.0) | inr l ↦ (85 ∷ h.digits, l.0) ]
+pub numeric_begins : (unit : List ℕ) (c : ℕ) → IsNumericEscape unit c → (bs : List ℕ) × (unit ≡ 92 ∷ bs)
+numeric_begins unit c h = elim h.form [ inl s ↦ (117 ∷ h.digits, s.0) | inr l ↦ (85 ∷ h.digits, l.0) ]
 
 -- ---- a character of an IRI
 
@@ -39,7 +39,7 @@ forbids_backslash = refl
 not_forbidden : (c d : ℕ) → is_forbidden c ≡ false → is_forbidden d ≡ true → c ≢ d
 not_forbidden c d p q e = true≢false (sym q ∙ ap is_forbidden (sym e) ∙ p)
 
-iri_character_sound : (cs : List ℕ) (c : ℕ) (rest : List ℕ) → iri_character_at cs ≡ Some (c, rest) → (piece : List ℕ) × (cs ≡ piece ++ rest) × IsIriCharacter piece c
+iri_character_sound : (cs : List ℕ) (c : ℕ) (rest : List ℕ) → iri_character_at cs ≡ Some (c, rest) → (unit : List ℕ) × (cs ≡ unit ++ rest) × IsIriCharacter unit c
 unfolding iri_character_at
 iri_character_sound [] c rest e = none_is (c, rest) e
 iri_character_sound (d ∷ cs) c rest e =
@@ -61,25 +61,25 @@ pub iri_character-plain : (c : ℕ) (rest : List ℕ) → is_forbidden c ≡ fal
 unfolding iri_character_at
 iri_character-plain c rest h = rw (ne_eqb c 92 (not_forbidden c 92 h forbids_backslash)) (allowed_complete c rest h)
 
-iri_character-escape : (piece : List ℕ) (c : ℕ) (rest : List ℕ) → is_forbidden c ≡ false → IsNumericEscape (92 ∷ piece) c → iri_character_at (92 ∷ (piece ++ rest)) ≡ Some (c, rest)
+iri_character-escape : (unit : List ℕ) (c : ℕ) (rest : List ℕ) → is_forbidden c ≡ false → IsNumericEscape (92 ∷ unit) c → iri_character_at (92 ∷ (unit ++ rest)) ≡ Some (c, rest)
 unfolding iri_character_at
-iri_character-escape piece c rest h n = rw (numeric_complete piece c rest n) (allowed_complete c rest h)
+iri_character-escape unit c rest h n = rw (numeric_complete unit c rest n) (allowed_complete c rest h)
 
-iri_character_complete : (piece : List ℕ) (c : ℕ) (rest : List ℕ) → IsIriCharacter piece c → iri_character_at (piece ++ rest) ≡ Some (c, rest)
-iri_character_complete piece c rest h =
+iri_character_complete : (unit : List ℕ) (c : ℕ) (rest : List ℕ) → IsIriCharacter unit c → iri_character_at (unit ++ rest) ≡ Some (c, rest)
+iri_character_complete unit c rest h =
     elim h.1 [
       | inl plain ↦ ap (λ (t : List ℕ). iri_character_at (t ++ rest)) plain ∙ iri_character-plain c rest h.0
       | inr n ↦
-          let b = numeric_begins piece c n in
+          let b = numeric_begins unit c n in
           ap (λ (t : List ℕ). iri_character_at (t ++ rest)) b.1
           ∙ iri_character-escape b.0 c rest h.0 (subst (λ (t : List ℕ). IsNumericEscape t c) b.1 n)
     ]
 
-iri_character_begins : (piece : List ℕ) (c : ℕ) → IsIriCharacter piece c → (b : ℕ) × (bs : List ℕ) × (piece ≡ b ∷ bs) × (b ≢ 62)
-iri_character_begins piece c h =
+iri_character_begins : (unit : List ℕ) (c : ℕ) → IsIriCharacter unit c → (b : ℕ) × (bs : List ℕ) × (unit ≡ b ∷ bs) × (b ≢ 62)
+iri_character_begins unit c h =
     elim h.1 [
       | inl plain ↦ (c, [], plain, not_forbidden c 62 h.0 forbids_more)
-      | inr n ↦ let b = numeric_begins piece c n in (92, b.0, b.1, λ e. omega arith)
+      | inr n ↦ let b = numeric_begins unit c n in (92, b.0, b.1, λ e. omega arith)
     ]
 
 pub iri_one : IsOne IsIriCharacter iri_character_at 62
@@ -97,7 +97,7 @@ short_sound d cs c rest e =
     (b.1 ∙ ap (λ (n : ℕ). Some n) p.0, p.1)
 
 pub escape_sound : (cs : List ℕ) (c : ℕ) (rest : List ℕ) → escape_at cs ≡ Some (c, rest)
-    → (piece : List ℕ) × (cs ≡ piece ++ rest) × (IsNumericEscape (92 ∷ piece) c ⊎ IsShortEscape (92 ∷ piece) c)
+    → (unit : List ℕ) × (cs ≡ unit ++ rest) × (IsNumericEscape (92 ∷ unit) c ⊎ IsShortEscape (92 ∷ unit) c)
 unfolding escape_at
 escape_sound [] c rest e = none_is (c, rest) e
 escape_sound (d ∷ cs) c rest e =
@@ -133,20 +133,20 @@ numeric_letter d c cs h =
       | inr l ↦ let e : d ≡ 85 = cc l.0 in rw e refl
     ]
 
-pub escape-numeric : (piece : List ℕ) (c : ℕ) (rest : List ℕ) → IsNumericEscape (92 ∷ piece) c → escape_at (piece ++ rest) ≡ Some (c, rest)
+pub escape-numeric : (unit : List ℕ) (c : ℕ) (rest : List ℕ) → IsNumericEscape (92 ∷ unit) c → escape_at (unit ++ rest) ≡ Some (c, rest)
 unfolding escape_at
 escape-numeric [] c rest h = absurd (elim h.form [ inl s ↦ cc s.0 | inr l ↦ cc l.0 ])
-escape-numeric (d ∷ piece) c rest h = rw (numeric_letter d c piece h) (numeric_complete (d ∷ piece) c rest h)
+escape-numeric (d ∷ unit) c rest h = rw (numeric_letter d c unit h) (numeric_complete (d ∷ unit) c rest h)
 
 -- less its backslash, a short escape is its letter
-short_tail : (piece : List ℕ) (d : ℕ) → (92 ∷ piece) ≡ 92 ∷ d ∷ [] → piece ≡ d ∷ []
-short_tail piece d e = cc
+short_tail : (unit : List ℕ) (d : ℕ) → (92 ∷ unit) ≡ 92 ∷ d ∷ [] → unit ≡ d ∷ []
+short_tail unit d e = cc
 
-pub escape_complete : (piece : List ℕ) (c : ℕ) (rest : List ℕ) → IsEscapeBehind piece c → escape_at (piece ++ rest) ≡ Some (c, rest)
-escape_complete piece c rest (inl n) = escape-numeric piece c rest n
-escape_complete piece c rest (inr s) = ap (λ (t : List ℕ). escape_at (t ++ rest)) (short_tail piece s.0 s.1) ∙ escape-short s.0 c rest s.2
+pub escape_complete : (unit : List ℕ) (c : ℕ) (rest : List ℕ) → IsEscapeBehind unit c → escape_at (unit ++ rest) ≡ Some (c, rest)
+escape_complete unit c rest (inl n) = escape-numeric unit c rest n
+escape_complete unit c rest (inr s) = ap (λ (t : List ℕ). escape_at (t ++ rest)) (short_tail unit s.0 s.1) ∙ escape-short s.0 c rest s.2
 
-string_character_sound : (q : ℕ) (cs : List ℕ) (c : ℕ) (rest : List ℕ) → string_character_at q cs ≡ Some (c, rest) → (piece : List ℕ) × (cs ≡ piece ++ rest) × IsStringCharacter q piece c
+string_character_sound : (q : ℕ) (cs : List ℕ) (c : ℕ) (rest : List ℕ) → string_character_at q cs ≡ Some (c, rest) → (unit : List ℕ) × (cs ≡ unit ++ rest) × IsStringCharacter q unit c
 unfolding string_character_at
 string_character_sound q [] c rest e = none_is (c, rest) e
 string_character_sound q (d ∷ cs) c rest e =
@@ -179,25 +179,25 @@ string_character-escape : (q : ℕ) (rest : List ℕ) → string_character_at q 
 unfolding string_character_at
 string_character-escape q rest = refl
 
-string_character_complete : (q : ℕ) (piece : List ℕ) (c : ℕ) (rest : List ℕ) → IsStringCharacter q piece c → string_character_at q (piece ++ rest) ≡ Some (c, rest)
-string_character_complete q piece c rest (inl h) =
+string_character_complete : (q : ℕ) (unit : List ℕ) (c : ℕ) (rest : List ℕ) → IsStringCharacter q unit c → string_character_at q (unit ++ rest) ≡ Some (c, rest)
+string_character_complete q unit c rest (inl h) =
     ap (λ (t : List ℕ). string_character_at q (t ++ rest)) h.0 ∙ string_character-plain q c rest h.1 h.2 h.3 h.4
-string_character_complete q piece c rest (inr (inl n)) =
-    let b = numeric_begins piece c n in
+string_character_complete q unit c rest (inr (inl n)) =
+    let b = numeric_begins unit c n in
     ap (λ (t : List ℕ). string_character_at q (t ++ rest)) b.1 ∙ string_character-escape q (b.0 ++ rest)
     ∙ escape-numeric b.0 c rest (subst (λ (t : List ℕ). IsNumericEscape t c) b.1 n)
-string_character_complete q piece c rest (inr (inr s)) =
+string_character_complete q unit c rest (inr (inr s)) =
     ap (λ (t : List ℕ). string_character_at q (t ++ rest)) s.1 ∙ string_character-escape q (s.0 ∷ rest) ∙ escape-short s.0 c rest s.2
 
-pub string_character_begins : (q : ℕ) → 92 ≢ q → (piece : List ℕ) (c : ℕ) → IsStringCharacter q piece c → (b : ℕ) × (bs : List ℕ) × (piece ≡ b ∷ bs) × (b ≢ q)
-string_character_begins q nq piece c (inl h) = (c, [], h.0, h.1)
-string_character_begins q nq piece c (inr (inl n)) = let b = numeric_begins piece c n in (92, b.0, b.1, nq)
-string_character_begins q nq piece c (inr (inr s)) = (92, s.0 ∷ [], s.1, nq)
+pub string_character_begins : (q : ℕ) → 92 ≢ q → (unit : List ℕ) (c : ℕ) → IsStringCharacter q unit c → (b : ℕ) × (bs : List ℕ) × (unit ≡ b ∷ bs) × (b ≢ q)
+string_character_begins q nq unit c (inl h) = (c, [], h.0, h.1)
+string_character_begins q nq unit c (inr (inl n)) = let b = numeric_begins unit c n in (92, b.0, b.1, nq)
+string_character_begins q nq unit c (inr (inr s)) = (92, s.0 ∷ [], s.1, nq)
 
 pub string_one : (q : ℕ) → 92 ≢ q → IsOne (IsStringCharacter q) (string_character_at q) q
 string_one q nq = record { sound = string_character_sound q; complete = string_character_complete q; begins = string_character_begins q nq }
 
--- ---- the pieces
+-- ---- the units
 
 pub expect_sound : (wanted : ℕ) (cs rest : List ℕ) → expect wanted cs ≡ Some rest → cs ≡ wanted ∷ rest
 unfolding expect

@@ -9,9 +9,9 @@ use Rattle.rdf_terms.proofs.OptionLemmas.{bind_some, some_pair, none_is}
 
 -- A reader of one character gives just what Form has: at every front, and never where the last one stands.
 pub record IsOne (Form : List ℕ → ℕ → Type 0) (one : List ℕ → Option (ℕ × List ℕ)) (last : ℕ) : Type 0 where
-  pub sound : (cs : List ℕ) (c : ℕ) (rest : List ℕ) → one cs ≡ Some (c, rest) → (piece : List ℕ) × (cs ≡ piece ++ rest) × Form piece c
-  pub complete : (piece : List ℕ) (c : ℕ) (rest : List ℕ) → Form piece c → one (piece ++ rest) ≡ Some (c, rest)
-  pub begins : (piece : List ℕ) (c : ℕ) → Form piece c → (b : ℕ) × (bs : List ℕ) × (piece ≡ b ∷ bs) × (b ≢ last)
+  pub sound : (cs : List ℕ) (c : ℕ) (rest : List ℕ) → one cs ≡ Some (c, rest) → (unit : List ℕ) × (cs ≡ unit ++ rest) × Form unit c
+  pub complete : (unit : List ℕ) (c : ℕ) (rest : List ℕ) → Form unit c → one (unit ++ rest) ≡ Some (c, rest)
+  pub begins : (unit : List ℕ) (c : ℕ) → Form unit c → (b : ℕ) × (bs : List ℕ) × (unit ≡ b ∷ bs) × (b ≢ last)
 
 -- one character takes at least one
 pub one_shorter : {Form : List ℕ → ℕ → Type 0} (one : List ℕ → Option (ℕ × List ℕ)) (last : ℕ) → IsOne Form one last

@@ -9,7 +9,7 @@ use Rattle.rdf_terms.specs.Escapes.{IsNumericEscape, IsCharacter, Writes}
 use Rattle.rdf_terms.proofs.OptionLemmas.{some_pair, none_is}
 use Rattle.rdf_terms.proofs.QuotedLemmas.{numeric_begins, escape_sound, escape-short, escape-numeric}
 
-pub character_sound : (cs : List ℕ) (c : ℕ) (rest : List ℕ) → character_at cs ≡ Some (c, rest) → (piece : List ℕ) × (cs ≡ piece ++ rest) × IsCharacter piece c
+pub character_sound : (cs : List ℕ) (c : ℕ) (rest : List ℕ) → character_at cs ≡ Some (c, rest) → (unit : List ℕ) × (cs ≡ unit ++ rest) × IsCharacter unit c
 unfolding character_at
 character_sound [] c rest e = none_is (c, rest) e
 character_sound (d ∷ cs) c rest e =
@@ -30,19 +30,19 @@ character-escape : (rest : List ℕ) → character_at (92 ∷ rest) ≡ escape_a
 unfolding character_at
 character-escape rest = refl
 
-pub character_complete : (piece : List ℕ) (c : ℕ) (rest : List ℕ) → IsCharacter piece c → character_at (piece ++ rest) ≡ Some (c, rest)
-character_complete piece c rest (inl h) = ap (λ (t : List ℕ). character_at (t ++ rest)) h.0 ∙ character-plain c rest h.1
-character_complete piece c rest (inr (inl n)) =
-    let b = numeric_begins piece c n in
+pub character_complete : (unit : List ℕ) (c : ℕ) (rest : List ℕ) → IsCharacter unit c → character_at (unit ++ rest) ≡ Some (c, rest)
+character_complete unit c rest (inl h) = ap (λ (t : List ℕ). character_at (t ++ rest)) h.0 ∙ character-plain c rest h.1
+character_complete unit c rest (inr (inl n)) =
+    let b = numeric_begins unit c n in
     ap (λ (t : List ℕ). character_at (t ++ rest)) b.1 ∙ character-escape (b.0 ++ rest)
     ∙ escape-numeric b.0 c rest (subst (λ (t : List ℕ). IsNumericEscape t c) b.1 n)
-character_complete piece c rest (inr (inr s)) =
+character_complete unit c rest (inr (inr s)) =
     ap (λ (t : List ℕ). character_at (t ++ rest)) s.1 ∙ character-escape (s.0 ∷ rest) ∙ escape-short s.0 c rest s.2
 
-character_some : (piece : List ℕ) (c : ℕ) → IsCharacter piece c → 0 < length piece
-character_some piece c (inl h) = omega (arith, ap length h.0)
-character_some piece c (inr (inl n)) = let b = numeric_begins piece c n in omega (arith, ap length b.1)
-character_some piece c (inr (inr s)) = omega (arith, ap length s.1)
+character_some : (unit : List ℕ) (c : ℕ) → IsCharacter unit c → 0 < length unit
+character_some unit c (inl h) = omega (arith, ap length h.0)
+character_some unit c (inr (inl n)) = let b = numeric_begins unit c n in omega (arith, ap length b.1)
+character_some unit c (inr (inr s)) = omega (arith, ap length s.1)
 
 pub shorter : (cs rest : List ℕ) (c : ℕ) → character_at cs ≡ Some (c, rest) → length rest < length cs
 shorter cs rest c e = let s = character_sound cs c rest e in let some = character_some s.0 c s.2 in omega (arith, ap length s.1, length-append s.0 rest)

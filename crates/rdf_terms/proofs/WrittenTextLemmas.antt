@@ -47,7 +47,7 @@ is_not : (c d : ℕ) → (c == d) ≡ false → c ≢ d
 is_not c d h e = true≢false (sym (eq-eqb c d e) ∙ h)
 
 string_character : (c : ℕ) → IsStringCharacter 34 (escaped c) c
-string_character = by_escape (λ c piece. IsStringCharacter 34 piece c) (inr (inr (34, refl, short_quote))) (inr (inr (92, refl, short_backslash)))
+string_character = by_escape (λ c unit. IsStringCharacter 34 unit c) (inr (inr (34, refl, short_quote))) (inr (inr (92, refl, short_backslash)))
     (inr (inr (110, refl, short_feed))) (inr (inr (114, refl, short_return)))
     (λ c q b f r. inl (refl, is_not c 34 q, is_not c 92 b, is_not c 10 f, is_not c 13 r))
 
@@ -58,7 +58,7 @@ string_body (c ∷ cs) = (escaped c, flat_map escaped cs, refl, string_character
 -- ---- the bytes of a quoted text are those of its characters
 
 plain_escaped : (c : ℕ) → 128 ≤ c → escaped c ≡ c ∷ []
-plain_escaped c h = by_escape (λ d piece. 128 ≤ d → piece ≡ d ∷ []) (λ l. absurd (omega (arith, l))) (λ l. absurd (omega (arith, l))) (λ l. absurd (omega (arith, l))) (λ l. absurd (omega (arith, l)))
+plain_escaped c h = by_escape (λ d unit. 128 ≤ d → unit ≡ d ∷ []) (λ l. absurd (omega (arith, l))) (λ l. absurd (omega (arith, l))) (λ l. absurd (omega (arith, l))) (λ l. absurd (omega (arith, l)))
     (λ d q b f r l. refl) c h
 
 high_escaped : (bs : List ℕ) → ((k : ℕ) → k < length bs → 128 ≤ get_or bs k 0) → flat_map escaped bs ≡ bs
@@ -68,7 +68,7 @@ high_escaped (b ∷ bs) h =
 
 low_escape : (c : ℕ) → c < 128 → encode_utf8_all (escaped c) ≡ escaped c
 unfolding encode_utf8
-low_escape = by_escape (λ d piece. d < 128 → encode_utf8_all piece ≡ piece) (λ l. refl) (λ l. refl) (λ l. refl) (λ l. refl)
+low_escape = by_escape (λ d unit. d < 128 → encode_utf8_all unit ≡ unit) (λ l. refl) (λ l. refl) (λ l. refl) (λ l. refl)
     (λ d q b f r l. ap (λ (t : List ℕ). t ++ []) (encode_ascii d l))
 
 one_escaped : (c : ℕ) → flat_map escaped (encode_utf8 c) ≡ encode_utf8_all (escaped c)
@@ -89,7 +89,7 @@ all_escaped (c ∷ cs) =
     flat_map-append escaped (encode_utf8 c) (encode_utf8_all cs) ∙ (λ i. one_escaped c i ++ all_escaped cs i) ∙ sym (encodes-append (escaped c) (flat_map escaped cs))
 
 escape_utf8 : (c : ℕ) → scalar c ≡ true → IsUtf8 (encode_utf8_all (escaped c))
-escape_utf8 = by_escape (λ d piece. scalar d ≡ true → IsUtf8 (encode_utf8_all piece)) (λ s. (92 ∷ 34 ∷ [], (refl, refl))) (λ s. (92 ∷ 92 ∷ [], (refl, refl)))
+escape_utf8 = by_escape (λ d unit. scalar d ≡ true → IsUtf8 (encode_utf8_all unit)) (λ s. (92 ∷ 34 ∷ [], (refl, refl))) (λ s. (92 ∷ 92 ∷ [], (refl, refl)))
     (λ s. (92 ∷ 110 ∷ [], (refl, refl))) (λ s. (92 ∷ 114 ∷ [], (refl, refl)))
     (λ d q b f r s. subst IsUtf8 (sym (append-nil (encode_utf8 d))) (IsUtf8-encode d s))
 

@@ -7,13 +7,13 @@ use Rattle.rdf_terms.specs.Skips.{skip}
 
 -- one character of a class
 abbrev pub IsOne : (ℕ → Bool) → List ℕ → Type 0
-IsOne class piece = (c : ℕ) × (piece ≡ c ∷ []) × (class c ≡ true)
+IsOne class unit = (c : ℕ) × (unit ≡ c ∷ []) × (class c ≡ true)
 
 -- Units, each with dots or none before it: units and dots, the last no dot.
 abbrev pub IsDotted : (List ℕ → Type 0) → List ℕ → List (List ℕ) → Type 0
 IsDotted One slice [] = slice ≡ []
-IsDotted One slice (piece ∷ pieces) =
-    (dots others : List ℕ) × (slice ≡ dots ++ (piece ++ others)) × AllByRecursion (λ c. c ≡ 46) dots × One piece × IsDotted One others pieces
+IsDotted One slice (unit ∷ units) =
+    (dots others : List ℕ) × (slice ≡ dots ++ (unit ++ others)) × AllByRecursion (λ c. c ≡ 46) dots × One unit × IsDotted One others units
 
 -- ---- reading from left to right, by a reader of one unit: what follows a unit, where one stands there
 

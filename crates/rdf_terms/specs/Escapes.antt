@@ -14,20 +14,20 @@ number_after before [] = before
 number_after before (d ∷ ds) = number_after (before * 16 + digit_value d) ds
 
 -- UCHAR: `\u` and four hexadecimal digits, or `\U` and eight, for a character and no surrogate
-pub record IsNumericEscape (piece : List ℕ) (c : ℕ) : Type 0 where
+pub record IsNumericEscape (unit : List ℕ) (c : ℕ) : Type 0 where
   pub digits : List ℕ
   pub hex : AreHexDigits digits
-  pub form : ((piece ≡ 92 ∷ 117 ∷ digits) × (length digits ≡ 4)) ⊎ ((piece ≡ 92 ∷ 85 ∷ digits) × (length digits ≡ 8))
+  pub form : ((unit ≡ 92 ∷ 117 ∷ digits) × (length digits ≡ 4)) ⊎ ((unit ≡ 92 ∷ 85 ∷ digits) × (length digits ≡ 8))
   pub value : number_after 0 digits ≡ c
   pub scalar : IsScalar c
 
 -- ECHAR: a backslash and a letter
 abbrev pub IsShortEscape : List ℕ → ℕ → Type 0
-IsShortEscape piece c = (letter : ℕ) × (piece ≡ 92 ∷ letter ∷ []) × (short_escape letter ≡ Some c)
+IsShortEscape unit c = (letter : ℕ) × (unit ≡ 92 ∷ letter ∷ []) × (short_escape letter ≡ Some c)
 
 -- itself, other than a backslash, or an escape
 abbrev pub IsCharacter : List ℕ → ℕ → Type 0
-IsCharacter piece c = ((piece ≡ c ∷ []) × (c ≢ 92)) ⊎ (IsNumericEscape piece c ⊎ IsShortEscape piece c)
+IsCharacter unit c = ((unit ≡ c ∷ []) × (c ≢ 92)) ⊎ (IsNumericEscape unit c ⊎ IsShortEscape unit c)
 
 -- The slice writes the characters one after another, each as Form has it.
 abbrev pub Writes : (List ℕ → ℕ → Type 0) → List ℕ → List ℕ → Type 0

@@ -2,7 +2,7 @@
 use Rattle.std.specs.Prelude.{◌≡◌, IsTrue, ℕ, true, false, List, [], ◌∷◌, codes, None, Some}
 use Rattle.rdf_terms.specs.Characters.{is_pn_chars_base, is_pn_chars_u, is_pn_chars, short_escape}
 use Rattle.rdf_terms.specs.Cuts.{number_sign, colon, question_mark, before, after, up_to_slash}
-use Rattle.rdf_terms.specs.Dots.{is_dot_segment, segments, pieces, undotted}
+use Rattle.rdf_terms.specs.Dots.{is_dot_segment, segments, with_slashes, undotted}
 use Rattle.rdf_terms.specs.Escapes.{IsNumericEscape, IsShortEscape, IsCharacter, Writes}
 use Rattle.rdf_terms.specs.Iri.{has_scheme, has_forbidden, is_iri}
 use Rattle.rdf_terms.specs.Literal.{LiteralParts, is_tag, is_literal, tagged, xsd_string}
@@ -35,11 +35,11 @@ CutExamples =
     (before colon example_uri ≡ codes "foo") × (after number_sign example_uri ≡ Some (codes "nose")) × (after question_mark (codes "urn:example:animal:ferret:nose") ≡ None)
     × (up_to_slash (codes "/over/there") ≡ codes "/over/")
 
--- a path of RFC 3986, section 5.2.4, as pieces, a path without its leading dot segments, and what a dot segment is (section 3.3)
+-- a path of RFC 3986, section 5.2.4, as segments, a path without its leading dot segments, and what a dot segment is (section 3.3)
 abbrev pub DotExamples : Type 0
 DotExamples =
-    (pieces (segments (codes "mid/content=5/../6")) ≡ codes "mid" ∷ codes "/content=5" ∷ codes "/.." ∷ codes "/6" ∷ [])
-    × (pieces (undotted (segments (codes "../a/./g"))) ≡ codes "a" ∷ codes "/." ∷ codes "/g" ∷ [])
+    (with_slashes (segments (codes "mid/content=5/../6")) ≡ codes "mid" ∷ codes "/content=5" ∷ codes "/.." ∷ codes "/6" ∷ [])
+    × (with_slashes (undotted (segments (codes "../a/./g"))) ≡ codes "a" ∷ codes "/." ∷ codes "/g" ∷ [])
     × (is_dot_segment (codes "..") ≡ true) × (is_dot_segment (codes "...") ≡ false)
 
 -- `\u0041` and `\U00000041` write `A`, `\t` a tab (Turtle 1.1, section 6.4)

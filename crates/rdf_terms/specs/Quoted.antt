@@ -6,12 +6,12 @@ use Rattle.rdf_terms.specs.Escapes.{IsNumericEscape, IsShortEscape, Writes}
 
 -- itself or a UCHAR, and never a forbidden one
 abbrev pub IsIriCharacter : List ℕ → ℕ → Type 0
-IsIriCharacter piece c = (is_forbidden c ≡ false) × ((piece ≡ c ∷ []) ⊎ IsNumericEscape piece c)
+IsIriCharacter unit c = (is_forbidden c ≡ false) × ((unit ≡ c ∷ []) ⊎ IsNumericEscape unit c)
 
 -- itself, other than the quote, `\`, LF and CR, or an escape
 abbrev pub IsStringCharacter : ℕ → List ℕ → ℕ → Type 0
-IsStringCharacter quote piece c =
-    ((piece ≡ c ∷ []) × (c ≢ quote) × (c ≢ 92) × (c ≢ 10) × (c ≢ 13)) ⊎ (IsNumericEscape piece c ⊎ IsShortEscape piece c)
+IsStringCharacter quote unit c =
+    ((unit ≡ c ∷ []) × (c ≢ quote) × (c ≢ 92) × (c ≢ 10) × (c ≢ 13)) ⊎ (IsNumericEscape unit c ⊎ IsShortEscape unit c)
 
 -- IRIREF: `<`, characters, `>`
 abbrev pub IsIriRef : List ℕ → List ℕ → Type 0

@@ -15,7 +15,7 @@ IsCompleteReader {V = V} Form read = (slice : List ℕ) (value : V) (rest : List
 
 -- a UCHAR or an ECHAR, less its backslash (Turtle 1.1, section 6.5)
 abbrev pub IsEscapeBehind : List ℕ → ℕ → Type 0
-IsEscapeBehind piece c = IsNumericEscape (92 ∷ piece) c ⊎ IsShortEscape (92 ∷ piece) c
+IsEscapeBehind unit c = IsNumericEscape (92 ∷ unit) c ⊎ IsShortEscape (92 ∷ unit) c
 
 -- What is found to end a name does end one, and no name ends behind it.
 pub record IsGreedy (IsName : List ℕ → Type 0) (end_at : List ℕ → Option (List ℕ)) : Type 0 where

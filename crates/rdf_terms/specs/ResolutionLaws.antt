@@ -1,7 +1,7 @@
 -- A text has just one list of components, and a reference just one meaning.
 use Rattle.std.specs.Prelude.{◌≡◌, ℕ, true, false, List, [], ◌∷◌, ◌++◌, codes, Option, Some}
 use Rattle.std.specs.List.{list_any}
-use Rattle.rdf_terms.specs.Dots.{is_dot_segment, segments, pieces, without_dots}
+use Rattle.rdf_terms.specs.Dots.{is_dot_segment, segments, with_slashes, without_dots}
 use Rattle.rdf_terms.specs.Iri.{has_scheme}
 use Rattle.rdf_terms.specs.Reference.{Components, HasComponents, IsBase}
 use Rattle.rdf_terms.specs.Resolution.{Means}
@@ -26,9 +26,9 @@ abbrev pub together : List (List ℕ) → List ℕ
 together [] = []
 together (p ∷ ps) = p ++ together ps
 
--- the pieces of a path are the path
-abbrev pub PiecesAreThePath : Type 0
-PiecesAreThePath = (path : List ℕ) → together (pieces (segments path)) ≡ path
+-- the segments of a path are the path
+abbrev pub SegmentsAreThePath : Type 0
+SegmentsAreThePath = (path : List ℕ) → together (with_slashes (segments path)) ≡ path
 
 -- no segment of a path without its dot segments is `.` or `..`
 abbrev pub NoDotsAreLeft : Type 0

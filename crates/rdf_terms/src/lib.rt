@@ -1,5 +1,5 @@
 //! RDF terms: IRIs, literals, blank nodes, graph names and quads, their order and their text;
-//! references resolved against a base; and the characters, escapes and pieces that RDF's text
+//! references resolved against a base; and the characters, escapes and units that RDF's text
 //! formats share.
 #![tactic(auto)]
 
@@ -50,7 +50,7 @@ pub use quoted::{iris_are_read, strings_are_read};
 pub use resolution::resolve;
 pub use resolution_laws::{
     components_are_unique, dots_are_removed, dots_before_slashes, one_reference_meaning,
-    pieces_are_the_path,
+    segments_are_the_path,
 };
 pub use table::{TermId, TermTable, terms_are_held_once};
 pub use tag::tags_are_read;

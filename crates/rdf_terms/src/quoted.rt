@@ -64,7 +64,7 @@ impl<'a> Cursor<'a> {
 
     /// The place behind an IRIREF. It takes no memory.
     pub fn iri_end(&self) -> Option<Cursor<'a>>
-        ensures { result ≡ option_map (λ piece. piece.1) (iri_at self.now) }
+        ensures { result ≡ option_map (λ read. read.1) (iri_at self.now) }
     {
         let mut rest = self.expect('<')?;
         loop {
@@ -80,7 +80,7 @@ impl<'a> Cursor<'a> {
     /// The place behind a quote, the characters of a string and the quote. It takes no memory.
     pub fn quoted_end(&self, quote: char) -> Option<Cursor<'a>>
         requires { quote ≢ 92 }
-        ensures { result ≡ option_map (λ piece. piece.1) (quoted_at quote self.now) }
+        ensures { result ≡ option_map (λ read. read.1) (quoted_at quote self.now) }
     {
         let mut rest = self.expect(quote)?;
         loop {

@@ -1,5 +1,5 @@
 //! What holds of components, of paths and of resolution.
-ghost use Rattle.rdf_terms.specs.ResolutionLaws.{EachTextHasComponents, ComponentsAreUnique, BaseIsUnique, EachReferenceMeans, OneReferenceMeaning, PiecesAreThePath, NoDotsAreLeft, OthersAreKept, DotsAreRemoved, DotsBeforeSlashes};
+ghost use Rattle.rdf_terms.specs.ResolutionLaws.{EachTextHasComponents, ComponentsAreUnique, BaseIsUnique, EachReferenceMeans, OneReferenceMeaning, SegmentsAreThePath, NoDotsAreLeft, OthersAreKept, DotsAreRemoved, DotsBeforeSlashes};
 
 /// Each text has components, and no others; a base has one scheme and one list of components.
 pub fn components_are_unique()
@@ -14,9 +14,9 @@ pub fn one_reference_meaning()
     ensures unique { OneReferenceMeaning }
 {}
 
-/// The pieces of a path are the path.
-pub fn pieces_are_the_path()
-    ensures { PiecesAreThePath }
+/// The segments of a path are the path.
+pub fn segments_are_the_path()
+    ensures { SegmentsAreThePath }
 {}
 
 /// A path loses all its dot segments, one that has none stays as it is, and so go the standard's

@@ -75,11 +75,11 @@ cut_bytes bytes start stop slice p =
     let len : length (encode_utf8_all slice) ≡ stop - start = omega (arith, p.starts, p.stops) in
     ap (take (stop - start)) behind ∙ take_at (encode_utf8_all slice) p.after (stop - start) len
 
-pub cut_chars : (bytes : List ℕ) (start stop : ℕ) (slice piece : List ℕ) → Placed bytes start stop slice → piece ≡ take (stop - start) (drop start bytes) → chars piece ≡ slice
-cut_chars bytes start stop slice piece p e = ap chars (e ∙ cut_bytes bytes start stop slice p) ∙ chars-encodes slice p.sound
+pub cut_chars : (bytes : List ℕ) (start stop : ℕ) (slice part : List ℕ) → Placed bytes start stop slice → part ≡ take (stop - start) (drop start bytes) → chars part ≡ slice
+cut_chars bytes start stop slice part p e = ap chars (e ∙ cut_bytes bytes start stop slice p) ∙ chars-encodes slice p.sound
 
-pub stands_as : (text : List ℕ) (start stop : ℕ) (slice piece : List ℕ) → piece ≡ slice → Stands text start stop slice → Stands text start stop piece
-stands_as text start stop slice piece e h = subst (Stands text start stop) (sym e) h
+pub stands_as : (text : List ℕ) (start stop : ℕ) (slice part : List ℕ) → part ≡ slice → Stands text start stop slice → Stands text start stop part
+stands_as text start stop slice part e h = subst (Stands text start stop) (sym e) h
 
 pub token_stands : (text : List ℕ) (token : Token) (h : HasItsForm text token) → Stands text token.start token.stop h.1
 token_stands text token h = (h.0, h.2, h.3, h.4, h.5)

@@ -11,12 +11,12 @@ use Rattle.rdf_tokens.specs.Forms.{IsShort}
 use Rattle.rdf_tokens.specs.Inside.TokenReading.{iri_end_at, quoted_end_at}
 use Rattle.rdf_tokens.proofs.TokenClaims.{Sound}
 
-end_some : (o : Option (List ℕ × List ℕ)) (rest : List ℕ) → option_map (λ piece. piece.1) o ≡ Some rest → (text : List ℕ) × (o ≡ Some (text, rest))
+end_some : (o : Option (List ℕ × List ℕ)) (rest : List ℕ) → option_map (λ read. read.1) o ≡ Some rest → (text : List ℕ) × (o ≡ Some (text, rest))
 end_some None rest e = none_is rest e
 end_some (Some p) rest e = (p.0, ap (λ (r : List ℕ). Some (p.0, r)) (some_is p.1 rest e))
 
-end_of : (o : Option (List ℕ × List ℕ)) (text rest : List ℕ) → o ≡ Some (text, rest) → option_map (λ piece. piece.1) o ≡ Some rest
-end_of o text rest e = ap (λ (x : Option (List ℕ × List ℕ)). option_map (λ (piece : List ℕ × List ℕ). piece.1) x) e
+end_of : (o : Option (List ℕ × List ℕ)) (text rest : List ℕ) → o ≡ Some (text, rest) → option_map (λ read. read.1) o ≡ Some rest
+end_of o text rest e = ap (λ (x : Option (List ℕ × List ℕ)). option_map (λ (unit : List ℕ × List ℕ). unit.1) x) e
 
 pub iri_end_sound : (cs rest : List ℕ) → iri_end_at cs ≡ Some rest → Sound kind.Iri cs rest
 iri_end_sound cs rest e =

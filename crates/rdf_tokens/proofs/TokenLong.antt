@@ -17,10 +17,10 @@ use Rattle.rdf_tokens.proofs.TokenEnds.{quoted_end_read}
 -- ---- one character
 
 abbrev IsEscape : List ℕ → ℕ → Type 0
-IsEscape piece c = IsNumericEscape piece c ⊎ IsShortEscape piece c
+IsEscape unit c = IsNumericEscape unit c ⊎ IsShortEscape unit c
 
 character_sound : (q : ℕ) (cs : List ℕ) (v : ℕ) (rest : List ℕ) → character_at cs ≡ Some (v, rest)
-    → ((cs ≡ q ∷ rest) × (v ≡ q)) ⊎ ((piece : List ℕ) × (cs ≡ piece ++ rest) × IsLongCharacter q piece v)
+    → ((cs ≡ q ∷ rest) × (v ≡ q)) ⊎ ((unit : List ℕ) × (cs ≡ unit ++ rest) × IsLongCharacter q unit v)
 unfolding character_at
 character_sound q [] v rest e = none_is (v, rest) e
 character_sound q (c ∷ cs) v rest e =
@@ -44,19 +44,19 @@ escape_read : (rest : List ℕ) → character_at (92 ∷ rest) ≡ escape_at res
 unfolding character_at
 escape_read rest = refl
 
-character_complete : (q : ℕ) (piece : List ℕ) (c : ℕ) (rest : List ℕ) → IsLongCharacter q piece c → character_at (piece ++ rest) ≡ Some (c, rest)
-character_complete q piece c rest (inl h) = ap (λ (t : List ℕ). character_at (t ++ rest)) h.0 ∙ plain_read c rest h.2
-character_complete q piece c rest (inr (inl n)) =
-    let b = numeric_begins piece c n in
+character_complete : (q : ℕ) (unit : List ℕ) (c : ℕ) (rest : List ℕ) → IsLongCharacter q unit c → character_at (unit ++ rest) ≡ Some (c, rest)
+character_complete q unit c rest (inl h) = ap (λ (t : List ℕ). character_at (t ++ rest)) h.0 ∙ plain_read c rest h.2
+character_complete q unit c rest (inr (inl n)) =
+    let b = numeric_begins unit c n in
     ap (λ (t : List ℕ). character_at (t ++ rest)) b.1 ∙ escape_read (b.0 ++ rest)
     ∙ escape-numeric b.0 c rest (subst (λ (t : List ℕ). IsNumericEscape t c) b.1 n)
-character_complete q piece c rest (inr (inr s)) =
+character_complete q unit c rest (inr (inr s)) =
     ap (λ (t : List ℕ). character_at (t ++ rest)) s.1 ∙ escape_read (s.0 ∷ rest) ∙ escape-short s.0 c rest s.2
 
-character_begins : (q : ℕ) → 92 ≢ q → (piece : List ℕ) (c : ℕ) → IsLongCharacter q piece c → (b : ℕ) × (bs : List ℕ) × (piece ≡ b ∷ bs) × (b ≢ q)
-character_begins q nq piece c (inl h) = (c, [], h.0, h.1)
-character_begins q nq piece c (inr (inl n)) = let b = numeric_begins piece c n in (92, b.0, b.1, nq)
-character_begins q nq piece c (inr (inr s)) = (92, s.0 ∷ [], s.1, nq)
+character_begins : (q : ℕ) → 92 ≢ q → (unit : List ℕ) (c : ℕ) → IsLongCharacter q unit c → (b : ℕ) × (bs : List ℕ) × (unit ≡ b ∷ bs) × (b ≢ q)
+character_begins q nq unit c (inl h) = (c, [], h.0, h.1)
+character_begins q nq unit c (inr (inl n)) = let b = numeric_begins unit c n in (92, b.0, b.1, nq)
+character_begins q nq unit c (inr (inr s)) = (92, s.0 ∷ [], s.1, nq)
 
 pub long_shrinks : (cs : List ℕ) (v : ℕ) (rest : List ℕ) → character_at cs ≡ Some (v, rest) → length rest < length cs
 long_shrinks cs v rest e =
@@ -183,9 +183,9 @@ quote_more q (suc (suc (suc n))) cs o t = absurd o
 by_quote : (q n v : ℕ) (cs r rest : List ℕ) → cs ≡ q ∷ r → v ≡ q → n < 2 → Body q (suc n) r rest → Body q n cs rest
 by_quote q n v cs r rest e is lt b = (q ∷ b.0, v ∷ b.1, e ∙ ap (λ (t : List ℕ). q ∷ t) b.2, (q ∷ [], b.0, refl, inl (refl, is, lt, b.3)))
 
-by_other : (q n v : ℕ) (cs piece r rest : List ℕ) → cs ≡ piece ++ r → IsLongCharacter q piece v → Body q 0 r rest → Body q n cs rest
-by_other q n v cs piece r rest e h b =
-    (piece ++ b.0, v ∷ b.1, e ∙ ap (λ (t : List ℕ). piece ++ t) b.2 ∙ sym (append_assoc piece b.0 (q ∷ q ∷ q ∷ rest)), (piece, b.0, refl, inr (h, b.3)))
+by_other : (q n v : ℕ) (cs unit r rest : List ℕ) → cs ≡ unit ++ r → IsLongCharacter q unit v → Body q 0 r rest → Body q n cs rest
+by_other q n v cs unit r rest e h b =
+    (unit ++ b.0, v ∷ b.1, e ∙ ap (λ (t : List ℕ). unit ++ t) b.2 ∙ sym (append_assoc unit b.0 (q ∷ q ∷ q ∷ rest)), (unit, b.0, refl, inr (h, b.3)))
 
 up_sound : (fuel q n : ℕ) (cs rest : List ℕ) → Open q n cs → long_up q fuel cs ≡ Some rest → Body q n cs rest
 unfolding long_up
@@ -211,9 +211,9 @@ body_sound q cs rest e = up_sound (length cs) q 0 cs rest tt e
 
 -- ---- every long string is read
 
-other_first : (q : ℕ) → 92 ≢ q → (piece : List ℕ) (c : ℕ) (tail : List ℕ) → IsLongCharacter q piece c → expect q (piece ++ tail) ≡ None
-other_first q nq piece c tail h =
-    let b = character_begins q nq piece c h in
+other_first : (q : ℕ) → 92 ≢ q → (unit : List ℕ) (c : ℕ) (tail : List ℕ) → IsLongCharacter q unit c → expect q (unit ++ tail) ≡ None
+other_first q nq unit c tail h =
+    let b = character_begins q nq unit c h in
     ap (λ (t : List ℕ). expect q (t ++ tail)) b.2 ∙ not_first q b.0 (b.1 ++ tail) b.3
 
 -- behind two quotes stands another character; behind one, no two quotes

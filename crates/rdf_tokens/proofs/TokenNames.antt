@@ -42,7 +42,7 @@ variable_claims c name rest h all =
 
 -- ---- blank labels
 
-label_sound : (cs rest : List ℕ) → label_at cs ≡ Some rest → (c : ℕ) × (name : List ℕ) × (pieces : List (List ℕ)) × (cs ≡ c ∷ (name ++ rest)) × (is_name_start c ≡ true) × IsDotted IsNamePart name pieces
+label_sound : (cs rest : List ℕ) → label_at cs ≡ Some rest → (c : ℕ) × (name : List ℕ) × (units : List (List ℕ)) × (cs ≡ c ∷ (name ++ rest)) × (is_name_start c ≡ true) × IsDotted IsNamePart name units
 unfolding label_at
 label_sound [] rest e = none_is rest e
 label_sound (c ∷ cs) rest e =
@@ -57,11 +57,11 @@ blank_sound mark cs rest m e =
     let s = label_sound a.0 rest a.2 in
     (95 ∷ 58 ∷ s.0 ∷ s.1, ap (λ (x : ℕ). x ∷ cs) m ∙ ap (λ (t : List ℕ). 95 ∷ t) (expect_sound 58 cs a.0 a.1 ∙ ap (λ (t : List ℕ). 58 ∷ t) s.3), (s.0, s.1, s.2, refl, s.4, s.5))
 
-pub blank_claims : (c : ℕ) (name rest : List ℕ) (pieces : List (List ℕ)) → is_name_start c ≡ true → IsDotted IsNamePart name pieces
+pub blank_claims : (c : ℕ) (name rest : List ℕ) (units : List (List ℕ)) → is_name_start c ≡ true → IsDotted IsNamePart name units
     → Beats kind.BlankLabel rest (as_kind kind.BlankLabel (blank_at (58 ∷ c ∷ (name ++ rest))))
 unfolding blank_at label_at
-blank_claims c name rest pieces h d =
-    rw (expect_complete 58 (c ∷ (name ++ rest)), h, dotted_over name_part_at name_unit pieces name rest d) (beats_dotted kind.BlankLabel name_part_at name_unit rest)
+blank_claims c name rest units h d =
+    rw (expect_complete 58 (c ∷ (name ++ rest)), h, dotted_over name_part_at name_unit units name rest d) (beats_dotted kind.BlankLabel name_part_at name_unit rest)
 
 -- ---- prefixed names
 
@@ -104,9 +104,9 @@ colon_no_part cs = refl
 pub colon_stops : (cs : List ℕ) → dotted_at name_part_at (58 ∷ cs) ≡ 58 ∷ cs
 colon_stops cs = dotted_stop name_part_at (58 ∷ cs) (colon_no_part cs)
 
-letter_over : (c : ℕ) (name cs : List ℕ) → is_pn_chars_base c ≡ true → (pieces : List (List ℕ)) → IsDotted IsNamePart name pieces → prefix_at (c ∷ (name ++ 58 ∷ cs)) ≡ 58 ∷ cs
+letter_over : (c : ℕ) (name cs : List ℕ) → is_pn_chars_base c ≡ true → (units : List (List ℕ)) → IsDotted IsNamePart name units → prefix_at (c ∷ (name ++ 58 ∷ cs)) ≡ 58 ∷ cs
 unfolding prefix_at
-letter_over c name cs h pieces d = rw h (dotted_over name_part_at name_unit pieces name (58 ∷ cs) d ∙ colon_stops cs)
+letter_over c name cs h units d = rw h (dotted_over name_part_at name_unit units name (58 ∷ cs) d ∙ colon_stops cs)
 
 prefix_over : (p cs : List ℕ) → IsPrefix p → prefix_at (p ++ 58 ∷ cs) ≡ 58 ∷ cs
 unfolding prefix_at is_pn_chars_base

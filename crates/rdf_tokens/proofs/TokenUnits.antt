@@ -37,7 +37,7 @@ dot_no_part = refl
 pub name_unit : IsUnit IsNamePart name_part_at
 name_unit = one_unit is_pn_chars dot_no_part
 
-plx_sound : (cs rest : List ℕ) → plx_at cs ≡ Some rest → (piece : List ℕ) × (cs ≡ piece ++ rest) × IsPlx piece
+plx_sound : (cs rest : List ℕ) → plx_at cs ≡ Some rest → (unit : List ℕ) × (cs ≡ unit ++ rest) × IsPlx unit
 unfolding plx_at one_of
 plx_sound [] rest e = none_is rest e
 plx_sound (c ∷ cs) rest e =
@@ -58,14 +58,14 @@ plx_sound (c ∷ cs) rest e =
           (c ∷ s.0, ap (λ (t : List ℕ). c ∷ t) s.1, inr (e.0, λ i. eqb-true c 92 g.0 i ∷ e.1 i, e.2))
     ]
 
-plx_complete : (piece rest : List ℕ) → IsPlx piece → plx_at (piece ++ rest) ≡ Some rest
+plx_complete : (unit rest : List ℕ) → IsPlx unit → plx_at (unit ++ rest) ≡ Some rest
 unfolding plx_at one_of
-plx_complete piece rest (inl h) = rw (h.2, hex_complete h.0 (h.1 ∷ rest) h.3, hex_complete h.1 rest h.4) refl
-plx_complete piece rest (inr h) = rw (h.1, h.2) refl
+plx_complete unit rest (inl h) = rw (h.2, hex_complete h.0 (h.1 ∷ rest) h.3, hex_complete h.1 rest h.4) refl
+plx_complete unit rest (inr h) = rw (h.1, h.2) refl
 
-pub plx_begins : (piece : List ℕ) → IsPlx piece → (b : ℕ) × (bs : List ℕ) × (piece ≡ b ∷ bs) × ((b ≡ 37) ⊎ (b ≡ 92))
-plx_begins piece (inl h) = (37, h.0 ∷ h.1 ∷ [], h.2, inl refl)
-plx_begins piece (inr h) = (92, h.0 ∷ [], h.1, inr refl)
+pub plx_begins : (unit : List ℕ) → IsPlx unit → (b : ℕ) × (bs : List ℕ) × (unit ≡ b ∷ bs) × ((b ≡ 37) ⊎ (b ≡ 92))
+plx_begins unit (inl h) = (37, h.0 ∷ h.1 ∷ [], h.2, inl refl)
+plx_begins unit (inr h) = (92, h.0 ∷ [], h.1, inr refl)
 
 abbrev part : ℕ → Bool
 part c = is_pn_chars c || (c == 58)
@@ -78,7 +78,7 @@ unfolding is_pn_chars is_name_start is_pn_chars_u is_pn_chars_base
 plx_no_part b (inl e) = rw e (refl, refl)
 plx_no_part b (inr e) = rw e (refl, refl)
 
-local_sound : (cs rest : List ℕ) → local_part_at cs ≡ Some rest → (piece : List ℕ) × (cs ≡ piece ++ rest) × IsLocalPart piece
+local_sound : (cs rest : List ℕ) → local_part_at cs ≡ Some rest → (unit : List ℕ) × (cs ≡ unit ++ rest) × IsLocalPart unit
 unfolding local_part_at
 local_sound [] rest e = none_is rest e
 local_sound (c ∷ cs) rest e =
@@ -91,12 +91,12 @@ at_plx : (b : ℕ) (bs : List ℕ) → (b ≡ 37) ⊎ (b ≡ 92) → (local_part
 unfolding local_part_at local_first_at
 at_plx b bs h = let n = plx_no_part b h in (rw n.0 refl, rw n.1 refl)
 
-local_complete : (piece rest : List ℕ) → IsLocalPart piece → local_part_at (piece ++ rest) ≡ Some rest
+local_complete : (unit rest : List ℕ) → IsLocalPart unit → local_part_at (unit ++ rest) ≡ Some rest
 unfolding local_part_at
-local_complete piece rest (inl h) = rw (h.1, h.2) refl
-local_complete piece rest (inr h) =
-    let b = plx_begins piece h in
-    ap (λ (t : List ℕ). local_part_at (t ++ rest)) b.2 ∙ (at_plx b.0 (b.1 ++ rest) b.3).0 ∙ ap (λ (t : List ℕ). plx_at (t ++ rest)) (sym b.2) ∙ plx_complete piece rest h
+local_complete unit rest (inl h) = rw (h.1, h.2) refl
+local_complete unit rest (inr h) =
+    let b = plx_begins unit h in
+    ap (λ (t : List ℕ). local_part_at (t ++ rest)) b.2 ∙ (at_plx b.0 (b.1 ++ rest) b.3).0 ∙ ap (λ (t : List ℕ). plx_at (t ++ rest)) (sym b.2) ∙ plx_complete unit rest h
 
 dot_no_local : part 46 ≡ false
 unfolding is_pn_chars is_name_start is_pn_chars_u is_pn_chars_base
@@ -106,14 +106,14 @@ plx_no_dot : (b : ℕ) → (b ≡ 37) ⊎ (b ≡ 92) → b ≢ 46
 plx_no_dot b (inl e) same = omega (arith, e, same)
 plx_no_dot b (inr e) same = omega (arith, e, same)
 
-local_begins : (piece : List ℕ) → IsLocalPart piece → (b : ℕ) × (bs : List ℕ) × (piece ≡ b ∷ bs) × (b ≢ 46)
-local_begins piece (inl h) = (h.0, [], h.1, differs_from part h.0 46 h.2 dot_no_local)
-local_begins piece (inr h) = let b = plx_begins piece h in (b.0, b.1, b.2, plx_no_dot b.0 b.3)
+local_begins : (unit : List ℕ) → IsLocalPart unit → (b : ℕ) × (bs : List ℕ) × (unit ≡ b ∷ bs) × (b ≢ 46)
+local_begins unit (inl h) = (h.0, [], h.1, differs_from part h.0 46 h.2 dot_no_local)
+local_begins unit (inr h) = let b = plx_begins unit h in (b.0, b.1, b.2, plx_no_dot b.0 b.3)
 
 pub local_unit : IsUnit IsLocalPart local_part_at
 local_unit = record { sound = local_sound; complete = local_complete; begins = local_begins }
 
-pub first_sound : (cs rest : List ℕ) → local_first_at cs ≡ Some rest → (piece : List ℕ) × (cs ≡ piece ++ rest) × IsLocalFirst piece
+pub first_sound : (cs rest : List ℕ) → local_first_at cs ≡ Some rest → (unit : List ℕ) × (cs ≡ unit ++ rest) × IsLocalFirst unit
 unfolding local_first_at
 first_sound [] rest e = none_is rest e
 first_sound (c ∷ cs) rest e =
@@ -122,9 +122,9 @@ first_sound (c ∷ cs) rest e =
       | inr not ↦ let s = plx_sound (c ∷ cs) rest (rw not at e) in (s.0, s.1, inr s.2)
     ]
 
-pub first_complete : (piece rest : List ℕ) → IsLocalFirst piece → local_first_at (piece ++ rest) ≡ Some rest
+pub first_complete : (unit rest : List ℕ) → IsLocalFirst unit → local_first_at (unit ++ rest) ≡ Some rest
 unfolding local_first_at
-first_complete piece rest (inl h) = rw (h.1, h.2) refl
-first_complete piece rest (inr h) =
-    let b = plx_begins piece h in
-    ap (λ (t : List ℕ). local_first_at (t ++ rest)) b.2 ∙ (at_plx b.0 (b.1 ++ rest) b.3).1 ∙ ap (λ (t : List ℕ). plx_at (t ++ rest)) (sym b.2) ∙ plx_complete piece rest h
+first_complete unit rest (inl h) = rw (h.1, h.2) refl
+first_complete unit rest (inr h) =
+    let b = plx_begins unit h in
+    ap (λ (t : List ℕ). local_first_at (t ++ rest)) b.2 ∙ (at_plx b.0 (b.1 ++ rest) b.3).1 ∙ ap (λ (t : List ℕ). plx_at (t ++ rest)) (sym b.2) ∙ plx_complete unit rest h

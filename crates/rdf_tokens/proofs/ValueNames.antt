@@ -12,7 +12,7 @@ use Rattle.rdf_terms.specs.Characters.{is_pn_chars_base, is_pn_chars_u, is_pn_ch
 use Rattle.rdf_terms.specs.Dotted.{IsDotted}
 use Rattle.rdf_tokens.specs.Characters.{is_name_start, is_local_escape}
 use Rattle.rdf_tokens.specs.Forms.{IsNamePart, IsLocalFirst, IsLocalPart, IsPrefix, IsLocal}
-use Rattle.rdf_tokens.specs.Values.{prefix_part, local_part, local_value, IsLocalPiece, piece_value, LocalMeans}
+use Rattle.rdf_tokens.specs.Values.{prefix_part, local_part, local_value, IsLocalUnit, unit_value, LocalMeans}
 use Rattle.rdf_tokens.proofs.ValuePlaces.{Colonless, before_colon, after_colon, none_pass}
 
 -- ---- no colon stands in a prefix
@@ -37,12 +37,12 @@ dots_colonless : (dots : List ℕ) → AllByRecursion (λ c. c ≡ 46) dots → 
 dots_colonless [] h = tt
 dots_colonless (d ∷ dots) h = (ap (λ (x : ℕ). eqb x 58) h.0, dots_colonless dots h.1)
 
-name_colonless : (name : List ℕ) (pieces : List (List ℕ)) → IsDotted IsNamePart name pieces → Colonless name
+name_colonless : (name : List ℕ) (units : List (List ℕ)) → IsDotted IsNamePart name units → Colonless name
 name_colonless name [] h = subst Colonless (sym h) tt
-name_colonless name (piece ∷ pieces) h =
-    let one : Colonless piece = subst Colonless (sym h.4.1) (apart is_pn_chars h.4.0 58 h.4.2 part_not_colon, tt) in
+name_colonless name (unit ∷ units) h =
+    let one : Colonless unit = subst Colonless (sym h.4.1) (apart is_pn_chars h.4.0 58 h.4.2 part_not_colon, tt) in
     subst Colonless (sym h.2)
-    (none_append (λ d. d == 58) h.0 (piece ++ h.1) (dots_colonless h.0 h.3) (none_append (λ d. d == 58) piece h.1 one (name_colonless h.1 pieces h.5)))
+    (none_append (λ d. d == 58) h.0 (unit ++ h.1) (dots_colonless h.0 h.3) (none_append (λ d. d == 58) unit h.1 one (name_colonless h.1 units h.5)))
 
 prefix_colonless : (prefix : List ℕ) → IsPrefix prefix → Colonless prefix
 prefix_colonless [] h = tt
@@ -56,12 +56,12 @@ pub local_part_is : (prefix name : List ℕ) → IsPrefix prefix → local_part 
 unfolding local_part
 local_part_is prefix name h = rw (after_colon prefix name (prefix_colonless prefix h)) refl
 
--- ---- the pieces of a local part
+-- ---- the units of a local part
 
-dot_pieces : (dots : List ℕ) → AllByRecursion (λ c. c ≡ 46) dots → (ps : List (List ℕ)) × (dots ≡ concat ps) × AllByRecursion IsLocalPiece ps
-dot_pieces [] h = ([], refl, tt)
-dot_pieces (d ∷ dots) h =
-    let r = dot_pieces dots h.1 in
+dot_units : (dots : List ℕ) → AllByRecursion (λ c. c ≡ 46) dots → (ps : List (List ℕ)) × (dots ≡ concat ps) × AllByRecursion IsLocalUnit ps
+dot_units [] h = ([], refl, tt)
+dot_units (d ∷ dots) h =
+    let r = dot_units dots h.1 in
     ((d ∷ []) ∷ r.0, ap (λ (t : List ℕ). d ∷ t) r.1, (inl (ap (λ (x : ℕ). x ∷ []) h.0), r.2))
 
 concat_append : (xs ys : List (List ℕ)) → concat (xs ++ ys) ≡ concat xs ++ concat ys
@@ -72,14 +72,14 @@ all_append : (P : List ℕ → Type 0) (xs ys : List (List ℕ)) → AllByRecurs
 all_append P [] ys p q = q
 all_append P (x ∷ xs) ys p q = (p.0, all_append P xs ys p.1 q)
 
-dotted_pieces : (name : List ℕ) (pieces : List (List ℕ)) → IsDotted IsLocalPart name pieces → (ps : List (List ℕ)) × (name ≡ concat ps) × AllByRecursion IsLocalPiece ps
-dotted_pieces name [] h = ([], h, tt)
-dotted_pieces name (piece ∷ pieces) h =
-    let d = dot_pieces h.0 h.3 in
-    let r = dotted_pieces h.1 pieces h.5 in (
-      d.0 ++ piece ∷ r.0,
-      h.2 ∙ ap (λ (t : List ℕ). t ++ (piece ++ h.1)) d.1 ∙ ap (λ (t : List ℕ). concat d.0 ++ (piece ++ t)) r.1 ∙ sym (concat_append d.0 (piece ∷ r.0)),
-      all_append IsLocalPiece d.0 (piece ∷ r.0) d.2 (inr h.4, r.2),
+dotted_units : (name : List ℕ) (units : List (List ℕ)) → IsDotted IsLocalPart name units → (ps : List (List ℕ)) × (name ≡ concat ps) × AllByRecursion IsLocalUnit ps
+dotted_units name [] h = ([], h, tt)
+dotted_units name (unit ∷ units) h =
+    let d = dot_units h.0 h.3 in
+    let r = dotted_units h.1 units h.5 in (
+      d.0 ++ unit ∷ r.0,
+      h.2 ∙ ap (λ (t : List ℕ). t ++ (unit ++ h.1)) d.1 ∙ ap (λ (t : List ℕ). concat d.0 ++ (unit ++ t)) r.1 ∙ sym (concat_append d.0 (unit ∷ r.0)),
+      all_append IsLocalUnit d.0 (unit ∷ r.0) d.2 (inr h.4, r.2),
     )
 
 start_is_part : (c : ℕ) → is_name_start c ≡ true → is_pn_chars c ≡ true
@@ -92,8 +92,8 @@ start_is_part c h =
           or_left _ _ (or_left _ _ (or_left _ _ a))
     ]
 
-first_is_part : (piece : List ℕ) → IsLocalFirst piece → IsLocalPart piece
-first_is_part piece (inl h) =
+first_is_part : (unit : List ℕ) → IsLocalFirst unit → IsLocalPart unit
+first_is_part unit (inl h) =
     inl (
       h.0,
       h.1,
@@ -102,16 +102,16 @@ first_is_part piece (inl h) =
         | inr colon ↦ or_right (is_pn_chars h.0) (h.0 == 58) colon
       ],
     )
-first_is_part piece (inr h) = inr h
+first_is_part unit (inr h) = inr h
 
-pub local_pieces : (name : List ℕ) → IsLocal name → (ps : List (List ℕ)) × (name ≡ concat ps) × AllByRecursion IsLocalPiece ps
-local_pieces name (inl e) = ([], e, tt)
-local_pieces name (inr h) =
-    let r = dotted_pieces h.1 h.2 h.5 in
+pub parted_local : (name : List ℕ) → IsLocal name → (ps : List (List ℕ)) × (name ≡ concat ps) × AllByRecursion IsLocalUnit ps
+parted_local name (inl e) = ([], e, tt)
+parted_local name (inr h) =
+    let r = dotted_units h.1 h.2 h.5 in
     (h.0 ∷ r.0, h.3 ∙ ap (λ (t : List ℕ). h.0 ++ t) r.1, (inr (first_is_part h.0 h.4), r.2))
 
 pub local_meaning : (name : List ℕ) → IsLocal name → (cs : List ℕ) × LocalMeans name cs
-local_meaning name h = let p = local_pieces name h in (flat_map piece_value p.0, (p.0, p.1, p.2, refl))
+local_meaning name h = let p = parted_local name h in (flat_map unit_value p.0, (p.0, p.1, p.2, refl))
 
 -- ---- what they stand for
 
@@ -147,30 +147,30 @@ pc_not_backslash = refl
 pub digit_apart : (c : ℕ) → digit_value c < 16 → eqb c 92 ≡ false
 digit_apart c small = ne_eqb c 92 (λ e. let wrong : digit_value 92 < 16 = subst (λ (x : ℕ). digit_value x < 16) e small in omega arith)
 
-pub piece_kept : (piece : List ℕ) → IsLocalPiece piece → filter kept piece ≡ piece_value piece
-piece_kept piece (inl dot) = ap (filter kept) dot ∙ sym (ap piece_value dot)
-piece_kept piece (inr (inl h)) =
+pub unit_kept : (unit : List ℕ) → IsLocalUnit unit → filter kept unit ≡ unit_value unit
+unit_kept unit (inl dot) = ap (filter kept) dot ∙ sym (ap unit_value dot)
+unit_kept unit (inr (inl h)) =
     let a = apart part_or_colon h.0 92 h.2 pc_not_backslash in
-    let same : filter kept (h.0 ∷ []) ≡ piece_value (h.0 ∷ []) = rw a refl in
-    ap (filter kept) h.1 ∙ same ∙ sym (ap piece_value h.1)
-piece_kept piece (inr (inr (inl h))) =
+    let same : filter kept (h.0 ∷ []) ≡ unit_value (h.0 ∷ []) = rw a refl in
+    ap (filter kept) h.1 ∙ same ∙ sym (ap unit_value h.1)
+unit_kept unit (inr (inr (inl h))) =
     let a = digit_apart h.0 h.3 in
     let b = digit_apart h.1 h.4 in
-    let same : filter kept (37 ∷ h.0 ∷ h.1 ∷ []) ≡ piece_value (37 ∷ h.0 ∷ h.1 ∷ []) = rw a (rw b refl) in
-    ap (filter kept) h.2 ∙ same ∙ sym (ap piece_value h.2)
-piece_kept piece (inr (inr (inr h))) =
+    let same : filter kept (37 ∷ h.0 ∷ h.1 ∷ []) ≡ unit_value (37 ∷ h.0 ∷ h.1 ∷ []) = rw a (rw b refl) in
+    ap (filter kept) h.2 ∙ same ∙ sym (ap unit_value h.2)
+unit_kept unit (inr (inr (inr h))) =
     let a = apart is_local_escape h.0 92 h.2 escape_not_backslash in
-    let same : filter kept (92 ∷ h.0 ∷ []) ≡ piece_value (92 ∷ h.0 ∷ []) = rw a refl in
-    ap (filter kept) h.1 ∙ same ∙ sym (ap piece_value h.1)
+    let same : filter kept (92 ∷ h.0 ∷ []) ≡ unit_value (92 ∷ h.0 ∷ []) = rw a refl in
+    ap (filter kept) h.1 ∙ same ∙ sym (ap unit_value h.1)
 
-pieces_kept : (ps : List (List ℕ)) → AllByRecursion IsLocalPiece ps → filter kept (concat ps) ≡ flat_map piece_value ps
-pieces_kept [] h = refl
-pieces_kept (p ∷ ps) h =
-    filter_append p (concat ps) ∙ ap (λ (t : List ℕ). t ++ filter kept (concat ps)) (piece_kept p h.0) ∙ ap (λ (t : List ℕ). piece_value p ++ t) (pieces_kept ps h.1)
+units_kept : (ps : List (List ℕ)) → AllByRecursion IsLocalUnit ps → filter kept (concat ps) ≡ flat_map unit_value ps
+units_kept [] h = refl
+units_kept (p ∷ ps) h =
+    filter_append p (concat ps) ∙ ap (λ (t : List ℕ). t ++ filter kept (concat ps)) (unit_kept p h.0) ∙ ap (λ (t : List ℕ). unit_value p ++ t) (units_kept ps h.1)
 
 pub local_value_is : (name cs : List ℕ) → LocalMeans name cs → encode_utf8_all cs ≡ local_value name
 unfolding local_value
-local_value_is name cs h = ap encode_utf8_all (h.3 ∙ sym (pieces_kept h.0 h.2) ∙ sym (ap (filter kept) h.1))
+local_value_is name cs h = ap encode_utf8_all (h.3 ∙ sym (units_kept h.0 h.2) ∙ sym (ap (filter kept) h.1))
 
 -- ---- a local part with no backslash
 

@@ -16,8 +16,8 @@ use Rattle.rdf_terms.proofs.AllowedLemmas.{all_allowed}
 use Rattle.rdf_terms.proofs.WrittenIriLemmas.{writes_allowed}
 use Rattle.rdf_tokens.specs.Characters.{is_local_escape}
 use Rattle.rdf_tokens.specs.Forms.{IsLocal}
-use Rattle.rdf_tokens.specs.Values.{local_value, IsLocalPiece, piece_value}
-use Rattle.rdf_tokens.proofs.ValueNames.{local_pieces, local_value_is, apart, part_or_colon, pc_not_backslash}
+use Rattle.rdf_tokens.specs.Values.{local_value, IsLocalUnit, unit_value}
+use Rattle.rdf_tokens.proofs.ValueNames.{parted_local, local_value_is, apart, part_or_colon, pc_not_backslash}
 
 -- ---- characters that may stand in an IRI
 
@@ -148,20 +148,20 @@ AllGood-append : (xs ys : List ℕ) → AllByRecursion Good xs → AllByRecursio
 AllGood-append [] ys p q = q
 AllGood-append (x ∷ xs) ys p q = (p.0, AllGood-append xs ys p.1 q)
 
-piece_good : (piece : List ℕ) → IsLocalPiece piece → AllByRecursion Good (piece_value piece)
-piece_good piece (inl dot) = subst (λ (t : List ℕ). AllByRecursion Good (piece_value t)) (sym dot) ((refl, refl), tt)
-piece_good piece (inr (inl h)) =
+unit_good : (unit : List ℕ) → IsLocalUnit unit → AllByRecursion Good (unit_value unit)
+unit_good unit (inl dot) = subst (λ (t : List ℕ). AllByRecursion Good (unit_value t)) (sym dot) ((refl, refl), tt)
+unit_good unit (inr (inl h)) =
     let a = apart part_or_colon h.0 92 h.2 pc_not_backslash in
-    let same : piece_value piece ≡ h.0 ∷ [] = ap piece_value h.1 ∙ rw a refl in
+    let same : unit_value unit ≡ h.0 ∷ [] = ap unit_value h.1 ∙ rw a refl in
     subst (AllByRecursion Good) (sym same) (part_or_colon_good h.0 h.2, tt)
-piece_good piece (inr (inr (inl h))) =
-    subst (λ (t : List ℕ). AllByRecursion Good (piece_value t)) (sym h.2) ((refl, refl), (digit_good h.0 h.3, (digit_good h.1 h.4, tt)))
-piece_good piece (inr (inr (inr h))) =
-    subst (λ (t : List ℕ). AllByRecursion Good (piece_value t)) (sym h.1) (escape_good h.0 h.2, tt)
+unit_good unit (inr (inr (inl h))) =
+    subst (λ (t : List ℕ). AllByRecursion Good (unit_value t)) (sym h.2) ((refl, refl), (digit_good h.0 h.3, (digit_good h.1 h.4, tt)))
+unit_good unit (inr (inr (inr h))) =
+    subst (λ (t : List ℕ). AllByRecursion Good (unit_value t)) (sym h.1) (escape_good h.0 h.2, tt)
 
-pieces_good : (ps : List (List ℕ)) → AllByRecursion IsLocalPiece ps → AllByRecursion Good (flat_map piece_value ps)
-pieces_good [] h = tt
-pieces_good (p ∷ ps) h = AllGood-append (piece_value p) (flat_map piece_value ps) (piece_good p h.0) (pieces_good ps h.1)
+units_good : (ps : List (List ℕ)) → AllByRecursion IsLocalUnit ps → AllByRecursion Good (flat_map unit_value ps)
+units_good [] h = tt
+units_good (p ∷ ps) h = AllGood-append (unit_value p) (flat_map unit_value ps) (unit_good p h.0) (units_good ps h.1)
 
 good_scalars : (cs : List ℕ) → AllByRecursion Good cs → scalars cs ≡ true
 good_scalars [] h = refl
@@ -174,10 +174,10 @@ good_allowed (c ∷ cs) h = (h.0.1, good_allowed cs h.1)
 -- no character of it is forbidden in IRIs
 pub local_allowed : (name : List ℕ) → IsLocal name → has_forbidden (local_value name) ≡ false
 local_allowed name l =
-    let m = local_pieces name l in
-    let cs : List ℕ = flat_map piece_value m.0 in
+    let m = parted_local name l in
+    let cs : List ℕ = flat_map unit_value m.0 in
     let value : encode_utf8_all cs ≡ local_value name = local_value_is name cs (m.0, m.1, m.2, refl) in
-    ap has_forbidden (sym value) ∙ all_allowed cs cs (writes_allowed cs (good_allowed cs (pieces_good m.0 m.2)))
+    ap has_forbidden (sym value) ∙ all_allowed cs cs (writes_allowed cs (good_allowed cs (units_good m.0 m.2)))
 
 -- ---- behind an IRI
 
@@ -201,9 +201,9 @@ pub pname_iri : (iri name : List ℕ) → IsTrue (is_iri iri) → IsLocal name �
 pname_iri iri name h l =
     let p = and_parts (is_utf8 iri) (has_scheme iri && not (has_forbidden iri)) h in
     let q = and_parts (has_scheme iri) (not (has_forbidden iri)) p.1 in
-    let m = local_pieces name l in
-    let cs : List ℕ = flat_map piece_value m.0 in
-    let good = pieces_good m.0 m.2 in
+    let m = parted_local name l in
+    let cs : List ℕ = flat_map unit_value m.0 in
+    let good = units_good m.0 m.2 in
     let value : encode_utf8_all cs ≡ local_value name = local_value_is name cs (m.0, m.1, m.2, refl) in
     let utf8 : IsUtf8 (iri ++ encode_utf8_all cs) = IsUtf8-append iri (encode_utf8_all cs) (IsUtf8-from_is_utf8 iri p.0) (cs, (good_scalars cs good, refl)) in
     let allowed : has_forbidden (iri ++ encode_utf8_all cs) ≡ false =

@@ -20,9 +20,9 @@ short_writes : (q : ℕ) (body cs : List ℕ) → Writes (IsStringCharacter q) b
 short_writes q body [] w = w
 short_writes q body (c ∷ cs) w = (w.0, w.1, w.2, character_of q w.0 c w.3, short_writes q w.1 cs w.4)
   where
-    character_of : (q : ℕ) (piece : List ℕ) (c : ℕ) → IsStringCharacter q piece c → IsCharacter piece c
-    character_of q piece c (inl h) = inl (h.0, h.2)
-    character_of q piece c (inr h) = inr h
+    character_of : (q : ℕ) (unit : List ℕ) (c : ℕ) → IsStringCharacter q unit c → IsCharacter unit c
+    character_of q unit c (inl h) = inl (h.0, h.2)
+    character_of q unit c (inr h) = inr h
 
 long_writes : (q n : ℕ) (body cs : List ℕ) → q ≢ 92 → IsLongBody q n body cs → Writes IsCharacter body cs
 long_writes q n body [] apart w = w.0
@@ -32,9 +32,9 @@ long_writes q n body (c ∷ cs) apart w =
       | inr other ↦ (w.0, w.1, w.2, character_of q w.0 c other.0, long_writes q 0 w.1 cs apart other.1)
     ]
   where
-    character_of : (q : ℕ) (piece : List ℕ) (c : ℕ) → IsLongCharacter q piece c → IsCharacter piece c
-    character_of q piece c (inl h) = inl (h.0, h.2)
-    character_of q piece c (inr h) = inr h
+    character_of : (q : ℕ) (unit : List ℕ) (c : ℕ) → IsLongCharacter q unit c → IsCharacter unit c
+    character_of q unit c (inl h) = inl (h.0, h.2)
+    character_of q unit c (inr h) = inr h
 
 -- ---- where bodies stand
 
@@ -148,10 +148,10 @@ written_scalars body (c ∷ cs) all w =
     let parts = scalars_parts w.0 w.1 (ap scalars (sym w.2) ∙ all) in
     and_from (scalar c) (scalars cs) (character w.0 c parts.0 w.3) (written_scalars w.1 cs parts.1 w.4)
   where
-    character : (piece : List ℕ) (d : ℕ) → scalars piece ≡ true → IsCharacter piece d → scalar d ≡ true
-    character piece d s (inl itself) = (and_parts (scalar d) true (ap scalars (sym itself.0) ∙ s)).0
-    character piece d s (inr (inl escape)) = escape.scalar
-    character piece d s (inr (inr short)) =
+    character : (unit : List ℕ) (d : ℕ) → scalars unit ≡ true → IsCharacter unit d → scalar d ≡ true
+    character unit d s (inl itself) = (and_parts (scalar d) true (ap scalars (sym itself.0) ∙ s)).0
+    character unit d s (inr (inl escape)) = escape.scalar
+    character unit d s (inr (inr short)) =
         let both = (and_parts (scalar 92) (scalars (short.0 ∷ [])) (ap scalars (sym short.1) ∙ s)).1 in
         short_scalar short.0 d (and_parts (scalar short.0) true both).0 short.2
 

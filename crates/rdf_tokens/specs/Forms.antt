@@ -19,7 +19,7 @@ IsShort quote slice cs = (body : List ℕ) × (slice ≡ quote ∷ (body ++ quot
 
 -- itself, other than the quote and `\`, or an escape
 abbrev pub IsLongCharacter : ℕ → List ℕ → ℕ → Type 0
-IsLongCharacter quote piece c = ((piece ≡ c ∷ []) × (c ≢ quote) × (c ≢ 92)) ⊎ (IsNumericEscape piece c ⊎ IsShortEscape piece c)
+IsLongCharacter quote unit c = ((unit ≡ c ∷ []) × (c ≢ quote) × (c ≢ 92)) ⊎ (IsNumericEscape unit c ⊎ IsShortEscape unit c)
 
 -- With so many bare quotes just before: at most two stand together, and none at the end.
 abbrev pub IsLongBody : ℕ → ℕ → List ℕ → List ℕ → Type 0
@@ -92,35 +92,35 @@ IsWord slice = (c : ℕ) × (others : List ℕ) × (slice ≡ c ∷ others) × (
 
 -- one of PN_CHARS
 abbrev pub IsNamePart : List ℕ → Type 0
-IsNamePart piece = IsOne is_pn_chars piece
+IsNamePart unit = IsOne is_pn_chars unit
 
 -- PLX: `%` and two hexadecimal digits, or a backslash and a character that may follow it
 abbrev pub IsPlx : List ℕ → Type 0
-IsPlx piece =
-    ((c d : ℕ) × (piece ≡ 37 ∷ c ∷ d ∷ []) × (digit_value c < 16) × (digit_value d < 16))
-    ⊎ ((c : ℕ) × (piece ≡ 92 ∷ c ∷ []) × (is_local_escape c ≡ true))
+IsPlx unit =
+    ((c d : ℕ) × (unit ≡ 37 ∷ c ∷ d ∷ []) × (digit_value c < 16) × (digit_value d < 16))
+    ⊎ ((c : ℕ) × (unit ≡ 92 ∷ c ∷ []) × (is_local_escape c ≡ true))
 
 -- PN_CHARS_U, `:`, a digit, or PLX
 abbrev pub IsLocalFirst : List ℕ → Type 0
-IsLocalFirst piece = IsOne (λ c. is_name_start c || (c == 58)) piece ⊎ IsPlx piece
+IsLocalFirst unit = IsOne (λ c. is_name_start c || (c == 58)) unit ⊎ IsPlx unit
 
 -- PN_CHARS, `:`, or PLX
 abbrev pub IsLocalPart : List ℕ → Type 0
-IsLocalPart piece = IsOne (λ c. is_pn_chars c || (c == 58)) piece ⊎ IsPlx piece
+IsLocalPart unit = IsOne (λ c. is_pn_chars c || (c == 58)) unit ⊎ IsPlx unit
 
 -- BLANK_NODE_LABEL: `_:`, PN_CHARS_U or a digit, then PN_CHARS or `.`, the last not `.`
 abbrev pub IsBlankLabel : List ℕ → Type 0
-IsBlankLabel slice = (c : ℕ) × (name : List ℕ) × (pieces : List (List ℕ)) × (slice ≡ 95 ∷ 58 ∷ c ∷ name) × (is_name_start c ≡ true) × IsDotted IsNamePart name pieces
+IsBlankLabel slice = (c : ℕ) × (name : List ℕ) × (units : List (List ℕ)) × (slice ≡ 95 ∷ 58 ∷ c ∷ name) × (is_name_start c ≡ true) × IsDotted IsNamePart name units
 
 -- empty, or PN_PREFIX: PN_CHARS_BASE, then PN_CHARS or `.`, the last not `.`
 abbrev pub IsPrefix : List ℕ → Type 0
 IsPrefix [] = Unit {0}
-IsPrefix (c ∷ name) = (is_pn_chars_base c ≡ true) × ((pieces : List (List ℕ)) × IsDotted IsNamePart name pieces)
+IsPrefix (c ∷ name) = (is_pn_chars_base c ≡ true) × ((units : List (List ℕ)) × IsDotted IsNamePart name units)
 
 -- empty, or PN_LOCAL
 abbrev pub IsLocal : List ℕ → Type 0
 IsLocal slice =
-    (slice ≡ []) ⊎ ((first others : List ℕ) × (pieces : List (List ℕ)) × (slice ≡ first ++ others) × IsLocalFirst first × IsDotted IsLocalPart others pieces)
+    (slice ≡ []) ⊎ ((first others : List ℕ) × (units : List (List ℕ)) × (slice ≡ first ++ others) × IsLocalFirst first × IsDotted IsLocalPart others units)
 
 -- PNAME_NS, PNAME_LN
 abbrev pub IsPname : List ℕ → Type 0

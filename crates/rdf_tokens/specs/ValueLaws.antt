@@ -25,7 +25,7 @@ PrefixesAreParts = (prefix name : List ℕ) → IsPrefix prefix → prefix_part 
 abbrev pub LocalsAreParts : Type 0
 LocalsAreParts = (prefix name : List ℕ) → IsPrefix prefix → local_part (prefix ++ 58 ∷ name) ≡ name
 
--- a local part stands for something, piece by piece
+-- a local part stands for something, unit by unit
 abbrev pub LocalsHaveMeanings : Type 0
 LocalsHaveMeanings = (name : List ℕ) → IsLocal name → (cs : List ℕ) × LocalMeans name cs
 

@@ -11,7 +11,7 @@ use Rattle.rdf_tokens.specs.Forms.{IsLocalPart}
 
 -- the reference that the IRIREF at the front writes, each UCHAR read; nothing where none stands there
 unfoldable pub iri_value : List ℕ → List ℕ
-iri_value slice = unwrap_or (option_map (λ piece. piece.0) (iri_at slice)) []
+iri_value slice = unwrap_or (option_map (λ read. read.0) (iri_at slice)) []
 
 -- ---- strings
 
@@ -72,18 +72,18 @@ local_part slice = unwrap_or (after 58 slice) []
 unfoldable pub local_value : List ℕ → List ℕ
 local_value part = encode_utf8_all (filter (λ c. not (c == 92)) part)
 
--- a piece of a local part: a dot, one of PN_CHARS, `:` or PLX
-abbrev pub IsLocalPiece : List ℕ → Type 0
-IsLocalPiece piece = (piece ≡ 46 ∷ []) ⊎ IsLocalPart piece
+-- a unit of a local part: a dot, one of PN_CHARS, `:` or PLX
+abbrev pub IsLocalUnit : List ℕ → Type 0
+IsLocalUnit unit = (unit ≡ 46 ∷ []) ⊎ IsLocalPart unit
 
--- the characters that a piece stands for: those behind a backslash, or else its own, those of `%hh` too (Turtle 1.1, section 6.4)
-abbrev pub piece_value : List ℕ → List ℕ
-piece_value [] = []
-piece_value (c ∷ cs) = if c == 92 then cs else c ∷ cs
+-- the characters that a unit stands for: those behind a backslash, or else its own, those of `%hh` too (Turtle 1.1, section 6.4)
+abbrev pub unit_value : List ℕ → List ℕ
+unit_value [] = []
+unit_value (c ∷ cs) = if c == 92 then cs else c ∷ cs
 
--- The local part stands for these characters, piece by piece.
+-- The local part stands for these characters, unit by unit.
 abbrev pub LocalMeans : List ℕ → List ℕ → Type 0
-LocalMeans part cs = (pieces : List (List ℕ)) × (part ≡ concat pieces) × AllByRecursion IsLocalPiece pieces × (cs ≡ flat_map piece_value pieces)
+LocalMeans part cs = (units : List (List ℕ)) × (part ≡ concat units) × AllByRecursion IsLocalUnit units × (cs ≡ flat_map unit_value units)
 
 -- ---- tags
 

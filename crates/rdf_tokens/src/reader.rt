@@ -16,7 +16,7 @@ use std::marker::Model;
 /// What comes next in a text.
 #[derive(Debug, Drop)]
 pub enum Next<'a> {
-    /// A token: its form, and the piece of the text that it is.
+    /// A token: its form, and the slice of the text that it is.
     Token(Kind, Slice<'a>),
     /// Nothing but a gap.
     End,

@@ -1,4 +1,4 @@
-//! Pieces of a text.
+//! Slices of a text.
 ghost use Rattle.std.specs.Prelude.{◌≡◌};
 ghost use Rattle.std.specs.Str.{chars};
 ghost use Rattle.rdf_tokens.specs.Tokens.{Stands, HasItsForm};
@@ -6,7 +6,7 @@ ghost use Rattle.rdf_tokens.specs.Tokens.{Stands, HasItsForm};
 use crate::token::Token;
 use std::marker::Model;
 
-/// A piece of a text, and the byte of the text at which it starts. A contract sees its characters, by their code points.
+/// A slice of a text: characters that stand together, and the byte of the text at which it starts. A contract sees its characters, by their code points.
 #[derive(Debug, Drop)]
 pub struct Slice<'a> {
     text: &'a str,
@@ -25,14 +25,14 @@ impl<'a> Model for Slice<'a> {
 }
 
 impl<'a> Slice<'a> {
-    /// The piece `text`, which starts at that byte.
+    /// The slice `text`, which starts at that byte.
     pub fn new(text: &'a str, start: usize) -> Slice<'a>
         ensures { result ≡ chars text.now }
     {
         Slice { text, start }
     }
 
-    /// The same piece once more.
+    /// The same slice once more.
     pub fn fork(&self) -> Slice<'a>
         ensures { result ≡ self.now }
     {

@@ -11,7 +11,7 @@ use std::marker::Model;
 /// What stands in a text between gaps, and the byte of the text where it starts.
 #[derive(Debug, Drop)]
 pub enum Found<'a> {
-    /// A token: where it starts, its form, and the piece of the text that it is.
+    /// A token: where it starts, its form, and the slice of the text that it is.
     Token(usize, Kind, Slice<'a>),
     /// Something at which no token begins.
     NoToken(usize),

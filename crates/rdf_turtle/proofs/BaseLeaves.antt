@@ -1,4 +1,4 @@
--- The pieces of a document's tree have the forms of their terminals.
+-- The slices of a document's tree have the forms of their terminals.
 use Rattle.std.proofs.Common.{◌≡◌, ◌⊎◌, ◌∙◌, ap, refl, sym, subst, inl, inr, ℕ, Bool, true, false, cond, List, [], ◌∷◌, ◌++◌, Ok, Err, true≢false}
 use Rattle.std.proofs.lemmas.Bool.{and_parts, and_from}
 use Rattle.std.proofs.lemmas.Str.{scalars-chars}
@@ -41,7 +41,7 @@ all_formed text (token ∷ tokens) (t ∷ ts) all are have = (lexeme_formed text
 
 pub lexemes_formed : (text : List ℕ) (tokens : List Token) (ts : List Lexeme) → HasTokens text tokens ts → AllByRecursion Formed ts
 lexemes_formed text tokens ts h =
-    all_formed (chars text) tokens ts (scalars-chars text h.utf8) h.pieces (lexemes_have_forms terminal_by (chars text) (chars text) h.list.0 tokens ts h.list.1 h.pieces)
+    all_formed (chars text) tokens ts (scalars-chars text h.utf8) h.slices (lexemes_have_forms terminal_by (chars text) (chars text) h.list.0 tokens ts h.list.1 h.slices)
 
 all_push : (ts : List Lexeme) (t : Lexeme) → AllByRecursion Formed ts → Formed t → AllByRecursion Formed (ts ++ t ∷ [])
 all_push [] t all one = (one, tt)
@@ -169,9 +169,9 @@ written_scalars body (c ∷ cs) all h =
     let one : scalar c ≡ true = character h.0 c parts.0 h.3.1 in
     and_from (scalar c) (scalars cs) one (written_scalars h.1 cs parts.1 h.4)
   where
-    character : (piece : List ℕ) (d : ℕ) → scalars piece ≡ true → (piece ≡ d ∷ []) ⊎ IsNumericEscape piece d → scalar d ≡ true
-    character piece d s (inl itself) = (and_parts (scalar d) true (ap scalars (sym itself) ∙ s)).0
-    character piece d s (inr escape) = escape.scalar
+    character : (unit : List ℕ) (d : ℕ) → scalars unit ≡ true → (unit ≡ d ∷ []) ⊎ IsNumericEscape unit d → scalar d ≡ true
+    character unit d s (inl itself) = (and_parts (scalar d) true (ap scalars (sym itself) ∙ s)).0
+    character unit d s (inr escape) = escape.scalar
 
 iri_text_utf8 : (slice text : List ℕ) → scalars slice ≡ true → IsIriRef slice text → IsUtf8 text
 iri_text_utf8 slice text all h =

@@ -70,7 +70,7 @@ pub record Fine {A : Type 0} (based : Bool) (declared : List (List ℕ)) (Good :
   pub given : Given based declared state
   pub good : Good value
 
--- what the pieces of a name, a verb and a literal are in a document
+-- what the slices of a name, a verb and a literal are in a document
 abbrev pub NameFormed : Name → Type 0
 NameFormed (Full r) = IsUtf8 (iri_value r)
 NameFormed (Prefixed prefix local) = IsLocal local

@@ -30,7 +30,7 @@ use Rattle.rdf_turtle.specs.Meaning.{Meaning, Says, iri, node_of, property_of, m
 use Rattle.rdf_grammar.specs.Keys.{key_of}
 use Rattle.rdf_grammar.specs.Prologue.{knows, is_proper}
 use Rattle.rdf_turtle.specs.Inside.Proper.{is_filled, proper_verb, proper_property_of, proper_node_of, proper_node, proper_property, is_literal, proper_statement}
-use Rattle.rdf_grammar.specs.Terminals.{Piece}
+use Rattle.rdf_grammar.specs.Terminals.{Slice}
 use Rattle.rdf_grammar.specs.Derivations as grammar
 use Rattle.rdf_grammar.specs.Derivations.{Then, Star, stop, more}
 use Rattle.rdf_turtle.specs.Grammar as g
@@ -50,7 +50,7 @@ module _ {A B : Type 0} (f : Node-F A B → A) (h : Property-F A B → B) where
   by-Name : (name : Name) → fold-Node A B f h (n.Name name) ≡ f (Node-F.Name name)
   by-Name name = ap (fold-Node A B f h) (sym (n.rolls-Name name)) ∙ fold-roll-Node A B f h (Node-F.Name name)
 
-  by-Label : (label : Piece) → fold-Node A B f h (n.Label label) ≡ f (Node-F.Label label)
+  by-Label : (label : Slice) → fold-Node A B f h (n.Label label) ≡ f (Node-F.Label label)
   by-Label label = ap (fold-Node A B f h) (sym (n.rolls-Label label)) ∙ fold-roll-Node A B f h (Node-F.Label label)
 
   by-Blank : (ps : List Property) → fold-Node A B f h (n.Blank ps) ≡ f (Node-F.Blank (map (fold-Property A B f h) ps))
@@ -149,7 +149,7 @@ name_says name form based declared k =
       inside = λ x h. pure_goes based declared tt Any tt;
     })
 
-label_says : (label : Piece) → SubjectSays (n.Label label)
+label_says : (label : Slice) → SubjectSays (n.Label label)
 label_says label based declared k =
     node_by based declared true _ _ _ _ (by-Label node_of property_of label) (by-Label (lacks_node_of based) (lacks_property_of based) label) (record {
       term_flag = false;
@@ -210,7 +210,7 @@ property_says verb objects form all based declared k =
 good_name : (name : Name) → NameFormed name → GoodSubject (n.Name name)
 good_name name form = record { proper = by-Name proper_node_of proper_property_of name ∙ name_proper name form; subject = refl; says = name_says name form }
 
-good_label : (label : Piece) → GoodSubject (n.Label label)
+good_label : (label : Slice) → GoodSubject (n.Label label)
 good_label label = record { proper = by-Label proper_node_of proper_property_of label; subject = refl; says = label_says label }
 
 good_blank : (ps : List Property) → AllByRecursion GoodProperty ps → GoodSubject (n.Blank ps)
@@ -256,8 +256,8 @@ unfolding Gives
 or_gives P Q Good p q ts x us (inl d) w = p ts x us d w
 or_gives P Q Good p q ts x us (inr d) w = q ts x us d w
 
--- the piece is the text of such a lexeme
-record IsOf (k : Terminal) (text : Piece) : Type 0 where
+-- the slice is the text of such a lexeme
+record IsOf (k : Terminal) (text : Slice) : Type 0 where
   lexeme : Lexeme
   formed : Formed lexeme
   terminal : lexeme.terminal ≡ k
@@ -311,24 +311,24 @@ one_gives P Good p = map_gives (λ x. x ∷ []) P Good (AllByRecursion Good) p (
 
 -- ---- productions
 
-reference_formed : (r : Piece) → IsOf terminal.Iri r → NameFormed (Full r)
-reference_formed r h = subst (λ (x : Piece). NameFormed (Full x)) h.is (iri_utf8 h.lexeme h.formed h.terminal)
+reference_formed : (r : Slice) → IsOf terminal.Iri r → NameFormed (Full r)
+reference_formed r h = subst (λ (x : Slice). NameFormed (Full x)) h.is (iri_utf8 h.lexeme h.formed h.terminal)
 
-prefixed_formed : (text : Piece) → IsOf terminal.Pname text → NameFormed (productions.prefixed text)
-prefixed_formed text h = subst (λ (x : Piece). NameFormed (productions.prefixed x)) h.is (local_formed h.lexeme h.formed h.terminal)
+prefixed_formed : (text : Slice) → IsOf terminal.Pname text → NameFormed (productions.prefixed text)
+prefixed_formed text h = subst (λ (x : Slice). NameFormed (productions.prefixed x)) h.is (local_formed h.lexeme h.formed h.terminal)
 
-abbrev IsTag : Piece → Type 0
+abbrev IsTag : Slice → Type 0
 IsTag tag = is_tag (tag_value tag) ≡ true
 
-tag_at : (k : Terminal) (tag : Piece) → is_tag_terminal k ≡ true → IsOf k tag → IsTag tag
+tag_at : (k : Terminal) (tag : Slice) → is_tag_terminal k ≡ true → IsOf k tag → IsTag tag
 tag_at k tag e h = subst IsTag h.is (tag_formed h.lexeme h.formed (ap is_tag_terminal h.terminal ∙ e))
 
-text_formed : (form : Piece) → IsOf terminal.Text form → IsUtf8 (text_value form)
-text_formed form h = subst (λ (x : Piece). IsUtf8 (text_value x)) h.is (text_utf8 h.lexeme h.formed h.terminal)
+text_formed : (form : Slice) → IsOf terminal.Text form → IsUtf8 (text_value form)
+text_formed form h = subst (λ (x : Slice). IsUtf8 (text_value x)) h.is (text_utf8 h.lexeme h.formed h.terminal)
 
 -- the characters of a lexeme are a text
-own_formed : (k : Terminal) (form : Piece) → IsOf k form → IsUtf8 (encode_utf8_all form)
-own_formed k form h = subst (λ (x : Piece). IsUtf8 (encode_utf8_all x)) h.is (h.lexeme.text, (h.formed.scalar, refl))
+own_formed : (k : Terminal) (form : Slice) → IsOf k form → IsUtf8 (encode_utf8_all form)
+own_formed k form h = subst (λ (x : Slice). IsUtf8 (encode_utf8_all x)) h.is (h.lexeme.text, (h.formed.scalar, refl))
 
 -- what derives no more gives the same
 by_gives : {A : Type 0} (P Q : Derives A) (Good : A → Type 0) → ((ts : Lexemes) (x : A) (us : Lexemes) → P ts x us → Q ts x us) → Gives Q Good → Gives P Good
@@ -354,7 +354,7 @@ tag_of k e ts x us d w = let r = value_gives k ts x us d w in (tag_at k x e r.0,
 tag_gives : Gives Tag IsTag
 tag_gives = or_gives _ _ IsTag (tag_of terminal.AtWord refl) (or_gives _ _ IsTag (tag_of terminal.AtPrefix refl) (tag_of terminal.AtBase refl))
 
-suffix_gives : (form : Piece) → IsUtf8 (text_value form) → Gives (productions.Suffix word form) LiteralFormed
+suffix_gives : (form : Slice) → IsUtf8 (text_value form) → Gives (productions.Suffix word form) LiteralFormed
 suffix_gives form text =
     or_gives _ _ LiteralFormed (map_gives (l.Tagged form) _ IsTag LiteralFormed (by_gives _ Tag IsTag tag_is tag_gives) (λ a h. (text, h)))
     (or_gives _ _ LiteralFormed (behind_word w.Caret terminal.Caret is_caret _ LiteralFormed (map_gives (l.Typed form) _ NameFormed LiteralFormed iri_gives (λ a h. (text, h)))) (pure_gives (l.Plain form) LiteralFormed text))
@@ -446,7 +446,7 @@ namespace_gives : Gives (productions.namespace word) Any
 unfolding Gives
 namespace_gives ts x us d w = (tt, (front_formed ts us d.0 d.4 w).1)
 
-abbrev GoodBound : Piece × Piece → Type 0
+abbrev GoodBound : Slice × Slice → Type 0
 GoodBound b = GoodStatement (g.bound b)
 
 binding_gives : Gives g.Binding GoodStatement

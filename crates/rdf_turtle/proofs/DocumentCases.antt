@@ -51,14 +51,14 @@ by_lexemes : (base : Option (List ℕ)) (text : List ℕ) (tokens : List Token) 
 by_lexemes base text tokens lexemes h = elim (shallow_or_deep bracket lexemes) [
   | inl shallow ↦ by_tree base text tokens lexemes h shallow (document 100 lexemes) refl
   | inr deep ↦ (
-      let opener = got tokens deep.0 (subst (λ (n : ℕ). deep.0 < n) (same_lengths terminal_by (chars text) tokens lexemes h.pieces) deep.1.within) in
+      let opener = got tokens deep.0 (subst (λ (n : ℕ). deep.0 < n) (same_lengths terminal_by (chars text) tokens lexemes h.slices) deep.1.within) in
       inr (record { line = line_of text opener.0.start; kind = fault.TooDeep }, (tokens, lexemes, opener.0, deep.0, h, deep.1, opener.1, refl)))
 ]
 
 by_tokens : (base : Option (List ℕ)) (text : List ℕ) → IsUtf8 text → (r : Result (List Token) ℕ) → Says (chars text) r → Meant base text
 by_tokens base text utf8 (Ok tokens) says =
-    let pieces = some_lexemes terminal_by (chars text) tokens (tokens_have_forms (chars text) tokens says) in
-    by_lexemes base text tokens pieces.0 (record { utf8 = utf8; list = says; pieces = pieces.1 })
+    let slices = some_lexemes terminal_by (chars text) tokens (tokens_have_forms (chars text) tokens says) in
+    by_lexemes base text tokens slices.0 (record { utf8 = utf8; list = says; slices = slices.1 })
 by_tokens base text utf8 (Err place) says = inr (record { line = line_of text place; kind = fault.Token }, (utf8, (place, says, refl)))
 
 pub some_meaning : SomeMeaning

@@ -45,7 +45,7 @@ ok_err a b e = cc
 one_tokens : (text : List ℕ) (ts us : List Token) (ls ms : List Lexeme) → HasTokens text ts ls → HasTokens text us ms → (ts ≡ us) × (ls ≡ ms)
 one_tokens text ts us ls ms h k =
     let e : ts ≡ us = ok_same ts us (one_token_list (chars text) (Ok ts) (Ok us) h.list k.list) in
-    (e, one_lexemes terminal_by (chars text) us ls ms (subst (λ (x : List Token). AreLexemes (chars text) x ls) e h.pieces) k.pieces)
+    (e, one_lexemes terminal_by (chars text) us ls ms (subst (λ (x : List Token). AreLexemes (chars text) x ls) e h.slices) k.slices)
 
 one_tree : (text : List ℕ) (a b : List Statement) → HasTree text a → HasTree text b → a ≡ b
 one_tree text a b h k =
@@ -270,7 +270,7 @@ Listed_as text ls = (tokens : List Token) × HasTokens text tokens ls × ¬ (IsT
 
 surveyed : (text : List ℕ) (ls : List Lexeme) → IsShallow text → AreReadOf terminal_by (chars text) ls → Listed_as text ls
 surveyed text ls h (Ok tokens, says, are) =
-    let held : HasTokens text tokens ls = record { utf8 = h.2.utf8; list = says; pieces = are } in
+    let held : HasTokens text tokens ls = record { utf8 = h.2.utf8; list = says; slices = are } in
     (tokens, held, λ d. h.3 (subst IsTooDeep (one_tokens text tokens h.0 ls h.1 held h.2).1 d))
 surveyed text ls h (Err place, says, are) = absurd (ok_err h.0 place (one_token_list (chars text) (Ok h.0) (Err place) h.2.list says))
 

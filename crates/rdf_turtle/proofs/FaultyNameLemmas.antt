@@ -10,7 +10,7 @@ use Rattle.rdf_grammar.specs.declared.tree.Literal.TheVariants as l
 use Rattle.rdf_grammar.specs.Keys.{key_of, same_key}
 use Rattle.rdf_grammar.specs.Literals.{known_literal}
 use Rattle.rdf_grammar.specs.Prologue.{knows}
-use Rattle.rdf_grammar.specs.Terminals.{Piece}
+use Rattle.rdf_grammar.specs.Terminals.{Slice}
 use Rattle.rdf_tokens.specs.Values.{prefix_part}
 use Rattle.rdf_turtle.specs.declared.terminal.Terminal.{Terminal}
 use Rattle.rdf_turtle.specs.declared.terminal.Terminal.TheVariants as terminal
@@ -56,7 +56,7 @@ module _ {S : Type 0} (scan : S → List Leaf → Bool) (op : Bool → Bool → 
 
   module _ (node_of : S → Node-F Bool Bool → Bool) (property_of : S → Property-F Bool Bool → Bool) (verb : S → Verb → Bool)
       (at_name : (name : Name) → Asks (name_leaves name) (λ s. node_of s (Node-F.Name name)))
-      (at_label : (label : Piece) → Asks (leaf terminal.BlankLabel label ∷ []) (λ s. node_of s (Node-F.Label label)))
+      (at_label : (label : Slice) → Asks (leaf terminal.BlankLabel label ∷ []) (λ s. node_of s (Node-F.Label label)))
       (at_blank : (s : S) (bs : List Bool) → node_of s (Node-F.Blank bs) ≡ each bs)
       (at_collection : (s : S) (bs : List Bool) → node_of s (Node-F.Collection bs) ≡ each bs)
       (at_literal : (literal : Literal) → Asks (literal_leaves literal) (λ s. node_of s (Node-F.Literal literal)))
@@ -158,13 +158,13 @@ ends_both b found all h = (h.done, not_short b found all h)
 
 -- ---- prefixed names
 
-abbrev leaf_unbound : Bool → List (List ℕ) → Terminal → List Piece → Bool
+abbrev leaf_unbound : Bool → List (List ℕ) → Terminal → List Slice → Bool
 leaf_unbound declares bound terminal.Pname (prefix ∷ rest) = not declares && not (list_any (same_key (key_of prefix)) bound)
-leaf_unbound declares bound k pieces = false
+leaf_unbound declares bound k slices = false
 
-abbrev leaf_bound : Bool → List (List ℕ) → Terminal → List Piece → List (List ℕ)
+abbrev leaf_bound : Bool → List (List ℕ) → Terminal → List Slice → List (List ℕ)
 leaf_bound declares bound terminal.Pname (prefix ∷ rest) = cond declares (insert_key same_key bound (key_of prefix)) bound
-leaf_bound declares bound k pieces = bound
+leaf_bound declares bound k slices = bound
 
 -- each prefixed name among the leaves has a prefix that is one of these or declared before
 abbrev all_bound : Bool → List (List ℕ) → List Leaf → Bool
@@ -176,7 +176,7 @@ unbound_or_on true b found all h = at_once b all
 unbound_or_on false b found all h = one_more b found all h
 
 unbound_step : (ts : Lexemes) → ((behind declares : Bool) (bound : List (List ℕ)) → Ends (all_bound declares bound (contents behind ts)) (unbound_from behind declares bound ts) (length ts))
-    → (k : Terminal) (text : Piece) (behind declares : Bool) (bound : List (List ℕ))
+    → (k : Terminal) (text : Slice) (behind declares : Bool) (bound : List (List ℕ))
     → Ends (all_bound declares bound (content behind k text ++ contents (takes_tag k) ts))
     (cond (is_unbound declares bound (taken behind k) text) 0 (unbound_from (takes_tag k) (declares_behind declares (taken behind k)) (bound_behind declares bound (taken behind k) text) ts + 1)) (suc (length ts))
 unbound_step ts h terminal.Pname text behind declares bound =
@@ -247,9 +247,9 @@ unbound_is_found ts tree d =
 
 -- ---- references
 
-abbrev leaf_lacking : Bool → Terminal → List Piece → Bool
+abbrev leaf_lacking : Bool → Terminal → List Slice → Bool
 leaf_lacking based terminal.Iri (reference ∷ rest) = lacks based reference
-leaf_lacking based k pieces = false
+leaf_lacking based k slices = false
 
 -- some reference among the leaves has no scheme where no base is in force
 abbrev some_lacking : Bool → Bool → List Leaf → Bool
@@ -261,7 +261,7 @@ lacking_or_on true b found all h = at_once b all
 lacking_or_on false b found all h = one_more (not b) found all h
 
 lacking_step : (ts : Lexemes) → ((behind moves based : Bool) → Ends (not (some_lacking moves based (contents behind ts))) (lacking_from behind moves based ts) (length ts))
-    → (k : Terminal) (text : Piece) (behind moves based : Bool)
+    → (k : Terminal) (text : Slice) (behind moves based : Bool)
     → Ends (not (some_lacking moves based (content behind k text ++ contents (takes_tag k) ts)))
     (cond (is_lacking based (taken behind k) text) 0 (lacking_from (takes_tag k) (moves_behind moves (taken behind k)) (base_behind moves based (taken behind k)) ts + 1)) (suc (length ts))
 lacking_step ts h terminal.Iri text behind moves based =

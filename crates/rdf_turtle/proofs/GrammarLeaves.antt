@@ -19,7 +19,7 @@ use Rattle.rdf_turtle.specs.declared.tree.Property.{Property}
 use Rattle.rdf_turtle.specs.declared.tree.Statement.{Statement}
 use Rattle.rdf_turtle.specs.declared.tree.Statement.TheVariants as s
 use Rattle.rdf_tokens.specs.Values.{prefix_part, local_part}
-use Rattle.rdf_grammar.specs.Terminals.{Piece}
+use Rattle.rdf_grammar.specs.Terminals.{Slice}
 use Rattle.rdf_grammar.specs.Derivations as grammar
 use Rattle.rdf_grammar.specs.Derivations.{Then, Star, stop, more}
 use Rattle.rdf_turtle.specs.Grammar as g
@@ -59,7 +59,7 @@ say_by xs ys f e h = λ b. h b ∙ sym e
 
 -- a terminal that carries nothing
 abbrev Sign : Terminal → Type 0
-Sign k = (b : Bool) (text : Piece) → content b k text ≡ []
+Sign k = (b : Bool) (text : Slice) → content b k text ≡ []
 
 sign_before : (k : Terminal) (t : Lexeme) (xs : List Leaf) (f : Lexemes) → Sign k → t.terminal ≡ k → Says xs f → Says xs (t ∷ f)
 sign_before k t xs f sign is h = λ b. ap (λ (j : Terminal). content b j t.text ++ contents (takes_tag t.terminal) f) is ∙ ap (λ (zs : List Leaf). zs ++ contents (takes_tag t.terminal) f) (sign b t.text) ∙ h (takes_tag t.terminal)
@@ -68,16 +68,16 @@ sign_behind : (k : Terminal) (t : Lexeme) (xs : List Leaf) (f : Lexemes) → Sig
 sign_behind k t xs f sign is h = say_by xs (xs ++ []) (f ++ t ∷ []) (sym (append-nil xs)) (both_say xs [] f (t ∷ []) h (sign_before k t [] [] sign is (λ b. refl)))
 
 -- the one lexeme, of this terminal and with these characters
-record IsValue (k : Terminal) (piece : Piece) (f : Lexemes) : Type 0 where
+record IsValue (k : Terminal) (slice : Slice) (f : Lexemes) : Type 0 where
   lexeme : Lexeme
   terminal : lexeme.terminal ≡ k
-  text : lexeme.text ≡ piece
+  text : lexeme.text ≡ slice
   is : f ≡ lexeme ∷ []
 
-value_carries : (k : Terminal) (text : Piece) (f : Lexemes) → IsValue k text f → (b : Bool) → contents b f ≡ content b k text
-value_carries k text f h = λ b. ap (λ (x : Lexemes). contents b x) h.is ∙ append-nil (content b h.lexeme.terminal h.lexeme.text) ∙ ap (λ (j : Terminal). content b j h.lexeme.text) h.terminal ∙ ap (λ (x : Piece). content b k x) h.text
+value_carries : (k : Terminal) (text : Slice) (f : Lexemes) → IsValue k text f → (b : Bool) → contents b f ≡ content b k text
+value_carries k text f h = λ b. ap (λ (x : Lexemes). contents b x) h.is ∙ append-nil (content b h.lexeme.terminal h.lexeme.text) ∙ ap (λ (j : Terminal). content b j h.lexeme.text) h.terminal ∙ ap (λ (x : Slice). content b k x) h.text
 
-value_says : (k : Terminal) (text : Piece) (xs : List Leaf) (f : Lexemes) → IsValue k text f → ((b : Bool) → content b k text ≡ xs) → Says xs f
+value_says : (k : Terminal) (text : Slice) (xs : List Leaf) (f : Lexemes) → IsValue k text f → ((b : Bool) → content b k text ≡ xs) → Says xs f
 value_says k text xs f h carries = λ b. value_carries k text f h b ∙ carries b
 
 -- ---- derivations
@@ -189,7 +189,7 @@ word_gives w k is = by_gives _ _ (IsValue k) (value_is w k is) (value_gives k)
 leaves-Name : (name : Name) → node_leaves (n.Name name) ≡ name_leaves name
 leaves-Name name = ap node_leaves (sym (n.rolls-Name name)) ∙ fold-roll-Node (List Leaf) (List Leaf) node_leaves_of property_leaves_of (Node-F.Name name)
 
-leaves-Label : (label : Piece) → node_leaves (n.Label label) ≡ leaf terminal.BlankLabel label ∷ []
+leaves-Label : (label : Slice) → node_leaves (n.Label label) ≡ leaf terminal.BlankLabel label ∷ []
 leaves-Label label = ap node_leaves (sym (n.rolls-Label label)) ∙ fold-roll-Node (List Leaf) (List Leaf) node_leaves_of property_leaves_of (Node-F.Label label)
 
 leaves-Blank : (ps : List Property) → node_leaves (n.Blank ps) ≡ joined (map property_leaves ps)
@@ -231,7 +231,7 @@ verb_gives =
     (λ x t f is h. subst (λ (y : Verb). SaysVerb y (t ∷ f)) (sym h.0) (subst (λ (z : Lexemes). SaysVerb v.Type (t ∷ z)) (sym h.1) (a_says t is))))
 
 -- the tag behind a text
-abbrev IsTagOf : Piece → Lexemes → Type 0
+abbrev IsTagOf : Slice → Lexemes → Type 0
 IsTagOf tag f = contents true f ≡ leaf terminal.AtWord tag ∷ []
 
 tag_gives : Gives Tag IsTagOf
@@ -246,27 +246,27 @@ rest_leaves (l.Tagged form tag) = leaf terminal.AtWord tag ∷ []
 rest_leaves (l.Typed form datatype) = name_leaves datatype
 rest_leaves _ = []
 
-abbrev SaysBehind : Piece → Literal → Lexemes → Type 0
+abbrev SaysBehind : Slice → Literal → Lexemes → Type 0
 SaysBehind form x f = (contents true f ≡ rest_leaves x) × (literal_leaves x ≡ leaf terminal.Text form ∷ rest_leaves x)
 
-abbrev SaysType : Piece → Literal → Lexemes → Type 0
+abbrev SaysType : Slice → Literal → Lexemes → Type 0
 SaysType form x f = Says (rest_leaves x) f × (literal_leaves x ≡ leaf terminal.Text form ∷ rest_leaves x)
 
-caret_gives : (form : Piece) → Gives (grammar.◌>>◌ (productions.the word w.Caret) (grammar.◌<$>◌ (l.Typed form) g.Iri)) (SaysBehind form)
+caret_gives : (form : Slice) → Gives (grammar.◌>>◌ (productions.the word w.Caret) (grammar.◌<$>◌ (l.Typed form) g.Iri)) (SaysBehind form)
 caret_gives form =
     by_gives _ _ (SaysBehind form) (behind_is w.Caret terminal.Caret _ is_caret) (behind_gives terminal.Caret _ (SaysType form) (SaysBehind form)
     (map_gives (l.Typed form) _ SaysName (SaysType form) iri_gives (λ a f h. (h, refl)))
     (λ x t f is h. (sign_before terminal.Caret t (rest_leaves x) f (λ b text. refl) is h.0 true, h.1)))
 
-suffix_gives : (form : Piece) → Gives (productions.Suffix word form) (SaysBehind form)
+suffix_gives : (form : Slice) → Gives (productions.Suffix word form) (SaysBehind form)
 suffix_gives form =
     or_gives _ _ (SaysBehind form) (map_gives (l.Tagged form) _ IsTagOf (SaysBehind form) (by_gives _ Tag IsTagOf tag_is tag_gives) (λ a f h. (h, refl)))
     (or_gives _ _ (SaysBehind form) (caret_gives form) (pure_gives (l.Plain form) (SaysBehind form) (refl, refl)))
 
-text_says : (form : Piece) (x : Literal) (f h : Lexemes) → IsValue terminal.Text form f → SaysBehind form x h → SaysLiteral x (f ++ h)
+text_says : (form : Slice) (x : Literal) (f h : Lexemes) → IsValue terminal.Text form f → SaysBehind form x h → SaysLiteral x (f ++ h)
 text_says form x f h v rest = λ b.
     ap (λ (z : Lexemes). contents b (z ++ h)) v.is ∙ ap (λ (j : Terminal). content b j v.lexeme.text ++ contents (takes_tag j) h) v.terminal
-    ∙ ap (λ (p : Piece). leaf terminal.Text p ∷ contents true h) v.text ∙ ap (λ (xs : List Leaf). leaf terminal.Text form ∷ xs) rest.0 ∙ sym rest.1
+    ∙ ap (λ (p : Slice). leaf terminal.Text p ∷ contents true h) v.text ∙ ap (λ (xs : List Leaf). leaf terminal.Text form ∷ xs) rest.0 ∙ sym rest.1
 
 text_gives : Gives (productions.RDFLiteral word) SaysLiteral
 unfolding Gives
@@ -366,7 +366,7 @@ module _ (P : Derives Node) (p : Gives P SaysNode) where
   name_says : (name : Name) (f : Lexemes) → SaysName name f → SaysNode (n.Name name) f
   name_says name f h = say_by _ _ f (leaves-Name name) h
 
-  label_says : (label : Piece) (f : Lexemes) → IsValue terminal.BlankLabel label f → SaysNode (n.Label label) f
+  label_says : (label : Slice) (f : Lexemes) → IsValue terminal.BlankLabel label f → SaysNode (n.Label label) f
   label_says label f h = say_by _ _ f (leaves-Label label) (value_says terminal.BlankLabel label _ f h (λ b. refl))
 
   blank_says : (ps : List Property) (f : Lexemes) → SaysProperties ps f → SaysNode (n.Blank ps) f
@@ -424,7 +424,7 @@ record SaysBound (words : List Leaf) (x : Statement) (f : Lexemes) : Type 0 wher
   subject : HasSubject x
 
 -- the word of a directive
-directive_says : (k : Terminal) (words : List Leaf) (x : Statement) (t : Lexeme) (f : Lexemes) → ((text : Piece) → content false k text ≡ words) → takes_tag k ≡ false → t.terminal ≡ k → SaysBound words x f
+directive_says : (k : Terminal) (words : List Leaf) (x : Statement) (t : Lexeme) (f : Lexemes) → ((text : Slice) → content false k text ≡ words) → takes_tag k ≡ false → t.terminal ≡ k → SaysBound words x f
     → SaysStatement x (t ∷ f)
 directive_says k words x t f sign plain is h = record {
   says = ap (λ (j : Terminal). content false j t.text ++ contents (takes_tag t.terminal) f) is ∙ ap (λ (zs : List Leaf). zs ++ contents (takes_tag t.terminal) f) (sign t.text)
@@ -446,20 +446,20 @@ dot_says words x t f is h = record {
 bound_says : (x : Statement) (f : Lexemes) → SaysBound [] x f → SaysStatement x f
 bound_says x f h = record { says = h.says false ∙ h.whole; ends = h.ends; subject = h.subject }
 
-abbrev SaysPrefix : Piece → Lexemes → Type 0
+abbrev SaysPrefix : Slice → Lexemes → Type 0
 SaysPrefix prefix f = Says ((terminal.Pname, prefix ∷ [] ∷ []) ∷ []) f
 
-prefix_says : (t : Lexeme) (x : Piece) → word t.terminal ≡ Some w.Pname → local_part t.text ≡ [] → prefix_part t.text ≡ x → SaysPrefix x (t ∷ [])
+prefix_says : (t : Lexeme) (x : Slice) → word t.terminal ≡ Some w.Pname → local_part t.text ≡ [] → prefix_part t.text ≡ x → SaysPrefix x (t ∷ [])
 prefix_says t x is none prefix = λ b.
-    ap (λ (k : Terminal). content b k t.text ++ []) (is_pname t.terminal is) ∙ ap (λ (p : Piece). (terminal.Pname, p ∷ local_part t.text ∷ []) ∷ []) prefix
-    ∙ ap (λ (p : Piece). (terminal.Pname, x ∷ p ∷ []) ∷ []) none
+    ap (λ (k : Terminal). content b k t.text ++ []) (is_pname t.terminal is) ∙ ap (λ (p : Slice). (terminal.Pname, p ∷ local_part t.text ∷ []) ∷ []) prefix
+    ∙ ap (λ (p : Slice). (terminal.Pname, x ∷ p ∷ []) ∷ []) none
 
 namespace_gives : Gives (productions.namespace word) SaysPrefix
 unfolding Gives
 namespace_gives ts x us d = record { front = d.0 ∷ []; is = d.4; good = prefix_says d.0 x d.1 d.2 d.3 }
 
 -- a reference is the last
-reference_ends : (f h : Lexemes) (reference : Piece) → IsValue terminal.Iri reference h → last false (f ++ h) ≡ false
+reference_ends : (f h : Lexemes) (reference : Slice) → IsValue terminal.Iri reference h → last false (f ++ h) ≡ false
 reference_ends f h reference v = last-append f h false ∙ ap (λ (z : Lexemes). last (last false f) z) v.is ∙ ap takes_tag v.terminal
 
 -- behind the word of a prefix's declaration, and of a base's

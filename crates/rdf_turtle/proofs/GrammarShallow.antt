@@ -7,7 +7,7 @@ use Rattle.rdf_grammar.specs.Derivations as grammar
 use Rattle.rdf_grammar.specs.Derivations.{Then, Star, stop, more}
 use Rattle.rdf_grammar.specs.Lexemes.{AreReadOf, unread}
 use Rattle.rdf_grammar.specs.Productions as productions
-use Rattle.rdf_grammar.specs.Terminals.{Piece}
+use Rattle.rdf_grammar.specs.Terminals.{Slice}
 use Rattle.rdf_grammar.specs.declared.tree.Name.TheVariants.{Full}
 use Rattle.rdf_grammar.specs.declared.tree.Literal.TheVariants as l
 use Rattle.rdf_grammar.specs.declared.word.Word.{Word}
@@ -97,10 +97,10 @@ module _ (limit b : ℕ) where
   behind_leads : {A : Type 0} (k : Terminal) (P : Derives A) → open_behind b k ≡ b → is_other k ≡ false → Leads limit b P → Leads limit b (grammar.◌>>◌ (grammar.the k) P)
   behind_leads k P same used p = then_leads _ _ (the_leads k same used) (λ _. p)
 
-  leaf_leads : {A : Type 0} (f : Piece → A) (k : Terminal) → open_behind b k ≡ b → is_other k ≡ false → Leads limit b (grammar.◌<$>◌ f (grammar.value k))
+  leaf_leads : {A : Type 0} (f : Slice → A) (k : Terminal) → open_behind b k ≡ b → is_other k ≡ false → Leads limit b (grammar.◌<$>◌ f (grammar.value k))
   leaf_leads f k same used = map_leads f _ (value_leads k same used)
 
-  word_leaf_leads : {A : Type 0} (f : Piece → A) (u : Word) → Leads limit b (grammar.◌<$>◌ f (productions.value word u))
+  word_leaf_leads : {A : Type 0} (f : Slice → A) (u : Word) → Leads limit b (grammar.◌<$>◌ f (productions.value word u))
   word_leaf_leads f u = map_leads f _ (word_value_leads u)
 
   maybe_leads : {A : Type 0} (P : Derives A) → Leads limit b P → Leads limit b (grammar.maybe P)
@@ -124,7 +124,7 @@ module _ (limit b : ℕ) where
   verb_leads : Leads limit b g.AVerb
   verb_leads = or_leads _ _ (map_leads v.Name _ iri_leads) (behind_leads terminal.A _ refl refl (pure_leads v.Type))
 
-  suffix_leads : (form : Piece) → Leads limit b (productions.Suffix word form)
+  suffix_leads : (form : Slice) → Leads limit b (productions.Suffix word form)
   suffix_leads form =
       or_leads _ _ (word_leaf_leads (l.Tagged form) w.Tag)
       (or_leads _ _ (then_leads _ _ (a_word_leads w.Caret) (λ _. map_leads (l.Typed form) _ iri_leads)) (pure_leads (l.Plain form)))
@@ -246,7 +246,7 @@ last_useful (u ∷ us) t all = last_useful us t all.1
 
 -- where Turtle has a use for each lexeme that is read of a text, they are those of its tokens
 pub all_read : (text : List ℕ) (ts : Lexemes) → IsUtf8 text → AreReadOf terminal_by (chars text) ts → Shallow 100 0 ts → (tokens : List Token) × HasTokens text tokens ts
-all_read text ts u (Ok tokens, says, are) h = (tokens, record { utf8 = u; list = says; pieces = are })
+all_read text ts u (Ok tokens, says, are) h = (tokens, record { utf8 = u; list = says; slices = are })
 all_read text ts u (Err place, says, are) h =
     let last : is_other (unread terminal_by).terminal ≡ false =
     last_useful are.3 (unread terminal_by) (subst (AllByRecursion (λ (t : Lexeme). is_other t.terminal ≡ false)) are.9 h.useful) in

@@ -10,7 +10,7 @@ use Rattle.rdf_grammar.specs.declared.word.Word.TheVariants as w
 use Rattle.rdf_grammar.specs.Derivations as grammar
 use Rattle.rdf_grammar.specs.Derivations.{◌∣◌, ◌>>◌}
 use Rattle.rdf_grammar.specs.Productions as productions
-use Rattle.rdf_grammar.specs.Terminals.{Piece, next_terminal}
+use Rattle.rdf_grammar.specs.Terminals.{Slice, next_terminal}
 use Rattle.rdf_grammar.specs.Words.{next_word}
 
 -- only this terminal is the word
@@ -58,7 +58,7 @@ is_false _ h = absurd (cc)
 pub the_is : (w : Word) (k : Terminal) → IsJust w k → (ts : Lexemes) (u : Unit {0}) (us : Lexemes) → productions.the word w ts u us → grammar.the k ts u us
 the_is w k is ts u us d = (d.0, is d.0.terminal d.1, d.2)
 
-pub value_is : (w : Word) (k : Terminal) → IsJust w k → (ts : Lexemes) (v : Piece) (us : Lexemes) → productions.value word w ts v us → grammar.value k ts v us
+pub value_is : (w : Word) (k : Terminal) → IsJust w k → (ts : Lexemes) (v : Slice) (us : Lexemes) → productions.value word w ts v us → grammar.value k ts v us
 value_is w k is ts v us d = (d.0, is d.0.terminal d.1, d.2, d.3)
 
 pub behind_is : {A : Type 0} (w : Word) (k : Terminal) (P : Derives A) → IsJust w k → (ts : Lexemes) (x : A) (us : Lexemes) → (productions.the word w >> P) ts x us → (grammar.the k >> P) ts x us
@@ -69,16 +69,16 @@ next_is w k is [] h = absurd (cc)
 next_is w k is (t ∷ ts) h = ap Some (is t.terminal h)
 
 -- at a tag's place the words of directives are tags
-abbrev pub Tag : Derives Piece
+abbrev pub Tag : Derives Slice
 Tag = grammar.value terminal.AtWord ∣ grammar.value terminal.AtPrefix ∣ grammar.value terminal.AtBase
 
-tag_by : (k : Terminal) → word k ≡ Some w.Tag → (ts : Lexemes) (v : Piece) (us : Lexemes) → grammar.value k ts v us → Tag ts v us
+tag_by : (k : Terminal) → word k ≡ Some w.Tag → (ts : Lexemes) (v : Slice) (us : Lexemes) → grammar.value k ts v us → Tag ts v us
 tag_by terminal.AtWord h ts v us d = inl d
 tag_by terminal.AtPrefix h ts v us d = inr (inl d)
 tag_by terminal.AtBase h ts v us d = inr (inr d)
 tag_by _ h ts v us d = absurd (cc)
 
-pub tag_is : (ts : Lexemes) (v : Piece) (us : Lexemes) → productions.value word w.Tag ts v us → Tag ts v us
+pub tag_is : (ts : Lexemes) (v : Slice) (us : Lexemes) → productions.value word w.Tag ts v us → Tag ts v us
 tag_is ts v us d = tag_by d.0.terminal d.1 ts v us (d.0, refl, d.2, d.3)
 
 -- no bracket is one

@@ -30,17 +30,17 @@ use Rattle.rdf_turtle.specs.Terminals.{terminal_of, terminal_by, bracket}
 
 -- ---- the lexemes of what is found
 
-abbrev pieces : List Found → Lexemes
-pieces [] = []
-pieces (NoToken start ∷ all) = []
-pieces (Read start kind piece ∷ all) = record { terminal = terminal_of kind piece; text = piece } ∷ pieces all
+abbrev slices : List Found → Lexemes
+slices [] = []
+slices (NoToken start ∷ all) = []
+slices (Read start kind slice ∷ all) = record { terminal = terminal_of kind slice; text = slice } ∷ slices all
 
-pieces_are : (text : List ℕ) (tokens : List Token) (all : List Found) → AreFound text tokens all → AreLexemes text tokens (pieces all)
-pieces_are text [] [] h = tt
-pieces_are text [] (f ∷ fs) h = absurd h
-pieces_are text (t ∷ ts) [] h = absurd h
-pieces_are text (t ∷ ts) (NoToken start ∷ fs) h = absurd h.0
-pieces_are text (t ∷ ts) (Read start kind piece ∷ fs) h = ((h.0.2, ap (λ (k : Kind). terminal_by k (encode_utf8_all piece)) h.0.1), pieces_are text ts fs h.1)
+slices_are : (text : List ℕ) (tokens : List Token) (all : List Found) → AreFound text tokens all → AreLexemes text tokens (slices all)
+slices_are text [] [] h = tt
+slices_are text [] (f ∷ fs) h = absurd h
+slices_are text (t ∷ ts) [] h = absurd h
+slices_are text (t ∷ ts) (NoToken start ∷ fs) h = absurd h.0
+slices_are text (t ∷ ts) (Read start kind slice ∷ fs) h = ((h.0.2, ap (λ (k : Kind). terminal_by k (encode_utf8_all slice)) h.0.1), slices_are text ts fs h.1)
 
 ok_same : {A E : Type 0} (a b : A) → ◌≡◌ {A = Result A E} (Ok a) (Ok b) → a ≡ b
 ok_same a b e = cc
@@ -62,8 +62,8 @@ numbered text n [] [] h = refl
 numbered text n [] (f ∷ fs) h = absurd h
 numbered text n (t ∷ ts) [] h = absurd h
 numbered text n (t ∷ ts) (NoToken start ∷ fs) h = absurd h.0
-numbered text zero (t ∷ ts) (Read start kind piece ∷ fs) h = h.0.0
-numbered text (suc n) (t ∷ ts) (Read start kind piece ∷ fs) h = numbered text n ts fs h.1
+numbered text zero (t ∷ ts) (Read start kind slice ∷ fs) h = h.0.0
+numbered text (suc n) (t ∷ ts) (Read start kind slice ∷ fs) h = numbered text n ts fs h.1
 
 -- one token more, at which something is found or not
 one_more : (text : List ℕ) (t : Token) (ts : List Token) (test : Bool) (start n m : ℕ) → start ≡ t.start → m ≡ start_of text ts n
@@ -72,32 +72,32 @@ one_more text t ts true start n m e h = e
 one_more text t ts false start n m e h = h ∙ ap (start_of text (t ∷ ts)) (sym (add-one n))
 
 unbound : (text : List ℕ) (behind declares : Bool) (bound : List (List ℕ)) (tokens : List Token) (all : List Found) → AreFound (chars text) tokens all
-    → unbound_start (length text) behind declares bound all ≡ start_of text tokens (unbound_from behind declares bound (pieces all))
+    → unbound_start (length text) behind declares bound all ≡ start_of text tokens (unbound_from behind declares bound (slices all))
 unbound text behind declares bound [] [] h = refl
 unbound text behind declares bound [] (f ∷ fs) h = absurd h
 unbound text behind declares bound (t ∷ ts) [] h = absurd h
 unbound text behind declares bound (t ∷ ts) (NoToken start ∷ fs) h = absurd h.0
-unbound text behind declares bound (t ∷ ts) (Read start kind piece ∷ fs) h =
-    let k = taken behind (terminal_of kind piece) in
-    one_more text t ts (is_unbound declares bound k piece) start _ _ h.0.0
-    (unbound text (takes_tag (terminal_of kind piece)) (declares_behind declares k) (bound_behind declares bound k piece) ts fs h.1)
+unbound text behind declares bound (t ∷ ts) (Read start kind slice ∷ fs) h =
+    let k = taken behind (terminal_of kind slice) in
+    one_more text t ts (is_unbound declares bound k slice) start _ _ h.0.0
+    (unbound text (takes_tag (terminal_of kind slice)) (declares_behind declares k) (bound_behind declares bound k slice) ts fs h.1)
 
 lacking : (text : List ℕ) (behind moves based : Bool) (tokens : List Token) (all : List Found) → AreFound (chars text) tokens all
-    → lacking_start (length text) behind moves based all ≡ start_of text tokens (lacking_from behind moves based (pieces all))
+    → lacking_start (length text) behind moves based all ≡ start_of text tokens (lacking_from behind moves based (slices all))
 lacking text behind moves based [] [] h = refl
 lacking text behind moves based [] (f ∷ fs) h = absurd h
 lacking text behind moves based (t ∷ ts) [] h = absurd h
 lacking text behind moves based (t ∷ ts) (NoToken start ∷ fs) h = absurd h.0
-lacking text behind moves based (t ∷ ts) (Read start kind piece ∷ fs) h =
-    let k = taken behind (terminal_of kind piece) in
-    one_more text t ts (is_lacking based k piece) start _ _ h.0.0
-    (lacking text (takes_tag (terminal_of kind piece)) (moves_behind moves k) (base_behind moves based k) ts fs h.1)
+lacking text behind moves based (t ∷ ts) (Read start kind slice ∷ fs) h =
+    let k = taken behind (terminal_of kind slice) in
+    one_more text t ts (is_lacking based k slice) start _ _ h.0.0
+    (lacking text (takes_tag (terminal_of kind slice)) (moves_behind moves k) (base_behind moves based k) ts fs h.1)
 
 starts_by : (text : List ℕ) (all : List Found) (place : ℕ) (number : Lexemes → ℕ) → AreFoundIn (chars text) all
-    → ((tokens : List Token) → AreFound (chars text) tokens all → place ≡ start_of text tokens (number (pieces all))) → StartsAt text number place
+    → ((tokens : List Token) → AreFound (chars text) tokens all → place ≡ start_of text tokens (number (slices all))) → StartsAt text number place
 starts_by text all place number walk at tokens lexemes h =
     let are = all_found (chars text) tokens all walk h.list in
-    at tokens are ∙ ap (λ (ls : Lexemes). start_of text tokens (number ls)) (one_lexemes terminal_by (chars text) tokens (pieces all) lexemes (pieces_are (chars text) tokens all are) h.pieces)
+    at tokens are ∙ ap (λ (ls : Lexemes). start_of text tokens (number ls)) (one_lexemes terminal_by (chars text) tokens (slices all) lexemes (slices_are (chars text) tokens all are) h.slices)
 
 pub number_starts : (text : List ℕ) (all : List Found) (n place : ℕ) → AreFoundIn (chars text) all → start_behind (length text) n all ≡ place → StartsAt text (λ _. n) place
 number_starts text all n place walk e = starts_by text all place (λ _. n) walk (λ tokens are. sym e ∙ numbered text n tokens all are)
@@ -116,14 +116,14 @@ no_fault text [] [] h = refl
 no_fault text [] (f ∷ fs) h = absurd h
 no_fault text (t ∷ ts) [] h = absurd h
 no_fault text (t ∷ ts) (NoToken start ∷ fs) h = absurd h.0
-no_fault text (t ∷ ts) (Read start kind piece ∷ fs) h = no_fault text ts fs h.1
+no_fault text (t ∷ ts) (Read start kind slice ∷ fs) h = no_fault text ts fs h.1
 
 fault_behind : (text : List ℕ) (place : ℕ) (tokens : List Token) (front : List Found) → AreFound text tokens front → first_fault (front ++ NoToken place ∷ []) ≡ Some place
 fault_behind text place [] [] h = refl
 fault_behind text place [] (f ∷ fs) h = absurd h
 fault_behind text place (t ∷ ts) [] h = absurd h
 fault_behind text place (t ∷ ts) (NoToken start ∷ fs) h = absurd h.0
-fault_behind text place (t ∷ ts) (Read start kind piece ∷ fs) h = fault_behind text place ts fs h.1
+fault_behind text place (t ∷ ts) (Read start kind slice ∷ fs) h = fault_behind text place ts fs h.1
 
 fault_said : (text : List ℕ) (all : List Found) (place : ℕ) → AreFoundIn text all → first_fault all ≡ Some place → Says text (Err place)
 fault_said text all place (Ok tokens, says, are) e = none_is place (sym (no_fault text tokens all are) ∙ e)
@@ -147,7 +147,7 @@ token_fault base text all place f u walk e k l = kind_is base text f fault.Token
 stays : (start : ℕ) (all : List Found) → depth_behind (TooDeep start) all ≡ TooDeep start
 stays start [] = refl
 stays start (NoToken place ∷ fs) = refl
-stays start (Read place kind piece ∷ fs) = stays start fs
+stays start (Read place kind slice ∷ fs) = stays start fs
 
 over : (b : Bool) (start n : ℕ) (all : List Found) → b ≡ true → depth_behind (cond b (TooDeep start) (Open n)) all ≡ TooDeep start
 over b start n all e = rw e (stays start all)
@@ -163,15 +163,15 @@ same_start a b e = cc
 
 -- where more than 100 are open behind none of them
 low : (text : List ℕ) (count m : ℕ) (tokens : List Token) (all : List Found) → count ≤ 100 → AreFound text tokens all → depth_behind (Open count) all ≡ Open m
-    → (n : ℕ) → open_after count (take n (pieces all)) ≤ 100
+    → (n : ℕ) → open_after count (take n (slices all)) ≤ 100
 low text count m [] [] few h e zero = few
 low text count m [] [] few h e (suc n) = few
 low text count m [] (f ∷ fs) few h e n = absurd h
 low text count m (t ∷ ts) [] few h e n = absurd h
 low text count m (t ∷ ts) (NoToken start ∷ fs) few h e n = absurd h.0
-low text count m (t ∷ ts) (Read start kind piece ∷ fs) few h e zero = few
-low text count m (t ∷ ts) (Read start kind piece ∷ fs) few h e (suc n) =
-    let then = open_behind count (terminal_of kind piece) in
+low text count m (t ∷ ts) (Read start kind slice ∷ fs) few h e zero = few
+low text count m (t ∷ ts) (Read start kind slice ∷ fs) few h e (suc n) =
+    let then = open_behind count (terminal_of kind slice) in
     elim (cases_lt 100 then) [
       | inl more ↦ not_open m start (sym e ∙ over (nat_lt 100 then) start then fs (lt-ltb 100 then more))
       | inr less ↦ low text then m ts fs less h.1 (sym (under (nat_lt 100 then) start then fs (le-ltb 100 then less)) ∙ e) n
@@ -197,13 +197,13 @@ first_later count l ls place zero few h e = few
 first_later count l ls place (suc n) few h e = h n (omega (arith, e))
 
 deep : (text : List ℕ) (count start : ℕ) (tokens : List Token) (all : List Found) → count ≤ 100 → AreFound text tokens all → depth_behind (Open count) all ≡ TooDeep start
-    → Deep count tokens (pieces all) start
+    → Deep count tokens (slices all) start
 deep text count start [] [] few h e = not_open count start e
 deep text count start [] (f ∷ fs) few h e = absurd h
 deep text count start (t ∷ ts) [] few h e = absurd h
 deep text count start (t ∷ ts) (NoToken place ∷ fs) few h e = absurd h.0
-deep text count start (t ∷ ts) (Read place kind piece ∷ fs) few h e =
-    let then = open_behind count (terminal_of kind piece) in
+deep text count start (t ∷ ts) (Read place kind slice ∷ fs) few h e =
+    let then = open_behind count (terminal_of kind slice) in
     elim (cases_lt 100 then) [
       | inl more ↦ record {
         place = 0;
@@ -211,8 +211,8 @@ deep text count start (t ∷ ts) (Read place kind piece ∷ fs) few h e =
         is = refl;
         starts = sym (same_start place start (sym (over (nat_lt 100 then) place then fs (lt-ltb 100 then more)) ∙ e)) ∙ h.0.0;
         within = omega arith;
-        over = omega (arith, more, few, one_behind bracket count (terminal_of kind piece));
-        first = λ n. first_here count (record { terminal = terminal_of kind piece; text = piece }) (pieces fs) n few;
+        over = omega (arith, more, few, one_behind bracket count (terminal_of kind slice));
+        first = λ n. first_here count (record { terminal = terminal_of kind slice; text = slice }) (slices fs) n few;
       }
       | inr less ↦ (
           let found = deep text then start ts fs less h.1 (sym (under (nat_lt 100 then) place then fs (le-ltb 100 then less)) ∙ e) in
@@ -223,27 +223,27 @@ deep text count start (t ∷ ts) (Read place kind piece ∷ fs) few h e =
             starts = found.starts;
             within = omega (arith, found.within);
             over = found.over;
-            first = λ n. first_later count (record { terminal = terminal_of kind piece; text = piece }) (pieces fs) found.place n few found.first;
+            first = λ n. first_later count (record { terminal = terminal_of kind slice; text = slice }) (slices fs) found.place n few found.first;
           })
     ]
 
-has_tokens : (text : List ℕ) (tokens : List Token) (all : List Found) → IsUtf8 text → Says (chars text) (Ok tokens) → AreFound (chars text) tokens all → HasTokens text tokens (pieces all)
-has_tokens text tokens all u says are = record { utf8 = u; list = says; pieces = pieces_are (chars text) tokens all are }
+has_tokens : (text : List ℕ) (tokens : List Token) (all : List Found) → IsUtf8 text → Says (chars text) (Ok tokens) → AreFound (chars text) tokens all → HasTokens text tokens (slices all)
+has_tokens text tokens all u says are = record { utf8 = u; list = says; slices = slices_are (chars text) tokens all are }
 
 pub deep_fault : (base : Option (List ℕ)) (text : List ℕ) (all : List Found) (place : ℕ) (f : TurtleFault) → IsUtf8 text → AreFoundIn (chars text) all → first_fault all ≡ None
     → depth_behind (Open 0) all ≡ TooDeep place → f.kind ≡ fault.TooDeep → f.line ≡ line_of text place → IsFaulty base text f
 deep_fault base text all place f u walk e d k l =
     let said = tokens_said (chars text) all walk e in
     let found = deep (chars text) 0 place said.0 all (omega arith) said.2 d in
-    let at : IsTooDeepAt (pieces all) found.place = record { within = found.within; over = rw add-one found.over; first = found.first } in
+    let at : IsTooDeepAt (slices all) found.place = record { within = found.within; over = rw add-one found.over; first = found.first } in
     kind_is base text f fault.TooDeep k
-    (said.0, pieces all, found.opener, found.place, has_tokens text said.0 all u said.1 said.2, at, found.is, l ∙ ap (line_of text) found.starts)
+    (said.0, slices all, found.opener, found.place, has_tokens text said.0 all u said.1 said.2, at, found.is, l ∙ ap (line_of text) found.starts)
 
 pub no_deep_fault : (text : List ℕ) (all : List Found) (count : ℕ) → IsUtf8 text → AreFoundIn (chars text) all → first_fault all ≡ None → depth_behind (Open 0) all ≡ Open count → IsShallow text
 no_deep_fault text all count u walk e d =
     let said = tokens_said (chars text) all walk e in
     let fits = low (chars text) 0 count said.0 all (omega arith) said.2 d in
-    (said.0, pieces all, has_tokens text said.0 all u said.1 said.2, λ h. omega (arith, fits h.0, h.1))
+    (said.0, slices all, has_tokens text said.0 all u said.1 said.2, λ h. omega (arith, fits h.0, h.1))
 
 -- ---- what a test lets through
 

@@ -30,10 +30,10 @@ pub record HasList (text from : List ℕ) (lexemes : List Lexeme) : Type 0 where
   pub rest : List ℕ
   pub runs : Runs text from tokens rest
   pub ends : Ends rest
-  pub pieces : AreLexemes text tokens lexemes
+  pub slices : AreLexemes text tokens lexemes
 
 pub list_of : (text from : List ℕ) (ps : List Slice) → Within text from → Cut from ps → HasList text from (lexemes_of ps)
-list_of text from [] w cut = record { tokens = []; rest = from; runs = refl; ends = cut; pieces = tt }
+list_of text from [] w cut = record { tokens = []; rest = from; runs = refl; ends = cut; slices = tt }
 list_of text from (p ∷ ps) w (start, after, gap, parts, read, cut) =
     let s = within_start text from start w gap in
     let whole : text ≡ s.0 ++ (p.1 ++ after) = s.1 ∙ ap (λ (t : List ℕ). s.0 ++ t) parts in
@@ -44,7 +44,7 @@ list_of text from (p ∷ ps) w (start, after, gap, parts, read, cut) =
       rest = more.rest;
       runs = (start, after, gap, token_is start p.0 after read, (s.0, s.1, refl), (s.0 ++ p.1, behind, refl), more.runs);
       ends = more.ends;
-      pieces = (((s.0, after, whole, refl, refl), refl), more.pieces);
+      slices = (((s.0, after, whole, refl, refl), refl), more.slices);
     }
 
 -- ---- a cut grows to the left

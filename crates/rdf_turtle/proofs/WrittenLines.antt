@@ -86,4 +86,4 @@ pub lines_list : (quads : List Quad) → AllByRecursion IsDefaultQuad quads
 lines_list quads h = list_of (chars (flat_map triple_text quads)) (chars (flat_map triple_text quads)) (document_slices quads) ([], refl) (all_cut quads h)
 
 pub lines_tokens : (quads : List Quad) (h : AllByRecursion IsDefaultQuad quads) → HasTokens (flat_map triple_text quads) (lines_list quads h).tokens (lexemes_of (document_slices quads))
-lines_tokens quads h = let l = lines_list quads h in record { utf8 = all_utf8 quads h; list = (l.rest, l.runs, l.ends); pieces = l.pieces }
+lines_tokens quads h = let l = lines_list quads h in record { utf8 = all_utf8 quads h; list = (l.rest, l.runs, l.ends); slices = l.slices }

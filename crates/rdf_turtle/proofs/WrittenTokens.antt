@@ -28,7 +28,7 @@ at_angle cs = refl
 
 pub iri_token : (body text rest : List ℕ) → IsIriRef (60 ∷ body) text → token_at ((60 ∷ body) ++ rest) ≡ Some (kind.Iri, rest)
 iri_token body text rest h =
-    let read : iri_end_at ((60 ∷ body) ++ rest) ≡ Some rest = ap (option_map (λ piece. piece.1)) (iri_complete (60 ∷ body) text rest h) in
+    let read : iri_end_at ((60 ∷ body) ++ rest) ≡ Some rest = ap (option_map (λ read. read.1)) (iri_complete (60 ∷ body) text rest h) in
     at_angle (body ++ rest) ∙ ap (λ (o : Option (List ℕ)). or_else (as_kind kind.Iri o) (number_or_symbol_at ((60 ∷ body) ++ rest))) read
 
 -- ---- symbols
@@ -52,7 +52,7 @@ expect_here wanted cs = expect_complete wanted cs
 
 -- no third quote stands behind an empty string, and no second one where another begins
 no_escape : (c : ℕ) (cs : List ℕ) → expect 34 (escaped c ++ cs) ≡ None
-no_escape c cs = by_escape (λ x piece. expect 34 (piece ++ cs) ≡ None) (not_here 92 34 _ refl) (not_here 92 34 _ refl) (not_here 92 34 _ refl) (not_here 92 34 _ refl) (λ x q b f r. not_here x 34 cs q) c
+no_escape c cs = by_escape (λ x unit. expect 34 (unit ++ cs) ≡ None) (not_here 92 34 _ refl) (not_here 92 34 _ refl) (not_here 92 34 _ refl) (not_here 92 34 _ refl) (λ x q b f r. not_here x 34 cs q) c
 
 no_three : (cs : List ℕ) (d : ℕ) (rest : List ℕ) → (d == 34) ≡ false → three_at 34 (34 ∷ (flat_map escaped cs ++ 34 ∷ d ∷ rest)) ≡ None
 unfolding three_at two_at
@@ -76,7 +76,7 @@ text_token cs text d rest h form =
     let whole = (34 ∷ (flat_map escaped cs ++ 34 ∷ [])) ++ d ∷ rest in
     let none : three_at 34 whole ≡ None = ap (λ (t : List ℕ). three_at 34 (34 ∷ t)) (append_assoc (flat_map escaped cs) (34 ∷ []) (d ∷ rest)) ∙ no_three cs d rest h in
     let read : quoted_end_at 34 whole ≡ Some (d ∷ rest) =
-    ap (option_map (λ piece. piece.1)) (quoted_complete 34 (λ e. omega (arith, e)) (34 ∷ (flat_map escaped cs ++ 34 ∷ [])) text (d ∷ rest) form) in
+    ap (option_map (λ read. read.1)) (quoted_complete 34 (λ e. omega (arith, e)) (34 ∷ (flat_map escaped cs ++ 34 ∷ [])) text (d ∷ rest) form) in
     at_quote ((flat_map escaped cs ++ 34 ∷ []) ++ d ∷ rest) ∙ ap (as_kind kind.Text) (short_text whole (d ∷ rest) none read)
 
 -- ---- blank labels

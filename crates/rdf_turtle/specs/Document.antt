@@ -20,7 +20,7 @@ use Rattle.rdf_tokens.specs.Tokens.{Says}
 pub record HasTokens (text : List ℕ) (tokens : List Token) (lexemes : List Lexeme) : Type 0 where
   pub utf8 : IsUtf8 text
   pub list : Says (chars text) (Ok tokens)
-  pub pieces : AreLexemes (chars text) tokens lexemes
+  pub slices : AreLexemes (chars text) tokens lexemes
 
 -- The text has tokens that open at most 100 brackets at once, and they are a document of the grammar with this tree.
 pub record HasTree (text : List ℕ) (tree : List Statement) : Type 0 where

@@ -5,7 +5,7 @@ use Rattle.std.specs.List.{list_any}
 use Rattle.indexmap.specs.IndexSet.{insert_key}
 use Rattle.rdf_terms.specs.Iri.{has_scheme}
 use Rattle.rdf_grammar.specs.Keys.{key_of, same_key}
-use Rattle.rdf_grammar.specs.Terminals.{Piece}
+use Rattle.rdf_grammar.specs.Terminals.{Slice}
 use Rattle.rdf_tokens.specs.Values.{iri_value, prefix_part}
 use Rattle.rdf_turtle.specs.declared.terminal.Terminal.{Terminal}
 use Rattle.rdf_turtle.specs.declared.terminal.Terminal.TheVariants as terminal
@@ -28,12 +28,12 @@ declares_behind declares terminal.Pname = false
 declares_behind declares k = declares
 
 -- a prefixed name is used whose prefix is none of these
-abbrev pub is_unbound : Bool → List (List ℕ) → Terminal → Piece → Bool
+abbrev pub is_unbound : Bool → List (List ℕ) → Terminal → Slice → Bool
 is_unbound declares bound terminal.Pname name = not declares && not (list_any (same_key (key_of (prefix_part name))) bound)
 is_unbound declares bound k name = false
 
 -- the prefixes behind a lexeme
-abbrev pub bound_behind : Bool → List (List ℕ) → Terminal → Piece → List (List ℕ)
+abbrev pub bound_behind : Bool → List (List ℕ) → Terminal → Slice → List (List ℕ)
 bound_behind declares bound terminal.Pname name = if declares then insert_key same_key bound (key_of (prefix_part name)) else bound
 bound_behind declares bound k name = bound
 
@@ -60,7 +60,7 @@ moves_behind moves terminal.Base = true
 moves_behind moves terminal.Iri = false
 moves_behind moves k = moves
 
-abbrev pub is_lacking : Bool → Terminal → Piece → Bool
+abbrev pub is_lacking : Bool → Terminal → Slice → Bool
 is_lacking based terminal.Iri reference = lacks based reference
 is_lacking based k reference = false
 

@@ -14,7 +14,7 @@ use Rattle.rdf_turtle.specs.declared.tree.Statement.TheVariants as s
 use Rattle.rdf_turtle.specs.Terminals.{word}
 use Rattle.rdf_grammar.specs.Derivations.{◌>>=◌, ◌>>◌, ◌<$>◌, ◌∣◌, pure, the, value, one, maybe, Star, Separated, SeparatedLoosely}
 use Rattle.rdf_grammar.specs.Productions as productions
-use Rattle.rdf_grammar.specs.Terminals.{Piece}
+use Rattle.rdf_grammar.specs.Terminals.{Slice}
 
 -- ---- parts of trees
 
@@ -27,7 +27,7 @@ all_of None = []
 all_of (Some xs) = xs
 
 -- a prefix, and what it is bound to
-abbrev pub bound : Piece × Piece → Statement
+abbrev pub bound : Slice × Slice → Statement
 bound b = s.Prefix b.0 b.1
 
 -- ---- productions

@@ -18,14 +18,14 @@ use Rattle.rdf_turtle.specs.declared.tree.Property.{Property}
 use Rattle.rdf_turtle.specs.declared.tree.Statement.{Statement}
 use Rattle.rdf_turtle.specs.declared.tree.Statement.TheVariants as s
 use Rattle.rdf_tokens.specs.Values.{prefix_part, local_part}
-use Rattle.rdf_grammar.specs.Terminals.{Piece}
+use Rattle.rdf_grammar.specs.Terminals.{Slice}
 use Rattle.rdf_turtle.specs.Grammar.{IsDocument}
 
--- a terminal, and the pieces of a lexeme of it: of a Pname its prefix and its local part
+-- a terminal, and the slices of a lexeme of it: of a Pname its prefix and its local part
 abbrev pub Leaf : Type 0
-Leaf = Terminal × List Piece
+Leaf = Terminal × List Slice
 
-abbrev pub leaf : Terminal → Piece → Leaf
+abbrev pub leaf : Terminal → Slice → Leaf
 leaf k text = (k, text ∷ [])
 
 -- ---- lexemes
@@ -40,13 +40,13 @@ abbrev pub directive : Terminal → Leaf
 directive k = (k, [])
 
 -- `@prefix` or `@base`: a tag behind a text, else the word of a directive, as the other word for it
-abbrev pub at_word : Bool → Terminal → Piece → List Leaf
+abbrev pub at_word : Bool → Terminal → Slice → List Leaf
 at_word true k text = leaf terminal.AtWord text ∷ []
 at_word false k text = directive k ∷ []
 
 -- What a lexeme carries, behind a text or not: names, labels, texts, tags, numbers, truth values, `a` and the words of directives.
 -- Brackets and signs carry nothing.
-abbrev pub content : Bool → Terminal → Piece → List Leaf
+abbrev pub content : Bool → Terminal → Slice → List Leaf
 content behind terminal.Iri text = leaf terminal.Iri text ∷ []
 content behind terminal.Pname text = (terminal.Pname, prefix_part text ∷ local_part text ∷ []) ∷ []
 content behind terminal.BlankLabel text = leaf terminal.BlankLabel text ∷ []

@@ -13,11 +13,11 @@ use crate::terminal::Terminal;
 use rdf_grammar::{Bracket, MAX_OPEN, Terminal as Told};
 use rdf_tokens::{Found, Kind, Slice, TokenWalk};
 
-/// The terminal of a piece of the text that is a token of that kind.
-pub(crate) fn terminal_of(kind: Kind, piece: &Slice<'_>) -> Terminal
-    ensures { result ≡ terminals.terminal_of kind piece.now }
+/// The terminal of a slice of the text that is a token of that kind.
+pub(crate) fn terminal_of(kind: Kind, slice: &Slice<'_>) -> Terminal
+    ensures { result ≡ terminals.terminal_of kind slice.now }
 {
-    Terminal::of(kind, piece.as_str())
+    Terminal::of(kind, slice.as_str())
 }
 
 // How many brackets are open behind one, where so many were open before.
@@ -72,8 +72,8 @@ pub(crate) fn survey(text: &str) -> Result<(), TurtleFault>
     let mut depth = Depth::Open(0);
     while let Some(found) = walk.next() {
         match found {
-            Found::Token(start, kind, piece) => {
-                depth = deeper(depth, start, terminal_of(kind, &piece));
+            Found::Token(start, kind, slice) => {
+                depth = deeper(depth, start, terminal_of(kind, &slice));
             }
             Found::NoToken(start) => {
                 return Err(fault_at(text.as_bytes(), TurtleFaultKind::Token, start));

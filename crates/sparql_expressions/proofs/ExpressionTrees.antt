@@ -2,7 +2,7 @@
 use Rattle.std.proofs.Common.{◌≡◌, List, map, sym, ◌∙◌, ap}
 use Rattle.rdf_grammar.specs.declared.tree.Literal.{Literal}
 use Rattle.rdf_grammar.specs.declared.tree.Name.{Name}
-use Rattle.rdf_grammar.specs.Terminals.{Piece}
+use Rattle.rdf_grammar.specs.Terminals.{Slice}
 use Rattle.sparql_trees.specs.declared.expression.Comparison.{Comparison}
 use Rattle.sparql_trees.specs.declared.expression.Function.{Function}
 use Rattle.sparql_trees.specs.declared.expression.Sign.{Sign}
@@ -36,7 +36,7 @@ module _ {A : Type 0} (f : Expression-F A → A) where
   pub by-Signed : (sign : Sign) (x : Expression) → of (e.Signed sign x) ≡ f (Expression-F.Signed sign (of x))
   by-Signed sign x = ap of (sym (e.rolls-Signed sign x)) ∙ fold-roll-Expression A f (Expression-F.Signed sign x)
 
-  pub by-Variable : (name : Piece) → of (e.Variable name) ≡ f (Expression-F.Variable name)
+  pub by-Variable : (name : Slice) → of (e.Variable name) ≡ f (Expression-F.Variable name)
   by-Variable name = ap of (sym (e.rolls-Variable name)) ∙ fold-roll-Expression A f (Expression-F.Variable name)
 
   pub by-Name : (name : Name) → of (e.Name name) ≡ f (Expression-F.Name name)
@@ -45,7 +45,7 @@ module _ {A : Type 0} (f : Expression-F A → A) where
   pub by-Literal : (literal : Literal) → of (e.Literal literal) ≡ f (Expression-F.Literal literal)
   by-Literal literal = ap of (sym (e.rolls-Literal literal)) ∙ fold-roll-Expression A f (Expression-F.Literal literal)
 
-  pub by-Bound : (name : Piece) → of (e.Bound name) ≡ f (Expression-F.Bound name)
+  pub by-Bound : (name : Slice) → of (e.Bound name) ≡ f (Expression-F.Bound name)
   by-Bound name = ap of (sym (e.rolls-Bound name)) ∙ fold-roll-Expression A f (Expression-F.Bound name)
 
   pub by-SameTerm : (x y : Expression) → of (e.SameTerm x y) ≡ f (Expression-F.SameTerm (of x) (of y))

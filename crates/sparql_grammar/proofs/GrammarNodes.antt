@@ -3,7 +3,7 @@ use Rattle.std.proofs.Common.{◌≡◌, ℕ, zero, suc, ◌<◌, Bool, true, fa
 use Rattle.rdf_grammar.specs.declared.tree.Name.{Name}
 use Rattle.rdf_grammar.specs.Steps as steps
 use Rattle.rdf_grammar.specs.Readings as reading
-use Rattle.rdf_grammar.specs.Terminals.{Piece, next_terminal}
+use Rattle.rdf_grammar.specs.Terminals.{Slice, next_terminal}
 use Rattle.rdf_grammar.specs.Derivations as grammar
 use Rattle.rdf_grammar.specs.Derivations.{Then, Star, stop, more}
 use Rattle.rdf_grammar.proofs.Decides.{always, Decides, then_decides, pure_decides, repeat_decides}
@@ -35,7 +35,7 @@ is_iri (Some terminal.Iri) = true
 is_iri (Some terminal.Pname) = true
 is_iri _ = false
 
-pub variable : {A : Type 0} (f : Piece → A) → Decides (steps.◌<$>◌ f (lexemes.value terminal.Variable)) (grammar.◌<$>◌ f g.Var) always
+pub variable : {A : Type 0} (f : Slice → A) → Decides (steps.◌<$>◌ f (lexemes.value terminal.Variable)) (grammar.◌<$>◌ f g.Var) always
 variable f = last f _ _ always (value_decides same_terminal apart terminal.Variable)
 
 pub named : {A : Type 0} (f : Name → A) → Decides (steps.◌<$>◌ f word.iri) (grammar.◌<$>◌ f Iri) always
@@ -375,10 +375,10 @@ module _ (node : Reading Node) (Node' : Derives Node) (r : IsNodeRule node Node'
   }
 
   -- the end of a list: its bracket, and the node
-  abbrev Closed : Piece → List Node → Derives Node
+  abbrev Closed : Slice → List Node → Derives Node
   Closed bracket items = grammar.◌>>=◌ (grammar.the terminal.Close) (λ _. grammar.pure (n.Collection bracket items))
 
-  abbrev Elements : Piece → Derives Node
+  abbrev Elements : Slice → Derives Node
   Elements bracket = grammar.◌>>=◌ Node' (λ first. grammar.◌>>=◌ (Star (grammar.one Node')) (λ others. Closed bracket (first ∷ others)))
 
   listed_is : (ts : Lexemes) (x : Node) (us : Lexemes) → Listed ts x us → (g.Nil ts x us) ⊎ (g.Collection Node' ts x us)

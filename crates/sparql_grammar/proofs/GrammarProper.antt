@@ -6,7 +6,7 @@ use Rattle.std.specs.List.{list_all, AllByRecursion}
 use Rattle.rdf_grammar.specs.declared.tree.Name.{Name}
 use Rattle.rdf_grammar.specs.declared.tree.Literal.{Literal}
 use Rattle.rdf_grammar.specs.Prologue.{is_proper}
-use Rattle.rdf_grammar.specs.Terminals.{Piece}
+use Rattle.rdf_grammar.specs.Terminals.{Slice}
 use Rattle.sparql_terminals.specs.declared.terminal.Terminal.{Terminal}
 use Rattle.sparql_terminals.specs.declared.terminal.Terminal.TheVariants as terminal
 use Rattle.sparql_grammar.specs.declared.tree.Node.{Node}
@@ -46,7 +46,7 @@ verb_gives = or_gives _ _ (Passes proper_verb) (map_gives v.Variable _ _ (Passes
 
 -- ---- nodes by what they are
 
-good_variable : (name : Piece) → proper_node (n.Variable name) ≡ true
+good_variable : (name : Slice) → proper_node (n.Variable name) ≡ true
 good_variable name = by-Variable proper_node_of proper_property_of name
 
 good_name : (name : Name) → is_proper name ≡ true → proper_node (n.Name name) ≡ true
@@ -55,13 +55,13 @@ good_name name h = by-Name proper_node_of proper_property_of name ∙ h
 good_literal : (literal : Literal) → proper_literal literal ≡ true → proper_node (n.Literal literal) ≡ true
 good_literal literal h = by-Literal proper_node_of proper_property_of literal ∙ h
 
-good_label : (label : Piece) → proper_node (n.Label label) ≡ true
+good_label : (label : Slice) → proper_node (n.Label label) ≡ true
 good_label label = by-Label proper_node_of proper_property_of label
 
-good_blank : (bracket : Piece) (ps : List Property) → AllByRecursion (Passes proper_property) ps → proper_node (n.Blank bracket ps) ≡ true
+good_blank : (bracket : Slice) (ps : List Property) → AllByRecursion (Passes proper_property) ps → proper_node (n.Blank bracket ps) ≡ true
 good_blank bracket ps h = by-Blank proper_node_of proper_property_of bracket ps ∙ all_pass proper_property ps h
 
-good_collection : (bracket : Piece) (xs : List Node) → AllByRecursion (Passes proper_node) xs → proper_node (n.Collection bracket xs) ≡ true
+good_collection : (bracket : Slice) (xs : List Node) → AllByRecursion (Passes proper_node) xs → proper_node (n.Collection bracket xs) ≡ true
 good_collection bracket xs h = by-Collection proper_node_of proper_property_of bracket xs ∙ all_pass proper_node xs h
 
 -- a list with a member

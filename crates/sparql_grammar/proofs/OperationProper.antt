@@ -31,7 +31,7 @@ use Rattle.sparql_grammar.specs.Proper.{holds, proper_triples, proper_var_or_iri
 use Rattle.sparql_grammar.specs.Reading.{all_of}
 use Rattle.sparql_grammar.specs.RequestLaws.{RequestsAreProper}
 use Rattle.sparql_terminals.specs.Terminals.{terminal_by}
-use Rattle.sparql_terminals.proofs.FormedPieces.{lexemes_formed}
+use Rattle.sparql_terminals.proofs.FormedSlices.{lexemes_formed}
 use Rattle.sparql_terminals.proofs.Gives.{Gives, Any, IsGoodOption, then_gives, pure_gives, or_gives, the_gives, map_gives, behind_gives, closed_gives, maybe_gives, star_gives, one_gives}
 use Rattle.sparql_terminals.proofs.WordGives.{Passes, iri_gives}
 use Rattle.sparql_grammar.proofs.GrammarProper.{all_pass, perhaps_gives, var_or_iri_gives, triples_give}

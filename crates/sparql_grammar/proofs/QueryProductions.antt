@@ -2,7 +2,7 @@
 use Rattle.std.proofs.Common.{◌≡◌, ◌<◌, ◌≤◌, Bool, true, false, not, List, [], ◌∷◌, length, Option, Some, refl, sym, ◌∙◌, ap, arith, inl, inr, ◌⊎◌}
 use Rattle.rdf_grammar.specs.Steps as steps
 use Rattle.rdf_grammar.specs.Readings as reading
-use Rattle.rdf_grammar.specs.Terminals.{Piece, next_terminal}
+use Rattle.rdf_grammar.specs.Terminals.{Slice, next_terminal}
 use Rattle.rdf_grammar.specs.Derivations as grammar
 use Rattle.rdf_grammar.specs.Derivations.{Star}
 use Rattle.rdf_grammar.proofs.Combinators.{one_decides, seq, last}
@@ -39,7 +39,7 @@ closes_columns _ = true
 abbrev ends_columns : Test
 ends_columns us = closes_columns (next_terminal us)
 
-variable_starts : (ts : Lexemes) (xs : List Piece) (us : Lexemes) → grammar.one (grammar.value terminal.Variable) ts xs us → (sees terminal.Variable ts ≡ true) × (length us < length ts)
+variable_starts : (ts : Lexemes) (xs : List Slice) (us : Lexemes) → grammar.one (grammar.value terminal.Variable) ts xs us → (sees terminal.Variable ts ≡ true) × (length us < length ts)
 variable_starts ts xs us h =
     (terminal_seen same_terminal apart terminal.Variable ts (value_terminal terminal.Variable ts h.mid h.first h.reads), omega (arith, ap length h.reads.3, ap length h.goes.1))
 
@@ -59,7 +59,7 @@ columns_sound : (k : Option Terminal) (ts : Lexemes) (x : Columns) (us : Lexemes
 columns_sound (Some terminal.Star) ts x us q h = inr (word_sound same_terminal apart terminal.Star c.All x ts us q h)
 columns_sound _ ts x us q h = inl (named_decide.sound ts x us h)
 
-variables_terminal : (ts : Lexemes) (xs : List Piece) (us : Lexemes) → g.Vars ts xs us → next_terminal ts ≡ Some terminal.Variable
+variables_terminal : (ts : Lexemes) (xs : List Slice) (us : Lexemes) → g.Vars ts xs us → next_terminal ts ≡ Some terminal.Variable
 variables_terminal ts xs us h = value_terminal terminal.Variable ts h.mid h.first h.reads
 
 columns_complete : (ts : Lexemes) (x : Columns) (us : Lexemes) → g.AColumns ts x us → ends_columns us ≡ true → read.columns_by (next_terminal ts) ts ≡ Some (x, us)

@@ -14,7 +14,7 @@ use Rattle.sparql_grammar.specs.QueryGrammar as g
 use Rattle.sparql_grammar.specs.QueryLaws.{QueriesAreProper}
 use Rattle.sparql_grammar.specs.QueryReading.{query_with}
 use Rattle.sparql_terminals.specs.Terminals.{terminal_by}
-use Rattle.sparql_terminals.proofs.FormedPieces.{lexemes_formed}
+use Rattle.sparql_terminals.proofs.FormedSlices.{lexemes_formed}
 use Rattle.sparql_terminals.proofs.Gives.{Gives, Any, IsOf, then_gives, pure_gives, or_gives, value_gives, map_gives, behind_gives, closed_gives, star_gives, one_gives}
 use Rattle.sparql_terminals.proofs.WordGives.{Passes}
 use Rattle.sparql_grammar.proofs.GrammarProper.{perhaps_gives}

@@ -11,7 +11,7 @@ use Rattle.sparql_grammar.specs.declared.tree.Node.TheVariants as n
 use Rattle.sparql_grammar.specs.declared.tree.Property.{Property}
 use Rattle.sparql_grammar.specs.declared.tree.Triples.{Triples}
 use Rattle.rdf_grammar.specs.Derivations.{◌>>=◌, ◌>>◌, ◌<$>◌, ◌∣◌, pure, the, value, one, maybe, Star, EachBehind, Separated, SeparatedLoosely}
-use Rattle.rdf_grammar.specs.Terminals.{Piece}
+use Rattle.rdf_grammar.specs.Terminals.{Slice}
 use Rattle.sparql_terminals.specs.Lexemes.{Derives}
 use Rattle.sparql_grammar.specs.Reading.{property_with, triples_with, all_of}
 use Rattle.sparql_terminals.specs.WordGrammar.{Iri, ALiteral}
@@ -21,7 +21,7 @@ abbrev pub Perhaps : Terminal → Derives Bool
 Perhaps k = is_some <$> maybe (the k)
 
 -- 108: Var = VAR1 | VAR2
-abbrev pub Var : Derives Piece
+abbrev pub Var : Derives Slice
 Var = value terminal.Variable
 
 -- 107: VarOrIri = Var | iri

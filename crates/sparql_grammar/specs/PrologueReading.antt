@@ -1,7 +1,7 @@
 -- Prologues (SPARQL 1.1 Query, section 19.8), a definition for each production. The next lexeme chooses.
 use Rattle.std.specs.Prelude.{Bool, true, false, List, Option, Some}
 use Rattle.rdf_grammar.specs.Steps.{◌>>=◌, ◌>>◌, ◌<$>◌, none}
-use Rattle.rdf_grammar.specs.Terminals.{Piece, peek, next_terminal}
+use Rattle.rdf_grammar.specs.Terminals.{Slice, peek, next_terminal}
 use Rattle.rdf_grammar.specs.Readings.{any, one, repeat}
 use Rattle.sparql_terminals.specs.declared.terminal.Terminal.{Terminal}
 use Rattle.sparql_terminals.specs.declared.terminal.Terminal.TheVariants as terminal
@@ -15,7 +15,7 @@ unfoldable pub base : Reading Declaration
 base = d.Base <$> value terminal.Iri
 
 -- a prefix, and what it is bound to
-abbrev pub bound : Piece × Piece → Declaration
+abbrev pub bound : Slice × Slice → Declaration
 bound b = d.Prefix b.0 b.1
 
 -- PNAME_NS IRIREF

@@ -1,7 +1,7 @@
 -- Queries as they are written (SPARQL 1.1 Query, section 19.8, by the numbers of its rules), with no look at the next lexeme.
 use Rattle.std.specs.Prelude.{ℕ, List, [], ◌∷◌}
 use Rattle.rdf_grammar.specs.Derivations.{◌>>=◌, ◌>>◌, ◌<$>◌, ◌∣◌, pure, the, one, Star}
-use Rattle.rdf_grammar.specs.Terminals.{Piece}
+use Rattle.rdf_grammar.specs.Terminals.{Slice}
 use Rattle.sparql_terminals.specs.declared.terminal.Terminal.TheVariants as terminal
 use Rattle.sparql_grammar.specs.declared.tree.Columns.{Columns}
 use Rattle.sparql_grammar.specs.declared.tree.Columns.TheVariants as c
@@ -16,7 +16,7 @@ use Rattle.sparql_grammar.specs.PrologueGrammar.{Prologue}
 use Rattle.sparql_grammar.specs.QueryReading.{query_with}
 
 -- Var+
-abbrev pub Vars : Derives (List Piece)
+abbrev pub Vars : Derives (List Slice)
 Vars = do
   first ← Var
   others ← Star (one Var)

@@ -2,7 +2,7 @@
 -- chooses.
 use Rattle.std.specs.Prelude.{List, ◌∷◌, Option, Some}
 use Rattle.rdf_grammar.specs.Steps.{◌>>=◌, ◌>>◌, ◌<$>◌, pure, none}
-use Rattle.rdf_grammar.specs.Terminals.{Piece, peek}
+use Rattle.rdf_grammar.specs.Terminals.{Slice, peek}
 use Rattle.rdf_grammar.specs.Readings.{any, choose, is_more, one, repeat}
 use Rattle.sparql_terminals.specs.declared.terminal.Terminal.{Terminal}
 use Rattle.sparql_terminals.specs.declared.terminal.Terminal.TheVariants as terminal
@@ -22,7 +22,7 @@ abbrev pub query_with : List Declaration → QueryForm → Query
 query_with prologue form = record { prologue = prologue; form = form }
 
 -- Var+
-unfoldable pub variables : Reading (List Piece)
+unfoldable pub variables : Reading (List Slice)
 variables = do
   first ← value terminal.Variable
   others ← repeat (sees terminal.Variable) (one (value terminal.Variable))

@@ -126,7 +126,7 @@ allowed_plain (b ∷ bs) h =
 -- ---- terms
 
 escape_tells : (c : ℕ) → Tells (escaped c)
-escape_tells = by_escape (λ c piece. Tells piece) (record { closed = refl; back = λ z. refl }) (record { closed = refl; back = λ z. refl })
+escape_tells = by_escape (λ c unit. Tells unit) (record { closed = refl; back = λ z. refl }) (record { closed = refl; back = λ z. refl })
     (record { closed = refl; back = λ z. refl }) (record { closed = refl; back = λ z. refl }) other
   where
     other : (c : ℕ) → (c == 34) ≡ false → (c == 92) ≡ false → (c == 10) ≡ false → (c == 13) ≡ false → Tells (c ∷ [])

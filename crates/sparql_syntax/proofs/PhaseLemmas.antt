@@ -33,7 +33,7 @@ ok_err a b e = cc
 one_tokens : (text : List ℕ) (ts us : List Token) (ls ms : List Lexeme) → HasTokens text ts ls → HasTokens text us ms → (ts ≡ us) × (ls ≡ ms)
 one_tokens text ts us ls ms h k =
     let e : ts ≡ us = ok_same ts us (one_token_list (chars text) (Ok ts) (Ok us) h.list k.list) in
-    (e, text_lemmas.one_lexemes terminal_by (chars text) us ls ms (subst (λ (x : List Token). AreLexemes (chars text) x ls) e h.pieces) k.pieces)
+    (e, text_lemmas.one_lexemes terminal_by (chars text) us ls ms (subst (λ (x : List Token). AreLexemes (chars text) x ls) e h.slices) k.slices)
 
 some_same : (a b : Token) → Some a ≡ Some b → a ≡ b
 some_same a b e = cc

@@ -39,7 +39,7 @@ stop_told = language.stop_told grammar.IsQuery meaning ExplainsQuery (λ ls plac
 
 pub tree_proper : (text : List ℕ) (tree : written.Query) → HasTree text tree → IsTrue (proper_query tree)
 tree_proper text tree h =
-    queries_proper (chars text) (chars text) h.list.list.0 h.tokens h.lexemes tree h.list.list.1 h.list.pieces h.reads
+    queries_proper (chars text) (chars text) h.list.list.0 h.tokens h.lexemes tree h.list.list.1 h.list.slices h.reads
 
 -- ---- against a base
 

@@ -44,7 +44,7 @@ stop_told = language.stop_told IsRequest meaning Explains (λ ls place h. h) (λ
 
 pub tree_proper : (text : List ℕ) (tree : List Part) → HasTree text tree → IsTrue (list_all holds (map proper_part tree))
 tree_proper text tree h =
-    requests_proper (chars text) (chars text) h.list.list.0 h.tokens h.lexemes tree h.list.list.1 h.list.pieces h.reads
+    requests_proper (chars text) (chars text) h.list.list.0 h.tokens h.lexemes tree h.list.list.1 h.list.slices h.reads
 
 -- ---- against a base
 

@@ -43,7 +43,7 @@ module _ {Tree Said : Type 0} (Derives : List Lexeme → Tree → Type 0) (meani
   by_lexemes : (base : Option (List ℕ)) (text : List ℕ) (tokens : List Token) (lexemes : Lexemes) → HasTokens text tokens lexemes → AreInside (chars text) tokens → Meant base text
   by_lexemes base text tokens lexemes h inside = elim (shallow_or_deep bracket lexemes) [
     | inr deep ↦ (
-        let opener = got tokens deep.0 (subst (λ (n : ℕ). deep.0 < n) (same_lengths terminal_by (chars text) tokens lexemes h.pieces) deep.1.within) in
+        let opener = got tokens deep.0 (subst (λ (n : ℕ). deep.0 < n) (same_lengths terminal_by (chars text) tokens lexemes h.slices) deep.1.within) in
         inr (record { line = line_of text opener.0.start; kind = fault.TooDeep }, (tokens, lexemes, opener.0, deep.0, h, inside, deep.1, opener.1, refl)))
     | inl shallow ↦ elim (tree_or_not lexemes shallow) [
       | inl found ↦ (
@@ -57,11 +57,11 @@ module _ {Tree Said : Type 0} (Derives : List Lexeme → Tree → Type 0) (meani
   by_tokens base text utf8 (Err place) says = inr (record { line = line_of text place; kind = fault.Token }, (utf8, (place, says, refl)))
   by_tokens base text utf8 (Ok tokens) says =
       let forms = tokens_have_forms (chars text) tokens says in
-      let pieces = some_lexemes terminal_by (chars text) tokens forms in
-      let held : HasTokens text tokens pieces.0 = record { utf8 = utf8; list = says; pieces = pieces.1 } in
+      let slices = some_lexemes terminal_by (chars text) tokens forms in
+      let held : HasTokens text tokens slices.0 = record { utf8 = utf8; list = says; slices = slices.1 } in
       elim (inside_or_outside (chars text) tokens forms) [
-        | inl inside ↦ by_lexemes base text tokens pieces.0 held inside
-        | inr out ↦ inr (record { line = line_of text out.1.0.0.start; kind = fault.NotInProfile }, (tokens, pieces.0, out.1.0.0, out.0, held, out.1, out.1.0.1, refl))
+        | inl inside ↦ by_lexemes base text tokens slices.0 held inside
+        | inr out ↦ inr (record { line = line_of text out.1.0.0.start; kind = fault.NotInProfile }, (tokens, slices.0, out.1.0.0, out.0, held, out.1, out.1.0.1, refl))
       ]
 
   pub some_meaning : (base : Option (List ℕ)) (text : List ℕ) → Meant base text

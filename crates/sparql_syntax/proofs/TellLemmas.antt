@@ -40,9 +40,9 @@ no_token text start f utf8 says e = early_of text f fault.Token (line_of text st
 pub out_of_profile : (text : List ℕ) (tokens : List Token) (place start : ℕ) (f : SyntaxFault) → IsUtf8 text → Says (chars text) (Ok tokens) → IsFirstOutside (chars text) tokens place
     → IsAt tokens place start → f ≡ fault_at text fault.NotInProfile start → TellsEarly text f f.kind
 out_of_profile text tokens place start f utf8 says out at e =
-    let pieces = some_lexemes terminal_by (chars text) tokens (tokens_have_forms (chars text) tokens says) in
-    let held : HasTokens text tokens pieces.0 = record { utf8 = utf8; list = says; pieces = pieces.1 } in
-    early_of text f fault.NotInProfile (line_of text start) e (tokens, pieces.0, out.0.0, place, held, out, out.0.1, ap (line_of text) (at out.0.0 out.0.1))
+    let slices = some_lexemes terminal_by (chars text) tokens (tokens_have_forms (chars text) tokens says) in
+    let held : HasTokens text tokens slices.0 = record { utf8 = utf8; list = says; slices = slices.1 } in
+    early_of text f fault.NotInProfile (line_of text start) e (tokens, slices.0, out.0.0, place, held, out, out.0.1, ap (line_of text) (at out.0.0 out.0.1))
 
 -- ---- in one language
 
@@ -87,7 +87,7 @@ module _ {Tree Said : Type 0} (Derives : List Lexeme → Tree → Type 0) (meani
     pub stop_told : (text : List ℕ) (tokens : List Token) (lexemes : Lexemes) (k : StopKind) (place start : ℕ) (f : SyntaxFault) → HasTokens text tokens lexemes → AreInside (chars text) tokens
         → (IsTooDeep lexemes → k ≡ stop.TooDeep) → Why lexemes k place → IsAt tokens place start → f ≡ stop_fault text k start → (base : Option (List ℕ)) → Tells base text f
     stop_told text tokens lexemes stop.TooDeep place start f held inside deep why at e base =
-        let found = got tokens place (subst (λ (n : ℕ). place < n) (same_lengths terminal_by (chars text) tokens lexemes held.pieces) (deep_at_place lexemes place why).within) in
+        let found = got tokens place (subst (λ (n : ℕ). place < n) (same_lengths terminal_by (chars text) tokens lexemes held.slices) (deep_at_place lexemes place why).within) in
         told_at base text f fault.TooDeep (line_of text start) e (tokens, lexemes, found.0, place, held, inside, deep_at_place lexemes place why, found.1, ap (line_of text) (at found.0 found.1))
     stop_told text tokens lexemes stop.Syntax place start f held inside deep why at e base =
         told_at base text f fault.Syntax (line_of text start) e (tokens, lexemes, held, inside, λ d. other_stop (deep d), no_tree lexemes place why)

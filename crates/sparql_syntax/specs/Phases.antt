@@ -17,7 +17,7 @@ use Rattle.sparql_syntax.specs.declared.fault.SyntaxFaultKind.TheVariants as fau
 pub record HasTokens (text : List ℕ) (tokens : List Token) (lexemes : List Lexeme) : Type 0 where
   pub utf8 : IsUtf8 text
   pub list : Says (chars text) (Ok tokens)
-  pub pieces : AreLexemes (chars text) tokens lexemes
+  pub slices : AreLexemes (chars text) tokens lexemes
 
 -- The text has tokens, of which none is a word that the profile leaves out; they open at most 100 brackets at once, and the grammar has this
 -- tree for them.

@@ -1,7 +1,7 @@
 -- What is derived of formed lexemes is good, and leaves formed lexemes.
 use Rattle.std.proofs.Common.{◌≡◌, List, [], ◌∷◌, ◌++◌, Option, Some, None, subst, inl, inr}
 use Rattle.std.specs.List.{AllByRecursion}
-use Rattle.rdf_grammar.specs.Terminals.{Piece}
+use Rattle.rdf_grammar.specs.Terminals.{Slice}
 use Rattle.rdf_grammar.specs.Derivations as grammar
 use Rattle.rdf_grammar.specs.Derivations.{Then, Star, stop, more}
 use Rattle.sparql_terminals.specs.declared.terminal.Terminal.{Terminal}
@@ -29,8 +29,8 @@ pub also_gives : {A : Type 0} (P : Derives A) (Good Best : A → Type 0) → Giv
 unfolding Gives
 also_gives P Good Best p holds ts x us d w = let r = p ts x us d w in ((r.0, holds ts x us d), r.1)
 
--- the piece is the text of such a lexeme
-pub record IsOf (k : Terminal) (text : Piece) : Type 0 where
+-- the slice is the text of such a lexeme
+pub record IsOf (k : Terminal) (text : Slice) : Type 0 where
   pub lexeme : Lexeme
   pub formed : Formed lexeme
   pub terminal : lexeme.terminal ≡ k

@@ -11,7 +11,7 @@ use Rattle.rdf_grammar.specs.Derivations.{◌>>◌}
 use Rattle.rdf_grammar.specs.ProductionReadings as readings
 use Rattle.rdf_grammar.specs.ProductionReadings.{ends_literal}
 use Rattle.rdf_grammar.specs.Productions as productions
-use Rattle.rdf_grammar.specs.Terminals.{Piece, next_terminal}
+use Rattle.rdf_grammar.specs.Terminals.{Slice, next_terminal}
 use Rattle.rdf_grammar.specs.Words.{next_word}
 use Rattle.rdf_grammar.proofs.Decides.{always, Decides}
 use Rattle.rdf_grammar.proofs.Productions as shared
@@ -51,7 +51,7 @@ is_caret _ h = absurd (cc)
 the_is : (w : Word) (k : Terminal) → IsJust w k → (ts : Lexemes) (u : Unit {0}) (us : Lexemes) → productions.the word w ts u us → grammar.the k ts u us
 the_is w k is ts u us d = (d.0, is d.0.terminal d.1, d.2)
 
-pub value_is : (w : Word) (k : Terminal) → IsJust w k → (ts : Lexemes) (v : Piece) (us : Lexemes) → productions.value word w ts v us → grammar.value k ts v us
+pub value_is : (w : Word) (k : Terminal) → IsJust w k → (ts : Lexemes) (v : Slice) (us : Lexemes) → productions.value word w ts v us → grammar.value k ts v us
 value_is w k is ts v us d = (d.0, is d.0.terminal d.1, d.2, d.3)
 
 pub behind_is : {A : Type 0} (w : Word) (k : Terminal) (P : Derives A) → IsJust w k → (ts : Lexemes) (x : A) (us : Lexemes) → (productions.the word w >> P) ts x us → (grammar.the k >> P) ts x us

@@ -1,4 +1,4 @@
-pub mod FormedPieces
+pub mod FormedSlices
 pub mod Gives
 pub mod GrammarWords
 pub mod Keywords

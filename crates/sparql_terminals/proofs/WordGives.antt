@@ -9,13 +9,13 @@ use Rattle.rdf_grammar.specs.Derivations as grammar
 use Rattle.rdf_grammar.specs.Literals.{proper_literal}
 use Rattle.rdf_grammar.specs.Productions as productions
 use Rattle.rdf_grammar.specs.Prologue.{is_proper}
-use Rattle.rdf_grammar.specs.Terminals.{Piece}
+use Rattle.rdf_grammar.specs.Terminals.{Slice}
 use Rattle.sparql_terminals.specs.declared.terminal.Terminal.{Terminal}
 use Rattle.sparql_terminals.specs.declared.terminal.Terminal.TheVariants as terminal
 use Rattle.sparql_terminals.specs.Lexemes.{Lexemes, Derives}
 use Rattle.sparql_terminals.specs.Terminals.{word}
 use Rattle.sparql_terminals.specs.WordGrammar as words
-use Rattle.sparql_terminals.proofs.FormedPieces.{local_formed, tag_formed}
+use Rattle.sparql_terminals.proofs.FormedSlices.{local_formed, tag_formed}
 use Rattle.sparql_terminals.proofs.Gives.{Gives, Any, IsOf, then_gives, pure_gives, or_gives, value_gives, map_gives, behind_gives, front_formed}
 use Rattle.sparql_terminals.proofs.GrammarWords.{IsJust, is_iri, is_pname, is_text, is_tag, is_caret, value_is, behind_is}
 
@@ -42,8 +42,8 @@ any_gives w ts x us d formed = (tt, (front_formed ts us d.0 d.3 formed).1)
 
 -- ---- names
 
-prefixed_proper : (text : Piece) → IsOf terminal.Pname text → is_proper (productions.prefixed text) ≡ true
-prefixed_proper text h = subst (λ (x : Piece). is_proper (productions.prefixed x) ≡ true) h.is (ap not (local_allowed _ (local_formed h.lexeme h.formed h.terminal)))
+prefixed_proper : (text : Slice) → IsOf terminal.Pname text → is_proper (productions.prefixed text) ≡ true
+prefixed_proper text h = subst (λ (x : Slice). is_proper (productions.prefixed x) ≡ true) h.is (ap not (local_allowed _ (local_formed h.lexeme h.formed h.terminal)))
 
 pub iri_gives : Gives words.Iri (Passes is_proper)
 iri_gives = or_gives _ _ (Passes is_proper) (map_gives Full _ _ (Passes is_proper) (word_gives w.Iri terminal.Iri is_iri) (λ a h. refl))
@@ -51,10 +51,10 @@ iri_gives = or_gives _ _ (Passes is_proper) (map_gives Full _ _ (Passes is_prope
 
 -- ---- literals
 
-tagged_proper : (form tag : Piece) → IsOf terminal.AtWord tag → proper_literal (l.Tagged form tag) ≡ true
-tagged_proper form tag h = subst (λ (x : Piece). proper_literal (l.Tagged form x) ≡ true) h.is (tag_formed h.lexeme h.formed h.terminal)
+tagged_proper : (form tag : Slice) → IsOf terminal.AtWord tag → proper_literal (l.Tagged form tag) ≡ true
+tagged_proper form tag h = subst (λ (x : Slice). proper_literal (l.Tagged form x) ≡ true) h.is (tag_formed h.lexeme h.formed h.terminal)
 
-suffix_gives : (form : Piece) → Gives (productions.Suffix word form) (Passes proper_literal)
+suffix_gives : (form : Slice) → Gives (productions.Suffix word form) (Passes proper_literal)
 suffix_gives form = or_gives _ _ (Passes proper_literal) (map_gives (l.Tagged form) _ _ (Passes proper_literal) (word_gives w.Tag terminal.AtWord is_tag) (tagged_proper form))
     (or_gives _ _ (Passes proper_literal) (behind_word w.Caret terminal.Caret is_caret _ (Passes proper_literal) (map_gives (l.Typed form) _ _ (Passes proper_literal) iri_gives (λ a h. h))) (pure_gives (l.Plain form) (Passes proper_literal) refl))
 

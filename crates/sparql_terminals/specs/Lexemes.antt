@@ -6,7 +6,7 @@ use Rattle.rdf_grammar.specs.Derivations as derivations
 use Rattle.rdf_grammar.specs.Lexemes as lexemes
 use Rattle.rdf_grammar.specs.Readings as readings
 use Rattle.rdf_grammar.specs.Terminals as terminals
-use Rattle.rdf_grammar.specs.Terminals.{Piece}
+use Rattle.rdf_grammar.specs.Terminals.{Slice}
 use Rattle.sparql_terminals.specs.declared.terminal.Terminal.{Terminal}
 use Rattle.sparql_terminals.specs.Terminals.{terminal_by, same_terminal}
 
@@ -49,7 +49,7 @@ abbrev pub the : Terminal → Reading (Unit {0})
 the = terminals.the same_terminal
 
 -- a lexeme of this terminal, and its characters
-abbrev pub value : Terminal → Reading Piece
+abbrev pub value : Terminal → Reading Slice
 value = terminals.value same_terminal
 
 -- this reading, again behind each lexeme of this terminal

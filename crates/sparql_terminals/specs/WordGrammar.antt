@@ -2,7 +2,7 @@
 use Rattle.rdf_grammar.specs.declared.tree.Name.{Name}
 use Rattle.rdf_grammar.specs.declared.tree.Literal.{Literal}
 use Rattle.rdf_grammar.specs.Productions as productions
-use Rattle.rdf_grammar.specs.Terminals.{Piece}
+use Rattle.rdf_grammar.specs.Terminals.{Slice}
 use Rattle.sparql_terminals.specs.Lexemes.{Derives}
 use Rattle.sparql_terminals.specs.Terminals.{word}
 
@@ -15,5 +15,5 @@ abbrev pub ALiteral : Derives Literal
 ALiteral = productions.ALiteral word
 
 -- PNAME_NS (140) IRIREF (139), in 6: PrefixDecl
-abbrev pub Binding : Derives (Piece × Piece)
+abbrev pub Binding : Derives (Slice × Slice)
 Binding = productions.Binding word

@@ -2,7 +2,7 @@
 use Rattle.rdf_grammar.specs.declared.tree.Name.{Name}
 use Rattle.rdf_grammar.specs.declared.tree.Literal.{Literal}
 use Rattle.rdf_grammar.specs.ProductionReadings as readings
-use Rattle.rdf_grammar.specs.Terminals.{Piece}
+use Rattle.rdf_grammar.specs.Terminals.{Slice}
 use Rattle.sparql_terminals.specs.Lexemes.{Reading}
 use Rattle.sparql_terminals.specs.Terminals.{word}
 
@@ -12,5 +12,5 @@ iri = readings.iri word
 abbrev pub literal : Reading Literal
 literal = readings.literal word
 
-abbrev pub binding : Reading (Piece × Piece)
+abbrev pub binding : Reading (Slice × Slice)
 binding = readings.binding word

@@ -2,7 +2,7 @@
 
 use crate::terminal::Terminal;
 
-/// A token: its terminal, and the piece of the text that it is.
+/// A token: its terminal, and the slice of the text that it is.
 pub type Lexeme<'a> = rdf_grammar::Lexeme<'a, Terminal>;
 
 /// Lexemes to read.

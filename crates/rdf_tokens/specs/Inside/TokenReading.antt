@@ -41,11 +41,11 @@ skip_gap in_comment (c ∷ cs) = elim (gap_step in_comment c) [ None ↦ c ∷ c
 
 -- behind an IRIREF
 abbrev pub iri_end_at : List ℕ → Option (List ℕ)
-iri_end_at cs = option_map (λ piece. piece.1) (iri_at cs)
+iri_end_at cs = option_map (λ read. read.1) (iri_at cs)
 
 -- behind a string with single quotes at its ends
 abbrev pub quoted_end_at : ℕ → List ℕ → Option (List ℕ)
-quoted_end_at quote cs = option_map (λ piece. piece.1) (quoted_at quote cs)
+quoted_end_at quote cs = option_map (λ read. read.1) (quoted_at quote cs)
 
 unfoldable pub two_at : ℕ → List ℕ → Option (List ℕ)
 two_at quote cs = do

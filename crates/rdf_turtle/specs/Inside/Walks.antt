@@ -24,7 +24,7 @@ IsShallow text = (tokens : List Token) × (lexemes : Lexemes) × HasTokens text 
 abbrev pub first_fault : List Found → Option ℕ
 first_fault [] = None
 first_fault (NoToken start ∷ all) = Some start
-first_fault (Read start kind piece ∷ all) = first_fault all
+first_fault (Read start kind slice ∷ all) = first_fault all
 
 -- at most 100 are open
 abbrev pub IsLow : Depth → Type 0
@@ -40,7 +40,7 @@ deeper (TooDeep first) start k = TooDeep first
 abbrev pub depth_behind : Depth → List Found → Depth
 depth_behind depth [] = depth
 depth_behind depth (NoToken start ∷ all) = depth
-depth_behind depth (Read start kind piece ∷ all) = depth_behind (deeper depth start (terminal_of kind piece)) all
+depth_behind depth (Read start kind slice ∷ all) = depth_behind (deeper depth start (terminal_of kind slice)) all
 
 -- ---- where tokens start, in a text of so many bytes
 
@@ -49,21 +49,21 @@ module _ (size : ℕ) where
   abbrev pub start_behind : ℕ → List Found → ℕ
   start_behind n [] = size
   start_behind n (NoToken start ∷ all) = size
-  start_behind zero (Read start kind piece ∷ all) = start
-  start_behind (suc n) (Read start kind piece ∷ all) = start_behind n all
+  start_behind zero (Read start kind slice ∷ all) = start
+  start_behind (suc n) (Read start kind slice ∷ all) = start_behind n all
 
   -- of the first name with a prefix that isn't declared before it
   abbrev pub unbound_start : Bool → Bool → List (List ℕ) → List Found → ℕ
   unbound_start behind declares bound [] = size
   unbound_start behind declares bound (NoToken start ∷ all) = size
-  unbound_start behind declares bound (Read start kind piece ∷ all) =
-      if is_unbound declares bound (taken behind (terminal_of kind piece)) piece then start
-      else unbound_start (takes_tag (terminal_of kind piece)) (declares_behind declares (taken behind (terminal_of kind piece))) (bound_behind declares bound (taken behind (terminal_of kind piece)) piece) all
+  unbound_start behind declares bound (Read start kind slice ∷ all) =
+      if is_unbound declares bound (taken behind (terminal_of kind slice)) slice then start
+      else unbound_start (takes_tag (terminal_of kind slice)) (declares_behind declares (taken behind (terminal_of kind slice))) (bound_behind declares bound (taken behind (terminal_of kind slice)) slice) all
 
   -- of the first reference that has no scheme where no base is in force
   abbrev pub lacking_start : Bool → Bool → Bool → List Found → ℕ
   lacking_start behind moves based [] = size
   lacking_start behind moves based (NoToken start ∷ all) = size
-  lacking_start behind moves based (Read start kind piece ∷ all) =
-      if is_lacking based (taken behind (terminal_of kind piece)) piece then start
-      else lacking_start (takes_tag (terminal_of kind piece)) (moves_behind moves (taken behind (terminal_of kind piece))) (base_behind moves based (taken behind (terminal_of kind piece))) all
+  lacking_start behind moves based (Read start kind slice ∷ all) =
+      if is_lacking based (taken behind (terminal_of kind slice)) slice then start
+      else lacking_start (takes_tag (terminal_of kind slice)) (moves_behind moves (taken behind (terminal_of kind slice))) (base_behind moves based (taken behind (terminal_of kind slice))) all

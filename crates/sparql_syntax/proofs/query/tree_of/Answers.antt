@@ -15,8 +15,8 @@ returns c =
     let text = c.args.text.now in
     let tokens = c.args.tokens.now in
     let lexemes = c.in_ok-lexemes.lexemes in
-    let pieces : AreLexemes (chars text) tokens lexemes = search rules in
-    let held : HasTokens text tokens lexemes = record { utf8 = c.requires.utf8; list = c.requires.list; pieces = pieces } in
+    let slices : AreLexemes (chars text) tokens lexemes = search rules in
+    let held : HasTokens text tokens lexemes = record { utf8 = c.requires.utf8; list = c.requires.list; slices = slices } in
     let deep : IsTooDeep lexemes → c.in-Err.kind ≡ TooDeep = search rules in
     let why : ExplainsQuery lexemes c.in-Err.kind c.in-Err.place = search rules in
     let at : (token : Held) → slice_get tokens c.in-Err.place ≡ Some token → c.start_of-start.result ≡ token.start = search rules in
@@ -27,8 +27,8 @@ returns-in-Ok c =
     let text = c.args.text.now in
     let tokens = c.args.tokens.now in
     let lexemes = c.in_ok-lexemes.lexemes in
-    let pieces : AreLexemes (chars text) tokens lexemes = search rules in
-    let held : HasTokens text tokens lexemes = record { utf8 = c.requires.utf8; list = c.requires.list; pieces = pieces } in
+    let slices : AreLexemes (chars text) tokens lexemes = search rules in
+    let held : HasTokens text tokens lexemes = record { utf8 = c.requires.utf8; list = c.requires.list; slices = slices } in
     let shallow : ¬ (IsTooDeep lexemes) = search rules in
     let reads = subst (λ (ts : Lexemes). IsQuery ts c.in-Ok.tree) c.as_slice.ensures c.in-Ok.ensures.found in
     record { tokens = tokens; lexemes = lexemes; list = held; inside = c.requires.inside; shallow = shallow; reads = reads }

@@ -1,4 +1,4 @@
--- A reader of a piece, its form, and the pieces of a line.
+-- A reader of a part, its form, and the parts of a line.
 use Rattle.std.proofs.Common.{◌≡◌, ◌≢◌, ℕ, ◌≤◌, true, false, eqb, List, [], ◌∷◌, ◌++◌, length, Option, Some, refl, sym, ap, subst, ◌∙◌, inl, inr, length-append, arith}
 use Rattle.std.proofs.lemmas.Bool.{cases_Bool, eq-eqb, ne_eqb, true≢false}
 use Rattle.rdf_terms.specs.Reading.{iri_at, quoted_at}
@@ -22,14 +22,14 @@ NotWhite (c ∷ _) = is_white c ≡ false
 abbrev pub Begins : ℕ → List ℕ → Type 0
 Begins c cs = (others : List ℕ) × (cs ≡ c ∷ others)
 
--- What a reader answers is the longest piece of the form, and that piece is what it answers; pieces begin with one character.
+-- What a reader answers is the longest part of the form, and that part is what it answers; parts begin with one character.
 pub record IsReader {V : Type 0} (first : ℕ) (Form : List ℕ → V → Type 0) (read : List ℕ → Option (V × List ℕ)) : Type 0 where
   pub sound : (cs : List ℕ) (v : V) (rest : List ℕ) → read cs ≡ Some (v, rest) → Takes Form cs v rest
   pub complete : (cs : List ℕ) (v : V) (rest : List ℕ) → Takes Form cs v rest → read cs ≡ Some (v, rest)
   pub begins : (cs : List ℕ) (v : V) (rest : List ℕ) → Takes Form cs v rest → Begins first cs
   pub black : is_white first ≡ false
 
--- ---- pieces of which no longer one exists, whatever follows
+-- ---- parts of which no longer one exists, whatever follows
 
 same_front : (a b x y : List ℕ) → a ++ x ≡ b ++ y → x ≡ y → length b ≤ length a
 same_front a b x y e f = omega (arith, ap length e, ap length f, length-append a x, length-append b y)
@@ -128,7 +128,7 @@ skip_twice cs = skip_none (skip_white cs) (skipped_black cs)
 pub black_begins : (c : ℕ) (cs : List ℕ) → is_white c ≡ false → Begins c cs → NotWhite cs
 black_begins c cs h b = subst NotWhite (sym b.1) h
 
--- ---- a gap and a piece
+-- ---- a gap and a part
 
 pub next_sound : {V : Type 0} {first : ℕ} (Form : List ℕ → V → Type 0) (read : List ℕ → Option (V × List ℕ)) → IsReader first Form read
     → (cs : List ℕ) (v : V) (rest : List ℕ) → read (skip_white cs) ≡ Some (v, rest) → Next Form cs v rest

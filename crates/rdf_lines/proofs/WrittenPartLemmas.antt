@@ -1,4 +1,4 @@
--- A term that is written is read back as the longest piece where it stands.
+-- A term that is written is read back as the longest part where it stands.
 use Rattle.std.proofs.Common.{◌≡◌, ◌≢◌, ◌∙◌, ap, refl, sym, subst, inl, inr, ℕ, ◌<◌, ◌≤◌, ◌^◌, arith, Bool, true, false, if◌then◌else◌, List, [], ◌∷◌, ◌++◌, length, get_or, drop, codes, decimal, chars, IsUtf8, nat_eq, true≢false, append_assoc, Option, Some, None}
 use Rattle.std.specs.List.{AllByRecursion}
 use Rattle.std.specs.Cmp.Lexicographic.{pointwise, bytes_decides}
@@ -24,7 +24,7 @@ use Rattle.rdf_terms.proofs.WrittenTermLemmas.{lower_stays, tag_parts, tag_ascii
 use Rattle.rdf_terms.proofs.WrittenTextLemmas.{quoted, quoted_form, quoted_chars, quoted_utf8}
 use Rattle.rdf_lines.specs.Grammar.{is_white, is_label_part, is_label_start, IsString, IsLabelName, IsBlankLabel, IsTag, Takes, Next, HasNode, HasObject, HasLiteral, typed}
 use Rattle.rdf_lines.specs.RoundTrip.{label_of, node_of, object_of}
-use Rattle.rdf_lines.proofs.LinePieceLemmas.{iri_reader, string_reader, differs}
+use Rattle.rdf_lines.proofs.LinePartLemmas.{iri_reader, string_reader, differs}
 use Rattle.rdf_lines.proofs.WrittenLabelLemmas.{label_name}
 use Rattle.rdf_lines.proofs.WrittenTagLemmas.{tag_black}
 

@@ -1,4 +1,4 @@
--- The pieces of formed lexemes have the forms of their terminals.
+-- The slices of formed lexemes have the forms of their terminals.
 use Rattle.std.proofs.Common.{◌≡◌, ◌∙◌, ap, refl, sym, subst, ℕ, Bool, true, false, cond, List, [], ◌∷◌, true≢false}
 use Rattle.std.specs.Prelude.{codes}
 use Rattle.std.specs.Str.{bytes_eq, encode_utf8_all}
@@ -139,7 +139,7 @@ at_word_kind kind.Var slice e h = clash _ e refl
 at_word_kind kind.Word slice e h = clash _ (at_word_either (word_terminal (encode_utf8_all slice)) e) (never_word (encode_utf8_all slice))
 at_word_kind kind.Symbol slice e h = clash _ (at_word_either (symbol_terminal (encode_utf8_all slice)) e) (never_symbol (encode_utf8_all slice))
 
--- ---- what the pieces are
+-- ---- what the slices are
 
 pub local_formed : (t : Lexeme) → Formed t → t.terminal ≡ terminal.Pname → IsLocal (local_part t.text)
 local_formed t f e =
