@@ -1,7 +1,7 @@
 //! A dataset as sorted lists, for tests beside [`Dataset`](rdf_dataset::Dataset) (RDF 1.1 Concepts, section 4).
 #![tactic(auto)]
 
-mod listing;
+mod matching;
 mod plain;
 
 pub use plain::PlainDataset;

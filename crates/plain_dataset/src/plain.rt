@@ -6,7 +6,7 @@ ghost use Rattle.rdf_terms.specs.Lists.{ListsSorted};
 ghost use Rattle.plain_dataset.specs.Rising.{AreRising};
 ghost use Rattle.rdf_dataset.specs.State.{State, IsSound, Begins, Ends, net_between, empty_state, last_number};
 
-use crate::listing::append_matching;
+use crate::matching::append_matching;
 use rdf_dataset::{Net, Source, sources_are_sound};
 use rdf_sets::{Sorted, append_copies};
 use rdf_terms::{GraphName, NoMemory, Quad, Term};
@@ -70,7 +70,7 @@ impl PlainDataset {
     pub fn quads(&self) -> Result<Vec<Quad>, NoMemory>
         ensures { IfOk result (λ quads. ListsSorted self.now.quads quads.items) }
     {
-        Ok(self.quads.copy()?.into_listing())
+        Ok(self.quads.copy()?.into_vec())
     }
 
     /// The graph names, each once, in order.
@@ -80,7 +80,7 @@ impl PlainDataset {
     pub fn names_sorted(&self) -> Result<Vec<Term>, NoMemory>
         ensures { IfOk result (λ names. ListsSorted self.now.names names.items) }
     {
-        Ok(self.names.copy()?.into_listing())
+        Ok(self.names.copy()?.into_vec())
     }
 
     /// Goes to the state where a net that begins here ends. It takes no memory where the net added

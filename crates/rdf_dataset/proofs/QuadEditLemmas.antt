@@ -14,18 +14,18 @@ use Rattle.rdf_terms.specs.Lists.{AppendsOnce, ListsOnce}
 use Rattle.rdf_sets.specs.Delta.{IsDelta}
 use Rattle.rdf_dataset.specs.Inside.Delta.{IsQuadDelta}
 use Rattle.rdf_sets.proofs.DeltaLemmas.{no_delta, gained_at, lost_at, has_known, has_new, lost_known, insert_known, insert_new, remove_known, remove_new}
-use Rattle.rdf_sets.proofs.ListingLemmas.{lists_both, retained, kept_or_new, not_both}
+use Rattle.rdf_sets.proofs.ListsOnceLemmas.{lists_both, retained, kept_or_new, not_both}
 
-abbrev listing : Quads → List QuadParts
-listing a = set.items a
+abbrev items_of : Quads → List QuadParts
+items_of a = set.items a
 
-listed : (a : Quads) → from_list {R = quad_cmp} (listing a) ≡ a
-listed a = same_set quad_cmp_total quad_cmp-IsAntisymmetric _ _ (λ q. contains-from_list quad_cmp_total (listing a) q ∙ sym (contains-items a q))
+listed : (a : Quads) → from_list {R = quad_cmp} (items_of a) ≡ a
+listed a = same_set quad_cmp_total quad_cmp-IsAntisymmetric _ _ (λ q. contains-from_list quad_cmp_total (items_of a) q ∙ sym (contains-items a q))
 
-to_lists : (s t a : Quads) (r : List QuadParts) → IsQuadDelta s t a r → IsDelta s t (listing a) r
+to_lists : (s t a : Quads) (r : List QuadParts) → IsQuadDelta s t a r → IsDelta s t (items_of a) r
 to_lists s t a r d = record { gained = listed a ∙ d.gained; lost = d.lost }
 
-from_lists : (s t a : Quads) (r : List QuadParts) → IsDelta s t (listing a) r → IsQuadDelta s t a r
+from_lists : (s t a : Quads) (r : List QuadParts) → IsDelta s t (items_of a) r → IsQuadDelta s t a r
 from_lists s t a r d = record { gained = sym (listed a) ∙ d.gained; lost = d.lost }
 
 pub no_quad_delta : (s : Quads) → IsQuadDelta s s set.empty []
@@ -35,49 +35,49 @@ no_quad_delta s =
 
 module _ (s t a : Quads) (r : List QuadParts) (d : IsQuadDelta s t a r) (q : QuadParts) where
   pub has_known_quad : true ≡ contains s q → not (contains (from_list {R = quad_cmp} r) q) ≡ contains t q
-  has_known_quad h = has_known quad_cmp_total quad_cmp-IsAntisymmetric s t (listing a) r (to_lists s t a r d) q h
+  has_known_quad h = has_known quad_cmp_total quad_cmp-IsAntisymmetric s t (items_of a) r (to_lists s t a r d) q h
 
   pub has_new_quad : false ≡ contains s q → contains a q ≡ contains t q
-  has_new_quad h = ap (λ z. contains z q) (sym (listed a)) ∙ has_new quad_cmp_total quad_cmp-IsAntisymmetric s t (listing a) r (to_lists s t a r d) q h
+  has_new_quad h = ap (λ z. contains z q) (sym (listed a)) ∙ has_new quad_cmp_total quad_cmp-IsAntisymmetric s t (items_of a) r (to_lists s t a r d) q h
 
   pub lost_known_quad : true ≡ contains s q → contains (from_list {R = quad_cmp} r) q ≡ not (contains t q)
-  lost_known_quad h = lost_known quad_cmp_total quad_cmp-IsAntisymmetric s t (listing a) r (to_lists s t a r d) q h
+  lost_known_quad h = lost_known quad_cmp_total quad_cmp-IsAntisymmetric s t (items_of a) r (to_lists s t a r d) q h
 
   pub insert_known_quad : (l : List QuadParts) → true ≡ contains s q → from_list {R = quad_cmp} l ≡ remove (from_list r) q → IsQuadDelta s (insert t q) a l
-  insert_known_quad l h e = from_lists s (insert t q) a l (insert_known quad_cmp_total quad_cmp-IsAntisymmetric s t (listing a) r (to_lists s t a r d) q l h e)
+  insert_known_quad l h e = from_lists s (insert t q) a l (insert_known quad_cmp_total quad_cmp-IsAntisymmetric s t (items_of a) r (to_lists s t a r d) q l h e)
 
   pub insert_new_quad : (b : Quads) → false ≡ contains s q → b ≡ insert a q → IsQuadDelta s (insert t q) b r
   insert_new_quad b h e =
       from_lists s (insert t q) b r
-      (insert_new quad_cmp_total quad_cmp-IsAntisymmetric s t (listing a) r (to_lists s t a r d) q (listing b) h (listed b ∙ e ∙ ap (λ z. insert z q) (sym (listed a))))
+      (insert_new quad_cmp_total quad_cmp-IsAntisymmetric s t (items_of a) r (to_lists s t a r d) q (items_of b) h (listed b ∙ e ∙ ap (λ z. insert z q) (sym (listed a))))
 
   pub remove_known_quad : (l : List QuadParts) → true ≡ contains s q → from_list {R = quad_cmp} l ≡ insert (from_list r) q → IsQuadDelta s (remove t q) a l
-  remove_known_quad l h e = from_lists s (remove t q) a l (remove_known quad_cmp_total quad_cmp-IsAntisymmetric s t (listing a) r (to_lists s t a r d) q l h e)
+  remove_known_quad l h e = from_lists s (remove t q) a l (remove_known quad_cmp_total quad_cmp-IsAntisymmetric s t (items_of a) r (to_lists s t a r d) q l h e)
 
   pub remove_new_quad : (b : Quads) → false ≡ contains s q → b ≡ remove a q → IsQuadDelta s (remove t q) b r
   remove_new_quad b h e =
       from_lists s (remove t q) b r
-      (remove_new quad_cmp_total quad_cmp-IsAntisymmetric s t (listing a) r (to_lists s t a r d) q (listing b) h (listed b ∙ e ∙ ap (λ z. remove z q) (sym (listed a))))
+      (remove_new quad_cmp_total quad_cmp-IsAntisymmetric s t (items_of a) r (to_lists s t a r d) q (items_of b) h (listed b ∙ e ∙ ap (λ z. remove z q) (sym (listed a))))
 
 -- what lies beneath and wasn't removed, and what was added
 pub amended : (s t a : Quads) (r : List QuadParts) (p : QuadParts → Bool) (xs kept new : List QuadParts) → IsQuadDelta s t a r → ListsOnce (set.retain s p) xs
     → kept ≡ filter (λ x. not (contains (from_list {R = quad_cmp} r) x)) xs → AppendsOnce (set.retain a p) kept new → ListsOnce (set.retain t p) new
 amended s t a r p xs kept new d l e f = subst (ListsOnce (set.retain t p)) (sym (f.appended ∙ ap (λ zs. zs ++ f.found) e)) both
   where
-    lists : IsDelta s t (listing a) r
+    lists : IsDelta s t (items_of a) r
     lists = to_lists s t a r d
 
     here : (q : QuadParts) → contains (from_list {R = quad_cmp} f.found) q ≡ ((contains t q && not (contains s q)) && p q)
     here q =
         ap (λ z. contains z q) f.each_once.all ∙ retained quad_cmp_total quad_cmp-IsAntisymmetric a p q
-        ∙ ap (λ b. b && p q) (ap (λ z. contains z q) (sym (listed a)) ∙ gained_at quad_cmp_total quad_cmp-IsAntisymmetric s t (listing a) r lists q)
+        ∙ ap (λ b. b && p q) (ap (λ z. contains z q) (sym (listed a)) ∙ gained_at quad_cmp_total quad_cmp-IsAntisymmetric s t (items_of a) r lists q)
 
     both : ListsOnce (set.retain t p) (filter (λ x. not (contains (from_list {R = quad_cmp} r) x)) xs ++ f.found)
     both =
         lists_both quad_cmp_total quad_cmp-IsAntisymmetric (set.retain s p) (set.retain t p) (λ x. not (contains (from_list {R = quad_cmp} r) x)) xs f.found l
         (f.each_once.once ∙ ap set.len (sym f.each_once.all))
         (λ q m. retained quad_cmp_total quad_cmp-IsAntisymmetric s p q ∙ not_both (contains s q) (contains t q) (p q) (sym (here q) ∙ m))
-        (λ q. (λ i. (retained quad_cmp_total quad_cmp-IsAntisymmetric s p q i && not (lost_at quad_cmp_total quad_cmp-IsAntisymmetric s t (listing a) r lists q i)) || here q i)
+        (λ q. (λ i. (retained quad_cmp_total quad_cmp-IsAntisymmetric s p q i && not (lost_at quad_cmp_total quad_cmp-IsAntisymmetric s t (items_of a) r lists q i)) || here q i)
         ∙ kept_or_new (contains s q) (contains t q) (p q) ∙ sym (retained quad_cmp_total quad_cmp-IsAntisymmetric t p q))
 
 pub few_more : (old kept new looked : ℕ) → kept ≤ old → new ≡ kept + looked → new ≤ old + looked

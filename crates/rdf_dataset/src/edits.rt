@@ -146,7 +146,7 @@ impl Edits {
         insert_in_graph(&mut self.names, &mut self.quads, beneath, named, name, quad)
     }
 
-    /// Makes a listing of the names at the beginning one of those at the end.
+    /// Makes the sorted names at the beginning those at the end.
     pub(crate) fn amend_names(&self, found: &mut Vec<Term>) -> Result<(), NoMemory>
         ensures ok { OnOk result ((s t : State) → self.now ≡ net_between s t →
             ListsOnce s.names found.old.items → ListsOnce t.names found.new.items) }
@@ -155,7 +155,7 @@ impl Edits {
         self.names.added.append_copies(found)
     }
 
-    /// Makes a listing of the matching quads at the beginning one of those at the end, and answers
+    /// Makes the matching quads at the beginning those at the end, and answers
     /// how many more were looked at.
     pub(crate) fn amend_quads(
         &self,

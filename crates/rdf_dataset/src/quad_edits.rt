@@ -92,7 +92,7 @@ impl QuadEdits {
         })
     }
 
-    /// Makes a listing of the matching quads of the first set one of those of the second, and
+    /// Makes the matching quads of the first set those of the second, and
     /// answers how many more were looked at: those of them that were added.
     pub(crate) fn amend(
         &self,

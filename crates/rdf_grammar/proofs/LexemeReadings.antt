@@ -8,7 +8,7 @@ use Rattle.rdf_terms.specs.Reading.{between, byte_count}
 use Rattle.rdf_tokens.specs.declared.token.Kind.{Kind}
 use Rattle.rdf_tokens.specs.declared.token.Kind.TheVariants.{Symbol}
 use Rattle.rdf_tokens.specs.declared.token.Token.{Token}
-use Rattle.rdf_tokens.specs.Tokens.{IsToken, HasGap, Ends, NoToken, At, Runs, Says}
+use Rattle.rdf_tokens.specs.Tokens.{IsToken, HasGap, Ends, NoToken, At, AreTokens, Tokenizes}
 use Rattle.rdf_tokens.proofs.CallerLemmas.{each_end, each_few, each_nil, each_token, none_told, same_place, some_token_list}
 use Rattle.rdf_grammar.specs.declared.lexeme.Lexeme.{Lexeme}
 use Rattle.rdf_grammar.specs.Terminals.{Lexemes, next_text}
@@ -75,14 +75,14 @@ module _ {T : Type 0} (terminal : Kind → List ℕ → T) where
   abbrev Front : List ℕ → List ℕ → List Token → List ℕ → Type 0
   Front text from tokens rest = (front : Lexemes T) × AreLexemes terminal text tokens front × (lexemes_of terminal from ≡ front ++ lexemes_of terminal rest)
 
-  front_read : (text from : List ℕ) (tokens : List Token) (rest : List ℕ) → Runs text from tokens rest → Front text from tokens rest
+  front_read : (text from : List ℕ) (tokens : List Token) (rest : List ℕ) → AreTokens text from tokens rest → Front text from tokens rest
   front_read text from [] rest r = ([], tt, ap (lexemes_of terminal) r)
   front_read text from (token ∷ tokens) rest r =
       let later = front_read text r.1 tokens rest r.6 in
       let first = lexeme_of terminal token.kind (between r.0 r.1) in
       (first ∷ later.0, (token_lexeme text token r.0 r.1 r.3 r.4 r.5, later.1), lexemes_token from r.0 token.kind r.1 r.2 r.3 ∙ ap (λ (ls : Lexemes T). first ∷ ls) later.2)
 
-  read_from : (text : List ℕ) (answer : Result (List Token) ℕ) → Says text answer → AreReadFrom terminal text answer (lexemes_of terminal text)
+  read_from : (text : List ℕ) (answer : Result (List Token) ℕ) → Tokenizes text answer → AreReadFrom terminal text answer (lexemes_of terminal text)
   read_from text (Ok tokens) h =
       let f = front_read text text tokens h.0 h.1 in
       subst (AreLexemes terminal text tokens) (sym (f.2 ∙ ap (λ (ls : Lexemes T). f.0 ++ ls) (lexemes_end h.0 h.2) ∙ append-nil f.0)) f.1

@@ -5,7 +5,7 @@ use Rattle.rdf_tokens.specs.declared.token.Kind.{Kind}
 use Rattle.rdf_tokens.specs.declared.token.Kind.TheVariants.{Symbol}
 use Rattle.rdf_tokens.specs.declared.token.Token.{Token}
 use Rattle.rdf_tokens.specs.Forms.{HasForm}
-use Rattle.rdf_tokens.specs.Tokens.{HasGap, NoToken, At, Stands, Runs, Says}
+use Rattle.rdf_tokens.specs.Tokens.{HasGap, NoToken, At, Stands, AreTokens, Tokenizes}
 use Rattle.rdf_grammar.specs.declared.lexeme.Lexeme.{Lexeme}
 use Rattle.rdf_grammar.specs.Terminals.{Lexemes}
 
@@ -32,12 +32,12 @@ module _ {T : Type 0} (terminal : Kind → List ℕ → T) where
   abbrev pub AreReadFrom : List ℕ → Result (List Token) ℕ → Lexemes T → Type 0
   AreReadFrom text (Ok tokens) lexemes = AreLexemes text tokens lexemes
   AreReadFrom text (Err place) lexemes =
-      (tokens : List Token) × (rest start : List ℕ) × (front : Lexemes T) × Runs text text tokens rest × HasGap rest start
+      (tokens : List Token) × (rest start : List ℕ) × (front : Lexemes T) × AreTokens text text tokens rest × HasGap rest start
       × NoToken start × At text place start × AreLexemes text tokens front × (lexemes ≡ front ++ unread ∷ [])
 
   -- the lexemes that are read of a text
   abbrev pub AreReadOf : List ℕ → Lexemes T → Type 0
-  AreReadOf text lexemes = (answer : Result (List Token) ℕ) × Says text answer × AreReadFrom text answer lexemes
+  AreReadOf text lexemes = (answer : Result (List Token) ℕ) × Tokenizes text answer × AreReadFrom text answer lexemes
 
 -- each lexeme's slice has the form of its token's kind
 abbrev pub HaveForms : {T : Type 0} → List Token → Lexemes T → Type 0
@@ -52,4 +52,4 @@ HaveForms (token ∷ tokens) (lexeme ∷ lexemes) = HasForm token.kind lexeme.te
 abbrev pub LexemesHaveForms : {T : Type 0} → (Kind → List ℕ → T) → Type 0
 LexemesHaveForms {T} terminal =
     (text from rest : List ℕ) (tokens : List Token) (lexemes : Lexemes T)
-    → Runs text from tokens rest → AreLexemes terminal text tokens lexemes → HaveForms tokens lexemes
+    → AreTokens text from tokens rest → AreLexemes terminal text tokens lexemes → HaveForms tokens lexemes

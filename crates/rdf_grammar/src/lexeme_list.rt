@@ -1,7 +1,7 @@
 //! The lexemes of a text.
 ghost use Rattle.std.specs.Prelude.{◌≡◌, ℕ, List, IfOk};
 ghost use Rattle.std.specs.Str.{chars};
-ghost use Rattle.rdf_tokens.specs.Tokens.{Runs, HasItsForm};
+ghost use Rattle.rdf_tokens.specs.Tokens.{AreTokens, HasItsForm};
 ghost use Rattle.rdf_grammar.specs.Lexemes.{IsLexeme, AreLexemes, LexemesHaveForms};
 
 use crate::lexeme::Lexeme;
@@ -30,7 +30,7 @@ pub fn lexemes<'a, T: Terminal>(
     text: &'a str,
     tokens: &[Token],
 ) -> Result<Items<Lexeme<'a, T>>, NoMemory>
-    requires { (rest : List ℕ) × Runs (chars text.now) (chars text.now) tokens.now rest }
+    requires { (rest : List ℕ) × AreTokens (chars text.now) (chars text.now) tokens.now rest }
     ensures { IfOk result (λ items. AreLexemes T.of (chars text.now) tokens.now items) }
 {
     let mut items = Vec::with_capacity(alloc, tokens.len())?;

@@ -3,8 +3,8 @@ pub mod Cuts
 pub mod Examples
 pub mod Feeds
 pub mod Lines
-pub mod Listing
-pub mod OneListing
+pub mod Show
+pub mod OneShow
 pub mod OneOutput
 pub mod OneOutputOfBytes
 pub mod Pieces

@@ -18,7 +18,7 @@ use Rattle.rdf_keeper.specs.Script.Runs.{Runs, RunsOver}
 use Rattle.rdf_session.specs.Session.{Session, Do, Done, Mark, Refused as RefusedReply, Undo, fresh, now}
 use Rattle.rdf_session.specs.declared.fault.KeeperFault.TheVariants.{NoEnd}
 use Rattle.rdf_session.specs.declared.format.Format.TheVariants.{NQuads}
-use Rattle.rdf_keeper.specs.declared.script.command.Listing.TheVariants.{Quads}
+use Rattle.rdf_keeper.specs.declared.script.command.Topic.TheVariants.{Quads}
 use Rattle.rdf_keeper.specs.declared.script.status.Status.{Status}
 use Rattle.rdf_keeper.specs.declared.script.status.Status.TheVariants.{Accepted, Refused}
 

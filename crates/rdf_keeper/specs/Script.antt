@@ -4,7 +4,7 @@ pub mod Commands
 pub mod LineLaws
 pub mod LineWords
 pub mod Lines
-pub mod Listing
+pub mod Show
 pub mod OneOutput
 pub mod Pieces
 pub mod Printed

@@ -29,7 +29,7 @@ pub fn a_script_has_one_output()
 /// with the replies that its answers tell, are those of a session, so the promise of
 /// [`rdf_session::the_headline`] is kept of its end. An `%undo` that is accepted behind a request
 /// gives back the state before it, and a `%redo` behind that the state after, whatever queries,
-/// listings, marks and refusals come between.
+/// looks, marks and refusals come between.
 pub fn a_script_keeps_the_promise()
     ensures transitions { AnswersAreTransitions }
     ensures promise { ScriptsArePromised }

@@ -6,8 +6,8 @@ mod feed;
 mod gathered;
 mod item;
 mod line;
-mod listing;
 mod runner;
+mod show;
 mod status;
 
 pub use feed::{Feed, Settings};

@@ -5,7 +5,7 @@ use Rattle.rdf_lines.specs.declared.fault.LineFault.{LineFault}
 use Rattle.rdf_lines.specs.declared.format.LineFormat.{LineFormat}
 use Rattle.rdf_terms.specs.declared.quad.Quad.{Quad}
 use Rattle.rdf_lines.specs.Lines.{lines, lines_behind}
-use Rattle.rdf_lines.specs.Line.{Says}
+use Rattle.rdf_lines.specs.Line.{LineSays}
 use Rattle.rdf_lines.specs.Labels.{all_noted, labels_of, quad_in}
 use Rattle.rdf_lines.specs.Pieces.{onto}
 use Rattle.rdf_lines.specs.Document.{ReadsAll, IsDocument, HasSaid, ReadsFront}
@@ -39,7 +39,7 @@ goes_on format text quads quad old new (front, ended, taken, state, is_format, s
     by true taken s = some_is_none quad s.0
     by false taken (ls, line, s, over, silent, took, says, labels, is_quad, number, now, same) =
         let before = said_then format quads front ls old is_format said silent in
-        let after = said_statement format (front ++ ls) (old.number + length ls) old.labels quads before line s (subst (λ f. Says f line (Ok (Some s))) is_format says) in (
+        let after = said_statement format (front ++ ls) (old.number + length ls) old.labels quads before line s (subst (λ f. LineSays f line (Ok (Some s))) is_format says) in (
           front ++ (ls ++ line ∷ []),
           over,
           taken_on (fresh format text) old new front (ls ++ line ∷ []) over taken took,

@@ -8,7 +8,7 @@ use Rattle.rdf_lines.specs.declared.statement.Statement.{Statement}
 use Rattle.rdf_lines.specs.declared.format.LineFormat.{LineFormat}
 use Rattle.rdf_terms.specs.declared.quad.Quad.{Quad}
 use Rattle.rdf_lines.specs.Lines.{lines}
-use Rattle.rdf_lines.specs.Line.{Says}
+use Rattle.rdf_lines.specs.Line.{LineSays}
 use Rattle.rdf_lines.specs.Labels.{all_noted, labels_of, labels_after, quad_in, numbered}
 use Rattle.rdf_lines.specs.Document.{ReadsAll, IsDocument, HasSaid}
 use Rattle.rdf_lines.specs.Reader.{AreSilent}
@@ -66,7 +66,7 @@ module _ (format : LineFormat) (front : List (List ℕ)) (n : ℕ) (labels : Lis
     said.4,
   )
 
-  pub said_statement : (line : List ℕ) (s : Statement) → Says format line (Ok (Some s)) → HasSaid format (front ++ line ∷ []) (n + 1) (all_noted labels (labels_of s)) (quads ++ quad_in (all_noted labels (labels_of s)) s ∷ [])
+  pub said_statement : (line : List ℕ) (s : Statement) → LineSays format line (Ok (Some s)) → HasSaid format (front ++ line ∷ []) (n + 1) (all_noted labels (labels_of s)) (quads ++ quad_in (all_noted labels (labels_of s)) s ∷ [])
   said_statement line s says =
       let ss = said.0 in
       let known = labels_after [] ss in (

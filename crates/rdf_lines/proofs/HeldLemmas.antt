@@ -8,7 +8,7 @@ use Rattle.rdf_lines.specs.declared.fault.LineFault.{LineFault}
 use Rattle.rdf_terms.specs.declared.quad.Quad.{Quad}
 use Rattle.rdf_lines.specs.declared.format.LineFormat.{LineFormat}
 use Rattle.rdf_lines.specs.Lines.{lines}
-use Rattle.rdf_lines.specs.Line.{Says}
+use Rattle.rdf_lines.specs.Line.{LineSays}
 use Rattle.rdf_lines.specs.Labels.{all_noted, labels_of, quad_in}
 use Rattle.rdf_lines.specs.Document.{IsDocument, StopsBehind, TellsFault, HasSaid}
 use Rattle.rdf_lines.specs.Reader.{ReadsLine, FaultOf, fault}
@@ -56,7 +56,7 @@ module _ (format : LineFormat) (text : List ℕ) where
       (line, lines after, (front, labels, e ∙ ap (λ l. front ++ l) cut, subst (λ k. HasSaid format front k labels done) (sym is_line) said))
 
   faulty : (done : List Quad) (n : ℕ) (labels : List (List ℕ)) (rest line after : List ℕ) (f : LineFault) (kind : FaultKind) → SoFar done n labels rest → lines rest ≡ line ∷ lines after
-      → f ≡ fault n kind → Says format line (Err kind) → IsDocument format text done (Some f)
+      → f ≡ fault n kind → LineSays format line (Err kind) → IsDocument format text done (Some f)
   faulty done n labels rest line after f kind (front, e, said) cut is says =
       subst (λ x. IsDocument format text done (Some x)) (sym is)
       (said_all format front n labels done said text (line ∷ lines after) (Some (fault n kind)) (e ∙ ap (λ l. front ++ l) cut) (inr (inr (kind, says, refl, refl))))

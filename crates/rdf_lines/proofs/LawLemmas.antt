@@ -11,7 +11,7 @@ use Rattle.rdf_terms.specs.declared.quad.Quad.{Quad}
 use Rattle.rdf_lines.specs.declared.statement.Statement.{Statement}
 use Rattle.rdf_lines.specs.declared.format.LineFormat.{LineFormat}
 use Rattle.rdf_lines.specs.Lines.{lines_behind, lines}
-use Rattle.rdf_lines.specs.Line.{Says}
+use Rattle.rdf_lines.specs.Line.{LineSays}
 use Rattle.rdf_lines.proofs.LineLaws.{one_answer, some_answer}
 use Rattle.rdf_lines.specs.Labels.{all_noted, labels_of, labels_after, quad_in, numbered}
 use Rattle.rdf_lines.specs.Document.{ReadsAll, EachTextIsOneDocument}
@@ -20,7 +20,7 @@ use Rattle.rdf_lines.proofs.LabelLemmas.{quad_in-kept, all_noted-append}
 
 -- ---- a line says one thing
 
-pub fault_says : (format : LineFormat) (line : List ℕ) (kind : FaultKind) → FaultOf format line kind → Says format line (Err kind)
+pub fault_says : (format : LineFormat) (line : List ℕ) (kind : FaultKind) → FaultOf format line kind → LineSays format line (Err kind)
 fault_says format line NotUtf8 h = h
 fault_says format line Syntax h = h
 fault_says format line Relative h = h
@@ -53,7 +53,7 @@ module _ (format : LineFormat) (ss : List Statement) (ending : Option LineFault)
       ] in
       subst (λ m. ReadsAll format m rest ss ending) (let e : (n + 1) + length ls ≡ n + length (l ∷ ls) = omega arith in e) (silent (n + 1) ls rest p.1 next)
 
-  pub at_statement : (n : ℕ) (line : List ℕ) (rest : List (List ℕ)) (s : Statement) → Says format line (Ok (Some s)) → ReadsAll format n (line ∷ rest) ss ending
+  pub at_statement : (n : ℕ) (line : List ℕ) (rest : List (List ℕ)) (s : Statement) → LineSays format line (Ok (Some s)) → ReadsAll format n (line ∷ rest) ss ending
       → (others : List Statement) × (ss ≡ s ∷ others) × ReadsAll format (n + 1) rest others ending
   at_statement n line rest s p r = elim r [
     | inl here ↦ none_is_some s (one_answer format line _ _ here.0 p)
@@ -61,7 +61,7 @@ module _ (format : LineFormat) (ss : List Statement) (ending : Option LineFault)
     | inr (inr here) ↦ ok_is_err (Some s) here.0 (one_answer format line (Ok (Some s)) (Err here.0) p here.1)
   ]
 
-  pub at_fault : (n : ℕ) (line : List ℕ) (rest : List (List ℕ)) (kind : FaultKind) → Says format line (Err kind) → ReadsAll format n (line ∷ rest) ss ending
+  pub at_fault : (n : ℕ) (line : List ℕ) (rest : List (List ℕ)) (kind : FaultKind) → LineSays format line (Err kind) → ReadsAll format n (line ∷ rest) ss ending
       → (ss ≡ []) × (ending ≡ Some (fault n kind))
   at_fault n line rest kind p r = elim r [
     | inl here ↦ ok_is_err None kind (one_answer format line (Ok None) (Err kind) here.0 p)
@@ -191,7 +191,7 @@ some_reading : (format : LineFormat) (n : ℕ) (ls : List (List ℕ)) → (ss : 
 some_reading format n [] = ([], None, (refl, refl))
 some_reading format n (l ∷ ls) = let says = some_answer format l in by says.0 says.1 (some_reading format (n + 1) ls)
   where
-    by : (a : Result (Option Statement) FaultKind) → Says format l a → (ss : List Statement) × (ending : Option LineFault) × ReadsAll format (n + 1) ls ss ending
+    by : (a : Result (Option Statement) FaultKind) → LineSays format l a → (ss : List Statement) × (ending : Option LineFault) × ReadsAll format (n + 1) ls ss ending
         → (ss : List Statement) × (ending : Option LineFault) × ReadsAll format n (l ∷ ls) ss ending
     by (Ok None) says (ss, ending, r) = (ss, ending, inl (says, r))
     by (Ok (Some s)) says (ss, ending, r) = (s ∷ ss, ending, inr (inl (s, ss, says, refl, r)))
@@ -208,7 +208,7 @@ one_reading format n (l ∷ ls) ss others e f p q = elim p [
   | inr (inr here) ↦ let second = at_fault format others f n l ls here.0 here.1 q in (second.0 ∙ sym here.2, second.1 ∙ sym here.3)
 ]
   where
-    past : (ts : List Statement) (f : Option LineFault) → ReadsAll format n (l ∷ ls) ts f → Says format l (Ok None) → ReadsAll format (n + 1) ls ts f
+    past : (ts : List Statement) (f : Option LineFault) → ReadsAll format n (l ∷ ls) ts f → LineSays format l (Ok None) → ReadsAll format (n + 1) ls ts f
     past ts f q says = silent format ts f n (l ∷ []) ls (says, tt) q
 
 pub one_document : EachTextIsOneDocument

@@ -9,7 +9,7 @@ use Rattle.rdf_lines.specs.declared.state.ReaderState.TheVariants.{Reading, Ende
 use Rattle.rdf_lines.specs.declared.fault.LineFault.{LineFault}
 use Rattle.rdf_lines.specs.declared.format.LineFormat.{LineFormat}
 use Rattle.rdf_lines.specs.Lines.{lines_behind}
-use Rattle.rdf_lines.specs.Line.{Says}
+use Rattle.rdf_lines.specs.Line.{LineSays}
 use Rattle.rdf_lines.specs.Labels.{all_noted, labels_of}
 use Rattle.rdf_lines.specs.Pieces.{Hold, onto, TakesLine}
 use Rattle.rdf_lines.specs.Reader.{LineState, Answer, AreSilent, Taken, FailsBehind, Passes, ReadsOn, OneLine, ReadsLine, Call, CallAt, state_after, FaultOf}
@@ -94,7 +94,7 @@ reads_on a b c ls (Ok (Some q)) p r =
       r.3,
       silent_on a.format ls ms p.0 (subst (λ f. AreSilent f ms) p.5 r.4),
       subst (λ l. Taken a l c r.3) (sym (append_assoc ls ms (line ∷ []))) (taken_on a b c ls (ms ++ line ∷ []) r.3 p.1 r.5),
-      subst (λ f. Says f line (Ok (Some r.2))) p.5 r.6,
+      subst (λ f. LineSays f line (Ok (Some r.2))) p.5 r.6,
       r.7 ∙ ap (λ k. all_noted k (labels_of r.2)) p.4,
       r.8,
       counted _ a.number _ 1 ls ms p.3 r.9,

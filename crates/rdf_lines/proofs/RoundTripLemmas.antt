@@ -27,7 +27,7 @@ use Rattle.rdf_lines.specs.declared.statement.Node.TheVariants as node
 use Rattle.rdf_lines.specs.declared.statement.Object.TheVariants as object
 use Rattle.rdf_lines.specs.declared.statement.Statement.{Statement}
 use Rattle.rdf_lines.specs.Grammar.{is_white, Gap, Next, HasNode, HasGraph, Ends, IsStatement}
-use Rattle.rdf_lines.specs.Line.{Says, IsAbsoluteNode, IsAbsoluteObject, IsAbsoluteGraph}
+use Rattle.rdf_lines.specs.Line.{LineSays, IsAbsoluteNode, IsAbsoluteObject, IsAbsoluteGraph}
 use Rattle.rdf_lines.specs.QuadText.{graph_text, quad_text}
 use Rattle.rdf_lines.specs.RoundTrip.{label_of, node_of, predicate_of, object_of, graph_of, statement_of, EachLineIsReadBack, LinesDiffer}
 use Rattle.rdf_lines.proofs.LineLaws.{one_answer}
@@ -160,7 +160,7 @@ graph_absolute : (g : GraphName) → may_name_graph g ≡ true → is_graph g �
 graph_absolute Default k h = tt
 graph_absolute (Named name) k h = node_absolute name (not-true (is_literal_term name) k) h
 
-pub says_statement : (q : Quad) → is_quad q ≡ true → Says NQuads (line_of q) (Ok (Some (statement_of q)))
+pub says_statement : (q : Quad) → is_quad q ≡ true → LineSays NQuads (line_of q) (Ok (Some (statement_of q)))
 says_statement q h =
     let t = quad_tests q h in (
       line_utf8 q t,
@@ -252,6 +252,6 @@ same_statement s t e = cc
 pub lines_differ : LinesDiffer
 lines_differ q r p k e =
     let line : line_of q ≡ line_of r = append_cancel_right (line_of q) (line_of r) (codes "\n") (sym (quad_line q) ∙ e ∙ quad_line r) in
-    let second = subst (λ (l : List ℕ). Says NQuads l (Ok (Some (statement_of r)))) (sym line) (says_statement r k) in
+    let second = subst (λ (l : List ℕ). LineSays NQuads l (Ok (Some (statement_of r)))) (sym line) (says_statement r k) in
     let same = one_answer NQuads (line_of q) (Ok (Some (statement_of q))) (Ok (Some (statement_of r))) (says_statement q p) second in
     same_quad q r (quad_tests q p) (quad_tests r k) (same_statement (statement_of q) (statement_of r) same)

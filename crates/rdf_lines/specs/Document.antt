@@ -7,16 +7,16 @@ use Rattle.rdf_lines.specs.declared.format.LineFormat.{LineFormat}
 use Rattle.rdf_lines.specs.declared.statement.Statement.{Statement}
 use Rattle.rdf_terms.specs.declared.quad.Quad.{Quad}
 use Rattle.rdf_lines.specs.Lines.{lines}
-use Rattle.rdf_lines.specs.Line.{Says}
+use Rattle.rdf_lines.specs.Line.{LineSays}
 use Rattle.rdf_lines.specs.Labels.{numbered, labels_after}
 
 -- the statements of the lines, of which the first has this number, and the fault of the first faulty line
 abbrev pub ReadsAll : LineFormat → ℕ → List (List ℕ) → List Statement → Option LineFault → Type 0
 ReadsAll format number [] statements fault = (statements ≡ []) × (fault ≡ None)
 ReadsAll format number (line ∷ more) statements fault =
-    (Says format line (Ok None) × ReadsAll format (number + 1) more statements fault)
-    ⊎ (((s : Statement) × (others : List Statement) × Says format line (Ok (Some s)) × (statements ≡ s ∷ others) × ReadsAll format (number + 1) more others fault)
-    ⊎ ((kind : FaultKind) × Says format line (Err kind) × (statements ≡ []) × (fault ≡ Some (record { line = number; kind = kind }))))
+    (LineSays format line (Ok None) × ReadsAll format (number + 1) more statements fault)
+    ⊎ (((s : Statement) × (others : List Statement) × LineSays format line (Ok (Some s)) × (statements ≡ s ∷ others) × ReadsAll format (number + 1) more others fault)
+    ⊎ ((kind : FaultKind) × LineSays format line (Err kind) × (statements ≡ []) × (fault ≡ Some (record { line = number; kind = kind }))))
 
 -- the quads of a text, and its fault
 abbrev pub IsDocument : LineFormat → List ℕ → List Quad → Option LineFault → Type 0

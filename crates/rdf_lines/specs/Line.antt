@@ -35,32 +35,32 @@ IsAbsolute (Some statement) =
 -- ---- answers
 
 -- The line says nothing, one statement, or is faulty: no UTF-8, else with no reading, else with an IRI without a scheme.
-abbrev pub Says : LineFormat → List ℕ → Result (Option Statement) FaultKind → Type 0
-Says format line (Ok reading) = IsUtf8 line × Holds format (chars line) reading × IsAbsolute reading
-Says format line (Err NotUtf8) = ¬ (IsUtf8 line)
-Says format line (Err Syntax) = IsUtf8 line × ((reading : Option Statement) → ¬ (Holds format (chars line) reading))
-Says format line (Err Relative) = IsUtf8 line × ((reading : Option Statement) × Holds format (chars line) reading × ¬ (IsAbsolute reading))
-Says format line (Err Read) = ⊥
-Says format line (Err (NoMemory _)) = ⊥
-Says format line (Err Failed) = ⊥
+abbrev pub LineSays : LineFormat → List ℕ → Result (Option Statement) FaultKind → Type 0
+LineSays format line (Ok reading) = IsUtf8 line × Holds format (chars line) reading × IsAbsolute reading
+LineSays format line (Err NotUtf8) = ¬ (IsUtf8 line)
+LineSays format line (Err Syntax) = IsUtf8 line × ((reading : Option Statement) → ¬ (Holds format (chars line) reading))
+LineSays format line (Err Relative) = IsUtf8 line × ((reading : Option Statement) × Holds format (chars line) reading × ¬ (IsAbsolute reading))
+LineSays format line (Err Read) = ⊥
+LineSays format line (Err (NoMemory _)) = ⊥
+LineSays format line (Err Failed) = ⊥
 
 -- An answer of a reader: want of memory tells nothing of the line.
-abbrev pub Tells : LineFormat → List ℕ → Result (Option Statement) FaultKind → Type 0
-Tells format line (Ok reading) = Says format line (Ok reading)
-Tells format line (Err NotUtf8) = Says format line (Err NotUtf8)
-Tells format line (Err Syntax) = Says format line (Err Syntax)
-Tells format line (Err Relative) = Says format line (Err Relative)
-Tells format line (Err Read) = ⊥
-Tells format line (Err (NoMemory _)) = Unit {0}
-Tells format line (Err Failed) = ⊥
+abbrev pub LineTells : LineFormat → List ℕ → Result (Option Statement) FaultKind → Type 0
+LineTells format line (Ok reading) = LineSays format line (Ok reading)
+LineTells format line (Err NotUtf8) = LineSays format line (Err NotUtf8)
+LineTells format line (Err Syntax) = LineSays format line (Err Syntax)
+LineTells format line (Err Relative) = LineSays format line (Err Relative)
+LineTells format line (Err Read) = ⊥
+LineTells format line (Err (NoMemory _)) = Unit {0}
+LineTells format line (Err Failed) = ⊥
 
 -- no line says two things
 abbrev pub OneAnswer : Type 0
-OneAnswer = (format : LineFormat) (line : List ℕ) (a b : Result (Option Statement) FaultKind) → Says format line a → Says format line b → a ≡ b
+OneAnswer = (format : LineFormat) (line : List ℕ) (a b : Result (Option Statement) FaultKind) → LineSays format line a → LineSays format line b → a ≡ b
 
 -- each line says something
 abbrev pub SomeAnswer : Type 0
-SomeAnswer = (format : LineFormat) (line : List ℕ) → ((a : Result (Option Statement) FaultKind) × Says format line a)
+SomeAnswer = (format : LineFormat) (line : List ℕ) → ((a : Result (Option Statement) FaultKind) × LineSays format line a)
 
 -- ---- what a line says are sound terms: texts of Unicode characters, IRIs and literals
 
@@ -80,4 +80,4 @@ abbrev pub IsSoundStatement : Statement → Type 0
 IsSoundStatement s = IsSoundNode s.subject × IsTrue (is_iri s.predicate) × IsSoundObject s.object × IsSoundGraph s.graph
 
 abbrev pub StatementsAreSound : Type 0
-StatementsAreSound = (format : LineFormat) (line : List ℕ) (s : Statement) → Says format line (Ok (Some s)) → IsSoundStatement s
+StatementsAreSound = (format : LineFormat) (line : List ℕ) (s : Statement) → LineSays format line (Ok (Some s)) → IsSoundStatement s

@@ -11,7 +11,7 @@ use Rattle.rdf_terms.specs.declared.quad.Quad.{Quad}
 use Rattle.rdf_lines.specs.declared.state.ReaderState.{ReaderState}
 use Rattle.rdf_lines.specs.declared.state.ReaderState.TheVariants.{Reading, Ended, Failed}
 use Rattle.rdf_lines.specs.Lines.{lines_behind}
-use Rattle.rdf_lines.specs.Line.{Says}
+use Rattle.rdf_lines.specs.Line.{LineSays}
 use Rattle.rdf_lines.specs.Labels.{quad_in, labels_of, all_noted}
 use Rattle.rdf_lines.specs.Document.{IsDocument, HasSaid, ReadsFront}
 use Rattle.rdf_lines.specs.Pieces.{Hold, ahead}
@@ -29,7 +29,7 @@ pub record LineState : Type 0 where
   pub state : ReaderState
 
 -- what a reader holds between two calls
-pub record Between : Type 0 where
+pub record BetweenCalls : Type 0 where
   pub format : LineFormat
   -- the bytes that were read and aren't taken, and whether they stand behind a CR
   pub held : List ℕ
@@ -49,7 +49,7 @@ going Ended = 0
 going Failed = 0
 
 -- the machine that it is over what the stream has left, where that tells
-abbrev pub over : Option (List ℕ) → Between → LineState
+abbrev pub over : Option (List ℕ) → BetweenCalls → LineState
 over beyond b = record {
   format = b.format;
   ahead = ahead b.held beyond;
@@ -66,7 +66,7 @@ abbrev pub fault : ℕ → FaultKind → LineFault
 fault number kind = record { line = number; kind = kind }
 
 abbrev pub AreSilent : LineFormat → List (List ℕ) → Type 0
-AreSilent format ls = AllByRecursion (λ line. Says format line (Ok None)) ls
+AreSilent format ls = AllByRecursion (λ line. LineSays format line (Ok None)) ls
 
 -- just these lines are taken: each with its end, or, where the text has ended, the last of them without one
 abbrev pub Taken : LineState → List (List ℕ) → LineState → Bool → Type 0
@@ -87,18 +87,18 @@ Passes old ls new ended = AreSilent old.format ls × Taken old ls new ended × (
 
 -- a fault of this line's own
 abbrev pub FaultOf : LineFormat → List ℕ → FaultKind → Type 0
-FaultOf format line NotUtf8 = Says format line (Err NotUtf8)
-FaultOf format line Syntax = Says format line (Err Syntax)
-FaultOf format line Relative = Says format line (Err Relative)
+FaultOf format line NotUtf8 = LineSays format line (Err NotUtf8)
+FaultOf format line Syntax = LineSays format line (Err Syntax)
+FaultOf format line Relative = LineSays format line (Err Relative)
 FaultOf format line Read = ⊥
 FaultOf format line (NoMemory _) = ⊥
 FaultOf format line FailedKind = ⊥
 
 -- what reading one whole line gives, from its number and the labels before
 abbrev pub ReadsLine : LineFormat → List ℕ → ℕ → List (List ℕ) → Answer → ℕ → List (List ℕ) → Type 0
-ReadsLine format line n labels (Ok None) m now = Says format line (Ok None) × (m ≡ n + 1) × (now ≡ labels)
+ReadsLine format line n labels (Ok None) m now = LineSays format line (Ok None) × (m ≡ n + 1) × (now ≡ labels)
 ReadsLine format line n labels (Ok (Some quad)) m now =
-    (s : Statement) × Says format line (Ok (Some s)) × (now ≡ all_noted labels (labels_of s)) × (quad ≡ quad_in now s) × (m ≡ n + 1)
+    (s : Statement) × LineSays format line (Ok (Some s)) × (now ≡ all_noted labels (labels_of s)) × (quad ≡ quad_in now s) × (m ≡ n + 1)
 ReadsLine format line n labels (Err f) m now = (f.line ≡ n) × (m ≡ n) × (FaultOf format line f.kind ⊎ (f.kind ≡ no_memory))
 
 -- One call of next while the reader reads. Silent lines come first, then:
@@ -107,7 +107,7 @@ abbrev pub ReadsOn : LineState → Answer → LineState → Type 0
 ReadsOn old (Ok None) new = (ls : List (List ℕ)) × Passes old ls new true
 -- a statement,
 ReadsOn old (Ok (Some quad)) new = (ls : List (List ℕ)) × (line : List ℕ) × (s : Statement) × (ended : Bool) × AreSilent old.format ls × Taken old (ls ++ line ∷ []) new ended ×
-    Says old.format line (Ok (Some s)) × (new.labels ≡ all_noted old.labels (labels_of s)) × (quad ≡ quad_in new.labels s)
+    LineSays old.format line (Ok (Some s)) × (new.labels ≡ all_noted old.labels (labels_of s)) × (quad ≡ quad_in new.labels s)
     × (new.number ≡ old.number + length ls + 1) × (new.state ≡ state_after ended) × (new.format ≡ old.format)
 -- or a fault: of the line, of the reader or of memory before the line was wholly read, or of memory for its statement
 ReadsOn old (Err f) new = (ls : List (List ℕ)) × AreSilent old.format ls × (f.line ≡ old.number + length ls) × (new.state ≡ Failed) × (new.number ≡ f.line) ×
@@ -149,7 +149,7 @@ abbrev pub fresh : LineFormat → Option (List ℕ) → LineState
 fresh format text = record { format = format; ahead = text; behind_return = false; number = 1; labels = []; state = Reading }
 
 -- a reader before its first call, over any stream
-abbrev pub IsFresh : LineFormat → Between → Type 0
+abbrev pub IsFresh : LineFormat → BetweenCalls → Type 0
 IsFresh format b = (text : Option (List ℕ)) → over text b ≡ fresh format text
 
 -- The law: whatever pieces the text comes in, the answers of one call after another are its document.
@@ -191,11 +191,11 @@ HoldsNothing (Ok quad) held = Unit {0}
 HoldsNothing (Err f) held = f.kind ≡ Read → held ≡ []
 
 -- where a line was taken, or the end, less is left
-abbrev pub FallsAtOk : Between → Answer → Between → Type 0
+abbrev pub FallsAtOk : BetweenCalls → Answer → BetweenCalls → Type 0
 FallsAtOk old (Ok quad) new = new.left < old.left
 FallsAtOk old (Err f) new = Unit {0}
 
 -- where a quad was answered, less is left
-abbrev pub FallsAtQuad : Between → Answer → Between → Type 0
+abbrev pub FallsAtQuad : BetweenCalls → Answer → BetweenCalls → Type 0
 FallsAtQuad old (Ok (Some quad)) new = new.left < old.left
 FallsAtQuad old answer new = Unit {0}

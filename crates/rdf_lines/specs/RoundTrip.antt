@@ -17,7 +17,7 @@ use Rattle.rdf_lines.specs.declared.statement.Node.TheVariants as node
 use Rattle.rdf_lines.specs.declared.statement.Object.{Object}
 use Rattle.rdf_lines.specs.declared.statement.Object.TheVariants as object
 use Rattle.rdf_lines.specs.declared.statement.Statement.{Statement}
-use Rattle.rdf_lines.specs.Line.{Says}
+use Rattle.rdf_lines.specs.Line.{LineSays}
 use Rattle.rdf_lines.specs.Document.{IsDocument}
 use Rattle.rdf_lines.specs.QuadText.{quad_text, IsSortedText}
 
@@ -56,7 +56,7 @@ statement_of q = record { subject = node_of q.subject; predicate = predicate_of 
 
 -- The text of a quad is a line and LF, and the line says the quad's statement.
 abbrev pub EachLineIsReadBack : Type 0
-EachLineIsReadBack = (q : Quad) → IsTrue (is_quad q) → (line : List ℕ) × (quad_text q ≡ line ++ codes "\n") × Says NQuads line (Ok (Some (statement_of q)))
+EachLineIsReadBack = (q : Quad) → IsTrue (is_quad q) → (line : List ℕ) × (quad_text q ≡ line ++ codes "\n") × LineSays NQuads line (Ok (Some (statement_of q)))
 
 -- Two different quads never have the same line.
 abbrev pub LinesDiffer : Type 0

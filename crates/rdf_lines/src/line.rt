@@ -1,7 +1,7 @@
 //! A whole line.
 ghost use Rattle.std.specs.Prelude.{◌≡◌, IfOk};
 ghost use Rattle.rdf_lines.specs.Reading as reading;
-ghost use Rattle.rdf_lines.specs.Line.{Tells, OneAnswer, SomeAnswer, StatementsAreSound};
+ghost use Rattle.rdf_lines.specs.Line.{LineTells, OneAnswer, SomeAnswer, StatementsAreSound};
 
 use crate::fault::FaultKind;
 use crate::format::LineFormat;
@@ -144,7 +144,7 @@ pub fn read_line(
     format: LineFormat,
     line: &[u8],
 ) -> Result<Option<Statement>, FaultKind>
-    ensures { Tells format line.now result }
+    ensures { LineTells format line.now result }
 {
     let Ok(text) = str::from_utf8(line) else {
         return Err(FaultKind::NotUtf8);

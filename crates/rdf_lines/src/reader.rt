@@ -15,7 +15,7 @@ use std::alloc::Global;
 use std::io::Read;
 use std::marker::Model;
 
-/// A reader of the statements of a stream, which is lent to each call. Between two calls it holds the unread rest of a
+/// A reader of the statements of a stream, which is lent to each call. BetweenCalls two calls it holds the unread rest of a
 /// piece of the stream, and the line that it is in.
 #[derive(Drop)]
 pub struct LineReader {
@@ -30,10 +30,10 @@ pub struct LineReader {
 
 impl Model for LineReader {
     ghost use Rattle.std.specs.Prelude.{◌≤◌, ◌+◌, ◌^◌};
-    ghost use Rattle.rdf_lines.specs.Reader.{Between, going};
+    ghost use Rattle.rdf_lines.specs.Reader.{BetweenCalls, going};
     ghost use Rattle.rdf_lines.specs.Pieces.{room};
 
-    ghost Value = { Between };
+    ghost Value = { BetweenCalls };
 
     ghost view = { λ r. record {
       format = r.format;

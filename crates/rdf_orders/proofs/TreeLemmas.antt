@@ -283,7 +283,7 @@ module _ (old : Trees) (q : IdQuad) where
       come Pos k e = ap (λ s. is_eq (key_cmp (key_in Pos q) k) || contains key_cmp s k) (sym pos) ∙ e
       come Osp k e = ap (λ s. is_eq (key_cmp (key_in Osp q) k) || contains key_cmp s k) (sym osp) ∙ e
 
--- ---- listings
+-- ---- lists
 
 four_in : (ks : List (List ℕ)) → ((k : List ℕ) → list_any (is_at (key_cmp k)) ks ≡ true → length k ≡ 4) → map (key_in Spo) (map quad_of ks) ≡ ks
 four_in [] four = refl

@@ -22,7 +22,7 @@ pub record Contents : Type 0 where
 abbrev pub contents_code : Coded Contents
 contents_code = code_by (IdQuads × Ids) (coded× id_quads_code (set.code coded_ℕ)) (λ c. (c.quads, c.names)) (λ p. record { quads = p.0; names = p.1 }) (λ _. refl)
 
--- ---- listings
+-- ---- lists
 
 -- the keys are those of the quads in `Spo`, each once, and rise
 pub record ListsKeys (quads : IdQuads) (keys : List (List ℕ)) : Type 0 where

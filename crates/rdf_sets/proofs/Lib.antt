@@ -1,6 +1,6 @@
 pub mod DeltaLemmas
 mod KeepLemmas
-pub mod ListingLemmas
+pub mod ListsOnceLemmas
 pub mod SortedLemmas
 mod TreeLemmas
 pub mod OnceLemmas

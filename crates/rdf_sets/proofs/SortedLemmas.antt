@@ -375,7 +375,7 @@ module _ {K : Type 0} {R : K → K → Ordering} (o : IsTotalOrder R) (apart : I
   pub union_nothing : (s t : set.FinSet R) → t ≡ set.empty → s ≡ set.union s t
   union_nothing s t e = same _ _ (λ q. sym (or-false (contains s q)) ∙ ap (λ b. contains s q || b) (sym (ap (λ t. contains t q) e ∙ contains-empty R q)) ∙ sym (contains-union o s t q))
 
-  -- ---- listings
+  -- ---- lists
 
   pub as_many : (xs : List K) → IsStrictlySortedBy R xs → length xs ≡ set.len (from_list {R = R} xs)
   as_many [] s = sym (len-empty R)

@@ -68,14 +68,14 @@ impl<T: Item> Sorted<T> {
     }
 
     /// The items, each once, in order.
-    pub fn listing(&self) -> &[T]
+    pub fn as_slice(&self) -> &[T]
         ensures { ListsSorted (set.from_list {R = T.order} self.now) result.now }
     {
         self.as_slice()
     }
 
     /// The same items as a list.
-    pub fn into_listing(self) -> Vec<T>
+    pub fn into_vec(self) -> Vec<T>
         ensures { ListsSorted (set.from_list {R = T.order} self) result.items }
     {
         let Sorted { items } = self;

@@ -1,8 +1,8 @@
 mod ImageLemmas
 mod ListLemmas
-mod ListingLemmas
+mod ShownLemmas
 mod NumberLemmas
 mod PatternLemmas
 mod ResultLemmas
-mod StepLemmas
+mod GrowthLemmas
 mod StoreLemmas

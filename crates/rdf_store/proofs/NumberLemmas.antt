@@ -15,7 +15,7 @@ use Rattle.rdf_terms.specs.OrderLaws.{term_cmp_total, term_cmp-IsAntisymmetric}
 use Rattle.rdf_terms.specs.Table.{IsIdOf, AreHeldOnce, is_held, with_term}
 use Rattle.rdf_orders.specs.Quads.{IdQuad}
 use Rattle.rdf_orders.proofs.TestLemmas.{first_of_both, either_first, either_second}
-use Rattle.rdf_store.specs.Inside.Numbers.{default_number, IsGraphNumber, IsNumbered, IsGrown, IsKept, term_at, graph_at, parts_at}
+use Rattle.rdf_store.specs.Inside.Numbers.{default_number, IsGraphNumber, AreNumbersOf, IsGrown, HasTerms, term_at, graph_at, parts_at}
 use Rattle.rdf_store.proofs.ImageLemmas.{eq_of_same}
 
 -- ---- held terms
@@ -72,7 +72,7 @@ graph_once table once i j (Named t) e f = once i j t e.1 f.1
 
 -- ---- quads
 
-pub numbered_grown : (old new : List Term) → IsGrown old new → (k : IdQuad) (q : QuadParts) → IsNumbered old k q → IsNumbered new k q
+pub numbered_grown : (old new : List Term) → IsGrown old new → (k : IdQuad) (q : QuadParts) → AreNumbersOf old k q → AreNumbersOf new k q
 numbered_grown old new grown k q n = record {
   sound = n.sound;
   graph = graph_grown old new grown k.graph q.graph n.graph;
@@ -81,7 +81,7 @@ numbered_grown old new grown k q n = record {
   object = grown.keeps k.object q.object n.object;
 }
 
-pub numbered_is : (table : List Term) (k : IdQuad) (q : QuadParts) → IsNumbered table k q → parts_at table k ≡ q
+pub numbered_is : (table : List Term) (k : IdQuad) (q : QuadParts) → AreNumbersOf table k q → parts_at table k ≡ q
 numbered_is table k q n = λ i. record {
   graph = graph_is table k.graph q.graph n.graph i;
   subject = term_is table k.subject q.subject n.subject i;
@@ -89,10 +89,10 @@ numbered_is table k q n = λ i. record {
   object = term_is table k.object q.object n.object i;
 }
 
-pub numbered_kept : (table : List Term) (k : IdQuad) (q : QuadParts) → IsNumbered table k q → IsKept table k
-numbered_kept table k q n = subst (IsNumbered table k) (sym (numbered_is table k q n)) n
+pub numbered_kept : (table : List Term) (k : IdQuad) (q : QuadParts) → AreNumbersOf table k q → HasTerms table k
+numbered_kept table k q n = subst (AreNumbersOf table k) (sym (numbered_is table k q n)) n
 
-pub numbered_once : (table : List Term) → AreHeldOnce table → (k l : IdQuad) (q : QuadParts) → IsNumbered table k q → IsNumbered table l q → k ≡ l
+pub numbered_once : (table : List Term) → AreHeldOnce table → (k l : IdQuad) (q : QuadParts) → AreNumbersOf table k q → AreNumbersOf table l q → k ≡ l
 numbered_once table once k l q n m = λ i. record {
   graph = graph_once table once k.graph l.graph q.graph n.graph m.graph i;
   subject = once k.subject l.subject q.subject n.subject m.subject i;
@@ -106,7 +106,7 @@ id_kept table id t e = subst (IsIdOf table id) (sym (term_is table id t e)) e
 -- the table grows from one number to the next
 pub numbered_in_steps : (a b c d : List Term) (q : QuadParts) (g : GraphName) (s p o : Term) (gn sn pn on : ℕ) → IsTrue (is_quad q) → g ≡ q.graph → s ≡ q.subject → p ≡ q.predicate → o ≡ q.object
     → IsGrown a b → IsGrown b c → IsGrown c d → IsGraphNumber a gn g → IsIdOf b sn s → IsIdOf c pn p → IsIdOf d on o
-    → IsNumbered d (record { graph = gn; subject = sn; predicate = pn; object = on }) q
+    → AreNumbersOf d (record { graph = gn; subject = sn; predicate = pn; object = on }) q
 numbered_in_steps a b c d q g s p o gn sn pn on sound ge se pe oe ab bc cd gi si pi oi = record {
   sound = sound;
   graph = subst (IsGraphNumber d gn) ge (graph_grown a d (grown_then a c d (grown_then a b c ab bc) cd) gn g gi);
@@ -116,7 +116,7 @@ numbered_in_steps a b c d q g s p o gn sn pn on sound ge se pe oe ab bc cd gi si
 }
 
 -- what is made of the four places of a kept quad
-pub made : (table : List Term) (k : IdQuad) (g : GraphName) (s p o s' p' o' : Term) (r : Option QuadParts) → IsKept table k → g ≡ graph_at table k.graph
+pub made : (table : List Term) (k : IdQuad) (g : GraphName) (s p o s' p' o' : Term) (r : Option QuadParts) → HasTerms table k → g ≡ graph_at table k.graph
     → IsIdOf table k.subject s' → s ≡ s' → IsIdOf table k.predicate p' → p ≡ p' → IsIdOf table k.object o' → o ≡ o'
     → r ≡ cond (has_right_kinds (record { graph = g; subject = s; predicate = p; object = o })) (Some (record { graph = g; subject = s; predicate = p; object = o })) None
     → r ≡ Some (parts_at table k)

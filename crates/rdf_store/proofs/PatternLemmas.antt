@@ -14,7 +14,7 @@ use Rattle.rdf_orders.specs.Quads as ids
 use Rattle.rdf_orders.specs.Quads.{IdQuad}
 use Rattle.rdf_orders.proofs.TestLemmas.{first_of_both, second_of_both}
 use Rattle.rdf_store.specs.Stored.{matches, fits_place}
-use Rattle.rdf_store.specs.Inside.Numbers.{IsGraphNumber, IsNumbered, WantsSame, WantsNone, WantsSameGraph, WantsNoGraph, graph_at, term_at}
+use Rattle.rdf_store.specs.Inside.Numbers.{IsGraphNumber, AreNumbersOf, WantsSame, WantsNone, WantsSameGraph, WantsNoGraph, graph_at, term_at}
 use Rattle.rdf_store.proofs.ImageLemmas.{same_of_eq, eq_of_same}
 use Rattle.rdf_store.proofs.NumberLemmas.{graph_once, term_is, graph_is}
 
@@ -40,12 +40,12 @@ module _ (table : List Term) where
 
   module _ (g : GraphName) (s p o : Option Term) where
     pub same_matches : (gn : ℕ) (sn pn on : Option ℕ) → WantsSameGraph table gn g → WantsSame table sn s → WantsSame table pn p → WantsSame table on o
-        → (k : IdQuad) (q : QuadParts) → IsNumbered table k q → ids.matches gn sn pn on k ≡ matches g s p o q
+        → (k : IdQuad) (q : QuadParts) → AreNumbersOf table k q → ids.matches gn sn pn on k ≡ matches g s p o q
     same_matches gn sn pn on wg ws wp wo k q n =
         λ i. wg k.graph q.graph n.graph i && (ws k.subject q.subject n.subject i && (wp k.predicate q.predicate n.predicate i && wo k.object q.object n.object i))
 
     abbrev NoMatch : Type 0
-    NoMatch = (k : IdQuad) (q : QuadParts) → IsNumbered table k q → ¬ IsTrue (matches g s p o q)
+    NoMatch = (k : IdQuad) (q : QuadParts) → AreNumbersOf table k q → ¬ IsTrue (matches g s p o q)
 
     pub no_graph : WantsNoGraph table g → NoMatch
     no_graph w k q n h = w k.graph q.graph n.graph (first_of_both _ _ h)

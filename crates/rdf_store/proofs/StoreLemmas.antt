@@ -20,14 +20,14 @@ use Rattle.rdf_orders.proofs.KeyLemmas.{id_quad_cmp_total, id_quad_cmp-IsAntisym
 use Rattle.rdf_orders.proofs.TestLemmas.{is_either, first_of_both, second_of_both}
 use Rattle.rdf_orders.proofs.SetLemmas.{difference_none, difference_push}
 use Rattle.rdf_store.specs.Stored.{Stored, empty_stored, with_quad, without_quad, with_name, without_name, with_all, without_all}
-use Rattle.rdf_store.specs.Inside.Numbers.{IsNumbered, IsGrown, IsKept, AreKept, AreKeys, AreIds, image, shown, parts_at, parts_of, term_at}
+use Rattle.rdf_store.specs.Inside.Numbers.{AreNumbersOf, IsGrown, HasTerms, HaveTerms, AreKeys, AreIds, image, shown, parts_at, parts_of, term_at}
 use Rattle.rdf_store.proofs.ImageLemmas.{IsAlone, from_image, in_image, same_of_eq, image-empty, image-insert, image-from_list, image-union, image-retain, image-same, image-lacks, image-contains, image-remove, image_listed}
 use Rattle.rdf_store.proofs.ListLemmas.{matched_map, matched_members}
 use Rattle.rdf_store.proofs.NumberLemmas.{numbered_grown, numbered_is, numbered_kept, numbered_once, term_is, id_kept}
 
 -- ---- nothing, and a table that grows
 
-pub kept_nothing : (table : List Term) → AreKept table empty_contents
+pub kept_nothing : (table : List Term) → HaveTerms table empty_contents
 kept_nothing table = record {
   quads = λ k h. absurd (true≢false (sym h ∙ contains-empty id_quad_cmp k));
   names = λ id h. absurd (true≢false (sym h ∙ contains-empty nat_cmp id));
@@ -39,13 +39,13 @@ shown_nothing table = λ i. record {
   names = image-empty nat_cmp_total nat_cmp-IsAntisymmetric term_cmp_total term_cmp-IsAntisymmetric (term_at table) i;
 }
 
-pub kept_grown : (old new : List Term) (c : Contents) → IsGrown old new → AreKept old c → AreKept new c
+pub kept_grown : (old new : List Term) (c : Contents) → IsGrown old new → HaveTerms old c → HaveTerms new c
 kept_grown old new c grown kept = record {
   quads = λ k h. numbered_kept new k (parts_at old k) (numbered_grown old new grown k (parts_at old k) (kept.quads k h));
   names = λ id h. id_kept new id (term_at old id) (grown.keeps id (term_at old id) (kept.names id h));
 }
 
-pub shown_grown : (old new : List Term) (c : Contents) → IsGrown old new → AreKept old c → shown new c ≡ shown old c
+pub shown_grown : (old new : List Term) (c : Contents) → IsGrown old new → HaveTerms old c → shown new c ≡ shown old c
 shown_grown old new c grown kept = λ i. record {
   quads = image-same id_quad_cmp_total id_quad_cmp-IsAntisymmetric quad_cmp_total quad_cmp-IsAntisymmetric (parts_at new) (parts_at old) c.quads
       (λ k h. numbered_is new k (parts_at old k) (numbered_grown old new grown k (parts_at old k) (kept.quads k h))) i;
@@ -53,34 +53,34 @@ shown_grown old new c grown kept = λ i. record {
       (λ id h. term_is new id (term_at old id) (grown.keeps id (term_at old id) (kept.names id h))) i;
 }
 
-module _ (table : List Term) (c : Contents) (kept : AreKept table c) where
+module _ (table : List Term) (c : Contents) (kept : HaveTerms table c) where
   -- ---- one quad, one name
 
-  pub quad_lacks : (q : QuadParts) → ((k : IdQuad) → ¬ IsNumbered table k q) → set.contains (shown table c).quads q ≡ false
+  pub quad_lacks : (q : QuadParts) → ((k : IdQuad) → ¬ AreNumbersOf table k q) → set.contains (shown table c).quads q ≡ false
   quad_lacks q none = image-lacks id_quad_cmp_total id_quad_cmp-IsAntisymmetric quad_cmp_total quad_cmp-IsAntisymmetric (parts_at table) c.quads q
-      (λ k h e. none k (subst (IsNumbered table k) e (kept.quads k h)))
+      (λ k h e. none k (subst (AreNumbersOf table k) e (kept.quads k h)))
 
   pub name_lacks : (t : Term) → ((id : ℕ) → ¬ IsIdOf table id t) → set.contains (shown table c).names t ≡ false
   name_lacks t none = image-lacks nat_cmp_total nat_cmp-IsAntisymmetric term_cmp_total term_cmp-IsAntisymmetric (term_at table) c.names t
       (λ id h e. none id (subst (IsIdOf table id) e (kept.names id h)))
 
-  pub kept_with_quad : (k : IdQuad) (q : QuadParts) → IsNumbered table k q → AreKept table (contents.with_quad c k)
+  pub kept_with_quad : (k : IdQuad) (q : QuadParts) → AreNumbersOf table k q → HaveTerms table (contents.with_quad c k)
   kept_with_quad k q n = record {
     quads = λ x h. elim (is_either (eq_by_cmp id_quad_cmp x k) (set.contains c.quads x) (sym (contains-insert id_quad_cmp_total c.quads k x) ∙ h)) [
-      | inl same ↦ subst (IsKept table) (sym (same_of_eq id_quad_cmp_total id_quad_cmp-IsAntisymmetric x k same)) (numbered_kept table k q n)
+      | inl same ↦ subst (HasTerms table) (sym (same_of_eq id_quad_cmp_total id_quad_cmp-IsAntisymmetric x k same)) (numbered_kept table k q n)
       | inr more ↦ kept.quads x more
     ];
     names = kept.names;
   }
 
-  pub shown_with_quad : (k : IdQuad) (q : QuadParts) → IsNumbered table k q → shown table (contents.with_quad c k) ≡ with_quad (shown table c) q
+  pub shown_with_quad : (k : IdQuad) (q : QuadParts) → AreNumbersOf table k q → shown table (contents.with_quad c k) ≡ with_quad (shown table c) q
   shown_with_quad k q n = λ i. record {
     quads = (image-insert id_quad_cmp_total id_quad_cmp-IsAntisymmetric quad_cmp_total quad_cmp-IsAntisymmetric (parts_at table) c.quads k
         ∙ ap (set.insert (shown table c).quads) (numbered_is table k q n)) i;
     names = (shown table c).names;
   }
 
-  pub kept_with_name : (id : ℕ) (t : Term) → IsIdOf table id t → AreKept table (contents.with_name c id)
+  pub kept_with_name : (id : ℕ) (t : Term) → IsIdOf table id t → HaveTerms table (contents.with_name c id)
   kept_with_name id t e = record {
     quads = kept.quads;
     names = λ x h. elim (is_either (eq_by_cmp nat_cmp x id) (set.contains c.names x) (sym (contains-insert nat_cmp_total c.names id x) ∙ h)) [
@@ -96,13 +96,13 @@ module _ (table : List Term) (c : Contents) (kept : AreKept table c) where
         ∙ ap (set.insert (shown table c).names) (term_is table id t e)) i;
   }
 
-  pub kept_without_quad : (k : IdQuad) → AreKept table (contents.without_quad c k)
+  pub kept_without_quad : (k : IdQuad) → HaveTerms table (contents.without_quad c k)
   kept_without_quad k = record {
     quads = λ x h. kept.quads x (second_of_both (not (eq_by_cmp id_quad_cmp x k)) _ (sym (contains-remove id_quad_cmp_total c.quads k x) ∙ h));
     names = kept.names;
   }
 
-  pub kept_without_name : (id : ℕ) → AreKept table (contents.without_name c id)
+  pub kept_without_name : (id : ℕ) → HaveTerms table (contents.without_name c id)
   kept_without_name id = record {
     quads = kept.quads;
     names = λ x h. kept.names x (second_of_both (not (eq_by_cmp nat_cmp x id)) _ (sym (contains-remove nat_cmp_total c.names id x) ∙ h));
@@ -111,13 +111,13 @@ module _ (table : List Term) (c : Contents) (kept : AreKept table c) where
   -- ---- terms are held once
 
   module _ (once : AreHeldOnce table) where
-    quads_apart : (k : IdQuad) → IsKept table k → IsAlone id_quad_cmp_total id_quad_cmp-IsAntisymmetric quad_cmp_total quad_cmp-IsAntisymmetric (parts_at table) c.quads k
-    quads_apart k n x h e = numbered_once table once x k (parts_at table k) (subst (IsNumbered table x) e (kept.quads x h)) n
+    quads_apart : (k : IdQuad) → HasTerms table k → IsAlone id_quad_cmp_total id_quad_cmp-IsAntisymmetric quad_cmp_total quad_cmp-IsAntisymmetric (parts_at table) c.quads k
+    quads_apart k n x h e = numbered_once table once x k (parts_at table k) (subst (AreNumbersOf table x) e (kept.quads x h)) n
 
     names_apart : (id : ℕ) → IsIdOf table id (term_at table id) → IsAlone nat_cmp_total nat_cmp-IsAntisymmetric term_cmp_total term_cmp-IsAntisymmetric (term_at table) c.names id
     names_apart id n x h e = once x id (term_at table id) (subst (IsIdOf table x) e (kept.names x h)) n
 
-    pub contains_shown : (k : IdQuad) (q : QuadParts) → IsNumbered table k q → set.contains c.quads k ≡ set.contains (shown table c).quads q
+    pub contains_shown : (k : IdQuad) (q : QuadParts) → AreNumbersOf table k q → set.contains c.quads k ≡ set.contains (shown table c).quads q
     contains_shown k q n =
         sym (image-contains id_quad_cmp_total id_quad_cmp-IsAntisymmetric quad_cmp_total quad_cmp-IsAntisymmetric (parts_at table) c.quads k (quads_apart k (numbered_kept table k q n)))
         ∙ ap (set.contains (shown table c).quads) (numbered_is table k q n)
@@ -127,7 +127,7 @@ module _ (table : List Term) (c : Contents) (kept : AreKept table c) where
         sym (image-contains nat_cmp_total nat_cmp-IsAntisymmetric term_cmp_total term_cmp-IsAntisymmetric (term_at table) c.names id (names_apart id (id_kept table id t e)))
         ∙ ap (set.contains (shown table c).names) (term_is table id t e)
 
-    pub shown_without_quad : (k : IdQuad) (q : QuadParts) → IsNumbered table k q → shown table (contents.without_quad c k) ≡ without_quad (shown table c) q
+    pub shown_without_quad : (k : IdQuad) (q : QuadParts) → AreNumbersOf table k q → shown table (contents.without_quad c k) ≡ without_quad (shown table c) q
     shown_without_quad k q n = λ i. record {
       quads = (image-remove id_quad_cmp_total id_quad_cmp-IsAntisymmetric quad_cmp_total quad_cmp-IsAntisymmetric (parts_at table) c.quads k (quads_apart k (numbered_kept table k q n))
           ∙ ap (set.remove (shown table c).quads) (numbered_is table k q n)) i;
@@ -141,7 +141,7 @@ module _ (table : List Term) (c : Contents) (kept : AreKept table c) where
           ∙ ap (set.remove (shown table c).names) (term_is table id t e)) i;
     }
 
-    -- ---- listings
+    -- ---- lists
 
     pub quads_listed : (found : List IdQuad) → ListsOnce c.quads found → ListsOnce (shown table c).quads (map (parts_at table) found)
     quads_listed found l = image_listed id_quad_cmp_total id_quad_cmp-IsAntisymmetric quad_cmp_total quad_cmp-IsAntisymmetric (parts_at table) c.quads found (λ k h. quads_apart k (kept.quads k h)) l
@@ -150,7 +150,7 @@ module _ (table : List Term) (c : Contents) (kept : AreKept table c) where
     names_listed found l = image_listed nat_cmp_total nat_cmp-IsAntisymmetric term_cmp_total term_cmp-IsAntisymmetric (term_at table) c.names found (λ id h. names_apart id (kept.names id h)) l
 
     -- the quads that pass a test, listed by the numbers that pass one
-    pub kept_listed : (test : IdQuad → Bool) (wanted : QuadParts → Bool) → ((k : IdQuad) (q : QuadParts) → IsNumbered table k q → test k ≡ wanted q)
+    pub kept_listed : (test : IdQuad → Bool) (wanted : QuadParts → Bool) → ((k : IdQuad) (q : QuadParts) → AreNumbersOf table k q → test k ≡ wanted q)
         → (found : List IdQuad) → ListsOnce (set.retain c.quads test) found → ListsOnce (set.retain (shown table c).quads wanted) (map (parts_at table) found)
     kept_listed test wanted same found l =
         subst (λ s. ListsOnce s (map (parts_at table) found))
@@ -162,7 +162,7 @@ module _ (table : List Term) (c : Contents) (kept : AreKept table c) where
         held k h = first_of_both _ _ (sym (contains_kept c.quads test k) ∙ h)
 
   -- nothing matches
-  pub none_kept : (wanted : QuadParts → Bool) → ((k : IdQuad) (q : QuadParts) → IsNumbered table k q → ¬ IsTrue (wanted q)) → set.retain (shown table c).quads wanted ≡ set.empty
+  pub none_kept : (wanted : QuadParts → Bool) → ((k : IdQuad) (q : QuadParts) → AreNumbersOf table k q → ¬ IsTrue (wanted q)) → set.retain (shown table c).quads wanted ≡ set.empty
   none_kept wanted none = same_set quad_cmp_total quad_cmp-IsAntisymmetric _ _ (λ q. lacks q ∙ sym (contains-empty quad_cmp q))
     where
       not_true : (b : Bool) → (b ≡ true → ⊥) → b ≡ false
@@ -174,7 +174,7 @@ module _ (table : List Term) (c : Contents) (kept : AreKept table c) where
           contains-retain (shown table c).quads wanted q (λ x e. ap wanted (sym (quad_cmp-IsAntisymmetric q x e)))
           ∙ not_true _ (λ h.
           let i = from_image id_quad_cmp_total id_quad_cmp-IsAntisymmetric quad_cmp_total quad_cmp-IsAntisymmetric (parts_at table) c.quads q (first_of_both _ _ h) in
-          none i.at q (subst (IsNumbered table i.at) i.is (kept.quads i.at i.in_set)) (second_of_both (set.contains (shown table c).quads q) _ h))
+          none i.at q (subst (AreNumbersOf table i.at) i.is (kept.quads i.at i.in_set)) (second_of_both (set.contains (shown table c).quads q) _ h))
 
   -- ---- many at once
 
@@ -193,8 +193,8 @@ module _ (table : List Term) (c : Contents) (kept : AreKept table c) where
         image-from_list nat_cmp_total nat_cmp-IsAntisymmetric term_cmp_total term_cmp-IsAntisymmetric (term_at table) numbers
         ∙ ap set.from_list (matched_map _ (term_at table) (λ id t e. term_is table id t e) numbers names are_ids)
 
-    key_kept : (k : IdQuad) → set.contains (quads_of keys) k ≡ true → IsKept table k
-    key_kept = matched_members id_quad_cmp_total id_quad_cmp-IsAntisymmetric _ quad_of (IsKept table) (λ key q n. numbered_kept table (quad_of key) q n) keys quads are_keys
+    key_kept : (k : IdQuad) → set.contains (quads_of keys) k ≡ true → HasTerms table k
+    key_kept = matched_members id_quad_cmp_total id_quad_cmp-IsAntisymmetric _ quad_of (HasTerms table) (λ key q n. numbered_kept table (quad_of key) q n) keys quads are_keys
 
     id_is_kept : (id : ℕ) → set.contains (ids_of numbers) id ≡ true → IsIdOf table id (term_at table id)
     id_is_kept id h = matched_members nat_cmp_total nat_cmp-IsAntisymmetric _ (λ n. n) (λ n. IsIdOf table n (term_at table n)) (λ n t e. id_kept table n t e) numbers names are_ids id
@@ -204,7 +204,7 @@ module _ (table : List Term) (c : Contents) (kept : AreKept table c) where
         map_same [] = refl
         map_same (x ∷ xs) = ap (λ l. x ∷ l) (map_same xs)
 
-    pub kept_with_all : AreKept table (contents.with_all c keys numbers)
+    pub kept_with_all : HaveTerms table (contents.with_all c keys numbers)
     kept_with_all = record {
       quads = λ k h. elim (is_either (set.contains c.quads k) (set.contains (quads_of keys) k) (sym (contains-union id_quad_cmp_total c.quads (quads_of keys) k) ∙ h)) [
         | inl was ↦ kept.quads k was

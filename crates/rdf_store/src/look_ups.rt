@@ -1,11 +1,11 @@
-//! Listings of what a store holds.
+//! Lists of what a store holds.
 ghost use Rattle.std.specs.Prelude.{◌≡◌, ◌+◌, ◌++◌, ◌∷◌, [], All, length, map, option_copied, IfOk, OnOk, OnErr};
 ghost use Rattle.std.specs.FinSet as set;
 ghost use Rattle.rdf_terms.specs.Table.{IsIdOf};
 ghost use Rattle.rdf_orders.specs.Quads.{quad_of};
 ghost use Rattle.rdf_terms.specs.Lists.{AppendsOnce};
 ghost use Rattle.rdf_store.specs.Stored.{matches};
-ghost use Rattle.rdf_store.specs.Inside.Numbers.{IsKept, parts_of, term_at};
+ghost use Rattle.rdf_store.specs.Inside.Numbers.{HasTerms, parts_of, term_at};
 
 use crate::numbers::quad_from;
 use crate::pattern::{Pattern, pattern_of};
@@ -18,7 +18,7 @@ use std::collections::BTreeSet;
 
 // Appends the quad that has a key in `Spo`.
 fn append_quad(table: &TermTable, key: &Key, out: &mut Vec<Quad>) -> Result<(), NoMemory>
-    requires { IsKept table.now (quad_of key.now) }
+    requires { HasTerms table.now (quad_of key.now) }
     ensures ok { OnOk result (out.new.items
         ≡ out.old.items ++ parts_of table.now key.now ∷ []) }
     ensures err { OnErr result (out.new.items ≡ out.old.items) }
@@ -43,7 +43,7 @@ fn append_term(table: &TermTable, number: u64, out: &mut Vec<Term>) -> Result<()
 // Appends the quads that have these keys in `Spo`, or changes nothing. An empty list gets just the
 // room that they take.
 fn append_all(table: &TermTable, keys: &[Key], out: &mut Vec<Quad>) -> Result<(), NoMemory>
-    requires { All (λ key. IsKept table.now (quad_of key)) keys.now }
+    requires { All (λ key. HasTerms table.now (quad_of key)) keys.now }
     ensures ok { OnOk result (out.new.items
         ≡ out.old.items ++ map (parts_of table.now) keys.now) }
     ensures err { OnErr result (out.new.items ≡ out.old.items) }
@@ -60,7 +60,7 @@ fn append_all(table: &TermTable, keys: &[Key], out: &mut Vec<Quad>) -> Result<()
 
 // Appends the quads that have the keys in `Spo` of a tree, or changes nothing.
 fn append_tree(table: &TermTable, keys: &BTreeSet<Key>, out: &mut Vec<Quad>) -> Result<(), NoMemory>
-    requires { All (λ key. IsKept table.now (quad_of key)) keys.now.keys }
+    requires { All (λ key. HasTerms table.now (quad_of key)) keys.now.keys }
     ensures ok { OnOk result (out.new.items
         ≡ out.old.items ++ map (parts_of table.now) keys.now.keys) }
     ensures err { OnErr result (out.new.items ≡ out.old.items) }

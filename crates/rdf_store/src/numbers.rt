@@ -2,7 +2,7 @@
 ghost use Rattle.std.specs.Prelude.{◌≡◌, ℕ, [], IsOk, IfOk, IfNone, IfSome};
 ghost use Rattle.rdf_terms.specs.Table.{IsIdOf};
 ghost use Rattle.rdf_orders.specs.Quads.{IdQuad, quad_of};
-ghost use Rattle.rdf_store.specs.Inside.Numbers.{IsGraphNumber, IsNumbered, IsFront, IsGrown, AreKeys, AreIds, IsKept, parts_of, graph_at};
+ghost use Rattle.rdf_store.specs.Inside.Numbers.{IsGraphNumber, AreNumbersOf, IsFront, IsGrown, AreKeys, AreIds, HasTerms, parts_of, graph_at};
 
 use rdf_orders::Key;
 use rdf_terms::{GraphName, NoMemory, Quad, Term, TermId, TermTable, terms_are_held_once};
@@ -36,8 +36,8 @@ pub(crate) fn find_graph(table: &TermTable, graph: &GraphName) -> Option<u64>
 
 /// The key in `Spo` of a quad, where the table holds its terms.
 pub(crate) fn find_quad(table: &TermTable, quad: &Quad) -> Option<Key>
-    ensures found { IfSome result (λ key. IsNumbered table.now (quad_of key) quad.now) }
-    ensures absent { IfNone result ((k : IdQuad) → ¬ IsNumbered table.now k quad.now) }
+    ensures found { IfSome result (λ key. AreNumbersOf table.now (quad_of key) quad.now) }
+    ensures absent { IfNone result ((k : IdQuad) → ¬ AreNumbersOf table.now k quad.now) }
 {
     let graph = find_graph(table, quad.graph())?;
     let subject = find_term(table, quad.subject())?;
@@ -106,7 +106,7 @@ fn number_like_graph(
 
 /// The key in `Spo` of a quad, of whose terms the table keeps the new ones.
 pub(crate) fn number_quad(table: &mut TermTable, quad: &Quad) -> Result<Key, NoMemory>
-    ensures number { IfOk result (λ key. IsNumbered table.new (quad_of key) quad.now) }
+    ensures number { IfOk result (λ key. AreNumbersOf table.new (quad_of key) quad.now) }
     ensures grown { IsGrown table.old table.new }
 {
     let graph = number_graph(table, quad.graph())?;
@@ -129,7 +129,7 @@ struct Front<'q> {
 // graph, subject or predicate, which isn't looked for again.
 fn number_behind(table: &mut TermTable, before: Front<'_>, quad: &Quad) -> Result<Key, NoMemory>
     requires { IsFront table.old before.graph before.subject before.predicate before.quad.now }
-    ensures number { IfOk result (λ key. IsNumbered table.new (quad_of key) quad.now) }
+    ensures number { IfOk result (λ key. AreNumbersOf table.new (quad_of key) quad.now) }
     ensures grown { IsGrown table.old table.new }
 {
     let other = before.quad;
@@ -147,7 +147,7 @@ fn number_next(
     quad: &Quad,
 ) -> Result<Key, NoMemory>
     requires { IfSome before (λ f. IsFront table.old f.graph f.subject f.predicate f.quad.now) }
-    ensures number { IfOk result (λ key. IsNumbered table.new (quad_of key) quad.now) }
+    ensures number { IfOk result (λ key. AreNumbersOf table.new (quad_of key) quad.now) }
     ensures grown { IsGrown table.old table.new }
 {
     match before {
@@ -213,7 +213,7 @@ fn graph_of(table: &TermTable, number: u64) -> Result<GraphName, NoMemory>
 
 /// The quad that has a key in `Spo`.
 pub(crate) fn quad_from(table: &TermTable, key: &Key) -> Result<Quad, NoMemory>
-    requires { IsKept table.now (quad_of key.now) }
+    requires { HasTerms table.now (quad_of key.now) }
     ensures { IfOk result (λ quad. quad ≡ parts_of table.now key.now) }
 {
     let graph = graph_of(table, key[0])?;

@@ -4,7 +4,7 @@ ghost use Rattle.rdf_orders.specs.Quads as ids;
 ghost use Rattle.rdf_orders.specs.Quads.{IdQuad};
 ghost use Rattle.rdf_terms.specs.Quad.{QuadParts};
 ghost use Rattle.rdf_store.specs.Stored.{matches};
-ghost use Rattle.rdf_store.specs.Inside.Numbers.{IsNumbered, WantsSame, WantsNone, WantsSameGraph, WantsNoGraph};
+ghost use Rattle.rdf_store.specs.Inside.Numbers.{AreNumbersOf, WantsSame, WantsNone, WantsSameGraph, WantsNoGraph};
 
 use crate::numbers::{find_graph, find_term};
 use rdf_terms::{GraphName, Term, TermTable, terms_are_held_once};
@@ -49,11 +49,11 @@ pub(crate) fn pattern_of(
     predicate: Option<&Term>,
     object: Option<&Term>,
 ) -> Option<Pattern>
-    ensures found { IfSome result (λ p. (k : IdQuad) (q : QuadParts) → IsNumbered table.now k q →
+    ensures found { IfSome result (λ p. (k : IdQuad) (q : QuadParts) → AreNumbersOf table.now k q →
         ids.matches p.graph p.subject p.predicate p.object k ≡ matches graph.now
         (option_copied subject.entry) (option_copied predicate.entry)
         (option_copied object.entry) q) }
-    ensures absent { IfNone result ((k : IdQuad) (q : QuadParts) → IsNumbered table.now k q →
+    ensures absent { IfNone result ((k : IdQuad) (q : QuadParts) → AreNumbersOf table.now k q →
         ¬ IsTrue (matches graph.now (option_copied subject.entry)
         (option_copied predicate.entry) (option_copied object.entry) q)) }
 {

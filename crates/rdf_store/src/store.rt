@@ -26,11 +26,11 @@ impl Model for Store {
 
     ghost coded = { stored_code };
 
-    ghost use Rattle.rdf_store.specs.Inside.Numbers.{AreKept, shown};
+    ghost use Rattle.rdf_store.specs.Inside.Numbers.{HaveTerms, shown};
 
     ghost view = { λ s. shown s.table s.sets };
 
-    ghost invariant = { λ s. AreKept s.table s.sets };
+    ghost invariant = { λ s. HaveTerms s.table s.sets };
 }
 
 impl Store {

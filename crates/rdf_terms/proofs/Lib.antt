@@ -20,7 +20,7 @@ pub mod ReferenceLemmas
 pub mod ResolutionLemmas
 pub mod RunLemmas
 pub mod SkipLemmas
-pub mod StepLemmas
+pub mod OneCharacterLemmas
 pub mod TableLemmas
 pub mod TagForms
 pub mod TagLemmas

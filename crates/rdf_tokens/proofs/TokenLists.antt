@@ -9,7 +9,7 @@ use Rattle.rdf_tokens.specs.declared.token.Token.{Token}
 use Rattle.rdf_tokens.specs.Characters.{is_white}
 use Rattle.rdf_terms.specs.Reading.{byte_count}
 use Rattle.rdf_tokens.specs.Forms.{HasForm, IsOneOf, symbols}
-use Rattle.rdf_tokens.specs.Tokens.{IsToken, Gap, HasGap, Ends, At, Runs, NoToken, Says}
+use Rattle.rdf_tokens.specs.Tokens.{IsToken, Gap, HasGap, Ends, At, AreTokens, NoToken, Tokenizes}
 use Rattle.rdf_tokens.specs.Inside.TokenReading.{skip_gap, token_at}
 use Rattle.rdf_terms.proofs.OptionLemmas.{some_is, some_pair, none_is}
 use Rattle.rdf_tokens.proofs.TokenClaims.{Beats}
@@ -124,8 +124,8 @@ within_after text start k after w is = (w.0 ++ is.slice, w.1 ∙ ap (λ (t : Lis
 
 -- ---- what the loop builds
 
-pub runs_push : (text from : List ℕ) (tokens : List Token) (rest start after : List ℕ) (t : Token) → Runs text from tokens rest → HasGap rest start → IsToken start t.kind after
-    → At text t.start start → At text t.stop after → Runs text from (tokens ++ t ∷ []) after
+pub runs_push : (text from : List ℕ) (tokens : List Token) (rest start after : List ℕ) (t : Token) → AreTokens text from tokens rest → HasGap rest start → IsToken start t.kind after
+    → At text t.start start → At text t.stop after → AreTokens text from (tokens ++ t ∷ []) after
 runs_push text from [] rest start after t r g is p q = (start, after, subst (λ (x : List ℕ). HasGap x start) (sym r) g, is, p, q, refl)
 runs_push text from (u ∷ us) rest start after t r g is p q =
     (r.0, r.1, r.2, r.3, r.4, r.5, runs_push text r.1 us rest start after t r.6 g is p q)
@@ -173,7 +173,7 @@ abbrev Same : List Token → List Token → Option ℕ → Option ℕ → Type 0
 Same ts us a b = (ts ≡ us) × (a ≡ b)
 
 one : (text from : List ℕ) (ts us : List Token) (x y : List ℕ) (a b : Option ℕ)
-    → Runs text from ts x → Finish text x a → Runs text from us y → Finish text y b → Same ts us a b
+    → AreTokens text from ts x → Finish text x a → AreTokens text from us y → Finish text y b → Same ts us a b
 one text from [] [] x y a b r f s g =
     (refl, finish_one text from a b (subst (λ (t : List ℕ). Finish text t a) (sym r) f) (subst (λ (t : List ℕ). Finish text t b) (sym s) g))
 one text from [] (u ∷ us) x y a b r f s g =
@@ -190,7 +190,7 @@ one text from (t ∷ ts) (u ∷ us) x y a b r f s g =
     let token : t ≡ u = same_token t u pair.0
     (same_place text t.start u.start s.0 (subst (At text t.start) starts r.4) s.4)
     (same_place text t.stop u.stop s.1 (subst (At text t.stop) pair.1 r.5) s.5) in
-    let more = one text s.1 ts us x y a b (subst (λ (z : List ℕ). Runs text z ts x) pair.1 r.6) f s.6 g in
+    let more = one text s.1 ts us x y a b (subst (λ (z : List ℕ). AreTokens text z ts x) pair.1 r.6) f s.6 g in
     (ap (λ (z : Token). z ∷ ts) token ∙ ap (λ (z : List Token). u ∷ z) more.0, more.1)
 
 abbrev answer : List Token → Option ℕ → Result (List Token) ℕ
@@ -200,7 +200,7 @@ answer ts (Some place) = Err place
 some_places : (p q : ℕ) → Some p ≡ Some q → p ≡ q
 some_places p q e = some_is p q e
 
-pub one_token_list : (text : List ℕ) (a b : Result (List Token) ℕ) → Says text a → Says text b → a ≡ b
+pub one_token_list : (text : List ℕ) (a b : Result (List Token) ℕ) → Tokenizes text a → Tokenizes text b → a ≡ b
 one_token_list text (Ok ts) (Ok us) h k = ap (λ (z : List Token). Ok z) (one text text ts us h.0 k.0 None None h.1 h.2 k.1 k.2).0
 one_token_list text (Ok ts) (Err q) h k =
     none_is q (one text text ts k.0 h.0 k.1 None (Some q) h.1 h.2 k.3 (k.2, k.4, k.5, k.6)).1
@@ -258,12 +258,12 @@ at_start text from start c others w e is =
     let g = subst (HasGap from) (sym is) s.0 in
     record { gap = g; stops = subst Stops (sym is) s.1; within = within_start text from start w g }
 
-pub says_fault : (text : List ℕ) (tokens : List Token) (from start : List ℕ) (c : ℕ) (others : List ℕ) (size place : ℕ) → Runs text text tokens from → IsStart text from start → start ≡ c ∷ others
-    → token_at start ≡ None → size ≡ byte_count text → place ≡ size - byte_count start → Says text (Err place)
+pub says_fault : (text : List ℕ) (tokens : List Token) (from start : List ℕ) (c : ℕ) (others : List ℕ) (size place : ℕ) → AreTokens text text tokens from → IsStart text from start → start ≡ c ∷ others
+    → token_at start ≡ None → size ≡ byte_count text → place ≡ size - byte_count start → Tokenizes text (Err place)
 says_fault text tokens from start c others size place r s is none e p =
     (tokens, from, start, r, s.gap, subst NoToken (sym is) (no_token c others (subst Stops is s.stops) (ap token_at (sym is) ∙ none)), at_from text start size place s.within e p)
 
-pub says_end : (text : List ℕ) (tokens : List Token) (from start : List ℕ) → Runs text text tokens from → start ≡ skip_gap false from → start ≡ [] → Says text (Ok tokens)
+pub says_end : (text : List ℕ) (tokens : List Token) (from start : List ℕ) → AreTokens text text tokens from → start ≡ skip_gap false from → start ≡ [] → Tokenizes text (Ok tokens)
 says_end text tokens from start r e is = (from, r, skip_ends from (sym e ∙ is))
 
 pub start_bytes : (text from start : List ℕ) (size : ℕ) → IsStart text from start → size ≡ byte_count text → byte_count start ≤ size
@@ -272,17 +272,17 @@ start_bytes text from start size s e = omega (arith, within_bytes text start s.w
 pub after_bytes : (text from start : List ℕ) (k : Kind) (after : List ℕ) (size : ℕ) → IsStart text from start → token_at start ≡ Some (k, after) → size ≡ byte_count text → byte_count after ≤ size
 after_bytes text from start k after size s t e = omega (arith, within_bytes text after (within_after text start k after s.within (token_is start k after t)), e)
 
-pub goes_on : (text : List ℕ) (tokens now : List Token) (from start : List ℕ) (k : Kind) (after : List ℕ) (size : ℕ) (t : Token) → Runs text text tokens from → IsStart text from start
+pub goes_on : (text : List ℕ) (tokens now : List Token) (from start : List ℕ) (k : Kind) (after : List ℕ) (size : ℕ) (t : Token) → AreTokens text text tokens from → IsStart text from start
     → token_at start ≡ Some (k, after) → size ≡ byte_count text → t ≡ record { kind = k; start = size - byte_count start; stop = size - byte_count after } → now ≡ tokens ++ t ∷ []
-    → Runs text text now after × Within text after
+    → AreTokens text text now after × Within text after
 goes_on text tokens now from start k after size t r s read e is list =
     let it = token_is start k after read in
     let w = within_after text start k after s.within it in
     let made : Token = record { kind = k; start = size - byte_count start; stop = size - byte_count after } in
-    let pushed : Runs text text (tokens ++ made ∷ []) after =
+    let pushed : AreTokens text text (tokens ++ made ∷ []) after =
     runs_push text text tokens from start after made r s.gap it
     (at_from text start size (size - byte_count start) s.within e refl) (at_from text after size (size - byte_count after) w e refl) in
-    (subst (λ (x : List Token). Runs text text x after) (sym (list ∙ ap (λ (x : Token). tokens ++ x ∷ []) is)) pushed, w)
+    (subst (λ (x : List Token). AreTokens text text x after) (sym (list ∙ ap (λ (x : Token). tokens ++ x ∷ []) is)) pushed, w)
 
 pub gets_less : (text from start : List ℕ) (k : Kind) (after : List ℕ) → IsStart text from start → token_at start ≡ Some (k, after) → length after < length from
 gets_less text from start k after s read = token_less from start k after s.gap (token_is start k after read)

@@ -10,7 +10,7 @@ use Rattle.rdf_tokens.specs.declared.token.Kind.{Kind}
 use Rattle.rdf_tokens.specs.declared.token.Token.{Token}
 use Rattle.rdf_tokens.specs.declared.walk.Found.{Found}
 use Rattle.rdf_tokens.specs.declared.walk.Found.TheVariants as found
-use Rattle.rdf_tokens.specs.Tokens.{IsToken, HasGap, Ends, NoToken, At, Runs, Says}
+use Rattle.rdf_tokens.specs.Tokens.{IsToken, HasGap, Ends, NoToken, At, AreTokens, Tokenizes}
 use Rattle.rdf_tokens.specs.Walks.{IsFound, AreFound, AreFoundFrom, AreFoundIn}
 use Rattle.rdf_tokens.specs.Inside.TokenReading.{skip_gap}
 use Rattle.rdf_tokens.specs.Inside.WalkReading.{byte_of, found_of}
@@ -73,14 +73,14 @@ token_found text token start after is p q =
 abbrev Front : List ℕ → List ℕ → List Token → List ℕ → Type 0
 Front text from tokens rest = (front : List Found) × AreFound text tokens front × (found_of (byte_count text) from ≡ front ++ found_of (byte_count text) rest)
 
-front_found : (text from : List ℕ) (tokens : List Token) (rest : List ℕ) → Runs text from tokens rest → Front text from tokens rest
+front_found : (text from : List ℕ) (tokens : List Token) (rest : List ℕ) → AreTokens text from tokens rest → Front text from tokens rest
 front_found text from [] rest r = ([], tt, ap (found_of (byte_count text)) r)
 front_found text from (token ∷ tokens) rest r =
     let later = front_found text r.1 tokens rest r.6 in
     let first = found.Token (byte_of (byte_count text) r.0) token.kind (between r.0 r.1) in
     (first ∷ later.0, (token_found text token r.0 r.1 r.3 r.4 r.5, later.1), found_token (byte_count text) from r.0 token.kind r.1 r.2 r.3 ∙ ap (λ (fs : List Found). first ∷ fs) later.2)
 
-found_from : (text : List ℕ) (answer : Result (List Token) ℕ) → Says text answer → AreFoundFrom text answer (found_of (byte_count text) text)
+found_from : (text : List ℕ) (answer : Result (List Token) ℕ) → Tokenizes text answer → AreFoundFrom text answer (found_of (byte_count text) text)
 found_from text (Ok tokens) h =
     let f = front_found text text tokens h.0 h.1 in
     subst (AreFound text tokens) (sym (f.2 ∙ ap (λ (fs : List Found). f.0 ++ fs) (found_end (byte_count text) h.0 h.2) ∙ append-nil f.0)) f.1

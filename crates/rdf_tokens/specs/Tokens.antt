@@ -54,11 +54,11 @@ Stands text start stop slice =
     (before after : List ℕ) × (text ≡ before ++ (slice ++ after)) × (start ≡ byte_count before) × (stop ≡ byte_count (before ++ slice))
 
 -- From `from` on, the text is these tokens with gaps before them, up to `rest`.
-abbrev pub Runs : List ℕ → List ℕ → List Token → List ℕ → Type 0
-Runs text from [] rest = from ≡ rest
-Runs text from (token ∷ tokens) rest =
+abbrev pub AreTokens : List ℕ → List ℕ → List Token → List ℕ → Type 0
+AreTokens text from [] rest = from ≡ rest
+AreTokens text from (token ∷ tokens) rest =
     (start after : List ℕ) × HasGap from start × IsToken start token.kind after
-    × At text token.start start × At text token.stop after × Runs text after tokens rest
+    × At text token.start start × At text token.stop after × AreTokens text after tokens rest
 
 -- Neither the end nor white space nor a comment, and no front has a form.
 abbrev pub NoToken : List ℕ → Type 0
@@ -67,19 +67,19 @@ NoToken (c ∷ cs) =
     (is_white c ≡ false) × (c ≢ 35) × ((kind : Kind) (slice rest : List ℕ) → HasForm kind slice → ¬ ((c ∷ cs) ≡ slice ++ rest))
 
 -- What a text says: its token list, or the first place where no token begins.
-abbrev pub Says : List ℕ → Result (List Token) ℕ → Type 0
-Says text (Ok tokens) = (rest : List ℕ) × Runs text text tokens rest × Ends rest
-Says text (Err place) = (tokens : List Token) × (rest start : List ℕ) × Runs text text tokens rest × HasGap rest start × NoToken start × At text place start
+abbrev pub Tokenizes : List ℕ → Result (List Token) ℕ → Type 0
+Tokenizes text (Ok tokens) = (rest : List ℕ) × AreTokens text text tokens rest × Ends rest
+Tokenizes text (Err place) = (tokens : List Token) × (rest start : List ℕ) × AreTokens text text tokens rest × HasGap rest start × NoToken start × At text place start
 
 -- ---- laws
 
 -- a text has one token list at most, or one place where there is none
 abbrev pub HasOneTokenList : Type 0
-HasOneTokenList = (text : List ℕ) (a b : Result (List Token) ℕ) → Says text a → Says text b → a ≡ b
+HasOneTokenList = (text : List ℕ) (a b : Result (List Token) ℕ) → Tokenizes text a → Tokenizes text b → a ≡ b
 
 -- each text has a token list, or a place where no token begins
 abbrev pub HasSomeTokenList : Type 0
-HasSomeTokenList = (text : List ℕ) → (answer : Result (List Token) ℕ) × Says text answer
+HasSomeTokenList = (text : List ℕ) → (answer : Result (List Token) ℕ) × Tokenizes text answer
 
 -- the slice of a token has the form of its kind
 abbrev pub HasItsForm : List ℕ → Token → Type 0
@@ -88,4 +88,4 @@ HasItsForm text token =
     × (token.stop ≡ byte_count (before ++ slice)) × HasForm token.kind slice
 
 abbrev pub TokensHaveForms : Type 0
-TokensHaveForms = (text : List ℕ) (tokens : List Token) → Says text (Ok tokens) → AllByRecursion (HasItsForm text) tokens
+TokensHaveForms = (text : List ℕ) (tokens : List Token) → Tokenizes text (Ok tokens) → AllByRecursion (HasItsForm text) tokens

@@ -3,7 +3,7 @@ use Rattle.std.specs.Prelude.{◌≡◌, ℕ, List, [], ◌∷◌, ◌++◌, Res
 use Rattle.rdf_tokens.specs.declared.token.Token.{Token}
 use Rattle.rdf_tokens.specs.declared.walk.Found.{Found}
 use Rattle.rdf_tokens.specs.declared.walk.Found.TheVariants as found
-use Rattle.rdf_tokens.specs.Tokens.{Stands, Says}
+use Rattle.rdf_tokens.specs.Tokens.{Stands, Tokenizes}
 
 -- what is found is this token of the text: its start, its kind and its slice
 abbrev pub IsFound : List ℕ → Token → Found → Type 0
@@ -25,4 +25,4 @@ AreFoundFrom text (Err place) all = (tokens : List Token) × (front : List Found
 
 -- what a walk over a text comes to
 abbrev pub AreFoundIn : List ℕ → List Found → Type 0
-AreFoundIn text all = (answer : Result (List Token) ℕ) × Says text answer × AreFoundFrom text answer all
+AreFoundIn text all = (answer : Result (List Token) ℕ) × Tokenizes text answer × AreFoundFrom text answer all

@@ -4,7 +4,7 @@ ghost use Rattle.std.specs.Str.{chars};
 ghost use Rattle.rdf_tokens.specs.Faults.{TellsFault};
 ghost use Rattle.rdf_tokens.specs.Inside.TokenReading.{as_kind, or_else, iri_end_at, pname_at, word_at, token_at, number_or_symbol_at, NoPnameBefore};
 ghost use Rattle.rdf_tokens.specs.declared.token.Kind.TheVariants.{Iri, Pname, Word};
-ghost use Rattle.rdf_tokens.specs.Tokens.{Says, HasOneTokenList, HasSomeTokenList, TokensHaveForms};
+ghost use Rattle.rdf_tokens.specs.Tokens.{Tokenizes, HasOneTokenList, HasSomeTokenList, TokensHaveForms};
 
 use crate::dotted::{blank, pname};
 use crate::fault::TokenFault;
@@ -115,7 +115,7 @@ pub(crate) fn is_end(cursor: &Cursor<'_>) -> bool
 /// [`TokenFault::NoToken`] with the first byte where no token begins, if there is one: the text then has
 /// no token list. [`TokenFault::NoMemory`] where memory is wanting.
 pub fn tokens(alloc: Global, text: &str) -> Result<Vec<Token>, TokenFault>
-    ensures said { IfOk result (λ list. Says (chars text.now) (Ok list.items)) }
+    ensures said { IfOk result (λ list. Tokenizes (chars text.now) (Ok list.items)) }
     ensures fault { IfErr result (λ fault. TellsFault (chars text.now) fault) }
 {
     let mut list = Vec::new(alloc);

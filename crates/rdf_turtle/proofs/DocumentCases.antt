@@ -18,7 +18,7 @@ use Rattle.rdf_tokens.specs.Lines.{line_of}
 use Rattle.rdf_turtle.specs.Meaning.{answer, triples_of}
 use Rattle.rdf_turtle.specs.Nesting.{IsTooDeep}
 use Rattle.rdf_turtle.specs.Inside.Reading.{document}
-use Rattle.rdf_tokens.specs.Tokens.{Says}
+use Rattle.rdf_tokens.specs.Tokens.{Tokenizes}
 use Rattle.rdf_grammar.proofs.TextLemmas.{got, same_lengths, shallow_or_deep, some_lexemes, stops_somewhere}
 use Rattle.rdf_turtle.proofs.DocumentLemmas.{answer_kind, name_is}
 use Rattle.rdf_grammar.proofs.Decides.{some_pair}
@@ -55,7 +55,7 @@ by_lexemes base text tokens lexemes h = elim (shallow_or_deep bracket lexemes) [
       inr (record { line = line_of text opener.0.start; kind = fault.TooDeep }, (tokens, lexemes, opener.0, deep.0, h, deep.1, opener.1, refl)))
 ]
 
-by_tokens : (base : Option (List ℕ)) (text : List ℕ) → IsUtf8 text → (r : Result (List Token) ℕ) → Says (chars text) r → Meant base text
+by_tokens : (base : Option (List ℕ)) (text : List ℕ) → IsUtf8 text → (r : Result (List Token) ℕ) → Tokenizes (chars text) r → Meant base text
 by_tokens base text utf8 (Ok tokens) says =
     let slices = some_lexemes terminal_by (chars text) tokens (tokens_have_forms (chars text) tokens says) in
     by_lexemes base text tokens slices.0 (record { utf8 = utf8; list = says; slices = slices.1 })

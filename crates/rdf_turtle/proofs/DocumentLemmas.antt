@@ -18,12 +18,12 @@ use Rattle.rdf_turtle.specs.Terminals.{terminal_by, bracket}
 use Rattle.rdf_tokens.specs.Lines.{line_of}
 use Rattle.rdf_turtle.specs.Inside.NamePlaces.{StartsAt, StartsAtFirst}
 use Rattle.rdf_turtle.specs.Inside.Reading.{document}
-use Rattle.rdf_turtle.specs.Inside.Turns.{Tells, StopsWith}
+use Rattle.rdf_turtle.specs.Inside.Turns.{TellsDocument, StopsWith}
 use Rattle.rdf_turtle.specs.Inside.Walks.{IsShallow}
 use Rattle.rdf_turtle.specs.Meaning.{answer}
 use Rattle.rdf_turtle.specs.Nesting.{IsTooDeep, IsTooDeepAt}
 use Rattle.rdf_turtle.specs.Inside.Stops.{IsTold}
-use Rattle.rdf_tokens.specs.Tokens.{Says}
+use Rattle.rdf_tokens.specs.Tokens.{Tokenizes}
 use Rattle.rdf_grammar.specs.Lexemes.{AreReadOf}
 use Rattle.rdf_grammar.proofs.TextLemmas.{one_lexemes, one_front, deep_at, one_opener}
 use Rattle.rdf_turtle.proofs.GrammarShallow.{all_read, document_shallow, not_too_deep}
@@ -75,7 +75,7 @@ listed_tree text h = (h.1.tokens, h.1.lexemes, h.1.list)
 shallow_tree : (text : List ℕ) → Read text → Shallow text
 shallow_tree text h = (h.1.tokens, h.1.lexemes, h.1.list, h.1.shallow)
 
-no_token : (text : List ℕ) (place : ℕ) → Says (chars text) (Err place) → Listed text → ⊥
+no_token : (text : List ℕ) (place : ℕ) → Tokenizes (chars text) (Err place) → Listed text → ⊥
 no_token text place h k = ok_err k.0 place (one_token_list (chars text) (Ok k.0) (Err place) k.2.list h)
 
 not_shallow : (text : List ℕ) (tokens : List Token) (lexemes : List Lexeme) (place : ℕ) → HasTokens text tokens lexemes → IsTooDeepAt lexemes place → Shallow text → ⊥
@@ -259,7 +259,7 @@ Answered base text outcome = (tree : List Statement) × HasTree text tree × (an
 
 -- with less than 100 brackets inside one another the text has the tree
 answered_low : (base : Option (List ℕ)) (text : List ℕ) (ls : List Lexeme) (outcome : Result (List Quad) TurtleFaultKind) → IsUtf8 text → AreReadOf terminal_by (chars text) ls
-    → Tells 99 ls base outcome → Answered base text outcome
+    → TellsDocument 99 ls base outcome → Answered base text outcome
 answered_low base text ls outcome u read t =
     let low = document_shallow 99 ls t.tree t.reads in
     let held = all_read text ls u read low in
@@ -275,12 +275,12 @@ surveyed text ls h (Ok tokens, says, are) =
 surveyed text ls h (Err place, says, are) = absurd (ok_err h.0 place (one_token_list (chars text) (Ok h.0) (Err place) h.2.list says))
 
 answered_surveyed : (base : Option (List ℕ)) (text : List ℕ) (ls : List Lexeme) (outcome : Result (List Quad) TurtleFaultKind) → IsShallow text → AreReadOf terminal_by (chars text) ls
-    → Tells 100 ls base outcome → Answered base text outcome
+    → TellsDocument 100 ls base outcome → Answered base text outcome
 answered_surveyed base text ls outcome h read t =
     let held = surveyed text ls h read in
     (t.tree, record { tokens = held.0; lexemes = ls; list = held.1; shallow = held.2; reads = (100, t.reads) }, t.answers)
 
-told_by : (base : Option (List ℕ)) (text : List ℕ) (depth : ℕ) (ls : List Lexeme) (kind : TurtleFaultKind) → ((outcome : Result (List Quad) TurtleFaultKind) → Tells depth ls base outcome → Answered base text outcome)
+told_by : (base : Option (List ℕ)) (text : List ℕ) (depth : ℕ) (ls : List Lexeme) (kind : TurtleFaultKind) → ((outcome : Result (List Quad) TurtleFaultKind) → TellsDocument depth ls base outcome → Answered base text outcome)
     → kind ≢ fault.Syntax → StopsWith depth ls base kind → IsTold base text kind
 told_by base text depth ls fault.UnknownPrefix by other h = by (Err fault.UnknownPrefix) h
 told_by base text depth ls fault.Relative by other h = by (Err fault.Relative) h
@@ -290,14 +290,14 @@ told_by base text depth ls fault.NotUtf8 by other h = h
 told_by base text depth ls fault.Token by other h = h
 told_by base text depth ls fault.TooDeep by other h = h
 
-pub read_low : (base : Option (List ℕ)) (text : List ℕ) (ls : List Lexeme) (quads : List Quad) → IsUtf8 text → AreReadOf terminal_by (chars text) ls → Tells 99 ls base (Ok quads) → IsDocument base text quads
+pub read_low : (base : Option (List ℕ)) (text : List ℕ) (ls : List Lexeme) (quads : List Quad) → IsUtf8 text → AreReadOf terminal_by (chars text) ls → TellsDocument 99 ls base (Ok quads) → IsDocument base text quads
 read_low base text ls quads u read t = answered_low base text ls (Ok quads) u read t
 
 pub told_low : (base : Option (List ℕ)) (text : List ℕ) (ls : List Lexeme) (kind : TurtleFaultKind) → IsUtf8 text → AreReadOf terminal_by (chars text) ls → kind ≢ fault.Syntax → StopsWith 99 ls base kind
     → IsTold base text kind
 told_low base text ls kind u read other h = told_by base text 99 ls kind (λ outcome t. answered_low base text ls outcome u read t) other h
 
-pub read_surveyed : (base : Option (List ℕ)) (text : List ℕ) (ls : List Lexeme) (quads : List Quad) → IsShallow text → AreReadOf terminal_by (chars text) ls → Tells 100 ls base (Ok quads) → IsDocument base text quads
+pub read_surveyed : (base : Option (List ℕ)) (text : List ℕ) (ls : List Lexeme) (quads : List Quad) → IsShallow text → AreReadOf terminal_by (chars text) ls → TellsDocument 100 ls base (Ok quads) → IsDocument base text quads
 read_surveyed base text ls quads s read t = answered_surveyed base text ls (Ok quads) s read t
 
 pub told_surveyed : (base : Option (List ℕ)) (text : List ℕ) (ls : List Lexeme) (kind : TurtleFaultKind) → IsShallow text → AreReadOf terminal_by (chars text) ls → kind ≢ fault.Syntax → StopsWith 100 ls base kind

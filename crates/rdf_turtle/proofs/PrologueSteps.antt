@@ -8,7 +8,7 @@ use Rattle.rdf_grammar.specs.declared.prologue.PrologueFault.{PrologueFault}
 use Rattle.rdf_grammar.specs.declared.prologue.PrologueFault.TheVariants.{UnknownPrefix, Relative, NoMemory}
 use Rattle.rdf_grammar.specs.declared.tree.Name.{Name}
 use Rattle.rdf_grammar.specs.declared.tree.Name.TheVariants.{Full, Prefixed}
-use Rattle.rdf_turtle.specs.Inside.Told.{Answers}
+use Rattle.rdf_turtle.specs.Inside.Told.{GivesOrMisses}
 use Rattle.rdf_turtle.specs.Meaning.{iri, literal}
 use Rattle.rdf_grammar.specs.Prologue.{Prologue, declared, knows, iri_of, resolved, prefixed}
 use Rattle.rdf_grammar.specs.Keys.{key_of, same_key}
@@ -28,7 +28,7 @@ not_told : {A : Type 0} (f : Prologue → Option A) (s : ParserState) → f s.pr
 not_told {A = A} f s e = ap (λ (o : Option A). option_map {U = A × ParserState} (λ b. (b, s)) o) e
 
 pub reference_gives : (reference : List ℕ) (s u : ParserState) (r : Result (List ℕ) PrologueFault) → IfOk r (λ i. resolved reference s.prologue ≡ Some i) → IfErr r (λ e. Explains s.prologue (Full reference) e) → u ≡ s
-    → Answers (told (resolved reference) s) r u
+    → GivesOrMisses (told (resolved reference) s) r u
 reference_gives reference s u (Ok i) value fault same = told_is (resolved reference) s u i value same
 reference_gives reference s u (Err (NoMemory e)) value fault same = tt
 reference_gives reference s u (Err (UnknownPrefix place)) value fault same = absurd (true≢false fault)
@@ -77,7 +77,7 @@ some_known {A = A} false o x h e = absurd (let n : o ≡ None = h refl in cc)
 -- ---- and what is told
 
 pub iri_gives : (name : Name) (s u : ParserState) (r : Result (List ℕ) PrologueFault) → IfOk r (λ i. iri_of name s.prologue ≡ Some i) → IfErr r (λ e. Explains s.prologue name e) → u ≡ s
-    → Answers (iri name s) r u
+    → GivesOrMisses (iri name s) r u
 unfolding iri
 iri_gives name s u (Ok i) value fault same = told_is (iri_of name) s u i value same
 iri_gives name s u (Err (NoMemory e)) value fault same = tt
@@ -89,7 +89,7 @@ iri_knows name p (Ok i) value = some_known (knows (declared p) name) (iri_of nam
 iri_knows name p (Err e) value = tt
 
 pub literal_gives : (w : Literal) (s u : ParserState) (r : Result LiteralParts PrologueFault) → IfOk r (λ l. literal_of w s.prologue ≡ Some l) → IfErr r (λ e. ExplainsLiteral s.prologue w e) → u ≡ s
-    → Answers (literal w s) r u
+    → GivesOrMisses (literal w s) r u
 unfolding literal
 literal_gives w s u (Ok l) value fault same = told_is (literal_of w) s u l value same
 literal_gives w s u (Err (NoMemory e)) value fault same = tt

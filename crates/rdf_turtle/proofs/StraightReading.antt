@@ -19,7 +19,7 @@ use Rattle.rdf_turtle.specs.Inside.Reading.{node, statement, document}
 use Rattle.rdf_turtle.specs.Lexemes.{Lexemes}
 use Rattle.rdf_turtle.specs.ParserState.{ParserState, longest, start}
 use Rattle.rdf_grammar.specs.Steps.{and_then}
-use Rattle.rdf_turtle.specs.Inside.Turns.{IfNothing, Becomes, Turn, Leaves, Turns, Tells, Stops, StopsWith}
+use Rattle.rdf_turtle.specs.Inside.Turns.{IfNothing, Becomes, Turn, LeavesPending, Turns, TellsDocument, StopsReading, StopsWith}
 use Rattle.rdf_turtle.proofs.BaseTrees.{statement_of_formed}
 use Rattle.rdf_grammar.proofs.Repeats.{one_reads, one_fails, no_more, Going, going_starts, going_on, going_done, going_fails}
 use Rattle.rdf_turtle.proofs.GrammarStatements.{statement_derived}
@@ -170,7 +170,7 @@ if_nothing {P = P} pending e h = subst (λ (p : Pending). IfNothing p P) e h
 -- ---- where reading ends
 
 leaves_so_far : (pending : Pending) (before : ParserState) (whole now : Lexemes) (state : ParserState) (declared : List (List ℕ)) (tree : List Statement)
-    → SoFar pending before whole now state declared tree → Leaves pending tree before state
+    → SoFar pending before whole now state declared tree → LeavesPending pending tree before state
 leaves_so_far Nothing before whole now state declared tree r = (
   ap (declares_first []) (sym (append-nil tree)) ∙ r.known [],
   ap (λ (l : List Statement). meaning.document l before) (sym (append-nil tree)) ∙ r.says [],
@@ -190,7 +190,7 @@ read_done {depth = depth} {before = before} {whole = whole} {now = now} {pending
 }
 
 stops_by : (depth : ℕ) (whole now : Lexemes) (tree : List Statement) (kind : TurtleFaultKind) → Going is_more (one (statement (node depth) (node (depth + 1)))) (document depth whole) tree now
-    → is_more now ≡ true → Stops (statement (node depth) (node (depth + 1)) now) kind → Stops (document depth whole) kind
+    → is_more now ≡ true → StopsReading (statement (node depth) (node (depth + 1)) now) kind → StopsReading (document depth whole) kind
 stops_by depth whole now tree fault.Syntax g is_left h = going_fails g (omega (arith, some_left now is_left)) is_left (one_fails (statement (node depth) (node (depth + 1))) now h)
 stops_by depth whole now tree (fault.NoMemory refusal) g is_left h = tt
 stops_by depth whole now tree fault.NotUtf8 g is_left h = h
@@ -200,10 +200,10 @@ stops_by depth whole now tree fault.UnknownPrefix g is_left h = h
 stops_by depth whole now tree fault.Relative g is_left h = h
 
 pub read_stops : {depth : ℕ} {before : ParserState} {whole now : Lexemes} {pending : Pending} {state : ParserState} {declared : List (List ℕ)} (kind : TurtleFaultKind) → Read depth before whole now pending state declared
-    → is_more now ≡ true → Stops (statement (node depth) (node (depth + 1)) now) kind → Stops (document depth whole) kind
+    → is_more now ≡ true → StopsReading (statement (node depth) (node (depth + 1)) now) kind → StopsReading (document depth whole) kind
 read_stops {depth = depth} {whole = whole} {now = now} kind r is_left h = stops_by depth whole now r.tree kind r.going is_left h
 
-pub stops_with : (depth : ℕ) (lexemes : Lexemes) (base : Option (List ℕ)) (kind : TurtleFaultKind) → Stops (document depth lexemes) kind → StopsWith depth lexemes base kind
+pub stops_with : (depth : ℕ) (lexemes : Lexemes) (base : Option (List ℕ)) (kind : TurtleFaultKind) → StopsReading (document depth lexemes) kind → StopsWith depth lexemes base kind
 stops_with depth lexemes base fault.UnknownPrefix h = absurd h
 stops_with depth lexemes base fault.Relative h = absurd h
 stops_with depth lexemes base fault.Syntax h = h
@@ -216,7 +216,7 @@ stops_with depth lexemes base fault.TooDeep h = h
 
 -- what is said from the start is the answer
 pub said_answers : (depth : ℕ) (base b : Option (List ℕ)) (lexemes : Lexemes) (before behind : ParserState) (quads : List QuadParts)
-    → Turns depth lexemes Nothing before behind → before ≡ start b → b ≡ base → quads ≡ behind.quads → Tells depth lexemes base (Ok quads)
+    → Turns depth lexemes Nothing before behind → before ≡ start b → b ≡ base → quads ≡ behind.quads → TellsDocument depth lexemes base (Ok quads)
 unfolding meaning.triples_of
 said_answers depth base b lexemes before behind quads t s e q =
     let said : meaning.document t.tree (start base) ≡ Some (tt, behind) = ap (meaning.document t.tree) (sym (s ∙ ap start e)) ∙ t.leaves.1 in
@@ -224,7 +224,7 @@ said_answers depth base b lexemes before behind quads t s e q =
     record { tree = t.tree; reads = t.reads; answers = rw (known, said, q) refl }
 
 pub lacking_answers : (depth : ℕ) (base b : Option (List ℕ)) (lexemes : Lexemes) (before behind : ParserState)
-    → Turns depth lexemes Relative before behind → before ≡ start b → b ≡ base → Tells depth lexemes base (Err fault.Relative)
+    → Turns depth lexemes Relative before behind → before ≡ start b → b ≡ base → TellsDocument depth lexemes base (Err fault.Relative)
 unfolding meaning.triples_of
 lacking_answers depth base b lexemes before behind t s e =
     let fails : meaning.document t.tree (start base) ≡ None = ap (meaning.document t.tree) (sym (s ∙ ap start e)) ∙ t.leaves.1 in
@@ -232,7 +232,7 @@ lacking_answers depth base b lexemes before behind t s e =
     record { tree = t.tree; reads = t.reads; answers = rw (known, fails) refl }
 
 pub unbound_answers : (depth : ℕ) (base : Option (List ℕ)) (lexemes : Lexemes) (before behind : ParserState)
-    → Turns depth lexemes UnknownPrefix before behind → Tells depth lexemes base (Err fault.UnknownPrefix)
+    → Turns depth lexemes UnknownPrefix before behind → TellsDocument depth lexemes base (Err fault.UnknownPrefix)
 unbound_answers depth base lexemes before behind t =
     let unknown = t.leaves in
     record { tree = t.tree; reads = t.reads; answers = rw unknown refl }

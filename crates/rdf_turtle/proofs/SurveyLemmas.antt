@@ -12,7 +12,7 @@ use Rattle.rdf_tokens.specs.declared.token.Token.{Token}
 use Rattle.rdf_tokens.specs.declared.walk.Found.{Found}
 use Rattle.rdf_tokens.specs.declared.walk.Found.TheVariants.{Token as Read, NoToken}
 use Rattle.rdf_tokens.specs.Lines.{line_of}
-use Rattle.rdf_tokens.specs.Tokens.{Says}
+use Rattle.rdf_tokens.specs.Tokens.{Tokenizes}
 use Rattle.rdf_tokens.specs.Walks.{AreFound, AreFoundIn}
 use Rattle.rdf_tokens.proofs.CallerLemmas.{one_token_list}
 use Rattle.rdf_turtle.specs.declared.fault.TurtleFault.{TurtleFault}
@@ -51,7 +51,7 @@ err_same a b e = cc
 ok_err : {A E : Type 0} {P : Type 0} (a : A) (b : E) → ◌≡◌ {A = Result A E} (Ok a) (Err b) → P
 ok_err a b e = absurd (cc)
 
-all_found : (text : List ℕ) (tokens : List Token) (all : List Found) → AreFoundIn text all → Says text (Ok tokens) → AreFound text tokens all
+all_found : (text : List ℕ) (tokens : List Token) (all : List Found) → AreFoundIn text all → Tokenizes text (Ok tokens) → AreFound text tokens all
 all_found text tokens all (Ok us, says, are) list = subst (λ (ts : List Token). AreFound text ts all) (ok_same us tokens (one_token_list text (Ok us) (Ok tokens) says list)) are
 all_found text tokens all (Err place, says, are) list = ok_err tokens place (one_token_list text (Ok tokens) (Err place) list says)
 
@@ -125,13 +125,13 @@ fault_behind text place (t ∷ ts) [] h = absurd h
 fault_behind text place (t ∷ ts) (NoToken start ∷ fs) h = absurd h.0
 fault_behind text place (t ∷ ts) (Read start kind slice ∷ fs) h = fault_behind text place ts fs h.1
 
-fault_said : (text : List ℕ) (all : List Found) (place : ℕ) → AreFoundIn text all → first_fault all ≡ Some place → Says text (Err place)
+fault_said : (text : List ℕ) (all : List Found) (place : ℕ) → AreFoundIn text all → first_fault all ≡ Some place → Tokenizes text (Err place)
 fault_said text all place (Ok tokens, says, are) e = none_is place (sym (no_fault text tokens all are) ∙ e)
 fault_said text all place (Err there, says, are) e =
     let same : there ≡ place = some_is there place (sym (ap first_fault are.3 ∙ fault_behind text there are.0 are.1 are.2) ∙ e) in
-    subst (λ (n : ℕ). Says text (Err n)) same says
+    subst (λ (n : ℕ). Tokenizes text (Err n)) same says
 
-tokens_said : (text : List ℕ) (all : List Found) → AreFoundIn text all → first_fault all ≡ None → (tokens : List Token) × Says text (Ok tokens) × AreFound text tokens all
+tokens_said : (text : List ℕ) (all : List Found) → AreFoundIn text all → first_fault all ≡ None → (tokens : List Token) × Tokenizes text (Ok tokens) × AreFound text tokens all
 tokens_said text all (Ok tokens, says, are) e = (tokens, says, are)
 tokens_said text all (Err there, says, are) e = none_is there (sym e ∙ ap first_fault are.3 ∙ fault_behind text there are.0 are.1 are.2)
 
@@ -227,7 +227,7 @@ deep text count start (t ∷ ts) (Read place kind slice ∷ fs) few h e =
           })
     ]
 
-has_tokens : (text : List ℕ) (tokens : List Token) (all : List Found) → IsUtf8 text → Says (chars text) (Ok tokens) → AreFound (chars text) tokens all → HasTokens text tokens (slices all)
+has_tokens : (text : List ℕ) (tokens : List Token) (all : List Found) → IsUtf8 text → Tokenizes (chars text) (Ok tokens) → AreFound (chars text) tokens all → HasTokens text tokens (slices all)
 has_tokens text tokens all u says are = record { utf8 = u; list = says; slices = slices_are (chars text) tokens all are }
 
 pub deep_fault : (base : Option (List ℕ)) (text : List ℕ) (all : List Found) (place : ℕ) (f : TurtleFault) → IsUtf8 text → AreFoundIn (chars text) all → first_fault all ≡ None

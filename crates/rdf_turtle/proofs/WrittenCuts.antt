@@ -7,7 +7,7 @@ use Rattle.rdf_tokens.specs.declared.token.Token.{Token}
 use Rattle.rdf_tokens.specs.Characters.{is_white}
 use Rattle.rdf_turtle.specs.Terminals.{terminal_of}
 use Rattle.rdf_tokens.specs.Inside.TokenReading.{token_at}
-use Rattle.rdf_tokens.specs.Tokens.{HasGap, Ends, Runs}
+use Rattle.rdf_tokens.specs.Tokens.{HasGap, Ends, AreTokens}
 use Rattle.rdf_tokens.proofs.CallerLemmas.{Within, within_start, token_is}
 
 -- a kind, and a slice with its form
@@ -28,7 +28,7 @@ Cut from (p ∷ ps) = (start after : List ℕ) × HasGap from start × (start �
 pub record HasList (text from : List ℕ) (lexemes : List Lexeme) : Type 0 where
   pub tokens : List Token
   pub rest : List ℕ
-  pub runs : Runs text from tokens rest
+  pub runs : AreTokens text from tokens rest
   pub ends : Ends rest
   pub slices : AreLexemes text tokens lexemes
 

@@ -14,12 +14,12 @@ use Rattle.rdf_turtle.specs.Grammar as grammar
 use Rattle.rdf_tokens.specs.Lines.{line_of}
 use Rattle.rdf_turtle.specs.Meaning.{answer}
 use Rattle.rdf_turtle.specs.Nesting.{IsTooDeep, IsTooDeepAt}
-use Rattle.rdf_tokens.specs.Tokens.{Says}
+use Rattle.rdf_tokens.specs.Tokens.{Tokenizes}
 
 -- The text is UTF-8, these are its tokens, and these are the tokens as the grammar sees them.
 pub record HasTokens (text : List ℕ) (tokens : List Token) (lexemes : List Lexeme) : Type 0 where
   pub utf8 : IsUtf8 text
-  pub list : Says (chars text) (Ok tokens)
+  pub list : Tokenizes (chars text) (Ok tokens)
   pub slices : AreLexemes (chars text) tokens lexemes
 
 -- The text has tokens that open at most 100 brackets at once, and they are a document of the grammar with this tree.
@@ -53,7 +53,7 @@ abbrev pub FaultIs : Option (List ℕ) → List ℕ → TurtleFaultKind → ℕ 
 -- a byte belongs to no character
 FaultIs base text fault.NotUtf8 line = ¬ (IsUtf8 text) × ((place : ℕ) × IsValidUpTo text place × (line ≡ line_of text place))
 -- no token begins somewhere
-FaultIs base text fault.Token line = IsUtf8 text × ((place : ℕ) × Says (chars text) (Err place) × (line ≡ line_of text place))
+FaultIs base text fault.Token line = IsUtf8 text × ((place : ℕ) × Tokenizes (chars text) (Err place) × (line ≡ line_of text place))
 -- a bracket is open inside 100 others
 FaultIs base text fault.TooDeep line =
     (tokens : List Token) × (lexemes : List Lexeme) × (opener : Token) × (place : ℕ) × HasTokens text tokens lexemes

@@ -10,7 +10,7 @@ ghost use Rattle.rdf_turtle.specs.Known.{holds, declared_behind};
 ghost use Rattle.rdf_turtle.specs.Meaning as spec;
 ghost use Rattle.rdf_grammar.specs.Prologue.{declared};
 ghost use Rattle.rdf_turtle.specs.Inside.Proper as proper;
-ghost use Rattle.rdf_turtle.specs.Inside.Told.{Answers, known_leaf};
+ghost use Rattle.rdf_turtle.specs.Inside.Told.{GivesOrMisses, known_leaf};
 ghost use Rattle.rdf_turtle.specs.Inside.Room.{HasRoom, TakesAtMost};
 
 use crate::scope::Scope;
@@ -33,7 +33,7 @@ impl<'a, S: TripleSink> Scope<'a, S> {
     #[tactic(auto, unfolding(crate::specs::Meaning::verb))]
     fn verb(&mut self, verb: &Verb<'a>) -> Result<Iri, PrologueFault>
         requires proper { IsTrue (proper.proper_verb verb.now) }
-        ensures gives { Answers (spec.verb verb.now self.old) result self.new }
+        ensures gives { GivesOrMisses (spec.verb verb.now self.old) result self.new }
         ensures known { OnOk result
             (IsTrue (known.known_verb (declared self.old.prologue) verb.now)) }
         ensures same { self.new ≡ self.old }
@@ -48,7 +48,7 @@ impl<'a, S: TripleSink> Scope<'a, S> {
     fn term(&mut self, node: &Node<'a>) -> Result<Term, PrologueFault>
         requires proper { IsTrue (proper.proper_node node.now) }
         requires room { HasRoom 0 self.old }
-        ensures gives { Answers ((spec.meaning node.now).term self.old) result self.new }
+        ensures gives { GivesOrMisses ((spec.meaning node.now).term self.old) result self.new }
         ensures known { OnOk result (IsTrue (known_leaf (declared self.old.prologue) node.now)) }
         ensures prologue { self.new.prologue ≡ self.old.prologue }
         ensures room { TakesAtMost 1 self.old self.new }
@@ -73,7 +73,7 @@ impl<'a, S: TripleSink> Scope<'a, S> {
         requires proper { IsTrue (proper.proper_node node.now) }
         requires subject { is_literal_term term.now ≡ false }
         requires room { HasRoom 0 self.old }
-        ensures gives { Answers ((spec.meaning node.now).inside term.now self.old) result self.new }
+        ensures gives { GivesOrMisses ((spec.meaning node.now).inside term.now self.old) result self.new }
         ensures known { known_leaf (declared self.old.prologue) node.now ≡ true →
             OnOk result (IsTrue (known.known_node (declared self.old.prologue) node.now)) }
         ensures prologue { self.new.prologue ≡ self.old.prologue }
@@ -106,7 +106,7 @@ impl<'a, S: TripleSink> Scope<'a, S> {
         requires subject { is_literal_term subject.now ≡ false }
         requires room { HasRoom 0 self.old }
         ensures gives { let says = spec.object subject.now predicate.now (spec.meaning node.now) in
-            Answers (says self.old) result self.new }
+            GivesOrMisses (says self.old) result self.new }
         ensures known { OnOk result
             (IsTrue (known.known_node (declared self.old.prologue) node.now)) }
         ensures prologue { self.new.prologue ≡ self.old.prologue }
@@ -138,7 +138,7 @@ impl<'a, S: TripleSink> Scope<'a, S> {
         requires subject { is_literal_term cell.now ≡ false }
         requires room { HasRoom 0 self.old }
         ensures gives { let step = next_cell cell.now rest.now first.now (spec.meaning item.now) in
-            Answers (step self.old) result self.new }
+            GivesOrMisses (step self.old) result self.new }
         ensures known { OnOk result
             (IsTrue (known.known_node (declared self.old.prologue) item.now)) }
         ensures prologue { self.new.prologue ≡ self.old.prologue }
@@ -159,7 +159,7 @@ impl<'a, S: TripleSink> Scope<'a, S> {
         requires subject { is_literal_term cell.now ≡ false }
         requires room { HasRoom 0 self.old }
         ensures gives { let says = spec.behind cell.now (map spec.meaning items.now) in
-            Answers (says self.old) result self.new }
+            GivesOrMisses (says self.old) result self.new }
         ensures known { let knows = known.known_node (declared self.old.prologue) in
             OnOk result (IsTrue (list_all holds (map knows items.now))) }
         ensures prologue { self.new.prologue ≡ self.old.prologue }
@@ -189,7 +189,7 @@ impl<'a, S: TripleSink> Scope<'a, S> {
         requires room { HasRoom 0 self.old }
         ensures gives { let says = spec.objects subject.now predicate.now
             (map spec.meaning nodes.now) in
-            Answers (says self.old) result self.new }
+            GivesOrMisses (says self.old) result self.new }
         ensures known { let knows = known.known_node (declared self.old.prologue) in
             OnOk result (IsTrue (list_all holds (map knows nodes.now))) }
         ensures prologue { self.new.prologue ≡ self.old.prologue }
@@ -209,7 +209,7 @@ impl<'a, S: TripleSink> Scope<'a, S> {
         requires proper { IsTrue (proper.proper_property property.now) }
         requires subject { is_literal_term subject.now ≡ false }
         requires room { HasRoom 0 self.old }
-        ensures gives { Answers (spec.property property.now subject.now self.old) result self.new }
+        ensures gives { GivesOrMisses (spec.property property.now subject.now self.old) result self.new }
         ensures known { OnOk result
             (IsTrue (known.known_property (declared self.old.prologue) property.now)) }
         ensures prologue { self.new.prologue ≡ self.old.prologue }
@@ -229,7 +229,7 @@ impl<'a, S: TripleSink> Scope<'a, S> {
         requires subject { is_literal_term subject.now ≡ false }
         requires room { HasRoom 0 self.old }
         ensures gives { let says = spec.properties subject.now properties.now in
-            Answers (says self.old) result self.new }
+            GivesOrMisses (says self.old) result self.new }
         ensures known { let knows = known.known_property (declared self.old.prologue) in
             OnOk result (IsTrue (list_all holds (map knows properties.now))) }
         ensures prologue { self.new.prologue ≡ self.old.prologue }
@@ -245,7 +245,7 @@ impl<'a, S: TripleSink> Scope<'a, S> {
     fn triples(&mut self, node: &Node<'a>, properties: &[Property<'a>]) -> Result<(), PrologueFault>
         requires proper { IsTrue (proper.proper_triples node.now properties.now) }
         requires room { HasRoom 1 self.old }
-        ensures gives { Answers (spec.triples node.now properties.now self.old) result self.new }
+        ensures gives { GivesOrMisses (spec.triples node.now properties.now self.old) result self.new }
         ensures known { let knows = known.known_triples (declared self.old.prologue) in
             OnOk result (IsTrue (knows node.now properties.now)) }
         ensures prologue { self.new.prologue ≡ self.old.prologue }
@@ -261,7 +261,7 @@ impl<'a, S: TripleSink> Scope<'a, S> {
     pub(crate) fn statement(&mut self, statement: &Statement<'a>) -> Result<(), PrologueFault>
         requires proper { IsTrue (proper.proper_statement statement.now) }
         requires room { HasRoom 1 self.old }
-        ensures gives { Answers (spec.statement statement.now self.old) result self.new }
+        ensures gives { GivesOrMisses (spec.statement statement.now self.old) result self.new }
         ensures known { OnOk result
             (IsTrue (known.known_statement (declared self.old.prologue) statement.now)) }
         ensures declares { let before = declared self.old.prologue in

@@ -7,7 +7,7 @@ ghost use Rattle.rdf_grammar.specs.Literals.{known_literal, proper_literal};
 ghost use Rattle.rdf_grammar.specs.Prologue as prologue;
 ghost use Rattle.rdf_grammar.specs.Prologue.{declared, knows, is_proper};
 ghost use Rattle.rdf_turtle.specs.Inside.Room.{HasRoom, TakesAtMost};
-ghost use Rattle.rdf_turtle.specs.Inside.Told.{Answers};
+ghost use Rattle.rdf_turtle.specs.Inside.Told.{GivesOrMisses};
 ghost use Rattle.rdf_turtle.specs.ParserState as state;
 
 use crate::sink::TripleSink;
@@ -114,7 +114,7 @@ impl<'a, S: TripleSink> Scope<'a, S> {
     #[tactic(auto, unfolding(crate::specs::Meaning::iri))]
     pub(crate) fn iri(&mut self, name: &Name<'a>) -> Result<Iri, PrologueFault>
         requires proper { IsTrue (is_proper name.now) }
-        ensures gives { Answers (meaning.iri name.now self.old) result self.new }
+        ensures gives { GivesOrMisses (meaning.iri name.now self.old) result self.new }
         ensures known { OnOk result (IsTrue (knows (declared self.old.prologue) name.now)) }
         ensures same { self.new ≡ self.old }
     {
@@ -125,7 +125,7 @@ impl<'a, S: TripleSink> Scope<'a, S> {
     #[tactic(auto, unfolding(crate::specs::Meaning::literal))]
     pub(crate) fn literal(&mut self, literal: &Written<'a>) -> Result<Literal, PrologueFault>
         requires proper { IsTrue (proper_literal literal.now) }
-        ensures gives { Answers (meaning.literal literal.now self.old) result self.new }
+        ensures gives { GivesOrMisses (meaning.literal literal.now self.old) result self.new }
         ensures known { OnOk result
             (IsTrue (known_literal (declared self.old.prologue) literal.now)) }
         ensures same { self.new ≡ self.old }
@@ -135,7 +135,7 @@ impl<'a, S: TripleSink> Scope<'a, S> {
 
     /// The IRI of a reference.
     pub(crate) fn resolved(&self, reference: &Slice<'a>) -> Result<Iri, PrologueFault>
-        ensures { Answers (state.told (prologue.resolved reference.now) self.now) result self.now }
+        ensures { GivesOrMisses (state.told (prologue.resolved reference.now) self.now) result self.now }
     {
         self.prologue.resolve(reference)
     }

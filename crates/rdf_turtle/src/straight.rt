@@ -9,7 +9,7 @@ ghost use Rattle.rdf_turtle.specs.Inside.Room.{HasRoom};
 ghost use Rattle.rdf_turtle.specs.Inside.Proper.{proper_statement};
 ghost use Rattle.rdf_turtle.specs.ParserState.{ParserState, longest};
 ghost use Rattle.rdf_turtle.specs.declared.straight.Pending.TheVariants.{Nothing, Relative};
-ghost use Rattle.rdf_turtle.specs.Inside.Turns.{IfNothing, Becomes, Turn, Turns, Tells, Stops, StopsWith};
+ghost use Rattle.rdf_turtle.specs.Inside.Turns.{IfNothing, Becomes, Turn, Turns, TellsDocument, StopsReading, StopsWith};
 
 use crate::fault::TurtleFaultKind;
 use crate::known::{declare, unknown_in};
@@ -112,7 +112,7 @@ fn turn<'a, S: TripleSink>(
     ensures { MatchResult result
         (λ later. Turn depth parser.old parser.new pending later
         scope.old scope.new declared.old.keys declared.new.keys)
-        (λ kind. Stops (spec.statement (spec.node depth) (spec.node (depth + 1)) parser.old) kind) }
+        (λ kind. StopsReading (spec.statement (spec.node depth) (spec.node (depth + 1)) parser.old) kind) }
 {
     let statement = statement(parser, depth)?;
     Ok(behind(scope, declared, pending, &statement)?)
@@ -131,7 +131,7 @@ fn turns<'a, S: TripleSink>(
     requires room { scope.old.numbering.next ≤ length scope.old.quads }
     ensures { MatchResult result
         (λ pending. Turns depth parser.old pending scope.old scope.new)
-        (λ kind. Stops (spec.document depth parser.old) kind) }
+        (λ kind. StopsReading (spec.document depth parser.old) kind) }
 {
     let mut declared = IndexSet::new(parser.alloc());
     let mut pending = Pending::Nothing;
@@ -158,7 +158,7 @@ pub(crate) fn triples_of<S: TripleSink>(
     requires formed { AllByRecursion Formed parser.old }
     requires fits { length parser.old ≤ longest }
     ensures { MatchResult result
-        (λ sink. Tells depth parser.old (option_copied base.entry) (Ok (S.taken sink)))
+        (λ sink. TellsDocument depth parser.old (option_copied base.entry) (Ok (S.taken sink)))
         (λ kind. StopsWith depth parser.old (option_copied base.entry) kind) }
 {
     let base = copied(base)?;

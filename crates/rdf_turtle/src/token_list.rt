@@ -1,7 +1,7 @@
 //! The token list of a text, with Turtle's faults.
 ghost use Rattle.std.specs.Prelude.{◌≡◌, List, Ok, IfOk, IfErr};
 ghost use Rattle.std.specs.Str.{chars};
-ghost use Rattle.rdf_tokens.specs.Tokens.{Says};
+ghost use Rattle.rdf_tokens.specs.Tokens.{Tokenizes};
 ghost use Rattle.rdf_tokens.specs.declared.token.Token.{Token as Held};
 ghost use Rattle.rdf_turtle.specs.Inside.LinedFaults.{turtle_fault};
 ghost use Rattle.rdf_turtle.specs.TokenFaults.{IsTokenFault};
@@ -34,10 +34,10 @@ fn turtle_fault(text: &str, fault: TokenFault) -> TurtleFault
 /// [`TurtleFaultKind::Token`] where somewhere no token begins: the text then has no token list, and the
 /// line is that of the first such place. [`TurtleFaultKind::NoMemory`], with line 0, where memory is wanting.
 pub fn tokens(alloc: Global, text: &str) -> Result<Vec<Token>, TurtleFault>
-    ensures said { IfOk result (λ list. Says (chars text.now) (Ok list.items)) }
+    ensures said { IfOk result (λ list. Tokenizes (chars text.now) (Ok list.items)) }
     ensures fault { IfErr result (λ e. IsTokenFault text.now e) }
     ensures none { IfErr result (λ e. e.kind ≡ faults.Token → (list : List Held) →
-        ¬ Says (chars text.now) (Ok list)) }
+        ¬ Tokenizes (chars text.now) (Ok list)) }
 {
     match rdf_tokens::tokens(alloc, text) {
         Ok(list) => Ok(list),

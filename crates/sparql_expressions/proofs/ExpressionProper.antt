@@ -10,8 +10,8 @@ use Rattle.rdf_grammar.specs.Literals.{proper_literal}
 use Rattle.sparql_terminals.specs.declared.terminal.Terminal.{Terminal}
 use Rattle.sparql_terminals.specs.declared.terminal.Terminal.TheVariants as terminal
 use Rattle.sparql_terminals.specs.Lexemes.{Derives}
-use Rattle.sparql_terminals.proofs.Gives.{Gives, Any, then_gives, pure_gives, or_gives, value_gives, map_gives, behind_gives, closed_gives, star_gives, one_gives}
-use Rattle.sparql_terminals.proofs.WordGives.{Passes, iri_gives, literal_gives}
+use Rattle.sparql_terminals.proofs.Yields.{Yields, Any, then_gives, pure_gives, or_gives, value_gives, map_gives, behind_gives, closed_gives, star_gives, one_gives}
+use Rattle.sparql_terminals.proofs.WordYields.{Passes, iri_gives, literal_gives}
 use Rattle.sparql_trees.specs.declared.expression.Comparison.{Comparison}
 use Rattle.sparql_trees.specs.declared.expression.Comparison.TheVariants as c
 use Rattle.sparql_trees.specs.declared.expression.Function.{Function}
@@ -82,102 +82,102 @@ good_literal literal h = by-Literal proper_expression_of literal ∙ h
 
 -- ---- words
 
-comparison_gives : Gives g.AComparison Any
+comparison_gives : Yields g.AComparison Any
 comparison_gives =
     or_gives _ _ Any (closed_gives terminal.Equal c.Equal Any tt) (or_gives _ _ Any (closed_gives terminal.NotEqual c.NotEqual Any tt) (or_gives _ _ Any (closed_gives terminal.Less c.Less Any tt)
     (or_gives _ _ Any (closed_gives terminal.Greater c.Greater Any tt) (or_gives _ _ Any (closed_gives terminal.LessOrEqual c.LessOrEqual Any tt) (closed_gives terminal.GreaterOrEqual c.GreaterOrEqual Any tt)))))
 
-sign_gives : Gives g.ASign Any
+sign_gives : Yields g.ASign Any
 sign_gives = or_gives _ _ Any (closed_gives terminal.Plus Plus Any tt) (closed_gives terminal.Minus Minus Any tt)
 
-function_gives : Gives g.AFunction Any
+function_gives : Yields g.AFunction Any
 function_gives =
     or_gives _ _ Any (closed_gives terminal.IsIri f.IsIri Any tt) (or_gives _ _ Any (closed_gives terminal.IsUri f.IsIri Any tt) (or_gives _ _ Any (closed_gives terminal.IsBlank f.IsBlank Any tt)
     (or_gives _ _ Any (closed_gives terminal.IsLiteral f.IsLiteral Any tt) (or_gives _ _ Any (closed_gives terminal.Str f.Str Any tt)
     (or_gives _ _ Any (closed_gives terminal.Lang f.Lang Any tt) (closed_gives terminal.Datatype f.Datatype Any tt))))))
 
-signed_gives : Gives g.SignedNumber (Passes proper_literal)
+signed_gives : Yields g.SignedNumber (Passes proper_literal)
 signed_gives = or_gives _ _ (Passes proper_literal) (map_gives l.Integer _ _ (Passes proper_literal) (value_gives terminal.SignedInteger) (λ a h. refl))
     (or_gives _ _ (Passes proper_literal) (map_gives l.Decimal _ _ (Passes proper_literal) (value_gives terminal.SignedDecimal) (λ a h. refl))
     (map_gives l.Double _ _ (Passes proper_literal) (value_gives terminal.SignedDouble) (λ a h. refl)))
 
-bound_gives : Gives g.Bound Proper
+bound_gives : Yields g.Bound Proper
 bound_gives =
     behind_gives terminal.Bound _ Proper (behind_gives terminal.Open _ Proper
     (then_gives _ _ _ Proper (value_gives terminal.Variable) (λ name h. closed_gives terminal.Close (e.Bound name) Proper (by-Bound proper_expression_of name))))
 
 -- ---- over a grammar of what stands in parentheses
 
-module _ (Expression' : Derives Expression) (inside : Gives Expression' Proper) where
-  bracketted_gives : Gives (g.BrackettedExpression Expression') Proper
+module _ (Expression' : Derives Expression) (inside : Yields Expression' Proper) where
+  bracketted_gives : Yields (g.BrackettedExpression Expression') Proper
   bracketted_gives = behind_gives terminal.Open _ Proper (then_gives _ _ Proper Proper inside (λ x h. closed_gives terminal.Close x Proper h))
 
-  same_term_gives : Gives (g.SameTerm Expression') Proper
+  same_term_gives : Yields (g.SameTerm Expression') Proper
   same_term_gives =
       behind_gives terminal.SameTerm _ Proper (behind_gives terminal.Open _ Proper (then_gives _ _ Proper Proper inside
       (λ x h. behind_gives terminal.Comma _ Proper (then_gives _ _ Proper Proper inside (λ y j. closed_gives terminal.Close (e.SameTerm x y) Proper (good_same x y h j))))))
 
-  function_call_gives : Gives (g.FunctionCall Expression') Proper
+  function_call_gives : Yields (g.FunctionCall Expression') Proper
   function_call_gives = then_gives _ _ Any Proper function_gives (λ function _. map_gives (e.Call function) _ Proper Proper bracketted_gives (good_call function))
 
-  call_gives : Gives (g.BuiltInCall Expression') Proper
+  call_gives : Yields (g.BuiltInCall Expression') Proper
   call_gives = or_gives _ _ Proper bound_gives (or_gives _ _ Proper same_term_gives function_call_gives)
 
-  pub constraint_gives_with : Gives (g.Constraint Expression') Proper
+  pub constraint_gives_with : Yields (g.Constraint Expression') Proper
   constraint_gives_with = or_gives _ _ Proper bracketted_gives call_gives
 
-  primary_gives : Gives (g.PrimaryExpression Expression') Proper
+  primary_gives : Yields (g.PrimaryExpression Expression') Proper
   primary_gives =
       or_gives _ _ Proper bracketted_gives (or_gives _ _ Proper call_gives (or_gives _ _ Proper (map_gives e.Name _ _ Proper iri_gives (λ name h. by-Name proper_expression_of name ∙ h))
       (or_gives _ _ Proper (map_gives e.Literal _ _ Proper literal_gives good_literal) (map_gives e.Variable _ _ Proper (value_gives terminal.Variable) (λ name h. by-Variable proper_expression_of name)))))
 
-  unary_gives : Gives (g.UnaryExpression Expression') Proper
+  unary_gives : Yields (g.UnaryExpression Expression') Proper
   unary_gives =
       or_gives _ _ Proper (behind_gives terminal.Not _ Proper (map_gives e.Not _ Proper Proper primary_gives good_not))
       (or_gives _ _ Proper (behind_gives terminal.Plus _ Proper (map_gives (e.Signed Plus) _ Proper Proper primary_gives (good_signed Plus)))
       (or_gives _ _ Proper (behind_gives terminal.Minus _ Proper (map_gives (e.Signed Minus) _ Proper Proper primary_gives (good_signed Minus))) primary_gives))
 
   -- ( an operator P )*
-  behind_each : (k : Terminal) (P : Derives Expression) → Gives P Proper → Gives (Star (grammar.one (grammar.◌>>◌ (grammar.the k) P))) AllProper
+  behind_each : (k : Terminal) (P : Derives Expression) → Yields P Proper → Yields (Star (grammar.one (grammar.◌>>◌ (grammar.the k) P))) AllProper
   behind_each k P p = star_gives _ Proper (one_gives _ Proper (behind_gives k P Proper p))
 
-  chain_gives : (k : Terminal) (node : List Expression → Expression) → ((xs : List Expression) → AllProper xs → Proper (node xs)) → (P : Derives Expression) → Gives P Proper
-      → Gives (grammar.◌>>=◌ P (λ first. grammar.◌>>=◌ (Star (grammar.one (grammar.◌>>◌ (grammar.the k) P))) (λ others. grammar.pure (chain node first others)))) Proper
+  chain_gives : (k : Terminal) (node : List Expression → Expression) → ((xs : List Expression) → AllProper xs → Proper (node xs)) → (P : Derives Expression) → Yields P Proper
+      → Yields (grammar.◌>>=◌ P (λ first. grammar.◌>>=◌ (Star (grammar.one (grammar.◌>>◌ (grammar.the k) P))) (λ others. grammar.pure (chain node first others)))) Proper
   chain_gives k node good P p =
       then_gives _ _ Proper Proper p (λ first h. then_gives _ _ AllProper Proper (behind_each k P p) (λ others hs. pure_gives (chain node first others) Proper (good_chain node good first others h hs)))
 
-  multiplicative_gives : Gives (g.MultiplicativeExpression Expression') Proper
+  multiplicative_gives : Yields (g.MultiplicativeExpression Expression') Proper
   multiplicative_gives = chain_gives terminal.Star e.Product good_product _ unary_gives
 
-  sign_and_product_gives : Gives (g.SignAndProduct Expression') ProperAddend
+  sign_and_product_gives : Yields (g.SignAndProduct Expression') ProperAddend
   sign_and_product_gives = then_gives _ _ Any ProperAddend sign_gives (λ sign _. then_gives _ _ Proper ProperAddend multiplicative_gives (λ x h. pure_gives (sign, x) ProperAddend h))
 
-  signed_product_gives : Gives (g.SignedProduct Expression') ProperAddend
+  signed_product_gives : Yields (g.SignedProduct Expression') ProperAddend
   signed_product_gives =
       then_gives _ _ (Passes proper_literal) ProperAddend signed_gives (λ number h. then_gives _ _ AllProper ProperAddend (behind_each terminal.Star _ unary_gives)
       (λ others hs. pure_gives (Plus, chain e.Product (e.Literal number) others) ProperAddend (good_chain e.Product good_product (e.Literal number) others (good_literal number h) hs)))
 
-  additive_gives : Gives (g.AdditiveExpression Expression') Proper
+  additive_gives : Yields (g.AdditiveExpression Expression') Proper
   additive_gives =
       then_gives _ _ Proper Proper multiplicative_gives
       (λ first h. then_gives _ _ (AllByRecursion ProperAddend) Proper (star_gives _ ProperAddend (one_gives _ ProperAddend (or_gives _ _ ProperAddend sign_and_product_gives signed_product_gives)))
       (λ others hs. pure_gives (sum first others) Proper (good_sum first others h hs)))
 
-  relational_gives : Gives (g.RelationalExpression Expression') Proper
+  relational_gives : Yields (g.RelationalExpression Expression') Proper
   relational_gives =
       then_gives _ _ Proper Proper additive_gives
       (λ left h. or_gives _ _ Proper (then_gives _ _ Any Proper comparison_gives (λ operator _. map_gives (e.Compare operator left) _ Proper Proper additive_gives (λ right j. good_compare operator left right h j))) (pure_gives left Proper h))
 
-  and_gives : Gives (g.ConditionalAndExpression Expression') Proper
+  and_gives : Yields (g.ConditionalAndExpression Expression') Proper
   and_gives = chain_gives terminal.And e.And good_and _ relational_gives
 
-  or_expression_gives : Gives (g.ConditionalOrExpression Expression') Proper
+  or_expression_gives : Yields (g.ConditionalOrExpression Expression') Proper
   or_expression_gives = chain_gives terminal.Or e.Or good_or _ and_gives
 
-expression_gives : (depth : ℕ) → Gives (g.Expressions_at depth) Proper
-unfolding Gives
+expression_gives : (depth : ℕ) → Yields (g.Expressions_at depth) Proper
+unfolding Yields
 expression_gives zero ts x us d formed = absurd d
 expression_gives (suc depth) ts x us d formed = or_expression_gives (g.Expressions_at depth) (expression_gives depth) ts x us d formed
 
-pub constraint_gives : (depth : ℕ) → Gives (g.Constraint (g.Expressions_at depth)) (Passes proper_expression)
+pub constraint_gives : (depth : ℕ) → Yields (g.Constraint (g.Expressions_at depth)) (Passes proper_expression)
 constraint_gives depth = constraint_gives_with (g.Expressions_at depth) (expression_gives depth)

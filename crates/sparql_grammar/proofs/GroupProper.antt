@@ -22,8 +22,8 @@ use Rattle.sparql_grammar.specs.GroupGrammar as groups
 use Rattle.sparql_grammar.specs.GroupReading.{filters_of, group_with, members_behind, together}
 use Rattle.sparql_terminals.specs.Lexemes.{Derives}
 use Rattle.sparql_grammar.specs.Proper.{holds, is_filled, proper_triples, proper_var_or_iri, proper_group_of, proper_member_of, proper_group, proper_member}
-use Rattle.sparql_terminals.proofs.Gives.{Gives, Any, IsGoodOption, good_joined, then_gives, pure_gives, or_gives, also_gives, map_gives, behind_gives, closed_gives, maybe_gives, star_gives, one_gives}
-use Rattle.sparql_terminals.proofs.WordGives.{Passes}
+use Rattle.sparql_terminals.proofs.Yields.{Yields, Any, IsGoodOption, good_joined, then_gives, pure_gives, or_gives, also_gives, map_gives, behind_gives, closed_gives, maybe_gives, star_gives, one_gives}
+use Rattle.sparql_terminals.proofs.WordYields.{Passes}
 use Rattle.sparql_grammar.proofs.GrammarProper.{Some_pass, all_pass, perhaps_gives, var_or_iri_gives, triples_give}
 use Rattle.sparql_grammar.proofs.Trees.{filled_map}
 
@@ -102,53 +102,53 @@ some_block (Some x) h = (h, tt)
 
 -- ---- groups, over grammars of triples, of constraints and of the groups inside
 
-module _ (Group' : Derives Group) (i : Gives Group' (Passes proper_group)) where
-  union_gives : Gives (groups.GroupOrUnionGraphPattern Group') (Passes proper_member)
+module _ (Group' : Derives Group) (i : Yields Group' (Passes proper_group)) where
+  union_gives : Yields (groups.GroupOrUnionGraphPattern Group') (Passes proper_member)
   union_gives = then_gives _ _ (Passes proper_group) (Passes proper_member) i (λ first h. then_gives _ _ (AllByRecursion (Passes proper_group)) (Passes proper_member)
       (star_gives _ (Passes proper_group) (one_gives _ (Passes proper_group) (behind_gives terminal.Union Group' (Passes proper_group) i)))
       (λ others hs. pure_gives (m.Union (first ∷ others)) (Passes proper_member) (good_union (first ∷ others) ((h, hs), refl))))
 
-  graph_gives : Gives (groups.GraphGraphPattern Group') (Passes proper_member)
+  graph_gives : Yields (groups.GraphGraphPattern Group') (Passes proper_member)
   graph_gives = behind_gives terminal.Graph _ (Passes proper_member) (then_gives _ _ (Passes proper_var_or_iri) (Passes proper_member) var_or_iri_gives
       (λ place h. then_gives _ _ (Passes proper_group) (Passes proper_member) i (λ x k. pure_gives (m.Graph place x) (Passes proper_member) (good_graph place x h k))))
 
-  pattern_gives : Gives (groups.APattern Group') (Passes proper_member)
+  pattern_gives : Yields (groups.APattern Group') (Passes proper_member)
   pattern_gives = or_gives _ _ (Passes proper_member) union_gives
       (or_gives _ _ (Passes proper_member) (behind_gives terminal.Optional _ (Passes proper_member) (map_gives m.Optional _ (Passes proper_group) (Passes proper_member) i good_optional)) graph_gives)
 
 module _ (Block : Derives (List Triples)) (Constraint' : Derives Expression) (Group' : Derives Group)
-    (p : Gives Block (Some_pass proper_triples)) (asks : Gives Constraint' (Passes proper_expression)) (i : Gives Group' (Passes proper_group)) where
-  either_gives : Gives (groups.GraphPatternNotTriples Constraint' Group') Good
+    (p : Yields Block (Some_pass proper_triples)) (asks : Yields Constraint' (Passes proper_expression)) (i : Yields Group' (Passes proper_group)) where
+  either_gives : Yields (groups.GraphPatternNotTriples Constraint' Group') Good
   either_gives = or_gives _ _ Good (map_gives e.Pattern _ (Passes proper_member) Good (pattern_gives Group' i) (λ member h. h))
       (behind_gives terminal.Filter _ Good (map_gives e.Filter _ (Passes proper_expression) Good asks (λ expression h. h)))
 
-  maybe_block_gives : Gives (groups.MaybeBlock Block) (IsGoodOption Good)
+  maybe_block_gives : Yields (groups.MaybeBlock Block) (IsGoodOption Good)
   maybe_block_gives = maybe_gives _ Good (map_gives e.Block _ (Some_pass proper_triples) Good p (λ triples h. h))
 
-  pattern_and_block_give : Gives (groups.PatternAndBlock Block Constraint' Group') (AllByRecursion Good)
+  pattern_and_block_give : Yields (groups.PatternAndBlock Block Constraint' Group') (AllByRecursion Good)
   pattern_and_block_give = then_gives _ _ Good (AllByRecursion Good) either_gives
       (λ pattern h. then_gives _ _ Any (AllByRecursion Good) (perhaps_gives terminal.Dot)
       (λ _ _. then_gives _ _ (IsGoodOption Good) (AllByRecursion Good) maybe_block_gives
       (λ block k. pure_gives (pattern ∷ option_to_list block) (AllByRecursion Good) (h, some_block block k))))
 
-  contents_give : Gives (groups.GroupGraphPatternSub Block Constraint' Group') (Passes proper_group)
+  contents_give : Yields (groups.GroupGraphPatternSub Block Constraint' Group') (Passes proper_group)
   contents_give = then_gives _ _ (IsGoodOption Good) (Passes proper_group) maybe_block_gives
       (λ first h. then_gives _ _ (AllByRecursion Good) (Passes proper_group) (star_gives _ Good pattern_and_block_give)
       (λ others k. pure_gives (group_with (option_to_list first ++ others)) (Passes proper_group)
       (good_group (option_to_list first ++ others) (good_joined Good (option_to_list first) others (some_block first h) k))))
 
-  group_gives : Gives (groups.GroupGraphPattern Block Constraint' Group') (Passes proper_group)
+  group_gives : Yields (groups.GroupGraphPattern Block Constraint' Group') (Passes proper_group)
   group_gives = behind_gives terminal.OpenBrace _ (Passes proper_group) (then_gives _ _ (Passes proper_group) (Passes proper_group) contents_give
       (λ inside h. closed_gives terminal.CloseBrace inside (Passes proper_group) h))
 
-groups_give : (Block : Derives (List Triples)) (Constraint' : Derives Expression) → Gives Block (Some_pass proper_triples) → Gives Constraint' (Passes proper_expression)
-    → (depth : ℕ) → Gives (groups.Groups_at Block Constraint' depth) (Passes proper_group)
-unfolding Gives
+groups_give : (Block : Derives (List Triples)) (Constraint' : Derives Expression) → Yields Block (Some_pass proper_triples) → Yields Constraint' (Passes proper_expression)
+    → (depth : ℕ) → Yields (groups.Groups_at Block Constraint' depth) (Passes proper_group)
+unfolding Yields
 groups_give Block Constraint' p asks zero ts x us d w = absurd d
 groups_give Block Constraint' p asks (suc depth) ts x us d w = group_gives Block Constraint' (groups.Groups_at Block Constraint' depth) p asks (groups_give Block Constraint' p asks depth) ts x us d w
 
-block_gives : (depth : ℕ) → Gives (TriplesTemplate (Nodes_at depth)) (Some_pass proper_triples)
+block_gives : (depth : ℕ) → Yields (TriplesTemplate (Nodes_at depth)) (Some_pass proper_triples)
 block_gives depth = also_gives _ (AllByRecursion (Passes proper_triples)) (Passes is_filled) (triples_give depth) (λ ts x us d. ap is_filled (sym d.goes.goes.goes.0))
 
-pub group_at_gives : (depth : ℕ) → Gives (groups.GroupAt depth) (Passes proper_group)
+pub group_at_gives : (depth : ℕ) → Yields (groups.GroupAt depth) (Passes proper_group)
 group_at_gives depth = groups_give (TriplesTemplate (Nodes_at depth)) (Constraint (Expressions_at depth)) (block_gives depth) (constraint_gives depth) (suc depth)

@@ -32,8 +32,8 @@ use Rattle.sparql_grammar.specs.Reading.{all_of}
 use Rattle.sparql_grammar.specs.RequestLaws.{RequestsAreProper}
 use Rattle.sparql_terminals.specs.Terminals.{terminal_by}
 use Rattle.sparql_terminals.proofs.FormedSlices.{lexemes_formed}
-use Rattle.sparql_terminals.proofs.Gives.{Gives, Any, IsGoodOption, then_gives, pure_gives, or_gives, the_gives, map_gives, behind_gives, closed_gives, maybe_gives, star_gives, one_gives}
-use Rattle.sparql_terminals.proofs.WordGives.{Passes, iri_gives}
+use Rattle.sparql_terminals.proofs.Yields.{Yields, Any, IsGoodOption, then_gives, pure_gives, or_gives, the_gives, map_gives, behind_gives, closed_gives, maybe_gives, star_gives, one_gives}
+use Rattle.sparql_terminals.proofs.WordYields.{Passes, iri_gives}
 use Rattle.sparql_grammar.proofs.GrammarProper.{all_pass, perhaps_gives, var_or_iri_gives, triples_give}
 use Rattle.sparql_grammar.proofs.GroupProper.{group_at_gives}
 use Rattle.sparql_grammar.proofs.OperationNests.{PartsAt}
@@ -43,21 +43,21 @@ use Rattle.sparql_grammar.proofs.PrologueProductions.{declaration_gives}
 
 -- ---- operations on graphs
 
-graph_ref_gives : Gives g.GraphRef (Passes is_proper)
+graph_ref_gives : Yields g.GraphRef (Passes is_proper)
 graph_ref_gives = behind_gives terminal.Graph _ (Passes is_proper) iri_gives
 
-graph_ref_all_gives : Gives g.AGraphRefAll (Passes proper_graph_ref_all)
+graph_ref_all_gives : Yields g.AGraphRefAll (Passes proper_graph_ref_all)
 graph_ref_all_gives =
     or_gives _ _ (Passes proper_graph_ref_all) (map_gives graphs.Graph _ _ (Passes proper_graph_ref_all) graph_ref_gives (λ a h. h))
     (or_gives _ _ (Passes proper_graph_ref_all) (closed_gives terminal.Default graphs.Default (Passes proper_graph_ref_all) refl)
     (or_gives _ _ (Passes proper_graph_ref_all) (closed_gives terminal.Named graphs.Named (Passes proper_graph_ref_all) refl) (closed_gives terminal.All graphs.All (Passes proper_graph_ref_all) refl)))
 
-graph_or_default_gives : Gives g.AGraphOrDefault (Passes proper_graph_or_default)
+graph_or_default_gives : Yields g.AGraphOrDefault (Passes proper_graph_or_default)
 graph_or_default_gives =
     or_gives _ _ (Passes proper_graph_or_default) (closed_gives terminal.Default place.Default (Passes proper_graph_or_default) refl)
     (then_gives _ _ Any (Passes proper_graph_or_default) (perhaps_gives terminal.Graph) (λ _ _. map_gives place.Graph _ _ (Passes proper_graph_or_default) iri_gives (λ a h. h)))
 
-create_gives : Gives g.Create (Passes proper_operation)
+create_gives : Yields g.Create (Passes proper_operation)
 unfolding proper_operation
 create_gives = behind_gives terminal.Create _ (Passes proper_operation) (then_gives _ _ Any (Passes proper_operation) (perhaps_gives terminal.Silent)
     (λ silent _. then_gives _ _ (Passes is_proper) (Passes proper_operation) graph_ref_gives (λ graph h. pure_gives (o.Create silent graph) (Passes proper_operation) h)))
@@ -65,18 +65,18 @@ create_gives = behind_gives terminal.Create _ (Passes proper_operation) (then_gi
 abbrev GoodOn : Bool × GraphRefAll → Type 0
 GoodOn x = proper_graph_ref_all x.1 ≡ true
 
-on_graphs_gives : Gives g.OnGraphs GoodOn
+on_graphs_gives : Yields g.OnGraphs GoodOn
 on_graphs_gives = then_gives _ _ Any GoodOn (perhaps_gives terminal.Silent)
     (λ silent _. then_gives _ _ (Passes proper_graph_ref_all) GoodOn graph_ref_all_gives (λ graphs h. pure_gives (silent, graphs) GoodOn h))
 
 on_gives : (k : Terminal) (operation : Bool → GraphRefAll → Operation) → ((silent : Bool) (graphs : GraphRefAll) → proper_operation (operation silent graphs) ≡ proper_graph_ref_all graphs)
-    → Gives (grammar.◌>>◌ (grammar.the k) (grammar.◌<$>◌ (on_graphs_by operation) g.OnGraphs)) (Passes proper_operation)
+    → Yields (grammar.◌>>◌ (grammar.the k) (grammar.◌<$>◌ (on_graphs_by operation) g.OnGraphs)) (Passes proper_operation)
 on_gives k operation is = behind_gives k _ (Passes proper_operation) (map_gives (on_graphs_by operation) _ GoodOn (Passes proper_operation) on_graphs_gives (λ x h. rw (is x.0 x.1) h))
 
 abbrev GoodBetween : Bool × GraphOrDefault × GraphOrDefault → Type 0
 GoodBetween x = (proper_graph_or_default x.1 ≡ true) × (proper_graph_or_default x.2 ≡ true)
 
-between_gives : Gives g.Between GoodBetween
+between_gives : Yields g.Between GoodBetween
 between_gives = then_gives _ _ Any GoodBetween (perhaps_gives terminal.Silent)
     (λ silent _. then_gives _ _ (Passes proper_graph_or_default) GoodBetween graph_or_default_gives
     (λ from h. behind_gives terminal.To _ GoodBetween (then_gives _ _ (Passes proper_graph_or_default) GoodBetween graph_or_default_gives
@@ -84,11 +84,11 @@ between_gives = then_gives _ _ Any GoodBetween (perhaps_gives terminal.Silent)
 
 from_to_gives : (k : Terminal) (operation : Bool → GraphOrDefault → GraphOrDefault → Operation)
     → ((silent : Bool) (from to : GraphOrDefault) → proper_operation (operation silent from to) ≡ proper_graph_or_default from && proper_graph_or_default to)
-    → Gives (grammar.◌>>◌ (grammar.the k) (grammar.◌<$>◌ (between_by operation) g.Between)) (Passes proper_operation)
+    → Yields (grammar.◌>>◌ (grammar.the k) (grammar.◌<$>◌ (between_by operation) g.Between)) (Passes proper_operation)
 from_to_gives k operation is = behind_gives k _ (Passes proper_operation) (map_gives (between_by operation) _ GoodBetween (Passes proper_operation) between_gives
     (λ x h. rw (is x.0 x.1 x.2) (and_from (proper_graph_or_default x.1) (proper_graph_or_default x.2) h.0 h.1)))
 
-graph_operation_gives : Gives g.GraphOperation (Passes proper_operation)
+graph_operation_gives : Yields g.GraphOperation (Passes proper_operation)
 unfolding proper_operation
 graph_operation_gives =
     or_gives _ _ (Passes proper_operation) (on_gives terminal.Clear o.Clear (λ silent graphs. refl))
@@ -103,40 +103,40 @@ some_triples : (found : Option (List Triples)) → IsGoodOption (AllByRecursion 
 some_triples None h = tt
 some_triples (Some triples) h = h
 
-module _ (Template : Derives (List Triples)) (p : Gives Template (AllByRecursion (Passes proper_triples))) where
-  maybe_triples_give : Gives (g.MaybeTriples Template) (AllByRecursion (Passes proper_triples))
+module _ (Template : Derives (List Triples)) (p : Yields Template (AllByRecursion (Passes proper_triples))) where
+  maybe_triples_give : Yields (g.MaybeTriples Template) (AllByRecursion (Passes proper_triples))
   maybe_triples_give = map_gives all_of _ (IsGoodOption (AllByRecursion (Passes proper_triples))) _ (maybe_gives _ (AllByRecursion (Passes proper_triples)) p) some_triples
 
   good_block : (graph : Option VarOrIri) (triples : List Triples) → proper_graph graph ≡ true → AllByRecursion (Passes proper_triples) triples → proper_block (block graph triples) ≡ true
   good_block graph triples h all = and_from (proper_graph graph) (list_all holds (map proper_triples triples)) h (all_pass proper_triples triples all)
 
-  default_block_gives : Gives (g.DefaultBlock Template) (Passes proper_block)
+  default_block_gives : Yields (g.DefaultBlock Template) (Passes proper_block)
   default_block_gives = map_gives (block None) _ _ (Passes proper_block) maybe_triples_give (λ triples all. good_block None triples refl all)
 
-  quads_not_triples_give : Gives (g.QuadsNotTriples Template) (Passes proper_block)
+  quads_not_triples_give : Yields (g.QuadsNotTriples Template) (Passes proper_block)
   quads_not_triples_give = behind_gives terminal.Graph _ (Passes proper_block) (then_gives _ _ (Passes proper_var_or_iri) (Passes proper_block) var_or_iri_gives
       (λ graph h. behind_gives terminal.OpenBrace _ (Passes proper_block) (then_gives _ _ (AllByRecursion (Passes proper_triples)) (Passes proper_block) maybe_triples_give
       (λ triples all. closed_gives terminal.CloseBrace (block (Some graph) triples) (Passes proper_block) (good_block (Some graph) triples h all)))))
 
-module _ (Template Inner : Derives (List Triples)) (p : Gives Template (AllByRecursion (Passes proper_triples))) (i : Gives Inner (AllByRecursion (Passes proper_triples))) where
-  named_and_default_give : Gives (g.NamedAndDefault Template Inner) (AllByRecursion (Passes proper_block))
+module _ (Template Inner : Derives (List Triples)) (p : Yields Template (AllByRecursion (Passes proper_triples))) (i : Yields Inner (AllByRecursion (Passes proper_triples))) where
+  named_and_default_give : Yields (g.NamedAndDefault Template Inner) (AllByRecursion (Passes proper_block))
   named_and_default_give = then_gives _ _ (Passes proper_block) (AllByRecursion (Passes proper_block)) (quads_not_triples_give Inner i)
       (λ named h. then_gives _ _ Any (AllByRecursion (Passes proper_block)) (perhaps_gives terminal.Dot)
       (λ _ _. then_gives _ _ (Passes proper_block) (AllByRecursion (Passes proper_block)) (default_block_gives Template p)
       (λ default d. pure_gives (named ∷ default ∷ []) (AllByRecursion (Passes proper_block)) (h, (d, tt)))))
 
-  quads_give : Gives (g.Quads Template Inner) (AllByRecursion (Passes proper_block))
+  quads_give : Yields (g.Quads Template Inner) (AllByRecursion (Passes proper_block))
   quads_give = then_gives _ _ (Passes proper_block) (AllByRecursion (Passes proper_block)) (default_block_gives Template p)
       (λ first h. then_gives _ _ (AllByRecursion (Passes proper_block)) (AllByRecursion (Passes proper_block)) (star_gives _ (Passes proper_block) named_and_default_give)
       (λ others all. pure_gives (first ∷ others) (AllByRecursion (Passes proper_block)) (h, all)))
 
-  quad_pattern_gives : Gives (g.QuadPattern Template Inner) (AllByRecursion (Passes proper_block))
+  quad_pattern_gives : Yields (g.QuadPattern Template Inner) (AllByRecursion (Passes proper_block))
   quad_pattern_gives = behind_gives terminal.OpenBrace _ (AllByRecursion (Passes proper_block)) (then_gives _ _ (AllByRecursion (Passes proper_block)) (AllByRecursion (Passes proper_block)) quads_give
       (λ blocks all. closed_gives terminal.CloseBrace blocks (AllByRecursion (Passes proper_block)) all))
 
   -- two words, and quads in braces
   quads_behind_give : (k l : Terminal) (operation : List Block → Operation) → ((blocks : List Block) → proper_operation (operation blocks) ≡ proper_blocks blocks)
-      → Gives (grammar.◌>>◌ (grammar.the k) (grammar.◌>>◌ (grammar.the l) (grammar.◌>>=◌ (g.QuadPattern Template Inner) (λ blocks. grammar.pure (operation blocks))))) (Passes proper_operation)
+      → Yields (grammar.◌>>◌ (grammar.the k) (grammar.◌>>◌ (grammar.the l) (grammar.◌>>=◌ (g.QuadPattern Template Inner) (λ blocks. grammar.pure (operation blocks))))) (Passes proper_operation)
   quads_behind_give k l operation is = behind_gives k _ (Passes proper_operation) (behind_gives l _ (Passes proper_operation)
       (then_gives _ _ (AllByRecursion (Passes proper_block)) (Passes proper_operation) quad_pattern_gives
       (λ blocks all. pure_gives (operation blocks) (Passes proper_operation) (rw (is blocks) (all_pass proper_block blocks all)))))
@@ -150,13 +150,13 @@ module _ (Template Inner : Derives (List Triples)) (p : Gives Template (AllByRec
   some_blocks None h = tt
   some_blocks (Some blocks) h = h
 
-  insert_clause_gives : Gives (g.InsertClause Template Inner) (AllByRecursion (Passes proper_block))
+  insert_clause_gives : Yields (g.InsertClause Template Inner) (AllByRecursion (Passes proper_block))
   insert_clause_gives = behind_gives terminal.Insert _ (AllByRecursion (Passes proper_block)) quad_pattern_gives
 
-  maybe_insert_gives : Gives (grammar.◌<$>◌ all_of (grammar.maybe (g.InsertClause Template Inner))) (AllByRecursion (Passes proper_block))
+  maybe_insert_gives : Yields (grammar.◌<$>◌ all_of (grammar.maybe (g.InsertClause Template Inner))) (AllByRecursion (Passes proper_block))
   maybe_insert_gives = map_gives all_of _ (IsGoodOption (AllByRecursion (Passes proper_block))) _ (maybe_gives _ (AllByRecursion (Passes proper_block)) insert_clause_gives) some_blocks
 
-  templates_give : Gives (grammar.◌∣◌ (g.DeleteAndInsert Template Inner) (g.InsertAlone Template Inner)) GoodTemplates
+  templates_give : Yields (grammar.◌∣◌ (g.DeleteAndInsert Template Inner) (g.InsertAlone Template Inner)) GoodTemplates
   templates_give = or_gives _ _ GoodTemplates
       (then_gives _ _ (AllByRecursion (Passes proper_block)) GoodTemplates (behind_gives terminal.Delete _ (AllByRecursion (Passes proper_block)) quad_pattern_gives)
       (λ delete h. then_gives _ _ (AllByRecursion (Passes proper_block)) GoodTemplates maybe_insert_gives (λ insert i. pure_gives (delete, insert) GoodTemplates (h, i))))
@@ -173,15 +173,15 @@ good_modify name templates group n delete insert h =
     (and_from (proper_blocks templates.0) (proper_blocks templates.1 && proper_group group) (all_pass proper_block templates.0 delete)
     (and_from (proper_blocks templates.1) (proper_group group) (all_pass proper_block templates.1 insert) h))
 
-module _ (Template Inner : Derives (List Triples)) (Group' : Derives Group) (p : Gives Template (AllByRecursion (Passes proper_triples))) (i : Gives Inner (AllByRecursion (Passes proper_triples)))
-    (k : Gives Group' (Passes proper_group)) where
-  modify_gives : Gives (g.AModify Template Inner Group') (Passes proper_modify)
+module _ (Template Inner : Derives (List Triples)) (Group' : Derives Group) (p : Yields Template (AllByRecursion (Passes proper_triples))) (i : Yields Inner (AllByRecursion (Passes proper_triples)))
+    (k : Yields Group' (Passes proper_group)) where
+  modify_gives : Yields (g.AModify Template Inner Group') (Passes proper_modify)
   modify_gives = then_gives _ _ (IsGoodOption (Passes is_proper)) (Passes proper_modify) (maybe_gives _ (Passes is_proper) (behind_gives terminal.With _ (Passes is_proper) iri_gives))
       (λ name n. then_gives _ _ (GoodTemplates Template Inner p i) (Passes proper_modify) (templates_give Template Inner p i)
       (λ templates h. behind_gives terminal.Where _ (Passes proper_modify) (then_gives _ _ (Passes proper_group) (Passes proper_modify) k
       (λ inside w. pure_gives (modify_with name templates inside) (Passes proper_modify) (good_modify name templates inside n h.0 h.1 w)))))
 
-  operation_gives : Gives (g.Update1 Template Inner Group') (Passes proper_operation)
+  operation_gives : Yields (g.Update1 Template Inner Group') (Passes proper_operation)
   unfolding proper_operation
   operation_gives =
       or_gives _ _ (Passes proper_operation) graph_operation_gives
@@ -190,23 +190,23 @@ module _ (Template Inner : Derives (List Triples)) (Group' : Derives Group) (p :
       (or_gives _ _ (Passes proper_operation) (quads_behind_give Template Inner p i terminal.Delete terminal.Where o.DeleteWhere (λ blocks. refl))
       (map_gives o.Modify _ (Passes proper_modify) (Passes proper_operation) modify_gives (λ m h. h)))))
 
-  end_gives : Gives Ended Any
-  unfolding Gives
+  end_gives : Yields Ended Any
+  unfolding Yields
   end_gives ts x us (inl d) w = the_gives terminal.Semicolon ts x us d w
   end_gives ts x us (inr d) w = (tt, rw (← d.0) w)
 
-  ended_operation_gives : Gives (EndedOperation (g.Update1 Template Inner Group')) (Passes proper_part)
+  ended_operation_gives : Yields (EndedOperation (g.Update1 Template Inner Group')) (Passes proper_part)
   ended_operation_gives = then_gives _ _ (Passes proper_operation) (Passes proper_part) operation_gives
       (λ operation h. then_gives _ _ Any (Passes proper_part) end_gives (λ _ _. pure_gives (part.Operation operation) (Passes proper_part) h))
 
-  part_gives : Gives (APart (g.Update1 Template Inner Group')) (Passes proper_part)
+  part_gives : Yields (APart (g.Update1 Template Inner Group')) (Passes proper_part)
   part_gives = or_gives _ _ (Passes proper_part) (map_gives part.Declaration _ Any (Passes proper_part) declaration_gives (λ a h. refl)) ended_operation_gives
 
-  parts_give : Gives (Star (grammar.one (APart (g.Update1 Template Inner Group')))) (AllByRecursion (Passes proper_part))
+  parts_give : Yields (Star (grammar.one (APart (g.Update1 Template Inner Group')))) (AllByRecursion (Passes proper_part))
   parts_give = star_gives _ (Passes proper_part) (one_gives _ (Passes proper_part) part_gives)
 
 parts_proper : (depth : ℕ) (ts : Lexemes) (parts : List Part) → AllFormed ts → PartsAt depth ts parts [] → list_all holds (map proper_part parts) ≡ true
-unfolding Gives
+unfolding Yields
 parts_proper depth ts parts w d =
     let all = parts_give (TriplesTemplate (Nodes_at (suc depth))) (TriplesTemplate (Nodes_at depth)) (GroupAt (suc depth)) (triples_give (suc depth)) (triples_give depth) (group_at_gives (suc depth)) ts parts [] d w in
     all_pass proper_part parts all.0

@@ -17,8 +17,8 @@ use Rattle.sparql_grammar.specs.PrologueReading as read
 use Rattle.sparql_terminals.specs.Terminals.{same_terminal, apart, bracket, word}
 use Rattle.sparql_terminals.specs.WordGrammar.{Binding}
 use Rattle.sparql_terminals.proofs.GrammarWords.{binding_decides, plain}
-use Rattle.sparql_terminals.proofs.Gives.{Gives, Any, or_gives, value_gives, map_gives, behind_gives}
-use Rattle.sparql_terminals.proofs.WordGives.{binding_gives}
+use Rattle.sparql_terminals.proofs.Yields.{Yields, Any, or_gives, value_gives, map_gives, behind_gives}
+use Rattle.sparql_terminals.proofs.WordYields.{binding_gives}
 use Rattle.sparql_terminals.proofs.Keywords.{keyword_sound, keyword_complete, keyword_terminal, keyword_strict}
 
 -- ---- declarations
@@ -85,11 +85,11 @@ module _ (limit b : ℕ) where
 
 -- ---- formed lexemes are left behind them
 
-base_gives : Gives BaseDecl Any
+base_gives : Yields BaseDecl Any
 base_gives = behind_gives terminal.Base _ Any (map_gives d.Base _ _ Any (value_gives terminal.Iri) (λ a h. tt))
 
-prefix_gives : Gives PrefixDecl Any
+prefix_gives : Yields PrefixDecl Any
 prefix_gives = behind_gives terminal.Prefix _ Any (map_gives read.bound _ _ Any binding_gives (λ b h. tt))
 
-pub declaration_gives : Gives ADeclaration Any
+pub declaration_gives : Yields ADeclaration Any
 declaration_gives = or_gives _ _ Any base_gives prefix_gives

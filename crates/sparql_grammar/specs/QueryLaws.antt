@@ -1,7 +1,7 @@
 -- What holds of each query and its tree.
 use Rattle.std.specs.Prelude.{◌≡◌, ℕ, List, IsTrue}
 use Rattle.rdf_tokens.specs.declared.token.Token.{Token}
-use Rattle.rdf_tokens.specs.Tokens.{Runs}
+use Rattle.rdf_tokens.specs.Tokens.{AreTokens}
 use Rattle.sparql_grammar.specs.declared.tree.Query.{Query}
 use Rattle.sparql_terminals.specs.Lexemes.{Lexemes, AreLexemes}
 use Rattle.sparql_grammar.specs.QueryGrammar.{IsQuery}
@@ -15,4 +15,4 @@ OneQuery = (ts : Lexemes) (one other : Query) → IsQuery ts one → IsQuery ts 
 abbrev pub QueriesAreProper : Type 0
 QueriesAreProper =
     (text from rest : List ℕ) (tokens : List Token) (ts : Lexemes) (query : Query)
-    → Runs text from tokens rest → AreLexemes text tokens ts → IsQuery ts query → IsTrue (proper_query query)
+    → AreTokens text from tokens rest → AreLexemes text tokens ts → IsQuery ts query → IsTrue (proper_query query)

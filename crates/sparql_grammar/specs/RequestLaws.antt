@@ -2,7 +2,7 @@
 use Rattle.std.specs.Prelude.{◌≡◌, ℕ, List, map, IsTrue}
 use Rattle.std.specs.List.{list_all}
 use Rattle.rdf_tokens.specs.declared.token.Token.{Token}
-use Rattle.rdf_tokens.specs.Tokens.{Runs}
+use Rattle.rdf_tokens.specs.Tokens.{AreTokens}
 use Rattle.sparql_grammar.specs.declared.tree.Part.{Part}
 use Rattle.sparql_terminals.specs.Lexemes.{Lexemes, AreLexemes}
 use Rattle.sparql_grammar.specs.OperationGrammar.{IsRequest}
@@ -16,4 +16,4 @@ OneRequest = (ts : Lexemes) (one other : List Part) → IsRequest ts one → IsR
 abbrev pub RequestsAreProper : Type 0
 RequestsAreProper =
     (text from rest : List ℕ) (tokens : List Token) (ts : Lexemes) (parts : List Part)
-    → Runs text from tokens rest → AreLexemes text tokens ts → IsRequest ts parts → IsTrue (list_all holds (map proper_part parts))
+    → AreTokens text from tokens rest → AreLexemes text tokens ts → IsRequest ts parts → IsTrue (list_all holds (map proper_part parts))

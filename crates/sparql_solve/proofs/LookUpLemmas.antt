@@ -16,7 +16,7 @@ use Rattle.sparql_solve.specs.declared.place.Places.{Places}
 use Rattle.sparql_solve.specs.LookUps.{widened}
 use Rattle.sparql_solve.specs.Matching.{AsksSame, matched, matches_of, stepped, matching, held, quads_under}
 use Rattle.sparql_solve.specs.Sides.{found_in}
-use Rattle.sparql_solve.specs.Steps.{Gives}
+use Rattle.sparql_solve.specs.Members.{AreSolutions}
 use Rattle.sparql_solve.proofs.FitLemmas.{terms_under, no_terms}
 use Rattle.sparql_solve.proofs.MatchingLemmas.{num, sum_by-filter_map}
 
@@ -36,7 +36,7 @@ module _ (s : State) (g : GraphName) (p : Places) (m : Mapping) where
       ∙ sym (sum_by-filter_map f (matched p m) quads)
 
   pub look_up_gives : (found given : List QuadParts) (out : List Mapping) → ListsOnce (quads_under s g p m) found → given ≡ found → out ≡ matches_of given p m →
-      Gives s out (λ d. matches_of (d.quads g) p m)
+      AreSolutions s out (λ d. matches_of (d.quads g) p m)
   look_up_gives found given out h eg e d l =
       subst (λ xs. SameBag xs (matches_of (d.quads g) p m)) (sym (e ∙ ap (λ (qs : List QuadParts). matches_of qs p m) eg))
       (found_matches found (d.quads g) h (l.quads g))
@@ -62,7 +62,7 @@ SameBag-matching quads (p ∷ ps) ms ns h =
 
 pub matching_more : (s : State) (g : GraphName) (ps : List Places) (i : ℕ) (p : Places) (rows after start : List Mapping) → i < length ps → p ≡ get_or ps i p →
     ((d : Listing) → Lists s d → SameBag (matching (d.quads g) (drop i ps) rows) (matching (d.quads g) ps start)) →
-    Gives s after (λ d. stepped (d.quads g) rows p) →
+    AreSolutions s after (λ d. stepped (d.quads g) rows p) →
     (d : Listing) → Lists s d → SameBag (matching (d.quads g) (drop (i + 1) ps) after) (matching (d.quads g) ps start)
 matching_more s g ps i p rows after start lt here h r d l f =
     let rest : List Places = drop (i + 1) ps in
@@ -73,8 +73,8 @@ matching_more s g ps i p rows after start lt here h r d l f =
 -- ---- under one row, in one graph
 
 pub in_graph_gives : (s : State) (g : GraphName) (l : LookUp) (m wide values : Mapping) (n : ℕ) (given : List Places) (first start rows out : List Mapping) →
-    given ≡ l.places → start ≡ first ++ wide ∷ [] → first ≡ [] → wide ≡ widened l.hidden m → Gives s rows (λ d. matching (d.quads g) given start) →
-    out ≡ map (take n) rows → n ≡ length values → values ≡ m → Gives s out (λ d. found_in d l g m)
+    given ≡ l.places → start ≡ first ++ wide ∷ [] → first ≡ [] → wide ≡ widened l.hidden m → AreSolutions s rows (λ d. matching (d.quads g) given start) →
+    out ≡ map (take n) rows → n ≡ length values → values ≡ m → AreSolutions s out (λ d. found_in d l g m)
 in_graph_gives s g l m wide values n given first start rows out eg es ef ew h eo en ev d k f =
     ap (sum_by f) (eo ∙ ap (λ (i : ℕ). map (take i) rows) (en ∙ ap length ev))
     ∙ SameBag-map (take (length m)) rows (matching (d.quads g) given start) (h d k) f

@@ -19,10 +19,10 @@ use Rattle.sparql_algebra.specs.Results.{Solves, IsSelection, HasSolution, patte
 use Rattle.sparql_algebra.specs.Solutions.{solutions}
 use Rattle.sparql_algebra.specs.Sorted.{sorted_solutions}
 use Rattle.sparql_algebra.proofs.CallerLemmas.{sums_from_counts, same_mapping_is, same_mapping_own, SameBag-map, some_same, some_solution_list, one_solution_list}
-use Rattle.sparql_solve.specs.Steps.{Gives}
+use Rattle.sparql_solve.specs.Members.{AreSolutions}
 
 pub solved : (P : Pattern) (g : GraphName) (s : State) (vs names : Variables) (rows : List Mapping) → vs ≡ visible P → names ≡ vs →
-    Gives s rows (λ d. solutions names d g (translation P)) → Solves P g s vs rows
+    AreSolutions s rows (λ d. solutions names d g (translation P)) → Solves P g s vs rows
 solved P g s vs names rows e en h = record {
   variables_are = e;
   counted = λ d l m.

@@ -29,7 +29,7 @@ use Rattle.sparql_solve.specs.declared.look_ups.LookUp.{LookUp}
 use Rattle.sparql_solve.specs.declared.sides.Side.{Side}
 use Rattle.sparql_solve.specs.declared.sides.Side.TheVariants as side
 use Rattle.sparql_solve.specs.Sides.{graph_where, graphs_of, look_up_in, tried, found_in, found_under, found_among, found, partners, rows_after, IsSideOf, where_joined, lone_joined, HoldsJust}
-use Rattle.sparql_solve.specs.Steps.{Gives, GivesMore, element_solutions}
+use Rattle.sparql_solve.specs.Members.{AreSolutions, AreMoreSolutions, element_solutions}
 use Rattle.sparql_solve.proofs.BasicLemmas.{set_of_triples}
 use Rattle.sparql_solve.proofs.UnderLemmas.{sum_merges, looked_up_bag}
 
@@ -259,7 +259,7 @@ module _ (vs : Variables) (s : State) where
       ∙ in_bag vs s d k b (One g) g m w f
       ∙ ap (λ (x : Element). sum_by f (merges (element_solutions vs d g x) m)) (sym (ap element em ∙ element-Basic b))
 
-  pub rows_side : (rows items : List Mapping) (F : Listing → List Mapping) → Gives s rows F → items ≡ rows → IsSideOf vs s (side.Rows items) F
+  pub rows_side : (rows items : List Mapping) (F : Listing → List Mapping) → AreSolutions s rows F → items ≡ rows → IsSideOf vs s (side.Rows items) F
   rows_side rows items F h e d l m w f =
       ap (λ (xs : List Mapping). sum_by f (merges xs m)) e ∙ SameBag-merges m rows (F d) (h d l) f
 
@@ -307,7 +307,7 @@ tried_all s value names e h d l f = names_same s names d.names h l.names f ∙ a
 
 module _ (vs : Variables) (s : State) (l : LookUp) (name : List ℕ) (m : Mapping) where
   pub under_name_gives : (n : Term) (bound after : Mapping) (g : GraphName) (b : Bool) (out : List Mapping) → bound ≡ single vs name n → b ≡ compatible m bound →
-      b ≡ true → after ≡ merge m bound → g ≡ Named n → Gives s out (λ d. found_in d l g after) → Gives s out (λ d. found_under vs d l name m n)
+      b ≡ true → after ≡ merge m bound → g ≡ Named n → AreSolutions s out (λ d. found_in d l g after) → AreSolutions s out (λ d. found_under vs d l name m n)
   under_name_gives n bound after g b out eb ec et ea eg h d k f =
       h d k f ∙ ap (λ (x : GraphName). sum_by f (found_in d l x after)) eg
       ∙ ap (λ (x : Mapping). sum_by f (found_in d l (Named n) x)) (ea ∙ ap (merge m) eb)
@@ -315,7 +315,7 @@ module _ (vs : Variables) (s : State) (l : LookUp) (name : List ℕ) (m : Mappin
 
   pub each_gives : (c : Option ℕ) (value : Option Term) (names given : List Term) (out : List Mapping) → l.graphs ≡ Each name → c ≡ column vs name →
       value ≡ value_in m c → ((d : Listing) → Lists s d → SameBag names (tried d.names value)) → given ≡ names →
-      Gives s out (λ d. flat_map (found_under vs d l name m) given) → Gives s out (λ d. found vs d l m)
+      AreSolutions s out (λ d. flat_map (found_under vs d l name m) given) → AreSolutions s out (λ d. found vs d l m)
   each_gives c value names given out eg ec ev en ei h d k f =
       h d k f ∙ ap (λ (ns : List Term). sum_by f (flat_map (found_under vs d l name m) ns)) ei
       ∙ SameBag-flat_map (found_under vs d l name m) (found_under vs d l name m) names (tried d.names value) (en d k)
@@ -323,13 +323,13 @@ module _ (vs : Variables) (s : State) (l : LookUp) (name : List ℕ) (m : Mappin
       ∙ ap (λ (x : Option Term). sum_by f (flat_map (found_under vs d l name m) (tried d.names x))) (ev ∙ ap (value_in m) ec)
       ∙ ap (λ (gs : Graphs). sum_by f (found_among vs d l gs m)) (sym eg)
 
-pub kept_gives : (s : State) (F : Mapping → Bool) (m : Mapping) (rows kept out : List Mapping) (G : Listing → List Mapping) → Gives s rows G → kept ≡ filter F rows →
-    out ≡ or_alone m kept → Gives s out (λ d. or_alone m (filter F (G d)))
+pub kept_gives : (s : State) (F : Mapping → Bool) (m : Mapping) (rows kept out : List Mapping) (G : Listing → List Mapping) → AreSolutions s rows G → kept ≡ filter F rows →
+    out ≡ or_alone m kept → AreSolutions s out (λ d. or_alone m (filter F (G d)))
 kept_gives s F m rows kept out G h ek eo d l f =
     ap (sum_by f) (eo ∙ ap (or_alone m) ek) ∙ SameBag-or_alone m (filter F rows) (filter F (G d)) (SameBag-filter F rows (G d) (h d l)) f
 
 -- all of them are done
 pub done_gives : {X : Type 0} (s : State) (F : Listing → X → List Mapping) (xs : List X) (i : ℕ) (out : List Mapping) → length xs ≤ i →
-    GivesMore s out (λ d. flat_map (F d) (drop i xs)) (λ d. flat_map (F d) xs) → Gives s out (λ d. flat_map (F d) xs)
+    AreMoreSolutions s out (λ d. flat_map (F d) (drop i xs)) (λ d. flat_map (F d) xs) → AreSolutions s out (λ d. flat_map (F d) xs)
 done_gives {X} s F xs i out lt h d l f =
     ap (sum_by f) (sym (append-nil out)) ∙ ap (λ (ys : List X). sum_by f (out ++ flat_map (F d) ys)) (sym (drop_all i xs lt)) ∙ h d l f

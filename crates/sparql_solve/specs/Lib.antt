@@ -2,4 +2,4 @@ pub mod Keys
 pub mod LookUps
 pub mod Matching
 pub mod Sides
-pub mod Steps
+pub mod Members

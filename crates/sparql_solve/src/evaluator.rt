@@ -10,7 +10,7 @@ ghost use Rattle.sparql_algebra.specs.Algebra.{element, graph, group_of, transla
 ghost use Rattle.sparql_values.specs.Mapping.{same_term, single};
 ghost use Rattle.sparql_algebra.specs.Solutions.{joins, solutions};
 ghost use Rattle.sparql_solve.specs.Sides.{HoldsJust, IsSideOf, lone_joined, rows_after};
-ghost use Rattle.sparql_solve.specs.Steps.{Gives, element_solutions, over_groups, over_names};
+ghost use Rattle.sparql_solve.specs.Members.{AreSolutions, element_solutions, over_groups, over_names};
 
 use crate::filters::filtered_rows;
 use crate::joins::join;
@@ -42,7 +42,7 @@ fn rows_after<S: Source>(
     right: &Side,
     member: &Member,
 ) -> Result<Vec<Row>, NoMemory>
-    ensures { IfOk result (λ out. Gives (S.contents source.now) out.items
+    ensures { IfOk result (λ out. AreSolutions (S.contents source.now) out.items
         (λ d. rows_after variables.now d rows.now right.now (element member.now))) }
 {
     match member {
@@ -113,7 +113,7 @@ pub(crate) fn group_rows<S: Source>(
     source: &S,
     pattern: &Pattern,
 ) -> Result<Vec<Row>, NoMemory>
-    ensures { IfOk result (λ out. Gives (S.contents source.now) out.items
+    ensures { IfOk result (λ out. AreSolutions (S.contents source.now) out.items
         (λ d. solutions variables.now d graph.now (translation pattern.now))) }
 {
     let members = pattern.members.as_slice();
@@ -132,7 +132,7 @@ fn member_list_rows<S: Source>(
     source: &S,
     members: &[Member],
 ) -> Result<Vec<Row>, NoMemory>
-    ensures { IfOk result (λ out. Gives (S.contents source.now) out.items
+    ensures { IfOk result (λ out. AreSolutions (S.contents source.now) out.items
         (λ d. solutions variables.now d graph.now (group_of (map element members.now)))) }
 {
     let mut rows = unit_rows(alloc, variables)?;
@@ -153,7 +153,7 @@ fn group_list_rows<S: Source>(
     source: &S,
     groups: &[Pattern],
 ) -> Result<Vec<Row>, NoMemory>
-    ensures { IfOk result (λ out. Gives (S.contents source.now) out.items
+    ensures { IfOk result (λ out. AreSolutions (S.contents source.now) out.items
         (λ d. over_groups variables.now d graph.now groups.now)) }
 {
     let mut out = Vec::new(alloc);
@@ -174,7 +174,7 @@ fn union_rows<S: Source>(
     source: &S,
     groups: &[Pattern],
 ) -> Result<Vec<Row>, NoMemory>
-    ensures { IfOk result (λ out. Gives (S.contents source.now) out.items
+    ensures { IfOk result (λ out. AreSolutions (S.contents source.now) out.items
         (λ d. solutions variables.now d graph.now (union_of (map translation groups.now)))) }
 {
     if groups.is_empty() {
@@ -193,7 +193,7 @@ fn named_graph_rows<S: Source>(
     source: &S,
     pattern: &Pattern,
 ) -> Result<Vec<Row>, NoMemory>
-    ensures { IfOk result (λ out. Gives (S.contents source.now) out.items
+    ensures { IfOk result (λ out. AreSolutions (S.contents source.now) out.items
         (λ d. cond (list_any (same_term name) d.names)
         (solutions variables.now d (Named name) (translation pattern.now)) [])) }
 {
@@ -215,7 +215,7 @@ fn each_graph_rows<S: Source>(
     source: &S,
     pattern: &Pattern,
 ) -> Result<Vec<Row>, NoMemory>
-    ensures { IfOk result (λ out. Gives (S.contents source.now) out.items
+    ensures { IfOk result (λ out. AreSolutions (S.contents source.now) out.items
         (λ d. over_names variables.now d variable.now (translation pattern.now) names.now)) }
 {
     let mut out = Vec::new(alloc);
@@ -237,7 +237,7 @@ fn all_graph_rows<S: Source>(
     source: &S,
     pattern: &Pattern,
 ) -> Result<Vec<Row>, NoMemory>
-    ensures { IfOk result (λ out. Gives (S.contents source.now) out.items
+    ensures { IfOk result (λ out. AreSolutions (S.contents source.now) out.items
         (λ d. over_names variables.now d variable.now (translation pattern.now) d.names)) }
 {
     let names = graph_names(alloc, source)?;
@@ -256,7 +256,7 @@ fn graph_rows<S: Source>(
     source: &S,
     pattern: &Pattern,
 ) -> Result<Vec<Row>, NoMemory>
-    ensures { IfOk result (λ out. (active : GraphName) → Gives (S.contents source.now) out.items
+    ensures { IfOk result (λ out. (active : GraphName) → AreSolutions (S.contents source.now) out.items
         (λ d. solutions variables.now d active (graph name.now (translation pattern.now)))) }
 {
     match name {

@@ -9,7 +9,7 @@ ghost use Rattle.sparql_algebra.specs.Bags.{SameBag};
 ghost use Rattle.sparql_algebra.specs.Listing.{Listing, Lists};
 ghost use Rattle.sparql_solve.specs.LookUps.{looked_up};
 ghost use Rattle.sparql_solve.specs.Sides.{found, found_in, found_under, graph_where, graphs_of, look_up_in, tried};
-ghost use Rattle.sparql_solve.specs.Steps.{Gives};
+ghost use Rattle.sparql_solve.specs.Members.{AreSolutions};
 
 use crate::matching::{cut_rows, matching_rows};
 use crate::place::{Places, all_places};
@@ -108,7 +108,7 @@ fn rows_in_graph<S: Source>(
     look_up: &LookUp,
     row: &Row,
 ) -> Result<Vec<Row>, NoMemory>
-    ensures { IfOk result (λ out. Gives (S.contents source.now) out.items
+    ensures { IfOk result (λ out. AreSolutions (S.contents source.now) out.items
         (λ d. found_in d look_up.now graph.now row.now)) }
 {
     let mut start = Vec::new(alloc);
@@ -148,7 +148,7 @@ fn rows_under_name<S: Source>(
     look_up: &LookUp,
     row: &Row,
 ) -> Result<Vec<Row>, NoMemory>
-    ensures { IfOk result (λ out. Gives (S.contents source.now) out.items
+    ensures { IfOk result (λ out. AreSolutions (S.contents source.now) out.items
         (λ d. found_under variables.now d look_up.now variable.now row.now name.now)) }
 {
     let bound = Row::single(alloc, variables, variable, name)?;
@@ -170,7 +170,7 @@ fn rows_under_names<S: Source>(
     look_up: &LookUp,
     row: &Row,
 ) -> Result<Vec<Row>, NoMemory>
-    ensures { IfOk result (λ out. Gives (S.contents source.now) out.items
+    ensures { IfOk result (λ out. AreSolutions (S.contents source.now) out.items
         (λ d. flat_map (found_under variables.now d look_up.now variable.now row.now) names.now)) }
 {
     let mut out = Vec::new(alloc);
@@ -189,7 +189,7 @@ pub(crate) fn found_rows<S: Source>(
     look_up: &LookUp,
     row: &Row,
 ) -> Result<Vec<Row>, NoMemory>
-    ensures { IfOk result (λ out. Gives (S.contents source.now) out.items
+    ensures { IfOk result (λ out. AreSolutions (S.contents source.now) out.items
         (λ d. found variables.now d look_up.now row.now)) }
 {
     match &look_up.graphs {

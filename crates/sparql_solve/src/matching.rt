@@ -4,7 +4,7 @@ ghost use Rattle.std.specs.Prelude.{◌≡◌, ◌++◌, IfOk, IsTrue, None, OnO
 ghost use Rattle.std.specs.List.{list_all};
 ghost use Rattle.rdf_dataset.specs.Sorted.{ListsOnce};
 ghost use Rattle.sparql_solve.specs.Matching.{AsksSame, has_held, matched, matches_of, stepped, matching, quads_under};
-ghost use Rattle.sparql_solve.specs.Steps.{Gives};
+ghost use Rattle.sparql_solve.specs.Members.{AreSolutions};
 
 use crate::place::Places;
 use crate::rows::Row;
@@ -115,7 +115,7 @@ fn step<S: Source>(
     places: &Places,
     rows: Vec<Row>,
 ) -> Result<Vec<Row>, NoMemory>
-    ensures { IfOk result (λ out. Gives (S.contents source.now) out.items
+    ensures { IfOk result (λ out. AreSolutions (S.contents source.now) out.items
         (λ d. stepped (d.quads graph.now) rows.items places.now)) }
 {
     let mut out = Vec::new(alloc);
@@ -146,7 +146,7 @@ pub(crate) fn matching_rows<S: Source>(
     patterns: &[Places],
     start: Vec<Row>,
 ) -> Result<Vec<Row>, NoMemory>
-    ensures { IfOk result (λ out. Gives (S.contents source.now) out.items
+    ensures { IfOk result (λ out. AreSolutions (S.contents source.now) out.items
         (λ d. matching (d.quads graph.now) patterns.now start.items)) }
 {
     let mut rows = start;

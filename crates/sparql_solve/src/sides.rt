@@ -4,7 +4,7 @@ ghost use Rattle.std.specs.Prelude.{◌≡◌, IfOk, filter};
 ghost use Rattle.std.specs.List.{flat_map};
 ghost use Rattle.sparql_algebra.specs.Solutions.{or_alone, satisfies};
 ghost use Rattle.sparql_solve.specs.Sides.{found, joins_with, left_joins_with};
-ghost use Rattle.sparql_solve.specs.Steps.{Gives};
+ghost use Rattle.sparql_solve.specs.Members.{AreSolutions};
 
 use crate::filters::filtered_rows;
 use crate::joins::{join, left_join, or_alone};
@@ -32,7 +32,7 @@ fn join_look_up<S: Source>(
     left: &[Row],
     look_up: &LookUp,
 ) -> Result<Vec<Row>, NoMemory>
-    ensures { IfOk result (λ out. Gives (S.contents source.now) out.items
+    ensures { IfOk result (λ out. AreSolutions (S.contents source.now) out.items
         (λ d. flat_map (found variables.now d look_up.now) left.now)) }
 {
     let mut out = Vec::new(alloc);
@@ -53,7 +53,7 @@ fn optional_rows<S: Source>(
     look_up: &LookUp,
     filters: &[Expression],
 ) -> Result<Vec<Row>, NoMemory>
-    ensures { IfOk result (λ out. Gives (S.contents source.now) out.items
+    ensures { IfOk result (λ out. AreSolutions (S.contents source.now) out.items
         (λ d. or_alone row.now (filter (satisfies variables.now filters.now)
         (found variables.now d look_up.now row.now)))) }
 {
@@ -72,7 +72,7 @@ fn left_join_look_up<S: Source>(
     look_up: &LookUp,
     filters: &[Expression],
 ) -> Result<Vec<Row>, NoMemory>
-    ensures { IfOk result (λ out. Gives (S.contents source.now) out.items
+    ensures { IfOk result (λ out. AreSolutions (S.contents source.now) out.items
         (λ d. flat_map (λ m. or_alone m (filter (satisfies variables.now filters.now)
         (found variables.now d look_up.now m))) left.now)) }
 {
@@ -92,7 +92,7 @@ pub(crate) fn join_side<S: Source>(
     left: &[Row],
     right: &Side,
 ) -> Result<Vec<Row>, NoMemory>
-    ensures { IfOk result (λ out. Gives (S.contents source.now) out.items
+    ensures { IfOk result (λ out. AreSolutions (S.contents source.now) out.items
         (λ d. joins_with variables.now d left.now right.now)) }
 {
     match right {
@@ -111,7 +111,7 @@ pub(crate) fn left_join_side<S: Source>(
     right: &Side,
     filters: &[Expression],
 ) -> Result<Vec<Row>, NoMemory>
-    ensures { IfOk result (λ out. Gives (S.contents source.now) out.items
+    ensures { IfOk result (λ out. AreSolutions (S.contents source.now) out.items
         (λ d. left_joins_with variables.now d left.now right.now
         (satisfies variables.now filters.now))) }
 {

@@ -6,7 +6,7 @@ use Rattle.std.specs.Str.{chars, IsUtf8, is_utf8}
 use Rattle.rdf_grammar.proofs.TextLemmas.{got, same_lengths, shallow_or_deep, some_lexemes, stops_somewhere}
 use Rattle.rdf_tokens.specs.declared.token.Token.{Token}
 use Rattle.rdf_tokens.specs.Lines.{line_of}
-use Rattle.rdf_tokens.specs.Tokens.{Says}
+use Rattle.rdf_tokens.specs.Tokens.{Tokenizes}
 use Rattle.rdf_tokens.proofs.CallerLemmas.{some_token_list, tokens_have_forms}
 use Rattle.sparql_terminals.specs.Lexemes.{Lexeme, Lexemes}
 use Rattle.sparql_grammar.specs.Nesting.{IsTooDeep}
@@ -53,7 +53,7 @@ module _ {Tree Said : Type 0} (Derives : List Lexeme → Tree → Type 0) (meani
     ]
   ]
 
-  by_tokens : (base : Option (List ℕ)) (text : List ℕ) → IsUtf8 text → (r : Result (List Token) ℕ) → Says (chars text) r → Meant base text
+  by_tokens : (base : Option (List ℕ)) (text : List ℕ) → IsUtf8 text → (r : Result (List Token) ℕ) → Tokenizes (chars text) r → Meant base text
   by_tokens base text utf8 (Err place) says = inr (record { line = line_of text place; kind = fault.Token }, (utf8, (place, says, refl)))
   by_tokens base text utf8 (Ok tokens) says =
       let forms = tokens_have_forms (chars text) tokens says in

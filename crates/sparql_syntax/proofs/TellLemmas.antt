@@ -6,7 +6,7 @@ use Rattle.rdf_grammar.proofs.TextLemmas.{got, same_lengths, some_lexemes}
 use Rattle.rdf_terms.specs.declared.fault.NoMemory.{NoMemory}
 use Rattle.rdf_tokens.specs.declared.token.Token.{Token}
 use Rattle.rdf_tokens.specs.Lines.{line_of}
-use Rattle.rdf_tokens.specs.Tokens.{Says}
+use Rattle.rdf_tokens.specs.Tokens.{Tokenizes}
 use Rattle.rdf_tokens.proofs.CallerLemmas.{tokens_have_forms}
 use Rattle.sparql_terminals.specs.Lexemes.{Lexeme, Lexemes}
 use Rattle.sparql_grammar.specs.Nesting.{IsTooDeep, IsTooDeepAt}
@@ -34,10 +34,10 @@ early_of text f k line e h =
 abbrev pub IsAt : List Token → ℕ → ℕ → Type 0
 IsAt tokens place start = (token : Token) → slice_get tokens place ≡ Some token → start ≡ token.start
 
-pub no_token : (text : List ℕ) (start : ℕ) (f : SyntaxFault) → IsUtf8 text → Says (chars text) (Err start) → f ≡ fault_at text fault.Token start → TellsEarly text f f.kind
+pub no_token : (text : List ℕ) (start : ℕ) (f : SyntaxFault) → IsUtf8 text → Tokenizes (chars text) (Err start) → f ≡ fault_at text fault.Token start → TellsEarly text f f.kind
 no_token text start f utf8 says e = early_of text f fault.Token (line_of text start) e (utf8, (start, says, refl))
 
-pub out_of_profile : (text : List ℕ) (tokens : List Token) (place start : ℕ) (f : SyntaxFault) → IsUtf8 text → Says (chars text) (Ok tokens) → IsFirstOutside (chars text) tokens place
+pub out_of_profile : (text : List ℕ) (tokens : List Token) (place start : ℕ) (f : SyntaxFault) → IsUtf8 text → Tokenizes (chars text) (Ok tokens) → IsFirstOutside (chars text) tokens place
     → IsAt tokens place start → f ≡ fault_at text fault.NotInProfile start → TellsEarly text f f.kind
 out_of_profile text tokens place start f utf8 says out at e =
     let slices = some_lexemes terminal_by (chars text) tokens (tokens_have_forms (chars text) tokens says) in

@@ -5,7 +5,7 @@ use Rattle.std.specs.Str.{chars, IsUtf8, IsValidUpTo}
 use Rattle.std.specs.List.{slice_get}
 use Rattle.rdf_tokens.specs.declared.token.Token.{Token}
 use Rattle.rdf_tokens.specs.Lines.{line_of}
-use Rattle.rdf_tokens.specs.Tokens.{Says}
+use Rattle.rdf_tokens.specs.Tokens.{Tokenizes}
 use Rattle.sparql_terminals.specs.Lexemes.{Lexeme, AreLexemes}
 use Rattle.sparql_grammar.specs.Nesting.{IsTooDeep, IsTooDeepAt}
 use Rattle.sparql_terminals.specs.Profile.{AreInside, IsFirstOutside}
@@ -16,7 +16,7 @@ use Rattle.sparql_syntax.specs.declared.fault.SyntaxFaultKind.TheVariants as fau
 -- The text is UTF-8, these are its tokens, and these are the tokens as the grammar sees them.
 pub record HasTokens (text : List ℕ) (tokens : List Token) (lexemes : List Lexeme) : Type 0 where
   pub utf8 : IsUtf8 text
-  pub list : Says (chars text) (Ok tokens)
+  pub list : Tokenizes (chars text) (Ok tokens)
   pub slices : AreLexemes (chars text) tokens lexemes
 
 -- The text has tokens, of which none is a word that the profile leaves out; they open at most 100 brackets at once, and the grammar has this
@@ -34,7 +34,7 @@ abbrev pub StopsEarly : List ℕ → SyntaxFaultKind → ℕ → Type 0
 -- a byte belongs to no character
 StopsEarly text fault.NotUtf8 line = ¬ (IsUtf8 text) × ((place : ℕ) × IsValidUpTo text place × (line ≡ line_of text place))
 -- no token begins somewhere
-StopsEarly text fault.Token line = IsUtf8 text × ((place : ℕ) × Says (chars text) (Err place) × (line ≡ line_of text place))
+StopsEarly text fault.Token line = IsUtf8 text × ((place : ℕ) × Tokenizes (chars text) (Err place) × (line ≡ line_of text place))
 -- a token is a word that the profile leaves out
 StopsEarly text fault.NotInProfile line =
     (tokens : List Token) × (lexemes : List Lexeme) × (word : Token) × (place : ℕ) × HasTokens text tokens lexemes

@@ -2,7 +2,7 @@
 ghost use Rattle.std.specs.Prelude.{◌≡◌, Ok, Some, MatchResult};
 ghost use Rattle.std.specs.Option.{option_copied};
 ghost use Rattle.std.specs.Str.{chars, IsUtf8};
-ghost use Rattle.rdf_tokens.specs.Tokens.{Says};
+ghost use Rattle.rdf_tokens.specs.Tokens.{Tokenizes};
 ghost use Rattle.sparql_terminals.specs.Profile.{AreInside};
 ghost use Rattle.sparql_syntax.specs.Query as spec;
 ghost use Rattle.sparql_syntax.specs.Query.{HasTree, IsQuery, TellsFault};
@@ -23,7 +23,7 @@ use std::alloc::Global;
 // The tree of a text with these tokens.
 fn tree_of<'a>(alloc: Global, text: &'a str, tokens: &[Token]) -> Result<Tree<'a>, SyntaxFault>
     requires utf8 { IsUtf8 text.now }
-    requires list { Says (chars text.now) (Ok tokens.now) }
+    requires list { Tokenizes (chars text.now) (Ok tokens.now) }
     requires inside { AreInside (chars text.now) tokens.now }
     ensures { MatchResult result (λ tree. HasTree text.now tree) (λ fault. IsTold text.now fault) }
 {

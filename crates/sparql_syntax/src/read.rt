@@ -3,7 +3,7 @@ ghost use Rattle.std.specs.Prelude.{◌≡◌, ℕ, List, Ok, MatchResult};
 ghost use Rattle.std.specs.List.{AllByRecursion};
 ghost use Rattle.std.specs.Option.{option_copied};
 ghost use Rattle.std.specs.Str.{chars, IsUtf8};
-ghost use Rattle.rdf_tokens.specs.Tokens.{Says};
+ghost use Rattle.rdf_tokens.specs.Tokens.{Tokenizes};
 ghost use Rattle.sparql_terminals.specs.Profile.{AreInside};
 ghost use Rattle.sparql_syntax.specs.Drafts.{IsDraftBelow};
 ghost use Rattle.sparql_syntax.specs.Rules.{judged};
@@ -30,7 +30,7 @@ fn tree_of<'a>(
     tokens: &[Token],
 ) -> Result<Items<Part<'a>>, SyntaxFault>
     requires utf8 { IsUtf8 text.now }
-    requires list { Says (chars text.now) (Ok tokens.now) }
+    requires list { Tokenizes (chars text.now) (Ok tokens.now) }
     requires inside { AreInside (chars text.now) tokens.now }
     ensures { MatchResult result (λ tree. HasTree text.now tree) (λ fault. IsTold text.now fault) }
 {

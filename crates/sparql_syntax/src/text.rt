@@ -1,7 +1,7 @@
 //! What is read of a text before its grammar is asked.
 ghost use Rattle.std.specs.Prelude.{◌≡◌, length, Ok, Some, None, MatchResult, slice_get};
 ghost use Rattle.std.specs.Str.{chars, IsUtf8};
-ghost use Rattle.rdf_tokens.specs.Tokens.{Says};
+ghost use Rattle.rdf_tokens.specs.Tokens.{Tokenizes};
 ghost use Rattle.rdf_tokens.specs.declared.token.Token.{Token as Held};
 ghost use Rattle.sparql_terminals.specs.Profile.{AreInside};
 ghost use Rattle.sparql_syntax.specs.Phases.{TellsEarly};
@@ -64,7 +64,7 @@ pub(crate) fn start_of(text: &str, tokens: &[Token], number: usize) -> usize
 pub(crate) fn tokens_of(alloc: Global, text: &str) -> Result<Vec<Token>, SyntaxFault>
     requires { IsUtf8 text.now }
     ensures { MatchResult result
-        (λ tokens. Says (chars text.now) (Ok tokens.items))
+        (λ tokens. Tokenizes (chars text.now) (Ok tokens.items))
         (λ fault. TellsEarly text.now fault fault.kind) }
 {
     match tokens(alloc, text) {
@@ -79,7 +79,7 @@ pub(crate) fn tokens_of(alloc: Global, text: &str) -> Result<Vec<Token>, SyntaxF
 /// Whether the profile has each word of a text.
 pub(crate) fn check_profile(text: &str, tokens: &[Token]) -> Result<(), SyntaxFault>
     requires utf8 { IsUtf8 text.now }
-    requires list { Says (chars text.now) (Ok tokens.now) }
+    requires list { Tokenizes (chars text.now) (Ok tokens.now) }
     ensures { MatchResult result
         (λ _. AreInside (chars text.now) tokens.now)
         (λ fault. TellsEarly text.now fault fault.kind) }

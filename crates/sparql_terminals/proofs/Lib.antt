@@ -1,7 +1,7 @@
 pub mod FormedSlices
-pub mod Gives
+pub mod Yields
 pub mod GrammarWords
 pub mod Keywords
 pub mod ProfileTokens
 pub mod Shifts
-pub mod WordGives
+pub mod WordYields

@@ -1,7 +1,7 @@
 //! The words of SPARQL that this profile leaves out.
 ghost use Rattle.std.specs.Prelude.{◌≡◌, ℕ, List, MatchBool, MatchOption};
 ghost use Rattle.std.specs.Str.{chars};
-ghost use Rattle.rdf_tokens.specs.Tokens.{Runs, HasItsForm};
+ghost use Rattle.rdf_tokens.specs.Tokens.{AreTokens, HasItsForm};
 ghost use Rattle.sparql_terminals.specs.Profile as spec;
 ghost use Rattle.sparql_terminals.specs.Profile.{AreInside, IsFirstOutside, IsOutside};
 
@@ -84,7 +84,7 @@ fn is_outside(text: &str, token: &Token) -> bool
 
 /// The number of the first token that is a word which this profile leaves out, in any case.
 pub fn first_outside(text: &str, tokens: &[Token]) -> Option<usize>
-    requires { (rest : List ℕ) × Runs (chars text.now) (chars text.now) tokens.now rest }
+    requires { (rest : List ℕ) × AreTokens (chars text.now) (chars text.now) tokens.now rest }
     ensures { MatchOption result
         (AreInside (chars text.now) tokens.now)
         (λ place. IsFirstOutside (chars text.now) tokens.now place) }

@@ -11,7 +11,7 @@ use Rattle.rdf_terms.specs.declared.quad.Quad.{Quad}
 use Rattle.rdf_lines.specs.declared.state.ReaderState.TheVariants.{Reading, Ended}
 use Rattle.rdf_lines.specs.Document.{IsDocument, ReadsAll}
 use Rattle.rdf_lines.specs.Labels.{labels_of, all_noted, quad_in}
-use Rattle.rdf_lines.specs.Line.{Says}
+use Rattle.rdf_lines.specs.Line.{LineSays}
 use Rattle.rdf_lines.specs.Lines.{lines_behind}
 use Rattle.rdf_lines.specs.Pieces.{Hold, onto}
 use Rattle.rdf_lines.specs.Reader.{LineState, AreSilent, Taken, FaultOf, ReadsOn, Call, CallAt, Calls, fresh}
@@ -70,7 +70,7 @@ module _ (s new mid end : LineState) (xs : List ℕ) (q : Quad) (quads : List Qu
   abbrev Later : Type 0
   Later = (ys : List ℕ) → new.state ≡ Reading → new.ahead ≡ Some ys → Front new end.ahead ys quads
 
-  on_line : (ls : List (List ℕ)) (line : List ℕ) (st : Statement) → s.ahead ≡ Some xs → Later → AreSilent s.format ls → Taken s (ls ++ line ∷ []) new false → Says s.format line (Ok (Some st)) → new.labels ≡ all_noted s.labels (labels_of st)
+  on_line : (ls : List (List ℕ)) (line : List ℕ) (st : Statement) → s.ahead ≡ Some xs → Later → AreSilent s.format ls → Taken s (ls ++ line ∷ []) new false → LineSays s.format line (Ok (Some st)) → new.labels ≡ all_noted s.labels (labels_of st)
       → q ≡ quad_in new.labels st → new.number ≡ s.number + length ls + 1 → new.state ≡ Reading → new.format ≡ s.format → Front s end.ahead xs (q ∷ quads)
   on_line ls line st ahead behind still took says labels is_quad number state format =
       let c = consumed s.ahead new.ahead xs took.0 ahead took.1 in

@@ -27,7 +27,7 @@ use Rattle.rdf_keeper.specs.Script.Commands.{Asked, act, show, unended}
 use Rattle.rdf_keeper.specs.Examples.{MustAnswer, MayAnswer, NothingAnswered, LoadUndone, LoadTwice, LoadRedone, MarkReached, Committed, GraphShown, GraphCommitted, OpenLoad, HistoryCut, begin, document, graph_name, named_document, named_quad, one_named, one_quad, quad, script}
 use Rattle.rdf_keeper.specs.Script.OneOutput.{FirmAnswers, IsFree, IsWhole, OneText}
 use Rattle.rdf_session.specs.Request.{Load, loaded}
-use Rattle.rdf_keeper.specs.Script.Listing.{ListsChange}
+use Rattle.rdf_keeper.specs.Script.Show.{ListsChange}
 use Rattle.rdf_keeper.specs.Script.Runs.{Runs, final}
 use Rattle.rdf_session.proofs.MarkLemmas.{place_kept, place_lost, place_marked, place_nowhere, place_other, place_past}
 use Rattle.rdf_session.specs.History.{marks_upto, place_of}
@@ -35,7 +35,7 @@ use Rattle.rdf_session.specs.Session.{Session, Do, Undo, Redo, Mark, Rollback, C
 use Rattle.rdf_session.specs.declared.fault.Counts.{Counts}
 use Rattle.rdf_session.specs.declared.fault.KeeperFault.TheVariants.{NoSuchMark, NothingToUndo, NothingToRedo}
 use Rattle.rdf_session.specs.declared.format.Format.TheVariants.{NQuads}
-use Rattle.rdf_keeper.specs.declared.script.command.Listing.TheVariants.{Changes, Graphs, Quads}
+use Rattle.rdf_keeper.specs.declared.script.command.Topic.TheVariants.{Changes, Graphs, Quads}
 use Rattle.rdf_keeper.specs.declared.script.status.Status.{Status}
 use Rattle.rdf_keeper.specs.declared.script.status.Status.TheVariants.{Accepted, Refused}
 use Rattle.rdf_keeper.proofs.ScriptLemmas.OneOutputOfBytes.{run_of_bytes}

@@ -14,29 +14,29 @@ use Rattle.rdf_session.specs.declared.fault.KeeperFault.{KeeperFault}
 use Rattle.rdf_session.specs.declared.query.Answer.{Answer}
 use Rattle.rdf_keeper.specs.Script.Answers.{WritesReply, count_line, is_refused, query_text, reply_line}
 use Rattle.rdf_keeper.specs.Script.Commands.{Asked, act, ask, bad, show, unended}
-use Rattle.rdf_keeper.specs.Script.Listing.{Shows, name_line}
+use Rattle.rdf_keeper.specs.Script.Show.{Shows, name_line}
 use Rattle.rdf_keeper.specs.Script.OneOutput.{FirmAnswers, FullAnswers, IsWhole, OneOutput, OneText, SameAnswer, SameAnswers}
 use Rattle.rdf_keeper.specs.Script.Runs.{Runs, final}
-use Rattle.rdf_keeper.specs.declared.script.command.Listing.{Listing}
-use Rattle.rdf_keeper.specs.declared.script.command.Listing.TheVariants.{Changes, Graphs, Quads}
+use Rattle.rdf_keeper.specs.declared.script.command.Topic.{Topic}
+use Rattle.rdf_keeper.specs.declared.script.command.Topic.TheVariants.{Changes, Graphs, Quads}
 use Rattle.rdf_keeper.specs.declared.script.status.Status.{Status}
 use Rattle.rdf_keeper.specs.declared.script.status.Status.TheVariants.{Accepted, WriteFailed}
-use Rattle.rdf_keeper.proofs.ScriptLemmas.OneListing.{one_listing}
+use Rattle.rdf_keeper.proofs.ScriptLemmas.OneShow.{one_sorted}
 use Rattle.rdf_keeper.specs.Script.Statuses.{no_memory}
 
--- ---- one listing
+-- ---- one topic
 
-listing_same : (listing : Listing) (s : Session) (lines others : List (List ℕ)) → Shows listing s lines → Shows listing s others → lines ≡ others
-listing_same Quads s lines others a b =
-    a.2 ∙ ap (map _) (one_listing quad_cmp_total quad_cmp-IsAntisymmetric (now s).quads a.0 b.0 a.1 b.1) ∙ sym b.2
-listing_same Graphs s lines others a b =
-    a.2 ∙ ap (map _) (one_listing term_cmp_total term_cmp-IsAntisymmetric (now s).names a.0 b.0 a.1 b.1) ∙ sym b.2
-listing_same Changes s lines others a b =
+lines_same : (topic : Topic) (s : Session) (lines others : List (List ℕ)) → Shows topic s lines → Shows topic s others → lines ≡ others
+lines_same Quads s lines others a b =
+    a.2 ∙ ap (map _) (one_sorted quad_cmp_total quad_cmp-IsAntisymmetric (now s).quads a.0 b.0 a.1 b.1) ∙ sym b.2
+lines_same Graphs s lines others a b =
+    a.2 ∙ ap (map _) (one_sorted term_cmp_total term_cmp-IsAntisymmetric (now s).names a.0 b.0 a.1 b.1) ∙ sym b.2
+lines_same Changes s lines others a b =
     let net = net_between s.base (now s) in
-    let nr = one_listing term_cmp_total term_cmp-IsAntisymmetric net.names_removed a.0 b.0 a.4 b.4 in
-    let r = one_listing quad_cmp_total quad_cmp-IsAntisymmetric net.removed a.1 b.1 a.5 b.5 in
-    let na = one_listing term_cmp_total term_cmp-IsAntisymmetric net.names_added a.2 b.2 a.6 b.6 in
-    let d = one_listing quad_cmp_total quad_cmp-IsAntisymmetric net.added a.3 b.3 a.7 b.7 in
+    let nr = one_sorted term_cmp_total term_cmp-IsAntisymmetric net.names_removed a.0 b.0 a.4 b.4 in
+    let r = one_sorted quad_cmp_total quad_cmp-IsAntisymmetric net.removed a.1 b.1 a.5 b.5 in
+    let na = one_sorted term_cmp_total term_cmp-IsAntisymmetric net.names_added a.2 b.2 a.6 b.6 in
+    let d = one_sorted quad_cmp_total quad_cmp-IsAntisymmetric net.added a.3 b.3 a.7 b.7 in
     a.8 ∙ (λ i. map (λ n. codes "- graph " ++ name_line n) (nr i) ++ map (λ q. codes "- " ++ quad_text q) (r i)
     ++ map (λ n. codes "+ graph " ++ name_line n) (na i) ++ map (λ q. codes "+ " ++ quad_text q) (d i)) ∙ sym b.8
 
@@ -78,13 +78,13 @@ module _ (one : OneReply) (one_query : OneQueryReply) where
       let x = a.0.1 in let y = b.0.1 in
       let same = one_query s query x.reply y.reply x.replies (full_query x.reply text x.bytes a.1) y.replies (full_query y.reply other y.bytes b.1) in
       same_query query s t u text other refused otherwise x y same (a.0.0 ∙ sym b.0.0)
-  one_answer (show listing) s t u text other refused otherwise a b =
+  one_answer (show topic) s t u text other refused otherwise a b =
       elim (a.0.1) [
         | inr p ↦ absurd (a.1 p.0)
         | inl p ↦ elim (b.0.1) [
           | inr q ↦ absurd (b.1 q.0)
           | inl q ↦
-              let e = listing_same listing s p.0 q.0 p.1 q.1 in
+              let e = lines_same topic s p.0 q.0 p.1 q.1 in
               (inl (p.2 ∙ (λ i. concat (e i) ++ count_line (length (e i))) ∙ sym q.2), p.3 ∙ sym q.3, a.0.0 ∙ sym b.0.0)
         ]
       ]

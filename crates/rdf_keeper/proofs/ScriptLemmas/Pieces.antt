@@ -4,7 +4,7 @@ use Rattle.std.specs.List.{concat, position_from}
 use Rattle.rdf_keeper.specs.Script.Commands.{Asked, commands, unended}
 use Rattle.rdf_keeper.specs.Script.LineLaws.{HasNoEnd}
 use Rattle.rdf_keeper.specs.Script.Lines.{is_empty, raw_lines, upto_last_end}
-use Rattle.rdf_keeper.specs.Script.Pieces.{Gives, Leaves, Pending, PiecesAreTheText, commands_behind, nothing_pending, whole_commands}
+use Rattle.rdf_keeper.specs.Script.Pieces.{GivesCommands, Leaves, Pending, PiecesAreTheText, commands_behind, nothing_pending, whole_commands}
 use Rattle.rdf_keeper.specs.declared.script.command.Body.{Body}
 use Rattle.rdf_keeper.specs.Inside.Says.{IsInPlace, IsWholeLine, asked_at_end, asked_by, body_behind, body_so_far, grown}
 use Rattle.rdf_keeper.specs.declared.script.gathered.Says.{Says}
@@ -133,7 +133,7 @@ module _ (p : Pending) (line : List ℕ) (open_line : upto_last_end p.line ≡ [
 
 -- ---- whatever the pieces are
 
-gives : (p : Pending) (pieces : List (List ℕ)) (cs : List Asked) (q : Pending) → upto_last_end p.line ≡ [] → Gives p pieces cs q → Leaves p (concat pieces) q × (cs ≡ whole_commands p (concat pieces))
+gives : (p : Pending) (pieces : List (List ℕ)) (cs : List Asked) (q : Pending) → upto_last_end p.line ≡ [] → GivesCommands p pieces cs q → Leaves p (concat pieces) q × (cs ≡ whole_commands p (concat pieces))
 gives p [] cs q e g = (subst (Leaves p []) (sym g.1) (leaves_none p e), g.0 ∙ sym (no_whole p [] e refl))
 gives p (piece ∷ pieces) cs q e g =
     let later = gives g.0 pieces g.1 q g.2.open_line g.4 in

@@ -27,7 +27,7 @@ tell : (status : Status) (asked : Asked) (more : List Asked) (whole text : List 
 tell status (act command) more whole text texts refused old mid new a tells others told run =
     ((command, a.0) ∷ others, (a.0, others, refl, tells a.0 a.2, told), (mid, a.1, run))
 tell status (ask query) more whole text texts refused old mid new a tells others told run = (others, told, subst (λ s. Run s others new) a.0 run)
-tell status (show listing) more whole text texts refused old mid new a tells others told run = (others, told, subst (λ s. Run s others new) a.0 run)
+tell status (show topic) more whole text texts refused old mid new a tells others told run = (others, told, subst (λ s. Run s others new) a.0 run)
 tell status bad more whole text texts refused old mid new a tells others told run = (others, told, subst (λ s. Run s others new) a.0 run)
 tell status unended more whole text texts refused old mid new a tells others told run = (others, told, subst (λ s. Run s others new) a.0 run)
 
@@ -102,7 +102,7 @@ quiet_answers (act command ∷ more) old new a =
     let step = a.4 in
     ((command, step.0) ∷ rest.0, (quiet_reply command a.1 step.0 a.3 step.3, rest.1), (a.2, step.1, rest.2))
 quiet_answers (ask query ∷ more) old new a = before_quiet old a.2 new a.4.0 (quiet_answers more a.2 new a.5)
-quiet_answers (show listing ∷ more) old new a = before_quiet old a.2 new a.4.0 (quiet_answers more a.2 new a.5)
+quiet_answers (show topic ∷ more) old new a = before_quiet old a.2 new a.4.0 (quiet_answers more a.2 new a.5)
 quiet_answers (bad ∷ more) old new a = before_quiet old a.2 new a.4.0 (quiet_answers more a.2 new a.5)
 quiet_answers (unended ∷ more) old new a = before_quiet old a.2 new a.4.0 (quiet_answers more a.2 new a.5)
 

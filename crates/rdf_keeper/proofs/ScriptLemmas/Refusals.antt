@@ -14,6 +14,6 @@ refused_reply old new c Done e st = absurd (true≢false e)
 pub refused_answers_leave : RefusedAnswersLeave
 refused_answers_leave (act c) old new text a = refused_reply old new c a.0 a.3 a.1
 refused_answers_leave (ask query) old new text a = a.0
-refused_answers_leave (show listing) old new text a = a.0
+refused_answers_leave (show topic) old new text a = a.0
 refused_answers_leave bad old new text a = a.0
 refused_answers_leave unended old new text a = a.0

@@ -16,7 +16,7 @@ asked_of Redo = act session.Redo
 asked_of (Mark name) = act (session.Mark name.now)
 asked_of (Rollback name) = act (session.Rollback name.now)
 asked_of Commit = act session.Commit
-asked_of (Show listing) = show listing
+asked_of (Show topic) = show topic
 asked_of Bad = bad
 asked_of Unended = unended
 

@@ -3,7 +3,7 @@ use Rattle.std.specs.Prelude.{◌≡◌, ◌⊎◌, ℕ, Bool, true, false, List
 use Rattle.std.specs.List.{concat}
 use Rattle.rdf_keeper.specs.Script.Commands.{Asked, act, ask, show, bad, unended}
 use Rattle.rdf_session.specs.Faults.{line_of, name_of, no_memory}
-use Rattle.rdf_keeper.specs.Script.Listing.{Shows}
+use Rattle.rdf_keeper.specs.Script.Show.{Shows}
 use Rattle.rdf_session.specs.Query.{Replies}
 use Rattle.rdf_session.specs.Session.{Session, Transition, Reply, Changed, Done, Refused}
 use Rattle.rdf_session.specs.declared.fault.KeeperFault.{KeeperFault}
@@ -50,8 +50,8 @@ pub record WritesReply (s : Session) (query text : List ℕ) (refused : Bool) : 
 abbrev pub Answers : Asked → Session → List ℕ → Bool → Session → Type 0
 Answers (act c) s text refused t = (reply : Reply) × Transition s c reply t × (text ≡ reply_line reply) × (refused ≡ is_refused reply)
 Answers (ask query) s text refused t = (t ≡ s) × WritesReply s query text refused
-Answers (show listing) s text refused t =
-    (t ≡ s) × (((lines : List (List ℕ)) × Shows listing s lines × (text ≡ concat lines ++ count_line (length lines)) × (refused ≡ false))
+Answers (show topic) s text refused t =
+    (t ≡ s) × (((lines : List (List ℕ)) × Shows topic s lines × (text ≡ concat lines ++ count_line (length lines)) × (refused ≡ false))
     ⊎ ((text ≡ reply_line (Refused no_memory)) × (refused ≡ true)))
 Answers bad s text refused t = (t ≡ s) × (text ≡ reply_line (Refused BadCommand)) × (refused ≡ true)
 Answers unended s text refused t = (t ≡ s) × (text ≡ reply_line (Refused NoEnd)) × (refused ≡ true)

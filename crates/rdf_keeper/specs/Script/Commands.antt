@@ -9,16 +9,16 @@ use Rattle.rdf_session.specs.declared.format.Format.{Format}
 use Rattle.rdf_session.specs.declared.format.Format.TheVariants.{NQuads, NTriples, Turtle}
 use Rattle.rdf_keeper.specs.declared.script.command.Body.{Body}
 use Rattle.rdf_keeper.specs.declared.script.command.Body.TheVariants.{Load as LoadBody, Update as UpdateBody, Query as QueryBody, Unknown as UnknownBody}
-use Rattle.rdf_keeper.specs.declared.script.command.Listing.{Listing}
-use Rattle.rdf_keeper.specs.declared.script.command.Listing.TheVariants.{Changes, Graphs, Quads}
+use Rattle.rdf_keeper.specs.declared.script.command.Topic.{Topic}
+use Rattle.rdf_keeper.specs.declared.script.command.Topic.TheVariants.{Changes, Graphs, Quads}
 
 pub data Asked : Type 0 where
   -- a transition of the session
   act : session.Command → Asked
   -- a query, by its text
   ask : List ℕ → Asked
-  -- a listing of the session
-  show : Listing → Asked
+  -- what the session is to show
+  show : Topic → Asked
   -- no command
   bad : Asked
   -- a body without an end

@@ -27,7 +27,7 @@ IsWhole _ = ⊥
 abbrev pub IsFree : Asked → KeeperFault → List ℕ → Type 0
 IsFree (act command) fault text = HasFreeLine command fault × (text ≡ reply_line (RefusedReply fault))
 IsFree (ask query) fault text = IsFreeFault fault × (text ≡ reply_line (RefusedReply fault))
-IsFree (show listing) fault text = ⊥
+IsFree (show topic) fault text = ⊥
 IsFree bad fault text = ⊥
 IsFree unended fault text = ⊥
 

@@ -57,14 +57,14 @@ EndsWithin old piece s answers t status = Answered old.stop old.refused (whole_c
 -- ---- whatever the pieces are
 
 -- the commands that come wholly with the pieces, one piece after another
-abbrev pub Gives : Pending → List (List ℕ) → List Asked → Pending → Type 0
-Gives p [] cs q = (cs ≡ []) × (q ≡ p)
-Gives p (piece ∷ pieces) cs q =
-    (mid : Pending) × (others : List Asked) × Leaves p piece mid × (cs ≡ whole_commands p piece ++ others) × Gives mid pieces others q
+abbrev pub GivesCommands : Pending → List (List ℕ) → List Asked → Pending → Type 0
+GivesCommands p [] cs q = (cs ≡ []) × (q ≡ p)
+GivesCommands p (piece ∷ pieces) cs q =
+    (mid : Pending) × (others : List Asked) × Leaves p piece mid × (cs ≡ whole_commands p piece ++ others) × GivesCommands mid pieces others q
 
 -- In whatever pieces a text comes, the commands that came wholly with them are those of its whole lines; and with those that are
 -- pending where it ends they are those of the text.
 abbrev pub PiecesAreTheText : Type 0
-PiecesAreTheText = (pieces : List (List ℕ)) (cs : List Asked) (p : Pending) → Gives nothing_pending pieces cs p
+PiecesAreTheText = (pieces : List (List ℕ)) (cs : List Asked) (p : Pending) → GivesCommands nothing_pending pieces cs p
     → (cs ≡ commands false None (raw_lines (upto_last_end (concat pieces))))
     × (cs ++ commands_behind true p [] ≡ commands true None (raw_lines (concat pieces)))

@@ -12,10 +12,10 @@ use Rattle.rdf_turtle.specs.WrittenLaws.{IsDefaultQuad}
 use Rattle.rdf_dataset.specs.Sorted.{ListsSorted}
 use Rattle.rdf_dataset.specs.State.{State, IsSound}
 use Rattle.rdf_session.specs.Documents.{IsDocument}
-use Rattle.rdf_keeper.specs.Script.Listing.{Shows}
+use Rattle.rdf_keeper.specs.Script.Show.{Shows}
 use Rattle.rdf_session.specs.Session.{Session, now}
 use Rattle.rdf_session.specs.declared.format.Format.{Format}
-use Rattle.rdf_keeper.specs.declared.script.command.Listing.TheVariants.{Quads}
+use Rattle.rdf_keeper.specs.declared.script.command.Topic.TheVariants.{Quads}
 
 -- The lines of quads of the default graph whose blank numbers come in order are a document of these very quads, in this order, in
 -- each format and against any base.

@@ -28,7 +28,7 @@ AreTold status (act command ∷ asked) (text ∷ texts) events =
     (reply : Reply) × (others : List (Command × Reply)) × (events ≡ (command, reply) ∷ others)
     × Tells status reply text texts × AreTold status asked texts others
 AreTold status (ask query ∷ asked) (text ∷ texts) events = AreTold status asked texts events
-AreTold status (show listing ∷ asked) (text ∷ texts) events = AreTold status asked texts events
+AreTold status (show topic ∷ asked) (text ∷ texts) events = AreTold status asked texts events
 AreTold status (bad ∷ asked) (text ∷ texts) events = AreTold status asked texts events
 AreTold status (unended ∷ asked) (text ∷ texts) events = AreTold status asked texts events
 
@@ -61,11 +61,11 @@ ScriptsArePromised = (base_iri : Option (List ℕ)) (start : State) (stop : Bool
 
 -- ---- what comes between
 
--- a query, a listing, a mark, and whatever is refused
+-- a query, a look, a mark, and whatever is refused
 abbrev pub IsQuietAnswer : Asked → Bool → Type 0
 IsQuietAnswer asked true = Unit {0}
 IsQuietAnswer (ask query) false = Unit {0}
-IsQuietAnswer (show listing) false = Unit {0}
+IsQuietAnswer (show topic) false = Unit {0}
 IsQuietAnswer (act (Mark name)) false = Unit {0}
 IsQuietAnswer asked false = ⊥
 
@@ -76,7 +76,7 @@ AnswersQuietly (asked ∷ more) old new =
     (text : List ℕ) × (refused : Bool) × (mid : Session) × IsQuietAnswer asked refused
     × Answers asked old text refused mid × AnswersQuietly more mid new
 
--- The next `%undo` that is accepted behind a request gives back the state before it, whatever queries, listings, marks and refusals
+-- The next `%undo` that is accepted behind a request gives back the state before it, whatever queries, looks, marks and refusals
 -- come between.
 abbrev pub UndoneInAScript : Type 0
 UndoneInAScript = (old mid later new : Session) (request : Request) (between : List Asked) (text other : List ℕ) → IsPlaced old

@@ -3,11 +3,11 @@ ghost use Rattle.std.specs.Prelude.{◌≡◌, ◌++◌, ◌+◌, ◌≤◌, ◌
 ghost use Rattle.std.specs.List.{concat};
 ghost use Rattle.rdf_keeper.specs.Script.Answers.{Answers, count_line, is_refused, query_text, reply_line};
 ghost use Rattle.rdf_keeper.specs.Inside.Asks.{asked_of};
-ghost use Rattle.rdf_keeper.specs.Script.Listing.{Shows};
+ghost use Rattle.rdf_keeper.specs.Script.Show.{Shows};
 ghost use Rattle.rdf_session.specs.Session.{Reply, reply_of, reply_of_mark, Done as DoneReply};
 
-use crate::script::command::{Command, Listing};
-use crate::script::listing::{append_change, append_names};
+use crate::script::command::{Command, Topic};
+use crate::script::show::{append_change, append_names};
 use crate::short_line::{append, append_place};
 use arrayvec::ArrayVec;
 use itoa::Buffer;
@@ -108,27 +108,27 @@ fn answered(alloc: Global, reply: Result<QueryAnswer, KeeperFault>) -> Answer
 }
 
 // Appends the lines of what the session shows, and answers how many there are.
-fn append_listing(keeper: &Keeper, listing: Listing, out: &mut Vec<u8>) -> Result<u64, NoMemory>
-    ensures { IfOk result (λ count. (lines : List (List ℕ)) × Shows listing keeper.now lines
+fn append_topic(keeper: &Keeper, topic: Topic, out: &mut Vec<u8>) -> Result<u64, NoMemory>
+    ensures { IfOk result (λ count. (lines : List (List ℕ)) × Shows topic keeper.now lines
         × (out.new.items ≡ out.old.items ++ concat lines) × (count ≡ length lines)) }
 {
-    match listing {
-        Listing::Changes => append_change(&keeper.changes()?, out),
-        Listing::Graphs => {
+    match topic {
+        Topic::Changes => append_change(&keeper.changes()?, out),
+        Topic::Graphs => {
             let names = keeper.names()?;
             append_names(b"", names.as_slice(), out)?;
             Ok(names.len() as u64)
         }
-        Listing::Quads => keeper.write_quads(out),
+        Topic::Quads => keeper.write_quads(out),
     }
 }
 
-fn show(alloc: Global, keeper: &Keeper, listing: Listing) -> Answer
-    ensures { Answers (asked_of (Command.Show listing)) keeper.now
+fn show(alloc: Global, keeper: &Keeper, topic: Topic) -> Answer
+    ensures { Answers (asked_of (Command.Show topic)) keeper.now
         (result.payload.items ++ result.line.items) result.refused keeper.now }
 {
     let mut payload = Vec::new(alloc);
-    match append_listing(keeper, listing, &mut payload) {
+    match append_topic(keeper, topic, &mut payload) {
         Ok(count) => Answer {
             payload,
             line: count_line(count),
@@ -155,7 +155,7 @@ pub(crate) fn serve(alloc: Global, keeper: &mut Keeper, command: Command<'_>) ->
             keeper.commit();
             done(alloc)
         }
-        Command::Show(listing) => show(alloc, keeper, listing),
+        Command::Show(topic) => show(alloc, keeper, topic),
         Command::Bad => without_payload(alloc, Err(KeeperFault::BadCommand)),
         Command::Unended => without_payload(alloc, Err(KeeperFault::NoEnd)),
     }

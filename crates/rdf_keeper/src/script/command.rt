@@ -10,7 +10,7 @@ use rdf_session::Format;
 
 /// What a session can show.
 #[derive(Clone, Copy, Debug, PartialEq, Eq)]
-pub enum Listing {
+pub enum Topic {
     /// The net between the base and the state now.
     Changes,
     /// The names of the graphs.
@@ -30,7 +30,7 @@ pub(crate) enum Command<'a> {
     Mark(&'a [u8]),
     Rollback(&'a [u8]),
     Commit,
-    Show(Listing),
+    Show(Topic),
     /// No command.
     Bad,
     /// A body without an end.
@@ -145,11 +145,11 @@ fn plain(word: &[u8]) -> Command<'_>
     } else if word == b"%commit".as_slice() {
         Command::Commit
     } else if word == b"%changes".as_slice() {
-        Command::Show(Listing::Changes)
+        Command::Show(Topic::Changes)
     } else if word == b"%graphs".as_slice() {
-        Command::Show(Listing::Graphs)
+        Command::Show(Topic::Graphs)
     } else if word == b"%print".as_slice() {
-        Command::Show(Listing::Quads)
+        Command::Show(Topic::Quads)
     } else {
         Command::Bad
     }

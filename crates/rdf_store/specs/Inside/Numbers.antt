@@ -26,7 +26,7 @@ IsGraphNumber table id Default = id ≡ default_number
 IsGraphNumber table id (Named name) = (id ≢ default_number) × IsIdOf table id name
 
 -- the numbers of a quad's graph and terms
-pub record IsNumbered (table : List Term) (k : IdQuad) (q : QuadParts) : Type 0 where
+pub record AreNumbersOf (table : List Term) (k : IdQuad) (q : QuadParts) : Type 0 where
   pub sound : IsTrue (is_quad q)
   pub graph : IsGraphNumber table k.graph q.graph
   pub subject : IsIdOf table k.subject q.subject
@@ -52,7 +52,7 @@ Matched P (x ∷ xs) (y ∷ ys) = P x y × Matched P xs ys
 
 -- the keys in `Spo` of these quads
 abbrev pub AreKeys : List Term → List (List ℕ) → List QuadParts → Type 0
-AreKeys table keys quads = Matched (λ k q. IsNumbered table (quad_of k) q) keys quads
+AreKeys table keys quads = Matched (λ k q. AreNumbersOf table (quad_of k) q) keys quads
 
 -- the numbers of these terms
 abbrev pub AreIds : List Term → List ℕ → List Term → Type 0
@@ -79,12 +79,12 @@ abbrev pub parts_of : List Term → List ℕ → QuadParts
 parts_of table key = parts_at table (quad_of key)
 
 -- the numbers are those of a quad
-abbrev pub IsKept : List Term → IdQuad → Type 0
-IsKept table k = IsNumbered table k (parts_at table k)
+abbrev pub HasTerms : List Term → IdQuad → Type 0
+HasTerms table k = AreNumbersOf table k (parts_at table k)
 
 -- all that is there has its terms in the table
-pub record AreKept (table : List Term) (c : Contents) : Type 0 where
-  pub quads : (k : IdQuad) → IsTrue (set.contains c.quads k) → IsKept table k
+pub record HaveTerms (table : List Term) (c : Contents) : Type 0 where
+  pub quads : (k : IdQuad) → IsTrue (set.contains c.quads k) → HasTerms table k
   pub names : (id : ℕ) → IsTrue (set.contains c.names id) → IsIdOf table id (term_at table id)
 
 -- what a function makes of the members of a set

@@ -9,15 +9,15 @@ use Rattle.rdf_turtle.specs.declared.tree.Node.{Node}
 use Rattle.rdf_turtle.specs.declared.tree.Node.TheVariants as n
 
 -- the outcome is missing, but where memory was wanting
-abbrev pub Lacks : {A : Type 0} → Option A → PrologueFault → Type 0
-Lacks outcome (NoMemory e) = Unit {0}
-Lacks outcome (Relative start) = outcome ≡ None
-Lacks outcome (UnknownPrefix start) = outcome ≡ None
+abbrev pub Misses : {A : Type 0} → Option A → PrologueFault → Type 0
+Misses outcome (NoMemory e) = Unit {0}
+Misses outcome (Relative start) = outcome ≡ None
+Misses outcome (UnknownPrefix start) = outcome ≡ None
 
 -- what is answered, and the state that is left: the step's outcome, unless memory was wanting
-abbrev pub Answers : {S A : Type 0} → Outcome S A → Result A PrologueFault → S → Type 0
-Answers outcome (Ok a) new = outcome ≡ Some (a, new)
-Answers outcome (Err e) new = Lacks outcome e
+abbrev pub GivesOrMisses : {S A : Type 0} → Outcome S A → Result A PrologueFault → S → Type 0
+GivesOrMisses outcome (Ok a) new = outcome ≡ Some (a, new)
+GivesOrMisses outcome (Err e) new = Misses outcome e
 
 -- each prefix is declared of a node but for those inside it
 abbrev pub known_leaf : List (List ℕ) → Node → Bool

@@ -50,31 +50,31 @@ pub record Turn (depth : ℕ) (now then : Lexemes) (pending later : Pending) (be
   pub becomes : Becomes pending later tree before behind declared more
 
 -- what is pending behind all of a tree
-abbrev pub Leaves : Pending → List Statement → ParserState → ParserState → Type 0
-Leaves Nothing tree before behind = (declares_first [] tree ≡ true) × (meaning.document tree before ≡ Some (tt, behind))
-Leaves Relative tree before behind = (declares_first [] tree ≡ true) × (meaning.document tree before ≡ None)
-Leaves UnknownPrefix tree before behind = declares_first [] tree ≡ false
+abbrev pub LeavesPending : Pending → List Statement → ParserState → ParserState → Type 0
+LeavesPending Nothing tree before behind = (declares_first [] tree ≡ true) × (meaning.document tree before ≡ Some (tt, behind))
+LeavesPending Relative tree before behind = (declares_first [] tree ≡ true) × (meaning.document tree before ≡ None)
+LeavesPending UnknownPrefix tree before behind = declares_first [] tree ≡ false
 
 -- The lexemes are a document with so many brackets inside one another at most, but for one around nothing.
 pub record Turns (depth : ℕ) (lexemes : Lexemes) (pending : Pending) (before behind : ParserState) : Type 0 where
   pub tree : List Statement
   pub reads : Document depth lexemes tree []
-  pub leaves : Leaves pending tree before behind
+  pub leaves : LeavesPending pending tree before behind
 
 -- The lexemes are such a document, and this is answered to it.
-pub record Tells (depth : ℕ) (lexemes : Lexemes) (base : Option (List ℕ)) (answer : Result (List QuadParts) TurtleFaultKind) : Type 0 where
+pub record TellsDocument (depth : ℕ) (lexemes : Lexemes) (base : Option (List ℕ)) (answer : Result (List QuadParts) TurtleFaultKind) : Type 0 where
   pub tree : List Statement
   pub reads : Document depth lexemes tree []
   pub answers : meaning.answer base tree ≡ answer
 
 -- what a fault says of a reading; want of memory says nothing
-abbrev pub Stops : {A : Type 0} → Outcome Lexeme A → TurtleFaultKind → Type 0
-Stops outcome fault.Syntax = outcome ≡ None
-Stops outcome (fault.NoMemory _) = Unit {0}
-Stops outcome _ = ⊥
+abbrev pub StopsReading : {A : Type 0} → Outcome Lexeme A → TurtleFaultKind → Type 0
+StopsReading outcome fault.Syntax = outcome ≡ None
+StopsReading outcome (fault.NoMemory _) = Unit {0}
+StopsReading outcome _ = ⊥
 
 -- what a fault says of lexemes: they are no such document, or this is answered to it
 abbrev pub StopsWith : ℕ → Lexemes → Option (List ℕ) → TurtleFaultKind → Type 0
-StopsWith depth lexemes base fault.UnknownPrefix = Tells depth lexemes base (Err fault.UnknownPrefix)
-StopsWith depth lexemes base fault.Relative = Tells depth lexemes base (Err fault.Relative)
-StopsWith depth lexemes base kind = Stops (document depth lexemes) kind
+StopsWith depth lexemes base fault.UnknownPrefix = TellsDocument depth lexemes base (Err fault.UnknownPrefix)
+StopsWith depth lexemes base fault.Relative = TellsDocument depth lexemes base (Err fault.Relative)
+StopsWith depth lexemes base kind = StopsReading (document depth lexemes) kind

@@ -1,6 +1,6 @@
 use Rattle.std.proofs.Common.{subst}
 use Rattle.std.specs.Prelude.{IsSorted}
-use Rattle.rdf_sets.proofs.ListingLemmas.{listed_in_order}
+use Rattle.rdf_sets.proofs.ListsOnceLemmas.{listed_in_order}
 use Rattle.rdf_sets.proofs.sorted.in_order.Goals as goal
 
 pub returns : goal.returns

@@ -3,12 +3,12 @@ use Rattle.std.proofs.lemmas.Map.Iter.{iter_end}
 use Rattle.std.proofs.lemmas.Map.Views.{All-turn}
 use Rattle.std.specs.Map.Iter.{deref}
 use Rattle.rdf_orders.specs.Quads.{quad_of}
-use Rattle.rdf_store.specs.Inside.Numbers.{IsKept, parts_of}
+use Rattle.rdf_store.specs.Inside.Numbers.{HasTerms, parts_of}
 use Rattle.rdf_store.proofs.look_ups.append_tree.Goals as goal
 
 pub append_quad-requires : goal.append_quad-requires
 append_quad-requires c =
-    All-turn deref (λ key. IsKept c.args.table.now (quad_of key)) _ _ _ _ _ _ _ c.requires c.into_iter-key-iterator.ensures.into_iter_gives.0 c.loop-key.yielded_by c.in-Some.is c.next.ensures.steps
+    All-turn deref (λ key. HasTerms c.args.table.now (quad_of key)) _ _ _ _ _ _ _ c.requires c.into_iter-key-iterator.ensures.into_iter_gives.0 c.loop-key.yielded_by c.in-Some.is c.next.ensures.steps
 
 pub returns-clause-ok : goal.returns-clause-ok
 returns-clause-ok c =

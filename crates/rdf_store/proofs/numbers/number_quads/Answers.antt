@@ -1,5 +1,5 @@
 use Rattle.rdf_store.proofs.NumberLemmas.{grown_then}
-use Rattle.rdf_store.proofs.StepLemmas.{next_key}
+use Rattle.rdf_store.proofs.GrowthLemmas.{next_key}
 use Rattle.rdf_store.proofs.numbers.number_quads.Goals as goal
 
 pub loop-quad-preserved : goal.loop-quad-preserved

@@ -1,5 +1,5 @@
 use Rattle.rdf_store.proofs.NumberLemmas.{grown_then}
-use Rattle.rdf_store.proofs.StepLemmas.{next_id}
+use Rattle.rdf_store.proofs.GrowthLemmas.{next_id}
 use Rattle.rdf_store.proofs.numbers.number_terms.Goals as goal
 
 pub loop-term-preserved : goal.loop-term-preserved

@@ -5,9 +5,9 @@ use Rattle.sparql_algebra.specs.Algebra.{element, graph, group_of, translation}
 use Rattle.sparql_values.specs.Mapping.{single}
 use Rattle.sparql_algebra.specs.Solutions.{joins, solutions}
 use Rattle.sparql_solve.specs.declared.look_ups.Graphs.TheVariants.{One}
-use Rattle.sparql_solve.specs.Steps.{element_solutions}
+use Rattle.sparql_solve.specs.Members.{element_solutions}
 use Rattle.sparql_solve.proofs.SideLemmas.{basic_look_up, graph_look_up, rows_side, lone_side, optional_member, graph_member}
-use Rattle.sparql_solve.proofs.StepLemmas.{unit_gives, members_more, more_gives, union_gives, union_none, joined_gives, all_names_give, group_gives, groups_give, variable_gives}
+use Rattle.sparql_solve.proofs.MemberLemmas.{unit_gives, members_more, more_gives, union_gives, union_none, joined_gives, all_names_give, group_gives, groups_give, variable_gives}
 use Rattle.sparql_solve.proofs.evaluator.+evaluate.Goals as goal
 
 pub member_list_rows-loop-member-init : goal.member_list_rows-loop-member-init

@@ -1,5 +1,5 @@
 use Rattle.sparql_solve.specs.Sides.{found_under}
-use Rattle.sparql_solve.proofs.StepLemmas.{more_gives}
+use Rattle.sparql_solve.proofs.MemberLemmas.{more_gives}
 use Rattle.sparql_solve.proofs.look_ups.rows_under_names.Goals as goal
 
 pub loop-name-preserved : goal.loop-name-preserved

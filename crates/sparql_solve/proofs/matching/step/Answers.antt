@@ -5,7 +5,7 @@ use Rattle.sparql_algebra.specs.Listing.{Listing}
 use Rattle.sparql_solve.specs.Matching.{matches_of}
 use Rattle.sparql_solve.proofs.FitLemmas.{listed_held}
 use Rattle.sparql_solve.proofs.LookUpLemmas.{look_up_gives, looked_as, asked_before}
-use Rattle.sparql_solve.proofs.StepLemmas.{first_gives, next_gives, last_gives, none_left}
+use Rattle.sparql_solve.proofs.MemberLemmas.{first_gives, next_gives, last_gives, none_left}
 use Rattle.sparql_solve.proofs.matching.step.Goals.{then-not-is_shared+in_ok-quads_under-2, else-not-is_shared}
 use Rattle.sparql_solve.proofs.matching.step.Goals as goal
 

@@ -1,5 +1,5 @@
 use Rattle.sparql_solve.specs.Sides.{found}
-use Rattle.sparql_solve.proofs.StepLemmas.{more_gives}
+use Rattle.sparql_solve.proofs.MemberLemmas.{more_gives}
 use Rattle.sparql_solve.proofs.sides.join_look_up.Goals as goal
 
 pub loop-row-preserved : goal.loop-row-preserved

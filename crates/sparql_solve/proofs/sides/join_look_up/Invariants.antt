@@ -1,10 +1,10 @@
 use Rattle.std.proofs.Common.{drop}
 use Rattle.std.specs.List.{flat_map}
 use Rattle.sparql_solve.specs.Sides.{found}
-use Rattle.sparql_solve.specs.Steps.{GivesMore}
+use Rattle.sparql_solve.specs.Members.{AreMoreSolutions}
 use Rattle.sparql_solve.proofs.sides.join_look_up.Given as goal
 
 abbrev pub invariant-loop-row : goal.invariant-loop-row
 invariant-loop-row g l =
-    GivesMore (g.S.Source.contents l.source) l.out.items (λ d. flat_map (found l.variables d l.look_up) (drop l.row-index l.left))
+    AreMoreSolutions (g.S.Source.contents l.source) l.out.items (λ d. flat_map (found l.variables d l.look_up) (drop l.row-index l.left))
     (λ d. flat_map (found l.variables d l.look_up) l.left)

@@ -2,7 +2,7 @@ use Rattle.std.proofs.Common.{filter}
 use Rattle.sparql_algebra.specs.Solutions.{or_alone, satisfies}
 use Rattle.sparql_solve.specs.Sides.{found}
 use Rattle.sparql_solve.proofs.SideLemmas.{done_gives}
-use Rattle.sparql_solve.proofs.StepLemmas.{more_gives}
+use Rattle.sparql_solve.proofs.MemberLemmas.{more_gives}
 use Rattle.sparql_solve.proofs.sides.left_join_look_up.Goals as goal
 
 pub loop-row-preserved : goal.loop-row-preserved

@@ -1,12 +1,12 @@
 use Rattle.std.proofs.Common.{le_refl, arith, sym, ◌∙◌, ap, subst, false, [], ◌++◌, ◌≡◌, Option, Some, None, Ok, Err}
 use Rattle.rdf_lines.specs.declared.state.ReaderState.TheVariants.{Reading}
 use Rattle.rdf_terms.specs.declared.quad.Quad.{Quad}
-use Rattle.rdf_lines.specs.Reader.{Between, over, OneLine, FallsAtOk}
+use Rattle.rdf_lines.specs.Reader.{BetweenCalls, over, OneLine, FallsAtOk}
 use Rattle.rdf_lines.proofs.ReaderLemmas.{passes_none, still_passes, ends_passing, passes_on, reads_on, call_is}
 use Rattle.rdf_lines.proofs.reader.LineReader.next.Goals as goal
 
-was_reading : {a b : Between} → a ≡ b → a.state ≡ Reading → b.state ≡ Reading
-was_reading e h = sym (ap (λ (s : Between). s.state) e) ∙ h
+was_reading : {a b : BetweenCalls} → a ≡ b → a.state ≡ Reading → b.state ≡ Reading
+was_reading e h = sym (ap (λ (s : BetweenCalls). s.state) e) ∙ h
 
 pub loop-self-init : goal.loop-self-init
 loop-self-init g c = ([], false, passes_none (over (g.R.Read.remaining c.args.stream.now) c.args.self.now) (was_reading c.self.view_is c.in-Reading.is), le_refl _)

@@ -1,5 +1,5 @@
 use Rattle.rdf_store.proofs.ResultLemmas.{on_err_of}
-use Rattle.rdf_store.proofs.StepLemmas.{grown_kept, grown_is, err_is, add_kept, add_is, add_new}
+use Rattle.rdf_store.proofs.GrowthLemmas.{grown_kept, grown_is, err_is, add_kept, add_is, add_new}
 use Rattle.rdf_store.proofs.store.Store.add_name.Goals as goal
 
 pub invariant_of-self : goal.invariant_of-self

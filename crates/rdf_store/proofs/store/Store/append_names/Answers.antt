@@ -1,5 +1,5 @@
 use Rattle.rdf_store.proofs.ResultLemmas.{on_ok_to}
-use Rattle.rdf_store.proofs.ListingLemmas.{listed_ids_kept, names_appended}
+use Rattle.rdf_store.proofs.ShownLemmas.{listed_ids_kept, names_appended}
 use Rattle.rdf_store.proofs.store.Store.append_names.Goals as goal
 
 pub append_terms-requires : goal.append_terms-requires

@@ -1,5 +1,5 @@
 use Rattle.rdf_store.proofs.ResultLemmas.{on_ok_to}
-use Rattle.rdf_store.proofs.ListingLemmas.{listed_kept, quads_appended}
+use Rattle.rdf_store.proofs.ShownLemmas.{listed_kept, quads_appended}
 use Rattle.rdf_store.proofs.store.Store.append_quads.Goals as goal
 
 pub append_tree-requires : goal.append_tree-requires

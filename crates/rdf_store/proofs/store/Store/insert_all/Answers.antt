@@ -1,11 +1,11 @@
 use Rattle.std.proofs.Common.{◌∙◌, refl}
 use Rattle.rdf_terms.specs.Table.{IsIdOf}
 use Rattle.rdf_orders.specs.Quads.{quad_of}
-use Rattle.rdf_store.specs.Inside.Numbers.{IsNumbered}
+use Rattle.rdf_store.specs.Inside.Numbers.{AreNumbersOf}
 use Rattle.rdf_store.proofs.ResultLemmas.{on_err_of}
 use Rattle.rdf_store.proofs.ListLemmas.{matched_nothing}
 use Rattle.rdf_store.proofs.NumberLemmas.{grown_then}
-use Rattle.rdf_store.proofs.StepLemmas.{keys_passed, ids_passed, grown_kept, grown_is, err_is, all_new_keys, all_new_ids, all_kept, all_is}
+use Rattle.rdf_store.proofs.GrowthLemmas.{keys_passed, ids_passed, grown_kept, grown_is, err_is, all_new_keys, all_new_ids, all_kept, all_is}
 use Rattle.rdf_store.proofs.store.Store.insert_all.Goals as goal
 
 pub invariant_of-self : goal.invariant_of-self
@@ -59,5 +59,5 @@ returns-clause-err c =
 pub returns-clause-free : goal.returns-clause-free
 returns-clause-free c no_quads no_names =
     c.insert_list.ensures.free
-    (matched_nothing (λ k q. IsNumbered c.number_quads.new.table (quad_of k) q) c.in_ok-keys.keys.items c.args.quads.now c.in_ok-keys.ensures.numbers no_quads)
+    (matched_nothing (λ k q. AreNumbersOf c.number_quads.new.table (quad_of k) q) c.in_ok-keys.keys.items c.args.quads.now c.in_ok-keys.ensures.numbers no_quads)
     (c.deref.ensures.value ∙ matched_nothing (λ id t. IsIdOf c.number_terms.new.table id t) c.in_ok-numbers.numbers.items c.args.names.now c.in_ok-numbers.ensures.numbers no_names)

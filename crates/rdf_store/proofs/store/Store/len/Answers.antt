@@ -1,5 +1,5 @@
 use Rattle.std.proofs.Common.{◌∙◌}
-use Rattle.rdf_store.proofs.ListingLemmas.{counted}
+use Rattle.rdf_store.proofs.ShownLemmas.{counted}
 use Rattle.rdf_store.proofs.store.Store.len.Goals as goal
 
 pub returns : goal.returns

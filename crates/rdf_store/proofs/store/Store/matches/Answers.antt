@@ -1,6 +1,6 @@
 use Rattle.std.specs.Prelude.{option_copied}
 use Rattle.rdf_store.specs.Stored.{matches}
-use Rattle.rdf_store.proofs.ListingLemmas.{none_appended, found_kept, matches_appended}
+use Rattle.rdf_store.proofs.ShownLemmas.{none_appended, found_kept, matches_appended}
 use Rattle.rdf_store.proofs.store.Store.matches.Goals as goal
 
 pub returns-in_default-clause-found : goal.returns-in_default-clause-found

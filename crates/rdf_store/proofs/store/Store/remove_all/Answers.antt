@@ -1,6 +1,6 @@
 use Rattle.std.proofs.Common.{sym}
 use Rattle.rdf_store.proofs.StoreLemmas.{without_none}
-use Rattle.rdf_store.proofs.StepLemmas.{next_quad_gone, next_name_gone}
+use Rattle.rdf_store.proofs.GrowthLemmas.{next_quad_gone, next_name_gone}
 use Rattle.rdf_store.proofs.store.Store.remove_all.Goals as goal
 
 pub loop-quad-init : goal.loop-quad-init

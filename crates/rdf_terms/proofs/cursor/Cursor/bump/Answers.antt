@@ -1,4 +1,4 @@
-use Rattle.rdf_terms.proofs.StepLemmas.{chars_step}
+use Rattle.rdf_terms.proofs.OneCharacterLemmas.{chars_step}
 use Rattle.rdf_terms.proofs.cursor.Cursor.bump.Goals as goal
 
 pub returns : goal.returns

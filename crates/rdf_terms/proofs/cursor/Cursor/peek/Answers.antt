@@ -1,4 +1,4 @@
-use Rattle.rdf_terms.proofs.StepLemmas.{chars_first}
+use Rattle.rdf_terms.proofs.OneCharacterLemmas.{chars_first}
 use Rattle.rdf_terms.proofs.cursor.Cursor.peek.Goals as goal
 
 pub returns : goal.returns

@@ -123,9 +123,9 @@ module _ {K : Type 0} {R : K → K → Ordering} (o : IsTotalOrder R) (apart : I
       and_left false b h = h
 
   -- a view over a delta: what lies beneath and wasn't removed, and what was added
-  pub staged_listing : (u n : set.FinSet R) (a r : List K) (xs : List K) → IsDelta u n a r → IsStrictlySortedBy R a → ListsOnce u xs
+  pub staged_once : (u n : set.FinSet R) (a r : List K) (xs : List K) → IsDelta u n a r → IsStrictlySortedBy R a → ListsOnce u xs
       → ListsOnce n (filter (λ x. not (contains (from_list {R = R} r) x)) xs ++ a)
-  staged_listing u n a r xs d s l =
+  staged_once u n a r xs d s l =
       lists_both u n (λ x. not (contains (from_list {R = R} r) x)) xs a l (as_many o apart a s)
       (λ q m. not_there (contains u q) (contains n q) (sym (gained_at o apart u n a r d q) ∙ m))
       (λ q. (λ i. (contains u q && not (lost_at o apart u n a r d q i)) || gained_at o apart u n a r d q i) ∙ name_kept_or_new (contains u q) (contains n q))

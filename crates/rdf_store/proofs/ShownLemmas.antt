@@ -1,4 +1,4 @@
--- Listings of what a store shows, by the numbers that its sets list.
+-- Lists of what a store shows, by the numbers that its sets list.
 use Rattle.std.proofs.Common.{◌≡◌, ℕ, ◌<◌, zero, suc, Bool, true, List, [], ◌∷◌, ◌++◌, map, length, refl, sym, ap, subst, ◌∙◌, arith, append-nil, get_or}
 use Rattle.std.specs.Prelude.{All, IsTrue}
 use Rattle.std.proofs.lemmas.List.{length-map}
@@ -20,7 +20,7 @@ use Rattle.rdf_orders.proofs.KeyLemmas.{id_quad_cmp_total, id_quad_cmp-IsAntisym
 use Rattle.rdf_orders.proofs.TestLemmas.{first_of_both, either_first, either_second}
 use Rattle.rdf_terms.specs.Lists.{AppendsOnce, ListsOnce}
 use Rattle.rdf_store.specs.Stored.{Stored}
-use Rattle.rdf_store.specs.Inside.Numbers.{IsNumbered, IsKept, AreKept, shown, parts_at, parts_of, term_at}
+use Rattle.rdf_store.specs.Inside.Numbers.{AreNumbersOf, HasTerms, HaveTerms, shown, parts_at, parts_of, term_at}
 use Rattle.rdf_store.proofs.ImageLemmas.{eq_of_same}
 use Rattle.rdf_store.proofs.StoreLemmas.{quads_listed, names_listed, kept_listed, none_kept}
 
@@ -36,20 +36,20 @@ parts_of_keys : (table : List Term) (found : List IdQuad) → map (parts_of tabl
 parts_of_keys table [] = refl
 parts_of_keys table (q ∷ found) = ap (λ l. parts_at table q ∷ l) (parts_of_keys table found)
 
-module _ (table : List Term) (c : Contents) (s : Stored) (kept : AreKept table c) (is : shown table c ≡ s) where
+module _ (table : List Term) (c : Contents) (s : Stored) (kept : HaveTerms table c) (is : shown table c ≡ s) where
   kept_keys : (members : set.FinSet id_quad_cmp) (found : List IdQuad) → ((k : IdQuad) → set.contains members k ≡ true → set.contains c.quads k ≡ true) → ListsOnce members found
-      → All (λ key. IsKept table (quad_of key)) (map (key_in Spo) found)
-  kept_keys members found some l = All-map (λ key. IsKept table (quad_of key)) (key_in Spo) found
+      → All (λ key. HasTerms table (quad_of key)) (map (key_in Spo) found)
+  kept_keys members found some l = All-map (λ key. HasTerms table (quad_of key)) (key_in Spo) found
       (λ k d lt. kept.quads (get_or found k d) (some (get_or found k d) (subst (λ z. set.contains z (get_or found k d) ≡ true) l.all (item_in id_quad_cmp_total id_quad_cmp-IsAntisymmetric found k d lt))))
 
-  pub listed_kept : (keys : List (List ℕ)) → ListsKeys c.quads keys → All (λ key. IsKept table (quad_of key)) keys
-  listed_kept keys l = subst (All (λ key. IsKept table (quad_of key))) (sym l.are_keys) (kept_keys c.quads l.found (λ k h. h) l.sorted.lists)
+  pub listed_kept : (keys : List (List ℕ)) → ListsKeys c.quads keys → All (λ key. HasTerms table (quad_of key)) keys
+  listed_kept keys l = subst (All (λ key. HasTerms table (quad_of key))) (sym l.are_keys) (kept_keys c.quads l.found (λ k h. h) l.sorted.lists)
 
   pub listed_ids_kept : (numbers : List ℕ) → ListsIds c.names numbers → All (λ id. IsIdOf table id (term_at table id)) numbers
   listed_ids_kept numbers l k d lt = kept.names (get_or numbers k d) (subst (λ z. set.contains z (get_or numbers k d) ≡ true) l.lists.all (item_in nat_cmp_total nat_cmp-IsAntisymmetric numbers k d lt))
 
-  pub found_kept : (test : IdQuad → Bool) (start keys keys' : List (List ℕ)) → start ≡ [] → AppendsKeysOnce (set.retain c.quads test) start keys → keys' ≡ keys → All (λ key. IsKept table (quad_of key)) keys'
-  found_kept test start keys keys' none a e = subst (All (λ key. IsKept table (quad_of key))) (sym (e ∙ a.appended ∙ ap (λ ks. ks ++ map (key_in Spo) a.found) none))
+  pub found_kept : (test : IdQuad → Bool) (start keys keys' : List (List ℕ)) → start ≡ [] → AppendsKeysOnce (set.retain c.quads test) start keys → keys' ≡ keys → All (λ key. HasTerms table (quad_of key)) keys'
+  found_kept test start keys keys' none a e = subst (All (λ key. HasTerms table (quad_of key))) (sym (e ∙ a.appended ∙ ap (λ ks. ks ++ map (key_in Spo) a.found) none))
       (kept_keys (set.retain c.quads test) a.found (λ k h. first_of_both _ _ (sym (contains_kept c.quads test k) ∙ h)) a.each_once)
 
   module _ (once : AreHeldOnce table) where
@@ -72,7 +72,7 @@ module _ (table : List Term) (c : Contents) (s : Stored) (kept : AreKept table c
       each_once = subst (λ (v : Stored). ListsOnce v.names (map (term_at table) numbers)) is (names_listed table c kept once numbers l.lists);
     }
 
-    pub matches_appended : (test : IdQuad → Bool) (wanted : QuadParts → Bool) → ((k : IdQuad) (q : QuadParts) → IsNumbered table k q → test k ≡ wanted q)
+    pub matches_appended : (test : IdQuad → Bool) (wanted : QuadParts → Bool) → ((k : IdQuad) (q : QuadParts) → AreNumbersOf table k q → test k ≡ wanted q)
         → (start keys keys' : List (List ℕ)) (old new : List QuadParts) → start ≡ [] → AppendsKeysOnce (set.retain c.quads test) start keys → keys' ≡ keys
         → new ≡ old ++ map (parts_of table) keys' → AppendsOnce (set.retain s.quads wanted) old new
     matches_appended test wanted same start keys keys' old new none a k e = record {
@@ -81,7 +81,7 @@ module _ (table : List Term) (c : Contents) (s : Stored) (kept : AreKept table c
       each_once = subst (λ (v : Stored). ListsOnce (set.retain v.quads wanted) (map (parts_at table) a.found)) is (kept_listed table c kept once test wanted same a.found a.each_once);
     }
 
-  pub none_appended : (wanted : QuadParts → Bool) → ((k : IdQuad) (q : QuadParts) → IsNumbered table k q → ¬ IsTrue (wanted q)) → (old : List QuadParts) → AppendsOnce (set.retain s.quads wanted) old old
+  pub none_appended : (wanted : QuadParts → Bool) → ((k : IdQuad) (q : QuadParts) → AreNumbersOf table k q → ¬ IsTrue (wanted q)) → (old : List QuadParts) → AppendsOnce (set.retain s.quads wanted) old old
   none_appended wanted none old =
       let nothing = sym (none_kept table c kept wanted none) ∙ ap (λ (v : Stored). set.retain v.quads wanted) is in
       record { found = []; appended = sym (append-nil old); each_once = record { all = nothing; once = sym (len-empty quad_cmp) ∙ ap set.len nothing } }

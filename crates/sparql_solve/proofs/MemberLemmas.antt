@@ -23,13 +23,13 @@ use Rattle.sparql_algebra.specs.Solutions.{joins, satisfies, solutions}
 use Rattle.sparql_algebra.proofs.CallerLemmas.{SameBag-refl, SameBag-filter, SameBag-joins, SameBag-flat_map, filter_always, names_same, translation-is, element-Union, empty_solutions}
 use Rattle.sparql_solve.specs.declared.sides.Side.{Side}
 use Rattle.sparql_solve.specs.Sides.{IsSideOf, rows_after}
-use Rattle.sparql_solve.specs.Steps.{Gives, GivesMore, element_solutions, over_names, over_groups}
+use Rattle.sparql_solve.specs.Members.{AreSolutions, AreMoreSolutions, element_solutions, over_names, over_groups}
 use Rattle.sparql_solve.proofs.SideLemmas.{after_side}
 
 -- ---- the empty pattern
 
 module _ (vs : Variables) (s : State) (g : GraphName) where
-  pub unit_gives : (rows : List Mapping) → rows ≡ replicate (length vs) None ∷ [] → Gives s rows (λ d. solutions vs d g empty_pattern)
+  pub unit_gives : (rows : List Mapping) → rows ≡ replicate (length vs) None ∷ [] → AreSolutions s rows (λ d. solutions vs d g empty_pattern)
   unit_gives rows e d l f = ap (sum_by f) e ∙ sym (empty_solutions vs (d.quads g) f)
 
   -- ---- the members of a group
@@ -40,9 +40,9 @@ module _ (vs : Variables) (s : State) (g : GraphName) where
   extended_push G (y ∷ xs) x = extended_push (extended G (element y)) xs x
 
   pub members_more : (ms : List Member) (i : ℕ) (x : Member) (rows left out : List Mapping) (right : Side) → i < length ms → x ≡ get_or ms i x →
-      Gives s rows (λ d. solutions vs d g (group_of (map element (take i ms)))) → IsSideOf vs s right (λ d. element_solutions vs d g (element x)) →
-      left ≡ rows → Gives s out (λ d. rows_after vs d left right (element x)) →
-      Gives s out (λ d. solutions vs d g (group_of (map element (take (i + 1) ms))))
+      AreSolutions s rows (λ d. solutions vs d g (group_of (map element (take i ms)))) → IsSideOf vs s right (λ d. element_solutions vs d g (element x)) →
+      left ≡ rows → AreSolutions s out (λ d. rows_after vs d left right (element x)) →
+      AreSolutions s out (λ d. solutions vs d g (group_of (map element (take (i + 1) ms))))
   members_more ms i x rows left out right lt here h r el e d l f =
       let more : take (i + 1) ms ≡ take i ms ++ x ∷ [] = take_more ms i x lt ∙ ap (λ (y : Member). take i ms ++ y ∷ []) (sym here) in
       e d l f ∙ ap (λ (xs : List Mapping). sum_by f (rows_after vs d xs right (element x))) el
@@ -56,7 +56,7 @@ module _ (vs : Variables) (s : State) (g : GraphName) where
   under_filters d (x ∷ F) A rows h = SameBag-filter (satisfies vs (x ∷ F)) rows (solutions vs d g A) h
 
   pub group_gives : (p : Pattern) (ms : List Member) (F : List Expression) (rows out : List Mapping) → ms ≡ p.members → F ≡ p.filters →
-      Gives s rows (λ d. solutions vs d g (group_of (map element ms))) → out ≡ filter (satisfies vs F) rows → Gives s out (λ d. solutions vs d g (translation p))
+      AreSolutions s rows (λ d. solutions vs d g (group_of (map element ms))) → out ≡ filter (satisfies vs F) rows → AreSolutions s out (λ d. solutions vs d g (translation p))
   group_gives p ms F rows out em ef h e d l =
       let G : Algebra = group_of (map element p.members) in
       let inner : SameBag rows (solutions vs d g G) = subst (λ (xs : List Member). SameBag rows (solutions vs d g (group_of (map element xs)))) em (h d l) in
@@ -65,7 +65,7 @@ module _ (vs : Variables) (s : State) (g : GraphName) where
       (subst (λ xs. SameBag xs (solutions vs d g (filtered p.filters G))) (sym is) (under_filters d p.filters G rows inner))
 
   pub groups_give : (member : Member) (ps given : List Pattern) (out : List Mapping) → member ≡ m.Union ps → given ≡ ps →
-      Gives s out (λ d. solutions vs d g (union_of (map translation given))) → Gives s out (λ d. element_solutions vs d g (element member))
+      AreSolutions s out (λ d. solutions vs d g (union_of (map translation given))) → AreSolutions s out (λ d. element_solutions vs d g (element member))
   groups_give member ps given out em eg h d l =
       subst (λ k. SameBag out (element_solutions vs d g k)) (sym (ap element em ∙ element-Union ps))
       (subst (λ (qs : List Pattern). SameBag out (solutions vs d g (union_of (map translation qs)))) eg (h d l))
@@ -77,13 +77,13 @@ module _ (vs : Variables) (s : State) (g : GraphName) where
   union_is d A (p ∷ ps) =
       union_is d (union A (translation p)) ps ∙ append_assoc (solutions vs d g A) (solutions vs d g (translation p)) (over_groups vs d g ps)
 
-  pub union_gives : (ps : List Pattern) (out : List Mapping) (b : Bool) → b ≡ nat_eq (length ps) 0 → b ≡ false → Gives s out (λ d. over_groups vs d g ps) →
-      Gives s out (λ d. solutions vs d g (union_of (map translation ps)))
+  pub union_gives : (ps : List Pattern) (out : List Mapping) (b : Bool) → b ≡ nat_eq (length ps) 0 → b ≡ false → AreSolutions s out (λ d. over_groups vs d g ps) →
+      AreSolutions s out (λ d. solutions vs d g (union_of (map translation ps)))
   union_gives [] out b e n h = cc
   union_gives (p ∷ ps) out b e n h = λ d l f. h d l f ∙ ap (sum_by f) (sym (union_is d (translation p) ps))
 
   pub union_none : (ps : List Pattern) (out : List Mapping) (b : Bool) → b ≡ nat_eq (length ps) 0 → b ≡ true → out ≡ replicate (length vs) None ∷ [] →
-      Gives s out (λ d. solutions vs d g (union_of (map translation ps)))
+      AreSolutions s out (λ d. solutions vs d g (union_of (map translation ps)))
   union_none [] out b e n h = unit_gives out h
   union_none (p ∷ ps) out b e n h = absurd (omega (arith, eqb-true (length (p ∷ ps)) 0 (sym e ∙ n)))
 
@@ -91,8 +91,8 @@ module _ (vs : Variables) (s : State) (g : GraphName) where
 
 module _ {X : Type 0} (s : State) (F : Listing → X → List Mapping) where
   pub more_gives : (xs : List X) (i : ℕ) (x : X) (out rows after : List Mapping) → i < length xs → x ≡ get_or xs i x →
-      GivesMore s out (λ d. flat_map (F d) (drop i xs)) (λ d. flat_map (F d) xs) → Gives s rows (λ d. F d x) → after ≡ out ++ rows →
-      GivesMore s after (λ d. flat_map (F d) (drop (i + 1) xs)) (λ d. flat_map (F d) xs)
+      AreMoreSolutions s out (λ d. flat_map (F d) (drop i xs)) (λ d. flat_map (F d) xs) → AreSolutions s rows (λ d. F d x) → after ≡ out ++ rows →
+      AreMoreSolutions s after (λ d. flat_map (F d) (drop (i + 1) xs)) (λ d. flat_map (F d) xs)
   more_gives xs i x out rows after lt here h r e d l f =
       let rest = flat_map (F d) (drop (i + 1) xs) in
       let left = flat_map (F d) (drop i xs) in
@@ -115,12 +115,12 @@ none_left (x ∷ xs) e = absurd (omega (arith, e))
 
 module _ {X : Type 0} (s : State) (F : Listing → X → List Mapping) (whole : List X) where
   pub first_gives : (x : X) (rest : List X) (out : List Mapping) → whole ≡ x ∷ rest → out ≡ [] →
-      GivesMore s out (λ d. flat_map (F d) (x ∷ rest)) (λ d. flat_map (F d) whole)
+      AreMoreSolutions s out (λ d. flat_map (F d) (x ∷ rest)) (λ d. flat_map (F d) whole)
   first_gives x rest out e n d l f =
       ap (λ (o : List Mapping). sum_by f (o ++ flat_map (F d) (x ∷ rest))) n ∙ ap (λ (ys : List X). sum_by f (flat_map (F d) ys)) (sym e)
 
-  pub next_gives : (x : X) (xs rest : List X) (out rows after : List Mapping) → GivesMore s out (λ d. flat_map (F d) (x ∷ xs)) (λ d. flat_map (F d) whole) →
-      Gives s rows (λ d. F d x) → after ≡ out ++ rows → xs ≡ rest → GivesMore s after (λ d. flat_map (F d) rest) (λ d. flat_map (F d) whole)
+  pub next_gives : (x : X) (xs rest : List X) (out rows after : List Mapping) → AreMoreSolutions s out (λ d. flat_map (F d) (x ∷ xs)) (λ d. flat_map (F d) whole) →
+      AreSolutions s rows (λ d. F d x) → after ≡ out ++ rows → xs ≡ rest → AreMoreSolutions s after (λ d. flat_map (F d) rest) (λ d. flat_map (F d) whole)
   next_gives x xs rest out rows after h r e is d l f =
       let left = flat_map (F d) xs in
       let j : sum_by f rows ≡ sum_by f (F d x) = r d l f in
@@ -133,39 +133,39 @@ module _ {X : Type 0} (s : State) (F : Listing → X → List Mapping) (whole : 
       let e6 : sum_by f (out ++ (F d x ++ left)) ≡ sum_by f (flat_map (F d) whole) = h d l f in
       omega (arith, j, e0, e1, e2, e3, e4, e5, e6)
 
-  pub last_gives : (after : List Mapping) → GivesMore s after (λ d. []) (λ d. flat_map (F d) whole) → Gives s after (λ d. flat_map (F d) whole)
+  pub last_gives : (after : List Mapping) → AreMoreSolutions s after (λ d. []) (λ d. flat_map (F d) whole) → AreSolutions s after (λ d. flat_map (F d) whole)
   last_gives after h d l f = sym (ap (sum_by f) (append-nil after)) ∙ h d l f
 
 -- ---- GRAPH
 
 module _ (vs : Variables) (s : State) where
   pub joined_gives : (A : Algebra) (g : GraphName) (n : Term) (one rows found left : List Mapping) → g ≡ Named n →
-      Gives s rows (λ d. solutions vs d g A) → left ≡ rows → found ≡ joins left one → Gives s found (λ d. joins (solutions vs d (Named n) A) one)
+      AreSolutions s rows (λ d. solutions vs d g A) → left ≡ rows → found ≡ joins left one → AreSolutions s found (λ d. joins (solutions vs d (Named n) A) one)
   joined_gives A g n one rows found left eg h el e d l =
       let r : SameBag rows (solutions vs d (Named n) A) = subst (λ k. SameBag rows (solutions vs d k A)) eg (h d l) in
       subst (λ xs. SameBag xs (joins (solutions vs d (Named n) A) one)) (sym (e ∙ ap (λ xs. joins xs one) el))
       (SameBag-joins rows (solutions vs d (Named n) A) one one r (SameBag-refl one))
 
   pub all_names_give : (x : List ℕ) (A : Algebra) (found given : List Term) (out : List Mapping) → ListsOnce s.names found → given ≡ found →
-      Gives s out (λ d. over_names vs d x A given) → Gives s out (λ d. over_names vs d x A d.names)
+      AreSolutions s out (λ d. over_names vs d x A given) → AreSolutions s out (λ d. over_names vs d x A d.names)
   all_names_give x A found given out once e h d l f =
       let F : Term → List Mapping = λ n. joins (solutions vs d (Named n) A) (single vs x n ∷ []) in
       h d l f ∙ ap (λ (ns : List Term). sum_by f (flat_map F ns)) e
       ∙ SameBag-flat_map F F found d.names (names_same s found d.names once l.names) (λ n. SameBag-refl (F n)) f
 
   pub there_gives : (A : Algebra) (n : Term) (g : GraphName) (out : List Mapping) (b : Bool) →
-      ((d : Listing) → Lists s d → b ≡ list_any (same_term n) d.names) → b ≡ true → g ≡ Named n → Gives s out (λ d. solutions vs d g A) →
-      Gives s out (λ d. cond (list_any (same_term n) d.names) (solutions vs d (Named n) A) [])
+      ((d : Listing) → Lists s d → b ≡ list_any (same_term n) d.names) → b ≡ true → g ≡ Named n → AreSolutions s out (λ d. solutions vs d g A) →
+      AreSolutions s out (λ d. cond (list_any (same_term n) d.names) (solutions vs d (Named n) A) [])
   there_gives A n g out b there e eg h d l =
       subst (λ t. SameBag out (cond t (solutions vs d (Named n) A) [])) (sym e ∙ there d l)
       (subst (λ k. SameBag out (solutions vs d k A)) eg (h d l))
 
   pub absent_gives : (A : Algebra) (n : Term) (out : List Mapping) (b : Bool) → ((d : Listing) → Lists s d → b ≡ list_any (same_term n) d.names) →
-      b ≡ false → out ≡ [] → Gives s out (λ d. cond (list_any (same_term n) d.names) (solutions vs d (Named n) A) [])
+      b ≡ false → out ≡ [] → AreSolutions s out (λ d. cond (list_any (same_term n) d.names) (solutions vs d (Named n) A) [])
   absent_gives A n out b there e none d l =
       subst (λ t. SameBag out (cond t (solutions vs d (Named n) A) [])) (sym e ∙ there d l) (subst (λ xs. SameBag xs []) (sym none) (SameBag-refl []))
 
   pub variable_gives : (name : VarOrIri) (x : List ℕ) (p : Pattern) (out : List Mapping) → name ≡ v.Variable x →
-      Gives s out (λ d. over_names vs d x (translation p) d.names) → (active : GraphName) → Gives s out (λ d. solutions vs d active (graph name (translation p)))
+      AreSolutions s out (λ d. over_names vs d x (translation p) d.names) → (active : GraphName) → AreSolutions s out (λ d. solutions vs d active (graph name (translation p)))
   variable_gives name x p out en h active d l =
       subst (λ (n : VarOrIri). SameBag out (solutions vs d active (graph n (translation p)))) (sym en) (h d l)

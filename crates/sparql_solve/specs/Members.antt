@@ -13,12 +13,12 @@ use Rattle.sparql_algebra.specs.Listing.{Listing, Lists}
 use Rattle.sparql_algebra.specs.Solutions.{joins, solutions}
 
 -- however the state is listed, the rows are these solutions, each as often
-abbrev pub Gives : State → List Mapping → (Listing → List Mapping) → Type 0
-Gives s rows F = (d : Listing) → Lists s d → SameBag rows (F d)
+abbrev pub AreSolutions : State → List Mapping → (Listing → List Mapping) → Type 0
+AreSolutions s rows F = (d : Listing) → Lists s d → SameBag rows (F d)
 
 -- the rows, and with them what is still to come
-abbrev pub GivesMore : State → List Mapping → (Listing → List Mapping) → (Listing → List Mapping) → Type 0
-GivesMore s rows rest F = (d : Listing) → Lists s d → SameBag (rows ++ rest d) (F d)
+abbrev pub AreMoreSolutions : State → List Mapping → (Listing → List Mapping) → (Listing → List Mapping) → Type 0
+AreMoreSolutions s rows rest F = (d : Listing) → Lists s d → SameBag (rows ++ rest d) (F d)
 
 module _ (vs : Variables) (d : Listing) where
   -- the solutions of an element alone, without its condition

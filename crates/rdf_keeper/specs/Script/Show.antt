@@ -8,8 +8,8 @@ use Rattle.rdf_lines.specs.QuadText.{quad_text}
 use Rattle.rdf_terms.specs.TermText.{term_text}
 use Rattle.rdf_session.specs.QuadLines.{ListsQuads}
 use Rattle.rdf_session.specs.Session.{Session, now}
-use Rattle.rdf_keeper.specs.declared.script.command.Listing.{Listing}
-use Rattle.rdf_keeper.specs.declared.script.command.Listing.TheVariants.{Changes, Graphs, Quads}
+use Rattle.rdf_keeper.specs.declared.script.command.Topic.{Topic}
+use Rattle.rdf_keeper.specs.declared.script.command.Topic.TheVariants.{Changes, Graphs, Quads}
 
 -- the line of a graph's name
 abbrev pub name_line : Term → List ℕ
@@ -24,7 +24,7 @@ ListsChange net lines =
     ++ map (λ n. codes "+ graph " ++ name_line n) names_added ++ map (λ q. codes "+ " ++ quad_text q) added)
 
 -- the lines that a session shows
-abbrev pub Shows : Listing → Session → List (List ℕ) → Type 0
+abbrev pub Shows : Topic → Session → List (List ℕ) → Type 0
 Shows Quads s lines = ListsQuads (now s) lines
 Shows Graphs s lines = (names : List Term) × ListsSorted (now s).names names × (lines ≡ map name_line names)
 Shows Changes s lines = ListsChange (net_between s.base (now s)) lines

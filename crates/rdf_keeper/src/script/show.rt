@@ -2,7 +2,7 @@
 ghost use Rattle.std.specs.Prelude.{◌≡◌, ◌++◌, ℕ, List, length, map, IfOk, OnOk};
 ghost use Rattle.std.specs.List.{concat};
 ghost use Rattle.rdf_lines.specs.QuadText.{quad_text};
-ghost use Rattle.rdf_keeper.specs.Script.Listing.{ListsChange, name_line};
+ghost use Rattle.rdf_keeper.specs.Script.Show.{ListsChange, name_line};
 
 use rdf_dataset::Net;
 use rdf_lines::write_quad;

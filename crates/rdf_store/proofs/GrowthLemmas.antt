@@ -9,20 +9,20 @@ use Rattle.rdf_orders.specs.Quads.{IdQuad, quad_of, quads_of}
 use Rattle.rdf_orders.specs.Contents as contents
 use Rattle.rdf_orders.specs.Contents.{Contents, IsDisjoint, ids_of}
 use Rattle.rdf_store.specs.Stored.{Stored, with_quad, with_name, with_all, without_quad, without_name, without_all}
-use Rattle.rdf_store.specs.Inside.Numbers.{IsNumbered, IsGrown, AreKept, AreKeys, AreIds, shown}
+use Rattle.rdf_store.specs.Inside.Numbers.{AreNumbersOf, IsGrown, HaveTerms, AreKeys, AreIds, shown}
 use Rattle.rdf_store.proofs.ListLemmas.{matched_to, matched_next, take_next}
 use Rattle.rdf_store.proofs.NumberLemmas.{numbered_grown}
 use Rattle.rdf_store.proofs.ResultLemmas.{on_ok_to, on_err_to, if_ok_to, either_way}
 use Rattle.rdf_store.proofs.StoreLemmas.{kept_grown, shown_grown, contains_shown, has_shown, kept_with_quad, shown_with_quad, kept_with_name, shown_with_name, kept_with_all, shown_with_all, new_keys, new_ids, without_one_quad, without_one_name}
 
 pub keys_grown : (old new : List Term) (keys : List (List ℕ)) (quads : List QuadParts) → IsGrown old new → AreKeys old keys quads → AreKeys new keys quads
-keys_grown old new keys quads grown m = matched_to (λ k q. IsNumbered old (quad_of k) q) (λ k q. IsNumbered new (quad_of k) q) (λ k q n. numbered_grown old new grown (quad_of k) q n) keys quads m
+keys_grown old new keys quads grown m = matched_to (λ k q. AreNumbersOf old (quad_of k) q) (λ k q. AreNumbersOf new (quad_of k) q) (λ k q n. numbered_grown old new grown (quad_of k) q n) keys quads m
 
 pub ids_grown : (old new : List Term) (numbers : List ℕ) (terms : List Term) → IsGrown old new → AreIds old numbers terms → AreIds new numbers terms
 ids_grown old new numbers terms grown m = matched_to (λ id t. IsIdOf old id t) (λ id t. IsIdOf new id t) grown.keeps numbers terms m
 
-module _ (old new : List Term) (c d : Contents) (s : Stored) (kept : AreKept old c) (is : shown old c ≡ s) (grown : IsGrown old new) where
-  pub grown_kept : AreKept new c
+module _ (old new : List Term) (c d : Contents) (s : Stored) (kept : HaveTerms old c) (is : shown old c ≡ s) (grown : IsGrown old new) where
+  pub grown_kept : HaveTerms new c
   grown_kept = kept_grown old new c grown kept
 
   pub grown_is : shown new c ≡ s
@@ -31,9 +31,9 @@ module _ (old new : List Term) (c d : Contents) (s : Stored) (kept : AreKept old
   pub err_is : {A E : Type 0} (r : Result A E) → OnErr r (d ≡ c) → OnErr r (shown new d ≡ s)
   err_is r h = on_err_to r (λ e. ap (shown new) e ∙ grown_is) h
 
-  module _ (k : IdQuad) (q : QuadParts) (n : IsNumbered new k q) where
-    pub insert_kept : {A E : Type 0} (r : Result A E) → OnOk r (d ≡ contents.with_quad c k) → OnErr r (d ≡ c) → AreKept new d
-    insert_kept r h g = either_way r (λ e. subst (AreKept new) (sym e) (kept_with_quad new c grown_kept k q n)) (λ e. subst (AreKept new) (sym e) grown_kept) h g
+  module _ (k : IdQuad) (q : QuadParts) (n : AreNumbersOf new k q) where
+    pub insert_kept : {A E : Type 0} (r : Result A E) → OnOk r (d ≡ contents.with_quad c k) → OnErr r (d ≡ c) → HaveTerms new d
+    insert_kept r h g = either_way r (λ e. subst (HaveTerms new) (sym e) (kept_with_quad new c grown_kept k q n)) (λ e. subst (HaveTerms new) (sym e) grown_kept) h g
 
     pub insert_is : {A E : Type 0} (r : Result A E) → OnOk r (d ≡ contents.with_quad c k) → OnOk r (shown new d ≡ with_quad s q)
     insert_is r h = on_ok_to r (λ e. ap (shown new) e ∙ shown_with_quad new c grown_kept k q n ∙ ap (λ (v : Stored). with_quad v q) grown_is) h
@@ -42,8 +42,8 @@ module _ (old new : List Term) (c d : Contents) (s : Stored) (kept : AreKept old
     insert_new once r h = if_ok_to r (λ b e. e ∙ ap not (contains_shown new c grown_kept once k q n ∙ ap (λ (v : Stored). set.contains v.quads q) grown_is)) h
 
   module _ (id : ℕ) (t : Term) (n : IsIdOf new id t) where
-    pub add_kept : {A E : Type 0} (r : Result A E) → OnOk r (d ≡ contents.with_name c id) → OnErr r (d ≡ c) → AreKept new d
-    add_kept r h g = either_way r (λ e. subst (AreKept new) (sym e) (kept_with_name new c grown_kept id t n)) (λ e. subst (AreKept new) (sym e) grown_kept) h g
+    pub add_kept : {A E : Type 0} (r : Result A E) → OnOk r (d ≡ contents.with_name c id) → OnErr r (d ≡ c) → HaveTerms new d
+    add_kept r h g = either_way r (λ e. subst (HaveTerms new) (sym e) (kept_with_name new c grown_kept id t n)) (λ e. subst (HaveTerms new) (sym e) grown_kept) h g
 
     pub add_is : {A E : Type 0} (r : Result A E) → OnOk r (d ≡ contents.with_name c id) → OnOk r (shown new d ≡ with_name s t)
     add_is r h = on_ok_to r (λ e. ap (shown new) e ∙ shown_with_name new c grown_kept id t n ∙ ap (λ (v : Stored). with_name v t) grown_is) h
@@ -58,8 +58,8 @@ module _ (old new : List Term) (c d : Contents) (s : Stored) (kept : AreKept old
     pub all_new_ids : IsDisjoint s.names (set.from_list names) → IsDisjoint c.names (ids_of numbers)
     all_new_ids h = new_ids new c grown_kept keys numbers quads names are_keys are_ids (subst (λ (v : Stored). IsDisjoint v.names (set.from_list names)) (sym grown_is) h)
 
-    pub all_kept : {A E : Type 0} (r : Result A E) → OnOk r (d ≡ contents.with_all c keys numbers) → OnErr r (d ≡ c) → AreKept new d
-    all_kept r h g = either_way r (λ e. subst (AreKept new) (sym e) (kept_with_all new c grown_kept keys numbers quads names are_keys are_ids)) (λ e. subst (AreKept new) (sym e) grown_kept) h g
+    pub all_kept : {A E : Type 0} (r : Result A E) → OnOk r (d ≡ contents.with_all c keys numbers) → OnErr r (d ≡ c) → HaveTerms new d
+    all_kept r h g = either_way r (λ e. subst (HaveTerms new) (sym e) (kept_with_all new c grown_kept keys numbers quads names are_keys are_ids)) (λ e. subst (HaveTerms new) (sym e) grown_kept) h g
 
     pub all_is : {A E : Type 0} (r : Result A E) → OnOk r (d ≡ contents.with_all c keys numbers) → OnOk r (shown new d ≡ with_all s quads names)
     all_is r h = on_ok_to r (λ e. ap (shown new) e ∙ shown_with_all new c grown_kept keys numbers quads names are_keys are_ids ∙ ap (λ (v : Stored). with_all v quads names) grown_is) h
@@ -70,10 +70,10 @@ keys_passed old new keys keys' quads grown e m = subst (λ ks. AreKeys new ks qu
 pub ids_passed : (table : List Term) (numbers numbers' : List ℕ) (names : List Term) → numbers' ≡ numbers → AreIds table numbers names → AreIds table numbers' names
 ids_passed table numbers numbers' names e m = subst (λ ns. AreIds table ns names) (sym e) m
 
-pub next_key : (old new : List Term) (keys keys' : List (List ℕ)) (quads : List QuadParts) (i : ℕ) (key : List ℕ) (q : QuadParts) → AreKeys old keys (take i quads) → IsGrown old new → IsNumbered new (quad_of key) q
+pub next_key : (old new : List Term) (keys keys' : List (List ℕ)) (quads : List QuadParts) (i : ℕ) (key : List ℕ) (q : QuadParts) → AreKeys old keys (take i quads) → IsGrown old new → AreNumbersOf new (quad_of key) q
     → keys' ≡ keys ++ key ∷ [] → i < length quads → q ≡ get_or quads i q → AreKeys new keys' (take (i + 1) quads)
 next_key old new keys keys' quads i key q m grown n e lt is =
-    matched_next (λ k x. IsNumbered old (quad_of k) x) (λ k x. IsNumbered new (quad_of k) x) (λ k x h. numbered_grown old new grown (quad_of k) x h) keys keys' quads i key q m n e lt is
+    matched_next (λ k x. AreNumbersOf old (quad_of k) x) (λ k x. AreNumbersOf new (quad_of k) x) (λ k x h. numbered_grown old new grown (quad_of k) x h) keys keys' quads i key q m n e lt is
 
 pub next_id : (old new : List Term) (numbers numbers' : List ℕ) (terms : List Term) (i : ℕ) (id : ℕ) (t : Term) → AreIds old numbers (take i terms) → IsGrown old new → IsIdOf new id t
     → numbers' ≡ numbers ++ id ∷ [] → i < length terms → t ≡ get_or terms i t → AreIds new numbers' (take (i + 1) terms)

@@ -1,4 +1,4 @@
--- A set has one sorted listing.
+-- A set has one sorted topic.
 use Rattle.std.proofs.Common.{◌≡◌, Bool, true, false, ◌||◌, List, [], ◌∷◌, refl, sym, ap, ◌∙◌, subst}
 use mathlib.Core.Bool.{true≢false}
 use Rattle.std.specs.declared.cmp.Ordering.{Ordering}
@@ -85,6 +85,6 @@ module _ {K : Type 0} {R : K → K → Ordering} (o : IsTotalOrder R) (apart : I
       let h' = subst (λ z. (q : K) → has (x ∷ xs) q ≡ has (z ∷ ys) q) (sym e) h in
       λ i. e i ∷ one_list xs ys s.1 t.1 (tails x xs ys s.0 t' h') i
 
-  pub one_listing : (members : set.FinSet R) (xs ys : List K) → ListsSorted members xs → ListsSorted members ys → xs ≡ ys
-  one_listing members xs ys a b =
+  pub one_sorted : (members : set.FinSet R) (xs ys : List K) → ListsSorted members xs → ListsSorted members ys → xs ≡ ys
+  one_sorted members xs ys a b =
       one_list xs ys a.rises b.rises (λ q. sym (contains-from_list o xs q) ∙ ap (λ s. contains s q) (a.lists.all ∙ sym b.lists.all) ∙ contains-from_list o ys q)

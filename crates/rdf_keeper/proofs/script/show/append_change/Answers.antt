@@ -2,9 +2,9 @@ use Rattle.std.proofs.Common.{◌++◌, ℕ, List, map, refl, arith, length-appe
 use Rattle.std.proofs.lemmas.List.{length-map}
 use Rattle.std.specs.Prelude.{codes}
 use Rattle.rdf_lines.specs.QuadText.{quad_text}
-use Rattle.rdf_keeper.specs.Script.Listing.{name_line}
-use Rattle.rdf_keeper.proofs.ScriptLemmas.Listing.{four_groups}
-use Rattle.rdf_keeper.proofs.script.listing.append_change.Goals as goal
+use Rattle.rdf_keeper.specs.Script.Show.{name_line}
+use Rattle.rdf_keeper.proofs.ScriptLemmas.Show.{four_groups}
+use Rattle.rdf_keeper.proofs.script.show.append_change.Goals as goal
 
 pub returns : goal.returns
 returns c =

@@ -1,7 +1,7 @@
 use Rattle.std.proofs.Common.{◌≡◌, ◌++◌, take}
 use Rattle.std.specs.Prelude.{filter, option_copied}
 use Rattle.rdf_dataset.specs.State.{matches}
-use Rattle.plain_dataset.proofs.listing.append_matching.Given as goal
+use Rattle.plain_dataset.proofs.matching.append_matching.Given as goal
 
 abbrev pub invariant-loop-quad : goal.invariant-loop-quad
 invariant-loop-quad l =

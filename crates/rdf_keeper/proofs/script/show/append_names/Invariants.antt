@@ -1,7 +1,7 @@
 use Rattle.std.proofs.Common.{◌≡◌, ◌++◌, drop, map}
 use Rattle.std.specs.List.{concat}
-use Rattle.rdf_keeper.specs.Script.Listing.{name_line}
-use Rattle.rdf_keeper.proofs.script.listing.append_names.Given as goal
+use Rattle.rdf_keeper.specs.Script.Show.{name_line}
+use Rattle.rdf_keeper.proofs.script.show.append_names.Given as goal
 
 abbrev pub invariant-loop-name : goal.invariant-loop-name
 invariant-loop-name l =
