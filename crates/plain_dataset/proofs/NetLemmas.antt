@@ -4,7 +4,7 @@ use Rattle.rdf_terms.specs.Quad.{QuadParts}
 use Rattle.rdf_terms.specs.declared.term.Term.{Term}
 use Rattle.rdf_terms.specs.Lists.{ListsSorted}
 use Rattle.rdf_dataset.specs.State.{Change}
-use Rattle.rdf_dataset.proofs.StateLemmas.{net}
+use Rattle.rdf_dataset.proofs.CallerLemmas.{net}
 
 pub listed_net : (n : Change) (a r : List QuadParts) (na nr : List Term) (before after : ℕ) → ListsSorted n.added a → ListsSorted n.removed r → ListsSorted n.names_added na → ListsSorted n.names_removed nr
     → before ≡ n.before → after ≡ n.after → net a r na nr before after ≡ n

@@ -1,5 +1,6 @@
-pub mod InsertionLemmas
+pub mod CallerLemmas
+mod InsertionLemmas
 mod LoadingLemmas
 mod QuadEditLemmas
-pub mod StateLemmas
+mod StateLemmas
 mod StoredLemmas

@@ -13,7 +13,7 @@ use Rattle.rdf_terms.specs.declared.quad.GraphName.TheVariants.{Default, Named}
 use Rattle.rdf_terms.specs.declared.term.Term.{Term}
 use Rattle.rdf_terms.specs.declared.term.Term.TheVariants.{Blank, Iri, Literal}
 use Rattle.rdf_sets.specs.Delta.{IsDelta}
-use Rattle.rdf_sets.proofs.SortedLemmas.{filter_contains}
+use Rattle.rdf_sets.proofs.CallerLemmas.{filter_contains}
 use Rattle.rdf_dataset.specs.Insertion.{graph_from, quad_from, term_from, with_all, with_data}
 use Rattle.rdf_dataset.specs.Loading.{names_with, quads_with}
 use Rattle.rdf_dataset.specs.State.{State, Change, Names, Quads, IsSound, last_number, net_between, with_blanks, with_graph, with_quad}

@@ -13,8 +13,7 @@ use Rattle.rdf_dataset.specs.State.{State, Change, Names, Quads, net_between, wi
 use Rattle.rdf_terms.specs.Lists.{AppendsOnce, ListsOnce}
 use Rattle.rdf_sets.specs.Delta.{IsDelta}
 use Rattle.rdf_dataset.specs.Inside.Delta.{IsQuadDelta}
-use Rattle.rdf_sets.proofs.DeltaLemmas.{no_delta, gained_at, lost_at, has_known, has_new, lost_known, insert_known, insert_new, remove_known, remove_new}
-use Rattle.rdf_sets.proofs.ListsOnceLemmas.{lists_both, retained, kept_or_new, not_both}
+use Rattle.rdf_sets.proofs.CallerLemmas.{no_delta, gained_at, lost_at, has_known, has_new, lost_known, insert_known, insert_new, remove_known, remove_new, lists_both, retained, kept_or_new, not_both}
 
 abbrev items_of : Quads → List QuadParts
 items_of a = set.items a

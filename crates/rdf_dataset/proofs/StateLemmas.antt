@@ -18,8 +18,7 @@ use Rattle.rdf_dataset.specs.State.{State, Change, Quads, Names, IsSound, IsQuad
 use Rattle.rdf_dataset.specs.Staging.{Staging}
 use Rattle.rdf_sets.specs.Delta.{IsDelta}
 use Rattle.rdf_dataset.specs.Inside.Delta.{IsStateDelta}
-use Rattle.rdf_sets.proofs.SortedLemmas.{tie_same, tie_itself, at_tie, insert_there}
-use Rattle.rdf_sets.proofs.DeltaLemmas.{ends_at, applied as delta_applied, taken_back as delta_taken_back}
+use Rattle.rdf_sets.proofs.CallerLemmas.{tie_same, tie_itself, at_tie, insert_there, ends_at, applied as delta_applied, taken_back as delta_taken_back}
 
 -- ---- nets
 

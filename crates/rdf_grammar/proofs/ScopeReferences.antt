@@ -7,9 +7,7 @@ use Rattle.rdf_terms.specs.Iri.{has_scheme, has_forbidden}
 use Rattle.rdf_terms.specs.Rewriting.{components_of, resolved}
 use Rattle.rdf_terms.specs.Reference.{Components, recomposed}
 use Rattle.rdf_terms.specs.Resolution.{target, ResolvesTo, Means, LacksBase}
-use Rattle.rdf_terms.proofs.CutLemmas.{before_joined, after_joined}
-use Rattle.rdf_terms.proofs.ReferenceLemmas.{components_are}
-use Rattle.rdf_terms.proofs.ResolutionLemmas.{means_itself, means_resolved}
+use Rattle.rdf_terms.proofs.CallerLemmas.{before_joined, after_joined, components_are, means_itself, means_resolved}
 use Rattle.rdf_grammar.specs.References.{resolve, ReferencesAreResolved}
 
 resolved_once : (base reference text : List ℕ) → ResolvesTo base reference text → text ≡ resolved base reference

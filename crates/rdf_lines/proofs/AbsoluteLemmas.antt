@@ -4,7 +4,7 @@ use Rattle.rdf_terms.specs.Iri.{has_scheme}
 use Rattle.std.proofs.lemmas.Bool.{cases_Bool}
 use Rattle.rdf_terms.specs.Reading.{expect, iri_at, quoted_at}
 use Rattle.rdf_terms.specs.Literal.{LiteralParts, xsd_string, lang_string, is_tag, tagged}
-use Rattle.rdf_terms.proofs.OptionLemmas.{bind_some, some_is, some_pair, none_is, guard_some}
+use Rattle.rdf_terms.proofs.CallerLemmas.{bind_some, some_is, some_pair, none_is, guard_some}
 use Rattle.rdf_lines.specs.declared.written.WrittenNode.{WrittenNode}
 use Rattle.rdf_lines.specs.declared.written.WrittenNode.TheVariants as written
 use Rattle.rdf_lines.specs.declared.written.WrittenObject.{WrittenObject}

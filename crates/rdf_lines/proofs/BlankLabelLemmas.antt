@@ -4,8 +4,7 @@ use Rattle.rdf_terms.specs.Characters.{is_pn_chars_base, is_pn_chars_u, is_pn_ch
 use Rattle.rdf_terms.specs.Dotted.{IsOne, dotted_at}
 use Rattle.rdf_terms.specs.ReadingLaws.{IsGreedy}
 use Rattle.rdf_terms.specs.Skips.{one_of}
-use Rattle.rdf_terms.proofs.DottedLemmas.{IsUnit, Shortens, unit_shortens, one_unit, dotted_front, dotted_over, dotted_no_longer}
-use Rattle.rdf_terms.proofs.OptionLemmas.{some_is, none_is, guard_some}
+use Rattle.rdf_terms.proofs.CallerLemmas.{IsUnit, Shortens, unit_shortens, one_unit, dotted_front, dotted_over, dotted_no_longer, some_is, none_is, guard_some}
 use Rattle.rdf_lines.specs.Reading.{label_end_at}
 use Rattle.rdf_lines.specs.Grammar.{is_label_start, is_label_part, IsLabelName}
 

@@ -3,9 +3,7 @@ use Rattle.std.proofs.Common.{◌≡◌, ℕ, ◌≤◌, List, [], ◌∷◌, �
 use Rattle.std.specs.Str.{encode_utf8_all}
 use Rattle.rdf_terms.specs.Reading.{◌>>=◌, expect, between}
 use Rattle.rdf_terms.specs.ReadingLaws.{IsGreedy}
-use Rattle.rdf_terms.proofs.OptionLemmas.{bind_some, some_is, some_pair}
-use Rattle.rdf_terms.proofs.QuotedLemmas.{expect_sound, expect_complete}
-use Rattle.rdf_terms.proofs.PlaceLemmas.{between_is}
+use Rattle.rdf_terms.proofs.CallerLemmas.{bind_some, some_is, some_pair, expect_sound, expect_complete, between_is}
 use Rattle.rdf_lines.specs.Reading.{name_at}
 use Rattle.rdf_lines.specs.Grammar.{IsMarked, Takes}
 

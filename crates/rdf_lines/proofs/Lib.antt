@@ -1,29 +1,30 @@
-pub mod AbsoluteLemmas
-pub mod AnswerLemmas
-pub mod ApartLemmas
-pub mod BlankLabelLemmas
-pub mod BlankLemmas
-pub mod FrontLemmas
-pub mod GreedyLemmas
-pub mod HeldLemmas
-pub mod LabelLemmas
-pub mod LawLemmas
-pub mod LineEndLemmas
-pub mod LineLaws
-pub mod LineLemmas
-pub mod LinePartLemmas
-pub mod PieceLemmas
-pub mod ReaderLemmas
-pub mod RenamedLemmas
-pub mod RoundTripLemmas
+mod AbsoluteLemmas
+mod AnswerLemmas
+mod ApartLemmas
+mod BlankLabelLemmas
+mod BlankLemmas
+pub mod CallerLemmas
+mod FrontLemmas
+mod GreedyLemmas
+mod HeldLemmas
+mod LabelLemmas
+mod LawLemmas
+mod LineEndLemmas
+mod LineLaws
+mod LineLemmas
+mod LinePartLemmas
+mod PieceLemmas
+mod ReaderLemmas
+mod RenamedLemmas
+mod RoundTripLemmas
 mod SharedLemmas
-pub mod SortLemmas
-pub mod SoundLemmas
-pub mod StatementSteps
-pub mod CallLemmas
-pub mod SuffixSteps
-pub mod TermLemmas
-pub mod WrittenLabelLemmas
-pub mod WrittenLineLemmas
-pub mod WrittenPartLemmas
-pub mod WrittenTagLemmas
+mod SortLemmas
+mod SoundLemmas
+mod StatementSteps
+mod CallLemmas
+mod SuffixSteps
+mod TermLemmas
+mod WrittenLabelLemmas
+mod WrittenLineLemmas
+mod WrittenPartLemmas
+mod WrittenTagLemmas

@@ -4,7 +4,7 @@ use Rattle.std.specs.Prelude.{option_map, if◌then◌else◌}
 use Rattle.std.proofs.lemmas.Bool.{cases_Bool, eqb-true, eq-eqb, and_parts, or_left, or_right, true≢false}
 use Rattle.rdf_terms.specs.Quoted.{IsIriRef}
 use Rattle.rdf_terms.specs.Reading.{◌>>=◌, iri_at}
-use Rattle.rdf_terms.proofs.OptionLemmas.{bind_some, some_is, some_pair, none_is, guard_some}
+use Rattle.rdf_terms.proofs.CallerLemmas.{bind_some, some_is, some_pair, none_is, guard_some}
 use Rattle.rdf_lines.specs.declared.format.LineFormat.{LineFormat}
 use Rattle.rdf_lines.specs.declared.format.LineFormat.TheVariants.{NTriples, NQuads}
 use Rattle.rdf_lines.specs.declared.written.WrittenNode.{WrittenNode}

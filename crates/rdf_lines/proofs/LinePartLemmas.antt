@@ -3,12 +3,9 @@ use Rattle.std.proofs.Common.{◌≡◌, ◌≢◌, ℕ, ◌≤◌, true, false,
 use Rattle.std.proofs.lemmas.Bool.{cases_Bool, eq-eqb, ne_eqb, true≢false}
 use Rattle.rdf_terms.specs.Reading.{iri_at, quoted_at}
 use Rattle.rdf_terms.specs.Quoted.{IsIriRef}
-use Rattle.rdf_terms.proofs.OptionLemmas.{some_pair}
+use Rattle.rdf_terms.proofs.CallerLemmas.{some_pair, iri_sound, iri_complete, quoted_sound, quoted_complete, skip_over, skip_front, skip_stop, skip_end, tag_greedy}
 use Rattle.rdf_terms.specs.Skips.{skip}
 use Rattle.rdf_terms.specs.Tags.{tag_end_at}
-use Rattle.rdf_terms.proofs.QuotedLemmas.{iri_sound, iri_complete, quoted_sound, quoted_complete}
-use Rattle.rdf_terms.proofs.SkipLemmas.{skip_over, skip_front, skip_stop, skip_end}
-use Rattle.rdf_terms.proofs.TagReadings.{tag_greedy}
 use Rattle.rdf_lines.specs.Reading.{first_is, skip_white, label_at, label_end_at, tag_at}
 use Rattle.rdf_lines.specs.Grammar.{is_white, IsString, IsBlankLabel, IsTag, Takes, Gap, Next}
 use Rattle.rdf_lines.proofs.GreedyLemmas.{greedy_sound, greedy_complete}

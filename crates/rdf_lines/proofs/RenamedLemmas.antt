@@ -15,7 +15,7 @@ use Rattle.rdf_terms.specs.declared.term.Term.TheVariants.{Blank, Iri, Literal}
 use Rattle.rdf_terms.specs.declared.quad.GraphName.{GraphName}
 use Rattle.rdf_terms.specs.declared.quad.GraphName.TheVariants.{Default, Named}
 use Rattle.rdf_terms.specs.declared.quad.Quad.{Quad}
-use Rattle.rdf_terms.proofs.QuadTests.{QuadTests, quad_tests}
+use Rattle.rdf_terms.proofs.CallerLemmas.{QuadTests, quad_tests}
 use Rattle.rdf_lines.specs.Labels.{labels_in, labels_in_object, labels_in_graph, labels_of, noted, all_noted, number_of, term_in, object_in, graph_in, quad_in, numbered}
 use Rattle.rdf_lines.specs.RoundTrip.{label_of, node_of, predicate_of, object_of, graph_of, statement_of, renamed_term, renamed_graph, renamed, SaysRenamed, DocumentsAreReadBack, SortedTextsAreReadBack, NumberedDocumentsAreReadBack, NumberedSortedTextsAreReadBack}
 use Rattle.rdf_lines.specs.declared.format.LineFormat.TheVariants.{NQuads}

@@ -16,10 +16,7 @@ use Rattle.rdf_terms.specs.declared.term.Term.TheVariants.{Blank, Iri, Literal}
 use Rattle.rdf_terms.specs.declared.quad.GraphName.{GraphName}
 use Rattle.rdf_terms.specs.declared.quad.GraphName.TheVariants.{Default, Named}
 use Rattle.rdf_terms.specs.declared.quad.Quad.{Quad}
-use Rattle.rdf_terms.proofs.AsciiLemmas.{utf8_one, utf8_cons, chars_one, chars_cons}
-use Rattle.rdf_terms.proofs.QuadTests.{QuadTests, quad_tests}
-use Rattle.rdf_terms.proofs.WrittenIriLemmas.{iri_scheme}
-use Rattle.rdf_terms.proofs.WrittenTermLemmas.{term_utf8}
+use Rattle.rdf_terms.proofs.CallerLemmas.{utf8_one, utf8_cons, chars_one, chars_cons, QuadTests, quad_tests, iri_scheme, term_utf8}
 use Rattle.rdf_lines.specs.declared.fault.FaultKind.{FaultKind}
 use Rattle.rdf_lines.specs.declared.format.LineFormat.TheVariants.{NQuads}
 use Rattle.rdf_lines.specs.declared.statement.Node.{Node}

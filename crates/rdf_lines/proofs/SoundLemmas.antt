@@ -10,9 +10,7 @@ use Rattle.rdf_terms.specs.Escapes.{Writes}
 use Rattle.rdf_terms.specs.Quoted.{IsIriCharacter, IsStringCharacter, IsIriRef}
 use Rattle.rdf_terms.specs.Iri.{has_scheme, has_forbidden, is_iri}
 use Rattle.rdf_terms.specs.Literal.{LiteralParts, xsd_string, lang_string, is_literal, is_tag}
-use Rattle.rdf_terms.proofs.AllowedLemmas.{all_allowed}
-use Rattle.rdf_terms.proofs.OptionLemmas.{some_is, none_is}
-use Rattle.rdf_terms.proofs.TagLemmas.{is_literal-tagged}
+use Rattle.rdf_terms.proofs.CallerLemmas.{written_allowed, some_is, none_is, is_literal-tagged, tag_form, encodes_low, AllLow}
 use Rattle.rdf_lines.specs.declared.format.LineFormat.{LineFormat}
 use Rattle.rdf_lines.specs.declared.format.LineFormat.TheVariants.{NTriples, NQuads}
 use Rattle.rdf_lines.specs.declared.statement.Node.{Node}
@@ -21,7 +19,6 @@ use Rattle.rdf_lines.specs.declared.statement.Object.{Object}
 use Rattle.rdf_lines.specs.declared.statement.Object.TheVariants as object
 use Rattle.rdf_lines.specs.Grammar.{IsString, IsMarked, Gap, Next, typed, HasNode, HasLiteral, HasObject, HasGraph}
 use Rattle.rdf_lines.specs.Line.{IsAbsoluteNode, IsAbsoluteObject, IsAbsoluteGraph, IsSoundNode, IsSoundObject, IsSoundGraph, StatementsAreSound}
-use Rattle.rdf_terms.proofs.TagForms.{tag_form, encodes_low, AllLow}
 
 -- ---- characters
 
@@ -100,7 +97,7 @@ iri_sound : Sound IsIriRef IsReference
 iri_sound slice text h f =
     let tail = (and_parts (scalar 60) (scalars (f.0 ++ 62 ∷ [])) (ap scalars (sym f.2) ∙ h)).1 in
     let body = (scalars-parts f.0 (62 ∷ []) tail).0 in
-    (ap is_utf8 f.4 ∙ text_utf8 f.1 (iri_scalars f.1 f.0 body f.3), ap has_forbidden f.4 ∙ all_allowed f.1 f.0 f.3)
+    (ap is_utf8 f.4 ∙ text_utf8 f.1 (iri_scalars f.1 f.0 body f.3), ap has_forbidden f.4 ∙ written_allowed f.1 f.0 f.3)
 
 string_sound : Sound IsString IsText
 string_sound slice text h f =

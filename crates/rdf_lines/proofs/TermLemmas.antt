@@ -4,8 +4,7 @@ use Rattle.std.proofs.lemmas.Bool.{cases_Bool}
 use Rattle.rdf_terms.specs.Literal.{LiteralParts, xsd_string, is_tag, tagged}
 use Rattle.rdf_terms.specs.Quoted.{IsIriRef}
 use Rattle.rdf_terms.specs.Reading.{expect, iri_at, quoted_at}
-use Rattle.rdf_terms.proofs.OptionLemmas.{bind_some, some_is, some_pair, guard_some}
-use Rattle.rdf_terms.proofs.QuotedLemmas.{expect_sound, expect_complete}
+use Rattle.rdf_terms.proofs.CallerLemmas.{bind_some, some_is, some_pair, guard_some, expect_sound, expect_complete, tag_form}
 use Rattle.rdf_lines.specs.declared.written.WrittenNode.{WrittenNode}
 use Rattle.rdf_lines.specs.declared.written.WrittenNode.TheVariants as written
 use Rattle.rdf_lines.specs.declared.written.WrittenObject.{WrittenObject}
@@ -16,7 +15,6 @@ use Rattle.rdf_lines.specs.declared.statement.Object.{Object}
 use Rattle.rdf_lines.specs.declared.statement.Object.TheVariants as object
 use Rattle.rdf_lines.specs.Reading.{first_is, skip_white, label_at, tag_at, node_at, tagged_literal, tagged_at, typed_at, suffix_at, literal_at, object_at}
 use Rattle.rdf_lines.specs.Grammar.{IsString, IsBlankLabel, IsTag, Next, HasNode, typed, HasLiteral, HasObject}
-use Rattle.rdf_terms.proofs.TagForms.{tag_form}
 use Rattle.rdf_lines.proofs.LinePartLemmas.{Begins, iri_reader, string_reader, label_reader, tag_reader, gap_skip, skip_gap, black_begins, next_sound, next_complete, next_begins, first_begins, first_other, differs}
 
 -- ---- nodes

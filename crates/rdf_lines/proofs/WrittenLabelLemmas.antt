@@ -1,9 +1,7 @@
 -- The label of a blank node's number is a label.
 use Rattle.std.proofs.Common.{◌≡◌, refl, ℕ, ◌<◌, ◌^◌, true, List, [], ◌∷◌, map, decimal}
 use Rattle.rdf_terms.specs.Characters.{is_pn_chars_base, is_pn_chars_u}
-use Rattle.rdf_terms.proofs.DottedLemmas.{ones_dotted}
-use Rattle.rdf_terms.proofs.SkipLemmas.{AllPass}
-use Rattle.rdf_terms.proofs.WrittenNumberLemmas.{is_digit, decimal_digits, digit_part}
+use Rattle.rdf_terms.proofs.CallerLemmas.{ones_dotted, AllPass, is_digit, decimal_digits, digit_part}
 use Rattle.rdf_lines.specs.Grammar.{is_label_part, is_label_start, IsLabelName}
 
 digit_label_part : (c : ℕ) → is_digit c ≡ true → is_label_part c ≡ true

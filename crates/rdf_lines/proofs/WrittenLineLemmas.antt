@@ -16,13 +16,7 @@ use Rattle.rdf_terms.specs.declared.quad.GraphName.{GraphName}
 use Rattle.rdf_terms.specs.declared.quad.GraphName.TheVariants.{Default, Named}
 use Rattle.rdf_terms.specs.declared.quad.Quad.{Quad}
 use Rattle.rdf_terms.specs.LineEnds.{is_line_feed, is_return, is_line_end}
-use Rattle.rdf_terms.proofs.QuadTests.{QuadTests, quad_tests}
-use Rattle.rdf_terms.proofs.SkipLemmas.{AllPass}
-use Rattle.rdf_terms.proofs.TagForms.{tag_name}
-use Rattle.rdf_terms.proofs.WrittenIriLemmas.{iri_allowed}
-use Rattle.rdf_terms.proofs.WrittenNumberLemmas.{is_digit, decimal_digits}
-use Rattle.rdf_terms.proofs.WrittenTermLemmas.{tag_parts, literal_parts}
-use Rattle.rdf_terms.proofs.WrittenTextLemmas.{by_escape}
+use Rattle.rdf_terms.proofs.CallerLemmas.{QuadTests, quad_tests, AllPass, tag_name, iri_allowed, is_digit, decimal_digits, tag_parts, literal_parts, by_escape}
 use Rattle.rdf_lines.specs.declared.format.LineFormat.TheVariants.{NQuads}
 use Rattle.rdf_lines.specs.Lines.{lines_behind, lines, onto_first}
 use Rattle.rdf_lines.specs.Document.{ReadsAll}

@@ -15,13 +15,7 @@ use Rattle.rdf_terms.specs.Term.{is_term, is_literal_term}
 use Rattle.rdf_terms.specs.TermText.{suffix_text, literal_text, term_text}
 use Rattle.rdf_terms.specs.declared.term.Term.{Term}
 use Rattle.rdf_terms.specs.declared.term.Term.TheVariants.{Blank, Iri, Literal}
-use Rattle.rdf_terms.proofs.AsciiLemmas.{chars_cons}
-use Rattle.rdf_terms.proofs.QuotedLemmas.{iri_complete, quoted_complete}
-use Rattle.rdf_terms.proofs.TagForms.{tag_name, tag_low, ascii_from}
-use Rattle.rdf_terms.proofs.WrittenIriLemmas.{angled, iri_form, angled_chars}
-use Rattle.rdf_terms.proofs.WrittenNumberLemmas.{label_low, blank_ascii}
-use Rattle.rdf_terms.proofs.WrittenTermLemmas.{lower_stays, tag_parts, tag_ascii, literal_parts}
-use Rattle.rdf_terms.proofs.WrittenTextLemmas.{quoted, quoted_form, quoted_chars, quoted_utf8}
+use Rattle.rdf_terms.proofs.CallerLemmas.{chars_cons, iri_complete, quoted_complete, tag_name, tag_low, ascii_from, angled, iri_form, angled_chars, label_low, blank_ascii, lower_stays, tag_parts, tag_ascii, literal_parts, quoted, quoted_form, quoted_chars, quoted_utf8}
 use Rattle.rdf_lines.specs.Grammar.{is_white, is_label_part, is_label_start, IsString, IsLabelName, IsBlankLabel, IsTag, Takes, Next, HasNode, HasObject, HasLiteral, typed}
 use Rattle.rdf_lines.specs.RoundTrip.{label_of, node_of, object_of}
 use Rattle.rdf_lines.proofs.LinePartLemmas.{iri_reader, string_reader, differs}

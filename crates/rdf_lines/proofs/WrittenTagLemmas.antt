@@ -4,7 +4,7 @@ use Rattle.std.specs.List.{AllByRecursion}
 use Rattle.std.proofs.lemmas.Bool.Decides.{nat_tests}
 use Rattle.rdf_terms.specs.LineEnds.{is_line_end}
 use Rattle.rdf_terms.specs.Tags.{IsTagName}
-use Rattle.rdf_terms.proofs.TagForms.{is_tag_part, each_part}
+use Rattle.rdf_terms.proofs.CallerLemmas.{is_tag_part, each_part}
 
 -- no space
 part_black : (c : ℕ) → is_tag_part c ≡ true → c ≢ 32

@@ -1,8 +1,9 @@
 mod AheadLemmas
+pub mod CallerLemmas
 mod ContentsLemmas
-pub mod KeyLemmas
+mod KeyLemmas
 mod LookUpLemmas
 mod NextLemmas
-pub mod SetLemmas
-pub mod TestLemmas
+mod SetLemmas
+mod TestLemmas
 mod TreeLemmas

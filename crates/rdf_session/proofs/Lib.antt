@@ -1,6 +1,7 @@
 mod AnswerLemmas
 mod BetweenLemmas
 mod BlankCountLemmas
+pub mod CallerLemmas
 mod ComesAboutLemmas
 mod CommitLemmas
 mod GivesBackLemmas
@@ -10,7 +11,7 @@ mod KeptLemmas
 mod LabelLemmas
 mod LineLemmas
 mod LoadLemmas
-pub mod MarkLemmas
+mod MarkLemmas
 mod NetLemmas
 mod OneQueryLemmas
 mod OneReplyLemmas

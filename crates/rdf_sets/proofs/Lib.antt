@@ -1,6 +1,7 @@
-pub mod DeltaLemmas
+pub mod CallerLemmas
+mod DeltaLemmas
 mod KeepLemmas
-pub mod ListsOnceLemmas
-pub mod SortedLemmas
+mod ListsOnceLemmas
+mod SortedLemmas
 mod TreeLemmas
-pub mod OnceLemmas
+mod OnceLemmas

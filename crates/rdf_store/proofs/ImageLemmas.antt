@@ -8,7 +8,7 @@ use Rattle.std.specs.List.{list_any}
 use Rattle.std.specs.FinSet as set
 use Rattle.std.specs.FinSet.{IsAntisymmetric, same_set, contains-items, contains-empty, contains-insert, contains-remove, contains-union, contains-from_list, contains-retain, len-empty, len-insert}
 use Rattle.rdf_terms.specs.Lists.{ListsOnce}
-use Rattle.rdf_orders.proofs.TestLemmas.{both, first_of_both, second_of_both, is_either, either_first, either_second}
+use Rattle.rdf_orders.proofs.CallerLemmas.{both, first_of_both, second_of_both, is_either, either_first, either_second}
 use Rattle.rdf_store.specs.Inside.Numbers.{image}
 
 -- a member that the function takes to b

@@ -7,7 +7,7 @@ use Rattle.std.specs.Ordering.{eq_by_cmp}
 use Rattle.std.specs.Cmp.{IsTotalOrder}
 use Rattle.std.specs.FinSet as set
 use Rattle.std.specs.FinSet.{IsAntisymmetric, contains-empty, contains-insert}
-use Rattle.rdf_orders.proofs.TestLemmas.{is_either}
+use Rattle.rdf_orders.proofs.CallerLemmas.{is_either}
 use Rattle.rdf_store.specs.Inside.Numbers.{Matched}
 use Rattle.rdf_store.proofs.ImageLemmas.{same_of_eq}
 

@@ -14,7 +14,7 @@ use Rattle.rdf_terms.specs.Order.{term_cmp}
 use Rattle.rdf_terms.specs.OrderLaws.{term_cmp_total, term_cmp-IsAntisymmetric}
 use Rattle.rdf_terms.specs.Table.{IsIdOf, AreHeldOnce, is_held, with_term}
 use Rattle.rdf_orders.specs.Quads.{IdQuad}
-use Rattle.rdf_orders.proofs.TestLemmas.{first_of_both, either_first, either_second}
+use Rattle.rdf_orders.proofs.CallerLemmas.{first_of_both, either_first, either_second}
 use Rattle.rdf_store.specs.Inside.Numbers.{default_number, IsGraphNumber, AreNumbersOf, IsGrown, HasTerms, term_at, graph_at, parts_at}
 use Rattle.rdf_store.proofs.ImageLemmas.{eq_of_same}
 

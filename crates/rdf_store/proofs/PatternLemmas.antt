@@ -12,7 +12,7 @@ use Rattle.rdf_terms.specs.OrderLaws.{term_cmp_total, term_cmp-IsAntisymmetric, 
 use Rattle.rdf_terms.specs.Table.{IsIdOf, AreHeldOnce}
 use Rattle.rdf_orders.specs.Quads as ids
 use Rattle.rdf_orders.specs.Quads.{IdQuad}
-use Rattle.rdf_orders.proofs.TestLemmas.{first_of_both, second_of_both}
+use Rattle.rdf_orders.proofs.CallerLemmas.{first_of_both, second_of_both}
 use Rattle.rdf_store.specs.Stored.{matches, fits_place}
 use Rattle.rdf_store.specs.Inside.Numbers.{IsGraphNumber, AreNumbersOf, WantsSame, WantsNone, WantsSameGraph, WantsNoGraph, graph_at, term_at}
 use Rattle.rdf_store.proofs.ImageLemmas.{same_of_eq, eq_of_same}

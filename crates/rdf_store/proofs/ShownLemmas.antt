@@ -16,8 +16,7 @@ use Rattle.rdf_orders.specs.declared.order.Order.TheVariants.{Spo}
 use Rattle.rdf_orders.specs.Quads.{IdQuad, id_quad_cmp, key_in, quad_of}
 use Rattle.rdf_orders.specs.Contents.{Contents, ListsKeys, ListsIds}
 use Rattle.rdf_orders.specs.Runs.{AppendsKeysOnce}
-use Rattle.rdf_orders.proofs.KeyLemmas.{id_quad_cmp_total, id_quad_cmp-IsAntisymmetric, contains_kept}
-use Rattle.rdf_orders.proofs.TestLemmas.{first_of_both, either_first, either_second}
+use Rattle.rdf_orders.proofs.CallerLemmas.{id_quad_cmp_total, id_quad_cmp-IsAntisymmetric, contains_kept, first_of_both, either_first, either_second}
 use Rattle.rdf_terms.specs.Lists.{AppendsOnce, ListsOnce}
 use Rattle.rdf_store.specs.Stored.{Stored}
 use Rattle.rdf_store.specs.Inside.Numbers.{AreNumbersOf, HasTerms, HaveTerms, shown, parts_at, parts_of, term_at}

@@ -16,9 +16,7 @@ use Rattle.rdf_orders.specs.Quads.{IdQuad, id_quad_cmp, quad_of, quads_of}
 use Rattle.rdf_orders.specs.Contents as contents
 use Rattle.rdf_orders.specs.Contents.{Contents, Ids, ids_of, IsDisjoint, empty_contents}
 use Rattle.rdf_terms.specs.Lists.{ListsOnce}
-use Rattle.rdf_orders.proofs.KeyLemmas.{id_quad_cmp_total, id_quad_cmp-IsAntisymmetric, contains_kept}
-use Rattle.rdf_orders.proofs.TestLemmas.{is_either, first_of_both, second_of_both}
-use Rattle.rdf_orders.proofs.SetLemmas.{difference_none, difference_push}
+use Rattle.rdf_orders.proofs.CallerLemmas.{id_quad_cmp_total, id_quad_cmp-IsAntisymmetric, contains_kept, is_either, first_of_both, second_of_both, difference_none, difference_push}
 use Rattle.rdf_store.specs.Stored.{Stored, empty_stored, with_quad, without_quad, with_name, without_name, with_all, without_all}
 use Rattle.rdf_store.specs.Inside.Numbers.{AreNumbersOf, IsGrown, HasTerms, HaveTerms, AreKeys, AreIds, image, shown, parts_at, parts_of, term_at}
 use Rattle.rdf_store.proofs.ImageLemmas.{IsAlone, from_image, in_image, same_of_eq, image-empty, image-insert, image-from_list, image-union, image-retain, image-same, image-lacks, image-contains, image-remove, image_listed}

@@ -48,14 +48,14 @@ none_of c h (b ∷ bs) same =
 character_allowed : (c : ℕ) → is_forbidden c ≡ false → has_forbidden (encode_utf8 c) ≡ false
 character_allowed c h = none_of c h (encode_utf8 c) (λ k lt low. inside_one c [] (encode_utf8 c) k (sym (append-nil (encode_utf8 c))) lt low)
 
-pub all_allowed : (cs body : List ℕ) → Writes IsIriCharacter body cs → has_forbidden (encode_utf8_all cs) ≡ false
-all_allowed [] body w = refl
-all_allowed (c ∷ cs) body w =
+pub written_allowed : (cs body : List ℕ) → Writes IsIriCharacter body cs → has_forbidden (encode_utf8_all cs) ≡ false
+written_allowed [] body w = refl
+written_allowed (c ∷ cs) body w =
     list_any-append is_forbidden (encode_utf8 c) (encode_utf8_all cs)
-    ∙ or_from (has_forbidden (encode_utf8 c)) (has_forbidden (encode_utf8_all cs)) (character_allowed c w.3.0) (all_allowed cs w.1 w.4)
+    ∙ or_from (has_forbidden (encode_utf8 c)) (has_forbidden (encode_utf8_all cs)) (character_allowed c w.3.0) (written_allowed cs w.1 w.4)
 
-pub iri_allowed : (cs text rest : List ℕ) → iri_at cs ≡ Some (text, rest) → has_forbidden text ≡ false
-iri_allowed cs text rest e =
+pub read_iri_allowed : (cs text rest : List ℕ) → iri_at cs ≡ Some (text, rest) → has_forbidden text ≡ false
+read_iri_allowed cs text rest e =
     let s = iri_sound cs text rest e in
     let f = s.2 in
-    ap has_forbidden f.4 ∙ all_allowed f.1 f.0 f.3
+    ap has_forbidden f.4 ∙ written_allowed f.1 f.0 f.3

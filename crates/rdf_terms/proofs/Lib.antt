@@ -1,37 +1,38 @@
-pub mod AllowedLemmas
-pub mod AsciiLemmas
-pub mod CleanLemmas
-pub mod CutLemmas
-pub mod DotLawLemmas
-pub mod DotLemmas
-pub mod DottedLemmas
-pub mod EscapeLemmas
-pub mod EscapedLemmas
-pub mod ExampleLemmas
-pub mod IntegerLemmas
-pub mod LoopLemmas
-pub mod OptionLemmas
-pub mod PastLemmas
-pub mod PlaceLemmas
-pub mod QuadLemmas
-pub mod QuadTests
-pub mod QuotedLemmas
-pub mod ReferenceLemmas
-pub mod ResolutionLemmas
-pub mod RunLemmas
-pub mod SkipLemmas
-pub mod OneCharacterLemmas
-pub mod TableLemmas
-pub mod TagForms
-pub mod TagLemmas
-pub mod TagReadings
-pub mod TagTests
-pub mod TermEq
-pub mod TextLemmas
-pub mod UnescapeLemmas
-pub mod Utf8Lemmas
-pub mod WriteLemmas
-pub mod WrittenIriLemmas
-pub mod WrittenNumberLemmas
-pub mod WrittenTermLemmas
-pub mod WrittenTextLemmas
+mod AllowedLemmas
+mod AsciiLemmas
+pub mod CallerLemmas
+mod CleanLemmas
+mod CutLemmas
+mod DotLawLemmas
+mod DotLemmas
+mod DottedLemmas
+mod EscapeLemmas
+mod EscapedLemmas
+mod ExampleLemmas
+mod IntegerLemmas
+mod LoopLemmas
+mod OptionLemmas
+mod PastLemmas
+mod PlaceLemmas
+mod QuadLemmas
+mod QuadTests
+mod QuotedLemmas
+mod ReferenceLemmas
+mod ResolutionLemmas
+mod RunLemmas
+mod SkipLemmas
+mod OneCharacterLemmas
+mod TableLemmas
+mod TagForms
+mod TagLemmas
+mod TagReadings
+mod TagTests
+mod TermEq
+mod TextLemmas
+mod UnescapeLemmas
+mod Utf8Lemmas
+mod WriteLemmas
+mod WrittenIriLemmas
+mod WrittenNumberLemmas
+mod WrittenTermLemmas
+mod WrittenTextLemmas

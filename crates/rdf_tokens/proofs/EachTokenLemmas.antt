@@ -1,6 +1,6 @@
 -- What is told of each token, token by token.
 use Rattle.std.proofs.Common.{◌≡◌, ◌≤◌, ℕ, zero, suc, false, List, [], ◌∷◌, length, Option, Some, None, refl, sym, ap, ◌∙◌, arith}
-use Rattle.rdf_terms.proofs.OptionLemmas.{none_is}
+use Rattle.rdf_terms.proofs.CallerLemmas.{none_is}
 use Rattle.rdf_tokens.specs.declared.token.Kind.{Kind}
 use Rattle.rdf_tokens.specs.Tokens.{IsToken, HasGap, Ends, NoToken}
 use Rattle.rdf_tokens.specs.Inside.EachToken.{from_token, from_start, within, of_each}

@@ -3,8 +3,7 @@ use Rattle.std.proofs.Common.{◌≡◌, ◌<◌, ◌≤◌, ℕ, true, false, L
 use Rattle.std.proofs.lemmas.Str.{encodes-chars, scalars-chars, chars-encodes}
 use Rattle.std.specs.Str.{chars, encode_utf8_all, IsUtf8}
 use lib.Utf8.{scalars}
-use Rattle.rdf_terms.proofs.OptionLemmas.{none_is}
-use Rattle.rdf_terms.proofs.PlaceLemmas.{between_is}
+use Rattle.rdf_terms.proofs.CallerLemmas.{none_is, between_is}
 use Rattle.rdf_terms.specs.Reading.{LeadsTo, between, byte_count}
 use Rattle.rdf_tokens.specs.declared.token.Kind.{Kind}
 use Rattle.rdf_tokens.specs.Tokens.{IsToken, HasGap, Ends, NoToken}

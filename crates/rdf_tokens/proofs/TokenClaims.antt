@@ -3,7 +3,7 @@ use Rattle.std.proofs.Common.{◌≡◌, ◌<◌, ◌⊎◌, ℕ, Bool, List, �
 use Rattle.rdf_tokens.specs.declared.token.Kind.{Kind}
 use Rattle.rdf_tokens.specs.Forms.{HasForm}
 use Rattle.rdf_terms.specs.Skips.{skip}
-use Rattle.rdf_terms.proofs.SkipLemmas.{skip_less}
+use Rattle.rdf_terms.proofs.CallerLemmas.{skip_less}
 
 abbrev pub Beats : Kind → List ℕ → Option (Kind × List ℕ) → Type 0
 Beats kind rest None = ⊥

@@ -13,7 +13,7 @@ use Rattle.rdf_terms.specs.Reading.{expect}
 use Rattle.rdf_terms.specs.Skips.{some_of}
 use Rattle.rdf_terms.specs.Tags.{tag_end_at}
 use Rattle.rdf_tokens.specs.Inside.TokenReading.{iri_end_at, as_kind, or_else, symbol_at, number_at, number_or_symbol_at, variable_at, word_at, pname_at, blank_at, long_at, text_at, token_at, skip_sign, unsigned_at, digits_at, fraction_at}
-use Rattle.rdf_terms.proofs.OptionLemmas.{cases_Option, some_is, none_is}
+use Rattle.rdf_terms.proofs.CallerLemmas.{cases_Option, some_is, none_is}
 use Rattle.rdf_tokens.proofs.TokenClaims.{Beats, Sound}
 use Rattle.rdf_tokens.proofs.TokenNumbers.{differs, Unsigned, StartsNumber, number_sound, number_claims, number_starts}
 use Rattle.rdf_tokens.proofs.TokenSymbols.{symbol_sound, symbol_claims}

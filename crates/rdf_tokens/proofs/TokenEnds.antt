@@ -4,8 +4,7 @@ use Rattle.std.specs.Prelude.{option_map}
 use Rattle.std.specs.Str.{encode_utf8_all}
 use Rattle.rdf_terms.specs.Reading.{iri_at, quoted_at}
 use Rattle.rdf_terms.specs.Quoted.{IsIriRef}
-use Rattle.rdf_terms.proofs.OptionLemmas.{some_is, none_is}
-use Rattle.rdf_terms.proofs.QuotedLemmas.{iri_sound, iri_complete, quoted_sound, quoted_complete}
+use Rattle.rdf_terms.proofs.CallerLemmas.{some_is, none_is, iri_sound, iri_complete, quoted_sound, quoted_complete}
 use Rattle.rdf_tokens.specs.declared.token.Kind.TheVariants as kind
 use Rattle.rdf_tokens.specs.Forms.{IsShort}
 use Rattle.rdf_tokens.specs.Inside.TokenReading.{iri_end_at, quoted_end_at}

@@ -7,9 +7,7 @@ use Rattle.std.specs.Prelude.{not}
 use Rattle.rdf_terms.specs.LineEnds.{is_line_end}
 use Rattle.rdf_terms.specs.Reading.{expect}
 use Rattle.rdf_terms.specs.Skips.{skip}
-use Rattle.rdf_terms.proofs.OptionLemmas.{none_is}
-use Rattle.rdf_terms.proofs.QuotedLemmas.{expect_sound, expect_complete}
-use Rattle.rdf_terms.proofs.SkipLemmas.{skip_step, skip_stop, skip_end, skip_no_longer}
+use Rattle.rdf_terms.proofs.CallerLemmas.{none_is, expect_sound, expect_complete, skip_step, skip_stop, skip_end, skip_no_longer}
 use Rattle.rdf_tokens.specs.Inside.Shortcuts.{in_line}
 use Rattle.rdf_tokens.specs.Characters.{is_white}
 use Rattle.rdf_tokens.specs.Tokens.{IsComment, IsBlank, Gap, HasGap, Ends}

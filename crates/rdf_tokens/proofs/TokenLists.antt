@@ -11,7 +11,7 @@ use Rattle.rdf_terms.specs.Reading.{byte_count}
 use Rattle.rdf_tokens.specs.Forms.{HasForm, IsOneOf, symbols}
 use Rattle.rdf_tokens.specs.Tokens.{IsToken, Gap, HasGap, Ends, At, AreTokens, NoToken, Tokenizes}
 use Rattle.rdf_tokens.specs.Inside.TokenReading.{skip_gap, token_at}
-use Rattle.rdf_terms.proofs.OptionLemmas.{some_is, some_pair, none_is}
+use Rattle.rdf_terms.proofs.CallerLemmas.{some_is, some_pair, none_is}
 use Rattle.rdf_tokens.proofs.TokenClaims.{Beats}
 use Rattle.rdf_tokens.proofs.TokenGaps.{Stops, skip_ends, skip_starts, gap_skipped, end_skipped}
 use Rattle.rdf_tokens.proofs.TokenDispatch.{token_sound, token_claims, white_begins_none}

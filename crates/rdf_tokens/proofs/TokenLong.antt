@@ -9,8 +9,7 @@ use Rattle.rdf_tokens.specs.Forms.{IsLongCharacter, IsLongBody, IsLong, IsShort}
 use Rattle.rdf_terms.specs.Reading.{expect, escape_at, character_at}
 use Rattle.rdf_terms.specs.Runs.{IsPast, ends_run}
 use Rattle.rdf_tokens.specs.Inside.TokenReading.{or_else, as_kind, two_at, three_at, long_up, long_body_at, long_at, text_at}
-use Rattle.rdf_terms.proofs.OptionLemmas.{cases_Option, bind_some, some_is, some_pair, none_is}
-use Rattle.rdf_terms.proofs.QuotedLemmas.{expect_sound, expect_complete, escape_sound, escape-short, escape-numeric, numeric_begins, string_character_begins}
+use Rattle.rdf_terms.proofs.CallerLemmas.{cases_Option, bind_some, some_is, some_pair, none_is, expect_sound, expect_complete, escape_sound, escape-short, escape-numeric, numeric_begins, string_character_begins}
 use Rattle.rdf_tokens.proofs.TokenClaims.{Beats}
 use Rattle.rdf_tokens.proofs.TokenEnds.{quoted_end_read}
 

@@ -7,8 +7,7 @@ use Rattle.rdf_terms.specs.Characters.{is_pn_chars_base, is_pn_chars}
 use Rattle.rdf_terms.specs.Dotted.{skip_dots, dotted_at}
 use Rattle.rdf_terms.specs.Reading.{byte_count, expect}
 use Rattle.rdf_terms.specs.Skips.{skip, one_of}
-use Rattle.rdf_terms.proofs.DottedLemmas.{unit_shortens, dotted_step, dotted_stop}
-use Rattle.rdf_terms.proofs.OptionLemmas.{cases_Option, some_is, guard_some}
+use Rattle.rdf_terms.proofs.CallerLemmas.{unit_shortens, dotted_step, dotted_stop, cases_Option, some_is, guard_some}
 use Rattle.rdf_tokens.specs.declared.token.Kind.{Kind}
 use Rattle.rdf_tokens.specs.Tokens.{HasGap}
 use Rattle.rdf_tokens.specs.Inside.TokenReading.{name_part_at, prefix_at, pname_at, token_at, NoPnameBefore}

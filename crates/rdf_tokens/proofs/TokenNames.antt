@@ -11,11 +11,8 @@ use Rattle.rdf_terms.specs.Dotted.{IsDotted, skip_dots, dotted_at}
 use Rattle.rdf_terms.specs.Reading.{expect}
 use Rattle.rdf_tokens.specs.Inside.TokenReading.{as_kind, word_at, variable_at, name_part_at, local_part_at, local_first_at, local_at, prefix_at, pname_at, label_at, blank_at}
 use Rattle.rdf_terms.specs.Skips.{skip, one_of}
-use Rattle.rdf_terms.proofs.DottedLemmas.{dotted_front, dotted_over, dotted_stop}
-use Rattle.rdf_terms.proofs.OptionLemmas.{cases_Option, bind_some, some_is, none_is, guard_some, map_some}
+use Rattle.rdf_terms.proofs.CallerLemmas.{dotted_front, dotted_over, dotted_stop, cases_Option, bind_some, some_is, none_is, guard_some, map_some, expect_sound, expect_complete, AllPass, some_sound, some_complete}
 use Rattle.rdf_tokens.proofs.TokenUnits.{name_unit, local_unit, first_sound, first_complete, beats_dotted}
-use Rattle.rdf_terms.proofs.QuotedLemmas.{expect_sound, expect_complete}
-use Rattle.rdf_terms.proofs.SkipLemmas.{AllPass, some_sound, some_complete}
 use Rattle.rdf_tokens.proofs.TokenClaims.{Beats, Sound, beats_skip}
 
 pub word_sound : (cs rest : List ℕ) → word_at cs ≡ Some rest → Sound kind.Word cs rest

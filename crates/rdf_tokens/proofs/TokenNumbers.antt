@@ -8,10 +8,8 @@ use Rattle.rdf_tokens.specs.Characters.{is_sign, is_exponent_letter}
 use Rattle.rdf_tokens.specs.Forms.{AreDigits, HasDigits, IsSign, IsExponent, IsFraction, IsMantissa, IsExponential, Signed, HasForm}
 use Rattle.rdf_terms.specs.Reading.{expect}
 use Rattle.rdf_tokens.specs.Inside.TokenReading.{digits_at, skip_sign, exponent_at, with_exponent, fraction_at, dot_exponent_at, whole_at, unsigned_at, number_at}
-use Rattle.rdf_terms.proofs.OptionLemmas.{cases_Option, bind_some, some_is, none_is, guard_some}
-use Rattle.rdf_terms.proofs.QuotedLemmas.{expect_sound, expect_complete}
+use Rattle.rdf_terms.proofs.CallerLemmas.{cases_Option, bind_some, some_is, none_is, guard_some, expect_sound, expect_complete, skip_less, skip_stop, some_sound, some_complete}
 use Rattle.rdf_terms.specs.Skips.{skip, some_of}
-use Rattle.rdf_terms.proofs.SkipLemmas.{skip_less, skip_stop, some_sound, some_complete}
 use Rattle.rdf_tokens.proofs.TokenClaims.{Beats, Sound}
 
 -- a character that passes is not one that doesn't

@@ -7,10 +7,7 @@ use Rattle.std.specs.Int.{is_in_range}
 use Rattle.rdf_terms.specs.Characters.{is_pn_chars_base, is_pn_chars, is_pn_chars_u}
 use Rattle.rdf_terms.specs.Dotted.{skip_dots, dotted_at}
 use Rattle.rdf_terms.specs.Skips.{skip, one_of}
-use Rattle.rdf_terms.proofs.DottedLemmas.{Shortens, unit_shortens, dotted_step, further}
-use Rattle.rdf_terms.proofs.OptionLemmas.{map_some}
-use Rattle.rdf_terms.proofs.WrittenNumberLemmas.{digit_part}
-use Rattle.rdf_terms.proofs.SkipLemmas.{skip_step, skip_stop, skip_end, skip_no_longer}
+use Rattle.rdf_terms.proofs.CallerLemmas.{Shortens, unit_shortens, dotted_step, further, map_some, digit_part, skip_step, skip_stop, skip_end, skip_no_longer}
 use Rattle.rdf_tokens.specs.Characters.{is_word_part}
 use Rattle.rdf_tokens.specs.Inside.TokenReading.{name_part_at, local_part_at}
 use Rattle.rdf_tokens.proofs.TokenUnits.{name_unit, local_unit}

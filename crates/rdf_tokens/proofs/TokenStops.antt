@@ -5,7 +5,7 @@ use Rattle.rdf_terms.specs.Characters.{is_pn_chars_base, is_pn_chars, is_pn_char
 use Rattle.rdf_terms.specs.Dotted.{skip_dots, dotted_at}
 use Rattle.rdf_terms.specs.Reading.{expect}
 use Rattle.rdf_terms.specs.Skips.{skip, some_of, one_of}
-use Rattle.rdf_terms.proofs.DottedLemmas.{dotted_stop}
+use Rattle.rdf_terms.proofs.CallerLemmas.{dotted_stop}
 use Rattle.rdf_tokens.specs.Characters.{is_word_part}
 use Rattle.rdf_tokens.specs.Inside.Shortcuts.{ends_local, ends_name, stands_alone}
 use Rattle.rdf_tokens.specs.Inside.TokenReading.{name_part_at, local_part_at, plx_at, token_at, number_or_symbol_at, number_at, skip_sign, unsigned_at, digits_at, fraction_at, symbol_at}

@@ -7,8 +7,7 @@ use Rattle.rdf_tokens.specs.Characters.{is_sign}
 use Rattle.rdf_tokens.specs.Forms.{IsOneOf, symbols}
 use Rattle.rdf_terms.specs.Reading.{expect}
 use Rattle.rdf_tokens.specs.Inside.TokenReading.{or_just, number_at, symbol_at, number_or_symbol_at}
-use Rattle.rdf_terms.proofs.OptionLemmas.{cases_Option, some_is, none_is, guard_some}
-use Rattle.rdf_terms.proofs.QuotedLemmas.{expect_sound}
+use Rattle.rdf_terms.proofs.CallerLemmas.{cases_Option, some_is, none_is, guard_some, expect_sound}
 use Rattle.rdf_tokens.proofs.TokenClaims.{Beats}
 use Rattle.rdf_tokens.proofs.TokenNumbers.{number_less, number_none}
 

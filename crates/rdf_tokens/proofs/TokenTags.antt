@@ -5,8 +5,8 @@ use Rattle.std.proofs.Math.Seq.{drop-append_seam}
 use Rattle.rdf_terms.specs.Literal.{is_tag}
 use Rattle.rdf_terms.specs.Reading.{expect}
 use Rattle.rdf_terms.specs.Tags.{IsTagName, tag_end_at}
-use Rattle.rdf_terms.proofs.TagForms as name
-use Rattle.rdf_terms.proofs.TagReadings.{tag_greedy}
+use Rattle.rdf_terms.proofs.CallerLemmas as name
+use Rattle.rdf_terms.proofs.CallerLemmas.{tag_greedy}
 use Rattle.rdf_tokens.specs.declared.token.Kind.TheVariants as kind
 use Rattle.rdf_tokens.specs.Forms.{IsAtWord}
 use Rattle.rdf_tokens.specs.Inside.TokenReading.{as_kind}

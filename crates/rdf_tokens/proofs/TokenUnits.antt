@@ -9,10 +9,8 @@ use Rattle.rdf_terms.specs.Dotted.{dotted_at}
 use Rattle.rdf_terms.specs.Reading.{hex_at}
 use Rattle.rdf_terms.specs.Skips.{one_of}
 use Rattle.rdf_tokens.specs.Inside.TokenReading.{name_part_at, local_escape_at, plx_at, local_part_at, local_first_at}
-use Rattle.rdf_terms.proofs.DottedLemmas.{IsUnit, dotted_front, one_unit, one_sound}
-use Rattle.rdf_terms.proofs.OptionLemmas.{bind_some, some_is, none_is, guard_some}
+use Rattle.rdf_terms.proofs.CallerLemmas.{IsUnit, dotted_front, one_unit, one_sound, bind_some, some_is, none_is, guard_some, hex_sound, hex_complete}
 use Rattle.rdf_tokens.proofs.TokenClaims.{Beats}
-use Rattle.rdf_terms.proofs.EscapeLemmas.{hex_sound, hex_complete}
 
 -- ---- the run
 

@@ -6,8 +6,7 @@ use Rattle.std.specs.Prelude.{option_map, ◌==◌}
 use Rattle.std.specs.Str.{chars, encode_utf8_all, IsUtf8, NonePass, NoCharPasses}
 use Rattle.rdf_terms.specs.Reading.{character_at}
 use Rattle.rdf_terms.specs.Escapes.{IsCharacter, Writes, Unescapes}
-use Rattle.rdf_terms.proofs.OptionLemmas.{bind_some, some_is, none_is}
-use Rattle.rdf_terms.proofs.UnescapeLemmas.{character_sound, character_complete, shorter}
+use Rattle.rdf_terms.proofs.CallerLemmas.{bind_some, some_is, none_is, character_sound, character_complete, shorter}
 use Rattle.rdf_tokens.specs.Values.{written_within, unescaped, text_body, text_value}
 use Rattle.rdf_tokens.proofs.ValuePlaces.{none_pass}
 

@@ -6,10 +6,7 @@ use Rattle.std.specs.Str.{chars, encode_utf8_all, IsUtf8}
 use Rattle.rdf_terms.specs.Iri.{has_forbidden}
 use Rattle.rdf_terms.specs.Quoted.{IsIriRef}
 use Rattle.rdf_terms.specs.Reading.{expect, iri_at}
-use Rattle.rdf_terms.proofs.AllowedLemmas.{iri_allowed}
-use Rattle.rdf_terms.proofs.OptionLemmas.{bind_some}
-use Rattle.rdf_terms.proofs.QuotedLemmas.{iri_complete, expect_sound}
-use Rattle.rdf_terms.proofs.WrittenIriLemmas.{all_allowed, writes_allowed}
+use Rattle.rdf_terms.proofs.CallerLemmas.{read_iri_allowed, bind_some, iri_complete, expect_sound, all_allowed, writes_allowed}
 use Rattle.rdf_tokens.specs.Values.{iri_value, enclosed, before_end}
 use Rattle.rdf_tokens.proofs.ValuePlaces.{before_end_sound}
 
@@ -26,7 +23,7 @@ iri_value_is slice text h = sym (iri_value_by slice text [] (ap iri_at (sym (app
 
 allowed_by : (slice : List ℕ) (o : Option (List ℕ × List ℕ)) → iri_at slice ≡ o → has_forbidden (iri_value slice) ≡ false
 allowed_by slice None e = ap has_forbidden (no_iri slice e)
-allowed_by slice (Some r) e = ap has_forbidden (iri_value_by slice r.0 r.1 e) ∙ iri_allowed slice r.0 r.1 e
+allowed_by slice (Some r) e = ap has_forbidden (iri_value_by slice r.0 r.1 e) ∙ read_iri_allowed slice r.0 r.1 e
 
 pub iri_value_allowed : (slice : List ℕ) → has_forbidden (iri_value slice) ≡ false
 iri_value_allowed slice = allowed_by slice (iri_at slice) refl

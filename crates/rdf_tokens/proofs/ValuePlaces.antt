@@ -11,10 +11,8 @@ use Rattle.std.specs.Str.{chars, encode_utf8_all, IsUtf8, IsCharBoundary, NonePa
 use denote.Ref.{Bor}
 use Rattle.rdf_terms.specs.Cuts.{before, after}
 use Rattle.rdf_terms.specs.Reading.{expect}
-use Rattle.rdf_terms.proofs.OptionLemmas.{some_is, none_is, guard_some}
-use Rattle.rdf_terms.proofs.PastLemmas.{may_stop, past_some, past_none}
+use Rattle.rdf_terms.proofs.CallerLemmas.{some_is, none_is, guard_some, may_stop, past_some, past_none, expect_sound, expect_complete}
 use Rattle.rdf_tokens.specs.Inside.Shortcuts.{is_colon}
-use Rattle.rdf_terms.proofs.QuotedLemmas.{expect_sound, expect_complete}
 use Rattle.rdf_tokens.specs.Values.{before_end, enclosed, tag_value, prefix_part, local_part}
 
 -- ---- an ASCII character at the front

@@ -12,8 +12,7 @@ use lib.Utf8.{scalar, scalars}
 use Rattle.rdf_terms.specs.Characters.{is_pn_chars_base, is_pn_chars_u, is_pn_chars}
 use Rattle.rdf_terms.specs.Cuts.{before, after}
 use Rattle.rdf_terms.specs.Iri.{is_forbidden, has_forbidden, has_scheme, is_scheme, is_iri}
-use Rattle.rdf_terms.proofs.AllowedLemmas.{all_allowed}
-use Rattle.rdf_terms.proofs.WrittenIriLemmas.{writes_allowed}
+use Rattle.rdf_terms.proofs.CallerLemmas.{written_allowed, writes_allowed}
 use Rattle.rdf_tokens.specs.Characters.{is_local_escape}
 use Rattle.rdf_tokens.specs.Forms.{IsLocal}
 use Rattle.rdf_tokens.specs.Values.{local_value, IsLocalUnit, unit_value}
@@ -177,7 +176,7 @@ local_allowed name l =
     let m = parted_local name l in
     let cs : List ℕ = flat_map unit_value m.0 in
     let value : encode_utf8_all cs ≡ local_value name = local_value_is name cs (m.0, m.1, m.2, refl) in
-    ap has_forbidden (sym value) ∙ all_allowed cs cs (writes_allowed cs (good_allowed cs (units_good m.0 m.2)))
+    ap has_forbidden (sym value) ∙ written_allowed cs cs (writes_allowed cs (good_allowed cs (units_good m.0 m.2)))
 
 -- ---- behind an IRI
 
@@ -208,7 +207,7 @@ pname_iri iri name h l =
     let utf8 : IsUtf8 (iri ++ encode_utf8_all cs) = IsUtf8-append iri (encode_utf8_all cs) (IsUtf8-from_is_utf8 iri p.0) (cs, (good_scalars cs good, refl)) in
     let allowed : has_forbidden (iri ++ encode_utf8_all cs) ≡ false =
     list_any-append is_forbidden iri (encode_utf8_all cs)
-    ∙ or_from (has_forbidden iri) (has_forbidden (encode_utf8_all cs)) (not-true (has_forbidden iri) q.1) (all_allowed cs cs (writes_allowed cs (good_allowed cs good))) in
+    ∙ or_from (has_forbidden iri) (has_forbidden (encode_utf8_all cs)) (not-true (has_forbidden iri) q.1) (written_allowed cs cs (writes_allowed cs (good_allowed cs good))) in
     let whole : is_iri (iri ++ encode_utf8_all cs) ≡ true =
     and_from (is_utf8 (iri ++ encode_utf8_all cs)) (has_scheme (iri ++ encode_utf8_all cs) && not (has_forbidden (iri ++ encode_utf8_all cs))) (is_utf8-from_IsUtf8 (iri ++ encode_utf8_all cs) utf8)
     (and_from (has_scheme (iri ++ encode_utf8_all cs)) (not (has_forbidden (iri ++ encode_utf8_all cs))) (has_scheme_after iri (encode_utf8_all cs) q.0) (not_from_false (has_forbidden (iri ++ encode_utf8_all cs)) allowed)) in

@@ -8,7 +8,7 @@ use Rattle.rdf_tokens.proofs.SliceLemmas.{scalars_parts}
 use Rattle.rdf_terms.specs.Escapes.{Writes, IsCharacter}
 use Rattle.rdf_terms.specs.Quoted.{IsStringCharacter}
 use Rattle.rdf_terms.specs.Reading.{expect}
-use Rattle.rdf_terms.proofs.QuotedLemmas.{string_character_begins}
+use Rattle.rdf_terms.proofs.CallerLemmas.{string_character_begins}
 use Rattle.rdf_tokens.specs.Forms.{IsShort, IsLong, IsLongBody, IsLongCharacter, IsString, IsText}
 use Rattle.rdf_tokens.specs.Values.{enclosed, enclosed_thrice, quoted_body, text_body, text_value}
 use Rattle.rdf_tokens.proofs.ValueEscapes.{unescaped_is, text_value_by}

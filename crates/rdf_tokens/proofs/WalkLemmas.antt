@@ -4,7 +4,7 @@ use Rattle.std.specs.Prelude.{MatchOption}
 use Rattle.std.proofs.lemmas.List.{append-nil}
 use Rattle.std.proofs.lemmas.Str.{encodes-chars}
 use Rattle.std.specs.Str.{chars, IsUtf8}
-use Rattle.rdf_terms.proofs.PlaceLemmas.{between_is}
+use Rattle.rdf_terms.proofs.CallerLemmas.{between_is}
 use Rattle.rdf_terms.specs.Reading.{between, byte_count}
 use Rattle.rdf_tokens.specs.declared.token.Kind.{Kind}
 use Rattle.rdf_tokens.specs.declared.token.Token.{Token}

@@ -28,7 +28,7 @@ use Rattle.rdf_grammar.specs.Steps.{Outcome, and_then}
 use Rattle.rdf_turtle.proofs.BaseLeaves.{lexemes_formed}
 use Rattle.rdf_turtle.proofs.BaseSteps.{Holds, Given, Any, IsIri, Fits, WellQuad, Comes, Goes, NodeGoes, then_goes, resolved_goes, each_goes}
 use Rattle.rdf_turtle.proofs.BaseTrees.{GoodStatement, GoodTriples, all_say, good_document}
-use Rattle.rdf_grammar.proofs.ScopePrefixes.{prefixes_are_replaced}
+use Rattle.rdf_grammar.proofs.CallerLemmas.{prefixes_are_replaced}
 
 -- ---- declarations
 

@@ -21,7 +21,7 @@ use Rattle.rdf_tokens.specs.Forms.{HasForm, IsLocal}
 use Rattle.rdf_turtle.specs.Terminals.{without_case, at_word_terminal, word_terminal, symbol_terminal, terminal_of, terminal_by}
 use Rattle.rdf_grammar.specs.Lexemes.{AreReadOf, HaveForms, unread}
 use Rattle.rdf_tokens.specs.Values.{iri_value, local_part, tag_value, text_value}
-use Rattle.rdf_grammar.proofs.LexemeLemmas.{lexemes_have_forms}
+use Rattle.rdf_grammar.proofs.CallerLemmas.{lexemes_have_forms}
 use Rattle.rdf_tokens.proofs.CallerLemmas.{scalars_parts, tag_form, iri_value_is, local_part_is, text_value_utf8}
 
 -- ---- lexemes of a text

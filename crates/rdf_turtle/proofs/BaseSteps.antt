@@ -14,8 +14,7 @@ use Rattle.rdf_terms.specs.Term.{is_literal_term}
 use Rattle.rdf_terms.specs.Vocabulary.{rdf_type, rdf_first, rdf_rest, rdf_nil, xsd_integer, xsd_decimal, xsd_double, xsd_boolean}
 use Rattle.rdf_terms.specs.declared.term.Term.{Term}
 use Rattle.rdf_terms.specs.declared.term.Term.TheVariants as t
-use Rattle.rdf_terms.proofs.CleanLemmas.{resolved_iri}
-use Rattle.rdf_terms.proofs.Utf8Lemmas.{iri_from, text_from}
+use Rattle.rdf_terms.proofs.CallerLemmas.{resolved_iri, iri_from, text_from, ascii_iri, is_literal-tagged}
 use Rattle.rdf_grammar.specs.declared.tree.Name.{Name}
 use Rattle.rdf_grammar.specs.declared.tree.Name.TheVariants.{Full, Prefixed}
 use Rattle.rdf_turtle.specs.declared.tree.Verb.{Verb}
@@ -38,8 +37,6 @@ use Rattle.rdf_grammar.specs.Steps.{Outcome, and_then, each}
 use Rattle.rdf_tokens.specs.Values.{iri_value, local_value, text_value, tag_value}
 use Rattle.rdf_tokens.proofs.CallerLemmas.{iri_value_allowed}
 use Rattle.rdf_tokens.proofs.CallerLemmas.{pname_iri}
-use Rattle.rdf_terms.proofs.ExampleLemmas.{ascii_iri}
-use Rattle.rdf_terms.proofs.TagLemmas.{is_literal-tagged}
 use Rattle.rdf_turtle.proofs.ScopeSteps.{all_behind}
 
 -- a base is in force or not, and each declared prefix stands for an IRI

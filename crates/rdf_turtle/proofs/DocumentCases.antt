@@ -19,9 +19,8 @@ use Rattle.rdf_turtle.specs.Meaning.{answer, triples_of}
 use Rattle.rdf_turtle.specs.Nesting.{IsTooDeep}
 use Rattle.rdf_turtle.specs.Inside.Reading.{document}
 use Rattle.rdf_tokens.specs.Tokens.{Tokenizes}
-use Rattle.rdf_grammar.proofs.TextLemmas.{got, same_lengths, shallow_or_deep, some_lexemes, stops_somewhere}
+use Rattle.rdf_grammar.proofs.CallerLemmas.{got, same_lengths, shallow_or_deep, some_lexemes, stops_somewhere, some_pair}
 use Rattle.rdf_turtle.proofs.DocumentLemmas.{answer_kind, name_is}
-use Rattle.rdf_grammar.proofs.Decides.{some_pair}
 use Rattle.rdf_turtle.proofs.GrammarWhole.{document_found, document_read, none_read}
 use Rattle.rdf_tokens.proofs.CallerLemmas.{some_token_list, tokens_have_forms}
 

@@ -25,7 +25,7 @@ use Rattle.rdf_turtle.specs.Nesting.{IsTooDeep, IsTooDeepAt}
 use Rattle.rdf_turtle.specs.Inside.Stops.{IsTold}
 use Rattle.rdf_tokens.specs.Tokens.{Tokenizes}
 use Rattle.rdf_grammar.specs.Lexemes.{AreReadOf}
-use Rattle.rdf_grammar.proofs.TextLemmas.{one_lexemes, one_front, deep_at, one_opener}
+use Rattle.rdf_grammar.proofs.CallerLemmas.{one_lexemes, one_front, deep_at, one_opener}
 use Rattle.rdf_turtle.proofs.GrammarShallow.{all_read, document_shallow, not_too_deep}
 use Rattle.rdf_turtle.proofs.GrammarWhole.{document_unique, none_read}
 use Rattle.rdf_tokens.proofs.CallerLemmas.{one_token_list}

@@ -13,8 +13,8 @@ use Rattle.rdf_grammar.specs.Derivations as grammar
 use Rattle.rdf_grammar.specs.Derivations.{Then, Star, stop, more}
 use Rattle.rdf_turtle.specs.Grammar as g
 use Rattle.rdf_turtle.specs.Terminals.{bracket, word}
-use Rattle.rdf_grammar.proofs.Nests.{Keeps, then_keeps, pure_keeps, or_keeps, map_keeps, behind_keeps, word_keeps, leaf_keeps, maybe_keeps, star_keeps, one_keeps, enclosed, pair_keeps}
-use Rattle.rdf_grammar.proofs.ProductionNests as shared
+use Rattle.rdf_grammar.proofs.CallerLemmas.{Keeps, then_keeps, pure_keeps, or_keeps, map_keeps, behind_keeps, word_keeps, leaf_keeps, maybe_keeps, star_keeps, one_keeps, enclosed, pair_keeps}
+use Rattle.rdf_grammar.proofs.CallerLemmas as shared
 use Rattle.rdf_turtle.proofs.GrammarWords.{plain}
 
 module _ (limit b : ℕ) where

@@ -14,10 +14,7 @@ use Rattle.rdf_grammar.specs.Derivations as grammar
 use Rattle.rdf_grammar.specs.Derivations.{Then, Star, stop, more}
 use Rattle.rdf_turtle.specs.Inside.Reading as read
 use Rattle.rdf_turtle.specs.Grammar as g
-use Rattle.rdf_grammar.proofs.Decides.{always, Decides, then_decides, pure_decides, repeat_decides}
-use Rattle.rdf_grammar.proofs.Lists.{MayPart, seen_passes, separated_decides, separated_loosely_decides}
-use Rattle.rdf_grammar.proofs.Terminals.{the_decides, value_decides, the_terminal, value_terminal, terminal_seen, seen_terminal}
-use Rattle.rdf_grammar.proofs.Combinators.{one_decides, seq, last, also, maybe_decides}
+use Rattle.rdf_grammar.proofs.CallerLemmas.{always, Decides, then_decides, pure_decides, repeat_decides, MayPart, seen_passes, separated_decides, separated_loosely_decides, the_decides, value_decides, the_terminal, value_terminal, terminal_seen, seen_terminal, one_decides, seq, last, also, maybe_decides}
 use Rattle.rdf_turtle.proofs.GrammarProductions.{iri_terminal, iri_strict, iri_decides, verb_begins, verb_decides, ends_node, after_node, literal_decides, literal_strict, begins_literal, literal_begins}
 use Rattle.rdf_turtle.specs.Terminals.{same_terminal, apart}
 

@@ -19,10 +19,8 @@ use Rattle.rdf_grammar.specs.ProductionReadings as productions
 use Rattle.rdf_grammar.specs.ProductionReadings.{ends_literal}
 use Rattle.rdf_turtle.specs.Inside.Reading as read
 use Rattle.rdf_turtle.specs.Grammar as g
-use Rattle.rdf_grammar.proofs.Decides.{always, Decides}
-use Rattle.rdf_grammar.proofs.Terminals.{the_terminal, word_sound, word_complete, word_strict}
-use Rattle.rdf_grammar.proofs.Combinators.{last}
-use Rattle.rdf_grammar.proofs.Productions as shared
+use Rattle.rdf_grammar.proofs.CallerLemmas.{always, Decides, the_terminal, word_sound, word_complete, word_strict, last}
+use Rattle.rdf_grammar.proofs.CallerLemmas as shared
 use Rattle.rdf_turtle.proofs.GrammarWords.{is_iri, is_pname, next_is}
 
 -- ---- iri

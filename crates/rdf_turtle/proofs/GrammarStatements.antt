@@ -18,10 +18,8 @@ use Rattle.rdf_grammar.specs.Derivations as grammar
 use Rattle.rdf_grammar.specs.Derivations.{Then, Star, stop, more}
 use Rattle.rdf_turtle.specs.Inside.Reading as read
 use Rattle.rdf_turtle.specs.Grammar as g
-use Rattle.rdf_grammar.proofs.Decides.{always, Decides, then_decides, pure_decides, repeat_decides}
-use Rattle.rdf_grammar.proofs.Terminals.{the_decides, value_decides, after_terminal, the_terminal, value_terminal, any_the}
-use Rattle.rdf_grammar.proofs.Combinators.{one_decides, seq, last}
-use Rattle.rdf_grammar.proofs.Productions as shared
+use Rattle.rdf_grammar.proofs.CallerLemmas.{always, Decides, then_decides, pure_decides, repeat_decides, the_decides, value_decides, after_terminal, the_terminal, value_terminal, any_the, one_decides, seq, last}
+use Rattle.rdf_grammar.proofs.CallerLemmas as shared
 use Rattle.rdf_turtle.proofs.GrammarProductions.{iri_terminal}
 use Rattle.rdf_turtle.proofs.GrammarNodes.{ends_list, IsNodeRule, node_rule, Bracketed, bracketed_decides, OptionalPredicateObjectList, optional_predicate_object_list_decides, predicate_object_list_decides, AnySubject, subject_decides, bracketed_is, anonymous_is, blank_node_property_list_is}
 

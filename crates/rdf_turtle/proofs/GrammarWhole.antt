@@ -6,9 +6,8 @@ use Rattle.rdf_turtle.specs.Nesting.{open_after, IsTooDeep}
 use Rattle.rdf_turtle.specs.Inside.Reading.{document}
 use Rattle.rdf_turtle.specs.Grammar.{Document, IsDocument}
 use Rattle.rdf_turtle.proofs.GrammarStatements.{document_decides}
-use Rattle.rdf_grammar.proofs.Decides.{some_pair}
+use Rattle.rdf_grammar.proofs.CallerLemmas.{some_pair, never_more}
 use Rattle.rdf_turtle.proofs.GrammarNests.{document_within}
-use Rattle.rdf_grammar.proofs.Depths.{never_more}
 use Rattle.rdf_turtle.specs.Terminals.{bracket}
 
 pub document_found : (ts : Lexemes) (ss : List Statement) → document 100 ts ≡ Some (ss, []) → IsDocument ts ss

@@ -1,31 +1,32 @@
-pub mod BaseDocuments
-pub mod BaseLeaves
-pub mod BaseSteps
-pub mod BaseTrees
-pub mod DocumentCases
-pub mod DocumentLemmas
-pub mod FaultyNameLemmas
-pub mod GrammarLeaves
-pub mod GrammarNests
-pub mod GrammarNodes
-pub mod GrammarProductions
-pub mod GrammarShallow
-pub mod GrammarStatements
-pub mod GrammarWhole
-pub mod GrammarWords
-pub mod PrologueSteps
-pub mod ReadBackLemmas
-pub mod ScopeBlanks
-pub mod ScopeLoops
-pub mod ScopeSteps
-pub mod StraightReading
-pub mod SurveyLemmas
-pub mod TokenFaultLemmas
-pub mod WrittenCuts
-pub mod WrittenDocuments
-pub mod WrittenLines
-pub mod WrittenMeanings
-pub mod WrittenNumbers
-pub mod WrittenTerms
-pub mod WrittenTokens
-pub mod WrittenTrees
+mod BaseDocuments
+mod BaseLeaves
+mod BaseSteps
+mod BaseTrees
+pub mod CallerLemmas
+mod DocumentCases
+mod DocumentLemmas
+mod FaultyNameLemmas
+mod GrammarLeaves
+mod GrammarNests
+mod GrammarNodes
+mod GrammarProductions
+mod GrammarShallow
+mod GrammarStatements
+mod GrammarWhole
+mod GrammarWords
+mod PrologueSteps
+mod ReadBackLemmas
+mod ScopeBlanks
+mod ScopeLoops
+mod ScopeSteps
+mod StraightReading
+mod SurveyLemmas
+mod TokenFaultLemmas
+mod WrittenCuts
+mod WrittenDocuments
+mod WrittenLines
+mod WrittenMeanings
+mod WrittenNumbers
+mod WrittenTerms
+mod WrittenTokens
+mod WrittenTrees

@@ -15,7 +15,7 @@ use Rattle.rdf_grammar.specs.Keys.{key_of, same_key}
 use Rattle.rdf_tokens.specs.Values.{local_value, text_value}
 use Rattle.rdf_grammar.specs.PrologueFaults.{Explains}
 use Rattle.rdf_turtle.specs.ParserState.{ParserState, told}
-use Rattle.rdf_grammar.proofs.LiteralLemmas.{reference_lacking, name_lacking, literal_lacking}
+use Rattle.rdf_grammar.proofs.CallerLemmas.{reference_lacking, name_lacking, literal_lacking}
 use Rattle.rdf_grammar.specs.declared.tree.Literal.{Literal}
 use Rattle.rdf_grammar.specs.declared.tree.Literal.TheVariants as l
 use Rattle.rdf_grammar.specs.Literals.{ExplainsLiteral, known_literal, literal_of, untagged}

@@ -11,7 +11,7 @@ use Rattle.rdf_terms.specs.declared.term.Term.{Term}
 use Rattle.rdf_terms.specs.declared.term.Term.TheVariants.{Blank, Iri, Literal}
 use Rattle.rdf_terms.specs.Blanks.{blanks_in, blanks_of, AreNumberedInOrder}
 pub use Rattle.rdf_grammar.proofs.Decides.{then_parts}
-use Rattle.rdf_grammar.proofs.KeyEntries.{more_labels, label_below, label_inserted, lt_or_is}
+use Rattle.rdf_grammar.proofs.CallerLemmas.{more_labels, label_below, label_inserted, lt_or_is}
 use Rattle.rdf_turtle.specs.Blanks.{IsTriple}
 use Rattle.rdf_grammar.specs.Steps.{Outcome}
 use Rattle.rdf_grammar.specs.Keys.{same_key}

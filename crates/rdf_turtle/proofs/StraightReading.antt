@@ -21,7 +21,7 @@ use Rattle.rdf_turtle.specs.ParserState.{ParserState, longest, start}
 use Rattle.rdf_grammar.specs.Steps.{and_then}
 use Rattle.rdf_turtle.specs.Inside.Turns.{IfNothing, Becomes, Turn, LeavesPending, Turns, TellsDocument, StopsReading, StopsWith}
 use Rattle.rdf_turtle.proofs.BaseTrees.{statement_of_formed}
-use Rattle.rdf_grammar.proofs.Repeats.{one_reads, one_fails, no_more, Going, going_starts, going_on, going_done, going_fails}
+use Rattle.rdf_grammar.proofs.CallerLemmas.{one_reads, one_fails, no_more, Going, going_starts, going_on, going_done, going_fails}
 use Rattle.rdf_turtle.proofs.GrammarStatements.{statement_derived}
 use Rattle.rdf_turtle.proofs.GrammarWhole.{found_within}
 

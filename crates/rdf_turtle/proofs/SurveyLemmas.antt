@@ -4,9 +4,8 @@ use Rattle.std.specs.Prelude.{nat_lt}
 use Rattle.std.proofs.lemmas.Bool.{cases_lt, lt-ltb, le-ltb}
 use Rattle.std.specs.List.{slice_get}
 use Rattle.std.specs.Str.{chars, encode_utf8_all, IsUtf8}
-use Rattle.rdf_terms.proofs.OptionLemmas.{some_is, none_is}
-use Rattle.rdf_grammar.proofs.Depths.{one_behind}
-use Rattle.rdf_grammar.proofs.TextLemmas.{one_lexemes}
+use Rattle.rdf_terms.proofs.CallerLemmas.{some_is, none_is}
+use Rattle.rdf_grammar.proofs.CallerLemmas.{one_behind, one_lexemes}
 use Rattle.rdf_tokens.specs.declared.token.Kind.{Kind}
 use Rattle.rdf_tokens.specs.declared.token.Token.{Token}
 use Rattle.rdf_tokens.specs.declared.walk.Found.{Found}

@@ -6,9 +6,7 @@ use Rattle.rdf_terms.specs.Term.{is_term}
 use Rattle.rdf_terms.specs.TermText.{term_text}
 use Rattle.rdf_terms.specs.declared.term.Term.{Term}
 use Rattle.rdf_terms.specs.declared.quad.Quad.{Quad}
-use Rattle.rdf_terms.proofs.AsciiLemmas.{utf8_cons, chars_cons}
-use Rattle.rdf_terms.proofs.QuadTests.{QuadTests, quad_tests}
-use Rattle.rdf_terms.proofs.WrittenTermLemmas.{term_utf8}
+use Rattle.rdf_terms.proofs.CallerLemmas.{utf8_cons, chars_cons, QuadTests, quad_tests, term_utf8}
 use Rattle.rdf_tokens.specs.declared.token.Kind.TheVariants as kind
 use Rattle.rdf_turtle.specs.Document.{HasTokens}
 use Rattle.rdf_turtle.specs.WrittenLaws.{triple_text, IsDefaultQuad}

@@ -15,11 +15,7 @@ use Rattle.rdf_terms.specs.declared.term.Term.{Term}
 use Rattle.rdf_terms.specs.declared.term.Term.TheVariants as t
 use Rattle.rdf_terms.specs.declared.quad.GraphName.TheVariants.{Default}
 use Rattle.rdf_terms.specs.declared.quad.Quad.{Quad}
-use Rattle.rdf_terms.proofs.QuadTests.{QuadTests, quad_tests}
-use Rattle.rdf_terms.proofs.TagForms.{tag_name, tag_low, ascii_from}
-use Rattle.rdf_terms.proofs.WrittenIriLemmas.{iri_scheme, iri_allowed, iri_form}
-use Rattle.rdf_terms.proofs.WrittenTermLemmas.{lower_stays, tag_parts, literal_parts}
-use Rattle.rdf_terms.proofs.WrittenTextLemmas.{string_body}
+use Rattle.rdf_terms.proofs.CallerLemmas.{QuadTests, quad_tests, tag_name, tag_low, ascii_from, iri_scheme, iri_allowed, iri_form, lower_stays, tag_parts, literal_parts, string_body}
 use Rattle.rdf_grammar.specs.declared.tree.Name.{Name}
 use Rattle.rdf_grammar.specs.declared.tree.Name.TheVariants.{Full}
 use Rattle.rdf_turtle.specs.declared.tree.Verb.{Verb}

@@ -10,9 +10,9 @@ use Rattle.indexmap.specs.IndexMap.{insert_entry}
 use Rattle.rdf_terms.specs.declared.quad.Quad.{Quad}
 use Rattle.rdf_terms.specs.declared.term.Term.TheVariants.{Blank}
 use Rattle.rdf_terms.specs.Blanks.{AreNumberedInOrder, blanks_of}
-use Rattle.rdf_terms.proofs.WrittenNumberLemmas.{blank_ascii}
+use Rattle.rdf_terms.proofs.CallerLemmas.{blank_ascii}
 use Rattle.rdf_grammar.specs.Keys.{key_of, same_key}
-use Rattle.rdf_grammar.proofs.KeyEntries.{found, kept}
+use Rattle.rdf_grammar.proofs.CallerLemmas.{found, kept}
 use Rattle.rdf_turtle.specs.ParserState.{ParserState, start, labelled}
 use Rattle.rdf_turtle.proofs.WrittenTerms.{label_slice}
 

@@ -9,12 +9,7 @@ use Rattle.rdf_terms.specs.Term.{is_term}
 use Rattle.rdf_terms.specs.TermText.{suffix_text, literal_text, term_text}
 use Rattle.rdf_terms.specs.declared.term.Term.{Term}
 use Rattle.rdf_terms.specs.declared.term.Term.TheVariants.{Blank, Iri, Literal}
-use Rattle.rdf_terms.proofs.AsciiLemmas.{chars_cons}
-use Rattle.rdf_terms.proofs.TagForms.{tag_name}
-use Rattle.rdf_terms.proofs.WrittenIriLemmas.{angled, iri_form, angled_chars}
-use Rattle.rdf_terms.proofs.WrittenNumberLemmas.{decimal_digits, blank_ascii}
-use Rattle.rdf_terms.proofs.WrittenTermLemmas.{tag_parts, tag_ascii, literal_parts}
-use Rattle.rdf_terms.proofs.WrittenTextLemmas.{quoted, quoted_form, quoted_chars, quoted_utf8}
+use Rattle.rdf_terms.proofs.CallerLemmas.{chars_cons, tag_name, angled, iri_form, angled_chars, decimal_digits, blank_ascii, tag_parts, tag_ascii, literal_parts, quoted, quoted_form, quoted_chars, quoted_utf8}
 use Rattle.rdf_tokens.specs.declared.token.Kind.TheVariants as kind
 use Rattle.rdf_turtle.proofs.WrittenTokens.{iri_token, caret_token, text_token, label_token, tag_token}
 use Rattle.rdf_turtle.proofs.WrittenCuts.{Slice, Cut, cut_token}

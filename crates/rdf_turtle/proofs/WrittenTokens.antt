@@ -8,13 +8,9 @@ use Rattle.rdf_terms.specs.Dotted.{skip_dots, dotted_at}
 use Rattle.rdf_terms.specs.Quoted.{IsIriRef, IsQuoted}
 use Rattle.rdf_terms.specs.Reading.{expect}
 use Rattle.rdf_terms.specs.Skips.{skip, some_of, one_of}
-use Rattle.rdf_terms.proofs.DottedLemmas.{ones_dotted, dotted_over, dotted_stop}
+use Rattle.rdf_terms.proofs.CallerLemmas.{ones_dotted, dotted_over, dotted_stop, expect_complete, iri_complete, quoted_complete, AllPass, some_complete, skip_stop, is_digit, digit_part, by_escape}
 use Rattle.rdf_terms.specs.Tags.{IsGroups, IsTagName, begins_group, skip_groups, tag_end_at}
 use Rattle.rdf_terms.specs.TermText.{escaped}
-use Rattle.rdf_terms.proofs.QuotedLemmas.{expect_complete, iri_complete, quoted_complete}
-use Rattle.rdf_terms.proofs.SkipLemmas.{AllPass, some_complete, skip_stop}
-use Rattle.rdf_terms.proofs.WrittenNumberLemmas.{is_digit, digit_part}
-use Rattle.rdf_terms.proofs.WrittenTextLemmas.{by_escape}
 use Rattle.rdf_tokens.specs.declared.token.Kind.TheVariants as kind
 use Rattle.rdf_tokens.specs.Characters.{is_name_start}
 use Rattle.rdf_tokens.specs.Inside.TokenReading.{as_kind, or_else, iri_end_at, quoted_end_at, two_at, three_at, long_at, text_at, digits_at, skip_sign, fraction_at, unsigned_at, number_at, symbol_at, name_part_at, label_at, blank_at, number_or_symbol_at, token_at}

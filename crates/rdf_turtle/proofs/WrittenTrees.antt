@@ -9,7 +9,7 @@ use Rattle.rdf_terms.specs.Term.{is_literal_term, is_iri_term}
 use Rattle.rdf_terms.specs.declared.term.Term.{Term}
 use Rattle.rdf_terms.specs.declared.term.Term.TheVariants as t
 use Rattle.rdf_terms.specs.declared.quad.Quad.{Quad}
-use Rattle.rdf_terms.proofs.QuadTests.{QuadTests, quad_tests}
+use Rattle.rdf_terms.proofs.CallerLemmas.{QuadTests, quad_tests}
 use Rattle.rdf_turtle.specs.declared.terminal.Terminal.{Terminal}
 use Rattle.rdf_turtle.specs.declared.terminal.Terminal.TheVariants as terminal
 use Rattle.rdf_tokens.specs.declared.token.Kind.TheVariants as kind

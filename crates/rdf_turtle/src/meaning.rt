@@ -257,7 +257,7 @@ impl<'a, S: TripleSink> Scope<'a, S> {
     }
 
     /// Says the triples of a statement, or declares its prefix or base.
-    #[tactic(auto, using(rdf_grammar::proofs::PrologueKeys::declares_key), unfolding(crate::specs::Meaning::statement, crate::specs::Known::known_statement, rdf_grammar::specs::Prologue::moves_base))]
+    #[tactic(auto, using(rdf_grammar::proofs::CallerLemmas::declares_key), unfolding(crate::specs::Meaning::statement, crate::specs::Known::known_statement, rdf_grammar::specs::Prologue::moves_base))]
     pub(crate) fn statement(&mut self, statement: &Statement<'a>) -> Result<(), PrologueFault>
         requires proper { IsTrue (proper.proper_statement statement.now) }
         requires room { HasRoom 1 self.old }

@@ -6,7 +6,7 @@ use Rattle.rdf_terms.specs.declared.term.Term.TheVariants as t
 use Rattle.sparql_trees.specs.declared.expression.Expression.TheVariants as e
 use Rattle.sparql_values.specs.Mapping.{same_term}
 use Rattle.sparql_values.specs.Values.{Value, Bindings, truth, negated, of_truth, boolean_term, value, is_true, is_satisfied}
-use Rattle.sparql_values.proofs.ValueLemmas.{value-Not, value-Bound, value-Variable, value-Term, value-SameTerm}
+use Rattle.sparql_values.proofs.CallerLemmas.{value-Not, value-Bound, value-Variable, value-Term, value-SameTerm}
 use Rattle.sparql_algebra.specs.Examples.{text, no_mailbox, is_bob, other_mailbox}
 
 module _ (b : Bindings) where

@@ -1,5 +1,6 @@
-pub mod BlankSteps
-pub mod DraftsBelow
-pub mod ScopeLabels
-pub mod ScopeLoops
-pub mod ScopeSteps
+mod BlankSteps
+pub mod CallerLemmas
+mod DraftsBelow
+mod ScopeLabels
+mod ScopeLoops
+mod ScopeSteps

@@ -3,7 +3,7 @@ use Rattle.std.proofs.Common.{◌≡◌, ◌∙◌, ◌≤◌, ap, sym, ℕ, suc
 use Rattle.std.proofs.lemmas.Bool.{and_parts}
 use Rattle.std.specs.List.{list_all}
 use Rattle.rdf_grammar.specs.Steps.{and_then}
-use Rattle.rdf_grammar.proofs.Members.{drop_is}
+use Rattle.rdf_grammar.proofs.CallerLemmas.{drop_is}
 use Rattle.sparql_grammar.specs.Proper.{holds, is_filled}
 use Rattle.sparql_grammar.specs.declared.tree.Node.{Node}
 use Rattle.sparql_drafts.specs.declared.draft.VarOrTerm.{VarOrTerm}

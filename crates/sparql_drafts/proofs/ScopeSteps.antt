@@ -8,7 +8,7 @@ use Rattle.rdf_grammar.specs.declared.prologue.PrologueFault.{PrologueFault}
 use Rattle.rdf_grammar.specs.declared.prologue.PrologueFault.TheVariants.{UnknownPrefix, Relative, NoMemory}
 use Rattle.rdf_grammar.specs.declared.tree.Name.{Name}
 use Rattle.rdf_grammar.specs.declared.tree.Name.TheVariants.{Full}
-use Rattle.rdf_grammar.proofs.LiteralLemmas.{reference_lacking, name_lacking, literal_lacking, literal_known}
+use Rattle.rdf_grammar.proofs.CallerLemmas.{reference_lacking, name_lacking, literal_lacking, literal_known}
 use Rattle.rdf_grammar.specs.declared.tree.Literal.{Literal}
 use Rattle.rdf_grammar.specs.Literals.{ExplainsLiteral, known_literal, literal_of}
 use Rattle.rdf_terms.specs.Literal.{LiteralParts}

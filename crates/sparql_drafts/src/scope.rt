@@ -245,7 +245,7 @@ impl<'a> Scope<'a> {
     /// # Errors
     /// [`PrologueFault::Relative`] where it has a relative reference and there is no base;
     /// [`PrologueFault::NoMemory`] where memory is wanting. Then nothing is declared.
-    #[tactic(auto, using(rdf_grammar::proofs::PrologueKeys::declares_key), unfolding(crate::specs::Meaning::declaration, rdf_grammar::specs::Prologue::moves_base))]
+    #[tactic(auto, using(rdf_grammar::proofs::CallerLemmas::declares_key), unfolding(crate::specs::Meaning::declaration, rdf_grammar::specs::Prologue::moves_base))]
     pub fn declare(&mut self, declaration: &Declaration<'a>) -> Result<(), PrologueFault>
         ensures gives { let step = meaning.declaration declaration.now in
             Gives (step self.old.prologue) result self.new.prologue }

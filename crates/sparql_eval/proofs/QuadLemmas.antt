@@ -16,7 +16,7 @@ use Rattle.rdf_terms.specs.declared.term.Term.{Term}
 use Rattle.rdf_dataset.specs.Insertion.{names_in, with_all}
 use Rattle.rdf_dataset.specs.Sorted.{AppendsOnce}
 use Rattle.rdf_dataset.specs.State.{Names, Quads, State, IsSound, matches, with_graph, with_name, with_quad, without_quad}
-use Rattle.rdf_dataset.proofs.InsertionLemmas.{with_all-more, with_all-nothing}
+use Rattle.rdf_dataset.proofs.CallerLemmas.{with_all-more, with_all-nothing}
 use Rattle.sparql_eval.specs.Graphs.{quad_in, quads_in, quads_of, same_graph}
 use Rattle.sparql_eval.specs.Operations.{added, without_all}
 use Rattle.sparql_eval.specs.Inside.Staging.{emptied}

@@ -5,7 +5,7 @@ use Rattle.rdf_grammar.specs.Readings.{any}
 use Rattle.rdf_grammar.specs.Terminals.{next_terminal}
 use Rattle.rdf_grammar.specs.Derivations as grammar
 use Rattle.rdf_grammar.specs.Derivations.{Then}
-use Rattle.rdf_grammar.proofs.Decides.{Decides}
+use Rattle.rdf_grammar.proofs.CallerLemmas.{Decides}
 use Rattle.sparql_terminals.specs.declared.terminal.Terminal.{Terminal}
 use Rattle.sparql_terminals.specs.declared.terminal.Terminal.TheVariants as terminal
 use Rattle.sparql_terminals.specs.Lexemes.{Lexeme, Lexemes, Reading, Derives, Test}

@@ -4,14 +4,13 @@ use Rattle.rdf_grammar.specs.Nesting.{open_behind}
 use Rattle.rdf_grammar.specs.Derivations as grammar
 use Rattle.rdf_grammar.specs.Derivations.{Then, Star}
 use Rattle.rdf_grammar.specs.declared.tree.Literal.TheVariants as l
-use Rattle.rdf_grammar.proofs.Nests.{Keeps, then_keeps, pure_keeps, or_keeps, map_keeps, behind_keeps, word_keeps, leaf_keeps, star_keeps, one_keeps, value_keeps, enclosed}
-use Rattle.rdf_grammar.proofs.ProductionNests as shared
+use Rattle.rdf_grammar.proofs.CallerLemmas.{Keeps, then_keeps, pure_keeps, or_keeps, map_keeps, behind_keeps, word_keeps, leaf_keeps, star_keeps, one_keeps, value_keeps, enclosed}
+use Rattle.rdf_grammar.proofs.CallerLemmas as shared
 use Rattle.sparql_terminals.specs.declared.terminal.Terminal.{Terminal}
 use Rattle.sparql_terminals.specs.declared.terminal.Terminal.TheVariants as terminal
 use Rattle.sparql_terminals.specs.Lexemes.{Derives}
 use Rattle.sparql_terminals.specs.Terminals.{bracket, word}
-use Rattle.sparql_terminals.proofs.GrammarWords.{plain}
-use Rattle.sparql_terminals.proofs.Shifts.{kept, keeps, then_shifts, the_shifts, closed}
+use Rattle.sparql_terminals.proofs.CallerLemmas.{plain, kept, keeps, then_shifts, the_shifts, closed}
 use Rattle.sparql_trees.specs.declared.expression.Comparison.TheVariants as c
 use Rattle.sparql_trees.specs.declared.expression.Function.TheVariants as f
 use Rattle.sparql_trees.specs.declared.expression.Sign.TheVariants.{Plus, Minus}

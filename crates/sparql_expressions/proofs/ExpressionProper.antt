@@ -10,8 +10,7 @@ use Rattle.rdf_grammar.specs.Literals.{proper_literal}
 use Rattle.sparql_terminals.specs.declared.terminal.Terminal.{Terminal}
 use Rattle.sparql_terminals.specs.declared.terminal.Terminal.TheVariants as terminal
 use Rattle.sparql_terminals.specs.Lexemes.{Derives}
-use Rattle.sparql_terminals.proofs.Yields.{Yields, Any, then_gives, pure_gives, or_gives, value_gives, map_gives, behind_gives, closed_gives, star_gives, one_gives}
-use Rattle.sparql_terminals.proofs.WordYields.{Passes, iri_gives, literal_gives}
+use Rattle.sparql_terminals.proofs.CallerLemmas.{Yields, Any, then_gives, pure_gives, or_gives, value_gives, map_gives, behind_gives, closed_gives, star_gives, one_gives, Passes, iri_gives, literal_gives}
 use Rattle.sparql_trees.specs.declared.expression.Comparison.{Comparison}
 use Rattle.sparql_trees.specs.declared.expression.Comparison.TheVariants as c
 use Rattle.sparql_trees.specs.declared.expression.Function.{Function}

@@ -9,9 +9,7 @@ use Rattle.rdf_grammar.specs.Derivations as grammar
 use Rattle.rdf_grammar.specs.Derivations.{◌>>=◌, ◌>>◌, ◌<$>◌, ◌∣◌, pure, the, value, Then, Star, stop, more}
 use Rattle.rdf_grammar.specs.declared.tree.Literal.{Literal}
 use Rattle.rdf_grammar.specs.declared.tree.Literal.TheVariants as l
-use Rattle.rdf_grammar.proofs.Combinators.{one_decides, seq, last, also}
-use Rattle.rdf_grammar.proofs.Decides.{always, Decides, then_decides, pure_decides, repeat_decides, some_pair}
-use Rattle.rdf_grammar.proofs.Terminals.{the_decides, value_decides, after_terminal, the_terminal, value_terminal, any_the}
+use Rattle.rdf_grammar.proofs.CallerLemmas.{one_decides, seq, last, also, always, Decides, then_decides, pure_decides, repeat_decides, some_pair, the_decides, value_decides, after_terminal, the_terminal, value_terminal, any_the}
 use Rattle.sparql_terminals.specs.declared.terminal.Terminal.{Terminal}
 use Rattle.sparql_terminals.specs.declared.terminal.Terminal.TheVariants as terminal
 use Rattle.sparql_terminals.specs.Lexemes as lexemes
@@ -19,8 +17,7 @@ use Rattle.sparql_terminals.specs.Lexemes.{Lexemes, Reading, Derives, Test}
 use Rattle.sparql_terminals.specs.Terminals.{same_terminal, apart}
 use Rattle.sparql_terminals.specs.WordGrammar.{Iri, ALiteral}
 use Rattle.sparql_terminals.specs.WordReading.{iri, literal}
-use Rattle.sparql_terminals.proofs.GrammarWords.{iri_terminal, iri_passes, iri_decides, iri_strict, after_node, literal_decides, literal_strict, begins_literal, literal_begins}
-use Rattle.sparql_terminals.proofs.Keywords.{keyword_sound, keyword_complete, keyword_terminal, keyword_strict}
+use Rattle.sparql_terminals.proofs.CallerLemmas.{iri_terminal, iri_passes, iri_decides, iri_strict, after_node, literal_decides, literal_strict, begins_literal, literal_begins, keyword_sound, keyword_complete, keyword_terminal, keyword_strict}
 use Rattle.sparql_trees.specs.declared.expression.Comparison.{Comparison}
 use Rattle.sparql_trees.specs.declared.expression.Function.{Function}
 use Rattle.sparql_trees.specs.declared.expression.Sign.{Sign}

@@ -3,8 +3,7 @@ use Rattle.std.proofs.Common.{◌∙◌, sym, refl, ℕ, zero, suc, ◌+◌, ◌
 use Rattle.rdf_grammar.specs.declared.bracket.Bracket.{Bracket}
 use Rattle.rdf_grammar.specs.declared.bracket.Bracket.TheVariants.{Opens, Closes, Neither}
 use Rattle.rdf_grammar.specs.Nesting.{behind_bracket, open_behind, open_after}
-use Rattle.rdf_grammar.proofs.Decides.{some_pair}
-use Rattle.rdf_grammar.proofs.Nests.{Keeps}
+use Rattle.rdf_grammar.proofs.CallerLemmas.{some_pair, Keeps}
 use Rattle.sparql_terminals.specs.Lexemes.{Lexemes}
 use Rattle.sparql_terminals.specs.Terminals.{bracket}
 use Rattle.sparql_expressions.specs.declared.tree.Expression.{Expression}

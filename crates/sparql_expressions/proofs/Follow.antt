@@ -6,14 +6,13 @@ use Rattle.rdf_grammar.specs.Steps as steps
 use Rattle.rdf_grammar.specs.Terminals.{next_terminal}
 use Rattle.rdf_grammar.specs.Derivations as grammar
 use Rattle.rdf_grammar.specs.Derivations.{Then, Star, stop, more}
-use Rattle.rdf_grammar.proofs.Decides.{Decides, then_decides, pure_decides}
-use Rattle.rdf_grammar.proofs.Lists.{MayPart, each_behind_decides, each_behind_begins}
+use Rattle.rdf_grammar.proofs.CallerLemmas.{Decides, then_decides, pure_decides, MayPart, each_behind_decides, each_behind_begins}
 use Rattle.sparql_terminals.specs.declared.terminal.Terminal.{Terminal}
 use Rattle.sparql_terminals.specs.declared.terminal.Terminal.TheVariants as terminal
 use Rattle.sparql_terminals.specs.Lexemes as lexemes
 use Rattle.sparql_terminals.specs.Lexemes.{Lexemes, Reading, Derives, Test, sees}
 use Rattle.sparql_terminals.specs.Terminals.{same_terminal, apart}
-use Rattle.sparql_terminals.proofs.GrammarWords.{ends_node, after_node}
+use Rattle.sparql_terminals.proofs.CallerLemmas.{ends_node, after_node}
 use Rattle.sparql_trees.specs.declared.expression.Comparison.{Comparison}
 use Rattle.sparql_expressions.specs.ExpressionReading.{comparison_by, begins_addend, sees_addend}
 

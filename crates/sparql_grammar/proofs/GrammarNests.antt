@@ -2,8 +2,8 @@
 use Rattle.std.proofs.Common.{◌≡◌, ℕ, zero, suc, ◌+◌, ◌-◌, ◌≤◌, [], ◌∷◌, refl, arith}
 use Rattle.std.specs.Prelude.{is_some, option_to_list}
 use Rattle.rdf_grammar.specs.Derivations as grammar
-use Rattle.rdf_grammar.proofs.Nests.{Keeps, then_keeps, pure_keeps, or_keeps, the_keeps, map_keeps, behind_keeps, word_keeps, leaf_keeps, maybe_keeps, star_keeps, one_keeps}
-use Rattle.rdf_grammar.proofs.ProductionNests as shared
+use Rattle.rdf_grammar.proofs.CallerLemmas.{Keeps, then_keeps, pure_keeps, or_keeps, the_keeps, map_keeps, behind_keeps, word_keeps, leaf_keeps, maybe_keeps, star_keeps, one_keeps}
+use Rattle.rdf_grammar.proofs.CallerLemmas as shared
 use Rattle.sparql_terminals.specs.declared.terminal.Terminal.{Terminal}
 use Rattle.sparql_terminals.specs.declared.terminal.Terminal.TheVariants as terminal
 use Rattle.sparql_grammar.specs.declared.tree.Node.{Node}
@@ -15,8 +15,7 @@ use Rattle.sparql_terminals.specs.Terminals.{bracket, word}
 use Rattle.sparql_grammar.specs.Reading as read
 use Rattle.sparql_terminals.specs.WordGrammar.{Iri, ALiteral}
 use Rattle.sparql_grammar.specs.Grammar as g
-use Rattle.sparql_terminals.proofs.GrammarWords.{plain}
-use Rattle.sparql_terminals.proofs.Shifts.{kept, keeps, then_shifts, value_shifts, closed}
+use Rattle.sparql_terminals.proofs.CallerLemmas.{plain, kept, keeps, then_shifts, value_shifts, closed}
 
 module _ (limit b : ℕ) where
   pub perhaps_keeps : (k : Terminal) → Keeps bracket limit b (grammar.the k) (grammar.the k) → Keeps bracket limit b (g.Perhaps k) (g.Perhaps k)

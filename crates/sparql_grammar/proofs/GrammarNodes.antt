@@ -6,10 +6,7 @@ use Rattle.rdf_grammar.specs.Readings as reading
 use Rattle.rdf_grammar.specs.Terminals.{Slice, next_terminal}
 use Rattle.rdf_grammar.specs.Derivations as grammar
 use Rattle.rdf_grammar.specs.Derivations.{Then, Star, stop, more}
-use Rattle.rdf_grammar.proofs.Decides.{always, Decides, then_decides, pure_decides, repeat_decides}
-use Rattle.rdf_grammar.proofs.Lists.{MayPart, seen_passes, separated_decides, separated_loosely_decides}
-use Rattle.rdf_grammar.proofs.Terminals.{the_decides, value_decides, the_terminal, value_terminal, terminal_seen, seen_terminal, word_sound, word_complete, word_strict}
-use Rattle.rdf_grammar.proofs.Combinators.{one_decides, seq, last, also, maybe_decides}
+use Rattle.rdf_grammar.proofs.CallerLemmas.{always, Decides, then_decides, pure_decides, repeat_decides, MayPart, seen_passes, separated_decides, separated_loosely_decides, the_decides, value_decides, the_terminal, value_terminal, terminal_seen, seen_terminal, word_sound, word_complete, word_strict, one_decides, seq, last, also, maybe_decides}
 use Rattle.sparql_terminals.specs.declared.terminal.Terminal.{Terminal}
 use Rattle.sparql_terminals.specs.declared.terminal.Terminal.TheVariants as terminal
 use Rattle.sparql_grammar.specs.declared.tree.Node.{Node}
@@ -26,7 +23,7 @@ use Rattle.sparql_grammar.specs.Reading as read
 use Rattle.sparql_terminals.specs.WordReading as word
 use Rattle.sparql_grammar.specs.Grammar as g
 use Rattle.sparql_terminals.specs.WordGrammar.{Iri, ALiteral}
-use Rattle.sparql_terminals.proofs.GrammarWords.{iri_passes, iri_strict, iri_decides, ends_node, after_node, literal_decides, literal_strict, begins_literal, literal_begins}
+use Rattle.sparql_terminals.proofs.CallerLemmas.{iri_passes, iri_strict, iri_decides, ends_node, after_node, literal_decides, literal_strict, begins_literal, literal_begins}
 
 -- ---- names and variables
 

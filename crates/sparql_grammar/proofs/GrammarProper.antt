@@ -22,9 +22,8 @@ use Rattle.rdf_grammar.specs.Literals.{proper_literal}
 use Rattle.sparql_grammar.specs.Proper.{holds, is_filled, stands_alone, proper_verb, proper_node_of, proper_property_of, proper_node, proper_property, proper_triples, proper_var_or_iri}
 use Rattle.sparql_grammar.specs.Reading as read
 use Rattle.sparql_grammar.specs.Grammar as g
-use Rattle.sparql_terminals.proofs.Yields.{Yields, Any, IsGoodOption, then_gives, pure_gives, or_gives, also_gives, the_gives, value_gives, map_gives, behind_gives, closed_gives, maybe_gives, star_gives, one_gives}
+use Rattle.sparql_terminals.proofs.CallerLemmas.{Yields, Any, IsGoodOption, then_gives, pure_gives, or_gives, also_gives, the_gives, value_gives, map_gives, behind_gives, closed_gives, maybe_gives, star_gives, one_gives, Passes, iri_gives, literal_gives}
 use Rattle.sparql_grammar.proofs.GrammarTriples.{node_alone}
-use Rattle.sparql_terminals.proofs.WordYields.{Passes, iri_gives, literal_gives}
 use Rattle.sparql_grammar.proofs.Trees.{by-Variable, by-Name, by-Literal, by-Label, by-Blank, by-Collection, by-property, filled_map}
 
 pub perhaps_gives : (k : Terminal) → Yields (g.Perhaps k) Any

@@ -7,10 +7,7 @@ use Rattle.rdf_grammar.specs.Readings.{next}
 use Rattle.rdf_grammar.specs.Terminals.{next_terminal}
 use Rattle.rdf_grammar.specs.Derivations as grammar
 use Rattle.rdf_grammar.specs.Derivations.{Then, Star, stop, more}
-use Rattle.rdf_grammar.proofs.Decides.{always, Decides, then_decides, pure_decides, repeat_decides}
-use Rattle.rdf_grammar.proofs.Lists.{seen_passes}
-use Rattle.rdf_grammar.proofs.Terminals.{the_decides, after_terminal, starts_with, the_terminal, terminal_seen, unseen}
-use Rattle.rdf_grammar.proofs.Combinators.{one_decides, also, maybe_decides}
+use Rattle.rdf_grammar.proofs.CallerLemmas.{always, Decides, then_decides, pure_decides, repeat_decides, seen_passes, the_decides, after_terminal, starts_with, the_terminal, terminal_seen, unseen, one_decides, also, maybe_decides}
 use Rattle.sparql_terminals.specs.declared.terminal.Terminal.{Terminal}
 use Rattle.sparql_terminals.specs.declared.terminal.Terminal.TheVariants as terminal
 use Rattle.sparql_grammar.specs.declared.tree.Node.{Node}
@@ -22,7 +19,7 @@ use Rattle.sparql_terminals.specs.Terminals.{same_terminal, apart}
 use Rattle.sparql_grammar.specs.Proper.{is_filled, stands_alone}
 use Rattle.sparql_grammar.specs.Reading as read
 use Rattle.sparql_grammar.specs.Grammar as g
-use Rattle.sparql_terminals.proofs.GrammarWords.{after_node}
+use Rattle.sparql_terminals.proofs.CallerLemmas.{after_node}
 use Rattle.sparql_grammar.proofs.GrammarNodes.{closes_list, ends_list, IsNodeRule, node_rule, property_list_not_empty_decides, property_list_decides, not_empty_behind, list_behind}
 use Rattle.sparql_grammar.proofs.Trees.{alone_variable, alone_name, alone_literal, alone_label, alone_blank, alone_collection}
 

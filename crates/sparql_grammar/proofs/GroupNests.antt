@@ -3,7 +3,7 @@ use Rattle.std.proofs.Common.{◌≡◌, ℕ, zero, suc, ◌+◌, ◌-◌, ◌�
 use Rattle.std.specs.Prelude.{option_to_list}
 use Rattle.rdf_grammar.specs.Nesting.{open_behind}
 use Rattle.rdf_grammar.specs.Derivations as grammar
-use Rattle.rdf_grammar.proofs.Nests.{Keeps, Below, after, then_keeps, pure_keeps, or_keeps, the_keeps, map_keeps, behind_keeps, maybe_keeps, star_keeps, one_keeps, enclosed}
+use Rattle.rdf_grammar.proofs.CallerLemmas.{Keeps, Below, after, then_keeps, pure_keeps, or_keeps, the_keeps, map_keeps, behind_keeps, maybe_keeps, star_keeps, one_keeps, enclosed}
 use Rattle.sparql_terminals.specs.declared.terminal.Terminal.TheVariants as terminal
 use Rattle.sparql_expressions.specs.declared.tree.Expression.{Expression}
 use Rattle.sparql_expressions.specs.ExpressionGrammar.{Constraint, Expressions_at}

@@ -6,10 +6,7 @@ use Rattle.rdf_grammar.specs.Readings as reading
 use Rattle.rdf_grammar.specs.Terminals.{next_terminal}
 use Rattle.rdf_grammar.specs.Derivations as grammar
 use Rattle.rdf_grammar.specs.Derivations.{Then, Star, stop, more}
-use Rattle.rdf_grammar.proofs.Combinators.{seq, last, maybe_decides}
-use Rattle.rdf_grammar.proofs.Decides.{always, Decides, then_decides, pure_decides, repeat_decides}
-use Rattle.rdf_grammar.proofs.Lists.{MayPart, each_behind_decides}
-use Rattle.rdf_grammar.proofs.Terminals.{the_decides, the_terminal, terminal_seen, seen_terminal, unseen}
+use Rattle.rdf_grammar.proofs.CallerLemmas.{seq, last, maybe_decides, always, Decides, then_decides, pure_decides, repeat_decides, MayPart, each_behind_decides, the_decides, the_terminal, terminal_seen, seen_terminal, unseen}
 use Rattle.sparql_terminals.specs.declared.terminal.Terminal.{Terminal}
 use Rattle.sparql_terminals.specs.declared.terminal.Terminal.TheVariants as terminal
 use Rattle.sparql_expressions.specs.declared.tree.Expression.{Expression}
@@ -27,7 +24,7 @@ use Rattle.sparql_terminals.specs.Lexemes.{Lexemes, Reading, sees, Derives, Test
 use Rattle.sparql_grammar.specs.Reading.{begins_node, perhaps, sees_node}
 use Rattle.sparql_terminals.specs.Terminals.{same_terminal, apart}
 use Rattle.sparql_grammar.proofs.GrammarNodes.{var_or_iri_decides}
-use Rattle.sparql_terminals.proofs.Keywords.{keyword_sound, keyword_complete, keyword_terminal, keyword_strict}
+use Rattle.sparql_terminals.proofs.CallerLemmas.{keyword_sound, keyword_complete, keyword_terminal, keyword_strict}
 use Rattle.sparql_grammar.proofs.OperationData.{no_dot, ends_dot, node_no_dot}
 use Rattle.sparql_grammar.proofs.OperationProductions.{perhaps_decides, perhaps_terminal}
 

@@ -22,8 +22,7 @@ use Rattle.sparql_grammar.specs.GroupGrammar as groups
 use Rattle.sparql_grammar.specs.GroupReading.{filters_of, group_with, members_behind, together}
 use Rattle.sparql_terminals.specs.Lexemes.{Derives}
 use Rattle.sparql_grammar.specs.Proper.{holds, is_filled, proper_triples, proper_var_or_iri, proper_group_of, proper_member_of, proper_group, proper_member}
-use Rattle.sparql_terminals.proofs.Yields.{Yields, Any, IsGoodOption, good_joined, then_gives, pure_gives, or_gives, also_gives, map_gives, behind_gives, closed_gives, maybe_gives, star_gives, one_gives}
-use Rattle.sparql_terminals.proofs.WordYields.{Passes}
+use Rattle.sparql_terminals.proofs.CallerLemmas.{Yields, Any, IsGoodOption, good_joined, then_gives, pure_gives, or_gives, also_gives, map_gives, behind_gives, closed_gives, maybe_gives, star_gives, one_gives, Passes}
 use Rattle.sparql_grammar.proofs.GrammarProper.{Some_pass, all_pass, perhaps_gives, var_or_iri_gives, triples_give}
 use Rattle.sparql_grammar.proofs.Trees.{filled_map}
 

@@ -2,7 +2,7 @@
 use Rattle.std.proofs.Common.{◌≡◌, ◌<◌, Bool, true, false, cond, List, [], ◌∷◌, ◌++◌, length, Option, Some, None, refl, sym, ◌∙◌, ap, arith}
 use Rattle.std.specs.Prelude.{option_to_list}
 use Rattle.rdf_grammar.specs.Readings.{next, repeat}
-use Rattle.rdf_grammar.proofs.Repeats.{Going, going_starts, going_on, going_done}
+use Rattle.rdf_grammar.proofs.CallerLemmas.{Going, going_starts, going_on, going_done}
 use Rattle.sparql_expressions.specs.declared.tree.Expression.{Expression}
 use Rattle.sparql_terminals.specs.declared.terminal.Terminal.TheVariants as terminal
 use Rattle.sparql_grammar.specs.Bodies.{IsEmpty, put, put_some, group_of}

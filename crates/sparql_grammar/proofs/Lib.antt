@@ -1,26 +1,27 @@
-pub mod BodyLemmas
-pub mod GrammarNests
-pub mod GrammarNodes
-pub mod GrammarProper
-pub mod GrammarTriples
-pub mod GroupElements
-pub mod GroupNests
-pub mod GroupProductions
-pub mod GroupProper
-pub mod GroupTurns
-pub mod GroupWhole
-pub mod OperationData
-pub mod OperationNests
-pub mod OperationParts
-pub mod OperationProductions
-pub mod OperationProper
-pub mod OperationTemplates
-pub mod OperationTurns
-pub mod OperationWhole
-pub mod PrologueProductions
-pub mod QuadProductions
-pub mod QueryProductions
-pub mod QueryProper
-pub mod QueryWhole
-pub mod Trees
-pub mod Turns
+mod BodyLemmas
+pub mod CallerLemmas
+mod GrammarNests
+mod GrammarNodes
+mod GrammarProper
+mod GrammarTriples
+mod GroupElements
+mod GroupNests
+mod GroupProductions
+mod GroupProper
+mod GroupTurns
+mod GroupWhole
+mod OperationData
+mod OperationNests
+mod OperationParts
+mod OperationProductions
+mod OperationProper
+mod OperationTemplates
+mod OperationTurns
+mod OperationWhole
+mod PrologueProductions
+mod QuadProductions
+mod QueryProductions
+mod QueryProper
+mod QueryWhole
+mod Trees
+mod Turns

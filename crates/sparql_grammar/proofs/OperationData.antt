@@ -4,9 +4,7 @@ use Rattle.rdf_grammar.specs.Readings as reading
 use Rattle.rdf_grammar.specs.Terminals.{next_terminal}
 use Rattle.rdf_grammar.specs.Derivations as grammar
 use Rattle.rdf_grammar.specs.Derivations.{Then, Star, stop, more}
-use Rattle.rdf_grammar.proofs.Combinators.{seq, last, maybe_decides}
-use Rattle.rdf_grammar.proofs.Decides.{always, Decides, then_decides, pure_decides, repeat_decides}
-use Rattle.rdf_grammar.proofs.Terminals.{the_decides, the_terminal, terminal_seen, seen_terminal, unseen}
+use Rattle.rdf_grammar.proofs.CallerLemmas.{seq, last, maybe_decides, always, Decides, then_decides, pure_decides, repeat_decides, the_decides, the_terminal, terminal_seen, seen_terminal, unseen}
 use Rattle.sparql_terminals.specs.declared.terminal.Terminal.{Terminal}
 use Rattle.sparql_terminals.specs.declared.terminal.Terminal.TheVariants as terminal
 use Rattle.sparql_grammar.specs.declared.tree.Block.{Block}

@@ -6,9 +6,7 @@ use Rattle.rdf_grammar.specs.Readings as reading
 use Rattle.rdf_grammar.specs.Readings.{any, is_more}
 use Rattle.rdf_grammar.specs.Derivations as grammar
 use Rattle.rdf_grammar.specs.Derivations.{Then, Star, stop, more}
-use Rattle.rdf_grammar.proofs.Combinators.{one_decides, seq, last, choose_decides}
-use Rattle.rdf_grammar.proofs.Decides.{always, Decides, some_pair, pure_decides, repeat_decides}
-use Rattle.rdf_grammar.proofs.Terminals.{the_decides}
+use Rattle.rdf_grammar.proofs.CallerLemmas.{one_decides, seq, last, choose_decides, always, Decides, some_pair, pure_decides, repeat_decides, the_decides}
 use Rattle.sparql_terminals.specs.declared.terminal.Terminal.TheVariants as terminal
 use Rattle.sparql_grammar.specs.declared.tree.Declaration.{Declaration}
 use Rattle.sparql_grammar.specs.declared.tree.Group.{Group}

@@ -9,9 +9,7 @@ use Rattle.rdf_grammar.specs.Terminals as front
 use Rattle.rdf_grammar.specs.Terminals.{next_terminal}
 use Rattle.rdf_grammar.specs.Derivations as grammar
 use Rattle.rdf_grammar.specs.Derivations.{Then}
-use Rattle.rdf_grammar.proofs.Combinators.{seq, last, maybe_decides}
-use Rattle.rdf_grammar.proofs.Decides.{always, Decides, then_decides, pure_decides}
-use Rattle.rdf_grammar.proofs.Terminals.{the_decides, after_terminal, the_terminal, terminal_seen, unseen, word_sound, word_complete, word_strict}
+use Rattle.rdf_grammar.proofs.CallerLemmas.{seq, last, maybe_decides, always, Decides, then_decides, pure_decides, the_decides, after_terminal, the_terminal, terminal_seen, unseen, word_sound, word_complete, word_strict}
 use Rattle.sparql_terminals.specs.declared.terminal.Terminal.{Terminal}
 use Rattle.sparql_terminals.specs.declared.terminal.Terminal.TheVariants as terminal
 use Rattle.sparql_grammar.specs.declared.tree.GraphOrDefault.{GraphOrDefault}
@@ -29,8 +27,7 @@ use Rattle.sparql_grammar.specs.Reading.{perhaps}
 use Rattle.sparql_terminals.specs.Terminals.{same_terminal, apart}
 use Rattle.sparql_terminals.specs.WordGrammar.{Iri}
 use Rattle.sparql_terminals.specs.WordReading.{iri}
-use Rattle.sparql_terminals.proofs.Keywords.{keyword_sound, keyword_complete, keyword_terminal, keyword_strict}
-use Rattle.sparql_terminals.proofs.GrammarWords.{iri_terminal, iri_decides}
+use Rattle.sparql_terminals.proofs.CallerLemmas.{keyword_sound, keyword_complete, keyword_terminal, keyword_strict, iri_terminal, iri_decides}
 
 -- ---- a lexeme that may be missing
 

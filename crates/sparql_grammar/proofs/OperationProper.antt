@@ -6,7 +6,7 @@ use Rattle.rdf_grammar.specs.declared.tree.Name.{Name}
 use Rattle.rdf_grammar.specs.Derivations as grammar
 use Rattle.rdf_grammar.specs.Derivations.{Star}
 use Rattle.rdf_grammar.specs.Prologue.{is_proper}
-use Rattle.rdf_grammar.proofs.LexemeLemmas.{lexemes_have_forms}
+use Rattle.rdf_grammar.proofs.CallerLemmas.{lexemes_have_forms}
 use Rattle.sparql_terminals.specs.declared.terminal.Terminal.{Terminal}
 use Rattle.sparql_terminals.specs.declared.terminal.Terminal.TheVariants as terminal
 use Rattle.sparql_grammar.specs.declared.tree.Block.{Block}
@@ -31,9 +31,7 @@ use Rattle.sparql_grammar.specs.Proper.{holds, proper_triples, proper_var_or_iri
 use Rattle.sparql_grammar.specs.Reading.{all_of}
 use Rattle.sparql_grammar.specs.RequestLaws.{RequestsAreProper}
 use Rattle.sparql_terminals.specs.Terminals.{terminal_by}
-use Rattle.sparql_terminals.proofs.FormedSlices.{lexemes_formed}
-use Rattle.sparql_terminals.proofs.Yields.{Yields, Any, IsGoodOption, then_gives, pure_gives, or_gives, the_gives, map_gives, behind_gives, closed_gives, maybe_gives, star_gives, one_gives}
-use Rattle.sparql_terminals.proofs.WordYields.{Passes, iri_gives}
+use Rattle.sparql_terminals.proofs.CallerLemmas.{lexemes_formed, Yields, Any, IsGoodOption, then_gives, pure_gives, or_gives, the_gives, map_gives, behind_gives, closed_gives, maybe_gives, star_gives, one_gives, Passes, iri_gives}
 use Rattle.sparql_grammar.proofs.GrammarProper.{all_pass, perhaps_gives, var_or_iri_gives, triples_give}
 use Rattle.sparql_grammar.proofs.GroupProper.{group_at_gives}
 use Rattle.sparql_grammar.proofs.OperationNests.{PartsAt}

@@ -6,9 +6,7 @@ use Rattle.rdf_grammar.specs.Readings as reading
 use Rattle.rdf_grammar.specs.Terminals.{next_terminal}
 use Rattle.rdf_grammar.specs.Derivations as grammar
 use Rattle.rdf_grammar.specs.Derivations.{Then}
-use Rattle.rdf_grammar.proofs.Combinators.{seq, last, maybe_decides}
-use Rattle.rdf_grammar.proofs.Decides.{always, Decides, then_decides, pure_decides}
-use Rattle.rdf_grammar.proofs.Terminals.{the_decides, after_terminal, the_terminal, terminal_seen, unseen}
+use Rattle.rdf_grammar.proofs.CallerLemmas.{seq, last, maybe_decides, always, Decides, then_decides, pure_decides, the_decides, after_terminal, the_terminal, terminal_seen, unseen}
 use Rattle.sparql_terminals.specs.declared.terminal.Terminal.{Terminal}
 use Rattle.sparql_terminals.specs.declared.terminal.Terminal.TheVariants as terminal
 use Rattle.sparql_grammar.specs.declared.tree.Block.{Block}
@@ -26,7 +24,7 @@ use Rattle.sparql_grammar.specs.Reading.{all_of}
 use Rattle.sparql_terminals.specs.Terminals.{same_terminal, apart}
 use Rattle.sparql_terminals.specs.WordGrammar.{Iri}
 use Rattle.sparql_terminals.specs.WordReading.{iri}
-use Rattle.sparql_terminals.proofs.GrammarWords.{iri_decides}
+use Rattle.sparql_terminals.proofs.CallerLemmas.{iri_decides}
 use Rattle.sparql_grammar.proofs.GroupProductions.{IsGroupRule}
 use Rattle.sparql_grammar.proofs.OperationData.{IsTemplateRule, quad_pattern_decides, quad_pattern_opens, data_decides}
 use Rattle.sparql_grammar.proofs.OperationProductions.{begins_graph_operation, graph_operation_begins, graph_operation_decides, graph_operation_strict}

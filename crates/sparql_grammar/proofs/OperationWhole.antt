@@ -5,8 +5,7 @@ use Rattle.rdf_grammar.specs.declared.fault.GrammarFault.{GrammarFault}
 use Rattle.rdf_grammar.specs.declared.fault.GrammarFault.TheVariants.{Syntax, NoMemory}
 use Rattle.rdf_grammar.specs.Readings.{Fails}
 use Rattle.rdf_grammar.specs.Terminals.{next_terminal}
-use Rattle.rdf_grammar.proofs.Decides.{some_pair}
-use Rattle.rdf_grammar.proofs.Depths.{never_more}
+use Rattle.rdf_grammar.proofs.CallerLemmas.{some_pair, never_more}
 use Rattle.sparql_terminals.specs.declared.terminal.Terminal.{Terminal}
 use Rattle.sparql_terminals.specs.declared.terminal.Terminal.TheVariants as terminal
 use Rattle.sparql_grammar.specs.declared.tree.Operation.{Operation}

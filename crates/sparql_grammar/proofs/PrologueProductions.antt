@@ -2,11 +2,8 @@
 use Rattle.std.proofs.Common.{◌≡◌, ℕ, ◌<◌, true, false, List, length, Option, Some, refl, ap, arith, inl, inr}
 use Rattle.rdf_grammar.specs.Terminals.{next_terminal}
 use Rattle.rdf_grammar.specs.Derivations as grammar
-use Rattle.rdf_grammar.proofs.Combinators.{one_decides, last}
-use Rattle.rdf_grammar.proofs.Decides.{always, Decides, repeat_decides}
-use Rattle.rdf_grammar.proofs.Nests.{Keeps, or_keeps, map_keeps, behind_keeps, leaf_keeps, star_keeps, one_keeps}
-use Rattle.rdf_grammar.proofs.ProductionNests as shared
-use Rattle.rdf_grammar.proofs.Terminals.{value_decides}
+use Rattle.rdf_grammar.proofs.CallerLemmas.{one_decides, last, always, Decides, repeat_decides, Keeps, or_keeps, map_keeps, behind_keeps, leaf_keeps, star_keeps, one_keeps, value_decides}
+use Rattle.rdf_grammar.proofs.CallerLemmas as shared
 use Rattle.sparql_terminals.specs.declared.terminal.Terminal.{Terminal}
 use Rattle.sparql_terminals.specs.declared.terminal.Terminal.TheVariants as terminal
 use Rattle.sparql_grammar.specs.declared.tree.Declaration.{Declaration}
@@ -16,10 +13,7 @@ use Rattle.sparql_grammar.specs.PrologueGrammar.{BaseDecl, PrefixDecl, Prologue}
 use Rattle.sparql_grammar.specs.PrologueReading as read
 use Rattle.sparql_terminals.specs.Terminals.{same_terminal, apart, bracket, word}
 use Rattle.sparql_terminals.specs.WordGrammar.{Binding}
-use Rattle.sparql_terminals.proofs.GrammarWords.{binding_decides, plain}
-use Rattle.sparql_terminals.proofs.Yields.{Yields, Any, or_gives, value_gives, map_gives, behind_gives}
-use Rattle.sparql_terminals.proofs.WordYields.{binding_gives}
-use Rattle.sparql_terminals.proofs.Keywords.{keyword_sound, keyword_complete, keyword_terminal, keyword_strict}
+use Rattle.sparql_terminals.proofs.CallerLemmas.{binding_decides, plain, Yields, Any, or_gives, value_gives, map_gives, behind_gives, binding_gives, keyword_sound, keyword_complete, keyword_terminal, keyword_strict}
 
 -- ---- declarations
 

@@ -6,9 +6,7 @@ use Rattle.std.specs.Prelude.{option_to_list}
 use Rattle.std.specs.List.{flat_map}
 use Rattle.rdf_grammar.specs.Derivations as grammar
 use Rattle.rdf_grammar.specs.Derivations.{Star, stop, more}
-use Rattle.rdf_grammar.proofs.Decides.{some_pair}
-use Rattle.rdf_grammar.proofs.Depths.{never_more}
-use Rattle.rdf_grammar.proofs.Nests.{Keeps}
+use Rattle.rdf_grammar.proofs.CallerLemmas.{some_pair, never_more, Keeps}
 use Rattle.sparql_expressions.specs.declared.tree.Expression.{Expression}
 use Rattle.sparql_expressions.specs.ExpressionGrammar.{Constraint, Expressions_at}
 use Rattle.sparql_grammar.specs.declared.tree.Block.{Block}

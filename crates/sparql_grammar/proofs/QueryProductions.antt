@@ -5,9 +5,7 @@ use Rattle.rdf_grammar.specs.Readings as reading
 use Rattle.rdf_grammar.specs.Terminals.{Slice, next_terminal}
 use Rattle.rdf_grammar.specs.Derivations as grammar
 use Rattle.rdf_grammar.specs.Derivations.{Star}
-use Rattle.rdf_grammar.proofs.Combinators.{one_decides, seq, last}
-use Rattle.rdf_grammar.proofs.Decides.{always, Decides, some_pair, then_decides, pure_decides, repeat_decides}
-use Rattle.rdf_grammar.proofs.Terminals.{value_decides, value_terminal, the_terminal, terminal_seen, unseen, word_sound, word_complete, word_strict}
+use Rattle.rdf_grammar.proofs.CallerLemmas.{one_decides, seq, last, always, Decides, some_pair, then_decides, pure_decides, repeat_decides, value_decides, value_terminal, the_terminal, terminal_seen, unseen, word_sound, word_complete, word_strict}
 use Rattle.sparql_terminals.specs.declared.terminal.Terminal.{Terminal}
 use Rattle.sparql_terminals.specs.declared.terminal.Terminal.TheVariants as terminal
 use Rattle.sparql_grammar.specs.declared.tree.Columns.{Columns}
@@ -25,7 +23,7 @@ use Rattle.sparql_grammar.specs.QueryGrammar as g
 use Rattle.sparql_grammar.specs.QueryReading as read
 use Rattle.sparql_terminals.specs.Terminals.{same_terminal, apart}
 use Rattle.sparql_grammar.proofs.GroupProductions.{IsGroupRule}
-use Rattle.sparql_terminals.proofs.Keywords.{keyword_sound, keyword_complete, keyword_terminal, keyword_strict}
+use Rattle.sparql_terminals.proofs.CallerLemmas.{keyword_sound, keyword_complete, keyword_terminal, keyword_strict}
 use Rattle.sparql_grammar.proofs.OperationParts.{Nothing}
 use Rattle.sparql_grammar.proofs.OperationProductions.{perhaps_decides, perhaps_terminal}
 use Rattle.sparql_grammar.proofs.PrologueProductions.{prologue_decides}

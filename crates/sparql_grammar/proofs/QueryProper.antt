@@ -2,7 +2,7 @@
 use Rattle.std.proofs.Common.{refl, [], ◌∷◌}
 use Rattle.std.proofs.lemmas.Bool.{and_from}
 use Rattle.std.specs.List.{AllByRecursion}
-use Rattle.rdf_grammar.proofs.LexemeLemmas.{lexemes_have_forms}
+use Rattle.rdf_grammar.proofs.CallerLemmas.{lexemes_have_forms}
 use Rattle.sparql_terminals.specs.declared.terminal.Terminal.TheVariants as terminal
 use Rattle.sparql_grammar.specs.declared.tree.Columns.TheVariants as c
 use Rattle.sparql_grammar.specs.declared.tree.Group.{Group}
@@ -14,9 +14,7 @@ use Rattle.sparql_grammar.specs.QueryGrammar as g
 use Rattle.sparql_grammar.specs.QueryLaws.{QueriesAreProper}
 use Rattle.sparql_grammar.specs.QueryReading.{query_with}
 use Rattle.sparql_terminals.specs.Terminals.{terminal_by}
-use Rattle.sparql_terminals.proofs.FormedSlices.{lexemes_formed}
-use Rattle.sparql_terminals.proofs.Yields.{Yields, Any, IsOf, then_gives, pure_gives, or_gives, value_gives, map_gives, behind_gives, closed_gives, star_gives, one_gives}
-use Rattle.sparql_terminals.proofs.WordYields.{Passes}
+use Rattle.sparql_terminals.proofs.CallerLemmas.{lexemes_formed, Yields, Any, IsOf, then_gives, pure_gives, or_gives, value_gives, map_gives, behind_gives, closed_gives, star_gives, one_gives, Passes}
 use Rattle.sparql_grammar.proofs.GrammarProper.{perhaps_gives}
 use Rattle.sparql_grammar.proofs.GroupProper.{group_at_gives}
 use Rattle.sparql_grammar.proofs.PrologueProductions.{declaration_gives}

@@ -5,9 +5,7 @@ use Rattle.rdf_grammar.specs.declared.fault.GrammarFault.TheVariants.{Syntax, No
 use Rattle.rdf_grammar.specs.Readings.{Fails}
 use Rattle.rdf_grammar.specs.Derivations as grammar
 use Rattle.rdf_grammar.specs.Derivations.{Star}
-use Rattle.rdf_grammar.proofs.Decides.{some_pair}
-use Rattle.rdf_grammar.proofs.Depths.{never_more}
-use Rattle.rdf_grammar.proofs.Nests.{Keeps, then_keeps, pure_keeps, or_keeps, the_keeps, value_keeps, map_keeps, behind_keeps, word_keeps, star_keeps, one_keeps}
+use Rattle.rdf_grammar.proofs.CallerLemmas.{some_pair, never_more, Keeps, then_keeps, pure_keeps, or_keeps, the_keeps, value_keeps, map_keeps, behind_keeps, word_keeps, star_keeps, one_keeps}
 use Rattle.sparql_terminals.specs.declared.terminal.Terminal.TheVariants as terminal
 use Rattle.sparql_grammar.specs.declared.tree.Columns.TheVariants as c
 use Rattle.sparql_grammar.specs.declared.tree.Group.{Group}

@@ -15,7 +15,7 @@ use Rattle.sparql_trees.specs.declared.expression.Comparison.{Comparison}
 use Rattle.sparql_trees.specs.declared.expression.Expression.TheVariants as e
 use Rattle.sparql_trees.specs.declared.expression.Expression.{Expression}
 use Rattle.sparql_trees.specs.declared.expression.Sign.{Sign}
-use Rattle.rdf_grammar.proofs.Members.{drop_is}
+use Rattle.rdf_grammar.proofs.CallerLemmas.{drop_is}
 
 -- these, and behind them the parts, where all are there
 abbrev pub all_behind : {A : Type 0} → List A → List (Option A) → Option (List A)

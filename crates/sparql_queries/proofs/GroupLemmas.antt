@@ -6,7 +6,7 @@ use Rattle.rdf_grammar.specs.Steps.{Outcome, Step, and_then, ◌>>=◌, pure}
 use Rattle.rdf_grammar.specs.declared.prologue.PrologueFault.{PrologueFault}
 use Rattle.rdf_grammar.specs.declared.prologue.PrologueFault.TheVariants.{UnknownPrefix, Relative, NoMemory}
 use Rattle.rdf_grammar.specs.Kept.{Fails, Gives, Tells}
-use Rattle.rdf_grammar.proofs.Members.{drop_is}
+use Rattle.rdf_grammar.proofs.CallerLemmas.{drop_is}
 use Rattle.sparql_grammar.specs.declared.tree.Group.{Group}
 use Rattle.sparql_grammar.specs.declared.tree.Member as written_member
 use Rattle.sparql_grammar.specs.declared.tree.Member.TheFolds.{fold-roll-Member, fold_out-Group}

@@ -3,8 +3,8 @@ use Rattle.std.proofs.Common.{◌≡◌, ◌∙◌, ap, sym, ℕ, List, [], ◌�
 use Rattle.std.specs.Prelude.{MatchOption}
 use Rattle.std.specs.Char.{encode_utf8}
 use Rattle.std.specs.Str.{chars, IsUtf8, encode_utf8_all}
-use Rattle.rdf_grammar.proofs.ScopeTexts.{bytes_of}
-use Rattle.rdf_terms.proofs.OneCharacterLemmas.{chars_step}
+use Rattle.rdf_grammar.proofs.CallerLemmas.{bytes_of}
+use Rattle.rdf_terms.proofs.CallerLemmas.{chars_step}
 use Rattle.sparql_queries.specs.Variables.{variable_name}
 
 behind_first : (o : Option ℕ) (now rest : List ℕ) → MatchOption o ((now ≡ []) × (rest ≡ [])) (λ c. now ≡ c ∷ rest) → encode_utf8_all rest ≡ variable_name now

@@ -19,7 +19,7 @@ use Rattle.sparql_grammar.specs.declared.tree.Triples.{Triples}
 use Rattle.sparql_grammar.specs.declared.tree.VarOrIri as written_name
 use Rattle.sparql_queries.specs.Collected.{collected, collected_behind}
 use Rattle.sparql_queries.specs.Groups.{Does, Labels, basic, graph_name, group, group_of, member_in, member_of, pattern_with}
-use Rattle.rdf_grammar.proofs.Members.{drop_is}
+use Rattle.rdf_grammar.proofs.CallerLemmas.{drop_is}
 use Rattle.sparql_queries.proofs.GroupLemmas.{filterless, filterless_fails, graph_said, graph_fails, name_fails}
 use Rattle.sparql_trees.specs.declared.pattern.BasicGraphPattern.{BasicGraphPattern}
 use Rattle.sparql_trees.specs.declared.pattern.Member.{Member}

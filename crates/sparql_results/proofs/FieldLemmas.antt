@@ -12,13 +12,7 @@ use Rattle.rdf_terms.specs.Term.{is_term}
 use Rattle.rdf_terms.specs.TermText.{escaped, suffix_text, term_text}
 use Rattle.rdf_terms.specs.declared.term.Term.{Term}
 use Rattle.rdf_terms.specs.declared.term.Term.TheVariants.{Blank, Iri, Literal}
-use Rattle.rdf_terms.proofs.SkipLemmas.{AllPass}
-use Rattle.rdf_terms.proofs.TagForms.{tag_name, is_tag_part, each_part}
-use Rattle.rdf_terms.proofs.TextLemmas.{texts_differ}
-use Rattle.rdf_terms.proofs.WrittenIriLemmas.{iri_allowed}
-use Rattle.rdf_terms.proofs.WrittenNumberLemmas.{is_digit, decimal_digits}
-use Rattle.rdf_terms.proofs.WrittenTermLemmas.{tag_parts, literal_parts}
-use Rattle.rdf_terms.proofs.WrittenTextLemmas.{by_escape}
+use Rattle.rdf_terms.proofs.CallerLemmas.{AllPass, tag_name, is_tag_part, each_part, texts_differ, iri_allowed, is_digit, decimal_digits, tag_parts, literal_parts, by_escape}
 use Rattle.sparql_results.specs.ResultsText.{field_text, without_tab}
 use Rattle.sparql_results.specs.RowLaws.{is_value}
 

@@ -1,6 +1,6 @@
 -- What stays of a list that only grows, step by step.
 use Rattle.std.proofs.Common.{◌≡◌, ◌∙◌, ap, sym, ℕ, List, ◌++◌, length, take, drop, take-append-drop, append_assoc}
-use Rattle.rdf_terms.proofs.WriteLemmas.{kept_on}
+use Rattle.rdf_terms.proofs.CallerLemmas.{kept_on}
 
 -- `new` begins with `mid`, and `mid` with `old`
 pub kept_through : (old mid new : List ℕ) → take (length old) mid ≡ old → take (length mid) new ≡ mid → take (length old) new ≡ old

@@ -3,7 +3,7 @@ use Rattle.std.proofs.Common.{◌≡◌, ◌<◌, ◌⊎◌, ◌≤◌, inl, inr
 use Rattle.std.proofs.lemmas.Bool.{cases_lt}
 use Rattle.std.specs.List.{slice_get}
 use Rattle.std.specs.Str.{chars, IsUtf8}
-use Rattle.rdf_grammar.proofs.TextLemmas as text_lemmas
+use Rattle.rdf_grammar.proofs.CallerLemmas as text_lemmas
 use Rattle.rdf_tokens.specs.declared.token.Token.{Token}
 use Rattle.rdf_tokens.specs.Lines.{line_of}
 use Rattle.rdf_tokens.proofs.CallerLemmas.{one_token_list}

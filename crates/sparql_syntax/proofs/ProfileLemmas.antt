@@ -3,13 +3,13 @@ use Rattle.std.proofs.Common.{◌≡◌, ◌≢◌, ◌<◌, ◌⊎◌, inl, inr
 use Rattle.std.specs.Prelude.{MatchBool}
 use Rattle.std.specs.List.{AllByRecursion, slice_get}
 use Rattle.std.specs.Str.{encode_utf8_all}
-use Rattle.rdf_grammar.proofs.TextLemmas.{no_other}
+use Rattle.rdf_grammar.proofs.CallerLemmas.{no_other}
 use Rattle.rdf_tokens.specs.declared.token.Kind.{Kind}
 use Rattle.rdf_tokens.specs.declared.token.Kind.TheVariants as kind
 use Rattle.rdf_tokens.specs.declared.token.Token.{Token}
 use Rattle.rdf_tokens.specs.Tokens.{HasItsForm}
 use Rattle.rdf_tokens.proofs.CallerLemmas.{token_stands}
-use Rattle.sparql_terminals.proofs.ProfileTokens.{word_tells}
+use Rattle.sparql_terminals.proofs.CallerLemmas.{word_tells}
 use Rattle.sparql_terminals.specs.Profile.{is_outside, IsOutside, AreInside, IsFirstOutside}
 
 -- a token before the place is within the profile

@@ -1,6 +1,6 @@
 -- Each text says one thing: it is a query, or it has a fault.
 use Rattle.std.proofs.Common.{◌≡◌, ◌⊎◌, inl, inr, ℕ, Bool, true, false, cond, List, [], ◌∷◌, Option, Some, None, Result, Ok, Err, refl, sym, subst}
-use Rattle.rdf_grammar.proofs.Decides.{some_pair}
+use Rattle.rdf_grammar.proofs.CallerLemmas.{some_pair}
 use Rattle.rdf_grammar.specs.declared.fault.GrammarFault.TheVariants.{Syntax}
 use Rattle.rdf_grammar.specs.Steps.{◌>>=◌, ◌>>◌, and_then, pure}
 use Rattle.sparql_grammar.specs.declared.tree.Declaration.{Declaration}
@@ -12,7 +12,7 @@ use Rattle.sparql_grammar.specs.QueryGrammar as grammar
 use Rattle.sparql_grammar.specs.GroupReading.{whole_group}
 use Rattle.sparql_grammar.specs.PrologueReading.{prologue}
 use Rattle.sparql_grammar.specs.QueryReading.{at_end, query, query_form, query_with, whole_query}
-use Rattle.sparql_grammar.proofs.QueryWhole.{query_found, query_stop_explained, query_unique}
+use Rattle.sparql_grammar.proofs.CallerLemmas.{query_found, query_stop_explained, query_unique}
 use Rattle.sparql_queries.specs.Groups.{Labels}
 use Rattle.sparql_queries.specs.Known.{known_query}
 use Rattle.sparql_queries.specs.Queries.{query_in}

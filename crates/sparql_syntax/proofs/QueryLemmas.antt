@@ -12,7 +12,7 @@ use Rattle.sparql_grammar.specs.QueryGrammar as grammar
 use Rattle.sparql_terminals.specs.Profile.{AreInside}
 use Rattle.sparql_grammar.specs.Proper.{proper_query}
 use Rattle.sparql_grammar.specs.Stops.{ExplainsQuery}
-use Rattle.sparql_grammar.proofs.QueryProper.{queries_proper}
+use Rattle.sparql_grammar.proofs.CallerLemmas.{queries_proper}
 use Rattle.sparql_grammar.specs.declared.stop.StopKind.{StopKind}
 use Rattle.sparql_grammar.specs.declared.stop.StopKind.TheVariants as stop
 use Rattle.sparql_queries.specs.Groups.{Labels}

@@ -13,7 +13,7 @@ use Rattle.sparql_grammar.specs.OperationGrammar.{IsRequest}
 use Rattle.sparql_terminals.specs.Profile.{AreInside}
 use Rattle.sparql_grammar.specs.Proper.{holds, proper_part}
 use Rattle.sparql_grammar.specs.Stops.{Explains}
-use Rattle.sparql_grammar.proofs.OperationProper.{requests_proper}
+use Rattle.sparql_grammar.proofs.CallerLemmas.{requests_proper}
 use Rattle.sparql_syntax.specs.declared.draft.Draft.{Draft}
 use Rattle.sparql_syntax.specs.declared.fault.SyntaxFault.{SyntaxFault}
 use Rattle.sparql_syntax.specs.declared.fault.SyntaxFaultKind.TheVariants as fault

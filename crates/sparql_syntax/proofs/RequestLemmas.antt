@@ -1,14 +1,14 @@
 -- What the grammar says of lexemes, and what a tree answers.
 use Rattle.std.proofs.Common.{◌≡◌, ◌⊎◌, inl, inr, ℕ, Bool, true, false, cond, ok_or, List, [], ◌∷◌, Option, Some, None, Result, Ok, Err, refl, sym, ◌∙◌}
 use Rattle.std.specs.List.{AllByRecursion}
-use Rattle.rdf_grammar.proofs.Decides.{some_pair}
+use Rattle.rdf_grammar.proofs.CallerLemmas.{some_pair}
 use Rattle.rdf_grammar.specs.declared.fault.GrammarFault.TheVariants.{Syntax}
 use Rattle.sparql_grammar.specs.declared.tree.Part.{Part}
 use Rattle.sparql_terminals.specs.Lexemes.{Lexeme, Lexemes, Outcome}
 use Rattle.sparql_grammar.specs.Nesting.{IsTooDeep}
 use Rattle.sparql_grammar.specs.OperationGrammar.{IsRequest}
 use Rattle.sparql_grammar.specs.OperationReading.{request}
-use Rattle.sparql_grammar.proofs.OperationWhole.{found_alone, request_read, stop_explained}
+use Rattle.sparql_grammar.proofs.CallerLemmas.{found_alone, request_read, stop_explained}
 use Rattle.sparql_syntax.specs.Blanks.{IsDraftNumbered}
 use Rattle.sparql_syntax.specs.declared.draft.Draft.{Draft}
 use Rattle.sparql_syntax.specs.declared.draft.Draft.TheVariants as draft
@@ -17,7 +17,7 @@ use Rattle.sparql_syntax.specs.declared.fault.SyntaxFaultKind.TheVariants as fau
 use Rattle.sparql_syntax.specs.Drafts.{IsDraftBelow}
 use Rattle.sparql_syntax.specs.Known.{declares_first}
 use Rattle.sparql_syntax.specs.Meaning.{answer, drafts_of}
-use Rattle.sparql_drafts.proofs.DraftsBelow.{numbered_below}
+use Rattle.sparql_drafts.proofs.CallerLemmas.{numbered_below}
 use Rattle.sparql_syntax.proofs.DraftsNumbered.{blank_numbers_are_below}
 
 -- ---- lexemes that aren't too deep are a request, or none

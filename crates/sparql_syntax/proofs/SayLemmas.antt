@@ -3,7 +3,7 @@ use Rattle.std.proofs.Common.{◌≡◌, ◌<◌, ◌⊎◌, inl, inr, ℕ, List
 use Rattle.std.proofs.lemmas.Bool.{cases_Bool}
 use Rattle.std.proofs.lemmas.Str.{IsUtf8-from_is_utf8, is_utf8-from_IsUtf8}
 use Rattle.std.specs.Str.{chars, IsUtf8, is_utf8}
-use Rattle.rdf_grammar.proofs.TextLemmas.{got, same_lengths, shallow_or_deep, some_lexemes, stops_somewhere}
+use Rattle.rdf_grammar.proofs.CallerLemmas.{got, same_lengths, shallow_or_deep, some_lexemes, stops_somewhere}
 use Rattle.rdf_tokens.specs.declared.token.Token.{Token}
 use Rattle.rdf_tokens.specs.Lines.{line_of}
 use Rattle.rdf_tokens.specs.Tokens.{Tokenizes}

@@ -2,7 +2,7 @@
 use Rattle.std.proofs.Common.{◌≡◌, ◌<◌, ℕ, List, Option, Some, Result, Ok, Err, refl, sym, ap, subst}
 use Rattle.std.specs.List.{slice_get}
 use Rattle.std.specs.Str.{chars, IsUtf8}
-use Rattle.rdf_grammar.proofs.TextLemmas.{got, same_lengths, some_lexemes}
+use Rattle.rdf_grammar.proofs.CallerLemmas.{got, same_lengths, some_lexemes}
 use Rattle.rdf_terms.specs.declared.fault.NoMemory.{NoMemory}
 use Rattle.rdf_tokens.specs.declared.token.Token.{Token}
 use Rattle.rdf_tokens.specs.Lines.{line_of}

@@ -1,7 +1,7 @@
 -- A text says one thing: a request, or a fault.
 use Rattle.std.proofs.Common.{◌≡◌, List, ap}
 use Rattle.sparql_grammar.specs.OperationGrammar.{IsRequest}
-use Rattle.sparql_grammar.proofs.OperationWhole.{request_unique}
+use Rattle.sparql_grammar.proofs.CallerLemmas.{request_unique}
 use Rattle.sparql_syntax.specs.Update.{meaning}
 use Rattle.sparql_syntax.specs.UpdateLaws.{OneRequest, NeverBoth, OneFault}
 use Rattle.sparql_trees.specs.declared.operation.Operation.{Operation}

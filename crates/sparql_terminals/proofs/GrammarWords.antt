@@ -13,8 +13,8 @@ use Rattle.rdf_grammar.specs.ProductionReadings.{ends_literal}
 use Rattle.rdf_grammar.specs.Productions as productions
 use Rattle.rdf_grammar.specs.Terminals.{Slice, next_terminal}
 use Rattle.rdf_grammar.specs.Words.{next_word}
-use Rattle.rdf_grammar.proofs.Decides.{always, Decides}
-use Rattle.rdf_grammar.proofs.Productions as shared
+use Rattle.rdf_grammar.proofs.CallerLemmas.{always, Decides}
+use Rattle.rdf_grammar.proofs.CallerLemmas as shared
 use Rattle.sparql_terminals.specs.declared.terminal.Terminal.{Terminal}
 use Rattle.sparql_terminals.specs.declared.terminal.Terminal.TheVariants as terminal
 use Rattle.sparql_terminals.specs.Lexemes.{Lexemes, Derives, Test}

@@ -4,8 +4,7 @@ use Rattle.rdf_grammar.specs.Steps as steps
 use Rattle.rdf_grammar.specs.Readings.{any}
 use Rattle.rdf_grammar.specs.Terminals.{next_terminal}
 use Rattle.rdf_grammar.specs.Derivations as grammar
-use Rattle.rdf_grammar.proofs.Decides.{always, Decides}
-use Rattle.rdf_grammar.proofs.Terminals.{after_terminal, the_terminal, any_the}
+use Rattle.rdf_grammar.proofs.CallerLemmas.{always, Decides, after_terminal, the_terminal, any_the}
 use Rattle.sparql_terminals.specs.declared.terminal.Terminal.{Terminal}
 use Rattle.sparql_terminals.specs.Lexemes.{Lexemes, Reading, Derives}
 use Rattle.sparql_terminals.specs.Terminals.{same_terminal, apart}

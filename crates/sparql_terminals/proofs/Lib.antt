@@ -1,7 +1,8 @@
-pub mod FormedSlices
-pub mod Yields
-pub mod GrammarWords
-pub mod Keywords
-pub mod ProfileTokens
-pub mod Shifts
-pub mod WordYields
+pub mod CallerLemmas
+mod FormedSlices
+mod Yields
+mod GrammarWords
+mod Keywords
+mod ProfileTokens
+mod Shifts
+mod WordYields

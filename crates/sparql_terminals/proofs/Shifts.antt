@@ -3,7 +3,7 @@ use Rattle.std.proofs.Common.{◌≡◌, ℕ, ◌+◌, ◌∙◌, ap}
 use Rattle.rdf_grammar.specs.Nesting.{open_behind}
 use Rattle.rdf_grammar.specs.Derivations as grammar
 use Rattle.rdf_grammar.specs.Derivations.{Then}
-use Rattle.rdf_grammar.proofs.Nests.{Keeps, Below, after, pure_keeps}
+use Rattle.rdf_grammar.proofs.CallerLemmas.{Keeps, Below, after, pure_keeps}
 use Rattle.sparql_terminals.specs.Lexemes.{Lexemes, Derives}
 use Rattle.sparql_terminals.specs.Terminals.{bracket}
 use Rattle.sparql_terminals.specs.declared.terminal.Terminal.{Terminal}

@@ -1,8 +1,9 @@
-pub mod FoldLemmas
-pub mod FormLemmas
-pub mod LawLemmas
-pub mod NumberLemmas
-pub mod OperandLemmas
-pub mod ResultLemmas
-pub mod TermLemmas
-pub mod ValueLemmas
+pub mod CallerLemmas
+mod FoldLemmas
+mod FormLemmas
+mod LawLemmas
+mod NumberLemmas
+mod OperandLemmas
+mod ResultLemmas
+mod TermLemmas
+mod ValueLemmas

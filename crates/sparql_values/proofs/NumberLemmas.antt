@@ -10,7 +10,7 @@ use Rattle.rdf_terms.specs.Literal.{LiteralParts}
 use Rattle.rdf_terms.specs.Vocabulary.{xsd_integer}
 use Rattle.rdf_terms.specs.Integers.{decimal, fits_128_bits, integer_of, integer_literal, is_integer_form, written_integer}
 use Rattle.sparql_values.specs.Values.{number, number_or_opaque, effective, integer_term, is_not_zero, operand, within}
-use Rattle.rdf_terms.proofs.IntegerLemmas.{fits_decides, integers_back}
+use Rattle.rdf_terms.proofs.CallerLemmas.{fits_decides, integers_back}
 
 -- a checked operation is the operation within 128 bits
 pub checked : (n : ℤ) (r : Option ℤ) → SomeIff r (FitsSigned w128 n) n → r ≡ within n

@@ -14,7 +14,7 @@ use Rattle.sparql_trees.specs.declared.expression.Sign.TheVariants.{Plus, Minus}
 use Rattle.rdf_terms.specs.Integers.{fits_128_bits, integer_of, is_integer_form, written_integer}
 use Rattle.sparql_values.specs.Laws.{ProductsComeBack, SignedComeBack, SumsComeBack, TruthsComeBack}
 use Rattle.sparql_values.specs.Values.{Value, added, boolean, boolean_operand, has_datatype, is_written_false, is_written_true, number_in, number_of_operand, number_or_opaque, of_number, on_both, opaque, operand, plus_or_minus, signed, text, times, value, within}
-use Rattle.rdf_terms.proofs.IntegerLemmas.{integers_back}
+use Rattle.rdf_terms.proofs.CallerLemmas.{integers_back}
 use Rattle.sparql_values.proofs.ValueLemmas.{value-Product, value-Signed, value-Sum}
 
 abbrev Fits : Option ℤ → Type 0

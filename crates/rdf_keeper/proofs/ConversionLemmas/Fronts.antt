@@ -15,7 +15,7 @@ use Rattle.rdf_lines.specs.Line.{LineSays}
 use Rattle.rdf_lines.specs.Lines.{lines_behind}
 use Rattle.rdf_lines.specs.Pieces.{Hold, onto}
 use Rattle.rdf_lines.specs.Reader.{LineState, AreSilent, Taken, FaultOf, ReadsOn, Call, CallAt, Calls, fresh}
-use Rattle.rdf_lines.proofs.LawLemmas.{quads_of, first_quad}
+use Rattle.rdf_lines.proofs.CallerLemmas.{quads_of, first_quad}
 use Rattle.rdf_keeper.specs.Conversion.Converts.{whole_lines}
 use Rattle.rdf_keeper.proofs.ConversionLemmas.Documents.{found}
 use Rattle.rdf_keeper.proofs.ConversionLemmas.WholeLines.{lines_of_whole}

@@ -12,14 +12,13 @@ use Rattle.rdf_terms.specs.Quad.{QuadParts, is_quad}
 use Rattle.rdf_terms.specs.Term.{is_term, is_literal_term, is_iri_term}
 use Rattle.rdf_terms.specs.declared.term.Term.{Term}
 use Rattle.rdf_terms.specs.declared.term.Term.TheVariants as term
-use Rattle.rdf_terms.proofs.QuadTests.{quad_tests}
+use Rattle.rdf_terms.proofs.CallerLemmas.{quad_tests}
 use Rattle.rdf_lines.specs.Document.{ReadsAll}
 use Rattle.rdf_lines.specs.QuadText.{quad_text}
 use Rattle.rdf_lines.specs.RoundTrip.{label_of, node_of, predicate_of, object_of, statement_of}
 use Rattle.rdf_lines.specs.declared.format.LineFormat.TheVariants.{NQuads}
 use Rattle.rdf_lines.specs.declared.statement.Statement.{Statement}
-use Rattle.rdf_lines.proofs.LineLaws.{one_answer, some_answer}
-use Rattle.rdf_lines.proofs.WrittenLineLemmas.{reads_all}
+use Rattle.rdf_lines.proofs.CallerLemmas.{one_answer, some_answer, reads_all}
 use Rattle.rdf_turtle.specs.ParserState.{triple}
 use Rattle.rdf_turtle.specs.WrittenLaws.{IsDefaultQuad}
 use Rattle.rdf_keeper.specs.Conversion.Converts.{lines_of}

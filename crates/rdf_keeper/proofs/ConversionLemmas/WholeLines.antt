@@ -4,7 +4,7 @@ use Rattle.std.specs.Prelude.{not}
 use Rattle.rdf_terms.specs.LineEnds.{is_line_feed, is_return, is_line_end}
 use Rattle.rdf_lines.specs.Lines.{lines_behind, onto_first}
 use Rattle.rdf_lines.specs.Pieces.{Hold, onto}
-use Rattle.rdf_lines.proofs.PieceLemmas.{onto-cons, other, ended, not_feed, feed}
+use Rattle.rdf_lines.proofs.CallerLemmas.{onto-cons, other, ended, not_feed, feed}
 use Rattle.rdf_keeper.specs.Conversion.Converts.{whole_lines, is_empty}
 
 feed_is_end : (behind f r : Bool) → (behind && f) ≡ true → (f || r) ≡ true

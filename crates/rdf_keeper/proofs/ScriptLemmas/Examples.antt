@@ -15,10 +15,10 @@ use Rattle.rdf_terms.specs.Iri.{is_iri}
 use Rattle.rdf_terms.specs.Order.{quad_cmp, term_cmp}
 use Rattle.rdf_terms.specs.OrderLaws.{term_cmp_total, term_cmp-IsAntisymmetric, quad_cmp_total, quad_cmp-IsAntisymmetric}
 use Rattle.rdf_terms.specs.Quad.{is_quad}
-use Rattle.rdf_terms.proofs.ExampleLemmas.{ascii_iri}
+use Rattle.rdf_terms.proofs.CallerLemmas.{ascii_iri}
 use Rattle.rdf_lines.specs.Document as lines
 use Rattle.rdf_lines.specs.declared.format.LineFormat.TheVariants as line
-use Rattle.rdf_lines.proofs.RenamedLemmas.{numbered_documents_are_read_back}
+use Rattle.rdf_lines.proofs.CallerLemmas.{numbered_documents_are_read_back}
 use Rattle.rdf_session.specs.declared.fault.KeeperFault.{KeeperFault}
 use Rattle.rdf_dataset.specs.Sorted.{ListsSorted}
 use Rattle.rdf_dataset.specs.State.{State, empty_state, last_number, net_between}
@@ -29,7 +29,7 @@ use Rattle.rdf_keeper.specs.Script.OneOutput.{FirmAnswers, IsFree, IsWhole, OneT
 use Rattle.rdf_session.specs.Request.{Load, loaded}
 use Rattle.rdf_keeper.specs.Script.Show.{ListsChange}
 use Rattle.rdf_keeper.specs.Script.Runs.{Runs, final}
-use Rattle.rdf_session.proofs.MarkLemmas.{place_kept, place_lost, place_marked, place_nowhere, place_other, place_past}
+use Rattle.rdf_session.proofs.CallerLemmas.{place_kept, place_lost, place_marked, place_nowhere, place_other, place_past}
 use Rattle.rdf_session.specs.History.{marks_upto, place_of}
 use Rattle.rdf_session.specs.Session.{Session, Do, Undo, Redo, Mark, Rollback, Commit, Changed, Done, Refused as RefusedReply, accepted, at_place, counts_between, fresh, now, with_mark}
 use Rattle.rdf_session.specs.declared.fault.Counts.{Counts}

@@ -19,12 +19,10 @@ use Rattle.rdf_lines.specs.RoundTrip.{graph_of, statement_of}
 use Rattle.rdf_lines.specs.declared.format.LineFormat.TheVariants as line
 use Rattle.rdf_lines.specs.declared.statement.Node.{Node}
 use Rattle.rdf_lines.specs.declared.statement.Statement.{Statement}
-use Rattle.rdf_lines.proofs.RenamedLemmas.{numbered_again, numbered_documents_are_read_back}
-use Rattle.rdf_lines.proofs.SortLemmas.{one_text}
-use Rattle.rdf_lines.proofs.WrittenLineLemmas.{reads_all}
+use Rattle.rdf_lines.proofs.CallerLemmas.{numbered_again, numbered_documents_are_read_back, one_text, reads_all}
 use Rattle.rdf_turtle.specs.Document as turtle
 use Rattle.rdf_turtle.specs.WrittenLaws.{triple_text, IsDefaultQuad}
-use Rattle.rdf_turtle.proofs.WrittenDocuments.{written_triples_are_turtle}
+use Rattle.rdf_turtle.proofs.CallerLemmas.{written_triples_are_turtle}
 use Rattle.rdf_dataset.specs.State.{State}
 use Rattle.rdf_session.specs.Documents.{IsDocument}
 use Rattle.rdf_keeper.specs.Script.Printed.{LinesAreDocuments, SortedTextsAreDocuments, IsGraphInOrder, PrintedLinesAreDocuments}

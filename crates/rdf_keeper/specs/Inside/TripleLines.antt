@@ -14,7 +14,7 @@ use Rattle.rdf_lines.specs.declared.statement.Node.TheVariants.{Label, Iri}
 use Rattle.rdf_lines.specs.declared.statement.Object.{Object}
 use Rattle.rdf_lines.specs.declared.statement.Object.TheVariants.{Node as OfNode, Literal as OfLiteral}
 use Rattle.rdf_lines.specs.declared.statement.Statement.{Statement}
-use Rattle.rdf_lines.proofs.LineLaws.{some_answer}
+use Rattle.rdf_lines.proofs.CallerLemmas.{some_answer}
 use Rattle.rdf_turtle.specs.WrittenLaws.{IsDefaultQuad}
 use Rattle.rdf_keeper.specs.Conversion.Converts.{lines_of}
 

@@ -1,6 +1,6 @@
 use Rattle.std.proofs.Common.{◌∙◌, sym, refl}
 use Rattle.rdf_terms.specs.OrderLaws.{term_cmp_total, term_cmp-IsAntisymmetric}
-use Rattle.rdf_sets.proofs.DeltaLemmas.{insert_known, insert_new}
+use Rattle.rdf_sets.proofs.CallerLemmas.{insert_known, insert_new}
 use Rattle.rdf_dataset.proofs.QuadEditLemmas.{on_ok_both, on_err_both}
 use Rattle.rdf_dataset.proofs.edits.insert_in_graph.Goals as goal
 

@@ -1,9 +1,7 @@
 use Rattle.std.proofs.Common.{rules, ◌≡◌, true, cond, Some, None, sym, ap, subst, ◌∙◌}
 use Rattle.std.specs.Str.{encode_utf8_all}
 use Rattle.rdf_terms.specs.Literal.{is_tag, tagged}
-use Rattle.rdf_terms.proofs.PlaceLemmas.{between_is}
-use Rattle.rdf_terms.proofs.TagForms.{tag_form}
-use Rattle.rdf_terms.proofs.TagReadings.{tag_greedy}
+use Rattle.rdf_terms.proofs.CallerLemmas.{between_is, tag_form, tag_greedy}
 use Rattle.rdf_lines.specs.Reading.{tagged_at, tag_at, name_at, tagged_literal}
 use Rattle.rdf_terms.specs.Reading.{expect}
 use Rattle.rdf_lines.proofs.literal.tagged.Goals as goal

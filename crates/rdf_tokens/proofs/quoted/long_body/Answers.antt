@@ -1,6 +1,6 @@
 use Rattle.std.proofs.Common.{rules, ◌≡◌, None, sym, ◌∙◌, arith}
 use Rattle.rdf_terms.specs.Runs.{ends_run}
-use Rattle.rdf_terms.proofs.PastLemmas.{no_longer_past}
+use Rattle.rdf_terms.proofs.CallerLemmas.{no_longer_past}
 use Rattle.rdf_tokens.proofs.TokenLong.{long_shrinks, long_ends, long_fails, long_on, long_past}
 use Rattle.rdf_tokens.proofs.quoted.long_body.Goals as goal
 

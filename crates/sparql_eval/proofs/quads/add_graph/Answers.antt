@@ -1,7 +1,7 @@
 use Rattle.std.proofs.Common.{◌≡◌, arith, rules, ap, ◌∙◌, length}
 use Rattle.std.specs.Vec.Iter.{into_iter_items, into_iter_len}
 use Rattle.rdf_dataset.specs.Staging.{Staging}
-use Rattle.rdf_dataset.proofs.InsertionLemmas.{none_left}
+use Rattle.rdf_dataset.proofs.CallerLemmas.{none_left}
 use Rattle.rdf_terms.specs.declared.quad.GraphName.{GraphName}
 use Rattle.sparql_eval.specs.Graphs.{quad_in}
 use Rattle.sparql_eval.proofs.QuadLemmas.{adding_begins, adding_ends, adding_goes_on, name_comes, no_name_comes}

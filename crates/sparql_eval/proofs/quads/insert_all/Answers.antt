@@ -1,6 +1,6 @@
 use Rattle.std.proofs.Common.{arith, ap, ◌∙◌, length}
 use Rattle.rdf_dataset.specs.Staging.{Staging}
-use Rattle.rdf_dataset.proofs.InsertionLemmas.{none_left}
+use Rattle.rdf_dataset.proofs.CallerLemmas.{none_left}
 use Rattle.sparql_eval.proofs.QuadLemmas.{coming_below, coming_ends, coming_goes_on}
 use Rattle.sparql_eval.proofs.quads.insert_all.Goals as goal
 

@@ -1,7 +1,6 @@
 use Rattle.std.proofs.Common.{arith, sym, ap, ◌∙◌, refl}
 use Rattle.std.proofs.lemmas.Result.{err_from_is_err_and}
-use Rattle.rdf_grammar.proofs.Repeats.{going_starts, going_on, one_reads, grown_starts, fails_first, fails_then, deeper}
-use Rattle.rdf_grammar.proofs.Terminals.{grown_behind, grown_fails_behind}
+use Rattle.rdf_grammar.proofs.CallerLemmas.{going_starts, going_on, one_reads, grown_starts, fails_first, fails_then, deeper, grown_behind, grown_fails_behind}
 use Rattle.sparql_terminals.specs.declared.terminal.Terminal.TheVariants as terminal
 use Rattle.sparql_terminals.specs.Terminals.{same_terminal}
 use Rattle.sparql_expressions.specs.ExpressionReading.{begins_addend, addend, expression, conditional_or, conditional_and, product}

@@ -1,7 +1,7 @@
 use Rattle.std.proofs.Common.{◌≡◌, ◌≤◌, ◌+◌, ◌*◌, length}
 use Rattle.rdf_grammar.specs.Steps.{◌>>◌}
 use Rattle.rdf_grammar.specs.Readings.{one, repeat}
-use Rattle.rdf_grammar.proofs.Repeats.{Going, Grown}
+use Rattle.rdf_grammar.proofs.CallerLemmas.{Going, Grown}
 use Rattle.sparql_terminals.specs.declared.terminal.Terminal.TheVariants as terminal
 use Rattle.sparql_terminals.specs.Lexemes.{sees, the}
 use Rattle.sparql_expressions.specs.ExpressionReading as spec

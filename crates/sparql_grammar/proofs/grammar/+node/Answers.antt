@@ -2,8 +2,7 @@ use Rattle.std.proofs.Common.{arith, sym}
 use Rattle.std.proofs.lemmas.Result.{err_from_is_err_and}
 use Rattle.sparql_terminals.specs.declared.terminal.Terminal.TheVariants as terminal
 use Rattle.sparql_grammar.specs.Reading.{begins_node, node, objects, optional_property, property, property_list_not_empty, sees_verb}
-use Rattle.rdf_grammar.proofs.Repeats.{grown_starts, grown_on, going_fails, fails_on, fails_first, fails_then, deeper, one_reads, none_pushed, one_pushed}
-use Rattle.rdf_grammar.proofs.Terminals.{grown_behind, grown_fails_behind, maybe_reads, looked, maybe_fails, seen_more}
+use Rattle.rdf_grammar.proofs.CallerLemmas.{grown_starts, grown_on, going_fails, fails_on, fails_first, fails_then, deeper, one_reads, none_pushed, one_pushed, grown_behind, grown_fails_behind, maybe_reads, looked, maybe_fails, seen_more}
 use Rattle.sparql_grammar.proofs.grammar.+node.Goals as goal
 use Rattle.sparql_terminals.specs.Terminals.{same_terminal}
 

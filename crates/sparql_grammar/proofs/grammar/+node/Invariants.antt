@@ -6,7 +6,7 @@ use Rattle.sparql_terminals.specs.Terminals.{same_terminal}
 use Rattle.sparql_terminals.specs.Lexemes.{sees, the}
 use Rattle.rdf_grammar.specs.Readings.{one, repeat}
 use Rattle.sparql_grammar.specs.Reading as spec
-use Rattle.rdf_grammar.proofs.Repeats.{Grown}
+use Rattle.rdf_grammar.proofs.CallerLemmas.{Grown}
 use Rattle.sparql_grammar.proofs.grammar.+node.Given as goal
 
 -- the functions in the order in which they call one another, for as many brackets as may be open

@@ -1,7 +1,7 @@
 use Rattle.std.proofs.Common.{arith, sym, ◌∙◌, ap, ◌∷◌, [], ◌++◌, length}
 use Rattle.std.proofs.lemmas.Result.{err_from_is_err_and}
 use Rattle.sparql_grammar.specs.Reading.{node, triples_template}
-use Rattle.rdf_grammar.proofs.Repeats.{grown_starts, grown_on, going_done, going_fails, fails_on, fails_first, fails_then}
+use Rattle.rdf_grammar.proofs.CallerLemmas.{grown_starts, grown_on, going_done, going_fails, fails_on, fails_first, fails_then}
 use Rattle.sparql_grammar.proofs.Turns.{another_some, another_reads, another_fails, template_reads}
 use Rattle.sparql_grammar.proofs.grammar.triples_template.Goals as goal
 

@@ -2,7 +2,7 @@ use Rattle.std.proofs.Common.{◌≤◌, length}
 use Rattle.sparql_terminals.specs.declared.terminal.Terminal.TheVariants as terminal
 use Rattle.rdf_grammar.specs.Steps.{◌>>◌}
 use Rattle.rdf_grammar.specs.Readings.{one, repeat}
-use Rattle.rdf_grammar.proofs.Repeats.{Grown}
+use Rattle.rdf_grammar.proofs.CallerLemmas.{Grown}
 use Rattle.sparql_terminals.specs.Lexemes.{the}
 use Rattle.sparql_grammar.specs.Reading.{node, same_subject, sees_another}
 use Rattle.sparql_grammar.proofs.grammar.triples_template.Given as goal

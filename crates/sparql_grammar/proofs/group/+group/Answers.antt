@@ -1,7 +1,6 @@
 use Rattle.std.proofs.Common.{arith, sym, ap, ◌∙◌}
 use Rattle.std.proofs.lemmas.Result.{err_from_is_err_and}
-use Rattle.rdf_grammar.proofs.Repeats.{grown_starts, going_fails, fails_on, fails_first, fails_then, deeper}
-use Rattle.rdf_grammar.proofs.Terminals.{grown_behind, grown_fails_behind}
+use Rattle.rdf_grammar.proofs.CallerLemmas.{grown_starts, going_fails, fails_on, fails_first, fails_then, deeper, grown_behind, grown_fails_behind}
 use Rattle.sparql_terminals.specs.declared.terminal.Terminal.TheVariants as terminal
 use Rattle.sparql_grammar.specs.GroupReading.{begins_pattern, contents, group, group_or_union, group_within, in_filter}
 use Rattle.sparql_grammar.specs.Reading.{in_data}

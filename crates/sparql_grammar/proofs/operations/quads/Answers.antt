@@ -1,11 +1,10 @@
 use Rattle.std.proofs.Common.{arith, sym}
 use Rattle.std.proofs.lemmas.Result.{err_from_is_err_and}
-use Rattle.rdf_grammar.proofs.Repeats.{grown_starts, grown_on, going_fails, fails_on, fails_first, fails_then}
+use Rattle.rdf_grammar.proofs.CallerLemmas.{grown_starts, grown_on, going_fails, fails_on, fails_first, fails_then, seen_more}
 use Rattle.sparql_terminals.specs.declared.terminal.Terminal.TheVariants.{Graph}
 use Rattle.sparql_grammar.specs.OperationReading.{quads}
 use Rattle.sparql_grammar.specs.Reading.{node, triples_template}
 use Rattle.sparql_grammar.proofs.OperationTurns.{turn_shorter, turn_reads, two_pushed, named_fails, default_fails}
-use Rattle.rdf_grammar.proofs.Terminals.{seen_more}
 use Rattle.sparql_terminals.specs.Terminals.{same_terminal}
 use Rattle.sparql_grammar.proofs.operations.quads.Goals as goal
 

@@ -1,6 +1,6 @@
 use Rattle.std.proofs.Common.{◌≤◌, length}
 use Rattle.rdf_grammar.specs.Readings.{repeat}
-use Rattle.rdf_grammar.proofs.Repeats.{Grown}
+use Rattle.rdf_grammar.proofs.CallerLemmas.{Grown}
 use Rattle.sparql_terminals.specs.Lexemes.{sees}
 use Rattle.sparql_grammar.specs.OperationReading.{named_and_default}
 use Rattle.sparql_grammar.specs.Reading.{node, triples_template}

@@ -1,5 +1,5 @@
 use Rattle.std.proofs.Common.{arith, sym}
-use Rattle.rdf_grammar.proofs.Repeats.{grown_starts, grown_on, one_reads}
+use Rattle.rdf_grammar.proofs.CallerLemmas.{grown_starts, grown_on, one_reads}
 use Rattle.sparql_grammar.specs.GroupReading.{whole_group}
 use Rattle.sparql_grammar.specs.OperationReading.{part}
 use Rattle.sparql_grammar.specs.Reading.{node, triples_template}

@@ -1,6 +1,6 @@
 use Rattle.std.proofs.Common.{◌≤◌, length}
 use Rattle.rdf_grammar.specs.Readings.{one, repeat, is_more}
-use Rattle.rdf_grammar.proofs.Repeats.{Grown}
+use Rattle.rdf_grammar.proofs.CallerLemmas.{Grown}
 use Rattle.sparql_grammar.specs.GroupReading.{whole_group}
 use Rattle.sparql_grammar.specs.OperationReading.{part}
 use Rattle.sparql_grammar.specs.Reading.{node, triples_template}

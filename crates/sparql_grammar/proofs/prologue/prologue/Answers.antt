@@ -1,5 +1,5 @@
 use Rattle.std.proofs.Common.{arith, sym, ◌∙◌, ap}
-use Rattle.rdf_grammar.proofs.Repeats.{grown_starts, grown_on, one_reads}
+use Rattle.rdf_grammar.proofs.CallerLemmas.{grown_starts, grown_on, one_reads}
 use Rattle.sparql_grammar.specs.PrologueReading.{begins_declaration, declaration}
 use Rattle.sparql_grammar.proofs.prologue.prologue.Goals as goal
 

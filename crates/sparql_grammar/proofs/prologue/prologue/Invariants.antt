@@ -1,6 +1,6 @@
 use Rattle.std.proofs.Common.{◌≤◌, length}
 use Rattle.rdf_grammar.specs.Readings.{one, repeat}
-use Rattle.rdf_grammar.proofs.Repeats.{Grown}
+use Rattle.rdf_grammar.proofs.CallerLemmas.{Grown}
 use Rattle.sparql_grammar.specs.PrologueReading.{declaration, sees_declaration}
 use Rattle.sparql_grammar.proofs.prologue.prologue.Given as goal
 

@@ -1,5 +1,5 @@
 use Rattle.std.proofs.Common.{arith, sym}
-use Rattle.rdf_grammar.proofs.Repeats.{grown_starts, grown_on, one_reads}
+use Rattle.rdf_grammar.proofs.CallerLemmas.{grown_starts, grown_on, one_reads}
 use Rattle.sparql_terminals.specs.declared.terminal.Terminal.TheVariants as terminal
 use Rattle.sparql_terminals.specs.Lexemes.{value}
 use Rattle.sparql_grammar.proofs.query.variables.Goals as goal

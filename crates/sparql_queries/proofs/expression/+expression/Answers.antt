@@ -3,7 +3,7 @@ use Rattle.std.proofs.lemmas.Bool.{and_parts}
 use Rattle.sparql_queries.proofs.KnownLemmas.{each_holds, sum_known, sum_proper}
 use Rattle.rdf_grammar.specs.Prologue.{Prologue, declared}
 use Rattle.sparql_expressions.specs.declared.tree.Expression as written
-use Rattle.rdf_grammar.proofs.Members.{next_member}
+use Rattle.rdf_grammar.proofs.CallerLemmas.{next_member}
 use Rattle.rdf_grammar.specs.Kept.{Fails}
 use Rattle.sparql_expressions.specs.ProperExpressions as proper
 use Rattle.sparql_queries.specs.Addends as addends

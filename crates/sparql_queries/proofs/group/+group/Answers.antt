@@ -1,6 +1,6 @@
 use Rattle.std.proofs.Common.{◌≡◌, ◌∙◌, ap, sym, subst, rules, Some, List, [], ◌∷◌, ◌++◌, ◌+◌, map, drop}
 use Rattle.rdf_grammar.specs.Prologue.{Prologue, declared}
-use Rattle.rdf_grammar.proofs.Members.{next_member}
+use Rattle.rdf_grammar.proofs.CallerLemmas.{next_member}
 use Rattle.rdf_grammar.specs.Kept.{Fails, Gives, Tells}
 use Rattle.sparql_queries.specs.Collected.{collected, collected_behind}
 use Rattle.sparql_queries.specs.Expressions.{all, expression_in}

@@ -1,6 +1,6 @@
 use Rattle.std.proofs.Common.{◌≡◌, ◌∙◌, ap, sym, subst, rules, map, Some, List}
 use Rattle.rdf_grammar.specs.Prologue.{Prologue, declared}
-use Rattle.rdf_grammar.proofs.Members.{next_member}
+use Rattle.rdf_grammar.proofs.CallerLemmas.{next_member}
 use Rattle.rdf_grammar.specs.Kept.{Fails}
 use Rattle.sparql_drafts.specs.Known as known
 use Rattle.sparql_grammar.specs.Proper as proper

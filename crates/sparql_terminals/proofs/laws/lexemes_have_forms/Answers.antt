@@ -1,4 +1,4 @@
-use Rattle.rdf_grammar.proofs.LexemeLemmas.{lexemes_have_forms}
+use Rattle.rdf_grammar.proofs.CallerLemmas.{lexemes_have_forms}
 use Rattle.sparql_terminals.specs.Terminals.{terminal_by}
 use Rattle.sparql_terminals.proofs.laws.lexemes_have_forms.Goals as goal
 

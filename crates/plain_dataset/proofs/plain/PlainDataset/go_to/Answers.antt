@@ -2,7 +2,7 @@ use Rattle.std.proofs.Common.{◌∙◌, sym, ap, subst}
 use Rattle.std.specs.FinSet as set
 use Rattle.rdf_dataset.specs.State.{IsSound}
 use Rattle.rdf_dataset.specs.Inside.Delta.{IsStateDelta}
-use Rattle.rdf_dataset.proofs.StateLemmas.{gone_to, gone_back, state}
+use Rattle.rdf_dataset.proofs.CallerLemmas.{gone_to, gone_back, state}
 use Rattle.plain_dataset.proofs.plain.PlainDataset.go_to.Goals as goal
 
 pub invariant_of-self-in-Err : goal.invariant_of-self-in-Err

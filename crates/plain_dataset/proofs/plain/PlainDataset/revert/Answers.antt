@@ -2,7 +2,7 @@ use Rattle.std.proofs.Common.{◌∙◌, refl, sym, ap}
 use Rattle.std.proofs.lemmas.Result.{on_ok_weaker}
 use Rattle.rdf_dataset.specs.State.{net_between}
 use Rattle.rdf_terms.specs.OrderLaws.{quad_cmp_total, term_cmp_total}
-use Rattle.rdf_dataset.proofs.StateLemmas.{leads_back, no_items}
+use Rattle.rdf_dataset.proofs.CallerLemmas.{leads_back, no_items}
 use Rattle.plain_dataset.proofs.NetLemmas.{listed_net}
 use Rattle.plain_dataset.proofs.plain.PlainDataset.revert.Goals as goal
 

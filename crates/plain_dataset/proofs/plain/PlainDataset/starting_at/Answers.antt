@@ -1,6 +1,6 @@
 use Rattle.std.specs.FinSet as set
 use Rattle.std.proofs.Common.{ap}
-use Rattle.rdf_dataset.proofs.StateLemmas.{sound_empty}
+use Rattle.rdf_dataset.proofs.CallerLemmas.{sound_empty}
 use Rattle.plain_dataset.proofs.plain.PlainDataset.starting_at.Goals as goal
 
 pub invariant_of-result : goal.invariant_of-result

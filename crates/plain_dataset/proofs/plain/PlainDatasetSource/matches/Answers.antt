@@ -4,7 +4,7 @@ use Rattle.std.specs.FinSet as set
 use Rattle.rdf_dataset.specs.State.{State, matches}
 use Rattle.rdf_terms.specs.Lists.{ListsOnce}
 use Rattle.rdf_terms.specs.OrderLaws.{quad_cmp_total, quad_cmp-IsAntisymmetric}
-use Rattle.rdf_sets.proofs.ListsOnceLemmas.{lists_matching, filter_short}
+use Rattle.rdf_sets.proofs.CallerLemmas.{lists_matching, filter_short}
 use Rattle.plain_dataset.proofs.plain.PlainDatasetSource.matches.Goals as goal
 
 pub returns-clause-found : goal.returns-clause-found

@@ -3,7 +3,7 @@ use Rattle.std.proofs.lemmas.Result.{on_ok_weaker}
 use Rattle.rdf_dataset.specs.State.{State}
 use Rattle.rdf_terms.specs.Lists.{ListsOnce}
 use Rattle.rdf_terms.specs.OrderLaws.{term_cmp_total, term_cmp-IsAntisymmetric}
-use Rattle.rdf_sets.proofs.SortedLemmas.{lists_once}
+use Rattle.rdf_sets.proofs.CallerLemmas.{lists_once}
 use Rattle.plain_dataset.proofs.plain.PlainDatasetSource.names.Goals as goal
 
 pub returns-clause-ok : goal.returns-clause-ok

@@ -5,7 +5,7 @@ use Rattle.std.specs.FinSet as set
 use Rattle.rdf_terms.specs.Order.{term_cmp}
 use Rattle.rdf_terms.specs.OrderLaws.{term_cmp_total, term_cmp-IsAntisymmetric}
 use Rattle.rdf_terms.specs.Lists.{ListsOnce}
-use Rattle.rdf_sets.proofs.ListsOnceLemmas.{staged_once}
+use Rattle.rdf_sets.proofs.CallerLemmas.{staged_once}
 use Rattle.rdf_dataset.proofs.QuadEditLemmas.{net_names}
 use Rattle.rdf_dataset.proofs.edits.Edits.amend_names.Goals as goal
 

@@ -5,7 +5,7 @@ use Rattle.std.proofs.lemmas.Result.{on_ok_weaker, IfOk-weaker}
 use Rattle.std.specs.FinSet as set
 use Rattle.rdf_terms.specs.Order.{quad_cmp}
 use Rattle.rdf_dataset.specs.State.{matches}
-use Rattle.rdf_sets.proofs.ListsOnceLemmas.{filter_short}
+use Rattle.rdf_sets.proofs.CallerLemmas.{filter_short}
 use Rattle.rdf_dataset.proofs.QuadEditLemmas.{amended, few_more}
 use Rattle.rdf_dataset.proofs.quad_edits.QuadEdits.amend.Goals as goal
 

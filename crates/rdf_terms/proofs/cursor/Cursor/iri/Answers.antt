@@ -3,7 +3,7 @@ use Rattle.rdf_terms.specs.Iri.{has_forbidden, is_forbidden}
 use Rattle.rdf_terms.specs.Reading.{◌>>=◌, iri_at, iri_body_at, iri_character_at}
 use Rattle.rdf_terms.proofs.QuotedLemmas.{iri_one, iri_character-plain}
 use Rattle.rdf_terms.proofs.LoopLemmas.{RunsTo, goes_on, goes_past, fails, is_done}
-use Rattle.rdf_terms.proofs.AllowedLemmas.{iri_allowed}
+use Rattle.rdf_terms.proofs.AllowedLemmas.{read_iri_allowed}
 use Rattle.rdf_terms.proofs.PastLemmas.{leads_past, one_behind}
 use Rattle.rdf_terms.proofs.cursor.Cursor.iri.Goals as goal
 
@@ -21,7 +21,7 @@ from_text-requires c =
     rw (c.in_ok-push_str.ensures.bytes, c.text_up_to.ensures)
     (goes_past iri_character_at 62 iri_one is_forbidden iri_character-plain (string_bytes c.loop-text.text) c.loop-text.rest c.past_iri_run-stop.result _ c.past_iri_run-stop.ensures.over c.loop-text.invariant) in
     ap has_forbidden c.in_ok-from_string.ensures
-    ∙ iri_allowed c.args.self.now (string_bytes c.push_str.new.self) c.in-Some-expect.behind
+    ∙ read_iri_allowed c.args.self.now (string_bytes c.push_str.new.self) c.in-Some-expect.behind
     (ap (λ o. o >>= iri_body_at) (sym c.in-Some.ensures)
     ∙ sym (is_done iri_character_at 62 (string_bytes c.push_str.new.self) c.past_iri_run-stop.result c.in-Some-expect.behind (iri_body_at c.in-Some.rest) (sym c.in-Some-expect.ensures) past))
 

@@ -4,7 +4,7 @@ use Rattle.rdf_turtle.specs.Meaning as spec
 use Rattle.rdf_turtle.specs.ParserState.{ParserState}
 use Rattle.rdf_grammar.specs.Prologue.{Prologue, declared}
 use Rattle.rdf_turtle.specs.Inside.Proper.{proper_node, proper_property}
-use Rattle.rdf_grammar.proofs.Members.{next_member, next_step}
+use Rattle.rdf_grammar.proofs.CallerLemmas.{next_member, next_step}
 use Rattle.rdf_turtle.proofs.ScopeLoops.{next_cell, member_holds, on_ok, collection_known, property_known}
 use Rattle.rdf_turtle.proofs.scope.Scope.+inside.Goals as goal
 

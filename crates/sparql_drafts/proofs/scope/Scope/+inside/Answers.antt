@@ -5,7 +5,7 @@ use Rattle.sparql_drafts.specs.Known.{known_node, known_property}
 use Rattle.sparql_drafts.specs.Meaning as spec
 use Rattle.rdf_grammar.specs.Prologue.{Prologue, declared}
 use Rattle.sparql_grammar.specs.Proper.{holds, proper_node, proper_property}
-use Rattle.rdf_grammar.proofs.Members.{next_member, next_step}
+use Rattle.rdf_grammar.proofs.CallerLemmas.{next_member, next_step}
 use Rattle.sparql_drafts.proofs.ScopeLoops.{next_in_list}
 use Rattle.sparql_drafts.proofs.scope.Scope.+inside.Goals as goal
 

@@ -5,7 +5,7 @@ use Rattle.sparql_grammar.specs.Proper.{holds, proper_triples}
 use Rattle.sparql_drafts.specs.Known.{known_triples}
 use Rattle.sparql_drafts.specs.Meaning as spec
 use Rattle.sparql_drafts.specs.Drafting.{Does}
-use Rattle.rdf_grammar.proofs.Members.{next_member, next_step}
+use Rattle.rdf_grammar.proofs.CallerLemmas.{next_member, next_step}
 use Rattle.sparql_drafts.proofs.scope.Scope.all_triples.Goals as goal
 
 pub loop-one-preserved : goal.loop-one-preserved
