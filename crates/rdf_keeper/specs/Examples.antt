@@ -14,7 +14,7 @@ use Rattle.rdf_keeper.specs.Script.Lines.{raw_lines, upto_last_end}
 use Rattle.rdf_keeper.specs.Script.OneOutput.{AreFull, FirmAnswers, IsWhole}
 use Rattle.rdf_dataset.specs.Insertion.{quad_from}
 use Rattle.rdf_session.specs.Request.{Load, blank_limit}
-use Rattle.rdf_keeper.specs.Script.Runs.{Runs, RunsOver}
+use Rattle.rdf_keeper.specs.Script.Runs.{Serves, to_end, RunsOver}
 use Rattle.rdf_session.specs.Session.{Session, Do, Done, Mark, Refused as RefusedReply, Undo, fresh, now}
 use Rattle.rdf_session.specs.declared.fault.KeeperFault.TheVariants.{NoEnd}
 use Rattle.rdf_session.specs.declared.format.Format.TheVariants.{NQuads}
@@ -69,7 +69,7 @@ begin = fresh None (empty_state 0)
 
 -- The script may have these answers, one by one, and end with this status at this state.
 abbrev pub MayAnswer : List ℕ → List (List ℕ) → Status → State → Type 0
-MayAnswer text answers status state = (end : Session) × Runs FirmAnswers false Accepted false (script text) begin answers end status × (now end ≡ state)
+MayAnswer text answers status state = (end : Session) × Serves (to_end FirmAnswers false Accepted) false (script text) begin answers end status × (now end ≡ state)
 
 -- It has no others and ends no other way, where no answer is that memory is wanting and the session comes to its end.
 abbrev pub AnswersNoOther : List ℕ → List (List ℕ) → Status → State → Type 0

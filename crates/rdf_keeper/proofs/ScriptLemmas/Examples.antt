@@ -28,7 +28,7 @@ use Rattle.rdf_keeper.specs.Examples.{MustAnswer, MayAnswer, NothingAnswered, Lo
 use Rattle.rdf_keeper.specs.Script.OneOutput.{FirmAnswers, IsFree, IsWhole, OneText}
 use Rattle.rdf_session.specs.Request.{Load, loaded}
 use Rattle.rdf_keeper.specs.Script.Show.{ListsChange}
-use Rattle.rdf_keeper.specs.Script.Runs.{Runs, final}
+use Rattle.rdf_keeper.specs.Script.Runs.{Serves, to_end, final}
 use Rattle.rdf_session.proofs.CallerLemmas.{place_kept, place_lost, place_marked, place_nowhere, place_other, place_past}
 use Rattle.rdf_session.specs.History.{marks_upto, place_of}
 use Rattle.rdf_session.specs.Session.{Session, Do, Undo, Redo, Mark, Rollback, Commit, Changed, Done, Refused as RefusedReply, accepted, at_place, counts_between, fresh, now, with_mark}
@@ -157,7 +157,7 @@ abbrev status_of : Bool → List Entry → Status
 status_of refused [] = final Accepted refused
 status_of refused (e ∷ es) = status_of (refused || e.refused) es
 
-runs : (refused : Bool) (s : Session) (es : List Entry) → IsSession s es → Runs FirmAnswers false Accepted refused (all_asked es) s (all_texts es) (end_of s es) (status_of refused es)
+runs : (refused : Bool) (s : Session) (es : List Entry) → IsSession s es → Serves (to_end FirmAnswers false Accepted) refused (all_asked es) s (all_texts es) (end_of s es) (status_of refused es)
 runs refused s [] h = (refl, refl, inl refl)
 runs refused s (e ∷ es) h = inr (e.text, e.refused, e.after, ((h.0, h.1), h.2), inr (inr (refl, all_texts es, refl, runs (refused || e.refused) e.after es h.3)))
 

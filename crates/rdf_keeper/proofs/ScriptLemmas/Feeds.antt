@@ -8,7 +8,7 @@ use Rattle.rdf_keeper.specs.declared.script.gathered.Says.{Says}
 use Rattle.rdf_keeper.specs.Script.Commands.{Asked, commands}
 use Rattle.rdf_keeper.specs.Script.Lines.{raw_lines, upto_last_end}
 use Rattle.rdf_keeper.specs.Script.Pieces.{EndsWithin, Fed, GoesOn, Pending, nothing_pending, unfed, whole_commands}
-use Rattle.rdf_keeper.specs.Script.Runs.{Answered, Runs, RunsOver, final}
+use Rattle.rdf_keeper.specs.Script.Runs.{Answered, Serves, to_end, RunsOver, final}
 use Rattle.rdf_keeper.specs.Script.Answers.{Answers}
 use Rattle.rdf_keeper.specs.declared.script.command.Body.{Body}
 use Rattle.rdf_keeper.specs.declared.script.status.Status.{Status}
@@ -91,18 +91,18 @@ goes_nowhere f s e = record {
 
 module _ (f f' : Fed) (same : f ≡ f') (asked : List Asked) (last : asked ≡ commands true f.pending.body (raw_lines f.pending.line)) (s t : Session) (xs : List (List ℕ)) where
   abbrev RunsToEnd : Status → Fed → Type 0
-  RunsToEnd status v = Runs Answers v.stop Accepted v.refused (commands true v.pending.body (raw_lines v.pending.line)) s xs t status
+  RunsToEnd status v = Serves (to_end Answers v.stop Accepted) v.refused (commands true v.pending.body (raw_lines v.pending.line)) s xs t status
 
   pub end_reached : (q : Bool) (status : Status) → status ≡ final Accepted q → Answered f.stop f.refused asked s xs t (Ok q) → RunsToEnd status f'
   end_reached q status e a =
       subst (RunsToEnd status) same
-      (subst (λ cs. Runs Answers f.stop Accepted f.refused cs s xs t status) last
-      (subst (Runs Answers f.stop Accepted f.refused asked s xs t) (sym e) (serves_done f.stop (final Accepted) (λ st. st) f.refused q asked s t xs a)))
+      (subst (λ cs. Serves (to_end Answers f.stop Accepted) f.refused cs s xs t status) last
+      (subst (Serves (to_end Answers f.stop Accepted) f.refused asked s xs t) (sym e) (serves_done f.stop (final Accepted) (λ st. st) f.refused q asked s t xs a)))
 
   pub end_missed : (status : Status) → Answered f.stop f.refused asked s xs t (Err status) → RunsToEnd status f'
   end_missed status a =
       subst (RunsToEnd status) same
-      (subst (λ cs. Runs Answers f.stop Accepted f.refused cs s xs t status) (append-nil asked ∙ last) (serves_ended f.stop (final Accepted) (λ st. st) f.refused asked [] s t xs status a))
+      (subst (λ cs. Serves (to_end Answers f.stop Accepted) f.refused cs s xs t status) (append-nil asked ∙ last) (serves_ended f.stop (final Accepted) (λ st. st) f.refused asked [] s t xs status a))
 
 -- ---- over the bytes that a reader gives
 
@@ -121,7 +121,7 @@ kept (Some a) = refl
 
 module _ (stop : Bool) (before mid : Option (List ℕ)) (read : List ℕ) (s t : Session) (xs : List (List ℕ)) (g : Fed) (ate : Consumes before mid read) (on : GoesOn (unfed stop) read s xs t g) where
   pub over_end : (after : Option (List ℕ)) (u : Session) (ys : List (List ℕ)) (status : Status) → Consumes mid after [] → IsAtEnd after
-      → Runs Answers g.stop Accepted g.refused (commands true g.pending.body (raw_lines g.pending.line)) t ys u status → RunsOver stop before after s (xs ++ ys) u status
+      → Serves (to_end Answers g.stop Accepted) g.refused (commands true g.pending.body (raw_lines g.pending.line)) t ys u status → RunsOver stop before after s (xs ++ ys) u status
   over_end after u ys status none at_end run =
       let whole = whole_commands nothing_pending read in
       let all : commands true None (raw_lines (read ++ [])) ≡ whole ++ commands true g.pending.body (raw_lines g.pending.line) =
@@ -134,9 +134,9 @@ module _ (stop : Bool) (before mid : Option (List ℕ)) (read : List ℕ) (s t :
         at_once = (xs, ys, t, g.refused, refl, on.answered);
         ends = inl (
           at_end,
-          subst (λ cs. Runs Answers stop Accepted false cs s (xs ++ ys) u status) (sym all)
+          subst (λ cs. Serves (to_end Answers stop Accepted) false cs s (xs ++ ys) u status) (sym all)
               (serves_on stop (final Accepted) (λ st. st) false g.refused whole (commands true g.pending.body (raw_lines g.pending.line)) s t u xs ys status on.answered
-              (subst (λ v. Runs Answers v Accepted g.refused (commands true g.pending.body (raw_lines g.pending.line)) t ys u status) on.same run)),
+              (subst (λ v. Serves (to_end Answers v Accepted) g.refused (commands true g.pending.body (raw_lines g.pending.line)) t ys u status) on.same run)),
         );
       }
 
@@ -147,7 +147,7 @@ module _ (stop : Bool) (before mid : Option (List ℕ)) (read : List ℕ) (s t :
     consumed = Consumes-chain before mid after read [] ate (consumed_none mid after keeps);
     one_piece = omega arith;
     at_once = (xs, [], t, g.refused, sym (append-nil xs), on.answered);
-    ends = inr (subst (λ l. Runs Answers stop ReadFailed false (commands false None (raw_lines (upto_last_end l))) s xs t ReadFailed) (sym (append-nil read))
+    ends = inr (subst (λ l. Serves (to_end Answers stop ReadFailed) false (commands false None (raw_lines (upto_last_end l))) s xs t ReadFailed) (sym (append-nil read))
         (serves_done stop (final ReadFailed) (λ st. st) false g.refused (whole_commands nothing_pending read) s t xs on.answered));
   }
 
@@ -158,7 +158,7 @@ module _ (stop : Bool) (before mid : Option (List ℕ)) (read : List ℕ) (s t :
     consumed = Consumes-chain before mid after read piece ate more;
     one_piece = small;
     at_once = (xs, ys, t, g.refused, refl, on.answered);
-    ends = inr (subst (λ cs. Runs Answers stop ReadFailed false cs s (xs ++ ys) u status) (append-nil (whole_commands nothing_pending (read ++ piece)))
+    ends = inr (subst (λ cs. Serves (to_end Answers stop ReadFailed) false cs s (xs ++ ys) u status) (append-nil (whole_commands nothing_pending (read ++ piece)))
         (serves_ended stop (final ReadFailed) (λ st. st) false (whole_commands nothing_pending (read ++ piece)) [] s u (xs ++ ys) status
         (ends_further (unfed stop) g read piece s t u xs ys status on ends)));
   }

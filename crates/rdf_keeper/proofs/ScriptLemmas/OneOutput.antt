@@ -16,7 +16,7 @@ use Rattle.rdf_keeper.specs.Script.Answers.{WritesReply, count_line, is_refused,
 use Rattle.rdf_keeper.specs.Script.Commands.{Asked, act, ask, bad, show, unended}
 use Rattle.rdf_keeper.specs.Script.Show.{Shows, name_line}
 use Rattle.rdf_keeper.specs.Script.OneOutput.{FirmAnswers, FullAnswers, IsWhole, OneOutput, OneText, SameAnswer, SameAnswers}
-use Rattle.rdf_keeper.specs.Script.Runs.{Runs, final}
+use Rattle.rdf_keeper.specs.Script.Runs.{Serves, to_end, final}
 use Rattle.rdf_keeper.specs.declared.script.command.Topic.{Topic}
 use Rattle.rdf_keeper.specs.declared.script.command.Topic.TheVariants.{Changes, Graphs, Quads}
 use Rattle.rdf_keeper.specs.declared.script.status.Status.{Status}
@@ -120,7 +120,7 @@ module _ (May : Asked → Session → List ℕ → Bool → Session → Type 0) 
   pairs_are : (cs : List Asked) (answers others xs ys : List (List ℕ)) → answers ≡ xs → others ≡ ys → Pairs cs xs ys → Pairs cs answers others
   pairs_are cs answers others xs ys e f p = subst (λ a. Pairs cs a others) (sym e) (subst (λ b. Pairs cs xs b) (sym f) p)
 
-  one_run : (stop refused before : Bool) (cs : List Asked) (s s' t u : Session) (answers others : List (List ℕ)) (status otherwise : Status) → refused ≡ before → s ≡ s' → Runs May stop Accepted refused cs s answers t status → IsWhole status → Runs FullAnswers stop Accepted before cs s' others u otherwise → IsWhole otherwise → SameRun cs answers t status others u otherwise
+  one_run : (stop refused before : Bool) (cs : List Asked) (s s' t u : Session) (answers others : List (List ℕ)) (status otherwise : Status) → refused ≡ before → s ≡ s' → Serves (to_end May stop Accepted) refused cs s answers t status → IsWhole status → Serves (to_end FullAnswers stop Accepted) before cs s' others u otherwise → IsWhole otherwise → SameRun cs answers t status others u otherwise
   one_run stop refused before [] s s' t u answers others status otherwise e f a w b v =
       elim (a.2) [
         | inr p ↦ not_whole status w p

@@ -6,7 +6,7 @@ use Rattle.rdf_keeper.specs.Script.Commands.{Asked, Line, after_line, asks, body
 use Rattle.rdf_keeper.specs.Script.LineWords.{words}
 use Rattle.rdf_keeper.specs.Script.Lines.{bare, is_empty, onto_first, raw_lines, upto_last_end}
 use Rattle.rdf_keeper.specs.Script.OneOutput.{AreFirm, AreFull, FullAnswers, IsFree, IsWhole, OneOutput, OneOutputOfBytes, OneTextOfBytes, SameAnswer, SameAnswers}
-use Rattle.rdf_keeper.specs.Script.Runs.{Runs, RunsOver}
+use Rattle.rdf_keeper.specs.Script.Runs.{Serves, to_end, RunsOver}
 use Rattle.rdf_session.specs.Session.{Session}
 use Rattle.rdf_keeper.specs.declared.script.command.Body.{Body}
 use Rattle.rdf_keeper.specs.declared.script.status.Status.{Status}
@@ -77,7 +77,7 @@ not_whole : {A : Type 0} (status other : Status) → IsWhole status → status �
 not_whole status other w e n = absurd (n (subst IsWhole e w))
 
 -- where no answer is that memory is wanting
-full_run : (stop refused : Bool) (last : Status) (cs : List Asked) (s t : Session) (answers : List (List ℕ)) (status : Status) → Runs Answers stop last refused cs s answers t status → IsWhole status → AreFull answers → Runs FullAnswers stop last refused cs s answers t status
+full_run : (stop refused : Bool) (last : Status) (cs : List Asked) (s t : Session) (answers : List (List ℕ)) (status : Status) → Serves (to_end Answers stop last) refused cs s answers t status → IsWhole status → AreFull answers → Serves (to_end FullAnswers stop last) refused cs s answers t status
 full_run stop refused last [] s t answers status a w f = a
 full_run stop refused last (c ∷ cs) s t answers status a w f =
     elim a [
@@ -92,7 +92,7 @@ full_run stop refused last (c ∷ cs) s t answers status a w f =
     ]
 
 -- a run that came to its end before the reader's fault counted is one over more commands
-ended_run : (stop refused : Bool) (cs more : List Asked) (s t : Session) (answers : List (List ℕ)) (status : Status) → Runs FullAnswers stop ReadFailed refused cs s answers t status → IsWhole status → Runs FullAnswers stop Accepted refused (cs ++ more) s answers t status
+ended_run : (stop refused : Bool) (cs more : List Asked) (s t : Session) (answers : List (List ℕ)) (status : Status) → Serves (to_end FullAnswers stop ReadFailed) refused cs s answers t status → IsWhole status → Serves (to_end FullAnswers stop Accepted) refused (cs ++ more) s answers t status
 ended_run stop refused [] more s t answers status a w = elim (a.2) [ inl p ↦ not_whole status ReadFailed w p (λ n. n) | inr p ↦ not_whole status no_memory w p (λ n. n) ]
 ended_run stop refused (c ∷ cs) more s t answers status a w =
     elim a [
@@ -105,21 +105,21 @@ ended_run stop refused (c ∷ cs) more s t answers status a w =
     ]
 
 -- what a whole session over bytes answers is a run over the commands of these bytes
-pub run_of_bytes : (stop : Bool) (text : List ℕ) (after : Option (List ℕ)) (s t : Session) (answers : List (List ℕ)) (status : Status) → RunsOver stop (Some text) after s answers t status → IsWhole status → AreFull answers → Runs FullAnswers stop Accepted false (commands true None (raw_lines text)) s answers t status
+pub run_of_bytes : (stop : Bool) (text : List ℕ) (after : Option (List ℕ)) (s t : Session) (answers : List (List ℕ)) (status : Status) → RunsOver stop (Some text) after s answers t status → IsWhole status → AreFull answers → Serves (to_end FullAnswers stop Accepted) false (commands true None (raw_lines text)) s answers t status
 run_of_bytes stop text None s t answers status a w f = absurd a.consumed
 run_of_bytes stop text (Some left) s t answers status a w f =
     let bytes = a.read ++ a.last in
     elim (a.ends) [
       | inl x ↦
           let all : text ≡ bytes = a.consumed ∙ ap (λ ys. bytes ++ ys) x.0 ∙ append-nil bytes in
-          subst (λ bs. Runs FullAnswers stop Accepted false (commands true None (raw_lines bs)) s answers t status) (sym all)
+          subst (λ bs. Serves (to_end FullAnswers stop Accepted) false (commands true None (raw_lines bs)) s answers t status) (sym all)
           (full_run stop false Accepted (commands true None (raw_lines bytes)) s t answers status x.1 w f)
       | inr x ↦
           let lines = front_lines bytes left in
           let front = front_commands None (raw_lines (upto_last_end bytes)) lines.0 in
           let all : commands true None (raw_lines text) ≡ commands false None (raw_lines (upto_last_end bytes)) ++ front.0 =
           ap (λ bs. commands true None (raw_lines bs)) a.consumed ∙ ap (commands true None) lines.1 ∙ front.1 in
-          subst (λ cs. Runs FullAnswers stop Accepted false cs s answers t status) (sym all)
+          subst (λ cs. Serves (to_end FullAnswers stop Accepted) false cs s answers t status) (sym all)
           (ended_run stop false (commands false None (raw_lines (upto_last_end bytes))) front.0 s t answers status
           (full_run stop false ReadFailed (commands false None (raw_lines (upto_last_end bytes))) s t answers status x w f) w)
     ]

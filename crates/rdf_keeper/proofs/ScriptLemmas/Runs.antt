@@ -8,7 +8,7 @@ use Rattle.rdf_session.specs.Session.{Session}
 use Rattle.rdf_keeper.specs.Script.Commands.{Asked}
 use Rattle.rdf_keeper.specs.Script.Answers.{Answers}
 use Rattle.rdf_keeper.specs.Inside.Streams.{WritesTo}
-use Rattle.rdf_keeper.specs.Script.Runs.{AnswerRelation, Answered, Serves}
+use Rattle.rdf_keeper.specs.Script.Runs.{Answered, Course, Serves, so_far}
 use Rattle.rdf_keeper.proofs.StreamLemmas.{Appends-chain}
 use Rattle.rdf_keeper.specs.declared.script.status.Status.{Status}
 use Rattle.rdf_keeper.specs.declared.script.status.Status.TheVariants.{Refused, WriteFailed}
@@ -37,19 +37,22 @@ module _ (stop refused : Bool) (c : Asked) (s mid : Session) (text : List ℕ) (
 
 -- ---- some commands, and more of them
 
-not_taken : {O : Type 0} (May : AnswerRelation) (stop : Bool) (next : Bool → O) (ended : Status → O) (refused : Bool) (cs : List Asked) (s : Session) → Serves May stop next ended refused cs s [] s (ended no_memory)
-not_taken May stop next ended refused [] s = (refl, refl, inr refl)
-not_taken May stop next ended refused (c ∷ cs) s = inl (refl, refl, refl)
+not_taken : {O : Type 0} (c : Course O) (refused : Bool) (cs : List Asked) (s : Session) → Serves c refused cs s [] s (c.ended no_memory)
+not_taken c refused [] s = (refl, refl, inr refl)
+not_taken c refused (asked ∷ cs) s = inl (refl, refl, refl)
 
 pub no_room : (stop refused : Bool) (cs : List Asked) (s : Session) → Answered stop refused cs s [] s (Err no_memory)
-no_room stop refused cs s = not_taken Answers stop (λ r. Ok r) (λ st. Err st) refused cs s
+no_room stop refused cs s = not_taken (so_far stop) refused cs s
 
 err_same : (x y : Status) → ◌≡◌ {A = Result Bool Status} (Err x) (Err y) → x ≡ y
 err_same x y e = cc
 
 module _ {O : Type 0} (stop : Bool) (next : Bool → O) (ended : Status → O) where
+  abbrev course : Course O
+  course = record { May = Answers; stop = stop; behind = next; ended = ended }
+
   -- where the session goes on
-  pub serves_on : (refused q : Bool) (cs more : List Asked) (s t u : Session) (xs ys : List (List ℕ)) (o : O) → Answered stop refused cs s xs t (Ok q) → Serves Answers stop next ended q more t ys u o → Serves Answers stop next ended refused (cs ++ more) s (xs ++ ys) u o
+  pub serves_on : (refused q : Bool) (cs more : List Asked) (s t u : Session) (xs ys : List (List ℕ)) (o : O) → Answered stop refused cs s xs t (Ok q) → Serves course q more t ys u o → Serves course refused (cs ++ more) s (xs ++ ys) u o
   serves_on refused q [] more s t u xs ys o a b =
       elim (a.2) [
         | inl e ↦ first_none xs ys s t u o q refused more a.0 a.1 (ok_same q refused e) b
@@ -59,10 +62,10 @@ module _ {O : Type 0} (stop : Bool) (next : Bool → O) (ended : Status → O) w
       ok_same : (x y : Bool) → ◌≡◌ {A = Result Bool Status} (Ok x) (Ok y) → x ≡ y
       ok_same x y e = cc
 
-      first_none : (xs ys : List (List ℕ)) (s t u : Session) (o : O) (q refused : Bool) (more : List Asked) → xs ≡ [] → t ≡ s → q ≡ refused → Serves Answers stop next ended q more t ys u o → Serves Answers stop next ended refused more s (xs ++ ys) u o
+      first_none : (xs ys : List (List ℕ)) (s t u : Session) (o : O) (q refused : Bool) (more : List Asked) → xs ≡ [] → t ≡ s → q ≡ refused → Serves course q more t ys u o → Serves course refused more s (xs ++ ys) u o
       first_none xs ys s t u o q refused more e f g b =
-          subst (λ zs. Serves Answers stop next ended refused more s (zs ++ ys) u o) (sym e)
-          (subst (λ v. Serves Answers stop next ended refused more v ys u o) f (subst (λ v. Serves Answers stop next ended v more t ys u o) g b))
+          subst (λ zs. Serves course refused more s (zs ++ ys) u o) (sym e)
+          (subst (λ v. Serves course refused more v ys u o) f (subst (λ v. Serves course v more t ys u o) g b))
   serves_on refused q (c ∷ cs) more s t u xs ys o a b =
       elim a [
         | inl p ↦ absurd_ok q (p.2)
@@ -78,24 +81,24 @@ module _ {O : Type 0} (stop : Bool) (next : Bool → O) (ended : Status → O) w
       absurd_ok q e = cc
 
   -- where that is all
-  pub serves_done : (refused q : Bool) (cs : List Asked) (s t : Session) (xs : List (List ℕ)) → Answered stop refused cs s xs t (Ok q) → Serves Answers stop next ended refused cs s xs t (next q)
+  pub serves_done : (refused q : Bool) (cs : List Asked) (s t : Session) (xs : List (List ℕ)) → Answered stop refused cs s xs t (Ok q) → Serves course refused cs s xs t (next q)
   serves_done refused q cs s t xs a =
-      subst (λ ds. Serves Answers stop next ended refused ds s xs t (next q)) (append-nil cs)
-      (subst (λ ys. Serves Answers stop next ended refused (cs ++ []) s ys t (next q)) (append-nil xs) (serves_on refused q cs [] s t t xs [] (next q) a (refl, refl, inl refl)))
+      subst (λ ds. Serves course refused ds s xs t (next q)) (append-nil cs)
+      (subst (λ ys. Serves course refused (cs ++ []) s ys t (next q)) (append-nil xs) (serves_on refused q cs [] s t t xs [] (next q) a (refl, refl, inl refl)))
 
   -- where it ended
-  pub serves_ended : (refused : Bool) (cs more : List Asked) (s t : Session) (xs : List (List ℕ)) (st : Status) → Answered stop refused cs s xs t (Err st) → Serves Answers stop next ended refused (cs ++ more) s xs t (ended st)
+  pub serves_ended : (refused : Bool) (cs more : List Asked) (s t : Session) (xs : List (List ℕ)) (st : Status) → Answered stop refused cs s xs t (Err st) → Serves course refused (cs ++ more) s xs t (ended st)
   serves_ended refused [] more s t xs st a =
       elim (a.2) [
         | inl e ↦ cc
         | inr e ↦ none_taken (err_same st no_memory e)
       ]
     where
-      none_taken : st ≡ no_memory → Serves Answers stop next ended refused more s xs t (ended st)
+      none_taken : st ≡ no_memory → Serves course refused more s xs t (ended st)
       none_taken e =
-          subst (λ v. Serves Answers stop next ended refused more s xs t (ended v)) (sym e)
-          (subst (λ zs. Serves Answers stop next ended refused more s zs t (ended no_memory)) (sym a.0)
-          (subst (λ v. Serves Answers stop next ended refused more s [] v (ended no_memory)) (sym a.1) (not_taken Answers stop next ended refused more s)))
+          subst (λ v. Serves course refused more s xs t (ended v)) (sym e)
+          (subst (λ zs. Serves course refused more s zs t (ended no_memory)) (sym a.0)
+          (subst (λ v. Serves course refused more s [] v (ended no_memory)) (sym a.1) (not_taken course refused more s)))
   serves_ended refused (c ∷ cs) more s t xs st a =
       elim a [
         | inl p ↦ inl (p.0, p.1, ap ended (err_same st no_memory p.2))

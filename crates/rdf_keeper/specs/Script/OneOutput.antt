@@ -6,7 +6,7 @@ use Rattle.rdf_keeper.specs.Script.Commands.{Asked, act, ask, bad, commands, sho
 use Rattle.rdf_keeper.specs.Script.Lines.{raw_lines}
 use Rattle.rdf_session.specs.OneQueryReply.{IsFreeFault}
 use Rattle.rdf_session.specs.OneReply.{HasFreeLine, SameButLine}
-use Rattle.rdf_keeper.specs.Script.Runs.{Runs, RunsOver}
+use Rattle.rdf_keeper.specs.Script.Runs.{Serves, to_end, RunsOver}
 use Rattle.rdf_session.specs.Session.{Session, Refused as RefusedReply}
 use Rattle.rdf_session.specs.declared.fault.KeeperFault.{KeeperFault}
 use Rattle.rdf_session.specs.Faults.{no_memory}
@@ -51,15 +51,15 @@ FirmAnswers c s text refused t = FullAnswers c s text refused t × ((fault : Kee
 -- but for such lines, and end alike.
 abbrev pub OneOutput : Type 0
 OneOutput = (stop : Bool) (commands : List Asked) (s t u : Session) (answers others : List (List ℕ)) (status otherwise : Status)
-    → Runs FullAnswers stop Accepted false commands s answers t status → IsWhole status
-    → Runs FullAnswers stop Accepted false commands s others u otherwise → IsWhole otherwise
+    → Serves (to_end FullAnswers stop Accepted) false commands s answers t status → IsWhole status
+    → Serves (to_end FullAnswers stop Accepted) false commands s others u otherwise → IsWhole otherwise
     → SameAnswers commands answers others × (t ≡ u) × (status ≡ otherwise)
 
 -- Where no answer of one run has such a line, the answers of the other are the same.
 abbrev pub OneText : Type 0
 OneText = (stop : Bool) (commands : List Asked) (s t u : Session) (answers others : List (List ℕ)) (status otherwise : Status)
-    → Runs FirmAnswers stop Accepted false commands s answers t status → IsWhole status
-    → Runs FullAnswers stop Accepted false commands s others u otherwise → IsWhole otherwise
+    → Serves (to_end FirmAnswers stop Accepted) false commands s answers t status → IsWhole status
+    → Serves (to_end FullAnswers stop Accepted) false commands s others u otherwise → IsWhole otherwise
     → (answers ≡ others) × (t ≡ u) × (status ≡ otherwise)
 
 -- ---- the same of the bytes that a session's reader gives, in the words of `run`

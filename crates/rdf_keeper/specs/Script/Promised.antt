@@ -10,7 +10,7 @@ use Rattle.rdf_session.specs.Standing.{Run}
 use Rattle.rdf_keeper.specs.Script.Answers.{Answers, reply_line}
 use Rattle.rdf_keeper.specs.Script.Commands.{Asked, act, ask, bad, commands, show, unended}
 use Rattle.rdf_keeper.specs.Script.Lines.{raw_lines, upto_last_end}
-use Rattle.rdf_keeper.specs.Script.Runs.{Runs, RunsOver}
+use Rattle.rdf_keeper.specs.Script.Runs.{Serves, to_end, RunsOver}
 use Rattle.rdf_keeper.specs.declared.script.status.Status.{Status}
 use Rattle.rdf_keeper.specs.declared.script.status.Status.TheVariants.{WriteFailed}
 
@@ -35,7 +35,7 @@ AreTold status (unended ∷ asked) (text ∷ texts) events = AreTold status aske
 -- However commands are answered, those of the session, with these replies, lead from its beginning to its end.
 abbrev pub AnswersAreTransitions : Type 0
 AnswersAreTransitions = (stop : Bool) (last : Status) (refused : Bool) (asked : List Asked) (old : Session) (answers : List (List ℕ)) (new : Session) (status : Status)
-    → Runs Answers stop last refused asked old answers new status
+    → Serves (to_end Answers stop last) refused asked old answers new status
     → (events : List (Command × Reply)) × AreTold status asked answers events × Run old events new
 
 -- ---- over bytes

@@ -35,29 +35,41 @@ Stops ended halts text mid answers new outcome =
 abbrev pub AnswerRelation : Type 1
 AnswerRelation = Asked → Session → List ℕ → Bool → Session → Type 0
 
+-- how a session goes from command to command
+pub record Course (O : Type 0) : Type 1 where
+  -- the answers that a command may have
+  pub May : AnswerRelation
+  -- its first refusal ends it
+  pub stop : Bool
+  -- the outcome behind the last command, by whether something was refused
+  pub behind : Bool → O
+  -- the outcome where it ended before, with a status
+  pub ended : Status → O
+
 -- From old, with something refused or not so far, the commands may have these answers, and lead to new and the outcome.
--- The relation tells the answers that a command may have, the two functions the outcome behind the last command, by
--- whether something was refused, and that of a session that ended with a status before.
-abbrev pub Serves : {O : Type 0} → AnswerRelation → Bool → (Bool → O) → (Status → O) → Bool → List Asked → Session → List (List ℕ) → Session → O → Type 0
-Serves May stop goes_on ended refused [] old answers new outcome =
+abbrev pub Serves : {O : Type 0} → Course O → Bool → List Asked → Session → List (List ℕ) → Session → O → Type 0
+Serves c refused [] old answers new outcome =
     -- all are answered, or memory for the next one is wanting
-    (answers ≡ []) × (new ≡ old) × ((outcome ≡ goes_on refused) ⊎ (outcome ≡ ended no_memory))
-Serves May stop goes_on ended refused (c ∷ cs) old answers new outcome =
-    NotTaken ended old answers new outcome ⊎
-    ((text : List ℕ) × (is_refused : Bool) × (mid : Session) × May c old text is_refused mid ×
-    (BreaksOff ended text mid answers new outcome
-    ⊎ Stops ended (stop && is_refused) text mid answers new outcome
+    (answers ≡ []) × (new ≡ old) × ((outcome ≡ c.behind refused) ⊎ (outcome ≡ c.ended no_memory))
+Serves c refused (asked ∷ more) old answers new outcome =
+    NotTaken c.ended old answers new outcome ⊎
+    ((text : List ℕ) × (is_refused : Bool) × (mid : Session) × c.May asked old text is_refused mid ×
+    (BreaksOff c.ended text mid answers new outcome
+    ⊎ Stops c.ended (c.stop && is_refused) text mid answers new outcome
     -- or the next command comes
-    ⊎ (((stop && is_refused) ≡ false) × (others : List (List ℕ)) × (answers ≡ text ∷ others)
-    × Serves May stop goes_on ended (refused || is_refused) cs mid others new outcome)))
+    ⊎ (((c.stop && is_refused) ≡ false) × (others : List (List ℕ)) × (answers ≡ text ∷ others)
+    × Serves c (refused || is_refused) more mid others new outcome)))
 
--- The same up to the session's end: the first status is that of a session that comes to the end of its commands.
-abbrev pub Runs : AnswerRelation → Bool → Status → Bool → List Asked → Session → List (List ℕ) → Session → Status → Type 0
-Runs May stop last refused cs old answers new status = Serves May stop (final last) (λ s. s) refused cs old answers new status
+-- up to the session's end: the status is that of a session that comes to the end of its commands, if nothing is refused
+abbrev pub to_end : AnswerRelation → Bool → Status → Course Status
+to_end May stop last = record { May = May; stop = stop; behind = final last; ended = λ s. s }
 
--- The same where more commands may come: `Ok` where the session goes on, and whether something was refused so far.
+-- where more commands may come: `Ok` where the session goes on, and whether something was refused so far
+abbrev pub so_far : Bool → Course (Result Bool Status)
+so_far stop = record { May = Answers; stop = stop; behind = λ r. Ok r; ended = λ s. Err s }
+
 abbrev pub Answered : Bool → Bool → List Asked → Session → List (List ℕ) → Session → Result Bool Status → Type 0
-Answered stop refused cs old answers new outcome = Serves Answers stop (λ r. Ok r) (λ s. Err s) refused cs old answers new outcome
+Answered stop refused cs old answers new outcome = Serves (so_far stop) refused cs old answers new outcome
 
 -- ---- over the bytes that a reader gives
 
@@ -76,5 +88,5 @@ pub record RunsOver (stop : Bool) (before after : Option (List ℕ)) (old : Sess
   pub at_once : (first others : List (List ℕ)) × (mid : Session) × (refused : Bool) × (answers ≡ first ++ others)
       × Answered stop false (commands false None (raw_lines (upto_last_end read))) old first mid (Ok refused)
   -- The reader's end was read, or a fault came, or nothing more was read.
-  pub ends : (IsAtEnd after × Runs Answers stop Accepted false (commands true None (raw_lines (read ++ last))) old answers new status)
-      ⊎ Runs Answers stop ReadFailed false (commands false None (raw_lines (upto_last_end (read ++ last)))) old answers new status
+  pub ends : (IsAtEnd after × Serves (to_end Answers stop Accepted) false (commands true None (raw_lines (read ++ last))) old answers new status)
+      ⊎ Serves (to_end Answers stop ReadFailed) false (commands false None (raw_lines (upto_last_end (read ++ last)))) old answers new status

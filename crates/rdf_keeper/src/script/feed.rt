@@ -10,7 +10,7 @@ ghost use Rattle.rdf_keeper.specs.Inside.Streams.{WritesTo};
 ghost use Rattle.rdf_keeper.specs.Script.Commands.{commands};
 ghost use Rattle.rdf_keeper.specs.Script.Lines.{raw_lines, upto_last_end};
 ghost use Rattle.rdf_keeper.specs.Script.Pieces.{EndsWithin, GoesOn, unfed};
-ghost use Rattle.rdf_keeper.specs.Script.Runs.{Answered, Runs, final};
+ghost use Rattle.rdf_keeper.specs.Script.Runs.{Answered, Serves, to_end, final};
 
 use crate::script::answer::{Answer, serve};
 use crate::script::command::Command;
@@ -195,7 +195,7 @@ impl Feed {
     pub fn end<W: Write>(self, keeper: &mut Keeper, writer: &mut W) -> Status
         ensures { (answers : List (List ℕ))
             × Appends (W.contents writer.old) (W.contents writer.new) (concat answers)
-            × Runs Answers self.stop Status.Accepted self.refused
+            × Serves (to_end Answers self.stop Status.Accepted) self.refused
             (commands true self.pending.body (raw_lines self.pending.line))
             keeper.old answers keeper.new result }
     {
