@@ -1,5 +1,6 @@
-//! Tests that call the keeper and the program as a host does: each call once, and readers and writers
-//! that fail. What a document or a script shows stands in `tests/`. It has no code of its own.
+//! Tests that call the keeper, queries, updates and the program as a host does: each call once, readers and writers that
+//! fail, how much patterns look at, and updates that no text has. What a document or a script shows stands in `tests/`. It has no
+//! code of its own.
 #![tactic(auto)]
 
 #[cfg(test)]
@@ -7,6 +8,10 @@ mod dialogue;
 #[cfg(test)]
 mod keeper;
 #[cfg(test)]
+mod look_ups;
+#[cfg(test)]
 mod once;
 #[cfg(test)]
 mod streams;
+#[cfg(test)]
+mod templates;

@@ -1,5 +1,5 @@
 use Rattle.std.proofs.Common.{◌≡◌, IfSome, Bool, true, false, Option, Some, None, if◌then◌else◌, sym, subst}
-use Rattle.lower_refusals.proofs.datasets.quad.Goals as goal
+use Rattle.refusals.proofs.datasets.quad.Goals as goal
 
 of_some : {A : Type 0} (P : A → Type 0) (kind : Bool) (x : A) (r : Option A) → r ≡ (if kind then Some x else None) → P x → IfSome r P
 of_some P true x r e p = subst (λ z. IfSome z P) (sym e) p

@@ -1,6 +1,6 @@
 use Rattle.std.proofs.Common.{ap, ◌∙◌}
 use Rattle.rdf_dataset.specs.State.{net_between}
-use Rattle.lower_refusals.proofs.datasets.insertion.Goals as goal
+use Rattle.refusals.proofs.datasets.insertion.Goals as goal
 
 pub returns-in-Ok : goal.returns-in-Ok
 returns-in-Ok c =

@@ -1,11 +1,10 @@
-//! What the programs share that call the library where any allocation may be refused.
+//! The parts of the program, each of which writes a line.
 //!
-//! Such a program has parts, each of which writes a line. The first digit of its input names the one
-//! that is asked for; without input all are. For each byte of its input the program first takes memory
-//! and gives it back. So `tools/fail-alloc` has always the same allocation refused, and chooses by the
-//! input which one of a part that is. At its end the program takes memory until that is refused, and
-//! says how often it was given: all of 1024 times where the refused allocation was one of the part's.
-#![tactic(auto)]
+//! The first digit of the input names the one that is asked for; without input all are. For each byte of
+//! its input the program first takes memory and gives it back. So `tools/fail-alloc` has always the same
+//! allocation refused, and chooses by the input which one of a part that is. At its end the program takes
+//! memory until that is refused, and says how often it was given: all of 1024 times where the refused
+//! allocation was one of the part's.
 
 use std::alloc::Global;
 use std::fmt::Display;

@@ -1,6 +1,6 @@
 use Rattle.std.proofs.Common.{◌≡◌, sym, subst}
 use Rattle.rdf_dataset.specs.State.{net_between}
-use Rattle.lower_refusals.proofs.datasets.moved.Goals as goal
+use Rattle.refusals.proofs.datasets.moved.Goals as goal
 
 pub returns-in-Ok-then : goal.returns-in-Ok-then
 returns-in-Ok-then c =
