@@ -52,28 +52,28 @@ impl Net {
     pub fn added(&self) -> &[Quad]
         ensures { ListsSorted self.now.added result.now }
     {
-        self.quads.added.as_slice()
+        self.quads.added.members()
     }
 
     /// The quads that were removed, each once, in order.
     pub fn removed(&self) -> &[Quad]
         ensures { ListsSorted self.now.removed result.now }
     {
-        self.quads.removed.as_slice()
+        self.quads.removed.members()
     }
 
     /// The graph names that were added, each once, in order.
     pub fn names_added(&self) -> &[Term]
         ensures { ListsSorted self.now.names_added result.now }
     {
-        self.names.added.as_slice()
+        self.names.added.members()
     }
 
     /// The graph names that were removed, each once, in order.
     pub fn names_removed(&self) -> &[Term]
         ensures { ListsSorted self.now.names_removed result.now }
     {
-        self.names.removed.as_slice()
+        self.names.removed.members()
     }
 
     /// The number of the next blank node before the change.

@@ -33,6 +33,7 @@ pub use round_trip::{
     numbered_documents_are_read_back, numbered_sorted_texts_are_read_back,
     read_documents_are_read_again, sorted_texts_are_read_back,
 };
+pub use shared::push_shared;
 pub use state::ReaderState;
 pub use statement::{Node, Object, Statement};
 pub use write::{sorted_text_is_one, write_quad, write_sorted};

@@ -81,6 +81,9 @@ fn shared_quad(terms: &mut TermTable, before: Option<&Quad>, quad: Quad) -> Resu
 
 /// Appends an equal quad, or nothing. Its terms share their texts with those of the quad before it, or with those that the table held,
 /// or are held from now on.
+///
+/// # Errors
+/// [`NoMemory`] where memory is wanting. Terms of the quad may be held by then.
 pub fn push_shared(terms: &mut TermTable, quads: &mut Vec<Quad>, quad: Quad) -> Result<(), NoMemory>
     ensures ok { OnOk result (quads.new.items ≡ quads.old.items ++ quad ∷ []) }
     ensures err { OnErr result (quads.new.items ≡ quads.old.items) }

@@ -9,6 +9,7 @@ mod lines;
 mod load;
 mod marks;
 mod query;
+mod shared_quads;
 mod update;
 
 pub use fault::{Counts, KeeperFault};

@@ -10,10 +10,11 @@ ghost use Rattle.rdf_session.specs.Inside.Staging.{Stages, TellsFault, TellsLine
 
 use crate::fault::KeeperFault;
 use crate::format::Format;
+use crate::shared_quads::SharedQuads;
 use rdf_dataset::{Dataset, Net};
 use rdf_lines::{FaultKind, LineFault, LineFormat, read_lines};
 use rdf_terms::{GraphName, Iri, Quad, Term};
-use rdf_turtle::{TurtleFault, TurtleFaultKind, read_turtle};
+use rdf_turtle::{TurtleFault, TurtleFaultKind, read_turtle_into};
 use std::alloc::Global;
 
 // The greatest blank counter.
@@ -97,8 +98,8 @@ fn read_in_turtle(alloc: Global, text: &[u8], base: Option<&Iri>) -> Result<Vec<
         (λ quads. turtle.IsDocument (option_copied base.entry) text.now quads.items)
         (λ fault. TellsTurtleFault (option_copied base.entry) text.now fault) }
 {
-    match read_turtle(alloc, text, base) {
-        Ok(quads) => Ok(quads),
+    match read_turtle_into::<SharedQuads>(alloc, text, base) {
+        Ok(shared) => Ok(shared.into_quads()),
         Err(fault) => Err(turtle_refusal(fault)),
     }
 }

@@ -68,7 +68,7 @@ impl<T: Item> Sorted<T> {
     }
 
     /// The items, each once, in order.
-    pub fn as_slice(&self) -> &[T]
+    pub fn members(&self) -> &[T]
         ensures { ListsSorted (set.from_list {R = T.order} self.now) result.now }
     {
         self.as_slice()

@@ -32,7 +32,7 @@ pub use rdf_tokens::{
     one_token_list, one_token_text, pnames_are_iris, pnames_have_parts, some_token_list,
     texts_have_values, token_text, tokens_have_forms,
 };
-pub use sink::TripleSink;
+pub use sink::{TripleSink, default_quad};
 pub use terminal::Terminal;
 pub use token_list::tokens;
 pub use tree::{Literal, Name, Node, Property, Statement, Verb};

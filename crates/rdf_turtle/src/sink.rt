@@ -37,14 +37,17 @@ impl TripleSink for Vec<Quad> {
     }
 
     fn take(&mut self, subject: &Term, predicate: &Iri, object: Term) -> Result<(), NoMemory> {
-        self.push(quad_of(subject, predicate, object)?)?;
+        self.push(default_quad(subject, predicate, object)?)?;
         Ok(())
     }
 }
 
-// The quad that a triple is in the default graph.
+/// The quad that a triple is in the default graph.
+///
+/// # Errors
+/// [`NoMemory`] where memory for copies of its terms is wanting.
 #[inline(always)]
-fn quad_of(subject: &Term, predicate: &Iri, object: Term) -> Result<Quad, NoMemory>
+pub fn default_quad(subject: &Term, predicate: &Iri, object: Term) -> Result<Quad, NoMemory>
     requires { is_literal_term subject.now ≡ false }
     ensures { IfOk result (λ quad. quad ≡ triple subject.now predicate.now object) }
 {
