@@ -1,9 +1,9 @@
 -- A text is its lines, each with its end, and is no others.
 use Rattle.std.proofs.Common.{◌≡◌, ◌∙◌, inl, inr, ap, refl, sym, subst, ℕ, true, false, eqb, List, [], ◌∷◌, ◌++◌, append-nil}
-use Rattle.std.specs.List.{list_any}
+use Rattle.std.specs.List.{list_any, onto_first}
 use Rattle.std.proofs.lemmas.Bool.{cases_Bool, eqb-true, or_parts, or_from}
 use Rattle.rdf_terms.specs.LineEnds.{is_line_end, begins_with_lf}
-use Rattle.rdf_lines.specs.Lines.{lines_behind, onto_first}
+use Rattle.rdf_lines.specs.Lines.{lines_behind}
 use Rattle.rdf_lines.specs.LineEnds.{EndsLine, AreTheText, LinesAreTheText, NoOthersAreTheText}
 use Rattle.rdf_lines.specs.Pieces.{onto}
 use Rattle.rdf_lines.proofs.PieceLemmas.{other, not_feed, onto-cons, onto-none}

@@ -3,7 +3,8 @@ use Rattle.std.proofs.Common.{◌≡◌, ◌≢◌, ◌∙◌, ap, refl, sym, �
 use Rattle.std.specs.Io.KnownBytes.{Consumes, prepend_known}
 use Rattle.std.proofs.lemmas.List.{drop-take, drop-drop, take_more, take_all, drop_all}
 use Rattle.rdf_terms.specs.LineEnds.{is_line_feed, is_return, is_line_end}
-use Rattle.rdf_lines.specs.Lines.{lines_behind, onto_first}
+use Rattle.rdf_lines.specs.Lines.{lines_behind}
+use Rattle.std.specs.List.{onto_first}
 use Rattle.rdf_lines.specs.Pieces.{onto, Hold, feed_len, Held, TakesPart, HasLine, HasNoLine, ahead, room}
 use Rattle.rdf_lines.specs.declared.cut.Place.{Place}
 use Rattle.std.specs.Prelude.{Result, Ok, Err, is_ok, is_err}

@@ -1,7 +1,7 @@
 -- The lines of quads, one after the other, are the lines of a text.
 use Rattle.std.proofs.Common.{◌≡◌, ◌∙◌, ap, refl, sym, subst, inl, inr, ℕ, ◌+◌, arith, Bool, true, false, ◌==◌, if◌then◌else◌, nat_eq, List, [], ◌∷◌, ◌++◌, map, codes, decimal, append_assoc, true≢false, Option, Some, None}
 use Rattle.std.specs.Cmp.Lexicographic.{pointwise}
-use Rattle.std.specs.List.{flat_map, list_any, AllByRecursion}
+use Rattle.std.specs.List.{flat_map, list_any, AllByRecursion, onto_first}
 use Rattle.std.proofs.lemmas.Bool.{cases_Bool, or_parts, or_from, or_cases, eqb-true, ltb-true}
 use Rattle.std.proofs.lemmas.Bool.Decides.{nat_tests}
 use Rattle.std.proofs.lemmas.List.Folds.{list_any-append}
@@ -18,7 +18,7 @@ use Rattle.rdf_terms.specs.declared.quad.Quad.{Quad}
 use Rattle.rdf_terms.specs.LineEnds.{is_line_feed, is_return, is_line_end}
 use Rattle.rdf_terms.proofs.CallerLemmas.{QuadTests, quad_tests, AllPass, tag_name, iri_allowed, is_digit, decimal_digits, tag_parts, literal_parts, by_escape}
 use Rattle.rdf_lines.specs.declared.format.LineFormat.TheVariants.{NQuads}
-use Rattle.rdf_lines.specs.Lines.{lines_behind, lines, onto_first}
+use Rattle.rdf_lines.specs.Lines.{lines_behind, lines}
 use Rattle.rdf_lines.specs.Document.{ReadsAll}
 use Rattle.rdf_lines.specs.QuadText.{quad_text}
 use Rattle.rdf_lines.specs.RoundTrip.{statement_of}

@@ -2,7 +2,8 @@
 use Rattle.std.specs.Prelude.{◌≡◌, ◌≢◌, ℕ, ◌<◌, ◌≤◌, ◌+◌, ◌*◌, ◌&&◌, Bool, true, false, List, [], ◌∷◌, ◌++◌, length, take, drop, slice_range, if◌then◌else◌, Option, Result, Ok, Err}
 use Rattle.std.specs.Io.KnownBytes.{Consumes, IsAtEnd, prepend_known}
 use Rattle.rdf_terms.specs.LineEnds.{is_line_feed}
-use Rattle.rdf_lines.specs.Lines.{lines_behind, onto_first}
+use Rattle.rdf_lines.specs.Lines.{lines_behind}
+use Rattle.std.specs.List.{onto_first}
 use Rattle.rdf_lines.specs.declared.fault.FaultKind.{FaultKind}
 use Rattle.rdf_lines.specs.declared.fault.FaultKind.TheVariants.{Read, NoMemory}
 use Rattle.rdf_lines.specs.declared.cut.Place.{Place}

@@ -2,7 +2,8 @@
 use Rattle.std.proofs.Common.{◌≡◌, ◌∙◌, ap, refl, sym, ℕ, Bool, true, false, cond, ◌&&◌, ◌||◌, List, [], ◌∷◌, ◌++◌}
 use Rattle.std.specs.Prelude.{not}
 use Rattle.rdf_terms.specs.LineEnds.{is_line_feed, is_return, is_line_end}
-use Rattle.rdf_lines.specs.Lines.{lines_behind, onto_first}
+use Rattle.rdf_lines.specs.Lines.{lines_behind}
+use Rattle.std.specs.List.{onto_first}
 use Rattle.rdf_lines.specs.Pieces.{Hold, onto}
 use Rattle.rdf_lines.proofs.CallerLemmas.{onto-cons, other, ended, not_feed, feed}
 use Rattle.rdf_keeper.specs.Conversion.Converts.{whole_lines, is_empty}

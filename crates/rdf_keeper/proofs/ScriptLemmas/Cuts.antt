@@ -1,8 +1,8 @@
 -- The lines of a script are its text, cut behind each LF.
 use Rattle.std.proofs.Common.{◌≡◌, ◌≢◌, inl, inr, ℕ, true, false, cond, List, [], ◌∷◌, ◌++◌, refl, sym, ap, ◌∙◌, append-nil, nat_eq}
 use Rattle.std.proofs.lemmas.Bool.Decides.{eqb_tells}
-use Rattle.std.specs.List.{concat}
-use Rattle.rdf_keeper.specs.Script.Lines.{raw_lines, onto_first}
+use Rattle.std.specs.List.{concat, onto_first}
+use Rattle.rdf_keeper.specs.Script.Lines.{raw_lines}
 use Rattle.rdf_keeper.specs.Script.LineLaws.{AreLines, HasNoEnd, IsEnded, LinesAreTheText, LinesAreEnded, OneCut}
 
 -- ---- the text

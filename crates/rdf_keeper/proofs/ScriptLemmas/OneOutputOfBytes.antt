@@ -4,7 +4,8 @@ use Rattle.rdf_session.specs.declared.fault.KeeperFault.{KeeperFault}
 use Rattle.rdf_keeper.specs.Script.Answers.{Answers}
 use Rattle.rdf_keeper.specs.Script.Commands.{Asked, Line, after_line, asks, body_asks, commands, is_end, line_of_words, opens, skipped}
 use Rattle.rdf_keeper.specs.Script.LineWords.{words}
-use Rattle.rdf_keeper.specs.Script.Lines.{bare, is_empty, onto_first, raw_lines, upto_last_end}
+use Rattle.rdf_keeper.specs.Script.Lines.{bare, is_empty, raw_lines, upto_last_end}
+use Rattle.std.specs.List.{onto_first}
 use Rattle.rdf_keeper.specs.Script.OneOutput.{AreFirm, AreFull, FullAnswers, IsFree, IsWhole, OneOutput, OneOutputOfBytes, OneTextOfBytes, SameAnswer, SameAnswers}
 use Rattle.rdf_keeper.specs.Script.Runs.{Serves, to_end, RunsOver}
 use Rattle.rdf_session.specs.Session.{Session}
