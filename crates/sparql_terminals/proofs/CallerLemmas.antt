@@ -5,4 +5,5 @@ pub use Rattle.sparql_terminals.proofs.Keywords.{keyword_complete, keyword_sound
 pub use Rattle.sparql_terminals.proofs.ProfileTokens.{word_tells}
 pub use Rattle.sparql_terminals.proofs.Shifts.{closed, keeps, kept, the_shifts, then_shifts, value_shifts}
 pub use Rattle.sparql_terminals.proofs.WordYields.{Passes, binding_gives, iri_gives, literal_gives}
-pub use Rattle.sparql_terminals.proofs.Yields.{Any, IsGoodOption, IsOf, Yields, also_gives, behind_gives, closed_gives, good_joined, map_gives, maybe_gives, one_gives, or_gives, pure_gives, star_gives, the_gives, then_gives, value_gives}
+pub use Rattle.sparql_terminals.proofs.Yields.{Any, IsGoodOption, IsOf, also_gives, behind_gives, closed_gives, good_joined, map_gives, maybe_gives, one_gives, or_gives, pure_gives, star_gives, the_gives, then_gives, value_gives}
+unfoldable pub use Rattle.sparql_terminals.proofs.Yields.{Yields}
