@@ -1,6 +1,6 @@
 -- What other crates cite.
 pub use Rattle.rdf_grammar.proofs.Combinators.{also, choose_decides, last, maybe_decides, one_decides, seq}
-pub use Rattle.rdf_grammar.proofs.Decides.{Decides, always, pure_decides, repeat_decides, some_pair, then_decides}
+pub use Rattle.rdf_grammar.proofs.Decides.{Decides, always, pure_decides, repeat_decides, some_pair, then_decides, then_parts}
 pub use Rattle.rdf_grammar.proofs.Depths.{never_more, one_behind}
 pub use Rattle.rdf_grammar.proofs.KeyEntries.{found, kept, label_below, label_inserted, lt_or_is, more_labels}
 pub use Rattle.rdf_grammar.proofs.LexemeLemmas.{lexemes_have_forms}

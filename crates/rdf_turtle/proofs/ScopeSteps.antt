@@ -10,7 +10,7 @@ use Rattle.rdf_terms.specs.Quad.{QuadParts, has_right_kinds}
 use Rattle.rdf_terms.specs.declared.term.Term.{Term}
 use Rattle.rdf_terms.specs.declared.term.Term.TheVariants.{Blank, Iri, Literal}
 use Rattle.rdf_terms.specs.Blanks.{blanks_in, blanks_of, AreNumberedInOrder}
-pub use Rattle.rdf_grammar.proofs.Decides.{then_parts}
+pub use Rattle.rdf_grammar.proofs.CallerLemmas.{then_parts}
 use Rattle.rdf_grammar.proofs.CallerLemmas.{more_labels, label_below, label_inserted, lt_or_is}
 use Rattle.rdf_turtle.specs.Blanks.{IsTriple}
 use Rattle.rdf_grammar.specs.Steps.{Outcome}

@@ -2,7 +2,7 @@
 use Rattle.std.proofs.Common.{◌≡◌, true, ◌&&◌, [], ◌∷◌, Option, Some, None, refl, ap, ◌∙◌}
 use Rattle.rdf_terms.specs.declared.term.Term.{Term}
 use Rattle.sparql_values.specs.Mapping.{Mapping, same_value, same_mapping}
-pub use Rattle.sparql_values.proofs.TermLemmas.{same_term_is, same_term_own}
+pub use Rattle.sparql_values.proofs.CallerLemmas.{same_term_is, same_term_own}
 use Rattle.sparql_algebra.proofs.TruthLemmas.{and_left, and_right}
 
 pub same_value_is : (x y : Option Term) → same_value x y ≡ true → x ≡ y

@@ -11,7 +11,7 @@ use Rattle.rdf_terms.specs.declared.term.Term.TheVariants.{Blank, Iri, Literal}
 use Rattle.rdf_grammar.specs.Keys.{key_of, same_key}
 use Rattle.rdf_grammar.specs.Numbering.{labelled_as}
 use Rattle.rdf_grammar.specs.Steps.{Outcome, Step, and_then}
-pub use Rattle.rdf_grammar.proofs.Decides.{then_parts}
+pub use Rattle.rdf_grammar.proofs.CallerLemmas.{then_parts}
 use Rattle.rdf_grammar.proofs.CallerLemmas.{more_labels, label_below, label_inserted, lt_or_is}
 use Rattle.sparql_drafts.specs.Blanks.{place_blanks, pattern_blanks}
 use Rattle.sparql_drafts.specs.declared.draft.QuadPattern.{QuadPattern}

@@ -1,3 +1,2 @@
 -- What other crates cite.
-pub use Rattle.sparql_drafts.proofs.BlankSteps.{then_parts}
 pub use Rattle.sparql_drafts.proofs.DraftsBelow.{data_numbered, numbered_below}

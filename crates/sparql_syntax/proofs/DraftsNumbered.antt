@@ -16,7 +16,8 @@ use Rattle.sparql_grammar.specs.declared.tree.Operation.{Operation}
 use Rattle.sparql_grammar.specs.declared.tree.Operation.TheVariants as o
 use Rattle.sparql_grammar.specs.declared.tree.Part.{Part}
 use Rattle.sparql_grammar.specs.declared.tree.Part.TheVariants as w
-use Rattle.sparql_drafts.proofs.CallerLemmas.{then_parts, data_numbered}
+use Rattle.rdf_grammar.proofs.CallerLemmas.{then_parts}
+use Rattle.sparql_drafts.proofs.CallerLemmas.{data_numbered}
 use Rattle.sparql_drafts.specs.Blanks.{IsNumbered}
 use Rattle.sparql_drafts.specs.declared.draft.Quads.{Quads}
 use Rattle.sparql_drafts.specs.Meaning.{quads_in, declaration}
