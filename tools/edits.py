@@ -2,7 +2,8 @@
 import collections, os, re
 
 HEAD = re.compile(r"^( *)(?:pub(?:\([^)]*\))? )?((?:(?:const|unsafe|final) )*)fn (\w+)")
-IMPL = re.compile(r"(?:unsafe )?impl(?:<[^{]*?>)? (?:(?:\w+::)*(\w+)(?:<(\w+).*?>)? for )?(?:\w+::)*(\w+)")
+# its parameters, its trait and that one's argument, its type and that one's argument
+IMPL = re.compile(r"(?:unsafe )?impl(<[^{]*?>)? (?:(?:\w+::)*(\w+)(?:<(\w+).*?>)? for )?(?:\w+::)*(\w+)(?:<(\w+)>)?")
 # what a check says of a function besides its own failure
 CALLS = re.compile(r"[;:]( in `\S+`, of this cycle of calls:)? it (calls|passes) .*")
 # what it says where an answer file names what isn't there any more
@@ -26,6 +27,13 @@ def is_whole(lines):
     return text.count("{") == text.count("}")
 
 
+def owner_of(outer):
+    """What a check calls an impl: `VecQuadSink` that of `Sink` for `Vec<Quad>`, `ItemsModel` that of `Model` for `Items<T>`."""
+    parameters, trait, argument, owner, own = outer.groups()
+    is_given = own and trait and own not in re.findall(r"\w+", parameters or "")
+    return f"{owner}{own if is_given else ''}{trait or ''}{argument or ''}"
+
+
 def functions_of(crate, file, text):
     """The functions of a file in rt fmt's layout, their lines from 0. `names` are patterns of what a check calls them, most exact first."""
     lines, module, found = text.split("\n"), module_of(crate, file), []
@@ -43,7 +51,7 @@ def functions_of(crate, file, text):
             continue
         last = opens if lines[opens].endswith("}") else lines.index(f"{indent}}}", opens)
         outer = IMPL.match(next((lines[n] for n in range(at, -1, -1) if re.match(r"\S.*\{$", lines[n])), "")) if indent else None
-        owner = f"::{outer[3]}{outer[1] or ''}{outer[2] or ''}" if outer else ""
+        owner = f"::{owner_of(outer)}" if outer else ""
         names = [f"{module}{owner}::{head[3]}"] if outer or not indent else []
         names += [rf"\S*{owner}::{head[3]}"] if indent else []
         cycle = re.search(r"#\[cycle\((\w+)\)\]", "\n".join(lines[first:at]))
