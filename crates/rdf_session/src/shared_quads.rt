@@ -43,7 +43,8 @@ impl TripleSink for SharedQuads {
     }
 
     fn take(&mut self, subject: &Term, predicate: &Iri, object: Term) -> Result<(), NoMemory> {
+        let SharedQuads { terms, quads } = self;
         let quad = default_quad(subject, predicate, object)?;
-        push_shared(&mut self.terms, &mut self.quads, quad)
+        push_shared(terms, quads, quad)
     }
 }
