@@ -24,17 +24,22 @@ pub fn outcome(alloc: Global) -> &'static str {
     }
 }
 
+// What has calls that may be refused is lent the keeper, so that it is let go in one place.
 fn session(alloc: Global) -> Option<bool> {
     let mut keeper = Keeper::new(alloc, None);
-    twice(&mut keeper, Command::Load(START))?;
+    is_updated(alloc, &mut keeper)
+}
+
+fn is_updated(alloc: Global, keeper: &mut Keeper) -> Option<bool> {
+    twice(keeper, Command::Load(START))?;
     keeper.commit();
-    let changed = survives(alloc, &mut keeper)?;
-    let behind = is_behind(alloc, &keeper);
-    let back = twice(&mut keeper, Command::Undo)?;
-    let undone = is_before(alloc, &keeper, 1);
-    let forth = twice(&mut keeper, Command::Redo)?;
+    let changed = survives(alloc, keeper)?;
+    let behind = is_behind(alloc, keeper);
+    let back = twice(keeper, Command::Undo)?;
+    let undone = is_before(alloc, keeper, 1);
+    let forth = twice(keeper, Command::Redo)?;
     let steps = changed == counts(3, 0) && back == counts(0, 3) && forth == counts(3, 0);
-    Some(steps && behind && undone && is_behind(alloc, &keeper))
+    Some(steps && behind && undone && is_behind(alloc, keeper))
 }
 
 // The answer of the update, or where it was refused, its answer when it is made again in a session

@@ -31,21 +31,22 @@ pub fn outcome(alloc: Global) -> &'static str {
     }
 }
 
+// What has calls that may be refused is lent the keeper, so that it is let go in one place.
 fn session(alloc: Global) -> Option<bool> {
-    let keeper = begun(alloc)?;
-    let selected = survives(alloc, &keeper, SELECT)?;
-    let asked = survives(alloc, &keeper, ASK)?;
-    let filtered = survives(alloc, &keeper, FILTERED)?;
-    Some(
-        is_answer(&selected, ROWS, 2)
-            && is_answer(&asked, TRUTH, 1)
-            && is_answer(&filtered, FILTERED_ROWS, 1),
-    )
+    let mut keeper = Keeper::new(alloc, None);
+    are_answered(alloc, &mut keeper)
 }
 
-// The three quads, loaded again where that was refused.
-fn begun(alloc: Global) -> Option<Keeper> {
-    let mut keeper = Keeper::new(alloc, None);
+fn are_answered(alloc: Global, keeper: &mut Keeper) -> Option<bool> {
+    begin(keeper)?;
+    let selected = is_answered(alloc, keeper, SELECT, ROWS, 2)?;
+    let asked = is_answered(alloc, keeper, ASK, TRUTH, 1)?;
+    let filtered = is_answered(alloc, keeper, FILTERED, FILTERED_ROWS, 1)?;
+    Some(selected && asked && filtered)
+}
+
+// Loads the three quads, again where that was refused.
+fn begin(keeper: &mut Keeper) -> Option<()> {
     let answer = match keeper.load(Format::NQuads, START) {
         Err(KeeperFault::NoMemory(_)) => keeper.load(Format::NQuads, START),
         answer => answer,
@@ -54,11 +55,19 @@ fn begun(alloc: Global) -> Option<Keeper> {
         added: 3,
         removed: 0,
     };
-    if answer == Ok(loaded) {
-        Some(keeper)
-    } else {
-        None
-    }
+    if answer == Ok(loaded) { Some(()) } else { None }
+}
+
+// Whether the query is answered with this payload and so many rows.
+fn is_answered(
+    alloc: Global,
+    keeper: &Keeper,
+    query: &[u8],
+    payload: &[u8],
+    rows: u64,
+) -> Option<bool> {
+    let answer = survives(alloc, keeper, query)?;
+    Some(answer.payload.as_slice() == payload && answer.rows == rows)
 }
 
 // The answer of the query, or where it was refused, its answer when it is made again of a session that
@@ -73,10 +82,6 @@ fn survives(alloc: Global, keeper: &Keeper, query: &[u8]) -> Option<Answer> {
     } else {
         None
     }
-}
-
-fn is_answer(answer: &Answer, payload: &[u8], rows: u64) -> bool {
-    answer.payload.as_slice() == payload && answer.rows == rows
 }
 
 fn is_as_begun(alloc: Global, keeper: &Keeper) -> bool {

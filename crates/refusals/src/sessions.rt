@@ -53,15 +53,20 @@ pub fn outcome(alloc: Global) -> &'static str {
     }
 }
 
+// What has calls that may be refused is lent the keeper, so that it is let go in one place.
 fn session(alloc: Global) -> Option<bool> {
     let mut keeper = Keeper::new(alloc, None);
+    goes_and_comes(alloc, &mut keeper)
+}
+
+fn goes_and_comes(alloc: Global, keeper: &mut Keeper) -> Option<bool> {
     let begun = Place::new(0, 0, None, None);
-    survives(alloc, &mut keeper, Command::MarkFront, begun)?;
-    let loaded = loads(alloc, &mut keeper)?;
+    survives(alloc, keeper, Command::MarkFront, begun)?;
+    let loaded = loads(alloc, keeper)?;
     let full = Place::new(5, 5, Some(0), None);
-    survives(alloc, &mut keeper, Command::MarkBack, full)?;
-    let told = has_names(&keeper, 5) && has_changes(&keeper, 5);
-    Some(loaded && told && moves(alloc, &mut keeper)?)
+    survives(alloc, keeper, Command::MarkBack, full)?;
+    let told = has_names(keeper, 5) && has_changes(keeper, 5);
+    Some(loaded && told && moves(alloc, keeper)?)
 }
 
 // Whether the cursor goes through the five loads.

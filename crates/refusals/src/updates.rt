@@ -26,27 +26,32 @@ pub fn outcome(alloc: Global) -> &'static str {
     }
 }
 
+// What has calls that may be refused is lent the keeper, so that it is let go in one place.
 fn session(alloc: Global) -> Option<bool> {
-    let mut keeper = begun(alloc)?;
-    let changed = survives(alloc, &mut keeper)?;
-    let behind = is_behind(alloc, &mut keeper);
-    let back = twice(&mut keeper, Command::Undo)?;
-    let undone = is_shown(alloc, &keeper, BEFORE) && keeper.next_blank() == 1;
-    let forth = twice(&mut keeper, Command::Redo)?;
+    let mut keeper = Keeper::new(alloc, None);
+    is_updated(alloc, &mut keeper)
+}
+
+fn is_updated(alloc: Global, keeper: &mut Keeper) -> Option<bool> {
+    begin(keeper)?;
+    let changed = survives(alloc, keeper)?;
+    let behind = is_behind(alloc, keeper);
+    let back = twice(keeper, Command::Undo)?;
+    let undone = is_shown(alloc, keeper, BEFORE) && keeper.next_blank() == 1;
+    let forth = twice(keeper, Command::Redo)?;
     let steps = changed == counts(5, 1) && back == counts(1, 5) && forth == counts(5, 1);
-    Some(steps && behind && undone && is_behind(alloc, &mut keeper))
+    Some(steps && behind && undone && is_behind(alloc, keeper))
 }
 
 // A base of two quads, an entry that is undone, a mark at it and one at the cursor.
-fn begun(alloc: Global) -> Option<Keeper> {
-    let mut keeper = Keeper::new(alloc, None);
-    twice(&mut keeper, Command::Load(START))?;
+fn begin(keeper: &mut Keeper) -> Option<()> {
+    twice(keeper, Command::Load(START))?;
     keeper.commit();
-    twice(&mut keeper, Command::Load(AHEAD))?;
-    twice(&mut keeper, Command::Mark(b"ahead"))?;
-    twice(&mut keeper, Command::Undo)?;
-    twice(&mut keeper, Command::Mark(b"here"))?;
-    Some(keeper)
+    twice(keeper, Command::Load(AHEAD))?;
+    twice(keeper, Command::Mark(b"ahead"))?;
+    twice(keeper, Command::Undo)?;
+    twice(keeper, Command::Mark(b"here"))?;
+    Some(())
 }
 
 // The answer of the update, or where it was refused, its answer when it is made again in a session
