@@ -23,30 +23,62 @@ pub fn measure<R: Print + AllocGlobal + Clock, D: Revertible>(
     count: usize,
 ) -> io::Result<()> {
     let mut catalogue = Catalogue::new(rt.alloc()).ok_or_else(wanting)?;
-    let first = large_load(rt, dataset, &mut catalogue, count)?;
-    let hundred = small_load(rt, dataset, &mut catalogue, &first)?;
-    rollback(rt, dataset, &mut catalogue, &[&first, &hundred])?;
-    load_and_undo(rt, dataset, &mut catalogue, count / 50, &[&first, &hundred])
+    loads(rt, dataset, &mut catalogue, count)
 }
 
-// A load, its undo and its redo.
+fn loads<R: Print + AllocGlobal + Clock, D: Revertible>(
+    rt: &R,
+    dataset: &mut D,
+    catalogue: &mut Catalogue,
+    count: usize,
+) -> io::Result<()> {
+    let first = large_load(rt, dataset, catalogue, count)?;
+    back_and_forth(rt, dataset, &first)?;
+    later_loads(rt, dataset, catalogue, count, &first)
+}
+
 fn large_load<R: Print + AllocGlobal + Clock, D: Revertible>(
     rt: &R,
     dataset: &mut D,
     catalogue: &mut Catalogue,
     count: usize,
-) -> io::Result<Net> {
+) -> io::Result<Net>
+    ensures { IfOk result (λ net. Ends net (D.contents dataset.new)) }
+{
     let quads = catalogue.quads(count).ok_or_else(wanting)?;
     let begun = Instant::now(rt)?;
     let net = load(rt.alloc(), dataset, quads)?;
     report(rt, begun, "load", dataset, &[&net])?;
-    let begun = Instant::now(rt)?;
-    undo(dataset, &net)?;
-    report(rt, begun, "undo", dataset, &[&net])?;
-    let begun = Instant::now(rt)?;
-    redo(dataset, &net)?;
-    report(rt, begun, "redo", dataset, &[&net])?;
     Ok(net)
+}
+
+// The undo of the large load, and its redo.
+fn back_and_forth<R: Print + AllocGlobal + Clock, D: Revertible>(
+    rt: &R,
+    dataset: &mut D,
+    net: &Net,
+) -> io::Result<()>
+    requires { Ends net.now (D.contents dataset.old) }
+{
+    let begun = Instant::now(rt)?;
+    undo(dataset, net)?;
+    report(rt, begun, "undo", dataset, &[net])?;
+    let begun = Instant::now(rt)?;
+    redo(dataset, net)?;
+    report(rt, begun, "redo", dataset, &[net])
+}
+
+// What comes behind the large load.
+fn later_loads<R: Print + AllocGlobal + Clock, D: Revertible>(
+    rt: &R,
+    dataset: &mut D,
+    catalogue: &mut Catalogue,
+    count: usize,
+    first: &Net,
+) -> io::Result<()> {
+    let hundred = small_load(rt, dataset, catalogue, first)?;
+    rollback(rt, dataset, catalogue, &[first, &hundred])?;
+    load_and_undo(rt, dataset, catalogue, count / 50, &[first, &hundred])
 }
 
 fn small_load<R: Print + AllocGlobal + Clock, D: Revertible>(
