@@ -87,7 +87,7 @@ IsEmptyGraph s graph = (q : QuadParts) → IsTrue (set.contains s.quads q) → �
 
 -- ---- nets
 
--- quads and names that were added and removed, and the counter before and after
+-- a net: the quads and names that were added and removed, and the counter before and after
 pub record Change : Type 0 where
   pub added : Quads
   pub removed : Quads

@@ -15,7 +15,8 @@ use rdf_terms::{GraphName, NoMemory, Quad, Term};
 use std::alloc::Global;
 use std::marker::Model;
 
-/// Quads and graph names that were added and removed, and the blank counter before and after.
+/// A net that still grows: what a staged view changed so far, in trees that are looked into at each
+/// change. In the end it becomes a [`Net`].
 #[derive(Drop)]
 pub(crate) struct Edits {
     pub(crate) quads: QuadEdits,

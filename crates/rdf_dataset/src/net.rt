@@ -8,7 +8,8 @@ use rdf_terms::{NoMemory, Quad, Term};
 use std::alloc::Global;
 use std::marker::Model;
 
-/// Quads and graph names that were added and removed, and the blank counter before and after.
+/// Quads and graph names that were added and removed, and the blank counter before and after, as sorted
+/// lists: what is kept to be undone. A contract sees a net as a `Change`, of sets.
 #[derive(Drop)]
 pub struct Net {
     pub(crate) quads: Delta<Quad>,

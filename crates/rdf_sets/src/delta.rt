@@ -8,7 +8,8 @@ use crate::sorted::Sorted;
 use rdf_terms::NoMemory;
 use std::alloc::Global;
 
-/// What is in the second of two sets alone, and what is in the first alone.
+/// What is in the second of two sets alone, and what is in the first alone, as sorted lists: one half of
+/// a net, of quads or of names.
 #[derive(Drop)]
 pub struct Delta<T: Item> {
     /// What the second alone has.

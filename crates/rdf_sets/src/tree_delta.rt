@@ -9,8 +9,8 @@ use crate::tree::Tree;
 use rdf_terms::NoMemory;
 use std::alloc::Global;
 
-/// What is in the second of two sets alone, and what is in the first alone. Each method is told
-/// whether the first has the item that it is about.
+/// A [`crate::Delta`] that still grows, in trees. Each method is told whether the first set has the item
+/// that it is about.
 #[derive(Drop)]
 pub struct TreeDelta<T: Item> {
     /// What the second alone has.
