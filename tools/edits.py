@@ -69,6 +69,8 @@ class Edit:
         self.name, self.text, self.lines, self.functions, self.clauses, self.symbols, self.why = path.name, path.read_text(), {}, [], [], [], None
         # goals that the check doesn't prove either, and that need not be tried, since one is enough
         self.beside = [it for line in re.findall(r"(?m)^# also at: (.*)", self.text) for it in line.split(", ")]
+        # the wrong body that it is, whatever its file says beside it
+        self.turns = "\n".join(line for line in self.text.split("\n") if line and not line.startswith("#"))
         texts, file, old = {}, "", ""
         for line in self.text.split("\n"):
             if line.startswith("file: "):

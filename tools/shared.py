@@ -3,6 +3,8 @@ import collections, contextlib, os, pathlib, re, shutil, subprocess, tempfile, t
 
 ROOT = pathlib.Path(__file__).resolve().parents[1]
 KEPT = ("out/rlib", "out/incremental")
+# what runs of any clone on this machine leave for later ones
+CACHE = pathlib.Path(os.environ.get("XDG_CACHE_HOME") or pathlib.Path.home() / ".cache") / "rdfkeep"
 # how large a task is (the largest starts first), its memory in bytes, and a call that returns further tasks
 Task = collections.namedtuple("Task", "size memory call")
 
