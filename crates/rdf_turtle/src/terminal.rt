@@ -1,5 +1,5 @@
 //! The terminals of Turtle's grammar.
-ghost use Rattle.std.specs.Prelude.{◌≡◌, map};
+ghost use Rattle.std.specs.Prelude.{◌≡◌, ◌∷◌, [], map};
 ghost use Rattle.std.specs.Char.{to_ascii_lowercase};
 ghost use Rattle.std.specs.Str.{bytes_eq};
 ghost use Rattle.rdf_turtle.specs.Terminals as spec;
@@ -88,43 +88,38 @@ fn word_terminal(text: &str) -> Terminal
     }
 }
 
-fn bracket_terminal(text: &str) -> Terminal
-    ensures { result ≡ spec.bracket_terminal text.now }
+// The terminal of a symbol of one byte.
+#[inline(always)]
+fn mark_terminal(mark: u8) -> Terminal
+    ensures { result ≡ spec.symbol_terminal (mark ∷ []) }
 {
-    if text == "[" {
-        Terminal::OpenBracket
-    } else if text == "]" {
-        Terminal::CloseBracket
-    } else if text == "(" {
-        Terminal::Open
-    } else if text == ")" {
-        Terminal::Close
-    } else if text == "{" {
-        Terminal::OpenBrace
-    } else if text == "}" {
-        Terminal::CloseBrace
-    } else {
-        Terminal::Other
+    match mark {
+        b'.' => Terminal::Dot,
+        b';' => Terminal::Semicolon,
+        b',' => Terminal::Comma,
+        b'[' => Terminal::OpenBracket,
+        b']' => Terminal::CloseBracket,
+        b'(' => Terminal::Open,
+        b')' => Terminal::Close,
+        b'{' => Terminal::OpenBrace,
+        b'}' => Terminal::CloseBrace,
+        _ => Terminal::Other,
     }
 }
 
+#[inline(always)]
 fn symbol_terminal(text: &str) -> Terminal
     ensures { result ≡ spec.symbol_terminal text.now }
 {
-    if text == "." {
-        Terminal::Dot
-    } else if text == ";" {
-        Terminal::Semicolon
-    } else if text == "," {
-        Terminal::Comma
-    } else if text == "^^" {
-        Terminal::Caret
-    } else {
-        bracket_terminal(text)
+    match text.as_bytes() {
+        [mark] => mark_terminal(*mark),
+        [b'^', b'^'] => Terminal::Caret,
+        _ => Terminal::Other,
     }
 }
 
 // The terminal of a slice with the form of that kind.
+#[inline(always)]
 fn terminal_of(kind: Kind, text: &str) -> Terminal
     ensures { result ≡ spec.terminal_by kind text.now }
 {
@@ -144,6 +139,7 @@ fn terminal_of(kind: Kind, text: &str) -> Terminal
 }
 
 #[tactic(auto, unfolding(crate::specs::Terminals::same_terminal))]
+#[inline(always)]
 fn same_terminal(a: Terminal, b: Terminal) -> bool
     ensures { result ≡ spec.same_terminal a b }
 {
@@ -161,6 +157,7 @@ fn bracket(terminal: Terminal) -> Bracket
 }
 
 // What it is in IRIs and literals.
+#[inline(always)]
 fn word(terminal: Terminal) -> Option<Word>
     ensures { result ≡ spec.word terminal }
 {
@@ -199,10 +196,12 @@ impl rdf_grammar::Terminal for Terminal {
 
     ghost bracket = { spec.bracket };
 
+    #[inline(always)]
     fn of(kind: Kind, text: &str) -> Terminal {
         terminal_of(kind, text)
     }
 
+    #[inline(always)]
     fn same(self, other: Terminal) -> bool {
         same_terminal(self, other)
     }
@@ -217,6 +216,7 @@ impl rdf_grammar::Terminal for Terminal {
 impl Words for Terminal {
     ghost word = { spec.word };
 
+    #[inline(always)]
     fn word(self) -> Option<Word> {
         word(self)
     }
