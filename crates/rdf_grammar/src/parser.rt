@@ -219,6 +219,7 @@ impl<'l, 'a, T: Terminal> Parser<'l, 'a, T> {
 
 impl<'l, 'a, T: Words> Parser<'l, 'a, T> {
     /// The word that the next lexeme is, if it is one.
+    #[inline(always)]
     pub fn peek_word(&self) -> Option<Word>
         ensures { result ≡ words.next_word T.word self.now }
     {
@@ -229,6 +230,7 @@ impl<'l, 'a, T: Words> Parser<'l, 'a, T> {
     }
 
     // Whether a lexeme of this word comes next.
+    #[inline(always)]
     fn sees_word(&self, word: Word) -> bool
         ensures { result ≡ words.sees T.word word self.now }
     {

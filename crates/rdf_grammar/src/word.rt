@@ -40,6 +40,7 @@ pub trait Words: Terminal {
 
 /// Whether the two are the same.
 #[tactic(auto, unfolding(crate::specs::Words::same_word))]
+#[inline(always)]
 pub(crate) fn same_word(a: Word, b: Word) -> bool
     ensures { result ≡ spec.same_word a b }
 {

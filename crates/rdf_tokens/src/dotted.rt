@@ -70,6 +70,7 @@ fn local_first<'a>(cursor: &Cursor<'a>) -> Option<Cursor<'a>>
 
 /// The place behind the ASCII letters, digits and `_` that begin here, of which most names are made:
 /// each is one of PN_CHARS.
+#[inline(always)]
 fn skip_word<'a>(cursor: &Cursor<'a>) -> Cursor<'a>
     ensures { result ≡ skip is_word_part cursor.now }
 {
@@ -98,6 +99,7 @@ fn name_units<'a>(cursor: &Cursor<'a>) -> Cursor<'a>
 }
 
 /// The same, where most often a word is all.
+#[inline(always)]
 fn name_rest<'a>(cursor: &Cursor<'a>) -> Cursor<'a>
     ensures { result ≡ dotted_at name_part_at cursor.now }
 {

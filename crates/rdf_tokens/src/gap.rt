@@ -15,6 +15,7 @@ fn in_line(c: char) -> bool
     !is_line_end(c)
 }
 
+#[inline(always)]
 fn skip_white<'a>(cursor: &Cursor<'a>) -> Cursor<'a>
     ensures { result ≡ skip is_white cursor.now }
 {
@@ -28,6 +29,7 @@ fn skip_line<'a>(cursor: &Cursor<'a>) -> Cursor<'a>
 }
 
 /// The place behind white space and comments (Turtle 1.1, sections 6.1 and 6.2).
+#[inline(always)]
 pub fn skip_gap<'a>(cursor: &Cursor<'a>) -> Cursor<'a>
     ensures { result ≡ skip_gap false cursor.now }
 {

@@ -77,6 +77,7 @@ fn verb<'a>(parser: &mut Parser<'_, 'a>) -> Result<Verb<'a>, GrammarFault>
 
 #[cycle(node)]
 #[tactic(auto, unfolding(crate::specs::Inside::Reading::node, crate::specs::Inside::Reading::object))]
+#[inline(always)]
 fn node<'a>(parser: &mut Parser<'_, 'a>, depth: usize) -> Result<Node<'a>, GrammarFault>
     ensures reads { Reads (spec.node depth parser.old) result parser.new }
     ensures shorter { OnOk result (length parser.new < length parser.old) }

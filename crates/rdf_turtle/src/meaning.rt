@@ -31,6 +31,7 @@ pub(crate) fn copied(base: Option<&Iri>) -> Result<Option<Iri>, NoMemory>
 
 impl<'a, S: TripleSink> Scope<'a, S> {
     #[tactic(auto, unfolding(crate::specs::Meaning::verb))]
+    #[inline(always)]
     fn verb(&mut self, verb: &Verb<'a>) -> Result<Iri, PrologueFault>
         requires proper { IsTrue (proper.proper_verb verb.now) }
         ensures gives { GivesOrMisses (spec.verb verb.now self.old) result self.new }
@@ -45,6 +46,7 @@ impl<'a, S: TripleSink> Scope<'a, S> {
     }
 
     // The term that a node stands for.
+    #[inline(always)]
     fn term(&mut self, node: &Node<'a>) -> Result<Term, PrologueFault>
         requires proper { IsTrue (proper.proper_node node.now) }
         requires room { HasRoom 0 self.old }
@@ -96,6 +98,7 @@ impl<'a, S: TripleSink> Scope<'a, S> {
     // The triple itself, then those inside the object.
     #[cycle(inside)]
     #[tactic(auto, unfolding(crate::specs::Meaning::object))]
+    #[inline(always)]
     fn object(
         &mut self,
         subject: &Term,
@@ -177,6 +180,7 @@ impl<'a, S: TripleSink> Scope<'a, S> {
     }
 
     #[cycle(inside)]
+    #[inline(always)]
     fn objects(
         &mut self,
         subject: &Term,

@@ -94,6 +94,7 @@ impl<'a, S: TripleSink> Scope<'a, S> {
 
     /// Says a triple.
     #[tactic(auto, unfolding(crate::specs::ParserState::says))]
+    #[inline(always)]
     pub(crate) fn says(
         &mut self,
         subject: &Term,
