@@ -1,4 +1,5 @@
-use Rattle.std.proofs.Common.{◌≡◌, ◌∙◌, ap, subst, rules}
+use Rattle.std.proofs.Common.{arith, ◌≡◌, ◌∙◌, ap, subst, rules}
+use Rattle.std.proofs.lemmas.Grind.{common_steps}
 use Rattle.std.proofs.lemmas.Map.Iter.{iter_end}
 use Rattle.std.specs.Map.Iter.{deref}
 use Rattle.std.specs.List.Sorted.{IsStrictlySortedBy}
@@ -15,3 +16,9 @@ pub returns-clause-sorted : goal.returns-clause-sorted
 returns-clause-sorted g c =
     subst (IsStrictlySortedBy g.T.Item.order) c.self.view_is
     (tree_rises g.met.T.Item.ordered g.met.T.Item.in_order g.met.T.Item.apart c.self.inside.items.keys c.into_iter-item-iterator.ensures.into_iter_gives.4)
+
+pub loop-item-preserved : goal.loop-item-preserved
+loop-item-preserved g c = grind (arith, common_steps)
+
+pub returns-in_err-or_truncate-clause-err : goal.returns-in_err-or_truncate-clause-err
+returns-in_err-or_truncate-clause-err g c = grind (arith, common_steps)
