@@ -1,4 +1,5 @@
-use Rattle.std.proofs.Common.{refl, ◌∙◌, rules}
+use Rattle.std.proofs.Common.{arith, refl, ◌∙◌, rules}
+use Rattle.std.proofs.lemmas.Grind.{common_steps}
 use Rattle.rdf_orders.proofs.LookUpLemmas.{progress_start, progress_push, progress_found, fewer_left}
 use Rattle.rdf_orders.proofs.look_ups.look_up.Goals as goal
 
@@ -22,3 +23,9 @@ pub returns-clause-found : goal.returns-clause-found
 returns-clause-found g c =
     let none = rw (c.loop-key.invariant.kept, c.as_ref.ensures.value) at c.in_default.ensures.next in
     progress_found _ _ _ _ c.prefix_of-order.ensures _ _ _ _ _ c.loop-key.invariant.progress none
+
+pub returns-clause-counted : goal.returns-clause-counted
+returns-clause-counted g c = grind (arith, common_steps)
+
+pub returns-in_err-or_truncate-clause-err : goal.returns-in_err-or_truncate-clause-err
+returns-in_err-or_truncate-clause-err g c = grind (arith, common_steps)

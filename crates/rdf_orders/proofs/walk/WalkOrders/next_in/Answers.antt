@@ -1,4 +1,5 @@
-use Rattle.std.proofs.Common.{ap, ◌∙◌}
+use Rattle.std.proofs.Common.{arith, ap, ◌∙◌}
+use Rattle.std.proofs.lemmas.Grind.{common_steps}
 use Rattle.rdf_orders.specs.Contents.{Counted}
 use Rattle.rdf_orders.proofs.AheadLemmas.{first_is_next, none_behind_run, behind_next}
 use Rattle.rdf_orders.proofs.NextLemmas.{begins_from, not_begins_from}
@@ -18,3 +19,6 @@ pub returns-clause-next : goal.returns-clause-next
 returns-clause-next c =
     let ahead = rw c.in_ok-key.ensures.steps at c.keys_ahead-behind.ensures.ahead in
     first_is_next _ _ _ _ _ _ ahead (begins_from c.args.prefix.now c.in_ok-key.field-0.now _ c.starts_with.ensures.value c.if-not-starts_with.false)
+
+pub returns-then-prefix-gt4-clause-next : goal.returns-then-prefix-gt4-clause-next
+returns-then-prefix-gt4-clause-next c = grind (arith, common_steps)
