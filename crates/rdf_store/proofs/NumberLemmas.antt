@@ -116,16 +116,16 @@ numbered_in_steps a b c d q g s p o gn sn pn on sound ge se pe oe ab bc cd gi si
 }
 
 -- what is made of the four places of a kept quad
-pub made : (table : List Term) (k : IdQuad) (g : GraphName) (s p o s' p' o' : Term) (r : Option QuadParts) → HasTerms table k → g ≡ graph_at table k.graph
-    → IsIdOf table k.subject s' → s ≡ s' → IsIdOf table k.predicate p' → p ≡ p' → IsIdOf table k.object o' → o ≡ o'
+pub made : (table : List Term) (k : IdQuad) (g : GraphName) (s p o : Term) (r : Option QuadParts) → HasTerms table k → g ≡ graph_at table k.graph
+    → s ≡ term_at table k.subject → p ≡ term_at table k.predicate → o ≡ term_at table k.object
     → r ≡ cond (has_right_kinds (record { graph = g; subject = s; predicate = p; object = o })) (Some (record { graph = g; subject = s; predicate = p; object = o })) None
     → r ≡ Some (parts_at table k)
-made table k g s p o s' p' o' r kept ge si se pi pe oi oe e =
+made table k g s p o r kept eg es ep eo e =
     let same : record { graph = g; subject = s; predicate = p; object = o } ≡ parts_at table k = λ i. record {
-      graph = ge i;
-      subject = (se ∙ sym (term_is table k.subject s' si)) i;
-      predicate = (pe ∙ sym (term_is table k.predicate p' pi)) i;
-      object = (oe ∙ sym (term_is table k.object o' oi)) i;
+      graph = eg i;
+      subject = es i;
+      predicate = ep i;
+      object = eo i;
     } in
     e ∙ ap (λ (q : QuadParts). cond (has_right_kinds q) (Some q) None) same
     ∙ ap (λ b. cond b (Some (parts_at table k)) None) (first_of_both (has_right_kinds (parts_at table k)) _ kept.sound)

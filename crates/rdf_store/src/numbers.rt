@@ -2,7 +2,7 @@
 ghost use Rattle.std.specs.Prelude.{◌≡◌, ℕ, [], IsOk, IfOk, IfNone, IfSome};
 ghost use Rattle.rdf_terms.specs.Table.{IsIdOf};
 ghost use Rattle.rdf_orders.specs.Quads.{IdQuad, quad_of};
-ghost use Rattle.rdf_store.specs.Inside.Numbers.{IsGraphNumber, AreNumbersOf, IsFront, IsGrown, AreKeys, AreIds, HasTerms, parts_of, graph_at};
+ghost use Rattle.rdf_store.specs.Inside.Numbers.{IsGraphNumber, AreNumbersOf, IsFront, IsGrown, AreKeys, AreIds, HasTerms, parts_of, graph_at, term_at};
 
 use rdf_orders::Key;
 use rdf_terms::{GraphName, NoMemory, Quad, Term, TermId, TermTable, terms_are_held_once};
@@ -211,15 +211,33 @@ fn graph_of(table: &TermTable, number: u64) -> Result<GraphName, NoMemory>
     Ok(GraphName::Named(name))
 }
 
+// The term that has a number.
+fn term_of(table: &TermTable, number: u64) -> Result<Term, NoMemory>
+    requires { IsIdOf table.now number (term_at table.now number) }
+    ensures { IfOk result (λ term. term ≡ term_at table.now number) }
+{
+    table.term(TermId(number)).copy()
+}
+
+// The terms that have two numbers.
+fn terms_of(table: &TermTable, first: u64, second: u64) -> Result<(Term, Term), NoMemory>
+    requires first { IsIdOf table.now first (term_at table.now first) }
+    requires second { IsIdOf table.now second (term_at table.now second) }
+    ensures { IfOk result (λ both. both ≡ (term_at table.now first, term_at table.now second)) }
+{
+    let first = term_of(table, first)?;
+    let second = term_of(table, second)?;
+    Ok((first, second))
+}
+
 /// The quad that has a key in `Spo`.
 pub(crate) fn quad_from(table: &TermTable, key: &Key) -> Result<Quad, NoMemory>
     requires { HasTerms table.now (quad_of key.now) }
     ensures { IfOk result (λ quad. quad ≡ parts_of table.now key.now) }
 {
     let graph = graph_of(table, key[0])?;
-    let subject = table.term(TermId(key[1])).copy()?;
-    let predicate = table.term(TermId(key[2])).copy()?;
-    let object = table.term(TermId(key[3])).copy()?;
+    let subject = term_of(table, key[1])?;
+    let (predicate, object) = terms_of(table, key[2], key[3])?;
     match Quad::new(graph, subject, predicate, object) {
         Some(quad) => Ok(quad),
         None => unreachable!(),

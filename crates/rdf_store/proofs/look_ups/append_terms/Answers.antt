@@ -1,4 +1,5 @@
-use Rattle.std.proofs.Common.{◌≡◌, ◌∙◌, ap, rules, map, ◌++◌}
+use Rattle.std.proofs.Common.{arith, ◌≡◌, ◌∙◌, ap, rules, map, ◌++◌}
+use Rattle.std.proofs.lemmas.Grind.{common_steps}
 use Rattle.std.proofs.lemmas.Map.Iter.{iter_end}
 use Rattle.std.proofs.lemmas.Map.Views.{All-turn}
 use Rattle.std.specs.Map.Iter.{deref}
@@ -14,3 +15,9 @@ pub returns-clause-ok : goal.returns-clause-ok
 returns-clause-ok c =
     let e : map deref c.loop-number.yielded ≡ c.args.numbers.now.keys = search (rules, iter_end) in
     c.loop-number.invariant ∙ ap (λ ns. c.args.out.now.items ++ map (term_at c.args.table.now) ns) e
+
+pub loop-number-preserved : goal.loop-number-preserved
+loop-number-preserved c = grind (arith, common_steps)
+
+pub returns-in_err-or_truncate-clause-err : goal.returns-in_err-or_truncate-clause-err
+returns-in_err-or_truncate-clause-err c = grind (arith, common_steps)

@@ -1,3 +1,5 @@
+use Rattle.std.proofs.Common.{arith}
+use Rattle.std.proofs.lemmas.Grind.{common_steps}
 use Rattle.rdf_store.proofs.NumberLemmas.{grown_then}
 use Rattle.rdf_store.proofs.GrowthLemmas.{next_key}
 use Rattle.rdf_store.proofs.numbers.number_quads.Goals as goal
@@ -12,3 +14,6 @@ loop-quad-preserved c = record {
   };
   grown = grown_then _ _ _ c.loop-quad.invariant.grown c.in_ok-key.ensures.grown;
 }
+
+pub returns-clause-numbers : goal.returns-clause-numbers
+returns-clause-numbers c = grind (arith, common_steps)
