@@ -64,15 +64,53 @@ fn front(quad: Option<&Quad>) -> (Option<&GraphName>, Option<&Term>, Option<&Ter
     }
 }
 
+// A graph and a subject in it, both equal.
+fn shared_graph_and_subject(
+    terms: &mut TermTable,
+    graph_before: Option<&GraphName>,
+    subject_before: Option<&Term>,
+    graph: GraphName,
+    subject: Term,
+) -> Result<(GraphName, Term), NoMemory>
+    ensures { IfOk result (λ shared. shared ≡ (graph, subject)) }
+{
+    let graph = shared_graph(terms, graph_before, graph)?;
+    let subject = shared_term(terms, subject_before, subject)?;
+    Ok((graph, subject))
+}
+
+// A predicate and an object, both equal.
+fn shared_predicate_and_object(
+    terms: &mut TermTable,
+    predicate_before: Option<&Term>,
+    predicate: Term,
+    object: Term,
+) -> Result<(Term, Term), NoMemory>
+    ensures { IfOk result (λ shared. shared ≡ (predicate, object)) }
+{
+    let predicate = shared_term(terms, predicate_before, predicate)?;
+    let object = kept_term(terms, object)?;
+    Ok((predicate, object))
+}
+
 fn shared_quad(terms: &mut TermTable, before: Option<&Quad>, quad: Quad) -> Result<Quad, NoMemory>
     ensures { IfOk result (λ shared. shared ≡ quad) }
 {
     let (graph_before, subject_before, predicate_before) = front(before);
     let (graph, subject, predicate, object) = quad.into_parts();
-    let graph = shared_graph(terms, graph_before, graph)?;
-    let subject = shared_term(terms, subject_before, subject)?;
-    let predicate = shared_term(terms, predicate_before, predicate)?;
-    let object = kept_term(terms, object)?;
+    let (graph, subject) = shared_graph_and_subject(
+        terms,
+        graph_before,
+        subject_before,
+        graph,
+        subject,
+    )?;
+    let (predicate, object) = shared_predicate_and_object(
+        terms,
+        predicate_before,
+        predicate,
+        object,
+    )?;
     match Quad::new(graph, subject, predicate, object) {
         Some(shared) => Ok(shared),
         None => unreachable!(),

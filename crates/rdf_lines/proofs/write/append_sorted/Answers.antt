@@ -1,4 +1,5 @@
-use Rattle.std.proofs.Common.{Bor, ◌∙◌, ap, refl, sym, subst, List, ◌++◌, map, IsSorted, IsPermutation}
+use Rattle.std.proofs.Common.{arith, Bor, ◌∙◌, ap, refl, sym, subst, List, ◌++◌, map, IsSorted, IsPermutation}
+use Rattle.std.proofs.lemmas.Grind.{common_steps}
 use Rattle.std.specs.List.{flat_map}
 use Rattle.std.specs.declared.cmp.Ordering.{Ordering}
 use Rattle.std.proofs.lemmas.List.{take_all}
@@ -26,3 +27,18 @@ returns-clause-ok c =
           ∙ ap (λ (l : List (Bor Quad)). c.args.out.now.items ++ flat_map (λ q. quad_text q.now) l) (take_all c.loop-quad.quad-index c.deref-quad-items.result.now c.loop-quad-test.false ∙ c.deref-quad-items.ensures.value)
           ∙ ap (λ l. c.args.out.now.items ++ l) (sym (flat_map-map quad_text now refs)),
     )
+
+pub loop-quad-preserved : goal.loop-quad-preserved
+loop-quad-preserved c = grind (arith, common_steps)
+
+pub returns-clause-kept : goal.returns-clause-kept
+returns-clause-kept c = grind (arith, common_steps)
+
+pub returns-in_err-sort-clause-kept : goal.returns-in_err-sort-clause-kept
+returns-in_err-sort-clause-kept c = grind (arith, common_steps)
+
+pub returns-in_err-sorted-clause-kept : goal.returns-in_err-sorted-clause-kept
+returns-in_err-sorted-clause-kept c = grind (arith, common_steps)
+
+pub returns-in_err-write_quad-clause-kept : goal.returns-in_err-write_quad-clause-kept
+returns-in_err-write_quad-clause-kept c = grind (arith, common_steps)
