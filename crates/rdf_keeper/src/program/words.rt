@@ -90,49 +90,67 @@ fn base_word<'a>(alloc: Global) -> Arg<'a> {
     )
 }
 
-fn run_command<'a>(alloc: Global) -> Result<Command<'a>, AllocError> {
-    let data = Arg::new(alloc, "data").long("data").value_name("FILE").help(
+fn data_word<'a>(alloc: Global) -> Arg<'a> {
+    Arg::new(alloc, "data").long("data").value_name("FILE").help(
         "A file that is loaded before the script and becomes its start",
-    );
-    let format = Arg::new(alloc, "format")
+    )
+}
+
+fn format_word<'a>(alloc: Global) -> Arg<'a> {
+    Arg::new(alloc, "format")
         .long("format")
         .value_name("F")
         .value_parser(format_words())
         .default_value("nquads")
-        .help("The format of FILE");
-    let stop = Arg::new(alloc, "stop")
+        .help("The format of FILE")
+}
+
+fn stop_word<'a>(alloc: Global) -> Arg<'a> {
+    Arg::new(alloc, "stop")
         .long("stop")
         .action(ArgAction::SetTrue)
-        .help("End after the first refusal");
-    let script = Arg::new(alloc, "script")
+        .help("End after the first refusal")
+}
+
+fn script_word<'a>(alloc: Global) -> Arg<'a> {
+    Arg::new(alloc, "script")
         .value_name("SCRIPT")
-        .help("The script; standard input if not given");
+        .help("The script; standard input if not given")
+}
+
+fn run_command<'a>(alloc: Global) -> Result<Command<'a>, AllocError> {
     Command::new(alloc, "run")
         .about(RUN_ABOUT)
         .after_help(RUN_EXAMPLE)
         .arg(base_word(alloc))?
-        .arg(data)?
-        .arg(format)?
-        .arg(stop)?
-        .arg(script)
+        .arg(data_word(alloc))?
+        .arg(format_word(alloc))?
+        .arg(stop_word(alloc))?
+        .arg(script_word(alloc))
 }
 
-fn convert_command<'a>(alloc: Global) -> Result<Command<'a>, AllocError> {
-    let from = Arg::new(alloc, "from")
+fn from_word<'a>(alloc: Global) -> Arg<'a> {
+    Arg::new(alloc, "from")
         .long("from")
         .value_name("F")
         .value_parser(format_words())
         .required(true)
-        .help("The format of the document");
-    let file = Arg::new(alloc, "file")
+        .help("The format of the document")
+}
+
+fn file_word<'a>(alloc: Global) -> Arg<'a> {
+    Arg::new(alloc, "file")
         .value_name("FILE")
-        .help("The document; standard input if not given");
+        .help("The document; standard input if not given")
+}
+
+fn convert_command<'a>(alloc: Global) -> Result<Command<'a>, AllocError> {
     Command::new(alloc, "convert")
         .about(CONVERT_ABOUT)
         .after_help(CONVERT_EXAMPLE)
-        .arg(from)?
+        .arg(from_word(alloc))?
         .arg(base_word(alloc))?
-        .arg(file)
+        .arg(file_word(alloc))
 }
 
 fn program<'a>(alloc: Global) -> Result<Command<'a>, AllocError> {
