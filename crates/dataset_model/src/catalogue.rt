@@ -52,16 +52,28 @@ impl Catalogue {
     fn quad(&mut self) -> Option<Quad>
         ensures { IfSome result (λ q. IsQuadBelow 0 q) }
     {
+        let kind = self.next_kind()?;
+        let graph = self.graph()?;
+        let (item, predicate) = self.item_and_predicate(kind)?;
+        let object = self.object(kind)?;
+        Quad::new(graph, Term::Iri(item), Term::Iri(predicate), object)
+    }
+
+    // Which of an item's quads is the next. Each item has seven.
+    fn next_kind(&mut self) -> Option<usize> {
         let kind = (self.number % 7) as usize;
         if kind == 0 {
             self.item = item(self.alloc, self.number / 7)?;
         }
         self.number = self.number.wrapping_add(1);
-        let graph = self.graph()?;
-        let subject = Term::Iri(self.item.copy().ok()?);
-        let predicate = Term::Iri(self.vocabulary.predicate(kind)?);
-        let object = self.object(kind)?;
-        Quad::new(graph, subject, predicate, object)
+        Some(kind)
+    }
+
+    // The item, and the predicate with this number.
+    fn item_and_predicate(&self, kind: usize) -> Option<(Iri, Iri)> {
+        let item = self.item.copy().ok()?;
+        let predicate = self.vocabulary.predicate(kind)?;
+        Some((item, predicate))
     }
 
     // The default graph, or a named one.

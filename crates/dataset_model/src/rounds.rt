@@ -1,13 +1,14 @@
 //! Rounds of changes on a dataset through views, each ended by a commit and perhaps taken back.
 ghost use Rattle.std.specs.Prelude.{◌≡◌, IsTrue, IfSome};
-ghost use Rattle.rdf_dataset.specs.State.{State, Begins, Ends, net_between};
+ghost use Rattle.rdf_dataset.specs.State.{Begins, Ends};
 
 use crate::model::Model;
-use crate::steps::step;
+use crate::steps::{net_of, step};
 use crate::table::Table;
 use crate::trial::Trial;
 use rdf_dataset::{Dataset, Net, Source, Staged};
 use std::alloc::Global;
+use std::mem;
 
 const FIRST_NUMBER: u64 = 4;
 
@@ -19,32 +20,50 @@ pub fn steps_that_agree(alloc: Global) -> u32 {
     let mut trial = Trial::new(alloc, table);
     let mut dataset = Dataset::starting_at(alloc, FIRST_NUMBER);
     let mut model = Model::new(alloc, FIRST_NUMBER);
+    go_on(&mut trial, &mut dataset, &mut model);
+    trial.agreed
+}
+
+// The rounds, up to the first that doesn't agree.
+fn go_on(trial: &mut Trial, dataset: &mut Dataset, model: &mut Model) {
     for _ in 0..20 {
-        if !round(&mut trial, &mut dataset, &mut model) {
-            return trial.agreed;
+        if !round(trial, dataset, model) {
+            return;
         }
     }
-    trial.agreed
 }
 
 // 16 changes on a view, 7 on a view over it, the commit of both, and a last step.
 fn round(trial: &mut Trial, dataset: &mut Dataset, model: &mut Model) -> bool {
-    let Some(kept) = model.copy(trial.alloc) else {
+    let Some(mut kept) = model.copy(trial.alloc) else {
         return false;
     };
-    let Some(net) = changed(trial, dataset, model) else {
-        return false;
-    };
-    if !commit(trial, dataset, model, &net) {
-        return false;
+    match changed(trial, dataset, model) {
+        Some(net) => {
+            commit(trial, dataset, model, &net) && step_last(trial, dataset, model, net, &mut kept)
+        }
+        None => false,
     }
+}
+
+// The last step behind the commit of a net: its revert, the commit of the net the other way, both to
+// what was kept of the model, or a commit that changes nothing.
+fn step_last(
+    trial: &mut Trial,
+    dataset: &mut Dataset,
+    model: &mut Model,
+    net: Net,
+    kept: &mut Model,
+) -> bool
+    requires { Ends net dataset.old }
+{
     match trial.number() % 4 {
         0 => {
-            *model = kept;
+            mem::swap(model, kept);
             revert(trial, dataset, model, &net)
         }
         1 => {
-            *model = kept;
+            mem::swap(model, kept);
             turn_back(trial, dataset, model, net)
         }
         _ => stand_still(trial, dataset, model),
@@ -72,24 +91,37 @@ fn changed(trial: &mut Trial, dataset: &Dataset, model: &mut Model) -> Option<Ne
     ensures { IfSome result (λ net. Begins net dataset.now) }
 {
     let mut staged = Staged::over(trial.alloc, dataset);
-    if !change(trial, &mut staged, model, 16) {
-        return None;
-    }
-    let Some(upper) = changed_above(trial, &staged, model) else {
-        return None;
-    };
-    match staged.into_net() {
-        Ok(lower) => joined(&lower, &upper),
-        Err(_) => None,
+    match changed_twice(trial, &mut staged, model) {
+        Some(upper) => joined(staged, &upper),
+        None => None,
     }
 }
 
-fn joined(lower: &Net, upper: &Net) -> Option<Net>
-    ensures { (s t : State) → lower.now ≡ net_between s t → Begins upper.now t →
-        IfSome result (λ both. Begins both s) }
+// The changes on a view, and the net of those on a view over it.
+fn changed_twice<D: Source>(
+    trial: &mut Trial,
+    staged: &mut Staged<'_, D>,
+    model: &mut Model,
+) -> Option<Net>
+    ensures under { staged.new.under ≡ staged.old.under }
+    ensures net { IfSome result (λ net. Begins net staged.new.now) }
 {
-    match lower.then(upper) {
-        Ok(both) => Some(both),
+    if !change(trial, staged, model, 16) {
+        return None;
+    }
+    changed_above(trial, staged, model)
+}
+
+// The net of a view, and behind it one that begins where the view ends.
+fn joined<D: Source>(staged: Staged<'_, D>, upper: &Net) -> Option<Net>
+    requires { Begins upper.now staged.now }
+    ensures { IfSome result (λ both. Begins both staged.entry.under) }
+{
+    match staged.into_net() {
+        Ok(lower) => match lower.then(upper) {
+            Ok(both) => Some(both),
+            Err(_) => None,
+        },
         Err(_) => None,
     }
 }
@@ -101,10 +133,7 @@ fn changed_above<D: Source>(trial: &mut Trial, source: &D, model: &mut Model) ->
     if !change(trial, &mut staged, model, 7) {
         return None;
     }
-    match staged.into_net() {
-        Ok(net) => Some(net),
-        Err(_) => None,
-    }
+    net_of(staged)
 }
 
 fn commit(trial: &mut Trial, dataset: &mut Dataset, model: &Model, net: &Net) -> bool

@@ -1,13 +1,13 @@
 //! One change on a view and on the model, and whether both answer the same.
-ghost use Rattle.std.specs.Prelude.{◌≡◌, IsTrue};
-ghost use Rattle.rdf_dataset.specs.State.{IsEmptyGraph};
+ghost use Rattle.std.specs.Prelude.{◌≡◌, IsTrue, IfSome};
+ghost use Rattle.rdf_dataset.specs.State.{IsEmptyGraph, Begins};
 
 use crate::keys::key_at;
 use crate::model::Model;
 use crate::table::QuadEntry;
 use crate::terms::{name, quad};
 use crate::trial::Trial;
-use rdf_dataset::{Source, Staged};
+use rdf_dataset::{Net, Source, Staged};
 use rdf_terms::GraphName;
 use std::alloc::Global;
 
@@ -151,5 +151,15 @@ pub fn step<D: Source>(trial: &mut Trial, staged: &mut Staged<'_, D>, model: &mu
         12 | 13 => drop_name(alloc, staged, model, name),
         14 => take_blanks(staged, model, place as u64),
         _ => take_blanks(staged, model, 1_000_000_000_000_000_000),
+    }
+}
+
+/// The net of the changes on a view.
+pub fn net_of<D: Source>(staged: Staged<'_, D>) -> Option<Net>
+    ensures { IfSome result (λ net. Begins net staged.entry.under) }
+{
+    match staged.into_net() {
+        Ok(net) => Some(net),
+        Err(_) => None,
     }
 }

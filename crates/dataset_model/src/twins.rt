@@ -4,13 +4,14 @@ ghost use Rattle.rdf_dataset.specs.State.{Begins, Ends};
 
 use crate::compare::agree;
 use crate::model::Model;
-use crate::steps::step;
+use crate::steps::{net_of, step};
 use crate::table::Table;
 use crate::trial::Trial;
 use plain_dataset::PlainDataset;
 use rdf_dataset::{Dataset, Net, Staged};
 use rdf_terms::{same_quad, same_term};
 use std::alloc::Global;
+use std::mem;
 
 const FIRST_NUMBER: u64 = 4;
 
@@ -32,12 +33,19 @@ pub fn steps_alike(alloc: Global) -> u32 {
         plain: PlainDataset::starting_at(alloc, FIRST_NUMBER),
     };
     let mut model = Model::new(alloc, FIRST_NUMBER);
+    go_on(&mut trial, &mut twins, &mut model);
+    trial.agreed
+}
+
+// The rounds, up to the first that doesn't agree.
+fn go_on(trial: &mut Trial, twins: &mut Twins, model: &mut Model)
+    requires { twins.old.dataset ≡ twins.old.plain }
+{
     for _ in 0..250 {
-        if !round(&mut trial, &mut twins, &mut model) {
-            return trial.agreed;
+        if !round(trial, twins, model) {
+            return;
         }
     }
-    trial.agreed
 }
 
 // A commit, and then its revert or look-ups.
@@ -45,13 +53,28 @@ fn round(trial: &mut Trial, twins: &mut Twins, model: &mut Model) -> bool
     requires { twins.old.dataset ≡ twins.old.plain }
     ensures { IsTrue result → twins.new.dataset ≡ twins.new.plain }
 {
-    let Some(kept) = model.copy(trial.alloc) else {
+    let Some(mut kept) = model.copy(trial.alloc) else {
         return false;
     };
-    let Some(net) = changes(trial, &twins.dataset, model) else {
-        return false;
-    };
-    if !twins.commit(&net) {
+    match changes(trial, &twins.dataset, model) {
+        Some(net) => there_and_back(trial, twins, model, &net, &mut kept),
+        None => false,
+    }
+}
+
+// The commit of a net, and then its revert to what was kept of the model, or look-ups.
+fn there_and_back(
+    trial: &mut Trial,
+    twins: &mut Twins,
+    model: &mut Model,
+    net: &Net,
+    kept: &mut Model,
+) -> bool
+    requires same { twins.old.dataset ≡ twins.old.plain }
+    requires begins { Begins net.now twins.old.dataset }
+    ensures { IsTrue result → twins.new.dataset ≡ twins.new.plain }
+{
+    if !twins.commit(net) {
         return false;
     }
     if !twins.counts(trial, model) {
@@ -60,8 +83,8 @@ fn round(trial: &mut Trial, twins: &mut Twins, model: &mut Model) -> bool
     if trial.number() % 3 > 0 {
         return twins.counts(trial, model);
     }
-    *model = kept;
-    twins.revert(&net) && twins.counts(trial, model)
+    mem::swap(model, kept);
+    twins.revert(net) && twins.counts(trial, model)
 }
 
 // Five changes on a view.
@@ -84,10 +107,7 @@ fn changes(trial: &mut Trial, dataset: &Dataset, model: &mut Model) -> Option<Ne
     if !vary(trial, &mut staged, model) {
         return None;
     }
-    match staged.into_net() {
-        Ok(net) => Some(net),
-        Err(_) => None,
-    }
+    net_of(staged)
 }
 
 impl Twins {

@@ -1,8 +1,8 @@
-use Rattle.std.proofs.Common.{ap, ◌∙◌}
-use Rattle.rdf_dataset.specs.State.{net_between}
+use Rattle.std.proofs.Common.{IfSome, ap, subst, ◌∙◌}
+use Rattle.rdf_dataset.specs.State.{State, Begins}
 use Rattle.dataset_model.proofs.rounds.changed.Goals as goal
 
-pub returns-in-Ok : goal.returns-in-Ok
-returns-in-Ok c =
-    let under = c.change.ensures ∙ ap (λ s. s.under) c.over-staged.ensures in
-    c.joined.ensures _ _ (c.in-Ok.ensures.net ∙ ap (λ s. net_between s c.change.new.staged.now) under) c.in-Some.ensures
+pub returns-in-Some : goal.returns-in-Some
+returns-in-Some c =
+    let under = c.changed_twice.ensures.under ∙ ap (λ s. s.under) c.over-staged.ensures in
+    subst (λ (s : State). IfSome c.joined.result (λ net. Begins net s)) under c.joined.ensures

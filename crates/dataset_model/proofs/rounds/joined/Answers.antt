@@ -1,4 +1,5 @@
 use Rattle.dataset_model.proofs.rounds.joined.Goals as goal
 
-pub returns-in-Ok : goal.returns-in-Ok
-returns-in-Ok c s t there on = (on.0, on.1, c.in-Ok.ensures s t on.0 there on.2)
+pub returns-in-Ok-then : goal.returns-in-Ok-then
+returns-in-Ok-then g c =
+    (c.requires.0, c.requires.1, c.in-Ok-then.ensures c.args.staged.under c.args.staged.now c.requires.0 c.in-Ok.ensures.net c.requires.2)

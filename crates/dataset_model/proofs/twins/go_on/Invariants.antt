@@ -1,5 +1,5 @@
 use Rattle.std.proofs.Common.{◌≡◌}
-use Rattle.dataset_model.proofs.twins.steps_alike.Given as goal
+use Rattle.dataset_model.proofs.twins.go_on.Given as goal
 
 abbrev pub invariant-loop : goal.invariant-loop
 invariant-loop l = l.twins.dataset ≡ l.twins.plain
