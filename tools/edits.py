@@ -9,6 +9,7 @@ CALLS = re.compile(r"[;:]( in `\S+`, of this cycle of calls:)? it (calls|passes)
 # what it says where an answer file names what isn't there any more
 NAMES = re.compile(r"has no field|is not in scope|has no `|was not admitted")
 WAITS = "its goals wait for a callee's proof"
+UNCOVERED = "the borrow checker does not cover this function"
 # behind the answers of each edited function stands a declaration that antt refuses. So it is never proved, and the check doesn't offer answers for what
 # is left open, which would take a third of its time; each goal of the function is tried all the same, and the check says which it doesn't prove
 REFUSED = "untried"
@@ -171,14 +172,18 @@ def mark(edit, crate, folder):
         others = [it for it in edit.beside if not re.search(rf"(?m)^(pub |abbrev )*{re.escape(it)} :", text)]
         if others:
             module = f"Rattle.{crate}.proofs.{'.'.join(at.relative_to(folder / 'proofs').parts)}.Goals"
-            text = f"use {module} as the_others\n{text}" + "".join(f"\npub {it} : the_others.{it}\n{it} = absurd {REFUSED}\n" for it in others)
+            # (an answer file may have brought the module in, and under no second name)
+            known = re.search(rf"(?m)^use {re.escape(module)} as (\S+)$", text)
+            goals = known[1] if known else "the_others"
+            text = ("" if known else f"use {module} as {goals}\n") + text
+            text += "".join(f"\npub {it} : {goals}.{it}\n{it} = absurd {REFUSED}\n" for it in others)
         file.write_text(text)
 
 
 def open_goals(edit, said):
     """The goals of an edit's functions that a check leaves open, whether each took it to a limit, and whether names of an answer file are all that is wrong."""
     found, names = {}, []
-    for file, line, goal, rest in re.findall(r"(?m)^note: (src/\S+?):(\d+):\d+: it is not proved that .*?\(`(\S+?)`\)(.*)", said):
+    for file, line, goal, rest in re.findall(r"(?m)^note: (src/\S+?):(\d+):\d+: (?:it is not proved that|`search` found no proof) .*?\(`(\S+?)`\)(.*)", said):
         if any(it.file == file and it.first < int(line) <= it.last + 1 for it in edit.functions):
             found.setdefault(goal, "limits" in rest)
     folders = "|".join(map(re.escape, folders_of(edit)))
@@ -209,6 +214,11 @@ def verdicts(batch, said):
             told[it.name] = "not tried", "the check has no line of this function"
         elif any("could not tell" in failures[name] for name in own):
             told[it.name] = "not tried", f"{own[0]}: {failures[own[0]]}"
+        elif any(UNCOVERED in failures[name] and name.rpartition("::")[2] in {f.name for f in it.functions} for name in own):
+            told[it.name] = "bad", "no goal is tried of a body in this form, which the borrow checker does not cover"
+        elif unproved := [name for name in own if failures[name].startswith("no proof") and "did not prove" not in failures[name]]:
+            # a callee of its cycle isn't covered
+            told[it.name] = "not tried", f"{unproved[0]}: {failures[unproved[0]]}"
         elif it.is_marked and it.open:
             told[it.name] = "refused", f"{it.at} at {names or stated([*it.open], it.clauses)}"
         elif own and any(it.cycles & other.cycles for other in batch if other is not it):
@@ -225,7 +235,7 @@ def verdicts(batch, said):
     others = {*failures} - seen
     if others:
         why = f"{min(others)}, which no edit of this check changes, fails too: {failures[min(others)]}"
-        told = {it.name: ("not tried", why) for it in batch}
+        told = {it.name: told[it.name] if told[it.name][0] == "bad" else ("not tried", why) for it in batch}
     return told, others
 
 
