@@ -75,7 +75,8 @@ impl<'a, S: TripleSink> Scope<'a, S> {
         requires proper { IsTrue (proper.proper_node node.now) }
         requires subject { is_literal_term term.now ≡ false }
         requires room { HasRoom 0 self.old }
-        ensures gives { GivesOrMisses ((spec.meaning node.now).inside term.now self.old) result self.new }
+        ensures gives { GivesOrMisses
+            ((spec.meaning node.now).inside term.now self.old) result self.new }
         ensures known { known_leaf (declared self.old.prologue) node.now ≡ true →
             OnOk result (IsTrue (known.known_node (declared self.old.prologue) node.now)) }
         ensures prologue { self.new.prologue ≡ self.old.prologue }
@@ -213,7 +214,8 @@ impl<'a, S: TripleSink> Scope<'a, S> {
         requires proper { IsTrue (proper.proper_property property.now) }
         requires subject { is_literal_term subject.now ≡ false }
         requires room { HasRoom 0 self.old }
-        ensures gives { GivesOrMisses (spec.property property.now subject.now self.old) result self.new }
+        ensures gives { GivesOrMisses
+            (spec.property property.now subject.now self.old) result self.new }
         ensures known { OnOk result
             (IsTrue (known.known_property (declared self.old.prologue) property.now)) }
         ensures prologue { self.new.prologue ≡ self.old.prologue }
@@ -249,7 +251,8 @@ impl<'a, S: TripleSink> Scope<'a, S> {
     fn triples(&mut self, node: &Node<'a>, properties: &[Property<'a>]) -> Result<(), PrologueFault>
         requires proper { IsTrue (proper.proper_triples node.now properties.now) }
         requires room { HasRoom 1 self.old }
-        ensures gives { GivesOrMisses (spec.triples node.now properties.now self.old) result self.new }
+        ensures gives { GivesOrMisses
+            (spec.triples node.now properties.now self.old) result self.new }
         ensures known { let knows = known.known_triples (declared self.old.prologue) in
             OnOk result (IsTrue (knows node.now properties.now)) }
         ensures prologue { self.new.prologue ≡ self.old.prologue }

@@ -136,7 +136,8 @@ impl<'a, S: TripleSink> Scope<'a, S> {
 
     /// The IRI of a reference.
     pub(crate) fn resolved(&self, reference: &Slice<'a>) -> Result<Iri, PrologueFault>
-        ensures { GivesOrMisses (state.told (prologue.resolved reference.now) self.now) result self.now }
+        ensures { GivesOrMisses
+            (state.told (prologue.resolved reference.now) self.now) result self.now }
     {
         self.prologue.resolve(reference)
     }

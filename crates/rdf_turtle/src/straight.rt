@@ -112,7 +112,8 @@ fn turn<'a, S: TripleSink>(
     ensures { MatchResult result
         (λ later. Turn depth parser.old parser.new pending later
         scope.old scope.new declared.old.keys declared.new.keys)
-        (λ kind. StopsReading (spec.statement (spec.node depth) (spec.node (depth + 1)) parser.old) kind) }
+        (λ kind. StopsReading
+        (spec.statement (spec.node depth) (spec.node (depth + 1)) parser.old) kind) }
 {
     let statement = statement(parser, depth)?;
     Ok(behind(scope, declared, pending, &statement)?)

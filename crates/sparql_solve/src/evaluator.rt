@@ -256,7 +256,8 @@ fn graph_rows<S: Source>(
     source: &S,
     pattern: &Pattern,
 ) -> Result<Vec<Row>, NoMemory>
-    ensures { IfOk result (λ out. (active : GraphName) → AreSolutions (S.contents source.now) out.items
+    ensures { IfOk result (λ out. (active : GraphName) →
+        AreSolutions (S.contents source.now) out.items
         (λ d. solutions variables.now d active (graph name.now (translation pattern.now)))) }
 {
     match name {
