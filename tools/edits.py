@@ -244,6 +244,8 @@ def failure(symbol, line, said):
     if not re.match("not proved|no proof|could not tell", line):
         return ""
     text, (crate, _, path) = CALLS.sub("", line), symbol.partition("::")
+    # (the declaration that stands behind an edited function's answers says nothing of its goals)
+    text = re.sub(rf"; it stands on `[^`]*\.Answers\.{REFUSED}`, which antt refuses", "", text)
     refused = re.search(r"; it stands on (.*), which antt refuses", text)
     # its own answers, or those of its cycle of calls, which lie beside it in a folder +NAME
     own, module = path.replace("::", "."), path.replace("::", ".").rpartition(".")[0]
