@@ -1,27 +1,31 @@
 # Builds, runs and checks rdfkeep. It needs make, Python 3.8 and the Rattle toolchain's command `rt`, and no network.
 #
 #   make           the program, proved and built, at ./rdfkeep
-#   make test      every proof and test, every wrong body in batches, every refused allocation and where a refusal may come of, every file test
-#   make gate      every proof and test, and every wrong body in a check of its own: the same, by rt ci alone, in hours
+#   make test      every proof and test, every refused allocation and where a refusal may come of, every file test, and within 150 minutes as
+#                  many wrong bodies as can be judged: those that changed last first
+#   make gate      the same with all wrong bodies, in hours on few processors: before a release
 #
 # A second call does nothing again that is done.
-
-SOURCES := $(shell find crates -name out -prune -o -type f -print) crates.txt HANDLES
 
 .PHONY: all test gate clean
 
 all: rdfkeep
 
-rdfkeep: $(SOURCES)
-	@tools/prove rdfkeep
-	@cd crates/rdfkeep && rt run -- --version > /dev/null
-	cp crates/rdfkeep/out/rdfkeep rdfkeep
+FIND := find crates -name out -prune -o -type f -print
+SOURCES := $(shell $(FIND)) crates.txt HANDLES
+# the list of the sources, which is newer than the program where one was deleted
+LISTED := $(shell mkdir -p out; $(FIND) | sort > out/sources.new; cmp -s out/sources.new out/sources || cp out/sources.new out/sources; rm out/sources.new)
+
+rdfkeep: $(SOURCES) out/sources
+	@tools/prove rdf_keeper
+	@cd crates/rdfkeep && $${RT:-rt} run --jobs 1 -- --version > /dev/null
+	@cp crates/rdfkeep/out/rdfkeep rdfkeep.new && mv rdfkeep.new rdfkeep
 
 test:
 	@tools/test-all
 
 gate:
-	rt ci
+	@tools/test-all --all
 
 clean:
 	rm -rf out rdfkeep crates/*/out

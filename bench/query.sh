@@ -1,9 +1,10 @@
 #!/usr/bin/env bash
-# Asks seven queries of 10^5 quads with rdfkeep, rdflib and roqet, in one go, and prints the processor time that each takes,
-# loading apart, and the most memory of each process. rdfkeep's times are means of twenty in one session, from the query's
-# text to the last row, rdflib's the best of three, roqet's one run less one that only loads. Each must find as many rows.
+# Asks seven queries of 10^5 quads with rdfkeep, Apache Jena, rdflib and roqet, in one go, and prints the processor time that
+# each takes, loading apart, and the most memory of each process. rdfkeep's times are means of twenty in one session, from the
+# query's text to the last row, Jena's the best of many, warm, and of its two datasets in memory, rdflib's the best of three,
+# roqet's one run less one that only loads. Each must find as many rows.
 # Usage: bench/query.sh [RDFKEEP [COUNT [SEED]]], where RDFKEEP is the built program and COUNT the number of quads
-# (apt-get install python3-rdflib rasqal-utils time).
+# (apt-get install libapache-jena-java default-jdk-headless python3-rdflib rasqal-utils time).
 set -euo pipefail
 here=$(cd "$(dirname "$0")" && pwd)
 rdfkeep=$(realpath "${1:-$here/../rdfkeep}")
@@ -56,6 +57,9 @@ PY
 for name in "${names[@]}"; do printf '%%query\n%s\n%%end\n' "$(cat "$work/$name.rq")"; done > "$work/script"
 /usr/bin/time -f %M -o "$work/rdfkeep.peak" "$rdfkeep" run --data "$work/data" "$work/script" > /dev/null
 /usr/bin/time -f %M -o "$work/rdflib.peak" "$python" "$here/query_rdflib.py" "$work" "${names[@]}" > "$work/rdflib"
+for kind in general transactional; do
+    /usr/bin/time -f %M -o "$work/$kind.peak" "$here/jena.sh" "$work" "$kind" "$work" "${names[@]}" > "$work/$kind"
+done
 
 # roqet loads the data anew for each query
 printf 'SELECT ?o { <a:none> <a:none> ?o }\n' > "$work/load.rq"
@@ -71,15 +75,17 @@ import sys
 work, *names = sys.argv[1:]
 read = lambda name: {line.split()[0]: [float(it) for it in line.split()[1:]] for line in open(f"{work}/{name}")}
 ours, theirs, third = read("rdfkeep"), read("rdflib"), read("roqet")
+jena = {name: min(found, read("transactional")[name]) for name, found in read("general").items()}
 third = {name: (user + system, most, rows) for name, (user, system, most, rows) in third.items()}
 load, peak = third["load"][0], max(it[1] for it in third.values())
-print("%-10s %6s %10s %10s %10s %18s %18s" % ("", "rows", "rdfkeep s", "rdflib s", "roqet s", "rdflib / rdfkeep", "roqet / rdfkeep"))
+columns = ("rdfkeep", "Jena", "rdflib", "roqet")
+print("%-10s %6s" % ("", "rows"), *("%10s" % f"{it} s" for it in columns), *("%9s" % f"{it} /" for it in columns[1:]))
 for name in names:
-    our, rows = ours[name]
-    their, their_rows = theirs[name]
-    other, other_rows = max(third[name][0] - load, 0.001), third[name][2]
-    note = "" if (rows, rows) == (their_rows, other_rows) else "   rows: rdflib %d, roqet %d" % (their_rows, other_rows)
-    print("%-10s %6d %10.5f %10.4f %10.3f %18.1f %18.1f%s" % (name, rows, our, their, other, their / our, other / our, note))
-peaks = [float(open(f"{work}/{name}.peak").read()) * 1024 / 1e6 for name in ("rdfkeep", "rdflib")] + [peak * 1024 / 1e6]
-print("%-10s %6s %10.1f %10.1f %10.1f   (peak MB)" % ("memory", "", *peaks))
+    found = [ours[name], jena[name], theirs[name], (max(third[name][0] - load, 0.001), third[name][2])]
+    times, rows = [it[0] for it in found], [it[1] for it in found]
+    note = "" if len(set(rows)) == 1 else "   rows: " + ", ".join("%s %d" % it for it in zip(columns, rows))
+    print("%-10s %6d" % (name, rows[0]), *("%10.6f" % it for it in times), *("%9.2f" % (it / times[0]) for it in times[1:]), note)
+peaks = [float(open(f"{work}/{name}.peak").read()) for name in ("rdfkeep", "general", "transactional", "rdflib")]
+peaks = [it * 1024 / 1e6 for it in (peaks[0], min(peaks[1:3]), peaks[3], peak)]
+print("%-10s %6s" % ("memory", ""), *("%10.1f" % it for it in peaks), "  (peak MB)")
 PY

@@ -65,4 +65,5 @@ def main(folder, count, seed):
         (folder / f"{name}.rq").write_text(PREFIXES + text + "\n")
 
 
-main(*sys.argv[1:])
+if __name__ == "__main__":
+    main(*sys.argv[1:])

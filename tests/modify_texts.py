@@ -49,10 +49,9 @@ def changed(lines):
     return as_expressions("\n".join(lines + [f"ok {len(lines)}"]))
 
 
-def counted(lines):
-    """The answer of the update that changes these."""
-    came = sum(line.startswith("+ ") and not line.startswith("+ graph") for line in lines)
-    went = sum(line.startswith("- ") and not line.startswith("- graph") for line in lines)
+def counted(lines, *signs):
+    """The answer of the update that changes these, or of its undo, whose signs change places."""
+    came, went = (sum(line.startswith(f"{sign} ") and not line.startswith(f"{sign} graph") for line in lines) for sign in signs or "+-")
     return rf"ok \+{came} -{went}" + "\n"
 
 
@@ -67,7 +66,7 @@ def prefixes():
             script.append(f"%update\n{text[:size]}\n%end\n%changes\n")
             answers.append(FAULT + "\n" + changed([]))
         script.append(f"%update\n{text}\n%end\n%changes\n%undo\n%redo\n%changes\n%undo\n%changes\n")
-        backward = r"ok \+{1} -{0}".format(*counted(change).strip().removeprefix(r"ok \+").split(" -")) + "\n"
+        backward = counted(change, "-", "+")
         answers.append(counted(change) + changed(change) + backward + counted(change) + changed(change) + backward + changed([]))
     Path("script").write_text("".join(script))
     Path("stdout.like").write_text("".join(answers))

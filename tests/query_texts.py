@@ -5,6 +5,7 @@
     query_texts.py prefixes    each prefix of some queries, and of one with a byte that is no text behind it: it is refused by a
                                fault that has a name, and the whole query is answered
     query_texts.py members     groups of 10,000 members: groups, OPTIONALs, GRAPHs, parts of a UNION
+    query_texts.py nested      90 GRAPHs in one another over two graphs, by one variable and by 90
     query_texts.py triples     basic graph patterns of 2,000 triple patterns, over a chain of as many nodes and round a ring, and 2,000 columns
 """
 import sys
@@ -84,6 +85,20 @@ def members():
     )
 
 
+def nested():
+    many = 90
+    inside = lambda name, group: "".join(f"GRAPH {name(i)} {{ " for i in range(many)) + group + " }" * many
+    pattern, other = f"?s {P} ?o", f"?s {P} {Z}"
+    write_queries(
+        [f"{S} {P} <http://e/1> {G}", f"{S} {P} <http://e/2> {Z}"],
+        [
+            (f"SELECT ?g ?o {{ {inside(lambda i: '?g', pattern)} }}", f"?g\t?o\n{G}\t<http://e/1>\n{Z}\t<http://e/2>\nok 2"),
+            (f"SELECT ?o {{ {inside(lambda i: G if i else '?g', pattern)} }}", "?o\n<http://e/1>\n<http://e/1>\nok 2"),
+            (f"ASK {{ {inside(lambda i: f'?g{i}', other)} }}", "false\nok 1"),
+        ],
+    )
+
+
 def triples():
     many = 2_000
     chain = [f"<http://e/{i}> {P} <http://e/{i + 1}>" for i in range(many)]
@@ -103,4 +118,4 @@ def triples():
 
 
 if __name__ == "__main__":
-    {"words": words, "prefixes": prefixes, "members": members, "triples": triples}[sys.argv[1]]()
+    {"words": words, "prefixes": prefixes, "members": members, "nested": nested, "triples": triples}[sys.argv[1]]()

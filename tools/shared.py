@@ -1,12 +1,24 @@
 """What the tools of this folder share: the crates, copies of the repository, commands and their processor time, tasks side by side."""
-import collections, contextlib, os, pathlib, re, shutil, subprocess, tempfile, threading, time
+import collections, contextlib, os, pathlib, re, shutil, signal, subprocess, sys, tempfile, threading, time, traceback
+from concurrent.futures import FIRST_COMPLETED, ThreadPoolExecutor, wait
 
 ROOT = pathlib.Path(__file__).resolve().parents[1]
 KEPT = ("out/rlib", "out/incremental")
-# what runs of any clone on this machine leave for later ones
-CACHE = pathlib.Path(os.environ.get("XDG_CACHE_HOME") or pathlib.Path.home() / ".cache") / "rdfkeep"
-# how large a task is (the largest starts first), its memory in bytes, and a call that returns further tasks
-Task = collections.namedtuple("Task", "size memory call")
+# copies stand beside what they link to, wherever /tmp is: those of each process in a folder of its own
+COPIES = ROOT / "out" / "copies"
+RT = os.environ.get("RT", "rt")
+# a task: the least order starts first; its memory in bytes; a call that gives a list of further tasks
+Task = collections.namedtuple("Task", "order memory call")
+
+
+def cache():
+    """Where runs of any clone on this machine leave what later ones take: below out/ where the home can't be entered."""
+    with contextlib.suppress(OSError, RuntimeError):
+        folder = pathlib.Path(os.environ.get("XDG_CACHE_HOME") or pathlib.Path.home() / ".cache") / "rdfkeep"
+        folder.mkdir(parents=True, exist_ok=True)
+        if os.access(folder, os.R_OK | os.W_OK | os.X_OK):
+            return folder
+    return ROOT / "out" / "cache"
 
 
 def rows_of(root):
@@ -17,8 +29,13 @@ def rows_of(root):
 
 def crates_below(root=ROOT):
     """Each crate of crates.txt by name, with those that it stands on, lowest first and itself last."""
-    uses = rows_of(root)
-    below = lambda name: list(dict.fromkeys([found for it in uses[name] if it in uses for found in below(it)] + [name]))
+    uses, found = rows_of(root), {}
+
+    def below(name):
+        if name not in found:
+            found[name] = list(dict.fromkeys([it for use in uses[name] if use in uses for it in below(use)] + [name]))
+        return found[name]
+
     return {name: below(name) for name in uses}
 
 
@@ -35,36 +52,116 @@ def linked(source, to):
 
 
 @contextlib.contextmanager
+def folder_for_copies():
+    """A folder for copies, for as long as it is used."""
+    own = COPIES / str(os.getpid())
+    own.mkdir(parents=True, exist_ok=True)
+    with tempfile.TemporaryDirectory(dir=own) as at:
+        yield pathlib.Path(at)
+
+
+@contextlib.contextmanager
 def copy_of(root, below, own=KEPT, lower=KEPT):
     """A copy of a crate and of those below it, over what is kept of each, for as long as it is used. `below` has the crate's name last; `own` and `lower`
     say what is taken of all that is kept of it and of the others."""
-    with tempfile.TemporaryDirectory(prefix="rdfkeep-") as at:
-        pathlib.Path(at, "crates.txt").write_text("".join(f"{it}: {' '.join(rows_of(root)[it])}\n" for it in below))
+    with folder_for_copies() as at:
+        rows = rows_of(root)
+        (at / "crates.txt").write_text("".join(f"{it}: {' '.join(rows[it])}\n" for it in below))
         for crate in below:
-            source, to = root / "crates" / crate, pathlib.Path(at, "crates", crate)
+            source, to = root / "crates" / crate, at / "crates" / crate
             to.mkdir(parents=True)
             for part in ("src", "specs", "proofs", *(own if crate == below[-1] else lower)):
                 if (source / part).is_dir():
                     shutil.copytree(source / part, to / part, copy_function=linked if part in KEPT else shutil.copy2)
-        yield pathlib.Path(at, "crates", below[-1])
+        yield at / "crates" / below[-1]
 
 
-def run(words, folder, hear=lambda line: None):
-    """Runs a command, and returns its status, what it says, and the processor seconds of all that it ran. `hear` is told each line."""
+def put(new, place):
+    """Puts a folder in its place in one step, so that an interrupt leaves the old one, the new one, or none."""
+    ready, old = place.with_name(place.name + ".new"), place.with_name(place.name + ".old")
+    place.parent.mkdir(parents=True, exist_ok=True)
+    for it in (ready, old):
+        shutil.rmtree(it, ignore_errors=True)
+    shutil.move(str(new), str(ready))
+    if place.is_dir():
+        place.rename(old)
+    ready.rename(place)
+    shutil.rmtree(old, ignore_errors=True)
+
+
+def guard():
+    """Has a process wait for this one's end, however it ends, and then end all that this one started, and take away its copies."""
+    name, own = f"RDFKEEP_{os.getpid()}_{time.time_ns()}".encode(), COPIES / str(os.getpid())
+    os.environb[name] = b"1"
+    for it in COPIES.glob("*"):
+        # (what an earlier one left that ended together with the process that waited for it)
+        if not pathlib.Path("/proc", it.name).exists():
+            shutil.rmtree(it, ignore_errors=True)
+    for it in (signal.SIGTERM, signal.SIGHUP):
+        if signal.getsignal(it) != signal.SIG_IGN:
+            signal.signal(it, signal.default_int_handler)
+    end, held = os.pipe()
+    if os.fork():
+        return os.close(end)
+    os.setsid()
+    os.close(held)
+    for stream in range(3):
+        os.dup2(os.open(os.devnull, os.O_RDWR), stream)
+    os.read(end, 1)
+    while True:
+        there = {number: (parent, environment) for number, parent, environment in processes()}
+        started = {it for it in there if name in there[it][1]}
+        while True:
+            below = {it for it in there if there[it][0] in started} - started
+            started |= below
+            if not below:
+                break
+        if not started:
+            shutil.rmtree(own, ignore_errors=True)
+            os._exit(0)
+        for it in started:
+            with contextlib.suppress(OSError):
+                os.kill(it, signal.SIGKILL)
+        time.sleep(0.1)
+
+
+def processes():
+    """Each process that can be seen and hasn't ended: its number, its parent's, and the environment that it began with."""
+    for at in pathlib.Path("/proc").glob("[0-9]*"):
+        with contextlib.suppress(OSError):
+            state, parent = (at / "stat").read_text().rpartition(")")[2].split()[:2]
+            if state not in "ZX":
+                yield int(at.name), int(parent), (at / "environ").read_bytes()
+
+
+def run(words, folder, hear=lambda line: None, until=None):
+    """Runs a command, and returns its status, what it says, and the processor seconds of all that it ran. `hear` is told each line. What it runs stands in
+    a session of its own, which ends at the time `until`."""
     words = [str(it) for it in words]
-    process = subprocess.Popen(words, cwd=folder, stdin=subprocess.DEVNULL, stdout=subprocess.PIPE, stderr=subprocess.STDOUT, errors="replace")
+    process = subprocess.Popen(
+        words, cwd=folder, stdin=subprocess.DEVNULL, stdout=subprocess.PIPE, stderr=subprocess.STDOUT, errors="replace", start_new_session=True
+    )
+    late = threading.Timer(max(0, until - time.time()), os.killpg, (process.pid, signal.SIGKILL)) if until else None
     said = []
-    for line in process.stdout:
-        said.append(line)
-        hear(line.rstrip("\n"))
+    try:
+        if late:
+            late.start()
+        for line in process.stdout:
+            said.append(line)
+            hear(line.rstrip("\n"))
+    finally:
+        if late:
+            late.cancel()
     _, status, usage = os.wait4(process.pid, 0)
     process.returncode = os.WEXITSTATUS(status) if os.WIFEXITED(status) else -os.WTERMSIG(status)
     return process.returncode, "".join(said), usage.ru_utime + usage.ru_stime
 
 
 def rt(*words):
-    """The words of a command of rt. CHECK_PREFIX holds words to put before it, and RT another rt."""
-    return [*os.environ.get("CHECK_PREFIX", "").split(), os.environ.get("RT", "rt"), *words]
+    """The words of a command of rt, or of another that RT names."""
+    if not shutil.which(RT):
+        sys.exit(f"{pathlib.Path(sys.argv[0]).name}: {RT} isn't found: put the Rattle toolchain's command on the path")
+    return [RT, *words]
 
 
 def processors():
@@ -80,49 +177,39 @@ def need(crate, root=ROOT):
     return max(2.5e9, 1.2e9 + 0.8e6 * lines_of(crate, root))
 
 
-def side_by_side(tasks, lanes, coming=lambda: None):
-    """Runs tasks, as many side by side as there are lanes and free memory, those that they return, and those that are coming:
-    a call that gives some, or None once there will be no more."""
-    running, turn, failed, is_over = [], threading.Condition(), [], threading.Event()
-
-    def look():
-        while not failed and not is_over.is_set():
-            more = coming()
-            with turn:
-                tasks.extend(more or [])
-                if more is None:
-                    is_over.set()
-                turn.notify_all()
-            time.sleep(0 if more or is_over.is_set() else 2)
-
-    def fitting():
-        # (what runs may not have all of its memory yet)
-        free = 0.85 * free_memory() - sum(running) / 2
-        return [it for it in tasks if not running or it.memory <= free]
-
-    def work():
-        while True:
-            with turn:
-                turn.wait_for(lambda: failed or fitting() or not tasks and not running and is_over.is_set())
-                if failed or not tasks:
-                    return
-                task = max(fitting(), key=lambda it: it.size)
+def side_by_side(coming, lanes):
+    """Runs tasks side by side, as many as there are lanes and free memory, the least order first: those that are coming, from a call that gives some, or
+    None once there will be no more, and those that tasks return."""
+    pool, tasks, running, more = ThreadPoolExecutor(lanes), [], {}, []
+    while tasks or running or more is not None:
+        more = coming() if more is not None else None
+        tasks = sorted([*tasks, *(more or [])], key=lambda it: it.order)
+        for task in [*tasks]:
+            # (what runs may not have all of its memory yet)
+            if len(running) < lanes and (not running or task.memory <= 0.85 * free_memory() - sum(running.values()) / 2):
                 tasks.remove(task)
-                running.append(task.memory)
-            more = []
-            try:
-                more = task.call()
-            except BaseException as error:
-                failed.append(error)
-            with turn:
-                running.remove(task.memory)
-                tasks.extend(more)
-                turn.notify_all()
+                running[pool.submit(task.call)] = task.memory
+        if not running and more is not None:
+            time.sleep(2)
+        for ended in wait(running, 2, FIRST_COMPLETED).done:
+            del running[ended]
+            tasks += ended.result()
 
-    threads = [threading.Thread(target=it, daemon=True) for it in [work] * lanes + [look]]
-    for it in threads:
-        it.start()
-    for it in threads:
-        it.join()
-    if failed:
-        raise failed[0]
+
+def ends(main):
+    """Runs a tool, and ends with its status, at once also where it is interrupted or fails."""
+    guard()
+    try:
+        status = main()
+    except SystemExit as end:
+        status = end.code
+        if isinstance(status, str):
+            print(status, file=sys.stderr)
+            status = 1
+    except BaseException as error:
+        is_interrupt = isinstance(error, KeyboardInterrupt)
+        print(f"{pathlib.Path(sys.argv[0]).name}: interrupted" if is_interrupt else traceback.format_exc(), file=sys.stderr)
+        status = 130 if is_interrupt else 1
+    sys.stdout.flush()
+    sys.stderr.flush()
+    os._exit(status or 0)

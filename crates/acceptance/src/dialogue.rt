@@ -1,6 +1,5 @@
 //! Sessions that answer at once: dialogues, where nothing is asked before the last answer came, and what is read
 //! before a session ends.
-use one_byte::{Ending, OneByteReader};
 use rdf_keeper::{Feed, Keeper, Settings, Status, run};
 use std::alloc::Global;
 use std::cell::Cell;
@@ -115,20 +114,6 @@ fn a_line_end_between_two_pieces(rt: HostRuntime) {
         b"ok +0 -0\nok +0 -0\nrefused: NothingToUndo\n".as_slice()
     );
     assert!(rt; status == Status::Refused && calls == 5);
-}
-
-#[test]
-fn an_open_body_in_pieces_of_one_byte(rt: HostRuntime) {
-    let mut keeper = Keeper::new(rt.alloc(), None);
-    let mut reader = OneByteReader {
-        bytes: b"%print\n%update\nINSERT DATA { }\n",
-        ending: Ending::Nothing,
-    };
-    let mut output = Vec::new(rt.alloc());
-    let settings = Settings { stop: false };
-    let status = run(rt.alloc(), &mut keeper, &mut reader, &mut output, settings);
-    assert_eq!(rt; output.as_slice(), b"ok 0\nrefused: NoEnd\n".as_slice());
-    assert!(rt; status == Status::Refused);
 }
 
 // What a session that is fed these two pieces writes behind the first, and at its end.

@@ -138,3 +138,24 @@ fn bound_graph_is_the_only_one_tried(rt: HostRuntime) {
         );
     }
 }
+
+#[test]
+fn what_stands_in_graph_is_found_once_for_all_names_around_it(rt: HostRuntime) {
+    for (group, wanted) in [
+        ("{ GRAPH ?g { GRAPH ?h { ?s ?p ?o } } }", (4, 2, 2)),
+        ("{ GRAPH ?g { GRAPH ?g { ?s ?p ?o } } }", (2, 2, 2)),
+        (
+            "{ GRAPH ?g { { GRAPH e:h { ?s ?p ?o } } UNION { } } }",
+            (4, 1, 1),
+        ),
+        (
+            "{ GRAPH ?a { GRAPH ?b { GRAPH ?c { GRAPH ?d { ?s e:none ?o } } } } }",
+            (0, 2, 0),
+        ),
+    ] {
+        assert!(rt;
+            cost_over(rt.alloc(), GRAPHS, group) == Some(wanted),
+            "{group}"
+        );
+    }
+}

@@ -1,4 +1,5 @@
-//! Devices that fail at one call alone: what fails is given up at once, and neither tried again nor passed over.
+//! Devices that fail at one call alone, each call in turn and in each way: what is answered before stands, and what fails is given
+//! up at once, neither tried again nor passed over.
 use crate::streams::{ANSWERED, ANSWERS, CONVERTED, CONVERTED_UP_TO, LINES, SCRIPT, due};
 use one_byte::{Ending, OnceFailing, OneByteReader, OneByteWriter};
 use rdf_keeper::{ConvertFault, Format, Keeper, Settings, Status, convert, run};
@@ -26,21 +27,10 @@ fn is_last<T: Drop>(device: &OnceFailing<T>, before: usize) -> bool {
     device.calls == (before as u64).saturating_add(1)
 }
 
-// How the call behind so many fails: each kind of failure at every second call, or every third.
-fn read_failure(before: usize) -> Ending {
-    match before % 2 {
-        0 => Ending::Interrupted,
-        _ => Ending::Failed,
-    }
-}
+// How a read fails, and how a write does.
+const READ_FAILURES: [Ending; 2] = [Ending::Interrupted, Ending::Failed];
 
-fn write_failure(before: usize) -> Ending {
-    match before % 3 {
-        0 => Ending::Interrupted,
-        1 => Ending::Failed,
-        _ => Ending::Nothing,
-    }
-}
+const WRITE_FAILURES: [Ending; 3] = [Ending::Interrupted, Ending::Failed, Ending::Nothing];
 
 const SETTINGS: Settings = Settings { stop: false };
 
@@ -57,10 +47,12 @@ fn session_read(alloc: Global, read: usize, failure: Ending) -> Option<bool> {
 #[test]
 fn reads_of_a_session(rt: HostRuntime) {
     for read in 0..=SCRIPT.len() {
-        assert!(rt;
-            session_read(rt.alloc(), read, read_failure(read)) == Some(true),
-            "{read}"
-        );
+        for failure in READ_FAILURES {
+            assert!(rt;
+                session_read(rt.alloc(), read, failure) == Some(true),
+                "{read}"
+            );
+        }
     }
 }
 
@@ -78,10 +70,9 @@ fn session_written(alloc: Global, written: usize, failure: Ending) -> bool {
 #[test]
 fn writes_of_a_session(rt: HostRuntime) {
     for written in 0..ANSWERS.len() {
-        assert!(rt;
-            session_written(rt.alloc(), written, write_failure(written)),
-            "{written}"
-        );
+        for failure in WRITE_FAILURES {
+            assert!(rt; session_written(rt.alloc(), written, failure), "{written}");
+        }
     }
 }
 
@@ -97,8 +88,12 @@ fn conversion_read(alloc: Global, read: usize, failure: Ending) -> Option<bool> 
 #[test]
 fn reads_of_lines(rt: HostRuntime) {
     for read in 0..=LINES.len() {
-        let answer = conversion_read(rt.alloc(), read, read_failure(read));
-        assert!(rt; answer == Some(true), "{read}");
+        for failure in READ_FAILURES {
+            assert!(rt;
+                conversion_read(rt.alloc(), read, failure) == Some(true),
+                "{read}"
+            );
+        }
     }
 }
 
@@ -122,11 +117,12 @@ fn conversion_written(alloc: Global, format: Format, written: usize, failure: En
 #[test]
 fn writes_of_lines(rt: HostRuntime) {
     for written in 0..CONVERTED.len() {
-        let failure = write_failure(written);
-        assert!(rt;
-            conversion_written(rt.alloc(), Format::NQuads, written, failure),
-            "{written}"
-        );
+        for failure in WRITE_FAILURES {
+            assert!(rt;
+                conversion_written(rt.alloc(), Format::NQuads, written, failure),
+                "{written}"
+            );
+        }
     }
 }
 
@@ -147,10 +143,9 @@ fn turtle_read(alloc: Global, read: usize, failure: Ending) -> Result<bool, Fail
 #[test]
 fn reads_of_turtle(rt: HostRuntime) -> Result<(), Fail> {
     for read in 0..=TURTLE.len() {
-        assert!(rt;
-            turtle_read(rt.alloc(), read, read_failure(read))?,
-            "{read}"
-        );
+        for failure in READ_FAILURES {
+            assert!(rt; turtle_read(rt.alloc(), read, failure)?, "{read}");
+        }
     }
     Ok(())
 }
@@ -158,10 +153,11 @@ fn reads_of_turtle(rt: HostRuntime) -> Result<(), Fail> {
 #[test]
 fn writes_of_turtle(rt: HostRuntime) {
     for written in 0..TURTLE_CONVERTED.len() {
-        let failure = write_failure(written);
-        assert!(rt;
-            conversion_written(rt.alloc(), Format::Turtle, written, failure),
-            "{written}"
-        );
+        for failure in WRITE_FAILURES {
+            assert!(rt;
+                conversion_written(rt.alloc(), Format::Turtle, written, failure),
+                "{written}"
+            );
+        }
     }
 }

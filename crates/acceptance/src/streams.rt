@@ -1,8 +1,7 @@
-//! Each read and each write failing in turn: what is answered before stands, and no more is written.
+//! Writers of one byte at a call, and a session and documents whose reads and writes fail in `once`.
 use one_byte::{Ending, OneByteReader, OneByteWriter};
 use rdf_keeper::{ConvertFault, Format, Keeper, Settings, Status, convert, run};
 use std::alloc::Global;
-use std::test::Fail;
 
 pub(crate) const SCRIPT: &[u8] =
     b"%load nquads\n<http://e/s> <http://e/p> \"x\" .\n%end\n%mark a\n%print\n%update\nINSERT DATA { <http://e/s> <http://e/p> 1 }\n%end\n%changes\n%rollback a\n%undo\n%print\n";
@@ -33,61 +32,14 @@ pub(crate) fn due(
     output.get(..*ends.get(lines)?)
 }
 
-// Whether a session whose reader fails behind these bytes answers what is wanted.
-fn is_answered(alloc: Global, bytes: &'static [u8], wanted: &[u8]) -> bool {
-    let mut keeper = Keeper::new(alloc, None);
-    let mut reader = OneByteReader {
-        bytes,
-        ending: Ending::Interrupted,
-    };
-    let mut output = Vec::new(alloc);
-    let settings = Settings { stop: false };
-    let status = run(alloc, &mut keeper, &mut reader, &mut output, settings);
-    status == Status::ReadFailed && output.as_slice() == wanted
-}
-
-// Whether a session whose reader fails behind so many bytes answers what is due.
-fn session_read(alloc: Global, read: usize) -> Option<bool> {
-    let wanted = due(SCRIPT, read, &ANSWERED, ANSWERS)?;
-    Some(is_answered(alloc, SCRIPT.get(..read)?, wanted))
-}
-
-#[test]
-fn each_read_of_a_session(rt: HostRuntime) {
-    for read in 0..=SCRIPT.len() {
-        assert!(rt; session_read(rt.alloc(), read) == Some(true), "{read}");
-    }
-}
-
-// What a session over this script wrote on a writer that takes so many bytes, and its status.
-fn session_written(alloc: Global, script: &[u8], room: usize, ending: Ending) -> (Vec<u8>, Status) {
-    let mut keeper = Keeper::new(alloc, None);
-    let mut reader = script;
-    let mut writer = OneByteWriter::new(alloc, room, ending);
-    let settings = Settings { stop: false };
-    let status = run(alloc, &mut keeper, &mut reader, &mut writer, settings);
-    let OneByteWriter { taken, .. } = writer;
-    (taken, status)
-}
-
-fn is_front_of_answers(alloc: Global, room: usize, ending: Ending) -> bool {
-    let (written, status) = session_written(alloc, SCRIPT, room, ending);
-    status == Status::WriteFailed && Some(written.as_slice()) == ANSWERS.get(..room)
-}
-
-#[test]
-fn each_write_of_a_session(rt: HostRuntime) {
-    for room in 0..ANSWERS.len() {
-        for ending in [Ending::Failed, Ending::Nothing] {
-            assert!(rt; is_front_of_answers(rt.alloc(), room, ending), "{room}");
-        }
-    }
-}
-
 // Whether a session over this script ends well on a writer that takes one byte at a call, and no more than the answers.
 fn is_written(alloc: Global, script: &[u8], answers: &[u8], status: Status) -> bool {
-    let (written, was) = session_written(alloc, script, answers.len(), Ending::Failed);
-    was == status && written.as_slice() == answers
+    let mut keeper = Keeper::new(alloc, None);
+    let mut reader = script;
+    let mut writer = OneByteWriter::new(alloc, answers.len(), Ending::Failed);
+    let settings = Settings { stop: false };
+    let was = run(alloc, &mut keeper, &mut reader, &mut writer, settings);
+    was == status && writer.taken.as_slice() == answers
 }
 
 #[test]
@@ -97,63 +49,23 @@ fn writes_of_one_byte(rt: HostRuntime) {
     assert!(rt; is_written(rt.alloc(), b"%print\n%undo\n", answers, Status::Refused));
 }
 
-// Whether a conversion whose reader fails behind these bytes writes what is wanted.
-fn is_converted(alloc: Global, format: Format, bytes: &'static [u8], wanted: &[u8]) -> bool {
-    let mut reader = OneByteReader {
-        bytes,
-        ending: Ending::Interrupted,
-    };
-    let mut output = Vec::new(alloc);
-    let answer = convert(alloc, format, None, &mut reader, &mut output);
-    answer == Err(ConvertFault::Read) && output.as_slice() == wanted
-}
-
-// Whether a conversion whose reader fails behind so many bytes writes what is due.
-fn conversion_read(alloc: Global, read: usize) -> Option<bool> {
-    let wanted = due(LINES, read, &CONVERTED_UP_TO, CONVERTED)?;
-    let bytes = LINES.get(..read)?;
-    Some(is_converted(alloc, Format::NQuads, bytes, wanted))
-}
-
-#[test]
-fn each_read_of_a_conversion(rt: HostRuntime) {
-    for read in 0..=LINES.len() {
-        assert!(rt; conversion_read(rt.alloc(), read) == Some(true), "{read}");
-    }
-}
-
 #[test]
 fn a_read_of_triples(rt: HostRuntime) {
-    let bytes = b"<a:s> <a:p> \"x\" .\n<a:s> <a:p> \"x\" .\n<a:s> <a:p> \"y\" .";
-    let wanted = b"<a:s> <a:p> \"x\" .\n<a:s> <a:p> \"x\" .\n";
-    assert!(rt; is_converted(rt.alloc(), Format::NTriples, bytes, wanted));
-}
-
-// Whether a conversion ends so on a writer that takes so many bytes, and has written the front of its lines.
-fn conversion_written(
-    alloc: Global,
-    room: usize,
-    ending: Ending,
-    wanted: Result<(), ConvertFault>,
-) -> bool {
-    let mut reader = LINES;
-    let mut writer = OneByteWriter::new(alloc, room, ending);
-    let answer = convert(alloc, Format::NQuads, None, &mut reader, &mut writer);
-    let OneByteWriter { taken, .. } = writer;
-    answer == wanted && Some(taken.as_slice()) == CONVERTED.get(..room)
+    let mut reader = OneByteReader {
+        bytes: b"<a:s> <a:p> \"x\" .\n<a:s> <a:p> \"x\" .\n<a:s> <a:p> \"y\" .",
+        ending: Ending::Interrupted,
+    };
+    let mut output = Vec::new(rt.alloc());
+    let answer = convert(rt.alloc(), Format::NTriples, None, &mut reader, &mut output);
+    let wanted = b"<a:s> <a:p> \"x\" .\n<a:s> <a:p> \"x\" .\n".as_slice();
+    assert!(rt; answer == Err(ConvertFault::Read) && output.as_slice() == wanted);
 }
 
 #[test]
-fn each_write_of_a_conversion(rt: HostRuntime) {
-    for room in 0..CONVERTED.len() {
-        for ending in [Ending::Failed, Ending::Nothing] {
-            let wanted = Err(ConvertFault::Write);
-            assert!(rt;
-                conversion_written(rt.alloc(), room, ending, wanted),
-                "{room}"
-            );
-        }
-    }
-    let room = CONVERTED.len();
-    assert!(rt; conversion_written(rt.alloc(), room, Ending::Failed, Ok(())));
+fn converted_by_writes_of_one_byte(rt: HostRuntime) {
+    let mut reader = LINES;
+    let mut writer = OneByteWriter::new(rt.alloc(), CONVERTED.len(), Ending::Failed);
+    let answer = convert(rt.alloc(), Format::NQuads, None, &mut reader, &mut writer);
+    let OneByteWriter { taken, .. } = writer;
+    assert!(rt; answer == Ok(()) && taken.as_slice() == CONVERTED);
 }

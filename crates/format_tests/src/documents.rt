@@ -1,10 +1,38 @@
-//! What readers of lines answer behind an end or a fault, each read failing once, and quads that are sorted.
+//! What a line is told for, what readers of lines answer behind an end or a fault, each read failing once, and quads that are
+//! sorted.
 
 use one_byte::{Ending, OnceFailing, OneByteReader};
-use rdf_lines::{FaultKind, LineFault, LineFormat, LineReader, read_lines, write_sorted};
+use rdf_lines::{
+    FaultKind, LineFault, LineFormat, LineReader, read_line, read_lines, write_sorted,
+};
 use std::alloc::Global;
 use std::io::Read;
 use std::test::Fail;
+
+// What is told of a line: whether it holds a statement, or its fault.
+fn told_of(alloc: Global, line: &[u8]) -> Result<bool, FaultKind> {
+    Ok(read_line(alloc, LineFormat::NQuads, line)?.is_some())
+}
+
+// In a script or a file a line end would cut the line in two.
+#[test]
+fn lines_with_a_line_end_in_them(rt: HostRuntime) {
+    for (line, wanted) in [
+        (b"_:a <a:p> _:k.n . # end".as_slice(), Ok(true)),
+        (b"_:a <a:p> _:k.n . # e\nd".as_slice(), Ok(true)),
+        (b"_:a <a:p> _:k.n . # e\rd".as_slice(), Ok(true)),
+        (b"#\n".as_slice(), Ok(false)),
+        (b"_:a <a:p>\n_:k .".as_slice(), Err(FaultKind::Syntax)),
+        (b"_:a <a:p> _:k .\r#".as_slice(), Err(FaultKind::Syntax)),
+        (b"_:a <a:p> \"\n\" .".as_slice(), Err(FaultKind::Syntax)),
+        (
+            b"_:a <a:p> \"\xC3\n\" .".as_slice(),
+            Err(FaultKind::NotUtf8),
+        ),
+    ] {
+        assert!(rt; told_of(rt.alloc(), line) == wanted);
+    }
+}
 
 // An answer of a reader, with nothing of the statement but that it is one.
 fn told<R: Read>(lines: &mut LineReader, stream: &mut R) -> Result<bool, LineFault> {

@@ -1,5 +1,7 @@
 //! A reader that gives one byte at a call, and a writer that takes one, until each ends or fails, and
 //! devices that fail once: for tests of what reads and writes.
+//!
+//! `format_tests` and `acceptance` call it; the program doesn't.
 #![tactic(auto)]
 
 ghost use Rattle.std.specs.Prelude.{◌≡◌, [], IfOk, MatchBool, ◌≢◌};

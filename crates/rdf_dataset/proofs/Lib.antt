@@ -1,4 +1,5 @@
 pub mod CallerLemmas
+mod ChainLemmas
 mod InsertionLemmas
 mod LoadingLemmas
 mod QuadEditLemmas

@@ -1,24 +1,24 @@
 -- The net that the quads of a document make.
 use Rattle.std.proofs.Common.{◌≡◌, ◌⊎◌, inl, inr, ℕ, ◌+◌, ◌-◌, ◌≤◌, Bool, true, false, ◌||◌, ◌&&◌, not, List, [], ◌∷◌, ◌++◌, map, refl, sym, ap, ◌∙◌, subst, arith, zero-add, add-one, drop, drop-cons, get_or, length, ◌<◌, IsTrue, Result, Ok, Err, IfOk}
-use Rattle.std.specs.Prelude.{filter, OnOk}
+use Rattle.std.specs.Prelude.{filter, OnOk, Option, None, Some, IfSome}
 use Rattle.std.specs.List.{AllByRecursion}
 use Rattle.std.specs.FinSet as set
-use Rattle.std.specs.FinSet.{contains, contains-difference, contains-from_list, contains-union, difference, from_list, same_set}
+use Rattle.std.specs.FinSet.{contains, contains-difference, contains-from_list, contains-insert, contains-union, difference, from_list, same_set}
 use Rattle.rdf_terms.specs.Below.{AreBelow, IsGraphBelow, IsQuadBelow, IsTermBelow}
 use Rattle.rdf_terms.specs.Order.{quad_cmp}
-use Rattle.rdf_terms.specs.OrderLaws.{quad_cmp_total, quad_cmp-IsAntisymmetric}
+use Rattle.rdf_terms.specs.OrderLaws.{quad_cmp_total, quad_cmp-IsAntisymmetric, term_cmp_total, term_cmp-IsAntisymmetric}
 use Rattle.rdf_terms.specs.Quad.{QuadParts, is_quad}
 use Rattle.rdf_terms.specs.declared.quad.GraphName.{GraphName}
 use Rattle.rdf_terms.specs.declared.quad.GraphName.TheVariants.{Default, Named}
 use Rattle.rdf_terms.specs.declared.term.Term.{Term}
 use Rattle.rdf_terms.specs.declared.term.Term.TheVariants.{Blank, Iri, Literal}
 use Rattle.rdf_sets.specs.Delta.{IsDelta}
-use Rattle.rdf_sets.proofs.CallerLemmas.{filter_contains}
+use Rattle.rdf_sets.proofs.CallerLemmas.{filter_contains, tie_itself}
 use Rattle.rdf_dataset.specs.Insertion.{graph_from, quad_from, term_from, with_all, with_data}
 use Rattle.rdf_dataset.specs.Loading.{names_with, quads_with}
-use Rattle.rdf_dataset.specs.State.{State, Change, Names, Quads, IsSound, last_number, net_between, with_blanks, with_graph, with_quad}
+use Rattle.rdf_dataset.specs.State.{State, Change, Names, Quads, IsNamed, IsSound, last_number, net_between, with_blanks, with_graph, with_quad}
 use Rattle.rdf_dataset.proofs.InsertionLemmas.{quad_below, quad_sooner, with_all-more, with_all-nothing}
-use Rattle.rdf_dataset.proofs.StateLemmas.{sound_with_blanks, sound_with_quad}
+use Rattle.rdf_dataset.proofs.StateLemmas.{graph_there, sound_with_blanks, sound_with_quad}
 
 -- ---- numbers that stay
 
@@ -107,28 +107,46 @@ none_removed s quads = same_set quad_cmp_total quad_cmp-IsAntisymmetric _ _ (λ 
 
 -- ---- the names
 
--- the names of some of the graphs have come in, and the rest are to come
-pub record IsNaming (s : Names) (quads : List QuadParts) (added removed : List Term) (rest : List QuadParts) : Type 0 where
+-- the names of some of the graphs have come in, that of the quad before among them, and the rest are to come
+pub record IsNaming (s : Names) (quads : List QuadParts) (added removed : List Term) (before : Option GraphName) (rest : List QuadParts) : Type 0 where
   pub now : Names
   pub delta : IsDelta s now added removed
   pub all : names_with now rest ≡ names_with s quads
+  pub there : IfSome before (IsNamed now)
 
 -- a state that has these names
 abbrev named : Names → State
 named names = record { quads = set.empty; names = names; next = 0 }
 
-pub naming_begins : (s : Names) (quads rest : List QuadParts) (added removed : List Term) → IsDelta s s added removed → rest ≡ quads → IsNaming s quads added removed rest
-naming_begins s quads rest added removed d e = record { now = s; delta = d; all = ap (names_with s) e }
+pub naming_begins : (s : Names) (quads rest : List QuadParts) (added removed : List Term) → IsDelta s s added removed → rest ≡ quads → IsNaming s quads added removed None rest
+naming_begins s quads rest added removed d e = record { now = s; delta = d; all = ap (names_with s) e; there = tt }
 
-pub naming_goes_on : (s : Names) (quads rest more : List QuadParts) (q : QuadParts) (added removed new gone : List Term) (h : IsNaming s quads added removed rest) → rest ≡ q ∷ more → IsDelta s (with_graph h.now q.graph) new gone → IsNaming s quads new gone more
-naming_goes_on s quads rest more q added removed new gone h e d = record {
+named_now : (names : Names) (graph : GraphName) → IsNamed (with_graph names graph) graph
+named_now names Default = tt
+named_now names (Named name) = contains-insert term_cmp_total names name name ∙ ap (λ b. b || contains names name) (tie_itself term_cmp_total term_cmp-IsAntisymmetric name)
+
+pub naming_goes_on : (s : Names) (quads rest more : List QuadParts) (q : QuadParts) (added removed new gone : List Term) (before : Option GraphName) (graph : GraphName) (h : IsNaming s quads added removed before rest) → rest ≡ q ∷ more → graph ≡ q.graph
+    → IsDelta s (with_graph h.now q.graph) new gone → IsNaming s quads new gone (Some graph) more
+naming_goes_on s quads rest more q added removed new gone before graph h e is d = record {
   now = with_graph h.now q.graph;
   delta = d;
   all = ap (λ (t : State). t.names) (with_all-more (named h.now) q more) ∙ ap (names_with h.now) (sym e) ∙ h.all;
+  there = subst (IsNamed (with_graph h.now q.graph)) (sym is) (named_now h.now q.graph);
 }
 
-pub naming_ends : (s : Names) (quads rest : List QuadParts) (added removed : List Term) → IsNaming s quads added removed rest → rest ≡ [] → IsDelta s (names_with s quads) added removed
-naming_ends s quads rest added removed h e =
+-- the name of the graph has come in with the quad before
+pub naming_skips : (s : Names) (quads rest more : List QuadParts) (q : QuadParts) (added removed : List Term) (before : Option GraphName) (graph : GraphName) → IsNaming s quads added removed before rest → rest ≡ q ∷ more → graph ≡ q.graph → before ≡ Some graph → IsNaming s quads added removed (Some graph) more
+naming_skips s quads rest more q added removed before graph h e is same =
+    let is_there : IsNamed h.now graph = subst (λ b. IfSome b (IsNamed h.now)) same h.there in
+    record {
+      now = h.now;
+      delta = h.delta;
+      all = ap (λ names. names_with names more) (sym (graph_there h.now q.graph (subst (IsNamed h.now) is is_there))) ∙ ap (λ (t : State). t.names) (with_all-more (named h.now) q more) ∙ ap (names_with h.now) (sym e) ∙ h.all;
+      there = is_there;
+    }
+
+pub naming_ends : (s : Names) (quads rest : List QuadParts) (added removed : List Term) (before : Option GraphName) → IsNaming s quads added removed before rest → rest ≡ [] → IsDelta s (names_with s quads) added removed
+naming_ends s quads rest added removed before h e =
     subst (λ t. IsDelta s t added removed) (sym (ap (λ (t : State). t.names) (with_all-nothing (named h.now))) ∙ ap (names_with h.now) (sym e) ∙ h.all) h.delta
 
 -- ---- soundness

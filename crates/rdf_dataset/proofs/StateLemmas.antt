@@ -273,7 +273,7 @@ pub not_false : (a : Bool) → false ≡ not a → a ≡ true
 not_false true e = refl
 not_false false e = absurd (true≢false (sym e))
 
-graph_there : (names : Names) (g : GraphName) → IsNamed names g → with_graph names g ≡ names
+pub graph_there : (names : Names) (g : GraphName) → IsNamed names g → with_graph names g ≡ names
 graph_there names Default h = refl
 graph_there names (Named n) h = sym (insert_there term_cmp_total term_cmp-IsAntisymmetric names n h)
 

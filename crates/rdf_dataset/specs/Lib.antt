@@ -1,3 +1,4 @@
+pub mod Chains
 pub mod Insertion
 pub mod Inside
 pub mod Laws

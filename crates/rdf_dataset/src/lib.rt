@@ -1,7 +1,11 @@
 //! Datasets of quads: their states, a staged view over any source of quads, and the net between two
 //! states (RDF 1.1 Concepts, section 4).
+//!
+//! `sparql_solve` reads a source, `sparql_eval` stages what a request does, `rdf_session` commits
+//! and reverts nets; so may a host. It keeps no history, reads no text, and saves nothing.
 #![tactic(auto)]
 
+mod chain;
 mod dataset;
 mod edits;
 mod insertion;

@@ -1,5 +1,5 @@
 //! The net that the quads of a document make, at once: no view is staged for it.
-ghost use Rattle.std.specs.Prelude.{◌≡◌, ◌≤◌, ◌+◌, map, IsTrue, IfOk, OnOk};
+ghost use Rattle.std.specs.Prelude.{◌≡◌, ◌≤◌, ◌+◌, map, Some, IsTrue, IfOk, OnOk, option_copied};
 ghost use Rattle.std.specs.FinSet as set;
 ghost use Rattle.std.specs.List.{AllByRecursion};
 ghost use Rattle.rdf_terms.specs.Below.{AreBelow};
@@ -70,15 +70,31 @@ fn name_graph<D: Source>(
     Ok(())
 }
 
-// The names that the graphs of quads bring.
+// Whether the graph is that of the quad before.
+fn is_that(before: Option<&GraphName>, graph: &GraphName) -> bool
+    ensures { IsTrue result → option_copied before.entry ≡ Some graph.now }
+{
+    match before {
+        Some(before) => *before == *graph,
+        None => false,
+    }
+}
+
+// The names that the graphs of quads bring. Quads of one graph often stand together: its name is
+// looked for once then.
 fn new_names<D: Source>(alloc: Global, under: &D, quads: &[Quad]) -> Result<Delta<Term>, NoMemory>
     ensures names { IfOk result (λ names. IsDelta (D.contents under.now).names
         (names_with (D.contents under.now).names quads.now) names.added names.removed) }
     ensures sound { OnOk result (AllByRecursion (λ q. IsTrue (is_quad q)) quads.now) }
 {
     let mut names = TreeDelta::none(alloc);
+    let mut before: Option<&GraphName> = None;
     for quad in quads {
-        name_graph(&mut names, under, quad)?;
+        let graph = quad.graph();
+        if !is_that(before, graph) {
+            name_graph(&mut names, under, quad)?;
+        }
+        before = Some(graph);
     }
     names.into_delta(alloc)
 }

@@ -77,6 +77,16 @@ impl Net {
         self.names.removed.members()
     }
 
+    // How many quads and names it has in all.
+    pub(crate) fn size(&self) -> usize {
+        let quads = self.added().len().saturating_add(self.removed().len());
+        let names = self
+            .names_added()
+            .len()
+            .saturating_add(self.names_removed().len());
+        quads.saturating_add(names)
+    }
+
     /// The number of the next blank node before the change.
     pub fn before(&self) -> u64
         ensures { result ≡ self.now.before }
@@ -108,6 +118,50 @@ impl Net {
             before: after,
             after: before,
         }
+    }
+
+    /// An equal net.
+    ///
+    /// # Errors
+    /// [`NoMemory`] where memory is wanting.
+    pub fn copy(&self) -> Result<Net, NoMemory>
+        ensures { IfOk result (λ copy. copy ≡ self.now) }
+    {
+        Ok(Net {
+            quads: self.quads.copy()?,
+            names: self.names.copy()?,
+            before: self.before,
+            after: self.after,
+        })
+    }
+
+    /// What [`then`](Net::then) answers of two nets that are given away: their quads and names are moved, and only
+    /// what cancels out is copied.
+    ///
+    /// # Errors
+    /// [`NoMemory`] where memory is wanting.
+    pub fn joined(self, next: Net) -> Result<Net, NoMemory>
+        ensures { IfOk result (λ both. (s t u : State) → self ≡ net_between s t →
+            next ≡ net_between t u → both ≡ net_between s u) }
+    {
+        let Net {
+            quads,
+            names,
+            before,
+            ..
+        } = self;
+        let after = next.after;
+        let Net {
+            quads: later_quads,
+            names: later_names,
+            ..
+        } = next;
+        Ok(Net {
+            quads: quads.joined(later_quads)?,
+            names: names.joined(later_names)?,
+            before,
+            after,
+        })
     }
 
     /// The net from the beginning of this one to the end of the next, which begins where this one

@@ -1,12 +1,13 @@
 //! Literals that stood in the text, which the same ones behind them share.
-ghost use Rattle.std.specs.Prelude.{◌≡◌, IfOk, IfSome};
+ghost use Rattle.std.specs.Prelude.{◌≡◌, [], Some, option_map, OnOk, IfOk, IfSome};
+ghost use Rattle.rdf_grammar.specs.Inside.Places.{kept_at};
 ghost use Rattle.rdf_grammar.specs.Literals as spec;
 
-use crate::names::mark_of;
+use crate::places::{Places, mark_of};
 use rdf_terms::{Iri, Literal, NoMemory, Text};
 use std::alloc::Global;
 
-/// How many literals are kept at once.
+/// How many literals are kept at once at most.
 const PLACES: usize = 256;
 
 /// How many bytes of a lexical form are looked up at most.
@@ -23,17 +24,17 @@ struct KeptLiteral {
 /// shares their parts. Of those with one place the last is kept.
 #[derive(Drop)]
 pub(crate) struct KeptLiterals {
-    places: Vec<Option<KeptLiteral>>,
+    places: Places<KeptLiteral>,
 }
 
 impl KeptLiterals {
-    /// No literals.
-    pub(crate) fn new(alloc: Global) -> Result<KeptLiterals, NoMemory> {
-        let mut places = Vec::with_capacity(alloc, PLACES)?;
-        for _ in 0..PLACES {
-            places.push(None)?;
+    /// No literals. It takes no memory.
+    pub(crate) fn new(alloc: Global) -> KeptLiterals
+        ensures { result.places ≡ [] }
+    {
+        KeptLiterals {
+            places: Places::new(alloc, PLACES),
         }
-        Ok(KeptLiterals { places })
     }
 
     // The literal with this lexical form and datatype that is kept with a mark.
@@ -41,7 +42,7 @@ impl KeptLiterals {
         ensures { IfOk result (λ kept. IfSome kept
             (λ literal. literal ≡ spec.untagged lexical.now datatype.now)) }
     {
-        let Some(Some(kept)) = self.places.get(mark % PLACES) else {
+        let Some(kept) = self.places.get(mark) else {
             return Ok(None);
         };
         if kept.mark != mark {
@@ -58,12 +59,12 @@ impl KeptLiterals {
     }
 
     // Keeps a literal with the mark of its lexical form.
-    fn keep(&mut self, mark: usize, literal: &Literal) -> Result<(), NoMemory> {
+    fn keep(&mut self, mark: usize, literal: &Literal) -> Result<(), NoMemory>
+        ensures { OnOk result
+            (option_map (λ kept. kept.literal) (kept_at mark self.new.places) ≡ Some literal.now) }
+    {
         let literal = literal.copy()?;
-        if let Some(place) = self.places.get_mut(mark % PLACES) {
-            *place = Some(KeptLiteral { mark, literal });
-        }
-        Ok(())
+        self.places.put(mark, KeptLiteral { mark, literal })
     }
 
     /// The literal with this lexical form, which it takes over, and datatype, and no tag.

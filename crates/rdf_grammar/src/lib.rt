@@ -1,6 +1,9 @@
 //! What the grammars of Turtle and SPARQL share: tokens as terminals, a cursor over them, readings
 //! and derivations with the bridge between the two, the depth of brackets, the prologue
 //! with the IRIs of names, and the numbers of blank nodes.
+//!
+//! `rdf_turtle` and the crates of SPARQL's syntax call it. Of productions it has those of IRIs,
+//! literals and bindings alone, and it reads no whole text.
 #![tactic(auto)]
 
 mod bracket;
@@ -15,6 +18,7 @@ mod literals;
 mod names;
 mod numbering;
 mod parser;
+mod places;
 mod production;
 mod prologue;
 mod rest;

@@ -1,8 +1,10 @@
 //! The IRIs of prefixed names, kept for the next time that a name stands in the text.
-ghost use Rattle.std.specs.Prelude.{◌≡◌, ◌++◌, false, IfOk, IfSome};
+ghost use Rattle.std.specs.Prelude.{◌≡◌, ◌++◌, [], false, Some, option_map, OnOk, IfOk, IfSome};
+ghost use Rattle.rdf_grammar.specs.Inside.Places.{kept_at};
 ghost use Rattle.rdf_terms.specs.Iri.{has_forbidden};
 ghost use Rattle.rdf_tokens.specs.Values as values;
 
+use crate::places::{Places, mark_of};
 use rdf_terms::{Iri, NoMemory, Text};
 use rdf_tokens::{Slice, local_value};
 use std::alloc::Global;
@@ -40,27 +42,8 @@ fn pname(alloc: Global, front: &Iri, local: &Slice<'_>) -> Result<Iri, NoMemory>
     Ok(iri)
 }
 
-/// How many names are kept at once.
+/// How many names are kept at once at most.
 const PLACES: usize = 256;
-
-/// How many bytes of a text its mark depends on at most, beside its length and its first: the last.
-const MIXED: usize = 8;
-
-/// The mark of what is written so: a local part, a tag or a lexical form. Few that differ have one mark,
-/// so most are told apart without a look at what is kept. The marks of those that begin with a digit, of
-/// which many stand once only, are odd, and no others are.
-pub(crate) fn mark_of(written: &str) -> usize {
-    let bytes = written.as_bytes();
-    let mut mixed = bytes.len();
-    for byte in &bytes[bytes.len().saturating_sub(MIXED)..] {
-        mixed = mixed.wrapping_mul(31).wrapping_add(*byte as usize);
-    }
-    let even = mixed.wrapping_mul(2);
-    match bytes.first() {
-        Some(b'0'..=b'9') => even.wrapping_add(1),
-        _ => even,
-    }
-}
 
 // A name: the mark of its local part, what its prefix stands for, the local part, and the IRI that it stands for.
 #[derive(Drop)]
@@ -76,17 +59,17 @@ struct KeptName<'a> {
 /// kept is told again without a text of its own. Of the names with one place the last is kept.
 #[derive(Drop)]
 pub(crate) struct Names<'a> {
-    places: Vec<Option<KeptName<'a>>>,
+    places: Places<KeptName<'a>>,
 }
 
 impl<'a> Names<'a> {
-    /// No names.
-    pub(crate) fn new(alloc: Global) -> Result<Names<'a>, NoMemory> {
-        let mut places = Vec::with_capacity(alloc, PLACES)?;
-        for _ in 0..PLACES {
-            places.push(None)?;
+    /// No names. It takes no memory.
+    pub(crate) fn new(alloc: Global) -> Names<'a>
+        ensures { result.places ≡ [] }
+    {
+        Names {
+            places: Places::new(alloc, PLACES),
         }
-        Ok(Names { places })
     }
 
     // The IRI of a name that is kept with a mark.
@@ -94,7 +77,7 @@ impl<'a> Names<'a> {
         ensures { IfOk result (λ kept. IfSome kept
             (λ iri. iri ≡ front.now ++ values.local_value local.now)) }
     {
-        let Some(Some(name)) = self.places.get(mark % PLACES) else {
+        let Some(name) = self.places.get(mark) else {
             return Ok(None);
         };
         if name.mark == mark && name.local.as_str() == local.as_str() && name.front == *front {
@@ -112,6 +95,8 @@ impl<'a> Names<'a> {
         iri: &Iri,
     ) -> Result<(), NoMemory>
         requires { iri.now ≡ front.now ++ values.local_value local.now }
+        ensures { OnOk result
+            (option_map (λ name. name.iri) (kept_at mark self.new.places) ≡ Some iri.now) }
     {
         let front = front.copy()?;
         let iri = iri.copy()?;
@@ -121,10 +106,7 @@ impl<'a> Names<'a> {
             local: local.fork(),
             iri,
         };
-        if let Some(kept) = self.places.get_mut(mark % PLACES) {
-            *kept = Some(name);
-        }
-        Ok(())
+        self.places.put(mark, name)
     }
 
     /// The IRI of a name (Turtle 1.1, section 2.4): what its prefix stands for, and what its local

@@ -69,16 +69,13 @@ impl<'a> Prologue<'a> {
     pub fn new(alloc: Global, base: Option<Iri>) -> Result<Prologue<'a>, NoMemory>
         ensures { IfOk result (λ prologue. prologue ≡ spec.start base) }
     {
-        let names = Names::new(alloc)?;
-        let tags = Tags::new(alloc)?;
-        let literals = KeptLiterals::new(alloc)?;
         Ok(Prologue {
             alloc,
             base,
             prefixes: IndexMap::new(alloc),
-            names,
-            tags,
-            literals,
+            names: Names::new(alloc),
+            tags: Tags::new(alloc),
+            literals: KeptLiterals::new(alloc),
         })
     }
 

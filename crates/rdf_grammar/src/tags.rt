@@ -1,15 +1,15 @@
 //! Literals with a language tag, which share the tags that stood in the text before.
-ghost use Rattle.std.specs.Prelude.{◌≡◌, true, Some, IfOk, IfSome};
+ghost use Rattle.std.specs.Prelude.{◌≡◌, [], true, Some, IfOk, IfSome};
 ghost use Rattle.std.specs.Str.{str_to_ascii_lowercase};
 ghost use Rattle.rdf_terms.specs.Literal.{lang_string, is_tag, tagged};
 ghost use Rattle.rdf_tokens.specs.Values as values;
 
-use crate::names::mark_of;
+use crate::places::{Places, mark_of};
 use rdf_terms::{Literal, NoMemory, Text};
 use rdf_tokens::{Slice, tag_value, text_value};
 use std::alloc::Global;
 
-/// How many tags are kept at once.
+/// How many tags are kept at once at most.
 const PLACES: usize = 32;
 
 // A tag as it stands in the text, and a literal that has it.
@@ -21,26 +21,26 @@ struct KeptTag<'a> {
     ghost tag_is: { literal.tag ≡ Some (str_to_ascii_lowercase (values.tag_value tag)) },
 }
 
-// The place of a tag, whose mark is even.
-fn place_of(tag: &Slice<'_>) -> usize {
-    mark_of(tag.as_str()) / 2 % PLACES
+// The mark of a tag, halved, since those of tags are even.
+fn mark_of_tag(tag: &Slice<'_>) -> usize {
+    mark_of(tag.as_str()) / 2
 }
 
 /// Tags that were looked at, each with a literal that has it. A literal whose tag is kept shares the
 /// texts of its tag and its datatype. Of the tags with one place the last is kept.
 #[derive(Drop)]
 pub(crate) struct Tags<'a> {
-    places: Vec<Option<KeptTag<'a>>>,
+    places: Places<KeptTag<'a>>,
 }
 
 impl<'a> Tags<'a> {
-    /// No tags.
-    pub(crate) fn new(alloc: Global) -> Result<Tags<'a>, NoMemory> {
-        let mut places = Vec::with_capacity(alloc, PLACES)?;
-        for _ in 0..PLACES {
-            places.push(None)?;
+    /// No tags. It takes no memory.
+    pub(crate) fn new(alloc: Global) -> Tags<'a>
+        ensures { result.places ≡ [] }
+    {
+        Tags {
+            places: Places::new(alloc, PLACES),
         }
-        Ok(Tags { places })
     }
 
     // The literal that is kept with a tag.
@@ -49,15 +49,11 @@ impl<'a> Tags<'a> {
         ensures tag { let lowered = str_to_ascii_lowercase (values.tag_value tag.now) in
             IfSome result (λ l. l.now.tag ≡ Some lowered) }
     {
-        match self.places.get(place_of(tag)) {
-            Some(Some(kept)) => {
-                if kept.tag.as_str() == tag.as_str() {
-                    Some(&kept.literal)
-                } else {
-                    None
-                }
-            }
-            _ => None,
+        let kept = self.places.get(mark_of_tag(tag))?;
+        if kept.tag.as_str() == tag.as_str() {
+            Some(&kept.literal)
+        } else {
+            None
         }
     }
 
@@ -72,10 +68,7 @@ impl<'a> Tags<'a> {
             tag: tag.fork(),
             literal,
         };
-        if let Some(place) = self.places.get_mut(place_of(tag)) {
-            *place = Some(kept);
-        }
-        Ok(())
+        self.places.put(mark_of_tag(tag), kept)
     }
 
     /// The literal of what a string stands for, with the tag behind it (Turtle 1.1, section 2.5.1).

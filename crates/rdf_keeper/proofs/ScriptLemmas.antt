@@ -2,6 +2,7 @@
 pub mod Cuts
 pub mod Examples
 pub mod Feeds
+pub mod FirstEnds
 pub mod Lines
 pub mod Show
 pub mod OneShow

@@ -1,5 +1,9 @@
-//! The keeper of an RDF dataset: the session with its loads, updates, undo, redo, marks, rollback and commit, scripts of these,
-//! conversion of documents, and the whole program `rdfkeep` over its words.
+//! The keeper of an RDF dataset: the session with its loads, updates, undo, redo, marks, rollback
+//! and commit, scripts of these, conversion of documents, and the whole program `rdfkeep` over its
+//! words.
+//!
+//! The program calls it, and each host that wants a session (`crates/library_example` is one). It
+//! saves nothing between runs, is for one thread, and has no network.
 #![tactic(auto)]
 
 mod conversion;

@@ -4,7 +4,6 @@ mod answer;
 pub(crate) mod command;
 mod feed;
 mod gathered;
-mod item;
 mod line;
 mod runner;
 mod show;

@@ -8,7 +8,6 @@ ghost use Rattle.rdf_lines.specs.Blanks.{BlankNumbersAreBelow, NodesAreToldApart
 use crate::cut::{feed_len, whole_line};
 use crate::fault::{FaultKind, LineFault};
 use crate::format::LineFormat;
-use crate::labels::Labels;
 use crate::progress::Progress;
 use crate::shared::push_shared;
 use rdf_terms::{Quad, TermTable};
@@ -60,10 +59,7 @@ fn read_into(
         (λ _. IsDocument format bytes.now quads.new.items None)
         (λ fault. StopsBehind format bytes.now quads.new.items fault fault.kind) }
 {
-    let mut progress = Progress {
-        number: 1,
-        labels: Labels::new(alloc),
-    };
+    let mut progress = Progress::new(alloc);
     let mut terms = TermTable::new(alloc);
     let mut rest = bytes;
     while !rest.is_empty() {

@@ -1,4 +1,9 @@
-//! RDF documents of lines, N-Triples and N-Quads: read from a stream in whatever pieces it comes, or from held bytes, and written.
+//! RDF documents of lines, N-Triples and N-Quads: read from a stream in whatever pieces it comes,
+//! or from held bytes, and written.
+//!
+//! `rdf_session` calls it for loads and prints, `rdf_keeper` for conversions, and a host that reads
+//! or writes lines. It resolves no reference, keeps no set of quads, and writes no escape that
+//! isn't needed.
 #![tactic(auto)]
 
 mod cut;
@@ -17,6 +22,7 @@ mod round_trip;
 mod shared;
 mod state;
 mod statement;
+mod suffixes;
 mod write;
 mod written;
 

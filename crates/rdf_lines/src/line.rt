@@ -9,6 +9,7 @@ use crate::literal::object;
 use crate::name::{first_is, skip_white};
 use crate::node::node;
 use crate::statement::Statement;
+use crate::suffixes::Suffixes;
 use crate::written::{WrittenNode, WrittenObject, WrittenStatement};
 use rdf_terms::{Cursor, IriReference, NoMemory};
 use std::alloc::Global;
@@ -92,12 +93,13 @@ fn front<'a>(
 #[tactic(auto, unfolding(crate::specs::Reading::back_at))]
 fn back(
     alloc: Global,
+    suffixes: &mut Suffixes,
     format: LineFormat,
     at: &Cursor<'_>,
 ) -> Result<Option<(WrittenObject, Option<WrittenNode>)>, NoMemory>
     ensures { IfOk result (λ r. r ≡ reading.back_at format at.now) }
 {
-    let Some((object, rest)) = object(alloc, &skip_white(at))? else {
+    let Some((object, rest)) = object(alloc, suffixes, &skip_white(at))? else {
         return Ok(None);
     };
     let Some((graph, rest)) = graph_label(alloc, format, &skip_white(&rest))? else {
@@ -113,6 +115,7 @@ fn back(
 #[tactic(auto, using(crate::proofs::StatementSteps::front_fails, crate::proofs::StatementSteps::back_fails, crate::proofs::StatementSteps::both_read))]
 fn statement(
     alloc: Global,
+    suffixes: &mut Suffixes,
     format: LineFormat,
     at: &Cursor<'_>,
 ) -> Result<Option<WrittenStatement>, NoMemory>
@@ -121,7 +124,7 @@ fn statement(
     let Some((subject, predicate, rest)) = front(alloc, at)? else {
         return Ok(None);
     };
-    let Some((object, graph)) = back(alloc, format, &rest)? else {
+    let Some((object, graph)) = back(alloc, suffixes, format, &rest)? else {
         return Ok(None);
     };
     Ok(Some(WrittenStatement {
@@ -146,6 +149,21 @@ pub fn read_line(
 ) -> Result<Option<Statement>, FaultKind>
     ensures { LineTells format line.now result }
 {
+    read_next_line(alloc, &mut Suffixes::new(alloc), format, line)
+}
+
+/// As [`read_line`], where literals share their datatypes and tags with those of the lines before.
+///
+/// # Errors
+/// Those of [`read_line`].
+pub fn read_next_line(
+    alloc: Global,
+    suffixes: &mut Suffixes,
+    format: LineFormat,
+    line: &[u8],
+) -> Result<Option<Statement>, FaultKind>
+    ensures { LineTells format line.now result }
+{
     let Ok(text) = str::from_utf8(line) else {
         return Err(FaultKind::NotUtf8);
     };
@@ -153,10 +171,10 @@ pub fn read_line(
     if is_end(&start) {
         return Ok(None);
     }
-    let Some(written) = statement(alloc, format, &start)? else {
+    let Some(written) = statement(alloc, suffixes, format, &start)? else {
         return Err(FaultKind::Syntax);
     };
-    match written.absolute(alloc)? {
+    match written.absolute(alloc, suffixes)? {
         Some(statement) => Ok(Some(statement)),
         None => Err(FaultKind::Relative),
     }

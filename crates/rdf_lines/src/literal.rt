@@ -4,14 +4,16 @@ ghost use Rattle.rdf_lines.specs.Reading as reading;
 
 use crate::name::{first_is, skip_white};
 use crate::node::node;
+use crate::suffixes::Suffixes;
 use crate::written::WrittenObject;
-use rdf_terms::{Cursor, Iri, Literal, NoMemory, Text};
+use rdf_terms::{Cursor, NoMemory, Text};
 use std::alloc::Global;
 
 /// The literal of a string whose tag stands here, behind its `@`, and the place behind the tag.
 #[tactic(auto, unfolding(crate::specs::Reading::tagged_at, crate::specs::Reading::tag_at, crate::specs::Reading::name_at, crate::specs::Reading::tagged_literal, rdf_terms::specs::Reading::expect))]
 fn tagged<'a>(
     alloc: Global,
+    suffixes: &mut Suffixes,
     lexical: Text,
     name: &Cursor<'a>,
 ) -> Result<Option<(WrittenObject, Cursor<'a>)>, NoMemory>
@@ -20,7 +22,7 @@ fn tagged<'a>(
     let Some(rest) = name.tag_end() else {
         return Ok(None);
     };
-    let literal = Literal::tagged_from_text(alloc, lexical, name.text_up_to(&rest))?;
+    let literal = suffixes.tagged(alloc, lexical, name.text_up_to(&rest))?;
     Ok(Some((WrittenObject::Literal(literal), rest)))
 }
 
@@ -46,6 +48,7 @@ fn typed<'a>(
 #[tactic(auto, using(crate::proofs::SuffixSteps::suffix_tag, crate::proofs::SuffixSteps::suffix_type, crate::proofs::SuffixSteps::suffix_none), unfolding(crate::specs::Reading::literal_at))]
 fn literal<'a>(
     alloc: Global,
+    suffixes: &mut Suffixes,
     at: &Cursor<'a>,
 ) -> Result<Option<(WrittenObject, Cursor<'a>)>, NoMemory>
     ensures { IfOk result (λ r. r ≡ reading.literal_at at.now) }
@@ -55,12 +58,12 @@ fn literal<'a>(
     };
     let suffix = skip_white(&rest);
     if let Some(name) = suffix.expect('@') {
-        return tagged(alloc, lexical, &name);
+        return tagged(alloc, suffixes, lexical, &name);
     }
     if let Some(one) = suffix.expect('^') {
         return typed(alloc, lexical, &one);
     }
-    let literal = Literal::from_text(alloc, lexical, Iri::xsd_string(alloc)?)?;
+    let literal = suffixes.plain(alloc, lexical)?;
     Ok(Some((WrittenObject::Literal(literal), rest)))
 }
 
@@ -68,12 +71,13 @@ fn literal<'a>(
 #[tactic(auto, unfolding(crate::specs::Reading::object_at))]
 pub fn object<'a>(
     alloc: Global,
+    suffixes: &mut Suffixes,
     at: &Cursor<'a>,
 ) -> Result<Option<(WrittenObject, Cursor<'a>)>, NoMemory>
     ensures { IfOk result (λ r. r ≡ reading.object_at at.now) }
 {
     if first_is(at, '"') {
-        return literal(alloc, at);
+        return literal(alloc, suffixes, at);
     }
     let Some((place, rest)) = node(alloc, at)? else {
         return Ok(None);

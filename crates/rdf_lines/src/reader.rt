@@ -6,7 +6,6 @@ ghost use Rattle.rdf_lines.specs.declared.state.ReaderState.TheVariants.{Reading
 use crate::cut::{Cut, next_line, whole_line};
 use crate::fault::{FaultKind, LineFault};
 use crate::format::LineFormat;
-use crate::labels::Labels;
 use crate::pieces::Pieces;
 use crate::progress::Progress;
 use crate::state::ReaderState;
@@ -73,10 +72,7 @@ impl LineReader {
             pieces: Pieces::new(alloc)?,
             behind_return: false,
             line: Vec::new(alloc),
-            progress: Progress {
-                number: 1,
-                labels: Labels::new(alloc),
-            },
+            progress: Progress::new(alloc),
             state: ReaderState::Reading,
         })
     }

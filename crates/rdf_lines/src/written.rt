@@ -3,6 +3,7 @@ ghost use Rattle.std.specs.Prelude.{◌≡◌, IfOk};
 ghost use Rattle.rdf_lines.specs.Written.{absolute_node, absolute_object, absolute_graph, absolute_front, absolute_back, absolute_statement};
 
 use crate::statement::{Node, Object, Statement};
+use crate::suffixes::Suffixes;
 use rdf_terms::{Iri, IriReference, Literal, NoMemory, Text};
 use std::alloc::Global;
 
@@ -42,7 +43,7 @@ impl WrittenNode {
 
 impl WrittenObject {
     /// The object, or `None` where an IRI has no scheme.
-    fn absolute(self, alloc: Global) -> Result<Option<Object>, NoMemory>
+    fn absolute(self, alloc: Global, suffixes: &mut Suffixes) -> Result<Option<Object>, NoMemory>
         ensures { IfOk result (λ object. object ≡ absolute_object self) }
     {
         match self {
@@ -55,7 +56,7 @@ impl WrittenObject {
                 let Some(datatype) = datatype.into_iri() else {
                     return Ok(None);
                 };
-                let literal = Literal::from_text(alloc, lexical, datatype)?;
+                let literal = suffixes.typed(alloc, lexical, datatype)?;
                 Ok(Some(Object::Literal(literal)))
             }
         }
@@ -84,12 +85,13 @@ fn absolute_front(subject: WrittenNode, predicate: IriReference) -> Option<(Node
 // The object and the graph label.
 fn absolute_back(
     alloc: Global,
+    suffixes: &mut Suffixes,
     object: WrittenObject,
     graph: Option<WrittenNode>,
 ) -> Result<Option<(Object, Option<Node>)>, NoMemory>
     ensures { IfOk result (λ back. back ≡ absolute_back object graph) }
 {
-    let Some(object) = object.absolute(alloc)? else {
+    let Some(object) = object.absolute(alloc, suffixes)? else {
         return Ok(None);
     };
     let Some(graph) = absolute_graph(graph) else {
@@ -101,7 +103,11 @@ fn absolute_back(
 impl WrittenStatement {
     /// The statement, or `None` where an IRI has no scheme.
     #[tactic(auto, using(crate::proofs::StatementSteps::front_relative))]
-    pub fn absolute(self, alloc: Global) -> Result<Option<Statement>, NoMemory>
+    pub fn absolute(
+        self,
+        alloc: Global,
+        suffixes: &mut Suffixes,
+    ) -> Result<Option<Statement>, NoMemory>
         ensures { IfOk result (λ statement. statement ≡ absolute_statement self) }
     {
         let WrittenStatement {
@@ -113,7 +119,7 @@ impl WrittenStatement {
         let Some((subject, predicate)) = absolute_front(subject, predicate) else {
             return Ok(None);
         };
-        let Some((object, graph)) = absolute_back(alloc, object, graph)? else {
+        let Some((object, graph)) = absolute_back(alloc, suffixes, object, graph)? else {
             return Ok(None);
         };
         Ok(Some(Statement {

@@ -8,7 +8,7 @@ use Rattle.rdf_orders.specs.Quads.{IdQuads, quad_of, quads_of}
 use Rattle.rdf_orders.specs.Contents.{Contents, Ids, ids_of, IsDisjoint, with_quad, without_quad, with_name, without_name, with_all, without_all}
 use Rattle.rdf_orders.specs.Inside.Gains.{GainsSomeOf}
 use Rattle.rdf_orders.proofs.KeyLemmas.{id_quad_cmp_total, id_quad_cmp-IsAntisymmetric}
-use Rattle.rdf_orders.proofs.SetLemmas.{none_union, union_none, union_push, difference_none, difference_push, taken_back}
+use Rattle.rdf_orders.proofs.SetLemmas.{union_none, union_push, difference_none, difference_push, taken_back}
 
 -- ---- one more
 
@@ -48,18 +48,19 @@ without_one_name c keys names name = λ i. record {
   names = sym (difference_push nat_cmp_total nat_cmp-IsAntisymmetric c.names names name) i;
 }
 
--- quads that came where there were none
-pub with_first_quads : (old : Contents) (quads : IdQuads) (names : Ids) (keys : List (List ℕ)) → old.quads ≡ set.empty → quads ≡ quads_of keys → names ≡ old.names → record { quads = quads; names = names } ≡ with_all old keys []
-with_first_quads old quads names keys none e same = λ i. record {
-  quads = (e ∙ sym (ap (λ s. set.union s (quads_of keys)) none ∙ none_union id_quad_cmp_total id_quad_cmp-IsAntisymmetric (quads_of keys))) i;
-  names = (same ∙ sym (union_none nat_cmp_total nat_cmp-IsAntisymmetric old.names)) i;
+-- new trees of the quads that were there and of those of the keys
+pub with_new_trees : (old : Contents) (mine quads : IdQuads) (names : Ids) (keys : List (List ℕ)) → mine ≡ old.quads → quads ≡ set.union mine (quads_of keys) → names ≡ old.names → record { quads = quads; names = names } ≡ with_all old keys []
+with_new_trees old mine quads names keys same e kept = λ i. record {
+  quads = (e ∙ ap (λ s. set.union s (quads_of keys)) same) i;
+  names = (kept ∙ sym (union_none nat_cmp_total nat_cmp-IsAntisymmetric old.names)) i;
 }
 
--- and names behind them
-pub with_first_list : (old : Contents) (quads : IdQuads) (names : Ids) (keys : List (List ℕ)) (more : List ℕ) → old.quads ≡ set.empty → quads ≡ quads_of keys → names ≡ set.union old.names (ids_of more) → record { quads = quads; names = names } ≡ with_all old keys more
-with_first_list old quads names keys more none e same = λ i. record {
-  quads = (e ∙ sym (ap (λ s. set.union s (quads_of keys)) none ∙ none_union id_quad_cmp_total id_quad_cmp-IsAntisymmetric (quads_of keys))) i;
-  names = same i;
+-- and names beside them
+pub with_new_trees_and_names : (old : Contents) (mine quads : IdQuads) (names : Ids) (keys : List (List ℕ)) (more : List ℕ) → mine ≡ old.quads → quads ≡ set.union mine (quads_of keys) → names ≡ set.union old.names (ids_of more)
+    → record { quads = quads; names = names } ≡ with_all old keys more
+with_new_trees_and_names old mine quads names keys more same e came = λ i. record {
+  quads = (e ∙ ap (λ s. set.union s (quads_of keys)) same) i;
+  names = came i;
 }
 
 -- ---- taken back

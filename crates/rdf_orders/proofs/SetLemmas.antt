@@ -54,11 +54,11 @@ module _ {K : Type 0} {R : K → K → Ordering} (o : IsTotalOrder R) (apart : I
       contains-from_list o (xs ++ ys) q ∙ list_any-append (eq_by_cmp R q) xs ys
       ∙ (λ i. sym (contains-from_list o xs q) i || sym (contains-from_list o ys q) i)
 
+  pub joined : (xs ys : List K) → of (xs ++ ys) ≡ set.union (of xs) (of ys)
+  joined xs ys = same_set o apart _ _ (λ q. contains_joined xs ys q ∙ sym (contains-union o (of xs) (of ys) q))
+
   pub union_none : (s : set.FinSet R) → set.union s (of []) ≡ s
   union_none s = same_set o apart _ _ (λ q. contains-union o s (of []) q ∙ ap (λ b. set.contains s q || b) (contains-empty R q) ∙ or_false (set.contains s q))
-
-  pub none_union : (t : set.FinSet R) → set.union set.empty t ≡ t
-  none_union t = same_set o apart _ _ (λ q. contains-union o set.empty t q ∙ ap (λ b. b || set.contains t q) (contains-empty R q))
 
   pub difference_none : (s : set.FinSet R) → set.difference s (of []) ≡ s
   difference_none s = same_set o apart _ _ (λ q. contains-difference o s (of []) q ∙ ap (λ b. set.contains s q && not b) (contains-empty R q) ∙ and_not_false (set.contains s q))

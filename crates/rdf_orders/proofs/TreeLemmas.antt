@@ -1,9 +1,10 @@
 -- Search trees against the set of quads that they hold.
-use Rattle.std.proofs.Common.{◌≡◌, ℕ, ◌==◌, Bool, true, false, ◌&&◌, ◌||◌, not, List, [], ◌∷◌, map, length, refl, sym, ap, subst, ◌∙◌, arith, inl, inr, IsTrue}
+use Rattle.std.proofs.Common.{◌≡◌, ℕ, ◌==◌, Bool, true, false, ◌&&◌, ◌||◌, not, List, [], ◌∷◌, ◌++◌, map, length, refl, sym, ap, subst, ◌∙◌, arith, inl, inr, IsTrue}
 use Rattle.std.specs.Prelude.{Result, Ok, Err, OnOk, OnErr}
 use Rattle.std.specs.declared.cmp.Ordering.TheVariants.{Less}
 use mathlib.Core.Bool.{true≢false}
 use borrow.Author.Tests.{eqb-true}
+use Rattle.std.proofs.lemmas.List.{map-append}
 use Rattle.std.specs.Bool.{OnFalse}
 use Rattle.std.specs.BTreeMap.{is_at}
 use Rattle.std.specs.BTreeSet.{BTreeSet, contains, Updates}
@@ -17,11 +18,11 @@ use Rattle.rdf_orders.specs.declared.order.Order.{Order}
 use Rattle.rdf_orders.specs.declared.order.Order.TheVariants.{Spo, Pos, Osp}
 use Rattle.rdf_orders.specs.declared.trees.Trees.{Trees}
 use Rattle.rdf_orders.specs.Quads.{IdQuad, IdQuads, key_in, quad_at, quad_of, quads_of, key_cmp, id_quad_cmp}
-use Rattle.rdf_orders.specs.Inside.Mirror.{is_key_of, has_key, quads_in, Mirrors, GainsSome, LosesKey}
+use Rattle.rdf_orders.specs.Inside.Mirror.{is_key_of, has_key, quads_in, Mirrors, AreBuiltOn, GainsSome, LosesKey}
 use Rattle.rdf_orders.specs.Contents.{ListsKeys}
 use Rattle.rdf_terms.specs.Lists.{ListsSorted}
 use Rattle.rdf_orders.proofs.KeyLemmas.{key_cmp_total, id_quad_cmp_total, id_quad_cmp-IsAntisymmetric, quad_at-key_in, same_from_eq, eq_from_same}
-use Rattle.rdf_orders.proofs.SetLemmas.{lists_sorted, tie_turned}
+use Rattle.rdf_orders.proofs.SetLemmas.{joined, lists_sorted, tie_turned}
 use Rattle.rdf_orders.proofs.TestLemmas.{both, first_of_both, second_of_both, is_either, either_first, either_second, false_of_absurd, not_both, and_false, spread, or_of_cond, and_of_cond}
 
 -- ---- keys and quads
@@ -114,6 +115,10 @@ mirrors_itself trees quads m = subst (Mirrors trees) (sym (quads_held trees quad
 
 -- ---- trees that are built at once
 
+-- the quads of two lists of keys
+quads_joined : (xs ys : List (List ℕ)) → quads_of (xs ++ ys) ≡ set.union (quads_of xs) (quads_of ys)
+quads_joined xs ys = ap set.from_list (map-append quad_of xs ys) ∙ joined id_quad_cmp_total id_quad_cmp-IsAntisymmetric (map quad_of xs) (map quad_of ys)
+
 -- a list of keys has the key of each of its quads
 pub keys_of_quads : (order : Order) (ks : List (List ℕ)) (k : List ℕ) → list_any (eq_by_cmp key_cmp k) (map (λ x. key_in order (quad_of x)) ks) ≡ is_key_of (quads_of ks) order k
 keys_of_quads order ks k = each ks ∙ ap (λ b. (length k == 4) && b) (sym (contains-from_list id_quad_cmp_total (map quad_of ks) (quad_at order k)))
@@ -123,18 +128,6 @@ keys_of_quads order ks k = each ks ∙ ap (λ b. (length k == 4) && b) (sym (con
     each (x ∷ ks) =
         (λ i. (tie_turned key_cmp_total (slice_cmp-IsAntisymmetric nat_cmp-IsAntisymmetric) k (key_in order (quad_of x)) ∙ key_tie order (quad_of x) k) i || each ks i)
         ∙ sym (spread (length k == 4) _ _)
-
-pub mirrors_of : (trees : Trees) (ks : List (List ℕ))
-    → ((k : List ℕ) → has_key Spo trees k ≡ list_any (eq_by_cmp key_cmp k) (map (λ x. key_in Spo (quad_of x)) ks))
-    → ((k : List ℕ) → has_key Pos trees k ≡ list_any (eq_by_cmp key_cmp k) (map (λ x. key_in Pos (quad_of x)) ks))
-    → ((k : List ℕ) → has_key Osp trees k ≡ list_any (eq_by_cmp key_cmp k) (map (λ x. key_in Osp (quad_of x)) ks))
-    → Mirrors trees (quads_of ks)
-mirrors_of trees ks spo pos osp = record { keys = λ order k. built order k ∙ keys_of_quads order ks k }
-  where
-    built : (order : Order) (k : List ℕ) → has_key order trees k ≡ list_any (eq_by_cmp key_cmp k) (map (λ x. key_in order (quad_of x)) ks)
-    built Spo = spo
-    built Pos = pos
-    built Osp = osp
 
 -- the first tree is built of a list, and the quads that it holds are those of the list
 first_tree_holds : (trees : Trees) (quads : IdQuads) → ((k : List ℕ) → has_key Spo trees k ≡ is_key_of quads Spo k) → quads_in trees ≡ quads
@@ -147,12 +140,10 @@ first_tree_holds trees quads f =
     ∙ ap (set.contains quads) (quad_at-key_in Spo q))
 
 -- and the other two are built of the first
-pub mirrors_of_first : (trees : Trees) (ks : List (List ℕ))
+mirrors_of_first : (trees : Trees) (ks : List (List ℕ))
     → ((k : List ℕ) → has_key Spo trees k ≡ list_any (eq_by_cmp key_cmp k) (map (λ x. key_in Spo (quad_of x)) ks))
-    → ((k : List ℕ) → has_key Pos trees k ≡ list_any (eq_by_cmp key_cmp k) (map (λ x. key_in Pos (quad_of x)) trees.spo.keys))
-    → ((k : List ℕ) → has_key Osp trees k ≡ list_any (eq_by_cmp key_cmp k) (map (λ x. key_in Osp (quad_of x)) trees.spo.keys))
-    → Mirrors trees (quads_of ks)
-mirrors_of_first trees ks spo pos osp = record { keys = held }
+    → AreBuiltOn trees.spo trees → Mirrors trees (quads_of ks)
+mirrors_of_first trees ks spo others = record { keys = held }
   where
     first : (k : List ℕ) → has_key Spo trees k ≡ is_key_of (quads_of ks) Spo k
     first k = spo k ∙ keys_of_quads Spo ks k
@@ -162,8 +153,17 @@ mirrors_of_first trees ks spo pos osp = record { keys = held }
 
     held : (order : Order) (k : List ℕ) → has_key order trees k ≡ is_key_of (quads_of ks) order k
     held Spo k = first k
-    held Pos k = pos k ∙ keys_of_quads Pos trees.spo.keys k ∙ ap (λ s. is_key_of s Pos k) same
-    held Osp k = osp k ∙ keys_of_quads Osp trees.spo.keys k ∙ ap (λ s. is_key_of s Osp k) same
+    held Pos k = others.pos k ∙ keys_of_quads Pos trees.spo.keys k ∙ ap (λ s. is_key_of s Pos k) same
+    held Osp k = others.osp k ∙ keys_of_quads Osp trees.spo.keys k ∙ ap (λ s. is_key_of s Osp k) same
+
+-- new trees: the first is built of the old one and a list
+pub mirrors_of_both : (old trees : Trees) (spo : BTreeSet (List ℕ)) (ks : List (List ℕ))
+    → ((k : List ℕ) → contains key_cmp spo k ≡ list_any (eq_by_cmp key_cmp k) (map (λ x. key_in Spo (quad_of x)) (old.spo.keys ++ ks)))
+    → AreBuiltOn spo trees → (quads : IdQuads) → Mirrors old quads → Mirrors trees (set.union quads (quads_of ks))
+mirrors_of_both old trees spo ks built others quads m =
+    subst (Mirrors trees) (quads_joined old.spo.keys ks ∙ ap (λ s. set.union s (quads_of ks)) (quads_held old quads m))
+    (mirrors_of_first trees (old.spo.keys ++ ks) (λ k. ap (λ s. contains key_cmp s k) others.first ∙ built k)
+    (subst (λ s. AreBuiltOn s trees) (sym others.first) others))
 
 -- ---- what the calls leave
 

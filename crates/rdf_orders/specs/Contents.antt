@@ -60,10 +60,6 @@ with_all c keys names = record { quads = set.union c.quads (quads_of keys); name
 abbrev pub without_all : Contents → List (List ℕ) → List ℕ → Contents
 without_all c keys names = record { quads = set.difference c.quads (quads_of keys); names = set.difference c.names (ids_of names) }
 
--- with those added, and then without those removed
-abbrev pub changed : Contents → List (List ℕ) → List (List ℕ) → List ℕ → List ℕ → Contents
-changed c added removed names_added names_removed = without_all (with_all c added names_added) removed names_removed
-
 -- no member of one is a member of the other
 abbrev pub IsDisjoint : {K : Type 0} {R : K → K → Ordering} → set.FinSet R → set.FinSet R → Type 0
 IsDisjoint {K} s t = (x : K) → IsTrue (set.contains s x) → ¬ IsTrue (set.contains t x)

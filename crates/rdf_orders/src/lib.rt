@@ -1,6 +1,9 @@
 //! Sets of quads of numbers, kept in three orders: for each choice of bound places the quads
 //! wanted stand together in one of them. What a store keeps of a dataset (RDF 1.1 Concepts,
 //! section 4) once its terms have numbers.
+//!
+//! `rdf_store` calls it. It knows no terms and no texts, and which numbers there are is its
+//! caller's.
 #![tactic(auto)]
 
 mod laws;

@@ -1,8 +1,8 @@
 //! A set of quads in three orders, beside a set of graph names.
-ghost use Rattle.std.specs.Prelude.{◌≡◌, [], not, IsOk, IfOk, OnOk, OnErr};
+ghost use Rattle.std.specs.Prelude.{◌≡◌, [], false, not, IsOk, IfOk, OnOk, OnErr};
 ghost use Rattle.std.specs.FinSet as set;
 ghost use Rattle.rdf_orders.specs.Quads.{quad_of, quads_of};
-ghost use Rattle.rdf_orders.specs.Contents.{ids_of, IsDisjoint, ListsKeys, ListsIds, empty_contents, with_quad, without_quad, with_name, without_name, with_all, without_all, changed};
+ghost use Rattle.rdf_orders.specs.Contents.{ids_of, IsDisjoint, ListsKeys, ListsIds, empty_contents, with_quad, without_quad, with_name, without_name, with_all, without_all};
 ghost use Rattle.rdf_orders.specs.Inside.Gains.{GainsSomeOf};
 
 use crate::order::Key;
@@ -119,56 +119,9 @@ impl QuadSets {
         self.names.remove(&name)
     }
 
-    /// Adds quads and names of which none is there, and then takes some away. It takes no memory
-    /// where none is added.
-    ///
-    /// # Errors
-    /// [`NoMemory`] where memory is wanting: nothing has changed then.
-    pub fn commit(
-        &mut self,
-        added: &[Key],
-        removed: &[Key],
-        names_added: &[u64],
-        names_removed: &[u64],
-    ) -> Result<(), NoMemory>
-        requires new_quads { IsDisjoint self.old.quads (quads_of added.now) }
-        requires new_names { IsDisjoint self.old.names (ids_of names_added.now) }
-        ensures ok { OnOk result (self.new
-            ≡ changed self.old added.now removed.now names_added.now names_removed.now) }
-        ensures err { OnErr result (self.new ≡ self.old) }
-        ensures free { added.now ≡ [] → names_added.now ≡ [] → IsOk result }
-    {
-        self.insert_all(added, names_added)?;
-        self.remove_all(removed, names_removed);
-        Ok(())
-    }
-
-    /// Takes back what [`commit`](QuadSets::commit) does with the same lists. It takes no memory
-    /// where none was removed.
-    ///
-    /// # Errors
-    /// [`NoMemory`] where memory is wanting: nothing has changed then.
-    pub fn revert(
-        &mut self,
-        added: &[Key],
-        removed: &[Key],
-        names_added: &[u64],
-        names_removed: &[u64],
-    ) -> Result<(), NoMemory>
-        requires new_quads { IsDisjoint self.old.quads (quads_of removed.now) }
-        requires new_names { IsDisjoint self.old.names (ids_of names_removed.now) }
-        ensures ok { OnOk result (self.new
-            ≡ changed self.old removed.now added.now names_removed.now names_added.now) }
-        ensures err { OnErr result (self.new ≡ self.old) }
-        ensures free { removed.now ≡ [] → names_removed.now ≡ [] → IsOk result }
-    {
-        self.insert_all(removed, names_removed)?;
-        self.remove_all(added, names_added);
-        Ok(())
-    }
-
-    /// Adds quads and names of which none is there, all of them or none. Where there are no quads
-    /// yet, each order is built at once, which is faster and takes less memory.
+    /// Adds quads and names of which none is there, all of them or none. Where the quads are as
+    /// many as those that are there, or more, each order is built of both at once, which is faster
+    /// and takes less memory.
     ///
     /// # Errors
     /// [`NoMemory`] where memory is wanting: nothing has changed then.
@@ -186,8 +139,8 @@ impl QuadSets {
         Ok(())
     }
 
-    /// Adds the quads of a list and names as [`insert_all`](QuadSets::insert_all) does. Where there are
-    /// no quads yet, the list goes before the memory of all three orders is taken.
+    /// Adds the quads of a list and names as [`insert_all`](QuadSets::insert_all) does. Where the
+    /// orders are built at once, the list goes before the memory of all three is taken.
     ///
     /// # Errors
     /// [`NoMemory`] where memory is wanting: nothing has changed then.
@@ -198,20 +151,28 @@ impl QuadSets {
         ensures err { OnErr result (self.new ≡ self.old) }
         ensures free { quads.items ≡ [] → names.now ≡ [] → IsOk result }
     {
-        if !quads.is_empty() && self.trees.is_empty() {
-            return self.begin(quads, names);
+        if self.are_many(quads.len()) {
+            return self.rebuild(quads, names);
         }
         self.insert_all(quads.as_slice(), names)
     }
 
-    // Adds the quads of a list and names where there are no quads yet.
-    fn begin(&mut self, quads: Vec<Key>, names: &[u64]) -> Result<(), NoMemory>
-        requires none { self.old.quads ≡ set.empty }
+    // Whether so many quads are as many as those that are there, or more, and any at all: then new
+    // trees of both are made faster than these come into the old ones one by one.
+    fn are_many(&self, quads: usize) -> bool
+        ensures { quads ≡ 0 → result ≡ false }
+    {
+        quads > 0 && quads >= self.trees.len()
+    }
+
+    // Adds the quads of a list and names: where there is memory for new trees and for the names, the
+    // new trees take the place of the old ones.
+    fn rebuild(&mut self, quads: Vec<Key>, names: &[u64]) -> Result<(), NoMemory>
         requires new_names { IsDisjoint self.old.names (ids_of names.now) }
         ensures ok { OnOk result (self.new ≡ with_all self.old quads.items names.now) }
         ensures err { OnErr result (self.new ≡ self.old) }
     {
-        let trees = Trees::of_list(self.alloc, quads)?;
+        let trees = self.trees.with_list(self.alloc, quads)?;
         self.insert_all(&[], names)?;
         self.trees = trees;
         Ok(())
@@ -230,14 +191,14 @@ impl QuadSets {
         Ok(())
     }
 
-    // Adds the quads up to the one that is refused, or, where there are none yet, all at once.
+    // Adds the quads up to the one that is refused, or, where they are many, all at once.
     fn insert_quads(&mut self, quads: &[Key]) -> Result<(), NoMemory>
         ensures ok { OnOk result (self.new ≡ with_all self.old quads.now []) }
         ensures err { OnErr result (GainsSomeOf self.old self.new quads.now []) }
         ensures free { quads.now ≡ [] → IsOk result }
     {
-        if self.trees.is_empty() && !quads.is_empty() {
-            self.trees = Trees::of_quads(self.alloc, quads)?;
+        if self.are_many(quads.len()) {
+            self.trees = self.trees.with_quads(self.alloc, quads)?;
             return Ok(());
         }
         for quad in quads {

@@ -1,10 +1,10 @@
 //! A set of quads in three search trees, one for each order.
-ghost use Rattle.std.specs.Prelude.{◌≡◌, [], map, not, IsTrue, IfOk, OnOk, OnErr};
+ghost use Rattle.std.specs.Prelude.{◌≡◌, ◌++◌, map, not, IfOk, OnOk, OnErr};
 ghost use Rattle.std.specs.FinSet as set;
 ghost use Rattle.std.specs.BTreeSet.{IsFromIterResult, IsOrdered};
 ghost use Rattle.rdf_orders.specs.declared.order.Order.TheVariants.{Spo};
 ghost use Rattle.rdf_orders.specs.Quads.{IdQuads, key_cmp, key_in, quad_of, quads_of};
-ghost use Rattle.rdf_orders.specs.Inside.Mirror.{tree_of, has_key, Mirrors, GainsBehind, GainsSome, LosesKey};
+ghost use Rattle.rdf_orders.specs.Inside.Mirror.{tree_of, has_key, Mirrors, AreBuiltOn, GainsBehind, GainsSome, LosesKey};
 
 use crate::order::{Key, Order};
 use rdf_terms::NoMemory;
@@ -19,15 +19,15 @@ pub(crate) struct Trees {
     pub(crate) osp: BTreeSet<Key>,
 }
 
-// The tree of an order with the keys of these quads.
-fn built(alloc: Global, order: Order, quads: &[Key]) -> Result<BTreeSet<Key>, NoMemory>
+// The first tree with the keys of these quads beside its own.
+fn joined(alloc: Global, spo: &BTreeSet<Key>, quads: &[Key]) -> Result<BTreeSet<Key>, NoMemory>
     ensures { IfOk result (λ tree. IsFromIterResult key_cmp
-        (map (λ x. key_in order (quad_of x)) quads.now) tree) }
+        (map (λ x. key_in Spo (quad_of x)) (spo.now.keys ++ quads.now)) tree) }
 {
-    let key_of = move |quad: &Key|
-        ensures { result ≡ key_in order (quad_of quad.now) }
-    { order.arrange(quad) };
-    Ok(quads.iter().map(key_of).collect(alloc)?)
+    let key_of = |quad: &Key|
+        ensures { result ≡ key_in Spo (quad_of quad.now) }
+    { Order::Spo.arrange(quad) };
+    Ok(spo.iter().chain(quads).map(key_of).collect(alloc)?)
 }
 
 // The tree of an order with the keys of the quads of the first tree.
@@ -53,34 +53,39 @@ impl Trees {
         }
     }
 
-    /// The quads with these keys in `Spo`: each tree is built at once.
-    pub(crate) fn of_quads(alloc: Global, quads: &[Key]) -> Result<Trees, NoMemory>
-        ensures { IfOk result (λ trees. Mirrors trees (quads_of quads.now)) }
+    // The first tree, and those of the other two orders, each built at once.
+    fn of_first(alloc: Global, spo: BTreeSet<Key>) -> Result<Trees, NoMemory>
+        ensures { IfOk result (AreBuiltOn spo) }
     {
-        Ok(Trees {
-            spo: built(alloc, Order::Spo, quads)?,
-            pos: built(alloc, Order::Pos, quads)?,
-            osp: built(alloc, Order::Osp, quads)?,
-        })
-    }
-
-    /// The quads with these keys in `Spo`: each tree is built at once, and the list goes as soon as
-    /// the first one is.
-    pub(crate) fn of_list(alloc: Global, quads: Vec<Key>) -> Result<Trees, NoMemory>
-        ensures { IfOk result (λ trees. Mirrors trees (quads_of quads.items)) }
-    {
-        let spo = built(alloc, Order::Spo, quads.as_slice())?;
-        drop(quads);
         let pos = arranged(alloc, Order::Pos, &spo)?;
         let osp = arranged(alloc, Order::Osp, &spo)?;
         Ok(Trees { spo, pos, osp })
     }
 
-    /// Whether there is no quad.
-    pub(crate) fn is_empty(&self) -> bool
-        ensures { IsTrue result → self.now.spo.keys ≡ [] }
+    /// The quads of these trees and those with these keys in `Spo`, in new trees: each is built at
+    /// once.
+    pub(crate) fn with_quads(&self, alloc: Global, quads: &[Key]) -> Result<Trees, NoMemory>
+        ensures { IfOk result (λ trees. (old : IdQuads) → Mirrors self.now old →
+            Mirrors trees (set.union old (quads_of quads.now))) }
     {
-        self.spo.is_empty()
+        let spo = joined(alloc, &self.spo, quads)?;
+        Trees::of_first(alloc, spo)
+    }
+
+    /// The quads of these trees and those with these keys in `Spo`, in new trees: each is built at
+    /// once, and the list goes as soon as the first one is.
+    pub(crate) fn with_list(&self, alloc: Global, quads: Vec<Key>) -> Result<Trees, NoMemory>
+        ensures { IfOk result (λ trees. (old : IdQuads) → Mirrors self.now old →
+            Mirrors trees (set.union old (quads_of quads.items))) }
+    {
+        let spo = joined(alloc, &self.spo, quads.as_slice())?;
+        drop(quads);
+        Trees::of_first(alloc, spo)
+    }
+
+    /// How many quads there are.
+    pub(crate) fn len(&self) -> usize {
+        self.spo.len()
     }
 
     /// The keys in an order.

@@ -2,13 +2,13 @@ mod AnswerLemmas
 mod BetweenLemmas
 mod BlankCountLemmas
 pub mod CallerLemmas
+mod ChainLemmas
 mod ComesAboutLemmas
 mod CommitLemmas
 mod GivesBackLemmas
 mod HeadlineLemmas
 mod InsertionLemmas
 mod KeptLemmas
-mod LabelLemmas
 mod LineLemmas
 mod LoadLemmas
 mod MarkLemmas
@@ -16,6 +16,7 @@ mod NetLemmas
 mod OneQueryLemmas
 mod OneReplyLemmas
 mod OneResultLemmas
+mod PlaceLemmas
 mod QueryLemmas
 mod RefusalLemmas
 mod StandingLemmas

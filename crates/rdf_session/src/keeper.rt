@@ -341,14 +341,5 @@ fn composed(
         (slice_index_or (base ∷ states_after base entries.now) from base)
         (slice_index_or (base ∷ states_after base entries.now) to base)) }
 {
-    let first = if from < to {
-        entries[from].before()
-    } else {
-        counter
-    };
-    let mut net = Net::empty(alloc, first);
-    for i in from..to {
-        net = net.then(&entries[i])?;
-    }
-    Ok(net)
+    Net::of_chain(alloc, &entries[from..to], counter)
 }

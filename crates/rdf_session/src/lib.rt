@@ -1,4 +1,8 @@
-//! The session of an RDF dataset: what loads and updates do to it, undo, redo, marks, rollback and commit, and the laws of these.
+//! The session of an RDF dataset: what loads and updates do to it, undo, redo, marks, rollback and
+//! commit, and the laws of these.
+//!
+//! `rdf_keeper` calls it and hands it on, so hosts name that crate. It reads no file and no script,
+//! saves nothing between runs, and is for one thread.
 #![tactic(auto)]
 
 mod fault;

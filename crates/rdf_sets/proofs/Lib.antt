@@ -1,4 +1,5 @@
 pub mod CallerLemmas
+mod CommonLemmas
 mod DeltaLemmas
 mod KeepLemmas
 mod ListsOnceLemmas

@@ -40,6 +40,46 @@ impl<T: Item> Delta<T> {
         }
     }
 
+    /// An equal one.
+    ///
+    /// # Errors
+    /// [`NoMemory`] where memory is wanting.
+    pub fn copy(&self) -> Result<Delta<T>, NoMemory>
+        ensures added { IfOk result (λ copy. copy.added ≡ self.now.added) }
+        ensures removed { IfOk result (λ copy. copy.removed ≡ self.now.removed) }
+    {
+        Ok(Delta {
+            added: self.added.copy()?,
+            removed: self.removed.copy()?,
+        })
+    }
+
+    /// From the first set of this to the second of the next, as [`then`](Delta::then) says, by moves: only what
+    /// cancels out is copied.
+    ///
+    /// # Errors
+    /// [`NoMemory`] where memory is wanting.
+    pub fn joined(self, next: Delta<T>) -> Result<Delta<T>, NoMemory>
+        ensures { IfOk result (λ both. (s t u : set.FinSet T.order) →
+            IsDelta s t self.added self.removed →
+            IsDelta t u next.added next.removed →
+            IsDelta s u both.added both.removed) }
+    {
+        let Delta {
+            mut added,
+            mut removed,
+        } = self;
+        let Delta {
+            added: mut more,
+            removed: mut gone,
+        } = next;
+        added.cancel(&mut gone)?;
+        more.cancel(&mut removed)?;
+        let added = added.joined(more)?;
+        let removed = gone.joined(removed)?;
+        Ok(Delta { added, removed })
+    }
+
     /// From the first set of this to the second of the next.
     ///
     /// # Errors

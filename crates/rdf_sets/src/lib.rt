@@ -1,4 +1,8 @@
-//! Sets of terms and of quads, as sorted lists and as search trees, and what one of two such sets has that the other hasn't.
+//! Sets of terms and of quads, as sorted lists and as search trees, and what one of two such sets
+//! has that the other hasn't.
+//!
+//! `rdf_dataset` calls it, for nets and staged views. It finds no quads by a part of them: that is
+//! what `rdf_orders` is for.
 #![tactic(auto)]
 
 mod delta;

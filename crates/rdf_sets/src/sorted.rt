@@ -103,8 +103,39 @@ impl<T: Item> Sorted<T> {
         ensures { set.from_list {R = T.order} self.new
             ≡ set.difference (set.from_list self.old) (set.from_list gone.now) }
     {
+        if gone.is_empty() {
+            return;
+        }
         let kept = keep_others(&mut self.items, gone);
         self.items.truncate(kept);
+    }
+
+    /// Takes out of both lists what stands in both.
+    ///
+    /// # Errors
+    /// [`NoMemory`] where memory is wanting: nothing has changed then. It takes none where no item stands in both.
+    pub fn cancel(&mut self, other: &mut Sorted<T>) -> Result<(), NoMemory>
+        ensures one { OnOk result (set.from_list {R = T.order} self.new
+            ≡ set.difference (set.from_list self.old) (set.from_list other.old)) }
+        ensures other { OnOk result (set.from_list {R = T.order} other.new
+            ≡ set.difference (set.from_list other.old) (set.from_list self.old)) }
+        ensures err_one { OnErr result (self.new ≡ self.old) }
+        ensures err_other { OnErr result (other.new ≡ other.old) }
+    {
+        let common = self.common(other)?;
+        self.subtract(common.as_slice());
+        other.subtract(common.as_slice());
+        Ok(())
+    }
+
+    // Equal items to those that the other list has too.
+    fn common(&self, other: &Sorted<T>) -> Result<Sorted<T>, NoMemory>
+        ensures { IfOk result (λ common. common ≡ filter
+            (λ x. set.contains (set.from_list {R = T.order} other.now) x) self.now) }
+    {
+        let alloc = *self.items.allocator();
+        let items = common_items(alloc, self.as_slice(), other.as_slice())?;
+        Ok(Sorted { items })
     }
 
     /// An equal list.
@@ -117,6 +148,20 @@ impl<T: Item> Sorted<T> {
         let mut items = Vec::new(*self.items.allocator());
         append_copies(&mut items, &self.items)?;
         Ok(Sorted { items })
+    }
+
+    /// The items of both lists, which are moved and not copied.
+    ///
+    /// # Errors
+    /// [`NoMemory`] where memory is wanting.
+    pub fn joined(self, more: Sorted<T>) -> Result<Sorted<T>, NoMemory>
+        ensures { IfOk result (λ both. set.from_list {R = T.order} both
+            ≡ set.union (set.from_list self) (set.from_list more)) }
+    {
+        let Sorted { items: mut both } = self;
+        let Sorted { items: more } = more;
+        merge_into(&mut both, more)?;
+        Ok(Sorted { items: both })
     }
 
     /// Adds the items of a rising list. It takes no memory where there are none.
@@ -174,6 +219,28 @@ pub fn append_copy<T: Item>(out: &mut Vec<T>, item: &T) -> Result<(), NoMemory>
 {
     out.push(item.copied()?)?;
     Ok(())
+}
+
+// Equal items to those of the first list that are in the second too, in order. It walks along both once.
+fn common_items<T: Item>(alloc: Global, items: &[T], others: &[T]) -> Result<Vec<T>, NoMemory>
+    requires items { IsStrictlySortedBy T.order items.now }
+    requires others { IsStrictlySortedBy T.order others.now }
+    ensures { IfOk result (λ common. common.items ≡ filter
+        (λ x. set.contains (set.from_list {R = T.order} others.now) x) items.now) }
+{
+    let mut common = Vec::new(alloc);
+    let mut passed = 0;
+    for place in 0..items.len() {
+        let item = &items[place];
+        match find_from(others, passed, item) {
+            Ok(found) => {
+                passed = found;
+                append_copy(&mut common, item)?;
+            }
+            Err(gap) => passed = gap,
+        }
+    }
+    Ok(common)
 }
 
 // How many both are. More than a list can hold are refused by the list itself.

@@ -127,8 +127,9 @@ impl Store {
         }
     }
 
-    /// Adds quads and names of which none is there, all of them or none. Where there are no quads
-    /// yet, each order is built at once. It takes no memory where none is added.
+    /// Adds quads and names of which none is there, all of them or none. Where the quads are as
+    /// many as those that are there, or more, each order is built of both at once. It takes no memory
+    /// where none is added.
     ///
     /// # Errors
     /// [`NoMemory`] where memory is wanting: nothing has changed then.

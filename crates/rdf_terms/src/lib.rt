@@ -1,6 +1,9 @@
 //! RDF terms: IRIs, literals, blank nodes, graph names and quads, their order and their text;
 //! references resolved against a base; and the characters, escapes and units that RDF's text
 //! formats share.
+//!
+//! Every crate of the house calls it, and each host that makes or reads a term. It reads no
+//! document, normalizes nothing, and knows the value of no literal but of whole numbers.
 #![tactic(auto)]
 
 mod character;

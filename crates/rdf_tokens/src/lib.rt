@@ -1,5 +1,8 @@
 //! The tokens that Turtle and SPARQL share: their forms, the token list of a text, what tokens stand
 //! for, and the lines that they are on.
+//!
+//! `rdf_grammar` and the readers of Turtle and SPARQL call it. It knows no grammar: which words are
+//! keywords, and which prefix stands for what, is said above.
 #![tactic(auto)]
 
 mod character;

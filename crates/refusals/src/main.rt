@@ -6,6 +6,7 @@
 
 mod conversions;
 mod datasets;
+mod histories;
 mod lines;
 mod parts;
 mod patterns;
@@ -24,7 +25,7 @@ use std::alloc::Global;
 use std::io;
 
 fn main(rt: HostRuntime) -> io::Result<()> {
-    run_parts(&rt, b"0123456789", line)
+    run_parts(&rt, b"0123456789a", line)
 }
 
 // What a part finds.
@@ -39,6 +40,7 @@ fn line(alloc: Global, part: u8) -> Told {
         b'6' => Told::new(patterns::outcome(alloc)),
         b'7' => Told::new(queries::outcome(alloc)),
         b'8' => Told::new(script::outcome(alloc)),
-        _ => Told::new(conversions::outcome(alloc)),
+        b'9' => Told::new(conversions::outcome(alloc)),
+        _ => Told::new(histories::outcome(alloc)),
     }
 }

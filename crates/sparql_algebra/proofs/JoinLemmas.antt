@@ -65,13 +65,13 @@ first_turn (Some s) None h = refl
 first_turn None (Some t) h = refl
 first_turn None None h = refl
 
-compatible_turn : (a b : Mapping) → compatible a b ≡ compatible b a
+pub compatible_turn : (a b : Mapping) → compatible a b ≡ compatible b a
 compatible_turn [] [] = refl
 compatible_turn [] (y ∷ b) = refl
 compatible_turn (x ∷ a) [] = refl
 compatible_turn (x ∷ a) (y ∷ b) = ap (λ z. z && compatible a b) (agrees_turn x y) ∙ ap (λ z. agrees (y, x) && z) (compatible_turn a b)
 
-merge_turn : (a b : Mapping) → compatible a b ≡ true → merge a b ≡ merge b a
+pub merge_turn : (a b : Mapping) → compatible a b ≡ true → merge a b ≡ merge b a
 merge_turn [] [] h = refl
 merge_turn [] (y ∷ b) h = refl
 merge_turn (x ∷ a) [] h = refl
@@ -125,7 +125,7 @@ agrees_three None (Some t) None = refl
 agrees_three None None (Some u) = refl
 agrees_three None None None = refl
 
-compatible_three : (n : ℕ) (a b c : Mapping) → has_length n a ≡ true → has_length n b ≡ true → has_length n c ≡ true →
+pub compatible_three : (n : ℕ) (a b c : Mapping) → has_length n a ≡ true → has_length n b ≡ true → has_length n c ≡ true →
     (compatible a b && compatible (merge a b) c) ≡ (compatible b c && compatible a (merge b c))
 compatible_three zero [] [] [] h k l = refl
 compatible_three zero [] [] (z ∷ c) h k l = cc

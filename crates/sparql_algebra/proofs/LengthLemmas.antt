@@ -96,7 +96,7 @@ single_length variables name t =
 
 -- ---- solutions
 
-merges_length : (n : ℕ) (B : List Mapping) (a : Mapping) → list_all (has_length n) B ≡ true → has_length n a ≡ true → list_all (has_length n) (merges B a) ≡ true
+pub merges_length : (n : ℕ) (B : List Mapping) (a : Mapping) → list_all (has_length n) B ≡ true → has_length n a ≡ true → list_all (has_length n) (merges B a) ≡ true
 merges_length n B a h k =
     all_map (has_length n) (has_length n) (merge a) (λ b l. merge_length n a b k l) (filter (compatible a) B) (all_filter (has_length n) (compatible a) B h)
 

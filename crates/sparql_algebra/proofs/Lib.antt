@@ -20,5 +20,6 @@ mod Sums
 mod TermLemmas
 mod TranslationLemmas
 mod TruthLemmas
+mod UnderLemmas
 mod UniverseLemmas
 mod VariableLemmas

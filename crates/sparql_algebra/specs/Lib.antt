@@ -10,3 +10,4 @@ pub mod Order
 pub mod Results
 pub mod Solutions
 pub mod Sorted
+pub mod Under

@@ -1,5 +1,8 @@
 //! What the text of a SPARQL request says before its static rules are asked: names with their IRIs,
 //! triples, and blank nodes numbered by their places (SPARQL 1.1 Query, sections 4.1 and 4.2).
+//!
+//! `sparql_queries` and `sparql_syntax` call it. It has neither groups nor filters, and asks no
+//! static rule.
 #![tactic(auto)]
 
 mod draft;

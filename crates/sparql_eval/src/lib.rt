@@ -1,5 +1,8 @@
 //! What requests of SPARQL 1.1 Update do to a dataset (SPARQL 1.1 Update, sections 3 and 4), and what
 //! queries find there (SPARQL 1.1 Query, sections 16 and 18).
+//!
+//! `rdf_session` calls it, and a host with trees of its own. What a request does is staged in a
+//! view: what lies beneath is as before until the caller commits the view's net.
 #![tactic(auto)]
 
 mod fault;

@@ -1,5 +1,8 @@
 //! The grammar of SPARQL (SPARQL 1.1 Query, section 19.8): requests and queries as trees whose
 //! names are as written.
+//!
+//! `sparql_syntax` calls it, and the crates between the two read its trees. It resolves no name,
+//! numbers no blank node, and asks no static rule.
 #![tactic(auto)]
 
 mod body;

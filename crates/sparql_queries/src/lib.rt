@@ -1,5 +1,7 @@
 //! What queries and updates say: patterns with resolved terms, columns, and templates (SPARQL 1.1
 //! Query, sections 4, 5 and 16; SPARQL 1.1 Update, section 3.1.3).
+//!
+//! `sparql_syntax` calls it. It asks no static rule, and doesn't say what a pattern finds.
 #![tactic(auto)]
 
 mod basic;

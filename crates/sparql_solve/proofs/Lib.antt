@@ -7,6 +7,7 @@ pub mod LookUpLemmas
 pub mod BasicLemmas
 pub mod UnderLemmas
 pub mod SideLemmas
+pub mod ShapeLemmas
 pub mod MemberLemmas
 pub mod DistinctLemmas
 pub mod ResultLemmas

@@ -19,8 +19,9 @@ use Rattle.sparql_algebra.specs.Algebra.{Algebra, empty_pattern, union, graph, f
 use Rattle.sparql_algebra.specs.Bags.{SameBag}
 use Rattle.sparql_algebra.specs.Listing.{Listing, Lists}
 use Rattle.sparql_values.specs.Mapping.{Variables, Mapping, same_term, single}
-use Rattle.sparql_algebra.specs.Solutions.{joins, satisfies, solutions}
-use Rattle.sparql_algebra.proofs.CallerLemmas.{SameBag-refl, SameBag-filter, SameBag-joins, SameBag-flat_map, filter_always, names_same, translation-is, element-Union, empty_solutions}
+use Rattle.sparql_algebra.specs.Solutions.{merges, joins, satisfies, solutions}
+use Rattle.sparql_algebra.specs.Under.{reads}
+use Rattle.sparql_algebra.proofs.CallerLemmas.{active_unread, joins_commute, SameBag-refl, SameBag-filter, SameBag-joins, SameBag-flat_map, filter_always, names_same, translation-is, element-Union, empty_solutions}
 use Rattle.sparql_solve.specs.declared.sides.Side.{Side}
 use Rattle.sparql_solve.specs.Sides.{IsSideOf, rows_after}
 use Rattle.sparql_solve.specs.Members.{AreSolutions, AreMoreSolutions, element_solutions, over_names, over_groups}
@@ -138,6 +139,10 @@ module _ {X : Type 0} (s : State) (F : Listing → X → List Mapping) (whole : 
 
 -- ---- GRAPH
 
+flat_of_map : {X Y Z : Type 0} (F : Y → List Z) (h : X → Y) (xs : List X) → flat_map F (map h xs) ≡ flat_map (λ x. F (h x)) xs
+flat_of_map F h [] = refl
+flat_of_map {Z = Z} F h (x ∷ xs) = ap (λ (l : List Z). F (h x) ++ l) (flat_of_map F h xs)
+
 module _ (vs : Variables) (s : State) where
   pub joined_gives : (A : Algebra) (g : GraphName) (n : Term) (one rows found left : List Mapping) → g ≡ Named n →
       AreSolutions s rows (λ d. solutions vs d g A) → left ≡ rows → found ≡ joins left one → AreSolutions s found (λ d. joins (solutions vs d (Named n) A) one)
@@ -151,6 +156,33 @@ module _ (vs : Variables) (s : State) where
   all_names_give x A found given out once e h d l f =
       let F : Term → List Mapping = λ n. joins (solutions vs d (Named n) A) (single vs x n ∷ []) in
       h d l f ∙ ap (λ (ns : List Term). sum_by f (flat_map F ns)) e
+      ∙ SameBag-flat_map F F found d.names (names_same s found d.names once l.names) (λ n. SameBag-refl (F n)) f
+
+  -- a group that doesn't see the active graph, joined with all names at once
+  once_for_all : (d : Listing) (g : GraphName) (x : List ℕ) (A : Algebra) → reads A ≡ false → (names : List Term) →
+      SameBag (joins (solutions vs d g A) (map (single vs x) names)) (over_names vs d x A names)
+  once_for_all d g x A e names f =
+      let S : List Mapping = solutions vs d g A in
+      joins_commute S (map (single vs x) names) f
+      ∙ ap (sum_by f) (flat_of_map (merges S) (single vs x) names)
+      ∙ SameBag-flat_map (λ n. merges S (single vs x n)) (λ n. joins (solutions vs d (Named n) A) (single vs x n ∷ [])) names names (SameBag-refl names) each f
+    where
+      each : (n : Term) → SameBag (merges (solutions vs d g A) (single vs x n)) (joins (solutions vs d (Named n) A) (single vs x n ∷ []))
+      each n f2 =
+          ap (sum_by f2) (sym (append-nil (merges (solutions vs d g A) (single vs x n))))
+          ∙ joins_commute (single vs x n ∷ []) (solutions vs d g A) f2
+          ∙ SameBag-joins (solutions vs d g A) (solutions vs d (Named n) A) (single vs x n ∷ []) (single vs x n ∷ []) (active_unread vs d g (Named n) A e)
+          (SameBag-refl (single vs x n ∷ [])) f2
+
+  pub any_names_give : (g active : GraphName) (x : List ℕ) (A : Algebra) (found given : List Term) (rows shown bound held out : List Mapping) → ListsOnce s.names found →
+      given ≡ found → active ≡ g → AreSolutions s rows (λ d. solutions vs d active A) → shown ≡ rows → bound ≡ map (single vs x) given → held ≡ bound →
+      out ≡ joins shown held → reads A ≡ false → AreSolutions s out (λ d. over_names vs d x A d.names)
+  any_names_give g active x A found given rows shown bound held out once eg ea h es eb eh e er d l f =
+      let F : Term → List Mapping = λ n. joins (solutions vs d (Named n) A) (single vs x n ∷ []) in
+      let N : List Mapping = map (single vs x) found in
+      ap (sum_by f) (e ∙ ap (λ (xs : List Mapping). joins xs held) es ∙ ap (joins rows) (eh ∙ eb ∙ ap (map (single vs x)) eg))
+      ∙ SameBag-joins rows (solutions vs d active A) N N (h d l) (SameBag-refl N) f
+      ∙ once_for_all d active x A er found f
       ∙ SameBag-flat_map F F found d.names (names_same s found d.names once l.names) (λ n. SameBag-refl (F n)) f
 
   pub there_gives : (A : Algebra) (n : Term) (g : GraphName) (out : List Mapping) (b : Bool) →

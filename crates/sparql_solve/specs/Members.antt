@@ -20,6 +20,11 @@ AreSolutions s rows F = (d : Listing) → Lists s d → SameBag rows (F d)
 abbrev pub AreMoreSolutions : State → List Mapping → (Listing → List Mapping) → (Listing → List Mapping) → Type 0
 AreMoreSolutions s rows rest F = (d : Listing) → Lists s d → SameBag (rows ++ rest d) (F d)
 
+-- the pattern of an element
+abbrev pub part : Element → Algebra
+part (joined A) = A
+part (optional F A) = A
+
 module _ (vs : Variables) (d : Listing) where
   -- the solutions of an element alone, without its condition
   abbrev pub element_solutions : GraphName → Element → List Mapping

@@ -16,6 +16,7 @@ use crate::filters::filtered_rows;
 use crate::joins::join;
 use crate::look_ups::{Graphs, graph_names, graphs_of, is_named, look_up_in};
 use crate::rows::Row;
+use crate::shapes::group_reads;
 use crate::sides::{Side, join_side, left_join_side};
 use rdf_dataset::Source;
 use rdf_terms::{GraphName, Items, NoMemory, Term, Text, Vocabulary};
@@ -52,6 +53,23 @@ fn rows_after<S: Source>(
         }
         _ => join_side(alloc, variables, source, rows, right),
     }
+}
+
+// The rows that bind one variable alone to these names.
+fn single_rows(
+    alloc: Global,
+    variables: &[Text],
+    variable: &Text,
+    names: &[Term],
+) -> Result<Vec<Row>, NoMemory>
+    ensures { IfOk result (λ out. out.items
+        ≡ map (single variables.now variable.now) names.now) }
+{
+    let mut out = Vec::new(alloc);
+    for name in names {
+        out.push(Row::single(alloc, variables, variable, name)?)?;
+    }
+    Ok(out)
 }
 
 // Adds the rows joined with the one that binds a variable to a name.
@@ -227,7 +245,8 @@ fn each_graph_rows<S: Source>(
     Ok(out)
 }
 
-// The solutions of GRAPH with a variable: those in all named graphs.
+// The solutions of GRAPH with a variable: those in all named graphs. GRAPH sets the active graph,
+// so a group whose triple patterns all stand in GRAPH is found once for all names.
 #[cycle(evaluate)]
 fn all_graph_rows<S: Source>(
     alloc: Global,
@@ -241,9 +260,15 @@ fn all_graph_rows<S: Source>(
         (λ d. over_names variables.now d variable.now (translation pattern.now) d.names)) }
 {
     let names = graph_names(alloc, source)?;
-    each_graph_rows(
-        alloc, variables, vocabulary, variable, &names, source, pattern,
-    )
+    if group_reads(pattern) {
+        return each_graph_rows(
+            alloc, variables, vocabulary, variable, &names, source, pattern,
+        );
+    }
+    let active = GraphName::Default;
+    let rows = group_rows(alloc, variables, vocabulary, &active, source, pattern)?;
+    let bound = single_rows(alloc, variables, variable, &names)?;
+    join(alloc, &rows, &bound)
 }
 
 // The solutions of GRAPH, whichever graph is the active one.

@@ -1,5 +1,8 @@
 //! The solutions of patterns over a dataset, and the results of queries (SPARQL 1.1 Query, sections
 //! 16 and 18).
+//!
+//! `sparql_eval` calls it, for updates, and hands it on to those that ask queries. It changes
+//! nothing, reads no text, and writes none: rows are terms.
 #![tactic(auto)]
 
 mod evaluator;
@@ -13,6 +16,7 @@ mod order;
 mod place;
 mod results;
 mod rows;
+mod shapes;
 mod sides;
 
 pub use keys::runs_give_merges;

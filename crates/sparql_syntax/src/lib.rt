@@ -1,5 +1,8 @@
 //! SPARQL 1.1 requests, from their text to trees whose terms are resolved (SPARQL 1.1 Query, section
 //! 19, and Update, section 3).
+//!
+//! `rdf_session` calls it, and a host that reads a query or an update. It runs nothing, and of
+//! SPARQL it has the profile of docs/FORMATS.md.
 #![tactic(auto)]
 
 mod draft;

@@ -1,5 +1,8 @@
 //! Queries and updates of SPARQL 1.1 as trees, whose terms are resolved (SPARQL 1.1 Query, sections 5
 //! and 16; SPARQL 1.1 Update, section 3).
+//!
+//! `sparql_syntax` and what stands below it make them, `sparql_solve` and `sparql_eval` follow
+//! them. It has neither texts nor meanings.
 #![tactic(auto)]
 
 mod boxed;

@@ -1,4 +1,7 @@
 //! The values of expressions (SPARQL 1.1 Query, section 17): terms, errors, and truth.
+//!
+//! `sparql_solve` calls it for filters, and the definitions of `sparql_algebra` speak of its own.
+//! Decimals, doubles and dates have no value here, and a whole number has 128 bits.
 #![tactic(auto)]
 
 mod comparison;

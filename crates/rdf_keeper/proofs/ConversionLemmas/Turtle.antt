@@ -11,7 +11,7 @@ use Rattle.rdf_keeper.specs.Conversion.Converts.{lines_of, ConvertsTurtle}
 use Rattle.rdf_keeper.specs.Inside.Held.{Finishes, turtle_fault}
 use Rattle.rdf_keeper.specs.Inside.Streams.{ReadsTo}
 use Rattle.rdf_keeper.specs.declared.conversion.fault.ConvertFault.{ConvertFault}
-use Rattle.rdf_keeper.specs.declared.conversion.fault.ConvertFault.TheVariants.{Document, Read, Write, NoMemory}
+use Rattle.rdf_keeper.specs.declared.conversion.fault.ConvertFault.TheVariants.{Read}
 use Rattle.rdf_keeper.specs.declared.streams.reading.Ending.TheVariants.{AtEnd}
 use Rattle.rdf_keeper.proofs.ConversionLemmas.Converts.{Appends-none}
 use Rattle.rdf_keeper.specs.Conversion.Faults.{no_memory}

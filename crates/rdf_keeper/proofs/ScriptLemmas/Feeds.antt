@@ -1,6 +1,6 @@
 -- A session that is fed its script: what lines, and pieces one after another, make of it.
 use Rattle.std.proofs.Common.{◌≡◌, ℕ, Bool, true, false, List, [], ◌∷◌, ◌++◌, Option, Some, None, refl, sym, ap, ◌∙◌, subst, append-nil, arith, inl, inr, length, ◌≤◌}
-use Rattle.std.specs.Prelude.{Result, Ok, Err}
+use Rattle.std.specs.Prelude.{Ok, Err}
 use Rattle.std.specs.Io.KnownBytes.{Appends, Consumes, IsAtEnd, Keeps}
 use Rattle.rdf_session.specs.Session.{Session}
 use Rattle.rdf_keeper.specs.Inside.Says.{IsWholeLine, asked_by, body_behind}
@@ -14,7 +14,7 @@ use Rattle.rdf_keeper.specs.declared.script.command.Body.{Body}
 use Rattle.rdf_keeper.specs.declared.script.status.Status.{Status}
 use Rattle.rdf_keeper.specs.declared.script.status.Status.TheVariants.{Accepted, ReadFailed}
 use Rattle.rdf_keeper.proofs.ScriptLemmas.Pieces.{leaves_append, leaves_none, leaves_front, leaves_line, line_commands, no_whole, whole-append}
-use Rattle.rdf_keeper.proofs.ScriptLemmas.Runs.{no_room, nothing_written, serves_done, serves_ended, serves_on}
+use Rattle.rdf_keeper.proofs.ScriptLemmas.Runs.{nothing_written, serves_done, serves_ended, serves_on}
 use Rattle.rdf_keeper.proofs.StreamLemmas.{Consumes-chain}
 
 pub unwritten : {A : Type 0} (contents : A → Option (List ℕ)) (w v : A) → v ≡ w → Appends (contents w) (contents v) []
@@ -23,9 +23,9 @@ unwritten contents w v e = subst (λ x. Appends (contents w) (contents x) []) (s
 -- ---- a line
 
 module _ (f : Fed) (line : List ℕ) (p : Pending) (open_line : upto_last_end f.pending.line ≡ []) (whole : IsWholeLine line) (pushed : p ≡ record { body = f.pending.body; line = f.pending.line ++ line })
-    (says : Says) (said : (ended : Bool) (lines : List (List ℕ)) → commands ended p.body (p.line ∷ lines) ≡ asked_by says ++ commands ended (body_behind p.body p.line says) lines) where
+    (says : Says) (said : (ended : Bool) (lines : List (List ℕ)) → commands ended p.body (p.line ∷ lines) ≡ asked_by p.body says ++ commands ended (body_behind p.body p.line says) lines) where
   abbrev asked : List Asked
-  asked = asked_by says
+  asked = asked_by p.body says
 
   abbrev body : Option (Body × List ℕ)
   body = body_behind p.body p.line says
@@ -89,20 +89,22 @@ goes_nowhere f s e = record {
 
 -- ---- the end
 
-module _ (f f' : Fed) (same : f ≡ f') (asked : List Asked) (last : asked ≡ commands true f.pending.body (raw_lines f.pending.line)) (s t : Session) (xs : List (List ℕ)) where
-  abbrev RunsToEnd : Status → Fed → Type 0
-  RunsToEnd status v = Serves (to_end Answers v.stop Accepted) v.refused (commands true v.pending.body (raw_lines v.pending.line)) s xs t status
+-- the last command
+module _ (stop refused : Bool) (asked : List Asked) (s t : Session) (xs : List (List ℕ)) where
+  pub last_reached : (q : Bool) (status : Status) → status ≡ final Accepted q → Answered stop refused asked s xs t (Ok q) → Serves (to_end Answers stop Accepted) refused asked s xs t status
+  last_reached q status e a =
+      subst (Serves (to_end Answers stop Accepted) refused asked s xs t) (sym e) (serves_done stop (final Accepted) (λ st. st) refused q asked s t xs a)
 
-  pub end_reached : (q : Bool) (status : Status) → status ≡ final Accepted q → Answered f.stop f.refused asked s xs t (Ok q) → RunsToEnd status f'
-  end_reached q status e a =
-      subst (RunsToEnd status) same
-      (subst (λ cs. Serves (to_end Answers f.stop Accepted) f.refused cs s xs t status) last
-      (subst (Serves (to_end Answers f.stop Accepted) f.refused asked s xs t) (sym e) (serves_done f.stop (final Accepted) (λ st. st) f.refused q asked s t xs a)))
+  pub last_missed : (status : Status) → Answered stop refused asked s xs t (Err status) → Serves (to_end Answers stop Accepted) refused asked s xs t status
+  last_missed status a =
+      subst (λ cs. Serves (to_end Answers stop Accepted) refused cs s xs t status) (append-nil asked) (serves_ended stop (final Accepted) (λ st. st) refused asked [] s t xs status a)
 
-  pub end_missed : (status : Status) → Answered f.stop f.refused asked s xs t (Err status) → RunsToEnd status f'
-  end_missed status a =
-      subst (RunsToEnd status) same
-      (subst (λ cs. Serves (to_end Answers f.stop Accepted) f.refused cs s xs t status) (append-nil asked ∙ last) (serves_ended f.stop (final Accepted) (λ st. st) f.refused asked [] s t xs status a))
+-- what is pending where the script ends
+pub end_served : (f f' : Fed) → f ≡ f' → (asked : List Asked) → asked ≡ commands true f.pending.body (raw_lines f.pending.line) → (s t : Session) (xs : List (List ℕ)) (status : Status)
+    → Serves (to_end Answers f.stop Accepted) f.refused asked s xs t status → Serves (to_end Answers f'.stop Accepted) f'.refused (commands true f'.pending.body (raw_lines f'.pending.line)) s xs t status
+end_served f f' same cs last s t xs status served =
+    subst (λ v. Serves (to_end Answers v.stop Accepted) v.refused (commands true v.pending.body (raw_lines v.pending.line)) s xs t status) same
+    (subst (λ ds. Serves (to_end Answers f.stop Accepted) f.refused ds s xs t status) last served)
 
 -- ---- over the bytes that a reader gives
 

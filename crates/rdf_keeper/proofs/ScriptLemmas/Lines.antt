@@ -1,10 +1,10 @@
 -- The first line of a text, and a text up to its last LF.
-use Rattle.std.proofs.Common.{◌≡◌, ℕ, ◌+◌, Bool, true, false, cond, List, [], ◌∷◌, ◌++◌, length, take, drop, Some, None, refl, sym, ap, ◌∙◌, arith, nat_eq, ◌||◌, not, suc, inl, inr, subst, zero-add}
+use Rattle.std.proofs.Common.{◌≡◌, ℕ, ◌+◌, Bool, true, false, cond, List, [], ◌∷◌, ◌++◌, take, drop, Some, None, refl, sym, ap, ◌∙◌, arith, nat_eq, ◌||◌, not, suc, inl, inr, subst, zero-add}
 use Rattle.std.proofs.lemmas.List.{take-append-drop}
 use Rattle.std.proofs.lemmas.Bool.Decides.{eqb_tells}
-use Rattle.std.specs.List.{position_from, onto_first}
+use Rattle.std.specs.List.{position_from}
 use Rattle.rdf_keeper.specs.Inside.Says.{IsWholeLine}
-use Rattle.rdf_keeper.specs.Script.Lines.{raw_lines, upto_last_end, is_empty}
+use Rattle.rdf_keeper.specs.Script.Lines.{upto_last_end, is_empty}
 
 -- the length of the first line with its end
 abbrev pub cut : List ℕ → ℕ

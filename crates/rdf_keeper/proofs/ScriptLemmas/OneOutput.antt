@@ -1,5 +1,5 @@
 -- Where memory never lacks, each command has one answer, and a script one output, but for the lines that are a reader's own choice.
-use Rattle.std.proofs.Common.{◌≡◌, ◌≢◌, ◌⊎◌, inl, inr, ℕ, Bool, true, false, ◌&&◌, ◌||◌, List, [], ◌∷◌, ◌++◌, map, length, refl, sym, ap, ◌∙◌, subst, Result, Ok, Err}
+use Rattle.std.proofs.Common.{◌≡◌, ◌≢◌, ◌⊎◌, inl, inr, ℕ, Bool, true, false, ◌&&◌, ◌||◌, List, [], ◌∷◌, ◌++◌, map, length, refl, sym, ap, ◌∙◌, subst, Result, Err}
 use mathlib.Core.Bool.{true≢false}
 use Rattle.std.specs.Prelude.{codes, is_err}
 use Rattle.rdf_lines.specs.QuadText.{quad_text}

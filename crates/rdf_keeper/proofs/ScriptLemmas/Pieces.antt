@@ -1,14 +1,17 @@
 -- The commands of a script that comes a piece at a time.
-use Rattle.std.proofs.Common.{◌≡◌, ◌≢◌, ℕ, Bool, true, false, cond, ◌||◌, not, List, [], ◌∷◌, ◌++◌, Option, Some, None, refl, sym, ap, ◌∙◌, subst, append_assoc, append-nil, nat_eq, take, drop, ◌+◌, suc}
-use Rattle.std.specs.List.{concat, position_from}
-use Rattle.rdf_keeper.specs.Script.Commands.{Asked, commands, unended}
+use Rattle.std.proofs.Common.{◌≡◌, ◌≢◌, ℕ, Bool, true, false, cond, ◌||◌, not, List, [], ◌∷◌, ◌++◌, Option, Some, None, refl, sym, ap, ◌∙◌, subst, append_assoc, append-nil, nat_eq, take, drop}
+use Rattle.std.specs.List.{concat}
+use Rattle.rdf_keeper.specs.Script.Commands.{Asked, act, commands, unended}
+use Rattle.rdf_session.specs.Request.{Load}
+use Rattle.rdf_session.specs.Session as session
+use Rattle.rdf_session.specs.declared.format.Format.{Format}
 use Rattle.rdf_keeper.specs.Script.LineLaws.{HasNoEnd}
 use Rattle.rdf_keeper.specs.Script.Lines.{is_empty, raw_lines, upto_last_end}
 use Rattle.rdf_keeper.specs.Script.Pieces.{GivesCommands, Leaves, Pending, PiecesAreTheText, commands_behind, nothing_pending, whole_commands}
 use Rattle.rdf_keeper.specs.declared.script.command.Body.{Body}
-use Rattle.rdf_keeper.specs.Inside.Says.{IsInPlace, IsWholeLine, asked_at_end, asked_by, body_behind, body_so_far, grown}
+use Rattle.rdf_keeper.specs.Inside.Says.{IsInPlace, IsWholeLine, IsTextOf, asked_at_end, asked_by, body_behind, body_so_far, grown, load_of_body}
 use Rattle.rdf_keeper.specs.declared.script.gathered.Says.{Says}
-use Rattle.rdf_keeper.specs.declared.script.gathered.Says.TheVariants.{Asks, Inside, Nothing, Opens}
+use Rattle.rdf_keeper.specs.declared.script.gathered.Says.TheVariants.{Asks, Inside, Loads, Nothing, Opens}
 use Rattle.rdf_keeper.proofs.ScriptLemmas.Cuts.{cut_front, raw_open}
 use Rattle.rdf_keeper.proofs.ScriptLemmas.Lines.{or_true, upto-end}
 
@@ -147,21 +150,21 @@ pieces_are_the_text pieces cs p g =
 -- ---- a line, by the parts of what is gathered
 
 pub said_of_parts : (p : Pending) (body : Option Body) (front back : List ℕ) (q : Pending) (says : Says) → q ≡ record { body = body_so_far body front; line = back } → q ≡ p
-    → ((ended : Bool) (lines : List (List ℕ)) → commands ended (body_so_far body front) (back ∷ lines) ≡ asked_by says ++ commands ended (body_behind (body_so_far body front) back says) lines)
-    → (ended : Bool) (lines : List (List ℕ)) → commands ended p.body (p.line ∷ lines) ≡ asked_by says ++ commands ended (body_behind p.body p.line says) lines
+    → ((ended : Bool) (lines : List (List ℕ)) → commands ended (body_so_far body front) (back ∷ lines) ≡ asked_by (body_so_far body front) says ++ commands ended (body_behind (body_so_far body front) back says) lines)
+    → (ended : Bool) (lines : List (List ℕ)) → commands ended p.body (p.line ∷ lines) ≡ asked_by p.body says ++ commands ended (body_behind p.body p.line says) lines
 said_of_parts p body front back q says parts same said =
-    subst (λ r. (ended : Bool) (lines : List (List ℕ)) → commands ended r.body (r.line ∷ lines) ≡ asked_by says ++ commands ended (body_behind r.body r.line says) lines) same
-    (subst (λ r. (ended : Bool) (lines : List (List ℕ)) → commands ended r.body (r.line ∷ lines) ≡ asked_by says ++ commands ended (body_behind r.body r.line says) lines) (sym parts) said)
+    subst (λ r. (ended : Bool) (lines : List (List ℕ)) → commands ended r.body (r.line ∷ lines) ≡ asked_by r.body says ++ commands ended (body_behind r.body r.line says) lines) same
+    (subst (λ r. (ended : Bool) (lines : List (List ℕ)) → commands ended r.body (r.line ∷ lines) ≡ asked_by r.body says ++ commands ended (body_behind r.body r.line says) lines) (sym parts) said)
 
-last_command : (p : Pending) (says : Says) → upto_last_end p.line ≡ [] → ((ended : Bool) (lines : List (List ℕ)) → commands ended p.body (p.line ∷ lines) ≡ asked_by says ++ commands ended (body_behind p.body p.line says) lines)
-    → commands true p.body (raw_lines p.line) ≡ asked_by says ++ commands true (body_behind p.body p.line says) []
+last_command : (p : Pending) (says : Says) → upto_last_end p.line ≡ [] → ((ended : Bool) (lines : List (List ℕ)) → commands ended p.body (p.line ∷ lines) ≡ asked_by p.body says ++ commands ended (body_behind p.body p.line says) lines)
+    → commands true p.body (raw_lines p.line) ≡ asked_by p.body says ++ commands true (body_behind p.body p.line says) []
 last_command p says e said = by p.line refl
   where
     none_left : (body : Option (Body × List ℕ)) → commands true body [] ≡ commands true body ([] ∷ [])
     none_left None = refl
     none_left (Some b) = refl
 
-    by : (l : List ℕ) → p.line ≡ l → commands true p.body (raw_lines p.line) ≡ asked_by says ++ commands true (body_behind p.body p.line says) []
+    by : (l : List ℕ) → p.line ≡ l → commands true p.body (raw_lines p.line) ≡ asked_by p.body says ++ commands true (body_behind p.body p.line says) []
     by [] is = ap (λ l. commands true p.body (raw_lines l)) is ∙ none_left p.body ∙ ap (λ l. commands true p.body (l ∷ [])) (sym is) ∙ said true []
     by (b ∷ bs) is =
         ap (commands true p.body) (raw_open p.line (λ none. not_none b bs (sym is ∙ none)) (no_end p.line e)) ∙ said true []
@@ -173,11 +176,12 @@ last_inside : (body : Option (Body × List ℕ)) (line : List ℕ) → IsInPlace
 last_inside None line i = absurd i
 last_inside (Some b) line i = refl
 
-pub last_asked : (p : Pending) (says : Says) → upto_last_end p.line ≡ [] → IsInPlace p.body says → ((ended : Bool) (lines : List (List ℕ)) → commands ended p.body (p.line ∷ lines) ≡ asked_by says ++ commands ended (body_behind p.body p.line says) lines)
-    → commands true p.body (raw_lines p.line) ≡ asked_at_end says
+pub last_asked : (p : Pending) (says : Says) → upto_last_end p.line ≡ [] → IsInPlace p.body says → ((ended : Bool) (lines : List (List ℕ)) → commands ended p.body (p.line ∷ lines) ≡ asked_by p.body says ++ commands ended (body_behind p.body p.line says) lines)
+    → commands true p.body (raw_lines p.line) ≡ asked_at_end p.body says
 last_asked p Nothing e i said = last_command p Nothing e said
 last_asked p (Opens body) e i said = last_command p (Opens body) e said
 last_asked p Inside e i said = last_command p Inside e said ∙ last_inside p.body p.line i
+last_asked p (Loads format) e i said = last_command p (Loads format) e said ∙ append-nil (load_of_body format p.body)
 last_asked p (Asks command) e i said = last_command p (Asks command) e said
 
 pub in_place : (p : Pending) (body : Option Body) (front back : List ℕ) (q : Pending) (says : Says) → q ≡ record { body = body_so_far body front; line = back } → q ≡ p → IsInPlace (body_so_far body front) says → IsInPlace p.body says
@@ -188,3 +192,8 @@ two_parts body n all bytes front back e f b =
     let left : take n bytes ≡ front = ap (λ xs. take n xs) (sym e) ∙ sym f in
     let right : drop n bytes ≡ back = ap (λ xs. drop n xs) (sym e) ∙ sym b in
     λ i. record { body = body_so_far body (left i); line = right i }
+
+-- the load of the body that is open, by its text
+pub loads_text : (body : Option (Body × List ℕ)) (format : Format) (text : List ℕ) → IsInPlace body (Loads format) → IsTextOf body text → act (session.Do (Load format text)) ∷ [] ≡ load_of_body format body
+loads_text None format text place is = absurd place
+loads_text (Some body) format text place is = ap (λ t. act (session.Do (Load format t)) ∷ []) is

@@ -8,7 +8,7 @@ use Rattle.rdf_keeper.specs.declared.script.command.Line.{Line}
 use Rattle.rdf_keeper.specs.declared.script.command.Line.TheVariants.{Skipped, Opens, Asks}
 
 abbrev pub asked_of : Command → Asked
-asked_of (Load format text) = act (session.Do (LoadRequest format text.now))
+asked_of (Load format text) = act (session.Do (LoadRequest format text.items))
 asked_of (Update text) = act (session.Do (UpdateRequest text.now))
 asked_of (Query text) = ask text.now
 asked_of Undo = act session.Undo

@@ -1,5 +1,5 @@
 -- How a session begins with data, and how it ends the program.
-use Rattle.std.specs.Prelude.{◌≡◌, ℕ, List, Option}
+use Rattle.std.specs.Prelude.{ℕ, List}
 use Rattle.rdf_session.specs.Request.{Load}
 use Rattle.rdf_session.specs.Session.{Session, Transition, Do, Commit, Changed, Done}
 use Rattle.rdf_session.specs.declared.fault.Counts.{Counts}

@@ -28,6 +28,9 @@ Commands:
   %changes           print what differs from the start
   %commit            make this state the start
 
+--base holds for every body: relative IRIs, like <ada>, in updates and queries are resolved
+against it as those of Turtle are, where the text declares no base.
+
 Example: a script that loads one statement, prints it and takes it back
   %load nquads
   <http://example.org/ada> <http://example.org/knows> <http://example.org/bob> .

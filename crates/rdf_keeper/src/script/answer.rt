@@ -144,7 +144,7 @@ pub(crate) fn serve(alloc: Global, keeper: &mut Keeper, command: Command<'_>) ->
         (result.payload.items ++ result.line.items) result.refused keeper.new }
 {
     match command {
-        Command::Load(format, text) => without_payload(alloc, keeper.load(format, text)),
+        Command::Load(format, text) => without_payload(alloc, keeper.load_text(format, text)),
         Command::Update(text) => without_payload(alloc, keeper.update(text)),
         Command::Query(text) => answered(alloc, keeper.query(text)),
         Command::Undo => without_payload(alloc, keeper.undo()),

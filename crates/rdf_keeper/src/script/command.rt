@@ -19,10 +19,10 @@ pub enum Topic {
     Quads,
 }
 
-/// A command, with its name or the text of its body.
-#[derive(Clone, Copy)]
+/// A command, with its name or the text of its body. That of a load, which may be large, is its own.
+#[derive(Drop)]
 pub(crate) enum Command<'a> {
-    Load(Format, &'a [u8]),
+    Load(Format, Vec<u8>),
     Update(&'a [u8]),
     Query(&'a [u8]),
     Undo,
@@ -51,7 +51,7 @@ pub enum Body {
 }
 
 /// What a line outside bodies is.
-#[derive(Clone, Copy)]
+#[derive(Drop)]
 pub(crate) enum Line<'a> {
     /// No words, or a comment.
     Skipped,

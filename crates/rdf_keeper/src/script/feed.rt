@@ -96,6 +96,26 @@ fn answer<W: Write>(
     Ok(refused || reply.refused)
 }
 
+// Answers the last command of a script, and says how the session ends.
+fn answer_last<W: Write>(
+    alloc: Global,
+    keeper: &mut Keeper,
+    command: Command<'_>,
+    writer: &mut W,
+    stop: bool,
+    refused: bool,
+) -> Status
+    ensures { (answers : List (List ℕ))
+        × Appends (W.contents writer.old) (W.contents writer.new) (concat answers)
+        × Serves (to_end Answers stop Status.Accepted) refused (asked_of command.entry ∷ [])
+        keeper.old answers keeper.new result }
+{
+    match answer(alloc, keeper, command, writer, stop, refused) {
+        Ok(refused) => ending(Status::Accepted, refused),
+        Err(status) => status,
+    }
+}
+
 impl Feed {
     /// A session that was fed nothing yet.
     pub fn new(alloc: Global, settings: Settings) -> Feed
@@ -143,6 +163,13 @@ impl Feed {
                     Err(status) => return Err(status),
                 }
                 self.gathered.begin(None);
+            }
+            Says::Loads(format) => {
+                let load = Command::Load(format, self.gathered.take_body());
+                match answer(self.alloc, keeper, load, writer, self.stop, self.refused) {
+                    Ok(refused) => self.refused = refused,
+                    Err(status) => return Err(status),
+                }
             }
         }
         Ok(self)
@@ -192,20 +219,29 @@ impl Feed {
     }
 
     /// The script has ended: runs what is left of it, and writes the answer.
-    pub fn end<W: Write>(self, keeper: &mut Keeper, writer: &mut W) -> Status
+    pub fn end<W: Write>(mut self, keeper: &mut Keeper, writer: &mut W) -> Status
         ensures { (answers : List (List ℕ))
             × Appends (W.contents writer.old) (W.contents writer.new) (concat answers)
             × Serves (to_end Answers self.stop Status.Accepted) self.refused
             (commands true self.pending.body (raw_lines self.pending.line))
             keeper.old answers keeper.new result }
     {
-        match self.gathered.last_command() {
-            None => ending(Status::Accepted, self.refused),
-            Some(command) => {
-                match answer(self.alloc, keeper, command, writer, self.stop, self.refused) {
-                    Ok(refused) => ending(Status::Accepted, refused),
-                    Err(status) => status,
-                }
+        match self.gathered.line_says() {
+            Says::Nothing => ending(Status::Accepted, self.refused),
+            Says::Opens(_) => {
+                let begun = Command::Unended;
+                answer_last(self.alloc, keeper, begun, writer, self.stop, self.refused)
+            }
+            Says::Inside => {
+                let open = Command::Unended;
+                answer_last(self.alloc, keeper, open, writer, self.stop, self.refused)
+            }
+            Says::Asks(command) => {
+                answer_last(self.alloc, keeper, command, writer, self.stop, self.refused)
+            }
+            Says::Loads(format) => {
+                let last = Command::Load(format, self.gathered.take_body());
+                answer_last(self.alloc, keeper, last, writer, self.stop, self.refused)
             }
         }
     }

@@ -1,19 +1,19 @@
 //! What came of a script and asks for nothing yet.
-ghost use Rattle.std.specs.Prelude.{◌≡◌, ◌++◌, ◌∷◌, [], ℕ, List, Bool, true, OnErr, OnOk};
-ghost use Rattle.rdf_keeper.specs.Inside.Says.{IsInPlace, asked_by, asked_last, grown, body_behind, body_so_far};
-ghost use Rattle.rdf_keeper.specs.Script.Commands.{commands};
-ghost use Rattle.rdf_keeper.specs.Script.Lines.{raw_lines, upto_last_end};
+ghost use Rattle.std.specs.Prelude.{◌≡◌, ◌++◌, ◌∷◌, [], ℕ, List, Bool, OnErr, OnOk};
+ghost use Rattle.rdf_keeper.specs.Inside.Says.{IsInPlace, IsTextOf, asked_by, grown, body_behind, body_so_far};
+ghost use Rattle.rdf_keeper.specs.Script.Commands.{body_asks, commands};
 ghost use Rattle.rdf_keeper.specs.Script.Pieces.{nothing_pending};
 
 use crate::script::command::{Body, Command, Line, read_line};
-use crate::script::item::{body_asks, is_end};
-use crate::script::line::without_end;
+use crate::script::line::{is_end, without_end};
+use rdf_session::Format;
 use rdf_terms::NoMemory;
 use std::alloc::Global;
 use std::marker::Model;
+use std::mem;
 
 /// What a line says, outside bodies or within one.
-#[derive(Clone, Copy)]
+#[derive(Drop)]
 pub(crate) enum Says<'a> {
     /// It has no words, or is a comment.
     Nothing,
@@ -21,6 +21,8 @@ pub(crate) enum Says<'a> {
     Opens(Body),
     /// It is a line of the body that is open.
     Inside,
+    /// The body that is open ends, and is to be loaded.
+    Loads(Format),
     Asks(Command<'a>),
 }
 
@@ -52,15 +54,29 @@ impl Model for Gathered {
 // A large buffer is given back behind its command.
 const KEPT_ROOM: usize = 4096;
 
+// What the line says that ends a body with this text.
+fn ended(body: Body, text: &[u8]) -> Says<'_>
+    ensures asks { asked_by (Some (body, text.now)) result ≡ body_asks body text.now ∷ [] }
+    ensures behind { (line : List ℕ) → body_behind (Some (body, text.now)) line result ≡ None }
+{
+    match body {
+        Body::Load(format) => Says::Loads(format),
+        Body::Update => Says::Asks(Command::Update(text)),
+        Body::Query => Says::Asks(Command::Query(text)),
+        Body::Unknown => Says::Asks(Command::Bad),
+    }
+}
+
 // What a line says behind the body that is open, if any, and its text so far.
 fn meaning<'a>(body: Option<Body>, text: &'a [u8], line: &'a [u8]) -> Says<'a>
     ensures place { IsInPlace (body_so_far body text.now) result }
     ensures commands { (ended : Bool) (lines : List (List ℕ)) →
-        commands ended (body_so_far body text.now) (line.now ∷ lines) ≡ asked_by result
+        commands ended (body_so_far body text.now) (line.now ∷ lines)
+        ≡ asked_by (body_so_far body text.now) result
         ++ commands ended (body_behind (body_so_far body text.now) line.now result) lines }
 {
     match body {
-        Some(body) if is_end(line) => Says::Asks(body_asks(body, text)),
+        Some(body) if is_end(line) => ended(body, text),
         Some(_) => Says::Inside,
         None => match read_line(without_end(line)) {
             Line::Skipped => Says::Nothing,
@@ -96,7 +112,8 @@ impl Gathered {
     pub(crate) fn line_says(&self) -> Says<'_>
         ensures place { IsInPlace self.now.body result }
         ensures commands { (ended : Bool) (lines : List (List ℕ)) →
-            commands ended self.now.body (self.now.line ∷ lines) ≡ asked_by result
+            commands ended self.now.body (self.now.line ∷ lines)
+            ≡ asked_by self.now.body result
             ++ commands ended (body_behind self.now.body self.now.line result) lines }
     {
         let (text, line) = self.bytes.as_slice().split_at(self.start);
@@ -123,16 +140,15 @@ impl Gathered {
         }
     }
 
-    /// What is asked for where the script ends.
-    pub(crate) fn last_command(&self) -> Option<Command<'_>>
-        requires { upto_last_end self.now.line ≡ [] }
-        ensures { asked_last result ≡ commands true self.now.body (raw_lines self.now.line) }
+    /// The text of the body that is open is given away: the line and the body are done with.
+    pub(crate) fn take_body(&mut self) -> Vec<u8>
+        ensures text { IsTextOf self.old.body result.items }
+        ensures rest { self.new ≡ nothing_pending }
     {
-        match self.line_says() {
-            Says::Nothing => None,
-            Says::Opens(_) => Some(Command::Unended),
-            Says::Inside => Some(Command::Unended),
-            Says::Asks(command) => Some(command),
-        }
+        let mut text = mem::replace(&mut self.bytes, Vec::new(self.alloc));
+        text.truncate(self.start);
+        self.body = None;
+        self.start = 0;
+        text
     }
 }

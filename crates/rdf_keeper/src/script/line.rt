@@ -1,9 +1,12 @@
 //! Lines and their words.
 ghost use Rattle.std.specs.Prelude.{◌≡◌, [], ◌∷◌, ◌++◌, ◌<◌, ◌≤◌, length, nat_eq, MatchOption, IfSome, not};
 ghost use Rattle.std.specs.List.{position_from};
+ghost use Rattle.rdf_keeper.specs.Script.Commands.{is_end};
 ghost use Rattle.rdf_keeper.specs.Script.LineWords.{is_gap, words};
 ghost use Rattle.rdf_keeper.specs.Script.Lines.{bare, upto_last_end};
 ghost use Rattle.rdf_keeper.specs.Inside.Says.{IsWholeLine};
+
+use memchr::memchr;
 
 /// The first line that has its end, and the rest.
 pub(crate) fn whole_line(text: &[u8]) -> Option<(&[u8], &[u8])>
@@ -21,7 +24,7 @@ fn line_end(text: &[u8]) -> Option<usize>
     ensures place { result ≡ position_from (λ b. nat_eq b 10) 0 text.now }
     ensures within { IfSome result (λ i. i < length text.now) }
 {
-    text.iter().position(|b| *b == b'\n')
+    memchr(b'\n', text)
 }
 
 /// The line without its end.
@@ -73,4 +76,11 @@ pub(crate) fn next_word(text: &[u8]) -> Option<(&[u8], &[u8])>
         Some(end) => Some(from.split_at(end)),
         None => Some(from.split_at(from.len())),
     }
+}
+
+/// Whether a line ends a body.
+pub(crate) fn is_end(line: &[u8]) -> bool
+    ensures { result ≡ is_end line.now }
+{
+    without_end(line) == b"%end".as_slice()
 }

@@ -1,12 +1,13 @@
 -- Search trees that hold one set of quads in three orders, and what insertions and removals make of them.
-use Rattle.std.specs.Prelude.{◌≡◌, ℕ, ◌==◌, Bool, not, ◌&&◌, ◌||◌, List, length, IsTrue}
+use Rattle.std.specs.Prelude.{◌≡◌, ℕ, ◌==◌, Bool, not, ◌&&◌, ◌||◌, List, map, length, IsTrue}
 use Rattle.std.specs.FinSet as set
-use Rattle.std.specs.Ordering.{is_eq}
+use Rattle.std.specs.List.{list_any}
+use Rattle.std.specs.Ordering.{is_eq, eq_by_cmp}
 use Rattle.std.specs.BTreeSet.{BTreeSet, contains}
 use Rattle.rdf_orders.specs.declared.order.Order.{Order}
 use Rattle.rdf_orders.specs.declared.order.Order.TheVariants.{Spo, Pos, Osp}
 use Rattle.rdf_orders.specs.declared.trees.Trees.{Trees}
-use Rattle.rdf_orders.specs.Quads.{IdQuad, IdQuads, key_in, key_cmp, quad_at, quads_of}
+use Rattle.rdf_orders.specs.Quads.{IdQuad, IdQuads, key_in, key_cmp, quad_at, quad_of, quads_of}
 
 -- the tree of an order
 abbrev pub tree_of : Order → Trees → BTreeSet (List ℕ)
@@ -28,6 +29,12 @@ quads_in trees = quads_of trees.spo.keys
 -- each of the three trees holds just the keys of the quads
 pub record Mirrors (trees : Trees) (quads : IdQuads) : Type 0 where
   pub keys : (order : Order) (k : List ℕ) → has_key order trees k ≡ is_key_of quads order k
+
+-- the first of the trees is this one, and those of the other two orders have just the keys of its quads
+pub record AreBuiltOn (spo : BTreeSet (List ℕ)) (trees : Trees) : Type 0 where
+  pub first : trees.spo ≡ spo
+  pub pos : (k : List ℕ) → has_key Pos trees k ≡ list_any (eq_by_cmp key_cmp k) (map (λ x. key_in Pos (quad_of x)) spo.keys)
+  pub osp : (k : List ℕ) → has_key Osp trees k ≡ list_any (eq_by_cmp key_cmp k) (map (λ x. key_in Osp (quad_of x)) spo.keys)
 
 -- the trees of the other two orders have gained the key of the quad, and the first is as it was
 pub record GainsBehind (old new : Trees) (q : IdQuad) : Type 0 where

@@ -1,26 +1,19 @@
--- Labels as the marks that they stand for.
-use Rattle.std.specs.Prelude.{◌≡◌, ℕ, Bool, List, [], ◌∷◌, map as map_list, None}
-use Rattle.std.specs.Ordering.{nat_cmp}
-use Rattle.std.specs.Cmp.Lexicographic.{slice_cmp}
+-- The entries of a map as the marks that they stand for.
+use Rattle.std.specs.Prelude.{◌≡◌, ℕ, ◌≤◌, List, map as map_list, Vec}
+use Rattle.std.specs.declared.alloc.Global.{Global}
 use Rattle.std.specs.FinMap as map
-use Rattle.std.specs.Str.{bytes_eq}
+use Rattle.std.specs.List.{AllByRecursion}
 use Rattle.rdf_session.specs.History.{Marks}
-use Rattle.rdf_session.specs.declared.marks.Label.{Label}
 
-abbrev pub mark_of : Label → List ℕ × ℕ
-mark_of label = (label.name.items, label.place)
+abbrev pub Entry : Type 0
+Entry = Vec ℕ Global × ℕ
 
-abbrev pub pairs_of : List Label → List (List ℕ × ℕ)
-pairs_of labels = map_list mark_of labels
+abbrev pub mark_of : Entry → List ℕ × ℕ
+mark_of e = (e.0.items, e.1)
 
-abbrev pub marks_of : List Label → Marks
-marks_of labels = map.from_entries (pairs_of labels)
+abbrev pub marks_of : List Entry → Marks
+marks_of es = map.from_entries (map_list mark_of es)
 
--- the name of the pair
-abbrev pub is_named : List ℕ → List ℕ × ℕ → Bool
-is_named name m = bytes_eq m.0 name
-
--- no name stands twice
-abbrev pub AreOnce : List (List ℕ × ℕ) → Type 0
-AreOnce [] = Unit {0}
-AreOnce (m ∷ ms) = (map.find (slice_cmp nat_cmp) m.0 ms ≡ None) × AreOnce ms
+-- none lies past the place
+abbrev pub AreUpto : ℕ → List Entry → Type 0
+AreUpto place es = AllByRecursion (λ e. e.1 ≤ place) es

@@ -12,11 +12,11 @@ text_up_to-requires c =
     (s.0, s.1)
 
 -- what is read as a tag has the form of one
-pub tagged_from_text-requires : goal.tagged_from_text-requires
-tagged_from_text-requires c =
+pub tagged-requires : goal.tagged-requires
+tagged-requires c =
     let s = tag_greedy.sound c.args.name.now c.in-Some.rest (sym c.in-Some.ensures) in
     let text : c.text_up_to.result.now ≡ encode_utf8_all s.0 = c.text_up_to.ensures ∙ ap encode_utf8_all (between_is c.args.name.now c.in-Some.rest s.0 s.1) in
-    record { is_one = ap is_tag text ∙ tag_form s.0 s.2 }
+    ap is_tag text ∙ tag_form s.0 s.2
 
 pub returns : goal.returns
 unfolding tagged_at tag_at name_at tagged_literal expect

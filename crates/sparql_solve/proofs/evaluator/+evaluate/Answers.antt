@@ -1,13 +1,13 @@
 use Rattle.std.proofs.Common.{[], ◌∷◌, map, ap, refl, sym}
 use Rattle.std.proofs.lemmas.Result.{IfOk-weaker}
-use Rattle.rdf_terms.specs.declared.quad.GraphName.TheVariants.{Named}
+use Rattle.rdf_terms.specs.declared.quad.GraphName.TheVariants.{Named, Default}
 use Rattle.sparql_algebra.specs.Algebra.{element, graph, group_of, translation}
 use Rattle.sparql_values.specs.Mapping.{single}
 use Rattle.sparql_algebra.specs.Solutions.{joins, solutions}
 use Rattle.sparql_solve.specs.declared.look_ups.Graphs.TheVariants.{One}
 use Rattle.sparql_solve.specs.Members.{element_solutions}
 use Rattle.sparql_solve.proofs.SideLemmas.{basic_look_up, graph_look_up, rows_side, lone_side, optional_member, graph_member}
-use Rattle.sparql_solve.proofs.MemberLemmas.{unit_gives, members_more, more_gives, union_gives, union_none, joined_gives, all_names_give, group_gives, groups_give, variable_gives}
+use Rattle.sparql_solve.proofs.MemberLemmas.{unit_gives, members_more, more_gives, union_gives, union_none, joined_gives, all_names_give, any_names_give, group_gives, groups_give, variable_gives}
 use Rattle.sparql_solve.proofs.evaluator.+evaluate.Goals as goal
 
 pub member_list_rows-loop-member-init : goal.member_list_rows-loop-member-init
@@ -29,6 +29,15 @@ group_rows-returns g t c =
 
 pub all_graph_rows-returns : goal.all_graph_rows-returns
 all_graph_rows-returns g t c =
+    IfOk-weaker c.join.result _ _
+    (λ out e. any_names_give c.args.variables.now (g.S.Source.contents c.args.source.now) Default Default c.args.variable.now (translation c.args.pattern.now)
+    c.in_ok-names.names.items c.deref-2.result.now c.in_ok-rows.rows.items c.deref-3.result.now c.in_ok-bound.bound.items c.deref-4.result.now out.items
+    c.in_ok-names.ensures c.deref-2.ensures.value refl c.in_ok-rows.ensures c.deref-3.ensures.value c.in_ok-bound.ensures c.deref-4.ensures.value e
+    (c.group_reads.ensures c.if-group_reads.false))
+    c.join.ensures
+
+pub all_graph_rows-returns-then-group_reads : goal.all_graph_rows-returns-then-group_reads
+all_graph_rows-returns-then-group_reads g t c =
     IfOk-weaker c.each_graph_rows.result _ _
     (λ out h. all_names_give c.args.variables.now (g.S.Source.contents c.args.source.now) c.args.variable.now (translation c.args.pattern.now)
     c.in_ok-names.names.items c.deref.result.now out.items c.in_ok-names.ensures c.deref.ensures.value h)

@@ -1,4 +1,4 @@
-use Rattle.std.proofs.Common.{arith, ◌≡◌, ◌∙◌, ◌++◌, ap, ℕ, List}
+use Rattle.std.proofs.Common.{arith, ◌∙◌, ◌++◌, ap, ℕ, List}
 use Rattle.std.proofs.lemmas.Grind.{common_steps}
 use Rattle.rdf_terms.specs.TermText.{term_text}
 use Rattle.rdf_keeper.proofs.ConversionLemmas.TripleLines.{written}

@@ -1,4 +1,4 @@
-use Rattle.std.proofs.Common.{◌≡◌, ℕ, Bool, true, false, ◌&&◌, ◌||◌, List, [], ◌∷◌, ◌++◌, ◌∙◌, refl, sym, subst}
+use Rattle.std.proofs.Common.{◌≡◌, Bool, true, false, ◌&&◌, ◌||◌, [], ◌∷◌, ◌∙◌, refl, sym, subst}
 use Rattle.rdf_keeper.proofs.ScriptLemmas.Runs.{wrote_ok, wrote_err, breaks_off, stops, goes_on, one_written}
 use Rattle.rdf_keeper.proofs.script.feed.answer.Goals as goal
 use Rattle.rdf_keeper.proofs.script.feed.answer.Goals.{else-stop-via-then-stop+else-reply, else-stop-via-else-stop, then-refused, else-refused}

@@ -1,4 +1,4 @@
-use Rattle.std.proofs.Common.{ℕ, List, [], ◌++◌, subst, sym, refl, arith, take, length-take}
+use Rattle.std.proofs.Common.{[], ◌++◌, subst, sym, refl, arith, take, length-take}
 use Rattle.std.specs.Io.KnownBytes.{Consumes}
 use Rattle.rdf_keeper.specs.Script.Pieces.{Fed, GoesOn, unfed}
 use Rattle.rdf_keeper.proofs.ScriptLemmas.Feeds.{goes_further, goes_nowhere, kept, nothing_read, over_end, over_fault, over_piece}

@@ -1,8 +1,8 @@
 use Rattle.std.proofs.Common.{◌∙◌, ap, sym, refl, [], take, get_or}
 use Rattle.std.proofs.lemmas.List.{take_more}
-use Rattle.rdf_orders.specs.Quads.{quad_of, quads_of}
+use Rattle.rdf_orders.specs.Quads.{quad_of}
 use Rattle.rdf_orders.specs.Contents.{Contents, with_quad}
-use Rattle.rdf_orders.proofs.ContentsLemmas.{with_none, with_one_quad, with_first_quads, refused_at_quad, nothing_came}
+use Rattle.rdf_orders.proofs.ContentsLemmas.{with_none, with_one_quad, with_new_trees, refused_at_quad, nothing_came}
 use Rattle.rdf_orders.proofs.TreeLemmas.{on_err_of, quads_held, mirrors_itself}
 use Rattle.rdf_orders.proofs.quad_sets.QuadSets.insert_quads.Goals as goal
 
@@ -25,11 +25,10 @@ pub returns-in_err-self-inside-clause-err : goal.returns-in_err-self-inside-clau
 returns-in_err-self-inside-clause-err c = on_err_of c.from_residual.result (nothing_came _ _ _ refl)
 
 pub invariant_of-self : goal.invariant_of-self
-invariant_of-self c = mirrors_itself _ _ c.in_ok-self-inside.ensures
+invariant_of-self c = mirrors_itself _ _ (c.in_ok-self-inside.ensures _ c.self.invariant)
 
-pub returns-then-not-is_empty-clause-ok : goal.returns-then-not-is_empty-clause-ok
-returns-then-not-is_empty-clause-ok c =
-    with_first_quads c.args.self.now _ _ c.args.quads.now
-    (sym (ap (λ (v : Contents). v.quads) c.self.view_is) ∙ ap quads_of (c.is_empty.ensures c.if-is_empty.true))
-    (quads_held _ _ c.in_ok-self-inside.ensures)
+pub returns-then-are_many-clause-ok : goal.returns-then-are_many-clause-ok
+returns-then-are_many-clause-ok c =
+    with_new_trees c.args.self.now _ _ _ c.args.quads.now (ap (λ (v : Contents). v.quads) c.self.view_is)
+    (quads_held _ _ (c.in_ok-self-inside.ensures _ c.self.invariant))
     (ap (λ (v : Contents). v.names) c.self.view_is)

@@ -1,4 +1,4 @@
-use Rattle.std.proofs.Common.{◌≡◌, ◌++◌, [], ap, sym, refl, subst, ◌∙◌, append_assoc}
+use Rattle.std.proofs.Common.{◌++◌, [], ap, sym, refl, subst, ◌∙◌, append_assoc}
 use Rattle.rdf_keeper.specs.Script.Pieces.{EndsWithin, GoesOn}
 use Rattle.rdf_keeper.proofs.ScriptLemmas.Feeds.{ends_further, goes_further, goes_nowhere}
 use Rattle.rdf_keeper.proofs.ScriptLemmas.Runs.{more_written, nothing_written, one_or_other}

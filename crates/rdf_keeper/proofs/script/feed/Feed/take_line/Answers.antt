@@ -1,10 +1,14 @@
-use Rattle.std.proofs.Common.{ap, refl, inl, ◌∙◌, [], Bool}
+use Rattle.std.proofs.Common.{ap, refl, inl, subst, ◌∙◌, [], List}
+use Rattle.std.specs.Prelude.{Ok, Err}
+use Rattle.rdf_keeper.specs.Script.Commands.{Asked}
+use Rattle.rdf_keeper.specs.Script.Runs.{Answered}
+use Rattle.rdf_keeper.proofs.ScriptLemmas.Pieces.{loads_text}
 use Rattle.rdf_keeper.proofs.ScriptLemmas.Feeds.{line_ends, line_goes_on, unwritten}
 use Rattle.rdf_keeper.proofs.ScriptLemmas.Runs.{no_room, nothing_written}
-use Rattle.rdf_keeper.specs.Script.Pieces.{Pending, Fed}
-use Rattle.rdf_keeper.specs.declared.script.gathered.Says.TheVariants.{Asks, Inside, Nothing, Opens}
+use Rattle.rdf_keeper.specs.Script.Pieces.{Pending}
+use Rattle.rdf_keeper.specs.declared.script.gathered.Says.TheVariants.{Asks, Inside, Loads, Nothing, Opens}
 use Rattle.rdf_keeper.proofs.script.feed.Feed.take_line.Goals as goal
-use Rattle.rdf_keeper.proofs.script.feed.Feed.take_line.Goals.{in-Nothing, in-Opens, in-Inside, in-Asks+in-Ok}
+use Rattle.rdf_keeper.proofs.script.feed.Feed.take_line.Goals.{in-Nothing, in-Opens, in-Inside, in-Asks+in-Ok, in-Loads+in-Ok-answer}
 
 pub returns-in-Err : goal.returns-in-Err
 returns-in-Err g c = ([], nothing_written _, λ text. no_room _ _ _ _)
@@ -13,6 +17,15 @@ pub returns-in-Err-answer : goal.returns-in-Err-answer
 returns-in-Err-answer g c =
     let a = c.in-Err-answer.ensures in
     (a.0, a.1, line_ends _ _ _ c.self.invariant c.requires c.in_default.ensures.ok (Asks c.in-Asks.command) c.in-Asks.ensures.commands _ _ _ _ _ c.self.view_is a.2)
+
+pub returns-in-Err-answer-2 : goal.returns-in-Err-answer-2
+returns-in-Err-answer-2 g c =
+    let a = c.in-Err-answer-2.ensures in (
+      a.0,
+      a.1,
+      line_ends _ _ _ c.self.invariant c.requires c.in_default.ensures.ok (Loads c.in-Loads.format) c.in-Loads.ensures.commands _ c.args.keeper.now c.answer-in-Loads.new.keeper a.0 c.in-Err-answer-2.status c.self.view_is
+          (subst (λ (cs : List Asked). Answered c.self.inside.stop c.self.inside.refused cs c.args.keeper.now a.0 c.answer-in-Loads.new.keeper (Err c.in-Err-answer-2.status)) (loads_text _ c.in-Loads.format c.take_body.result.items c.in-Loads.ensures.place c.take_body.ensures.text) a.2),
+    )
 
 pub returns : goal.returns
 returns g c =
@@ -45,5 +58,14 @@ returns g c =
             line_goes_on _ _ _ c.self.invariant c.requires c.in_default.ensures.ok (Asks w.in-Asks.command) w.in-Asks.ensures.commands _ _ _ _ _ _ c.self.view_is
                 (w.self-is ∙ ap (λ (q : Pending). record { stop = c.self.inside.stop; refused = w.in-Ok.refused; pending = q }) w.begin-in-Asks.ensures)
                 (rw w.keeper-is a.2),
+          )
+      | in-Loads+in-Ok-answer w ↦
+          let a = w.in-Ok-answer.ensures in (
+            a.0,
+            rw w.writer-is a.1,
+            line_goes_on _ _ _ c.self.invariant c.requires c.in_default.ensures.ok (Loads w.in-Loads.format) w.in-Loads.ensures.commands _ _ _ _ _ _ c.self.view_is
+                (w.self-is ∙ ap (λ (q : Pending). record { stop = c.self.inside.stop; refused = w.in-Ok-answer.refused; pending = q }) w.take_body.ensures.rest)
+                (rw w.keeper-is
+                (subst (λ (cs : List Asked). Answered c.self.inside.stop c.self.inside.refused cs c.args.keeper.now a.0 w.answer-in-Loads.new.keeper (Ok w.in-Ok-answer.refused)) (loads_text _ w.in-Loads.format w.take_body.result.items w.in-Loads.ensures.place w.take_body.ensures.text) a.2)),
           )
     ]

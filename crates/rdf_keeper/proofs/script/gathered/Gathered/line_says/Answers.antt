@@ -1,4 +1,3 @@
-use Rattle.std.proofs.Common.{refl, sym, ap, ◌∙◌, ◌≡◌, List, ℕ, take, drop}
 use Rattle.rdf_keeper.proofs.ScriptLemmas.Pieces.{said_of_parts, in_place, two_parts}
 use Rattle.rdf_keeper.proofs.script.gathered.Gathered.line_says.Goals as goal
 

@@ -1,0 +1,11 @@
+use Rattle.std.proofs.Common.{◌++◌, ◌∷◌, [], length}
+use Rattle.rdf_dataset.specs.Chains.{Leads}
+use Rattle.rdf_dataset.specs.State.{State}
+use Rattle.rdf_dataset.proofs.chain.grown.Given as goal
+
+abbrev pub invariant-loop-earlier : goal.invariant-loop-earlier
+invariant-loop-earlier l =
+    (s t : State) → Leads s (l.fn.runs.items ++ l.fn.net ∷ []) t → Leads s (l.runs.items ++ l.run ∷ []) t
+
+abbrev pub decreases-loop-earlier : goal.decreases-loop-earlier
+decreases-loop-earlier l = length l.runs.items

@@ -1,0 +1,57 @@
+//! Whether patterns read the active graph (SPARQL 1.1 Query, section 13.3).
+ghost use Rattle.std.specs.Prelude.{◌≡◌, ◌||◌, false, map};
+ghost use Rattle.sparql_algebra.specs.Algebra.{element, translation, union_of};
+ghost use Rattle.sparql_algebra.specs.Under.{is_positive, reads, stands_any};
+ghost use Rattle.sparql_solve.specs.Members.{part};
+
+use sparql_trees::{BasicGraphPattern, Member, Pattern};
+
+// Whether there are triple patterns, or hidden variables of some.
+fn has_triples(basic: &BasicGraphPattern) -> bool
+    ensures { result ≡ false →
+        (stands_any basic.now.triples || is_positive basic.now.hidden) ≡ false }
+{
+    if basic.hidden != 0 {
+        return true;
+    }
+    !basic.triples.is_empty()
+}
+
+// Whether one of the groups reads the active graph.
+#[cycle(reads)]
+fn groups_read(groups: &[Pattern]) -> bool
+    ensures { result ≡ false → reads (union_of (map translation groups.now)) ≡ false }
+{
+    for group in groups {
+        if group_reads(group) {
+            return true;
+        }
+    }
+    false
+}
+
+/// Whether the group has triple patterns outside GRAPH.
+#[cycle(reads)]
+pub(crate) fn group_reads(pattern: &Pattern) -> bool
+    ensures { result ≡ false → reads (translation pattern.now) ≡ false }
+{
+    let members = pattern.members.as_slice();
+    for member in members {
+        if reads(member) {
+            return true;
+        }
+    }
+    false
+}
+
+#[cycle(reads)]
+fn reads(member: &Member) -> bool
+    ensures { result ≡ false → reads (part (element member.now)) ≡ false }
+{
+    match member {
+        Member::Basic(basic) => has_triples(basic),
+        Member::Union(groups) => groups_read(groups.as_slice()),
+        Member::Optional(pattern) => group_reads(pattern),
+        Member::Graph(_, _) => false,
+    }
+}
