@@ -135,6 +135,15 @@ impl Vocabulary {
         Ok(Vocabulary { words })
     }
 
+    /// The same IRIs, shared with this one.
+    ///
+    /// # Errors
+    /// [`NoMemory`] where one more share can't be counted.
+    pub fn copy(&self) -> Result<Vocabulary, NoMemory> {
+        let words = self.words.copy()?;
+        Ok(Vocabulary { words })
+    }
+
     /// What `a` stands for.
     pub fn rdf_type(&self) -> &Iri
         ensures { result.now ≡ word.rdf_type }
