@@ -1,5 +1,6 @@
 """What the tools of this folder share: the crates, copies of the repository, commands and their processor time, tasks side by side."""
-import collections, contextlib, os, pathlib, re, shutil, signal, subprocess, sys, tempfile, threading, time, traceback
+import collections, contextlib, importlib.machinery, importlib.util, math, os, pathlib, re, shutil, signal, subprocess, sys, tempfile, threading, time
+import traceback
 from concurrent.futures import FIRST_COMPLETED, ThreadPoolExecutor, wait
 
 ROOT = pathlib.Path(__file__).resolve().parents[1]
@@ -19,6 +20,14 @@ def cache():
         if os.access(folder, os.R_OK | os.W_OK | os.X_OK):
             return folder
     return ROOT / "out" / "cache"
+
+
+def module_of(path):
+    """A program of Python as a module."""
+    loader = importlib.machinery.SourceFileLoader(path.stem.replace("-", "_"), str(path))
+    found = importlib.util.module_from_spec(importlib.util.spec_from_loader(loader.name, loader))
+    loader.exec_module(found)
+    return found
 
 
 def rows_of(root):
@@ -51,21 +60,19 @@ def linked(source, to):
         shutil.copy2(source, to)
 
 
-@contextlib.contextmanager
 def folder_for_copies():
     """A folder for copies, for as long as it is used."""
     own = COPIES / str(os.getpid())
     own.mkdir(parents=True, exist_ok=True)
-    with tempfile.TemporaryDirectory(dir=own) as at:
-        yield pathlib.Path(at)
+    return tempfile.TemporaryDirectory(dir=own)
 
 
 @contextlib.contextmanager
 def copy_of(root, below, own=KEPT, lower=KEPT):
     """A copy of a crate and of those below it, over what is kept of each, for as long as it is used. `below` has the crate's name last; `own` and `lower`
     say what is taken of all that is kept of it and of the others."""
-    with folder_for_copies() as at:
-        rows = rows_of(root)
+    with folder_for_copies() as room:
+        rows, at = rows_of(root), pathlib.Path(room)
         (at / "crates.txt").write_text("".join(f"{it}: {' '.join(rows[it])}\n" for it in below))
         for crate in below:
             source, to = root / "crates" / crate, at / "crates" / crate
@@ -108,50 +115,45 @@ def guard():
     for stream in range(3):
         os.dup2(os.open(os.devnull, os.O_RDWR), stream)
     os.read(end, 1)
-    while True:
-        there = {number: (parent, environment) for number, parent, environment in processes()}
-        started = {it for it in there if name in there[it][1]}
-        while True:
-            below = {it for it in there if there[it][0] in started} - started
-            started |= below
-            if not below:
-                break
-        if not started:
-            shutil.rmtree(own, ignore_errors=True)
-            os._exit(0)
+    started = [name]
+    while started:
+        there = processes()
+        started = below = {it for it, (_, environment) in there.items() if name in environment}
+        while below:
+            below = {it for it, (parent, _) in there.items() if parent in below}
+            started = started | below
         for it in started:
             with contextlib.suppress(OSError):
                 os.kill(it, signal.SIGKILL)
         time.sleep(0.1)
+    shutil.rmtree(own, ignore_errors=True)
+    os._exit(0)
 
 
 def processes():
-    """Each process that can be seen and hasn't ended: its number, its parent's, and the environment that it began with."""
+    """Each process that can be seen and hasn't ended, by number: its parent's number, and the environment that it began with."""
+    found = {}
     for at in pathlib.Path("/proc").glob("[0-9]*"):
         with contextlib.suppress(OSError):
             state, parent = (at / "stat").read_text().rpartition(")")[2].split()[:2]
             if state not in "ZX":
-                yield int(at.name), int(parent), (at / "environ").read_bytes()
+                found[int(at.name)] = int(parent), (at / "environ").read_bytes()
+    return found
 
 
-def run(words, folder, hear=lambda line: None, until=None):
+def run(words, folder, hear=lambda line: None, until=math.inf):
     """Runs a command, and returns its status, what it says, and the processor seconds of all that it ran. `hear` is told each line. What it runs stands in
     a session of its own, which ends at the time `until`."""
-    words = [str(it) for it in words]
-    process = subprocess.Popen(
-        words, cwd=folder, stdin=subprocess.DEVNULL, stdout=subprocess.PIPE, stderr=subprocess.STDOUT, errors="replace", start_new_session=True
-    )
-    late = threading.Timer(max(0, until - time.time()), os.killpg, (process.pid, signal.SIGKILL)) if until else None
-    said = []
+    streams = {"stdin": subprocess.DEVNULL, "stdout": subprocess.PIPE, "stderr": subprocess.STDOUT, "errors": "replace"}
+    process, said = subprocess.Popen([str(it) for it in words], cwd=folder, start_new_session=True, **streams), []
+    late = threading.Timer(min(max(0, until - time.time()), threading.TIMEOUT_MAX), os.killpg, (process.pid, signal.SIGKILL))
     try:
-        if late:
-            late.start()
+        late.start()
         for line in process.stdout:
             said.append(line)
             hear(line.rstrip("\n"))
     finally:
-        if late:
-            late.cancel()
+        late.cancel()
     _, status, usage = os.wait4(process.pid, 0)
     process.returncode = os.WEXITSTATUS(status) if os.WIFEXITED(status) else -os.WTERMSIG(status)
     return process.returncode, "".join(said), usage.ru_utime + usage.ru_stime
@@ -162,6 +164,14 @@ def rt(*words):
     if not shutil.which(RT):
         sys.exit(f"{pathlib.Path(sys.argv[0]).name}: {RT} isn't found: put the Rattle toolchain's command on the path")
     return [RT, *words]
+
+
+def library_of(name, room):
+    """A C file of this folder as a library in the folder `room`, made by the toolchain's clang."""
+    kit, made = pathlib.Path(shutil.which(*rt())).resolve().parents[1], pathlib.Path(room, f"{name}.so")
+    words = [kit / "toolchain/bin/clang", "-O1", "-shared", "-fPIC", "-nostdlib", "-fuse-ld=lld", "-o", made, ROOT / f"tools/{name}.c"]
+    subprocess.run(words, check=True)
+    return made
 
 
 def processors():
@@ -199,17 +209,15 @@ def side_by_side(coming, lanes):
 def ends(main):
     """Runs a tool, and ends with its status, at once also where it is interrupted or fails."""
     guard()
+    said = ""
     try:
-        status = main()
+        status = main() or 0
     except SystemExit as end:
-        status = end.code
-        if isinstance(status, str):
-            print(status, file=sys.stderr)
-            status = 1
-    except BaseException as error:
-        is_interrupt = isinstance(error, KeyboardInterrupt)
-        print(f"{pathlib.Path(sys.argv[0]).name}: interrupted" if is_interrupt else traceback.format_exc(), file=sys.stderr)
-        status = 130 if is_interrupt else 1
+        status, said = (1, end.code) if isinstance(end.code, str) else (end.code or 0, "")
+    except KeyboardInterrupt:
+        status, said = 130, f"{pathlib.Path(sys.argv[0]).name}: interrupted"
+    except BaseException:
+        status, said = 1, traceback.format_exc()
+    print(said, end="\n" if said else "", file=sys.stderr, flush=True)
     sys.stdout.flush()
-    sys.stderr.flush()
-    os._exit(status or 0)
+    os._exit(status)
