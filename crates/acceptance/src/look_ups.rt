@@ -105,13 +105,83 @@ fn cost_over_chains(alloc: Global, group: &str) -> Option<Cost> {
 fn each_pattern_is_looked_up_under_the_one_before(rt: HostRuntime) {
     for (group, wanted) in [
         ("{ e:s1 e:p ?o . ?o e:q ?x }", (1, 2, 2)),
-        ("{ { e:s1 e:p ?o } { ?o e:q ?x } }", (1, 2, 101)),
+        ("{ { e:s1 e:p ?o } { ?o e:q ?x } }", (1, 2, 2)),
         ("{ e:s1 e:p ?o { } ?o e:q ?x }", (1, 2, 2)),
         ("{ e:s1 e:p ?o OPTIONAL { ?o e:q ?x } }", (1, 2, 2)),
         ("{ e:s1 e:p ?o OPTIONAL { ?o e:p ?x } }", (1, 2, 1)),
     ] {
         assert!(rt;
             cost_over_chains(rt.alloc(), group) == Some(wanted),
+            "{group}"
+        );
+    }
+}
+
+#[test]
+fn members_are_found_under_the_rows_before_them(rt: HostRuntime) {
+    for (group, wanted) in [
+        ("{ e:s1 e:p ?o { ?o e:q ?x } }", (1, 2, 2)),
+        (
+            "{ e:s1 e:p ?o { { ?o e:q ?x } UNION { ?o e:none ?x } } }",
+            (1, 3, 2),
+        ),
+        (
+            "{ e:s1 e:p ?o OPTIONAL { { ?o e:q ?x } UNION { ?x e:p ?o } } }",
+            (2, 3, 3),
+        ),
+        (
+            "{ e:s1 e:p ?o OPTIONAL { ?o e:q ?x OPTIONAL { ?x e:none ?y } } }",
+            (1, 3, 2),
+        ),
+        ("{ { e:s1 e:p ?o } { ?o e:q ?x { ?s e:p ?o } } }", (1, 3, 3)),
+    ] {
+        assert!(rt;
+            cost_over_chains(rt.alloc(), group) == Some(wanted),
+            "{group}"
+        );
+    }
+}
+
+const SHARED: &str = "e:a e:p e:o . e:b e:p e:r . e:c e:p e:o . e:o e:q 1 . e:r e:q 2";
+
+#[test]
+fn rows_share_what_is_found_for_them(rt: HostRuntime) {
+    for (group, wanted) in [
+        ("{ ?s e:p ?o { ?o e:q ?x } }", (3, 3, 5)),
+        (
+            "{ ?s e:p ?o OPTIONAL { { ?o e:q ?x } UNION { ?o e:none ?x } } }",
+            (3, 5, 5),
+        ),
+        ("{ ?s e:p ?o { ?a e:q ?x } }", (6, 2, 5)),
+    ] {
+        assert!(rt;
+            cost_over(rt.alloc(), SHARED, group) == Some(wanted),
+            "{group}"
+        );
+    }
+}
+
+// A hundred quads in the default graph, and as many graphs of one quad.
+fn many_graphs(alloc: Global) -> Option<String> {
+    let mut data = String::new(alloc);
+    for i in 1..101 {
+        write!(data, "e:s{i} e:p {i} . GRAPH e:g{i} {{ e:s{i} e:q {i} }} ").ok()?;
+    }
+    Some(data)
+}
+
+#[test]
+fn graphs_of_any_name_are_soon_found_alone(rt: HostRuntime) {
+    for (group, wanted) in [
+        ("{ ?s e:p ?o GRAPH ?g { ?s e:none ?x } }", (0, 901, 100)),
+        (
+            "{ ?s e:p ?o GRAPH ?g { ?s e:none ?x FILTER(?x = 1) } }",
+            (0, 901, 100),
+        ),
+    ] {
+        let data = many_graphs(rt.alloc()).unwrap_or(String::new(rt.alloc()));
+        assert!(rt;
+            cost_over(rt.alloc(), data.as_str(), group) == Some(wanted),
             "{group}"
         );
     }
@@ -129,6 +199,10 @@ fn bound_graph_is_the_only_one_tried(rt: HostRuntime) {
             (1, 2, 2),
         ),
         ("{ e:b e:in ?g GRAPH ?g { ?s ?p ?o } }", (0, 1, 1)),
+        (
+            "{ e:a e:in ?g GRAPH ?g { ?s ?p ?o FILTER(?o = e:o) } }",
+            (1, 2, 2),
+        ),
         ("{ GRAPH ?g { ?s ?p ?o } }", (2, 2, 2)),
         ("{ GRAPH e:z { ?s ?p ?o } }", (0, 0, 0)),
     ] {

@@ -9,6 +9,8 @@ pub mod UnderLemmas
 pub mod SideLemmas
 pub mod ShapeLemmas
 pub mod MemberLemmas
+pub mod SharedLemmas
+pub mod FollowLemmas
 pub mod DistinctLemmas
 pub mod ResultLemmas
 pub mod KeyLemmas

@@ -1,5 +1,5 @@
--- What is looked up under each left row gives the joins with the right side's solutions.
-use Rattle.std.proofs.Common.{◌≡◌, ℕ, ◌+◌, ◌*◌, ◌≤◌, zero, suc, Bool, true, false, cond, ◌&&◌, List, [], ◌∷◌, ◌++◌, map, filter, Option, Some, None, refl, sym, ap, ◌∙◌, length, drop, replicate, arith, append-nil}
+-- What is looked up under a row gives its merges with the right side's solutions.
+use Rattle.std.proofs.Common.{◌≡◌, ℕ, ◌+◌, ◌*◌, ◌≤◌, zero, suc, Bool, true, false, cond, ◌&&◌, List, [], ◌∷◌, ◌++◌, map, filter, Option, Some, None, IfSome, refl, sym, ap, ◌∙◌, length, drop, replicate, arith, append-nil}
 use Rattle.std.specs.Prelude.{slice_set}
 use Rattle.std.specs.List.{flat_map, sum_by, count_by, list_any, list_all}
 use Rattle.std.proofs.lemmas.List.{drop_all, length-replicate}
@@ -26,10 +26,9 @@ use Rattle.sparql_algebra.proofs.CallerLemmas.{one, sum_by-cong, sum_by-flat_map
 use Rattle.sparql_solve.specs.declared.look_ups.Graphs.{Graphs}
 use Rattle.sparql_solve.specs.declared.look_ups.Graphs.TheVariants.{One, Each}
 use Rattle.sparql_solve.specs.declared.look_ups.LookUp.{LookUp}
-use Rattle.sparql_solve.specs.declared.sides.Side.{Side}
-use Rattle.sparql_solve.specs.declared.sides.Side.TheVariants as side
-use Rattle.sparql_solve.specs.Sides.{graph_where, graphs_of, look_up_in, tried, found_in, found_under, found_among, found, partners, rows_after, IsSideOf, where_joined, lone_joined, HoldsJust}
+use Rattle.sparql_solve.specs.Sides.{graph_where, graphs_of, look_up_in, tried, found_in, found_under, found_among, found, where_joined, lone_joined, HoldsJust}
 use Rattle.sparql_solve.specs.Members.{AreSolutions, AreMoreSolutions, element_solutions}
+use Rattle.sparql_solve.specs.Under.{IsLookUpOf}
 use Rattle.sparql_solve.proofs.BasicLemmas.{set_of_triples}
 use Rattle.sparql_solve.proofs.UnderLemmas.{sum_merges, looked_up_bag}
 
@@ -64,34 +63,13 @@ module _ {X : Type 0} (q : X → Bool) where
   all_give F G xs h each f =
       sum_by-flat_map f F xs ∙ sum_where q (λ x. sum_by f (F x)) (λ x. sum_by f (G x)) (λ x e. each x e f) xs h ∙ sym (sum_by-flat_map f G xs)
 
--- ---- a side after the rows so far
-
-module _ (vs : Variables) (d : Listing) (g : GraphName) (G : Algebra) (rows : List Mapping) (right : Side) (h : SameBag rows (solutions vs d g G)) where
-  wide : list_all (has_length (length vs)) rows ≡ true
-  wide = same_all (has_length (length vs)) rows (solutions vs d g G) h (solutions_length vs d g G)
-
-  pub after_side : (k : Element) → ((m : Mapping) → length m ≡ length vs → SameBag (partners vs d right m) (merges (element_solutions vs d g k) m)) →
-      SameBag (rows_after vs d rows right k) (solutions vs d g (extended G k))
-  after_side (joined A) r =
-      SameBag-trans (flat_map (partners vs d right) rows) (joins rows (solutions vs d g A)) (joins (solutions vs d g G) (solutions vs d g A))
-      (all_give (has_length (length vs)) (partners vs d right) (merges (solutions vs d g A)) rows wide (λ m e. r m (length_from (length vs) m e)))
-      (SameBag-joins rows (solutions vs d g G) (solutions vs d g A) (solutions vs d g A) h (SameBag-refl (solutions vs d g A)))
-  after_side (optional F A) r =
-      SameBag-trans (flat_map (λ m. or_alone m (filter (satisfies vs F) (partners vs d right m))) rows)
-      (left_joins rows (solutions vs d g A) (satisfies vs F)) (left_joins (solutions vs d g G) (solutions vs d g A) (satisfies vs F))
-      (all_give (has_length (length vs)) (λ m. or_alone m (filter (satisfies vs F) (partners vs d right m)))
-      (λ m. or_alone m (filter (satisfies vs F) (merges (solutions vs d g A) m))) rows wide
-      (λ m e. SameBag-or_alone m (filter (satisfies vs F) (partners vs d right m)) (filter (satisfies vs F) (merges (solutions vs d g A) m))
-      (SameBag-filter (satisfies vs F) (partners vs d right m) (merges (solutions vs d g A) m) (r m (length_from (length vs) m e)))))
-      (SameBag-left_joins (satisfies vs F) rows (solutions vs d g G) (solutions vs d g A) (solutions vs d g A) h (SameBag-refl (solutions vs d g A)))
-
 -- ---- the names tried
 
-times_once : (c k : ℕ) (b : Bool) → c ≡ one b → c * k ≡ cond b k 0
+pub times_once : (c k : ℕ) (b : Bool) → c ≡ one b → c * k ≡ cond b k 0
 times_once c k true e = ap (λ n. n * k) e ∙ omega arith
 times_once c k false e = ap (λ n. n * k) e ∙ omega arith
 
-sum_times : {X : Type 0} (q : X → Bool) (k : ℕ) (xs : List X) → sum_by (λ x. cond (q x) k 0) xs ≡ count_by q xs * k
+pub sum_times : {X : Type 0} (q : X → Bool) (k : ℕ) (xs : List X) → sum_by (λ x. cond (q x) k 0) xs ≡ count_by q xs * k
 sum_times q k [] = omega arith
 sum_times q k (x ∷ xs) =
     sum_by-cons (λ y. cond (q y) k 0) x xs ∙ ap (λ n. cond (q x) k 0 + n) (sum_times q k xs) ∙ by_test (q x)
@@ -242,26 +220,26 @@ module _ (vs : Variables) (s : State) (d : Listing) (l : Lists s d) (b : BasicGr
         by_test true = inner_bag (Named (t.Iri iri)) m e
         by_test false = SameBag-refl []
 
--- ---- sides
+-- ---- members that are looked up
+
+pub some_weaker : {X : Type 0} (o : Option X) (P Q : X → Type 0) → ((x : X) → P x → Q x) → IfSome o P → IfSome o Q
+some_weaker None P Q h k = k
+some_weaker (Some x) P Q h k = h x k
 
 module _ (vs : Variables) (s : State) where
   pub graph_look_up : (name : VarOrIri) (p : Pattern) (b : BasicGraphPattern) (graphs : Graphs) (l : LookUp) → HoldsJust p b →
       ((d : Listing) → Lists s d → graphs ≡ graphs_of d.names name) → l ≡ look_up_in vs graphs b → (active : GraphName) →
-      IsSideOf vs s (side.LookUp l) (λ d. solutions vs d active (graph name (translation p)))
+      IsLookUpOf vs s l (λ d. solutions vs d active (graph name (translation p)))
   graph_look_up name p b graphs l h e is active d k m w f =
       ap (λ (u : LookUp). sum_by f (found vs d u m)) is ∙ ap (λ (gs : Graphs). sum_by f (found vs d (look_up_in vs gs b) m)) (e d k)
       ∙ graph_bag vs s d k b (graphs_of d.names name) p h name active m w f
 
   pub basic_look_up : (g : GraphName) (member : Member) (b : BasicGraphPattern) (graphs : Graphs) (own : GraphName) (l : LookUp) → member ≡ m.Basic b →
-      graphs ≡ One own → own ≡ g → l ≡ look_up_in vs graphs b → IsSideOf vs s (side.LookUp l) (λ d. element_solutions vs d g (element member))
+      graphs ≡ One own → own ≡ g → l ≡ look_up_in vs graphs b → IsLookUpOf vs s l (λ d. element_solutions vs d g (element member))
   basic_look_up g member b graphs own l em eg eo is d k m w f =
       ap (λ (u : LookUp). sum_by f (found vs d u m)) (is ∙ ap (λ (gs : Graphs). look_up_in vs gs b) (eg ∙ ap One eo))
       ∙ in_bag vs s d k b (One g) g m w f
       ∙ ap (λ (x : Element). sum_by f (merges (element_solutions vs d g x) m)) (sym (ap element em ∙ element-Basic b))
-
-  pub rows_side : (rows items : List Mapping) (F : Listing → List Mapping) → AreSolutions s rows F → items ≡ rows → IsSideOf vs s (side.Rows items) F
-  rows_side rows items F h e d l m w f =
-      ap (λ (xs : List Mapping). sum_by f (merges xs m)) e ∙ SameBag-merges m rows (F d) (h d l) f
 
   -- OPTIONAL's group of one member
   lone_is : (members : List Member) (x : Member) → lone_joined members ≡ Some x → members ≡ x ∷ []
@@ -278,26 +256,21 @@ module _ (vs : Variables) (s : State) where
   joined_bag d g x y (joined A) h f = sym (unit_bag vs d g A f)
   joined_bag d g x y (optional F A) h f = cc
 
-  pub lone_side : (g : GraphName) (members : List Member) (x : Member) (right : Side) → lone_joined members ≡ Some x →
-      IsSideOf vs s right (λ d. element_solutions vs d g (element x)) → IsSideOf vs s right (λ d. solutions vs d g (group_of (map element members)))
-  lone_side g members x right e r d l m w f =
-      let is : members ≡ x ∷ [] = lone_is members x e in
-      r d l m w f
+  pub optional_look_up : (g : GraphName) (member : Member) (p : Pattern) (given : List Member) (x : Member) (l : LookUp) → member ≡ m.Optional p → given ≡ p.members →
+      lone_joined given ≡ Some x → IsLookUpOf vs s l (λ d. element_solutions vs d g (element x)) → IsLookUpOf vs s l (λ d. element_solutions vs d g (element member))
+  optional_look_up g member p given x l em es e r d k m w f =
+      let is : given ≡ x ∷ [] = lone_is given x e in
+      r d k m w f
       ∙ SameBag-merges m (element_solutions vs d g (element x)) (solutions vs d g (extended empty_pattern (element x)))
       (joined_bag d g x x (element x) (ap lone_joined (sym is) ∙ e)) f
-      ∙ ap (λ (ms : List Member). sum_by f (merges (solutions vs d g (group_of (map element ms))) m)) (sym is)
+      ∙ ap (λ (ms : List Member). sum_by f (merges (solutions vs d g (group_of (map element ms))) m)) (sym is ∙ es)
+      ∙ ap (λ (y : Element). sum_by f (merges (element_solutions vs d g y) m)) (sym (ap element em ∙ element-Optional p))
 
-  pub optional_member : (g : GraphName) (member : Member) (p : Pattern) (members : List Member) (right : Side) → member ≡ m.Optional p → members ≡ p.members →
-      IsSideOf vs s right (λ d. solutions vs d g (group_of (map element members))) → IsSideOf vs s right (λ d. element_solutions vs d g (element member))
-  optional_member g member p members right em es h d l m w f =
-      h d l m w f ∙ ap (λ (ms : List Member). sum_by f (merges (solutions vs d g (group_of (map element ms))) m)) es
-      ∙ ap (λ (x : Element). sum_by f (merges (element_solutions vs d g x) m)) (sym (ap element em ∙ element-Optional p))
-
-  pub graph_member : (g : GraphName) (member : Member) (name : VarOrIri) (p : Pattern) (right : Side) → member ≡ m.Graph name p →
-      ((active : GraphName) → IsSideOf vs s right (λ d. solutions vs d active (graph name (translation p)))) →
-      IsSideOf vs s right (λ d. element_solutions vs d g (element member))
-  graph_member g member name p right em h d l m w f =
-      h g d l m w f ∙ ap (λ (x : Element). sum_by f (merges (element_solutions vs d g x) m)) (sym (ap element em ∙ element-Graph name p))
+  pub look_up_member : (g : GraphName) (member : Member) (name : VarOrIri) (p : Pattern) (l : LookUp) → member ≡ m.Graph name p →
+      ((active : GraphName) → IsLookUpOf vs s l (λ d. solutions vs d active (graph name (translation p)))) →
+      IsLookUpOf vs s l (λ d. element_solutions vs d g (element member))
+  look_up_member g member name p l em h d k m w f =
+      h g d k m w f ∙ ap (λ (x : Element). sum_by f (merges (element_solutions vs d g x) m)) (sym (ap element em ∙ element-Graph name p))
 
 -- ---- what the steps give
 
@@ -322,11 +295,6 @@ module _ (vs : Variables) (s : State) (l : LookUp) (name : List ℕ) (m : Mappin
       (λ n. SameBag-refl (found_under vs d l name m n)) f
       ∙ ap (λ (x : Option Term). sum_by f (flat_map (found_under vs d l name m) (tried d.names x))) (ev ∙ ap (value_in m) ec)
       ∙ ap (λ (gs : Graphs). sum_by f (found_among vs d l gs m)) (sym eg)
-
-pub kept_gives : (s : State) (F : Mapping → Bool) (m : Mapping) (rows kept out : List Mapping) (G : Listing → List Mapping) → AreSolutions s rows G → kept ≡ filter F rows →
-    out ≡ or_alone m kept → AreSolutions s out (λ d. or_alone m (filter F (G d)))
-kept_gives s F m rows kept out G h ek eo d l f =
-    ap (sum_by f) (eo ∙ ap (or_alone m) ek) ∙ SameBag-or_alone m (filter F rows) (filter F (G d)) (SameBag-filter F rows (G d) (h d l)) f
 
 -- all of them are done
 pub done_gives : {X : Type 0} (s : State) (F : Listing → X → List Mapping) (xs : List X) (i : ℕ) (out : List Mapping) → length xs ≤ i →

@@ -3,3 +3,4 @@ pub mod LookUps
 pub mod Matching
 pub mod Sides
 pub mod Members
+pub mod Under

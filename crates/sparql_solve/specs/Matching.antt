@@ -1,5 +1,5 @@
 -- How a basic graph pattern is matched: one triple pattern after another, under each mapping so far.
-use Rattle.std.specs.Prelude.{◌≡◌, ℕ, ◌+◌, Bool, ◌&&◌, cond, List, length, Option, Some, None, slice_get, slice_set, option_and_then}
+use Rattle.std.specs.Prelude.{◌≡◌, ℕ, ◌+◌, Bool, false, ◌&&◌, ◌||◌, cond, List, length, Option, Some, None, nat_eq, slice_get, slice_set, option_and_then}
 use Rattle.std.specs.List.{fold, filter_map, flat_map}
 use Rattle.std.specs.FinSet as set
 use Rattle.rdf_terms.specs.Quad.{QuadParts}
@@ -31,6 +31,16 @@ places_of vs p = record {
   predicate = place_of vs (var_or_term p.predicate);
   object = place_of vs p.object;
 }
+
+-- the place is the column
+abbrev pub is_place_at : ℕ → Place → Bool
+is_place_at at (Fixed t) = false
+is_place_at at (Column c) = nat_eq at c
+is_place_at at Nowhere = false
+
+-- one of the places is the column
+abbrev pub has_column : ℕ → Places → Bool
+has_column at p = is_place_at at p.subject || (is_place_at at p.predicate || is_place_at at p.object)
 
 abbrev pub assigned_at : Mapping → ℕ → Term → Option (Option Term) → Option Mapping
 assigned_at m c u (Some (Some t)) = cond (same_term t u) (Some m) None

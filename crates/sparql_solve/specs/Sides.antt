@@ -1,4 +1,4 @@
--- The right side of a join: solutions that were found alone, or what is looked up under each left solution.
+-- Look-ups of the right side of a join under each left solution.
 use Rattle.std.specs.Prelude.{◌≡◌, ℕ, Bool, List, [], ◌∷◌, length, Option, Some, None, cond, map, filter}
 use Rattle.std.specs.List.{flat_map, list_any}
 use Rattle.rdf_terms.specs.declared.term.Term.{Term}
@@ -20,8 +20,6 @@ use Rattle.sparql_algebra.specs.Solutions.{merges, or_alone, satisfies}
 use Rattle.sparql_solve.specs.declared.look_ups.Graphs.{Graphs}
 use Rattle.sparql_solve.specs.declared.look_ups.Graphs.TheVariants.{One, Missing, Each}
 use Rattle.sparql_solve.specs.declared.look_ups.LookUp.{LookUp}
-use Rattle.sparql_solve.specs.declared.sides.Side.{Side}
-use Rattle.sparql_solve.specs.declared.sides.Side.TheVariants as side
 use Rattle.sparql_solve.specs.Matching.{places_of}
 use Rattle.sparql_solve.specs.LookUps.{looked_up}
 
@@ -60,27 +58,6 @@ module _ (vs : Variables) (d : Listing) where
   -- what is found under a mapping
   abbrev pub found : LookUp → Mapping → List Mapping
   found l m = found_among l l.graphs m
-
-  -- what a side has for a left mapping
-  abbrev pub partners : Side → Mapping → List Mapping
-  partners (side.Rows rows) m = merges rows m
-  partners (side.LookUp l) m = found l m
-
-  abbrev pub joins_with : List Mapping → Side → List Mapping
-  joins_with rows right = flat_map (partners right) rows
-
-  abbrev pub left_joins_with : List Mapping → Side → (Mapping → Bool) → List Mapping
-  left_joins_with rows right F = flat_map (λ m. or_alone m (filter F (partners right m))) rows
-
-  -- the rows after an element, whose side this is
-  abbrev pub rows_after : List Mapping → Side → Element → List Mapping
-  rows_after rows right (joined A) = joins_with rows right
-  rows_after rows right (optional F A) = left_joins_with rows right (satisfies vs F)
-
--- for each mapping of the variables the side has the merges with these solutions, each as often
-abbrev pub IsSideOf : Variables → State → Side → (Listing → List Mapping) → Type 0
-IsSideOf vs s right F =
-    (d : Listing) → Lists s d → (m : Mapping) → length m ≡ length vs → SameBag (partners vs d right m) (merges (F d) m)
 
 -- ---- groups of one member
 

@@ -1,128 +1,32 @@
-//! The evaluator: a group's members from left to right (SPARQL 1.1 Query, section 18.6). A basic
-//! graph pattern is looked up under each row so far; every other member is evaluated alone.
-ghost use Rattle.std.specs.Prelude.{◌≡◌, ◌++◌, ◌∷◌, [], IfOk, IfSome, OnOk, Some, map, replicate, length, None, cond};
-ghost use Rattle.std.specs.List.{list_any};
-ghost use Rattle.std.specs.Option.{option_copied};
+//! The evaluator: a group's members from left to right, each found under the rows so far (SPARQL
+//! 1.1 Query, section 18.6). Every function answers what is compatible with the row above it.
+ghost use Rattle.std.specs.Prelude.{◌≡◌, ◌&&◌, ◌∷◌, [], IfOk, IfSome, None, cond, length, map, replicate, take};
+ghost use Rattle.std.specs.List.{flat_map, list_any};
 ghost use Rattle.rdf_terms.specs.declared.quad.GraphName.TheVariants.{Named};
 ghost use Rattle.rdf_terms.specs.declared.quad.GraphName.{GraphName};
-ghost use Rattle.sparql_trees.specs.declared.pattern.BasicGraphPattern.{BasicGraphPattern};
 ghost use Rattle.sparql_algebra.specs.Algebra.{element, graph, group_of, translation, union_of};
-ghost use Rattle.sparql_values.specs.Mapping.{same_term, single};
-ghost use Rattle.sparql_algebra.specs.Solutions.{joins, solutions};
-ghost use Rattle.sparql_solve.specs.Sides.{HoldsJust, IsSideOf, lone_joined, rows_after};
-ghost use Rattle.sparql_solve.specs.Members.{AreSolutions, element_solutions, over_groups, over_names};
+ghost use Rattle.sparql_algebra.specs.Solutions.{solutions};
+ghost use Rattle.sparql_solve.specs.Members.{AreSolutions, element_solutions};
+ghost use Rattle.sparql_values.specs.Mapping.{same_term};
+ghost use Rattle.sparql_solve.specs.Under.{AreMade, AreUnder, IsLookUpOf, asked, is_joined, is_unit, masked, under_name};
 
+use crate::basic::basic_under;
+use crate::counted::Counted;
 use crate::filters::filtered_rows;
-use crate::joins::join;
-use crate::look_ups::{Graphs, graph_names, graphs_of, is_named, look_up_in};
+use crate::look_ups::{LookUp, is_named};
+use crate::members::{is_joined, look_up_of};
+use crate::names::{names_under, rows_of_names};
 use crate::rows::Row;
 use crate::shapes::group_reads;
-use crate::sides::{Side, join_side, left_join_side};
+use crate::sharing::{asked_columns, gather, is_slow, serves};
+use crate::sides::{Found, Made, asked, made_rows, rows_beside, rows_looked_up, rows_with};
 use rdf_dataset::Source;
-use rdf_terms::{GraphName, Items, NoMemory, Term, Text, Vocabulary};
-use sparql_trees::{BasicGraphPattern, Member, Pattern, VarOrIri};
+use rdf_terms::{GraphName, NoMemory, Term, Text, Vocabulary};
+use sparql_trees::{Member, Pattern, VarOrIri};
 use std::alloc::Global;
+use std::cell::Cell;
 
-// The solution of the empty pattern: the row that binds nothing.
-fn unit_rows(alloc: Global, variables: &[Text]) -> Result<Vec<Row>, NoMemory>
-    ensures { IfOk result (λ out. out.items ≡ replicate (length variables.now) None ∷ []) }
-{
-    let mut rows = Vec::new(alloc);
-    rows.push(Row::empty(alloc, variables.len(), 0)?)?;
-    Ok(rows)
-}
-
-// The rows after a member of the group, whose side this is. The filters of OPTIONAL's own group are
-// its condition.
-fn rows_after<S: Source>(
-    alloc: Global,
-    variables: &[Text],
-    vocabulary: &Vocabulary,
-    source: &S,
-    rows: &[Row],
-    right: &Side,
-    member: &Member,
-) -> Result<Vec<Row>, NoMemory>
-    ensures { IfOk result (λ out. AreSolutions (S.contents source.now) out.items
-        (λ d. rows_after variables.now d rows.now right.now (element member.now))) }
-{
-    match member {
-        Member::Optional(pattern) => {
-            let filters = pattern.filters.as_slice();
-            left_join_side(alloc, variables, vocabulary, source, rows, right, filters)
-        }
-        _ => join_side(alloc, variables, source, rows, right),
-    }
-}
-
-// The rows that bind one variable alone to these names.
-fn single_rows(
-    alloc: Global,
-    variables: &[Text],
-    variable: &Text,
-    names: &[Term],
-) -> Result<Vec<Row>, NoMemory>
-    ensures { IfOk result (λ out. out.items
-        ≡ map (single variables.now variable.now) names.now) }
-{
-    let mut out = Vec::new(alloc);
-    for name in names {
-        out.push(Row::single(alloc, variables, variable, name)?)?;
-    }
-    Ok(out)
-}
-
-// Adds the rows joined with the one that binds a variable to a name.
-fn push_bound_rows(
-    alloc: Global,
-    rows: &[Row],
-    variables: &[Text],
-    variable: &Text,
-    name: &Term,
-    out: &mut Vec<Row>,
-) -> Result<(), NoMemory>
-    ensures { OnOk result (out.new.items ≡ out.old.items ++ joins rows.now
-        (single variables.now variable.now name.now ∷ [])) }
-{
-    let bound = [Row::single(alloc, variables, variable, name)?];
-    let mut found = join(alloc, rows, &bound)?;
-    out.append(&mut found)?;
-    Ok(())
-}
-
-// The only member, where it isn't OPTIONAL.
-fn lone_joined(members: &[Member]) -> Option<&Member>
-    ensures { option_copied result ≡ lone_joined members.now }
-{
-    let [member] = members else {
-        return None;
-    };
-    match member {
-        Member::Optional(_) => None,
-        _ => Some(member),
-    }
-}
-
-// The basic graph pattern that is all that the group holds.
-fn lone_basic(pattern: &Pattern) -> Option<&BasicGraphPattern>
-    ensures just { IfSome (option_copied result) (λ basic. HoldsJust pattern.now basic) }
-    ensures all { (basic : BasicGraphPattern) → HoldsJust pattern.now basic →
-        option_copied result ≡ Some basic }
-{
-    if !pattern.filters.is_empty() {
-        return None;
-    }
-    let [member] = pattern.members.as_slice() else {
-        return None;
-    };
-    match member {
-        Member::Basic(basic) => Some(basic),
-        _ => None,
-    }
-}
-
-/// The solutions of a group in a graph: those of its members under its own filters.
-#[cycle(evaluate)]
+/// The solutions of a group in a graph.
 pub(crate) fn group_rows<S: Source>(
     alloc: Global,
     variables: &[Text],
@@ -134,84 +38,385 @@ pub(crate) fn group_rows<S: Source>(
     ensures { IfOk result (λ out. AreSolutions (S.contents source.now) out.items
         (λ d. solutions variables.now d graph.now (translation pattern.now))) }
 {
+    let nothing = Row::empty(alloc, variables.len(), 0)?;
+    let looked = Cell::new(0);
+    let counted = Counted {
+        source,
+        looked: &looked,
+    };
+    group_under(
+        alloc, variables, vocabulary, graph, &counted, &looked, pattern, &nothing,
+    )
+}
+
+// The solution of the empty pattern: the row that binds nothing.
+fn unit_rows(alloc: Global, variables: &[Text]) -> Result<Vec<Row>, NoMemory>
+    ensures { IfOk result (λ out. out.items ≡ replicate (length variables.now) None ∷ []) }
+{
+    let mut rows = Vec::new(alloc);
+    rows.push(Row::empty(alloc, variables.len(), 0)?)?;
+    Ok(rows)
+}
+
+// Whether there is one row alone, which binds nothing.
+fn is_unit(rows: &[Row]) -> bool
+    ensures { result ≡ is_unit rows.now }
+{
+    match rows {
+        [row] => row.is_unbound(),
+        _ => false,
+    }
+}
+
+// Whether the member is joined to the row that binds nothing, as the first one of a group is.
+fn is_first(rows: &[Row], member: &Member) -> bool
+    ensures { result ≡ (is_unit rows.now && is_joined (element member.now)) }
+{
+    is_unit(rows) && is_joined(member)
+}
+
+// The look-ups by which a member is found under rows: all that OPTIONAL has, since it is found
+// under the row alone, and those of other members where the row above binds nothing.
+fn direct_look_up<S: Source>(
+    alloc: Global,
+    variables: &[Text],
+    graph: &GraphName,
+    source: &S,
+    member: &Member,
+    under: &Row,
+) -> Result<Option<LookUp>, NoMemory>
+    ensures { IfOk result (λ found. IfSome found (λ look_up.
+        IsLookUpOf variables.now (S.contents source.now) look_up
+        (λ d. element_solutions variables.now d graph.now (element member.now)))) }
+{
+    if is_joined(member) && !under.is_unbound() {
+        return Ok(None);
+    }
+    look_up_of(alloc, variables, graph, source, member)
+}
+
+// A group: its members under its own filters, which are asked of its own rows.
+#[cycle(follow)]
+fn group_under<S: Source>(
+    alloc: Global,
+    variables: &[Text],
+    vocabulary: &Vocabulary,
+    graph: &GraphName,
+    source: &S,
+    looked: &Cell<u64>,
+    pattern: &Pattern,
+    under: &Row,
+) -> Result<Vec<Row>, NoMemory>
+    ensures { IfOk result (λ out. AreUnder variables.now (S.contents source.now) under.now out.items
+        (λ d. solutions variables.now d graph.now (translation pattern.now))) }
+{
     let members = pattern.members.as_slice();
-    let rows = member_list_rows(alloc, variables, vocabulary, graph, source, members)?;
+    let rows = members_under(
+        alloc, variables, vocabulary, graph, source, looked, members, under,
+    )?;
     let filters = pattern.filters.as_slice();
     filtered_rows(alloc, variables, vocabulary, rows, filters)
 }
 
-// The solutions of the members, from left to right.
-#[cycle(evaluate)]
-fn member_list_rows<S: Source>(
+// The members, from left to right.
+#[cycle(follow)]
+fn members_under<S: Source>(
     alloc: Global,
     variables: &[Text],
     vocabulary: &Vocabulary,
     graph: &GraphName,
     source: &S,
+    looked: &Cell<u64>,
     members: &[Member],
+    under: &Row,
 ) -> Result<Vec<Row>, NoMemory>
-    ensures { IfOk result (λ out. AreSolutions (S.contents source.now) out.items
+    ensures { IfOk result (λ out. AreUnder variables.now (S.contents source.now) under.now out.items
         (λ d. solutions variables.now d graph.now (group_of (map element members.now)))) }
 {
     let mut rows = unit_rows(alloc, variables)?;
     for member in members {
-        let right = side_of(alloc, variables, vocabulary, graph, source, member)?;
-        rows = rows_after(alloc, variables, vocabulary, source, &rows, &right, member)?;
+        rows = rows_after(
+            alloc, variables, vocabulary, graph, source, looked, rows, member, under,
+        )?;
     }
     Ok(rows)
 }
 
-// The solutions of each group, one after another.
-#[cycle(evaluate)]
-fn group_list_rows<S: Source>(
+// The rows after a member of the group.
+#[cycle(follow)]
+fn rows_after<S: Source>(
     alloc: Global,
     variables: &[Text],
     vocabulary: &Vocabulary,
     graph: &GraphName,
     source: &S,
-    groups: &[Pattern],
+    looked: &Cell<u64>,
+    mut rows: Vec<Row>,
+    member: &Member,
+    under: &Row,
 ) -> Result<Vec<Row>, NoMemory>
-    ensures { IfOk result (λ out. AreSolutions (S.contents source.now) out.items
-        (λ d. over_groups variables.now d graph.now groups.now)) }
+    ensures { IfOk result (λ out. AreMade variables.now (S.contents source.now) graph.now under.now
+        (element member.now) rows.items out.items) }
 {
-    let mut out = Vec::new(alloc);
-    for group in groups {
-        let mut found = group_rows(alloc, variables, vocabulary, graph, source, group)?;
-        out.append(&mut found)?;
+    let direct = direct_look_up(alloc, variables, graph, source, member, under)?;
+    if let Some(look_up) = direct {
+        let made = rows_looked_up(
+            alloc, variables, vocabulary, source, looked, &rows, &look_up, member, under,
+        )?;
+        return with_the_rest(
+            alloc, variables, vocabulary, graph, source, looked, &rows, made, member, under,
+        );
     }
+    if is_first(&rows, member) {
+        return member_under(
+            alloc, variables, vocabulary, graph, source, looked, member, under,
+        );
+    }
+    let flags = asked_columns(alloc, variables, member, rows.len())?;
+    gather(&mut rows, &flags)?;
+    let made = rows_followed(
+        alloc, variables, vocabulary, graph, source, looked, &rows, &flags, member, under,
+    )?;
+    with_the_rest(
+        alloc, variables, vocabulary, graph, source, looked, &rows, made, member, under,
+    )
+}
+
+// What a member makes of rows one after another, found for what they have at the columns that it
+// asks for; rows that have the same there share what was found.
+#[cycle(follow)]
+fn rows_followed<S: Source>(
+    alloc: Global,
+    variables: &[Text],
+    vocabulary: &Vocabulary,
+    graph: &GraphName,
+    source: &S,
+    looked: &Cell<u64>,
+    rows: &[Row],
+    flags: &[bool],
+    member: &Member,
+    under: &Row,
+) -> Result<Made, NoMemory>
+    requires { length flags.now ≡ length variables.now }
+    ensures { IfOk result (λ m. AreMade variables.now (S.contents source.now) graph.now under.now
+        (element member.now) (take m.done rows.now) m.rows.items) }
+{
+    let before = looked.get();
+    let mut out = Vec::new(alloc);
+    let Some(first) = rows.first() else {
+        return Ok(Made { rows: out, done: 0 });
+    };
+    let mut found = found_for(
+        alloc, variables, vocabulary, graph, source, looked, first, flags, member, under,
+    )?;
+    for done in 0..rows.len() {
+        let row = &rows[done];
+        let is_shared = serves(&found.columns, row, flags);
+        let taken = looked.get().saturating_sub(before);
+        if !is_shared && is_slow(taken, done, rows.len(), out.len()) {
+            return Ok(Made { rows: out, done });
+        }
+        if !is_shared {
+            found = found_for(
+                alloc, variables, vocabulary, graph, source, looked, row, flags, member, under,
+            )?;
+        }
+        let mut made = made_rows(
+            alloc,
+            variables,
+            vocabulary,
+            row,
+            &found.rows,
+            member,
+            under,
+        )?;
+        out.append(&mut made)?;
+    }
+    Ok(Made {
+        rows: out,
+        done: rows.len(),
+    })
+}
+
+// What is found for a row: under what it has at the columns that are asked for.
+#[cycle(follow)]
+fn found_for<S: Source>(
+    alloc: Global,
+    variables: &[Text],
+    vocabulary: &Vocabulary,
+    graph: &GraphName,
+    source: &S,
+    looked: &Cell<u64>,
+    row: &Row,
+    flags: &[bool],
+    member: &Member,
+    under: &Row,
+) -> Result<Found, NoMemory>
+    ensures columns { IfOk result (λ f. f.columns ≡ masked flags.now row.now) }
+    ensures rows { IfOk result (λ f. AreUnder variables.now (S.contents source.now)
+        (asked (element member.now) under.now f.columns) f.rows.items
+        (λ d. element_solutions variables.now d graph.now (element member.now))) }
+{
+    let columns = row.masked(alloc, flags)?;
+    let asked = asked(alloc, member, under, &columns)?;
+    let rows = member_under(
+        alloc, variables, vocabulary, graph, source, looked, member, &asked,
+    )?;
+    Ok(Found { columns, rows })
+}
+
+// What was made of the first rows, and what the member makes of the others, for which it is found
+// once and joined.
+#[cycle(follow)]
+fn with_the_rest<S: Source>(
+    alloc: Global,
+    variables: &[Text],
+    vocabulary: &Vocabulary,
+    graph: &GraphName,
+    source: &S,
+    looked: &Cell<u64>,
+    rows: &[Row],
+    made: Made,
+    member: &Member,
+    under: &Row,
+) -> Result<Vec<Row>, NoMemory>
+    ensures { IfOk result (λ out.
+        AreMade variables.now (S.contents source.now) graph.now under.now (element member.now)
+        (take made.done rows.now) made.rows.items →
+        AreMade variables.now (S.contents source.now) graph.now under.now (element member.now)
+        rows.now out.items) }
+{
+    if rows.len() <= made.done {
+        return Ok(made.rows);
+    }
+    let rest = &rows[made.done..];
+    let nothing = Row::empty(alloc, variables.len(), 0)?;
+    let asked = asked(alloc, member, under, &nothing)?;
+    let found = member_under(
+        alloc, variables, vocabulary, graph, source, looked, member, &asked,
+    )?;
+    let mut beside = rows_beside(alloc, variables, vocabulary, rest, &found, member, under)?;
+    let mut out = made.rows;
+    out.append(&mut beside)?;
     Ok(out)
 }
 
-// The solutions of groups with UNION between them, or of one alone.
-#[cycle(evaluate)]
-fn union_rows<S: Source>(
+// The solutions of a member, of OPTIONAL without its group's filters.
+#[cycle(follow)]
+fn member_under<S: Source>(
     alloc: Global,
     variables: &[Text],
     vocabulary: &Vocabulary,
     graph: &GraphName,
     source: &S,
-    groups: &[Pattern],
+    looked: &Cell<u64>,
+    member: &Member,
+    under: &Row,
 ) -> Result<Vec<Row>, NoMemory>
-    ensures { IfOk result (λ out. AreSolutions (S.contents source.now) out.items
+    ensures { IfOk result (λ out. AreUnder variables.now (S.contents source.now) under.now out.items
+        (λ d. element_solutions variables.now d graph.now (element member.now))) }
+{
+    match member {
+        Member::Basic(basic) => basic_under(alloc, variables, graph, source, basic, under),
+        Member::Union(groups) => {
+            let groups = groups.as_slice();
+            union_under(
+                alloc, variables, vocabulary, graph, source, looked, groups, under,
+            )
+        }
+        Member::Optional(pattern) => {
+            let members = pattern.members.as_slice();
+            members_under(
+                alloc, variables, vocabulary, graph, source, looked, members, under,
+            )
+        }
+        Member::Graph(name, pattern) => graph_under(
+            alloc, variables, vocabulary, name, source, looked, pattern, under,
+        ),
+    }
+}
+
+// Groups with UNION between them, one after another, or one alone.
+#[cycle(follow)]
+fn union_under<S: Source>(
+    alloc: Global,
+    variables: &[Text],
+    vocabulary: &Vocabulary,
+    graph: &GraphName,
+    source: &S,
+    looked: &Cell<u64>,
+    groups: &[Pattern],
+    under: &Row,
+) -> Result<Vec<Row>, NoMemory>
+    ensures { IfOk result (λ out. AreUnder variables.now (S.contents source.now) under.now out.items
         (λ d. solutions variables.now d graph.now (union_of (map translation groups.now)))) }
 {
     if groups.is_empty() {
         return unit_rows(alloc, variables);
     }
-    group_list_rows(alloc, variables, vocabulary, graph, source, groups)
+    let mut out = Vec::new(alloc);
+    for group in groups {
+        let mut found = group_under(
+            alloc, variables, vocabulary, graph, source, looked, group, under,
+        )?;
+        out.append(&mut found)?;
+    }
+    Ok(out)
 }
 
-// The solutions of GRAPH with an IRI: none where no graph has that name.
-#[cycle(evaluate)]
-fn named_graph_rows<S: Source>(
+// GRAPH, whichever graph is the active one. It sets the active graph, so with a variable a group
+// whose triple patterns all stand in GRAPH is found once for all names.
+#[cycle(follow)]
+fn graph_under<S: Source>(
+    alloc: Global,
+    variables: &[Text],
+    vocabulary: &Vocabulary,
+    name: &VarOrIri,
+    source: &S,
+    looked: &Cell<u64>,
+    pattern: &Pattern,
+    under: &Row,
+) -> Result<Vec<Row>, NoMemory>
+    ensures { IfOk result (λ out. (active : GraphName) →
+        AreUnder variables.now (S.contents source.now) under.now out.items
+        (λ d. solutions variables.now d active (graph name.now (translation pattern.now)))) }
+{
+    match name {
+        VarOrIri::Iri(iri) => {
+            let name = Term::Iri(iri.copy()?);
+            named_under(
+                alloc, variables, vocabulary, name, source, looked, pattern, under,
+            )
+        }
+        VarOrIri::Variable(variable) => {
+            let names = names_under(alloc, variables, variable, source, under)?;
+            if group_reads(pattern) {
+                return each_under(
+                    alloc, variables, vocabulary, variable, &names, source, looked, pattern, under,
+                );
+            }
+            let active = GraphName::Default;
+            let rows = group_under(
+                alloc, variables, vocabulary, &active, source, looked, pattern, under,
+            )?;
+            rows_of_names(alloc, variables, variable, &names, &rows, under)
+        }
+    }
+}
+
+// GRAPH with an IRI: nothing where no graph has that name.
+#[cycle(follow)]
+fn named_under<S: Source>(
     alloc: Global,
     variables: &[Text],
     vocabulary: &Vocabulary,
     name: Term,
     source: &S,
+    looked: &Cell<u64>,
     pattern: &Pattern,
+    under: &Row,
 ) -> Result<Vec<Row>, NoMemory>
-    ensures { IfOk result (λ out. AreSolutions (S.contents source.now) out.items
+    ensures { IfOk result (λ out. AreUnder variables.now (S.contents source.now) under.now out.items
         (λ d. cond (list_any (same_term name) d.names)
         (solutions variables.now d (Named name) (translation pattern.now)) [])) }
 {
@@ -219,160 +424,38 @@ fn named_graph_rows<S: Source>(
         return Ok(Vec::new(alloc));
     }
     let graph = GraphName::Named(name);
-    group_rows(alloc, variables, vocabulary, &graph, source, pattern)
+    group_under(
+        alloc, variables, vocabulary, &graph, source, looked, pattern, under,
+    )
 }
 
-// The solutions in the graphs of these names, the variable bound to the name.
-#[cycle(evaluate)]
-fn each_graph_rows<S: Source>(
+// In the graphs of these names, under the row and the name, to which the variable is bound.
+#[cycle(follow)]
+fn each_under<S: Source>(
     alloc: Global,
     variables: &[Text],
     vocabulary: &Vocabulary,
     variable: &Text,
     names: &[Term],
     source: &S,
+    looked: &Cell<u64>,
     pattern: &Pattern,
+    under: &Row,
 ) -> Result<Vec<Row>, NoMemory>
-    ensures { IfOk result (λ out. AreSolutions (S.contents source.now) out.items
-        (λ d. over_names variables.now d variable.now (translation pattern.now) names.now)) }
+    ensures { IfOk result (λ out. length under.now ≡ length variables.now →
+        AreSolutions (S.contents source.now) out.items (λ d. flat_map (under_name variables.now d
+        variable.now (translation pattern.now) under.now) names.now)) }
 {
     let mut out = Vec::new(alloc);
     for name in names {
+        let bound = Row::single(alloc, variables, variable, name)?;
+        let both = under.merged(alloc, &bound)?;
         let graph = GraphName::Named(name.copy()?);
-        let rows = group_rows(alloc, variables, vocabulary, &graph, source, pattern)?;
-        push_bound_rows(alloc, &rows, variables, variable, name, &mut out)?;
+        let found = group_under(
+            alloc, variables, vocabulary, &graph, source, looked, pattern, &both,
+        )?;
+        let mut with_name = rows_with(alloc, &found, &bound)?;
+        out.append(&mut with_name)?;
     }
     Ok(out)
-}
-
-// The solutions of GRAPH with a variable: those in all named graphs. GRAPH sets the active graph,
-// so a group whose triple patterns all stand in GRAPH is found once for all names.
-#[cycle(evaluate)]
-fn all_graph_rows<S: Source>(
-    alloc: Global,
-    variables: &[Text],
-    vocabulary: &Vocabulary,
-    variable: &Text,
-    source: &S,
-    pattern: &Pattern,
-) -> Result<Vec<Row>, NoMemory>
-    ensures { IfOk result (λ out. AreSolutions (S.contents source.now) out.items
-        (λ d. over_names variables.now d variable.now (translation pattern.now) d.names)) }
-{
-    let names = graph_names(alloc, source)?;
-    if group_reads(pattern) {
-        return each_graph_rows(
-            alloc, variables, vocabulary, variable, &names, source, pattern,
-        );
-    }
-    let active = GraphName::Default;
-    let rows = group_rows(alloc, variables, vocabulary, &active, source, pattern)?;
-    let bound = single_rows(alloc, variables, variable, &names)?;
-    join(alloc, &rows, &bound)
-}
-
-// The solutions of GRAPH, whichever graph is the active one.
-#[cycle(evaluate)]
-fn graph_rows<S: Source>(
-    alloc: Global,
-    variables: &[Text],
-    vocabulary: &Vocabulary,
-    name: &VarOrIri,
-    source: &S,
-    pattern: &Pattern,
-) -> Result<Vec<Row>, NoMemory>
-    ensures { IfOk result (λ out. (active : GraphName) →
-        AreSolutions (S.contents source.now) out.items
-        (λ d. solutions variables.now d active (graph name.now (translation pattern.now)))) }
-{
-    match name {
-        VarOrIri::Iri(iri) => {
-            named_graph_rows(
-                alloc,
-                variables,
-                vocabulary,
-                Term::Iri(iri.copy()?),
-                source,
-                pattern,
-            )
-        }
-        VarOrIri::Variable(variable) => {
-            all_graph_rows(alloc, variables, vocabulary, variable, source, pattern)
-        }
-    }
-}
-
-// The side of GRAPH, whichever graph is the active one.
-#[cycle(evaluate)]
-fn graph_side<S: Source>(
-    alloc: Global,
-    variables: &[Text],
-    vocabulary: &Vocabulary,
-    name: &VarOrIri,
-    source: &S,
-    pattern: &Pattern,
-) -> Result<Side, NoMemory>
-    ensures { IfOk result (λ side. (active : GraphName) → IsSideOf variables.now
-        (S.contents source.now) side
-        (λ d. solutions variables.now d active (graph name.now (translation pattern.now)))) }
-{
-    if let Some(basic) = lone_basic(pattern) {
-        let graphs = graphs_of(source, name)?;
-        return Ok(Side::LookUp(look_up_in(alloc, variables, graphs, basic)?));
-    }
-    let rows = graph_rows(alloc, variables, vocabulary, name, source, pattern)?;
-    Ok(Side::Rows(Items::from_vec(rows)))
-}
-
-// The side of OPTIONAL, without its group's filters.
-#[cycle(evaluate)]
-fn optional_side<S: Source>(
-    alloc: Global,
-    variables: &[Text],
-    vocabulary: &Vocabulary,
-    graph: &GraphName,
-    source: &S,
-    members: &[Member],
-) -> Result<Side, NoMemory>
-    ensures { IfOk result (λ side. IsSideOf variables.now (S.contents source.now) side
-        (λ d. solutions variables.now d graph.now (group_of (map element members.now)))) }
-{
-    if let Some(member) = lone_joined(members) {
-        return side_of(alloc, variables, vocabulary, graph, source, member);
-    }
-    let alone = member_list_rows(alloc, variables, vocabulary, graph, source, members)?;
-    Ok(Side::Rows(Items::from_vec(alone)))
-}
-
-// The side of a member, of OPTIONAL without its group's filters.
-#[cycle(evaluate)]
-fn side_of<S: Source>(
-    alloc: Global,
-    variables: &[Text],
-    vocabulary: &Vocabulary,
-    graph: &GraphName,
-    source: &S,
-    member: &Member,
-) -> Result<Side, NoMemory>
-    ensures { IfOk result (λ side. IsSideOf variables.now (S.contents source.now) side
-        (λ d. element_solutions variables.now d graph.now (element member.now))) }
-{
-    match member {
-        Member::Basic(basic) => {
-            let graphs = Graphs::One(graph.copy()?);
-            Ok(Side::LookUp(look_up_in(alloc, variables, graphs, basic)?))
-        }
-        Member::Union(groups) => {
-            let groups = groups.as_slice();
-            let rows = union_rows(alloc, variables, vocabulary, graph, source, groups)?;
-            Ok(Side::Rows(Items::from_vec(rows)))
-        }
-        Member::Optional(pattern) => {
-            let members = pattern.members.as_slice();
-            optional_side(alloc, variables, vocabulary, graph, source, members)
-        }
-        Member::Graph(name, pattern) => graph_side(
-            alloc, variables, vocabulary, name, source, pattern,
-        ),
-    }
 }

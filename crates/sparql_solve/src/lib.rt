@@ -5,6 +5,8 @@
 //! nothing, reads no text, and writes none: rows are terms.
 #![tactic(auto)]
 
+mod basic;
+mod counted;
 mod evaluator;
 mod filters;
 mod joins;
@@ -12,11 +14,14 @@ mod keys;
 mod laws;
 mod look_ups;
 mod matching;
+mod members;
+mod names;
 mod order;
 mod place;
 mod results;
 mod rows;
 mod shapes;
+mod sharing;
 mod sides;
 
 pub use keys::runs_give_merges;

@@ -117,8 +117,8 @@ fn rows_in_graph<S: Source>(
     cut_rows(alloc, rows, row.values().len())
 }
 
-// The names that a graph's variable may have, which has this value so far.
-fn tried_names<S: Source>(
+/// The names that a graph's variable may have, which has this value so far.
+pub(crate) fn tried_names<S: Source>(
     alloc: Global,
     source: &S,
     value: Option<Term>,

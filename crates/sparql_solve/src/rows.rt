@@ -5,6 +5,7 @@ ghost use Rattle.sparql_values.specs.Mapping.{agrees, compatible, merge, same_ma
 ghost use Rattle.sparql_algebra.specs.Order.{mapping_cmp};
 ghost use Rattle.sparql_solve.specs.LookUps.{widened};
 ghost use Rattle.sparql_solve.specs.Matching.{assigned, held, vacant};
+ghost use Rattle.sparql_solve.specs.Under.{below, binds_none, lies, masked, shown};
 
 use crate::place::Place;
 use rdf_terms::{NoMemory, Term, Text};
@@ -42,6 +43,28 @@ fn agree(x: &Option<Term>, y: &Option<Term>) -> bool
     match (x, y) {
         (Some(s), Some(t)) => is_same(s, t),
         _ => true,
+    }
+}
+
+// Whether the value is nothing or the same as the other.
+fn lies(x: &Option<Term>, y: &Option<Term>) -> bool
+    ensures { result ≡ lies (x.now, y.now) }
+{
+    match (x, y) {
+        (Some(s), Some(t)) => is_same(s, t),
+        (Some(_), None) => false,
+        (None, _) => true,
+    }
+}
+
+// The value, if it is shown.
+fn shown(value: &Option<Term>, is_shown: bool) -> Result<Option<Term>, NoMemory>
+    ensures { IfOk result (λ copy. copy ≡ shown (value.now, is_shown)) }
+{
+    if is_shown {
+        copy_value(value.as_ref())
+    } else {
+        Ok(None)
     }
 }
 
@@ -100,6 +123,34 @@ impl Row {
         let mut values = Vec::with_capacity(alloc, self.values.len())?;
         for (x, y) in self.values.iter().zip(&other.values) {
             values.push(copy_value(x.as_ref().or(y.as_ref()))?)?;
+        }
+        Ok(Row { values })
+    }
+
+    /// Whether it binds nothing.
+    pub(crate) fn is_unbound(&self) -> bool
+        ensures { result ≡ binds_none self.now }
+    {
+        self.values.iter().all(|value| value.is_none())
+    }
+
+    /// Whether each column is unbound or has what the other row has there.
+    pub(crate) fn is_below(&self, other: &Row) -> bool
+        ensures { result ≡ below self.now other.now }
+    {
+        self.values
+            .iter()
+            .zip(&other.values)
+            .all(|(x, y)| lies(x, y))
+    }
+
+    /// The columns whose flag is up; the others are unbound.
+    pub(crate) fn masked(&self, alloc: Global, flags: &[bool]) -> Result<Row, NoMemory>
+        ensures { IfOk result (λ row. row ≡ masked flags.now self.now) }
+    {
+        let mut values = Vec::with_capacity(alloc, self.values.len())?;
+        for (value, is_shown) in self.values.iter().zip(flags) {
+            values.push(shown(value, *is_shown)?)?;
         }
         Ok(Row { values })
     }

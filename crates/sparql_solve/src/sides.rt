@@ -1,126 +1,232 @@
-//! Join and LeftJoin with a right side that is looked up under each left row, or was found alone
-//! (SPARQL 1.1 Query, section 18.5).
-ghost use Rattle.std.specs.Prelude.{◌≡◌, IfOk, filter};
+//! What members make of rows: of their merges with what was looked up or found for them (SPARQL 1.1
+//! Query, section 18.5).
+ghost use Rattle.std.specs.Prelude.{◌≡◌, IfOk, map, take};
 ghost use Rattle.std.specs.List.{flat_map};
-ghost use Rattle.sparql_algebra.specs.Solutions.{or_alone, satisfies};
-ghost use Rattle.sparql_solve.specs.Sides.{found, joins_with, left_joins_with};
+ghost use Rattle.sparql_algebra.specs.Algebra.{element};
+ghost use Rattle.sparql_algebra.specs.Solutions.{merges};
+ghost use Rattle.sparql_algebra.specs.Under.{agreeing};
+ghost use Rattle.sparql_values.specs.Mapping.{merge};
 ghost use Rattle.sparql_solve.specs.Members.{AreSolutions};
+ghost use Rattle.sparql_solve.specs.Under.{asked, kept, made_by};
 
 use crate::filters::filtered_rows;
 use crate::joins::{join, left_join, or_alone};
-use crate::look_ups::{LookUp, found_rows};
+use crate::look_ups::{Graphs, LookUp, found_rows};
 use crate::rows::Row;
+use crate::sharing::is_slow;
 use rdf_dataset::Source;
-use rdf_terms::{Items, NoMemory, Text, Vocabulary};
-use sparql_trees::Expression;
+use rdf_terms::{NoMemory, Text, Vocabulary};
+use sparql_trees::Member;
 use std::alloc::Global;
+use std::cell::Cell;
 
-/// The right side of a join.
+/// What was made of the first rows, where the others may have been left.
 #[derive(Drop)]
-pub enum Side {
-    /// Its solutions.
-    Rows(Items<Row>),
-    /// What is looked up under each left row.
-    LookUp(LookUp),
+pub(crate) struct Made {
+    pub(crate) rows: Vec<Row>,
+    /// Of how many rows.
+    pub(crate) done: usize,
 }
 
-// Join with what is looked up.
-fn join_look_up<S: Source>(
+/// What was found for rows that have the same where it was asked for.
+#[derive(Drop)]
+pub(crate) struct Found {
+    /// What they have there.
+    pub(crate) columns: Row,
+    pub(crate) rows: Vec<Row>,
+}
+
+/// The rows that are compatible with this one.
+pub(crate) fn compatible_rows(
     alloc: Global,
-    variables: &[Text],
-    source: &S,
-    left: &[Row],
-    look_up: &LookUp,
+    under: &Row,
+    rows: Vec<Row>,
 ) -> Result<Vec<Row>, NoMemory>
-    ensures { IfOk result (λ out. AreSolutions (S.contents source.now) out.items
-        (λ d. flat_map (found variables.now d look_up.now) left.now)) }
+    ensures { IfOk result (λ out. out.items ≡ agreeing rows.items under.now) }
 {
+    if under.is_unbound() {
+        return Ok(rows);
+    }
     let mut out = Vec::new(alloc);
-    for row in left {
-        let mut found = found_rows(alloc, variables, source, look_up, row)?;
-        out.append(&mut found)?;
-    }
-    Ok(out)
-}
-
-// A row's part of LeftJoin with what is looked up.
-fn optional_rows<S: Source>(
-    alloc: Global,
-    variables: &[Text],
-    vocabulary: &Vocabulary,
-    source: &S,
-    row: &Row,
-    look_up: &LookUp,
-    filters: &[Expression],
-) -> Result<Vec<Row>, NoMemory>
-    ensures { IfOk result (λ out. AreSolutions (S.contents source.now) out.items
-        (λ d. or_alone row.now (filter (satisfies variables.now filters.now)
-        (found variables.now d look_up.now row.now)))) }
-{
-    let found = found_rows(alloc, variables, source, look_up, row)?;
-    let kept = filtered_rows(alloc, variables, vocabulary, found, filters)?;
-    or_alone(alloc, row, kept)
-}
-
-// LeftJoin with what is looked up.
-fn left_join_look_up<S: Source>(
-    alloc: Global,
-    variables: &[Text],
-    vocabulary: &Vocabulary,
-    source: &S,
-    left: &[Row],
-    look_up: &LookUp,
-    filters: &[Expression],
-) -> Result<Vec<Row>, NoMemory>
-    ensures { IfOk result (λ out. AreSolutions (S.contents source.now) out.items
-        (λ d. flat_map (λ m. or_alone m (filter (satisfies variables.now filters.now)
-        (found variables.now d look_up.now m))) left.now)) }
-{
-    let mut out = Vec::new(alloc);
-    for row in left {
-        let mut found = optional_rows(alloc, variables, vocabulary, source, row, look_up, filters)?;
-        out.append(&mut found)?;
-    }
-    Ok(out)
-}
-
-/// Join with a side.
-pub(crate) fn join_side<S: Source>(
-    alloc: Global,
-    variables: &[Text],
-    source: &S,
-    left: &[Row],
-    right: &Side,
-) -> Result<Vec<Row>, NoMemory>
-    ensures { IfOk result (λ out. AreSolutions (S.contents source.now) out.items
-        (λ d. joins_with variables.now d left.now right.now)) }
-{
-    match right {
-        Side::Rows(rows) => join(alloc, left, rows.as_slice()),
-        Side::LookUp(look_up) => join_look_up(alloc, variables, source, left, look_up),
-    }
-}
-
-/// LeftJoin with a side, under these filters.
-pub(crate) fn left_join_side<S: Source>(
-    alloc: Global,
-    variables: &[Text],
-    vocabulary: &Vocabulary,
-    source: &S,
-    left: &[Row],
-    right: &Side,
-    filters: &[Expression],
-) -> Result<Vec<Row>, NoMemory>
-    ensures { IfOk result (λ out. AreSolutions (S.contents source.now) out.items
-        (λ d. left_joins_with variables.now d left.now right.now
-        (satisfies variables.now filters.now))) }
-{
-    match right {
-        Side::Rows(rows) => {
-            left_join(alloc, variables, vocabulary, left, rows.as_slice(), filters)
+    for row in rows {
+        if under.is_compatible(&row) {
+            out.push(row)?;
         }
-        Side::LookUp(look_up) => left_join_look_up(
-            alloc, variables, vocabulary, source, left, look_up, filters,
-        ),
     }
+    Ok(out)
+}
+
+/// The rows with what another one binds.
+pub(crate) fn rows_with(alloc: Global, rows: &[Row], bound: &Row) -> Result<Vec<Row>, NoMemory>
+    ensures { IfOk result (λ out. out.items ≡ map (λ x. merge x bound.now) rows.now) }
+{
+    let mut out = Vec::with_capacity(alloc, rows.len())?;
+    for row in rows {
+        out.push(row.merged(alloc, bound)?)?;
+    }
+    Ok(out)
+}
+
+/// Under what a member is found for a row that stands under another one: OPTIONAL under the row
+/// alone.
+pub(crate) fn asked(alloc: Global, member: &Member, under: &Row, row: &Row) -> Result<Row, NoMemory>
+    ensures { IfOk result (λ out. out ≡ asked (element member.now) under.now row.now) }
+{
+    match member {
+        Member::Optional(_) => row.copy(alloc),
+        _ => under.merged(alloc, row),
+    }
+}
+
+// What a member makes of a row, whose merges with what was found for it these are. The filters of
+// OPTIONAL's own group are its condition.
+fn passed_rows(
+    alloc: Global,
+    variables: &[Text],
+    vocabulary: &Vocabulary,
+    row: &Row,
+    merged: Vec<Row>,
+    member: &Member,
+) -> Result<Vec<Row>, NoMemory>
+    ensures { IfOk result (λ out. out.items
+        ≡ kept variables.now (element member.now) row.now merged.items) }
+{
+    match member {
+        Member::Optional(pattern) => {
+            let filters = pattern.filters.as_slice();
+            let passed = filtered_rows(alloc, variables, vocabulary, merged, filters)?;
+            or_alone(alloc, row, passed)
+        }
+        _ => Ok(merged),
+    }
+}
+
+// Of what a member makes of a row what is compatible with the row above.
+fn kept_rows(
+    alloc: Global,
+    variables: &[Text],
+    vocabulary: &Vocabulary,
+    row: &Row,
+    merged: Vec<Row>,
+    member: &Member,
+    under: &Row,
+) -> Result<Vec<Row>, NoMemory>
+    ensures { IfOk result (λ out. out.items
+        ≡ agreeing (kept variables.now (element member.now) row.now merged.items) under.now) }
+{
+    let passed = passed_rows(alloc, variables, vocabulary, row, merged, member)?;
+    compatible_rows(alloc, under, passed)
+}
+
+// The merges of a row with those that are compatible with it.
+fn merges_of(alloc: Global, row: &Row, found: &[Row]) -> Result<Vec<Row>, NoMemory>
+    ensures { IfOk result (λ out. out.items ≡ merges found.now row.now) }
+{
+    let mut out = Vec::new(alloc);
+    for other in found {
+        if row.is_compatible(other) {
+            out.push(row.merged(alloc, other)?)?;
+        }
+    }
+    Ok(out)
+}
+
+/// What a member makes of a row with what was found for it.
+pub(crate) fn made_rows(
+    alloc: Global,
+    variables: &[Text],
+    vocabulary: &Vocabulary,
+    row: &Row,
+    found: &[Row],
+    member: &Member,
+    under: &Row,
+) -> Result<Vec<Row>, NoMemory>
+    ensures { IfOk result (λ out. out.items ≡ agreeing (kept variables.now (element member.now)
+        row.now (merges found.now row.now)) under.now) }
+{
+    let merged = merges_of(alloc, row, found)?;
+    kept_rows(alloc, variables, vocabulary, row, merged, member, under)
+}
+
+// What a member makes of rows, joined by key with what was found for all of them.
+fn joined_rows(
+    alloc: Global,
+    variables: &[Text],
+    vocabulary: &Vocabulary,
+    rows: &[Row],
+    found: &[Row],
+    member: &Member,
+) -> Result<Vec<Row>, NoMemory>
+    ensures { IfOk result (λ out. out.items ≡ flat_map (λ x. kept variables.now
+        (element member.now) x (merges found.now x)) rows.now) }
+{
+    match member {
+        Member::Optional(pattern) => {
+            let filters = pattern.filters.as_slice();
+            left_join(alloc, variables, vocabulary, rows, found, filters)
+        }
+        _ => join(alloc, rows, found),
+    }
+}
+
+/// What a member makes of rows, joined by key with what was found for all of them; of that what is
+/// compatible with the row above.
+pub(crate) fn rows_beside(
+    alloc: Global,
+    variables: &[Text],
+    vocabulary: &Vocabulary,
+    rows: &[Row],
+    found: &[Row],
+    member: &Member,
+    under: &Row,
+) -> Result<Vec<Row>, NoMemory>
+    ensures { IfOk result (λ out. out.items ≡ flat_map (λ x. agreeing (kept variables.now
+        (element member.now) x (merges found.now x)) under.now) rows.now) }
+{
+    let joined = joined_rows(alloc, variables, vocabulary, rows, found, member)?;
+    compatible_rows(alloc, under, joined)
+}
+
+// Whether every name may have to be tried.
+fn tries_names(look_up: &LookUp) -> bool {
+    match look_up.graphs {
+        Graphs::Each(_) => true,
+        _ => false,
+    }
+}
+
+/// What a member makes of rows by look-ups under each of them. Where GRAPH's names are tried, the
+/// rows that are left may be found faster without.
+pub(crate) fn rows_looked_up<S: Source>(
+    alloc: Global,
+    variables: &[Text],
+    vocabulary: &Vocabulary,
+    source: &S,
+    looked: &Cell<u64>,
+    rows: &[Row],
+    look_up: &LookUp,
+    member: &Member,
+    under: &Row,
+) -> Result<Made, NoMemory>
+    ensures { IfOk result (λ m. AreSolutions (S.contents source.now) m.rows.items
+        (λ d. flat_map (made_by variables.now d look_up.now under.now (element member.now))
+        (take m.done rows.now))) }
+{
+    let before = looked.get();
+    let tries_names = tries_names(look_up);
+    let mut out = Vec::new(alloc);
+    for done in 0..rows.len() {
+        let taken = looked.get().saturating_sub(before);
+        if tries_names && is_slow(taken, done, rows.len(), out.len()) {
+            return Ok(Made { rows: out, done });
+        }
+        let row = &rows[done];
+        let found = found_rows(alloc, variables, source, look_up, row)?;
+        let mut made = kept_rows(alloc, variables, vocabulary, row, found, member, under)?;
+        out.append(&mut made)?;
+    }
+    Ok(Made {
+        rows: out,
+        done: rows.len(),
+    })
 }

@@ -1,0 +1,173 @@
+-- What was found for some columns of a row serves each row that has the same there.
+use Rattle.std.proofs.Common.{◌≡◌, ℕ, zero, suc, ◌+◌, Bool, true, false, cond, ◌&&◌, List, [], ◌∷◌, map, filter, Option, Some, None, refl, sym, ap, ◌∙◌, length, replicate, arith}
+use mathlib.Core.Bool.{true≢false}
+use Rattle.std.specs.List.{sum_by, list_all}
+use Rattle.rdf_terms.specs.declared.term.Term.{Term}
+use Rattle.sparql_trees.specs.declared.expression.Expression.{Expression}
+use Rattle.sparql_values.specs.Mapping.{Variables, Mapping, same_term, agrees, first_of, compatible, merge}
+use Rattle.sparql_values.proofs.CallerLemmas.{same_term_own}
+use Rattle.sparql_algebra.specs.Algebra.{Element, joined, optional}
+use Rattle.sparql_algebra.specs.Bags.{SameBag}
+use Rattle.sparql_algebra.specs.Solutions.{merges, or_alone, satisfies}
+use Rattle.sparql_algebra.specs.Under.{agreeing, cut}
+use Rattle.sparql_algebra.proofs.CallerLemmas.{and_left, and_right, has_length, length_from, same_term_is, SameBag-filter, SameBag-merges, SameBag-or_alone, filter_always, filter-cong}
+use Rattle.sparql_solve.specs.Under.{binds_none, lies, below, shown, masked, flags_where, kept, asked}
+
+-- ---- rows that bind nothing
+
+pub replicate_none : (n : ℕ) → binds_none (replicate n None) ≡ true
+replicate_none zero = refl
+replicate_none (suc n) = replicate_none n
+
+compatible_none : (u x : Mapping) → binds_none u ≡ true → compatible u x ≡ true
+compatible_none [] x h = refl
+compatible_none (None ∷ u) [] h = refl
+compatible_none (None ∷ u) (y ∷ x) h = compatible_none u x h
+compatible_none (Some t ∷ u) x h = cc
+
+pub agreeing_none : (u : Mapping) (rows : List Mapping) → binds_none u ≡ true → agreeing rows u ≡ rows
+agreeing_none u rows h = filter-cong (compatible u) (λ (_ : Mapping). true) (λ x. compatible_none u x h) rows ∙ filter_always rows
+
+pub below_none : (u x : Mapping) → binds_none u ≡ true → below u x ≡ true
+below_none [] x h = refl
+below_none (None ∷ u) [] h = refl
+below_none (None ∷ u) (y ∷ x) h = below_none u x h
+below_none (Some t ∷ u) x h = cc
+
+pub merge_none : (u x : Mapping) → binds_none u ≡ true → length u ≡ length x → merge u x ≡ x
+merge_none [] [] h e = refl
+merge_none [] (y ∷ x) h e = absurd (omega arith)
+merge_none (None ∷ u) [] h e = absurd (omega arith)
+merge_none (None ∷ u) (y ∷ x) h e = ap (λ (w : Mapping). y ∷ w) (merge_none u x h (omega arith))
+merge_none (Some t ∷ u) x h e = cc
+
+pub merges_none : (u : Mapping) (S : List Mapping) (n : ℕ) → binds_none u ≡ true → length u ≡ n → list_all (has_length n) S ≡ true → merges S u ≡ S
+merges_none u [] n h e w = refl
+merges_none u (x ∷ S) n h e w =
+    let first : merge u x ≡ x = merge_none u x h (e ∙ sym (length_from n x (and_left (has_length n x) _ w))) in
+    ap (λ b. map (merge u) (cond b (x ∷ filter (compatible u) S) (filter (compatible u) S))) (compatible_none u x h)
+    ∙ ap (λ (y : Mapping). y ∷ merges S u) first ∙ ap (λ (l : List Mapping). x ∷ l) (merges_none u S n h e (and_right (has_length n x) _ w))
+
+-- ---- columns whose flag is up
+
+lies_shown : (x : Option Term) (b : Bool) → lies (shown (x, b), x) ≡ true
+lies_shown (Some t) true = same_term_own t
+lies_shown None true = refl
+lies_shown x false = refl
+
+pub below_masked : (flags : List Bool) (m : Mapping) → below (masked flags m) m ≡ true
+below_masked flags [] = refl
+below_masked [] (x ∷ m) = refl
+below_masked (b ∷ flags) (x ∷ m) = ap (λ c. c && below (masked flags m) m) (lies_shown x b) ∙ below_masked flags m
+
+pub length_masked : (flags : List Bool) (m : Mapping) → length flags ≡ length m → length (masked flags m) ≡ length m
+length_masked [] [] e = refl
+length_masked (b ∷ flags) [] e = absurd (omega arith)
+length_masked [] (x ∷ m) e = absurd (omega arith)
+length_masked (b ∷ flags) (x ∷ m) e = ap suc (length_masked flags m (omega arith))
+
+shown_is : (x : Option Term) (b : Bool) → shown (x, b) ≡ cond b x None
+shown_is x true = refl
+shown_is x false = refl
+
+pub masked_cut : (test : ℕ → Bool) (n : ℕ) (m : Mapping) → length m ≡ n → masked (flags_where test n) m ≡ cut test m
+masked_cut test zero [] e = refl
+masked_cut test zero (x ∷ m) e = absurd (omega arith)
+masked_cut test (suc n) [] e = absurd (omega arith)
+masked_cut test (suc n) (x ∷ m) e =
+    ap (λ (y : Option Term). y ∷ masked (flags_where (λ c. test (suc c)) n) m) (shown_is x (test zero))
+    ∙ ap (λ (w : Mapping). cond (test zero) x None ∷ w) (masked_cut (λ c. test (suc c)) n m (omega arith))
+
+-- ---- what agrees with a row agrees with what lies below it
+
+through : (s t : Term) (z : Option Term) → same_term s t ≡ true → agrees (Some t, z) ≡ true → agrees (Some s, z) ≡ true
+through s t z h k = ap (λ (u : Term). agrees (Some u, z)) (same_term_is s t h) ∙ k
+
+agrees_below : (k x s : Option Term) → lies (k, x) ≡ true → agrees (x, s) ≡ true → agrees (k, s) ≡ true
+agrees_below None x s h e = refl
+agrees_below (Some t) None s h e = cc
+agrees_below (Some t) (Some u) s h e = through t u s h e
+
+agrees_merged : (a k x s : Option Term) → lies (k, x) ≡ true → agrees (x, s) ≡ true → agrees (a, first_of (x, s)) ≡ true → agrees (first_of (a, k), s) ≡ true
+agrees_merged None k x s h e f = agrees_below k x s h e
+agrees_merged (Some u) k None s h e f = f
+agrees_merged (Some u) k (Some v) s h e f = through u v s f e
+
+compatible_below : (key x s : Mapping) → length key ≡ length x → below key x ≡ true → compatible x s ≡ true → compatible key s ≡ true
+compatible_below [] x s e h c = refl
+compatible_below (k ∷ key) [] s e h c = absurd (omega arith)
+compatible_below (k ∷ key) (x ∷ xs) [] e h c = refl
+compatible_below (k ∷ key) (x ∷ xs) (y ∷ s) e h c =
+    ap (λ b. b && compatible key s) (agrees_below k x y (and_left (lies (k, x)) _ h) (and_left (agrees (x, y)) _ c))
+    ∙ compatible_below key xs s (omega arith) (and_right (lies (k, x)) _ h) (and_right (agrees (x, y)) _ c)
+
+compatible_merged : (a key x s : Mapping) → length key ≡ length x → below key x ≡ true → compatible x s ≡ true → compatible a (merge x s) ≡ true →
+    compatible (merge a key) s ≡ true
+compatible_merged [] key x s e h c f = refl
+compatible_merged (y ∷ a) [] x s e h c f = refl
+compatible_merged (y ∷ a) (k ∷ key) [] s e h c f = absurd (omega arith)
+compatible_merged (y ∷ a) (k ∷ key) (x ∷ xs) [] e h c f = refl
+compatible_merged (y ∷ a) (k ∷ key) (x ∷ xs) (z ∷ s) e h c f =
+    ap (λ b. b && compatible (merge a key) s)
+    (agrees_merged y k x z (and_left (lies (k, x)) _ h) (and_left (agrees (x, z)) _ c) (and_left (agrees (y, first_of (x, z))) _ f))
+    ∙ compatible_merged a key xs s (omega arith) (and_right (lies (k, x)) _ h) (and_right (agrees (x, z)) _ c) (and_right (agrees (y, first_of (x, z))) _ f)
+
+-- ---- so of what was found under it the row takes what it takes of all
+
+module _ (a key x : Mapping) (e : length key ≡ length x) (h : below key x ≡ true) where
+  merges_below : (S : List Mapping) → merges (agreeing S key) x ≡ merges S x
+  merges_below S = ap (map (merge x)) (all S)
+    where
+      all : (S : List Mapping) → filter (compatible x) (filter (compatible key) S) ≡ filter (compatible x) S
+      all [] = refl
+      all (s ∷ S) = by_test (compatible key s) (compatible x s) refl refl (all S)
+        where
+          by_test : (b c : Bool) → compatible key s ≡ b → compatible x s ≡ c → filter (compatible x) (filter (compatible key) S) ≡ filter (compatible x) S →
+              filter (compatible x) (cond b (s ∷ filter (compatible key) S) (filter (compatible key) S)) ≡ cond c (s ∷ filter (compatible x) S) (filter (compatible x) S)
+          by_test true c i j r =
+              ap (λ d. cond d (s ∷ filter (compatible x) (filter (compatible key) S)) (filter (compatible x) (filter (compatible key) S))) j
+              ∙ ap (λ (l : List Mapping). cond c (s ∷ l) l) r
+          by_test false true i j r = absurd (true≢false (sym (compatible_below key x s e h j) ∙ i))
+          by_test false false i j r = r
+
+  -- the merges that are compatible with the mapping above
+  abbrev left : List Mapping → List Mapping
+  left xs = filter (compatible a) (map (merge x) (filter (compatible x) xs))
+
+  left_cons : (s : Mapping) (xs : List Mapping) (c : Bool) → compatible x s ≡ c →
+      left (s ∷ xs) ≡ filter (compatible a) (map (merge x) (cond c (s ∷ filter (compatible x) xs) (filter (compatible x) xs)))
+  left_cons s xs c j = ap (λ d. filter (compatible a) (map (merge x) (cond d (s ∷ filter (compatible x) xs) (filter (compatible x) xs)))) j
+
+  merged_below : (S : List Mapping) → agreeing (merges (agreeing S (merge a key)) x) a ≡ agreeing (merges S x) a
+  merged_below [] = refl
+  merged_below (s ∷ S) = by_test (compatible (merge a key) s) (compatible x s) refl refl (merged_below S)
+    where
+      by_last : (b : Bool) → compatible a (merge x s) ≡ b → compatible x s ≡ true → compatible (merge a key) s ≡ false → left S ≡ cond b (merge x s ∷ left S) (left S)
+      by_last true k j i = absurd (true≢false (sym (compatible_merged a key x s e h j k) ∙ i))
+      by_last false k j i = refl
+
+      by_test : (b c : Bool) → compatible (merge a key) s ≡ b → compatible x s ≡ c → left (filter (compatible (merge a key)) S) ≡ left S →
+          left (cond b (s ∷ filter (compatible (merge a key)) S) (filter (compatible (merge a key)) S)) ≡ left (s ∷ S)
+      by_test true true i j r =
+          left_cons s (filter (compatible (merge a key)) S) true j ∙ ap (λ (l : List Mapping). cond (compatible a (merge x s)) (merge x s ∷ l) l) r ∙ sym (left_cons s S true j)
+      by_test true false i j r = left_cons s (filter (compatible (merge a key)) S) false j ∙ r ∙ sym (left_cons s S false j)
+      by_test false true i j r = r ∙ by_last (compatible a (merge x s)) refl j i ∙ sym (left_cons s S true j)
+      by_test false false i j r = r ∙ sym (left_cons s S false j)
+
+module _ (vs : Variables) (a key x : Mapping) (e : length key ≡ length x) (h : below key x ≡ true) where
+  kept_below : (k : Element) (S : List Mapping) → agreeing (kept vs k x (merges (agreeing S (asked k a key)) x)) a ≡ agreeing (kept vs k x (merges S x)) a
+  kept_below (joined A) S = merged_below a key x e h S
+  kept_below (optional F A) S = ap (λ (ms : List Mapping). agreeing (or_alone x (filter (satisfies vs F) ms)) a) (merges_below a key x e h S)
+
+pub SameBag-kept : (vs : Variables) (k : Element) (x : Mapping) (A B : List Mapping) → SameBag A B → SameBag (kept vs k x A) (kept vs k x B)
+SameBag-kept vs (joined P) x A B r = r
+SameBag-kept vs (optional F P) x A B r =
+    SameBag-or_alone x (filter (satisfies vs F) A) (filter (satisfies vs F) B) (SameBag-filter (satisfies vs F) A B r)
+
+-- what was found for the columns of a row that these are
+pub shared : (vs : Variables) (a key x : Mapping) → length key ≡ length x → below key x ≡ true → (k : Element) (found S : List Mapping) →
+    SameBag found (agreeing S (asked k a key)) → SameBag (agreeing (kept vs k x (merges found x)) a) (agreeing (kept vs k x (merges S x)) a)
+shared vs a key x e h k found S r f =
+    SameBag-filter (compatible a) (kept vs k x (merges found x)) (kept vs k x (merges (agreeing S (asked k a key)) x))
+    (SameBag-kept vs k x (merges found x) (merges (agreeing S (asked k a key)) x) (SameBag-merges x found (agreeing S (asked k a key)) r)) f
+    ∙ ap (sum_by f) (kept_below vs a key x e h k S)

@@ -1,0 +1,204 @@
+use Rattle.std.proofs.Common.{◌≡◌, ◌<◌, ◌-◌, ap, ◌∙◌, take, drop, length, arith}
+use Rattle.std.proofs.lemmas.List.{take_all, length-drop}
+use Rattle.std.proofs.lemmas.Result.{IfOk-weaker}
+use Rattle.rdf_terms.specs.declared.quad.GraphName.TheVariants.{Named, Default}
+use Rattle.sparql_algebra.specs.Algebra.{element, translation}
+use Rattle.sparql_algebra.specs.Under.{under}
+use Rattle.sparql_solve.specs.Under.{under_name}
+use Rattle.sparql_solve.proofs.FollowLemmas as follow
+use Rattle.sparql_solve.proofs.SideLemmas.{done_gives}
+use Rattle.sparql_solve.proofs.MemberLemmas.{more_gives}
+use Rattle.sparql_solve.proofs.evaluator.+follow.Goals.{rows_followed-then-not-is_shared-2+in_ok-found-2, rows_followed-else-not-is_shared-2}
+use Rattle.sparql_solve.proofs.evaluator.+follow.Goals as goal
+
+pub group_under-returns : goal.group_under-returns
+group_under-returns g t c =
+    IfOk-weaker c.filtered_rows.result _ _
+    (λ out e. follow.group_follows c.args.variables.now (g.S.Source.contents c.args.source.now) c.args.graph.now c.args.under.now c.args.pattern.now
+    c.as_slice-members.result.now c.as_slice-filters.result.now c.in_ok-rows.rows.items out.items c.as_slice-members.ensures c.as_slice-filters.ensures
+    c.in_ok-rows.ensures e)
+    c.filtered_rows.ensures
+
+pub members_under-loop-member-init : goal.members_under-loop-member-init
+members_under-loop-member-init g t c =
+    follow.unit_follows c.args.variables.now (g.S.Source.contents c.args.source.now) c.args.graph.now c.args.under.now c.in_ok-rows.rows.items c.in_ok-rows.ensures
+
+pub members_under-loop-member-preserved : goal.members_under-loop-member-preserved
+members_under-loop-member-preserved g t c =
+    follow.members_follow c.args.variables.now (g.S.Source.contents c.args.source.now) c.args.graph.now c.args.under.now c.args.members.now
+    c.loop-member.member-index c.member-item.result c.loop-member.rows.items c.in_ok-rows-2.rows.items c.loop-member-test.true
+    c.member-item.is c.loop-member.invariant c.in_ok-rows-2.ensures
+
+pub rows_after-returns-in-Some : goal.rows_after-returns-in-Some
+rows_after-returns-in-Some g t c =
+    IfOk-weaker c.with_the_rest.result _ _
+    (λ out h. follow.looked_up_follows c.args.variables.now (g.S.Source.contents c.args.source.now) c.args.graph.now c.args.under.now
+    (element c.args.member.now) c.args.rows.items c.deref.result.now c.deref-in-Some.result.now c.in_ok-made.made.rows.items out.items
+    c.in_ok-made.made.done c.in_ok-direct.direct c.in-Some.look_up c.deref.ensures.value c.deref-in-Some.ensures.value c.in-Some.is c.in_ok-direct.ensures
+    c.in_ok-made.ensures h)
+    c.with_the_rest.ensures
+
+pub rows_after-returns-then-is_first : goal.rows_after-returns-then-is_first
+rows_after-returns-then-is_first g t c =
+    IfOk-weaker c.member_under.result _ _
+    (λ out h. follow.first_follows c.args.variables.now (g.S.Source.contents c.args.source.now) c.args.graph.now c.args.under.now
+    (element c.args.member.now) c.args.rows.items c.deref-2.result.now out.items c.is_first.result c.deref-2.ensures.value c.is_first.ensures
+    c.if-is_first.true h)
+    c.member_under.ensures
+
+pub rows_after-returns : goal.rows_after-returns
+rows_after-returns g t c =
+    IfOk-weaker c.with_the_rest-2.result _ _
+    (λ out h. follow.gathered_follow c.args.variables.now (g.S.Source.contents c.args.source.now) c.args.graph.now c.args.under.now
+    (element c.args.member.now) c.args.rows.items c.gather.new.rows.items c.deref-4.result.now c.deref-6.result.now c.in_ok-made-2.made.rows.items out.items
+    c.in_ok-made-2.made.done c.in_ok-gather.ensures c.deref-4.ensures.value c.deref-6.ensures.value c.in_ok-made-2.ensures h)
+    c.with_the_rest-2.ensures
+
+pub rows_followed-loop-done-init : goal.rows_followed-loop-done-init
+rows_followed-loop-done-init g t c = record {
+  made = follow.made_nothing c.args.variables.now (g.S.Source.contents c.args.source.now) c.args.graph.now c.args.under.now (element c.args.member.now)
+      c.new-out.result.items c.new-out.ensures.items;
+  found = c.in_ok-found.ensures.rows;
+}
+
+pub rows_followed-loop-done-preserved : goal.rows_followed-loop-done-preserved
+rows_followed-loop-done-preserved g t c =
+    let vs = c.args.variables.now in
+    let s = g.S.Source.contents c.args.source.now in
+    let a = c.args.under.now in
+    let k = element c.args.member.now in
+    let x = c.index-rows-done.result in
+    let lt : c.loop-done.done < length c.args.rows.now = omega arith in
+    elim c.if-not-is_shared-2.branch [
+      | rows_followed-then-not-is_shared-2+in_ok-found-2 w ↦
+          let found = w.in_ok-found-2.found in
+          record {
+            made = follow.made_one_more vs s c.args.graph.now a k c.args.rows.now c.loop-done.done x c.loop-done.out.items c.in_ok-made.made.items
+                c.append.new.self.items lt c.index-rows-done.is c.in_ok-append.ensures.items c.loop-done.invariant.made
+                (follow.made_anew vs s c.args.graph.now a k c.args.flags.now found.columns x found.rows.items c.deref.result.now c.in_ok-made.made.items
+                c.requires w.in_ok-found-2.ensures.columns w.in_ok-found-2.ensures.rows (c.deref.ensures.value ∙ (λ i. (w.found-is i).rows.items))
+                c.in_ok-made.ensures);
+            found = follow.found_as vs s c.args.graph.now a k c.if-not-is_shared-2.found.columns found.columns c.if-not-is_shared-2.found.rows.items
+                found.rows.items (λ i. (w.found-is i).columns) (λ i. (w.found-is i).rows.items) w.in_ok-found-2.ensures.rows;
+          }
+      | rows_followed-else-not-is_shared-2 w ↦
+          let found = c.loop-done.found in
+          record {
+            made = follow.made_one_more vs s c.args.graph.now a k c.args.rows.now c.loop-done.done x c.loop-done.out.items c.in_ok-made.made.items
+                c.append.new.self.items lt c.index-rows-done.is c.in_ok-append.ensures.items c.loop-done.invariant.made
+                (follow.made_shared vs s c.args.graph.now a k found.columns x found.rows.items c.deref.result.now c.in_ok-made.made.items
+                (c.serves-is_shared.ensures.length w.if-not-is_shared-2.false) (c.serves-is_shared.ensures.below w.if-not-is_shared-2.false)
+                c.loop-done.invariant.found (c.deref.ensures.value ∙ (λ i. (w.found-is i).rows.items)) c.in_ok-made.ensures);
+            found = follow.found_as vs s c.args.graph.now a k c.if-not-is_shared-2.found.columns found.columns c.if-not-is_shared-2.found.rows.items
+                found.rows.items (λ i. (w.found-is i).columns) (λ i. (w.found-is i).rows.items) c.loop-done.invariant.found;
+          }
+    ]
+
+pub rows_followed-returns : goal.rows_followed-returns
+rows_followed-returns g t c =
+    follow.made_done c.args.variables.now (g.S.Source.contents c.args.source.now) c.args.graph.now c.args.under.now (element c.args.member.now)
+    c.args.rows.now c.loop-done.done (length c.args.rows.now) c.loop-done.out.items (omega arith) (omega arith) c.loop-done.invariant.made
+
+pub found_for-returns-clause-rows : goal.found_for-returns-clause-rows
+found_for-returns-clause-rows g t c =
+    follow.asked_follows c.args.variables.now (g.S.Source.contents c.args.source.now) c.args.graph.now c.args.under.now (element c.args.member.now)
+    c.in_ok-columns.columns c.in_ok-asked.asked c.in_ok-rows.rows.items c.in_ok-asked.ensures c.in_ok-rows.ensures
+
+pub with_the_rest-returns-then-rows-made : goal.with_the_rest-returns-then-rows-made
+with_the_rest-returns-then-rows-made g t c h =
+    follow.made_all c.args.variables.now (g.S.Source.contents c.args.source.now) c.args.graph.now c.args.under.now (element c.args.member.now)
+    c.args.rows.now c.args.made.done c.args.made.rows.items c.if-rows-made.true h
+
+pub with_the_rest-returns : goal.with_the_rest-returns
+with_the_rest-returns g t c h =
+    let rows = c.args.rows.now in
+    let n = c.args.made.done in
+    let rest = take (length rows - n) (drop n rows) in
+    follow.rest_follows c.args.variables.now (g.S.Source.contents c.args.source.now) c.args.graph.now c.args.under.now (element c.args.member.now)
+    rows rest n c.in_ok-nothing.nothing c.in_ok-asked.asked c.args.made.rows.items c.in_ok-found.found.items c.deref.result.now c.in_ok-beside.beside.items
+    c.append.new.self.items (take_all (length rows - n) (drop n rows) (omega (arith, length-drop n rows))) c.in_ok-nothing.ensures c.in_ok-asked.ensures
+    c.in_ok-found.ensures c.deref.ensures.value c.in_ok-beside.ensures c.in_ok-append.ensures.items h
+
+pub member_under-returns-in-Basic : goal.member_under-returns-in-Basic
+member_under-returns-in-Basic g t c =
+    IfOk-weaker c.basic_under.result _ _
+    (λ out h. follow.basic_member c.args.variables.now (g.S.Source.contents c.args.source.now) c.args.graph.now c.args.under.now c.args.member.now
+    c.in-Basic.basic out.items c.in-Basic.is h)
+    c.basic_under.ensures
+
+pub member_under-returns-in-Union : goal.member_under-returns-in-Union
+member_under-returns-in-Union g t c =
+    IfOk-weaker c.union_under.result _ _
+    (λ out h. follow.union_member c.args.variables.now (g.S.Source.contents c.args.source.now) c.args.graph.now c.args.under.now c.args.member.now
+    c.in-Union.groups c.as_slice-groups.result.now out.items c.in-Union.is c.as_slice-groups.ensures h)
+    c.union_under.ensures
+
+pub member_under-returns-in-Optional : goal.member_under-returns-in-Optional
+member_under-returns-in-Optional g t c =
+    IfOk-weaker c.members_under.result _ _
+    (λ out h. follow.optional_member c.args.variables.now (g.S.Source.contents c.args.source.now) c.args.graph.now c.args.under.now c.args.member.now
+    c.in-Optional.pattern c.as_slice-members.result.now out.items c.in-Optional.is c.as_slice-members.ensures h)
+    c.members_under.ensures
+
+pub member_under-returns-in-Graph : goal.member_under-returns-in-Graph
+member_under-returns-in-Graph g t c =
+    IfOk-weaker c.graph_under.result _ _
+    (λ out h. follow.graph_member c.args.variables.now (g.S.Source.contents c.args.source.now) c.args.graph.now c.args.under.now c.args.member.now
+    c.in-Graph.name c.in-Graph.pattern out.items c.in-Graph.is h)
+    c.graph_under.ensures
+
+pub union_under-returns-then-is_empty : goal.union_under-returns-then-is_empty
+union_under-returns-then-is_empty g t c =
+    IfOk-weaker c.unit_rows.result _ _
+    (λ out h. follow.no_union c.args.variables.now (g.S.Source.contents c.args.source.now) c.args.graph.now c.args.under.now c.args.groups.now out.items
+    c.is_empty.result c.is_empty.ensures c.if-is_empty.true h)
+    c.unit_rows.ensures
+
+pub union_under-loop-group-preserved : goal.union_under-loop-group-preserved
+union_under-loop-group-preserved g t c ea =
+    more_gives (g.S.Source.contents c.args.source.now) (λ d p. under c.args.variables.now d c.args.graph.now (translation p) c.args.under.now)
+    c.args.groups.now c.loop-group.group-index c.group-item.result c.loop-group.out.items c.in_ok-found.found.items c.append.new.self.items
+    c.loop-group-test.true c.group-item.is (c.loop-group.invariant ea) (c.in_ok-found.ensures ea) c.in_ok-append.ensures.items
+
+pub union_under-returns : goal.union_under-returns
+union_under-returns g t c ea =
+    follow.union_follows c.args.variables.now (g.S.Source.contents c.args.source.now) c.args.graph.now c.args.under.now c.args.groups.now
+    c.loop-group.out.items c.is_empty.result c.is_empty.ensures c.if-is_empty.false
+    (done_gives (g.S.Source.contents c.args.source.now) (λ d p. under c.args.variables.now d c.args.graph.now (translation p) c.args.under.now)
+    c.args.groups.now c.loop-group.group-index c.loop-group.out.items c.loop-group-test.false (c.loop-group.invariant ea))
+
+pub graph_under-returns-then-group_reads : goal.graph_under-returns-then-group_reads
+graph_under-returns-then-group_reads g t c =
+    IfOk-weaker c.each_under.result _ _
+    (λ out h. follow.variable_follows c.args.variables.now (g.S.Source.contents c.args.source.now) c.args.name.now c.in-Variable.variable
+    c.args.pattern.now c.args.under.now c.in_ok-names-in-Variable.names.items c.deref.result.now out.items c.in-Variable.is
+    c.in_ok-names-in-Variable.ensures c.deref.ensures.value h)
+    c.each_under.ensures
+
+pub graph_under-returns-in_ok-rows-in-Variable : goal.graph_under-returns-in_ok-rows-in-Variable
+graph_under-returns-in_ok-rows-in-Variable g t c =
+    IfOk-weaker c.rows_of_names.result _ _
+    (λ out e. follow.once_follows c.args.variables.now (g.S.Source.contents c.args.source.now) c.args.name.now c.in-Variable.variable
+    (translation c.args.pattern.now) c.args.under.now Default c.in_ok-names-in-Variable.names.items c.deref-in-Variable.result.now
+    c.in_ok-rows-in-Variable.rows.items c.deref-in-Variable-2.result.now out.items c.in-Variable.is c.in_ok-names-in-Variable.ensures
+    c.deref-in-Variable.ensures.value (c.group_reads.ensures c.if-group_reads.false) c.in_ok-rows-in-Variable.ensures
+    c.deref-in-Variable-2.ensures.value e)
+    c.rows_of_names.ensures
+
+pub each_under-loop-name-preserved : goal.each_under-loop-name-preserved
+each_under-loop-name-preserved g t c ea =
+    more_gives (g.S.Source.contents c.args.source.now)
+    (λ d n. under_name c.args.variables.now d c.args.variable.now (translation c.args.pattern.now) c.args.under.now n)
+    c.args.names.now c.loop-name.name-index c.name-item.result c.loop-name.out.items c.in_ok-with_name.with_name.items c.append.new.self.items
+    c.loop-name-test.true c.name-item.is (c.loop-name.invariant ea)
+    (follow.name_follows c.args.variables.now (g.S.Source.contents c.args.source.now) c.args.variable.now (translation c.args.pattern.now)
+    c.args.under.now c.name-item.result c.in_ok-bound.bound c.in_ok-both.both (Named c.in_ok-copy.field-0) c.in_ok-found.found.items c.deref.result.now
+    c.in_ok-with_name.with_name.items c.in_ok-bound.ensures c.in_ok-both.ensures (ap Named c.in_ok-copy.ensures) c.in_ok-found.ensures
+    c.deref.ensures.value c.in_ok-with_name.ensures ea)
+    c.in_ok-append.ensures.items
+
+pub each_under-returns : goal.each_under-returns
+each_under-returns g t c ea =
+    done_gives (g.S.Source.contents c.args.source.now)
+    (λ d n. under_name c.args.variables.now d c.args.variable.now (translation c.args.pattern.now) c.args.under.now n)
+    c.args.names.now c.loop-name.name-index c.loop-name.out.items c.loop-name-test.false (c.loop-name.invariant ea)

@@ -1,0 +1,96 @@
+-- The steps of the evaluator: every member of a group is found under each row so far (SPARQL 1.1 Query, section 18.6).
+use Rattle.std.specs.Prelude.{◌≡◌, ℕ, zero, suc, Bool, true, false, List, [], ◌∷◌, length, Option, Some, None, is_none, map, filter, nat_eq, zip}
+use Rattle.std.specs.List.{flat_map, list_all}
+use Rattle.rdf_terms.specs.declared.term.Term.{Term}
+use Rattle.rdf_terms.specs.declared.quad.GraphName.{GraphName}
+use Rattle.rdf_terms.specs.declared.quad.GraphName.TheVariants.{Named}
+use Rattle.rdf_dataset.specs.State.{State}
+use Rattle.sparql_values.specs.Mapping.{Variables, Mapping, same_value, single, merge}
+use Rattle.sparql_algebra.specs.Algebra.{Algebra, Element, joined, optional}
+use Rattle.sparql_algebra.specs.Bags.{SameBag}
+use Rattle.sparql_algebra.specs.Listing.{Listing, Lists}
+use Rattle.sparql_algebra.specs.Solutions.{merges, or_alone, satisfies}
+use Rattle.sparql_algebra.specs.Under.{agreeing, under}
+use Rattle.sparql_solve.specs.declared.look_ups.LookUp.{LookUp}
+use Rattle.sparql_solve.specs.Members.{AreSolutions, element_solutions}
+use Rattle.sparql_solve.specs.Sides.{found}
+
+-- ---- rows
+
+-- the mapping binds nothing
+abbrev pub binds_none : Mapping → Bool
+binds_none m = list_all is_none m
+
+-- there is one mapping alone, which binds nothing
+abbrev pub is_unit : List Mapping → Bool
+is_unit [] = false
+is_unit (x ∷ []) = binds_none x
+is_unit (x ∷ y ∷ xs) = false
+
+abbrev pub lies : Option Term × Option Term → Bool
+lies (Some t, y) = same_value (Some t) y
+lies (None, y) = true
+
+-- each column of the first mapping is unbound or has what the second one has there
+abbrev pub below : Mapping → Mapping → Bool
+below a b = list_all lies (zip a b)
+
+abbrev pub shown : Option Term × Bool → Option Term
+shown (x, true) = x
+shown (x, false) = None
+
+-- the columns whose flag is up; the others are unbound
+abbrev pub masked : List Bool → Mapping → Mapping
+masked flags m = map shown (zip m flags)
+
+-- the flags below a number for which the test is true
+abbrev pub flags_where : (ℕ → Bool) → ℕ → List Bool
+flags_where test zero = []
+flags_where test (suc n) = test zero ∷ flags_where (λ c. test (suc c)) n
+
+-- ---- elements
+
+abbrev pub is_joined : Element → Bool
+is_joined (joined A) = true
+is_joined (optional F A) = false
+
+-- what an element makes of a mapping, where these are the mapping's merges with the solutions of its pattern
+abbrev pub kept : Variables → Element → Mapping → List Mapping → List Mapping
+kept vs (joined A) x ms = ms
+kept vs (optional F A) x ms = or_alone x (filter (satisfies vs F) ms)
+
+-- Under what an element's pattern is found for a mapping that stands under another one: OPTIONAL's under the mapping alone, since a merge that isn't
+-- compatible with the other one keeps the mapping from standing alone.
+abbrev pub asked : Element → Mapping → Mapping → Mapping
+asked (joined A) a x = merge a x
+asked (optional F A) a x = x
+
+-- However the state is listed, the rows are those of these solutions that are compatible with the mapping of the variables, each as often.
+abbrev pub AreUnder : Variables → State → Mapping → List Mapping → (Listing → List Mapping) → Type 0
+AreUnder vs s a rows F = length a ≡ length vs → AreSolutions s rows (λ d. agreeing (F d) a)
+
+-- for each mapping of the variables the look-ups give the merges with these solutions, each as often
+abbrev pub IsLookUpOf : Variables → State → LookUp → (Listing → List Mapping) → Type 0
+IsLookUpOf vs s l F = (d : Listing) → Lists s d → (m : Mapping) → length m ≡ length vs → SameBag (found vs d l m) (merges (F d) m)
+
+module _ (vs : Variables) (d : Listing) where
+  -- what an element makes of a mapping, of that what is compatible with the one above
+  abbrev pub made : GraphName → Mapping → Element → Mapping → List Mapping
+  made g a k x = agreeing (kept vs k x (merges (element_solutions vs d g k) x)) a
+
+  -- the same by look-ups
+  abbrev pub made_by : LookUp → Mapping → Element → Mapping → List Mapping
+  made_by l a k x = agreeing (kept vs k x (found vs d l x)) a
+
+  -- the solutions in the graph of this name, under the mapping and the variable's value
+  abbrev pub under_name : List ℕ → Algebra → Mapping → Term → List Mapping
+  under_name name A a n = map (λ x. merge x (single vs name n)) (under vs d (Named n) A (merge a (single vs name n)))
+
+-- a mapping of all variables
+abbrev pub is_wide : Variables → Mapping → Bool
+is_wide vs m = nat_eq (length m) (length vs)
+
+-- the rows are what the element makes of these
+abbrev pub AreMade : Variables → State → GraphName → Mapping → Element → List Mapping → List Mapping → Type 0
+AreMade vs s g a k rows out =
+    length a ≡ length vs → list_all (is_wide vs) rows ≡ true → AreSolutions s out (λ d. flat_map (made vs d g a k) rows)

@@ -1,0 +1,121 @@
+//! Members of groups: which of them are looked up, and which variables they name.
+ghost use Rattle.std.specs.Prelude.{◌≡◌, IfOk, IfSome, Some};
+ghost use Rattle.std.specs.Option.{option_copied};
+ghost use Rattle.rdf_terms.specs.declared.quad.GraphName.{GraphName};
+ghost use Rattle.sparql_trees.specs.declared.pattern.BasicGraphPattern.{BasicGraphPattern};
+ghost use Rattle.sparql_algebra.specs.Algebra.{element, graph, translation};
+ghost use Rattle.sparql_algebra.specs.Solutions.{solutions};
+ghost use Rattle.sparql_solve.specs.Sides.{HoldsJust, lone_joined};
+ghost use Rattle.sparql_solve.specs.Members.{element_solutions};
+ghost use Rattle.sparql_solve.specs.Under.{IsLookUpOf, is_joined};
+
+use crate::look_ups::{Graphs, LookUp, graphs_of, look_up_in};
+use rdf_dataset::Source;
+use rdf_terms::{GraphName, NoMemory, Text};
+use sparql_trees::{BasicGraphPattern, Member, Pattern, VarOrIri};
+use std::alloc::Global;
+
+/// Whether the member is joined: all but OPTIONAL are.
+pub(crate) fn is_joined(member: &Member) -> bool
+    ensures { result ≡ is_joined (element member.now) }
+{
+    match member {
+        Member::Optional(_) => false,
+        _ => true,
+    }
+}
+
+// The only member, where it isn't OPTIONAL.
+fn lone_joined(members: &[Member]) -> Option<&Member>
+    ensures { option_copied result ≡ lone_joined members.now }
+{
+    let [member] = members else {
+        return None;
+    };
+    match member {
+        Member::Optional(_) => None,
+        _ => Some(member),
+    }
+}
+
+// The basic graph pattern that is all that the group holds.
+fn lone_basic(pattern: &Pattern) -> Option<&BasicGraphPattern>
+    ensures just { IfSome (option_copied result) (λ basic. HoldsJust pattern.now basic) }
+    ensures all { (basic : BasicGraphPattern) → HoldsJust pattern.now basic →
+        option_copied result ≡ Some basic }
+{
+    if !pattern.filters.is_empty() {
+        return None;
+    }
+    let [member] = pattern.members.as_slice() else {
+        return None;
+    };
+    match member {
+        Member::Basic(basic) => Some(basic),
+        _ => None,
+    }
+}
+
+// The look-ups of GRAPH with a basic graph pattern, whichever graph is the active one.
+fn look_up_of_graph<S: Source>(
+    alloc: Global,
+    variables: &[Text],
+    source: &S,
+    name: &VarOrIri,
+    pattern: &Pattern,
+) -> Result<Option<LookUp>, NoMemory>
+    ensures { IfOk result (λ found. IfSome found (λ look_up. (active : GraphName) →
+        IsLookUpOf variables.now (S.contents source.now) look_up
+        (λ d. solutions variables.now d active (graph name.now (translation pattern.now))))) }
+{
+    let Some(basic) = lone_basic(pattern) else {
+        return Ok(None);
+    };
+    let graphs = graphs_of(source, name)?;
+    Ok(Some(look_up_in(alloc, variables, graphs, basic)?))
+}
+
+// The look-ups of a member that is a basic graph pattern, by itself or in GRAPH.
+fn look_up_of_joined<S: Source>(
+    alloc: Global,
+    variables: &[Text],
+    graph: &GraphName,
+    source: &S,
+    member: &Member,
+) -> Result<Option<LookUp>, NoMemory>
+    ensures { IfOk result (λ found. IfSome found (λ look_up.
+        IsLookUpOf variables.now (S.contents source.now) look_up
+        (λ d. element_solutions variables.now d graph.now (element member.now)))) }
+{
+    match member {
+        Member::Basic(basic) => {
+            let graphs = Graphs::One(graph.copy()?);
+            Ok(Some(look_up_in(alloc, variables, graphs, basic)?))
+        }
+        Member::Graph(name, pattern) => {
+            look_up_of_graph(alloc, variables, source, name, pattern)
+        }
+        _ => Ok(None),
+    }
+}
+
+/// The look-ups of a member that is a basic graph pattern, by itself, in GRAPH, or in OPTIONAL.
+pub(crate) fn look_up_of<S: Source>(
+    alloc: Global,
+    variables: &[Text],
+    graph: &GraphName,
+    source: &S,
+    member: &Member,
+) -> Result<Option<LookUp>, NoMemory>
+    ensures { IfOk result (λ found. IfSome found (λ look_up.
+        IsLookUpOf variables.now (S.contents source.now) look_up
+        (λ d. element_solutions variables.now d graph.now (element member.now)))) }
+{
+    match member {
+        Member::Optional(pattern) => match lone_joined(pattern.members.as_slice()) {
+            Some(inner) => look_up_of_joined(alloc, variables, graph, source, inner),
+            None => Ok(None),
+        },
+        _ => look_up_of_joined(alloc, variables, graph, source, member),
+    }
+}

@@ -1,0 +1,66 @@
+//! The names of graphs that GRAPH's variable may have under a row (SPARQL 1.1 Query, section 18.6).
+ghost use Rattle.std.specs.Prelude.{◌≡◌, IfOk, map};
+ghost use Rattle.sparql_algebra.specs.Bags.{SameBag};
+ghost use Rattle.sparql_algebra.specs.Listing.{Listing, Lists};
+ghost use Rattle.sparql_algebra.specs.Solutions.{joins};
+ghost use Rattle.sparql_algebra.specs.Under.{agreeing, names_left};
+ghost use Rattle.sparql_values.specs.Mapping.{single, value_of};
+
+use crate::joins::join;
+use crate::look_ups::tried_names;
+use crate::rows::{Row, copy_value};
+use crate::sides::compatible_rows;
+use rdf_dataset::Source;
+use rdf_terms::{NoMemory, Term, Text};
+use sparql_values::column;
+use std::alloc::Global;
+
+/// The names that the variable may have beside what the row has there.
+pub(crate) fn names_under<S: Source>(
+    alloc: Global,
+    variables: &[Text],
+    variable: &Text,
+    source: &S,
+    under: &Row,
+) -> Result<Vec<Term>, NoMemory>
+    ensures { IfOk result (λ names. (d : Listing) → Lists (S.contents source.now) d →
+        SameBag names.items (names_left d.names (value_of variables.now under.now variable.now))) }
+{
+    let value = copy_value(under.value_in(column(variables, variable)))?;
+    tried_names(alloc, source, value)
+}
+
+// The rows that bind one variable alone to these names.
+fn single_rows(
+    alloc: Global,
+    variables: &[Text],
+    variable: &Text,
+    names: &[Term],
+) -> Result<Vec<Row>, NoMemory>
+    ensures { IfOk result (λ out. out.items
+        ≡ map (single variables.now variable.now) names.now) }
+{
+    let mut out = Vec::with_capacity(alloc, names.len())?;
+    for name in names {
+        out.push(Row::single(alloc, variables, variable, name)?)?;
+    }
+    Ok(out)
+}
+
+/// The rows joined with those that bind the variable to these names; of them what is compatible
+/// with the row above.
+pub(crate) fn rows_of_names(
+    alloc: Global,
+    variables: &[Text],
+    variable: &Text,
+    names: &[Term],
+    rows: &[Row],
+    under: &Row,
+) -> Result<Vec<Row>, NoMemory>
+    ensures { IfOk result (λ out. out.items
+        ≡ agreeing (joins rows.now (map (single variables.now variable.now) names.now)) under.now) }
+{
+    let bound = single_rows(alloc, variables, variable, names)?;
+    let joined = join(alloc, rows, &bound)?;
+    compatible_rows(alloc, under, joined)
+}

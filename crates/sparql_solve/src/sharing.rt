@@ -1,0 +1,137 @@
+//! Rows that share what is found for them: those that have the same at the columns whose variables
+//! a member names. Which columns these are is seen in nothing but time, and so is when rows are
+//! followed no further.
+ghost use Rattle.std.specs.Prelude.{◌≡◌, IfOk, IsPermutation, IsTrue, OnOk, length, true};
+ghost use Rattle.sparql_solve.specs.Under.{below};
+
+use crate::rows::Row;
+use rdf_terms::{NoMemory, Text};
+use sparql_trees::{Member, Pattern, TriplePattern, VarOrIri, VarOrTerm};
+use std::alloc::Global;
+use std::cmp::Ordering;
+
+// How many look-ups, quads and names a row may take on the whole before rows are followed no
+// further, and how many all that are left have to take at that pace.
+const A_ROW: u128 = 16;
+
+const AT_LEAST: u128 = 4096;
+
+fn is_named_by(name: &VarOrIri, variable: &Text) -> bool {
+    match name {
+        VarOrIri::Variable(named) => named.cmp(variable).is_eq(),
+        VarOrIri::Iri(_) => false,
+    }
+}
+
+fn stands_at(place: &VarOrTerm, variable: &Text) -> bool {
+    match place {
+        VarOrTerm::Variable(named) => named.cmp(variable).is_eq(),
+        VarOrTerm::Hidden(_) | VarOrTerm::Term(_) => false,
+    }
+}
+
+fn stands_in(triple: &TriplePattern, variable: &Text) -> bool {
+    stands_at(&triple.subject, variable)
+        || is_named_by(&triple.predicate, variable)
+        || stands_at(&triple.object, variable)
+}
+
+fn stands_in_any(triples: &[TriplePattern], variable: &Text) -> bool {
+    for triple in triples {
+        if stands_in(triple, variable) {
+            return true;
+        }
+    }
+    false
+}
+
+#[cycle(names)]
+fn one_names(groups: &[Pattern], variable: &Text) -> bool {
+    for group in groups {
+        if group_names(group, variable) {
+            return true;
+        }
+    }
+    false
+}
+
+#[cycle(names)]
+fn group_names(pattern: &Pattern, variable: &Text) -> bool {
+    let members = pattern.members.as_slice();
+    for member in members {
+        if names(member, variable) {
+            return true;
+        }
+    }
+    false
+}
+
+// Whether the variable stands in the member's triple patterns or as GRAPH's name, at any depth.
+#[cycle(names)]
+fn names(member: &Member, variable: &Text) -> bool {
+    match member {
+        Member::Basic(basic) => stands_in_any(basic.triples.as_slice(), variable),
+        Member::Union(groups) => one_names(groups.as_slice(), variable),
+        Member::Optional(pattern) => group_names(pattern, variable),
+        Member::Graph(name, pattern) => {
+            is_named_by(name, variable) || group_names(pattern, variable)
+        }
+    }
+}
+
+/// For each column whether what is found for so many rows is asked for what they have there: one
+/// row shares with no other.
+pub(crate) fn asked_columns(
+    alloc: Global,
+    variables: &[Text],
+    member: &Member,
+    rows: usize,
+) -> Result<Vec<bool>, NoMemory>
+    ensures { IfOk result (λ flags. length flags.items ≡ length variables.now) }
+{
+    let mut flags = Vec::with_capacity(alloc, variables.len())?;
+    for variable in variables {
+        flags.push(rows < 2 || names(member, variable))?;
+    }
+    Ok(flags)
+}
+
+// By the values at the columns whose flag is up, from the left.
+fn compare_at(row: &Row, other: &Row, flags: &[bool]) -> Ordering {
+    for column in 0..flags.len() {
+        if flags[column] {
+            let by_value = row.value(column).cmp(&other.value(column));
+            if by_value.is_ne() {
+                return by_value;
+            }
+        }
+    }
+    Ordering::Equal
+}
+
+/// Puts rows side by side that have the same at the columns whose flag is up.
+pub(crate) fn gather(rows: &mut Vec<Row>, flags: &[bool]) -> Result<(), NoMemory>
+    ensures { OnOk result (IsPermutation rows.old.items rows.new.items) }
+{
+    rows.sort_by(|row, other| compare_at(row, other, flags))?;
+    Ok(())
+}
+
+/// Whether what was found for the columns of a row that these are serves another row.
+pub(crate) fn serves(asked: &Row, row: &Row, flags: &[bool]) -> bool
+    ensures length { IsTrue result → length asked.now ≡ length row.now }
+    ensures below { IsTrue result → below asked.now row.now ≡ true }
+{
+    asked.values().len() == row.values().len()
+        && asked.is_below(row)
+        && compare_at(asked, row, flags).is_eq()
+}
+
+/// Whether rows are followed no further: what the first ones took is more than [`A_ROW`] for each
+/// row that there is or was made, and those that are left would take more than [`AT_LEAST`].
+pub(crate) fn is_slow(looked: u64, done: usize, all: usize, made: usize) -> bool {
+    let looked = u128::from(looked);
+    let left = all.saturating_sub(done) as u128;
+    looked > A_ROW * (all as u128 + made as u128)
+        && looked.saturating_mul(left) > AT_LEAST * done as u128
+}
