@@ -20,5 +20,5 @@ pub use laws::{
     insert_data_is_modify, modify_deletes_then_inserts, move_is_copy_then_drop, one_answer,
     others_stay, silent_changes_nothing,
 };
-pub use request::apply;
-pub use sparql_solve::{Row, Solutions, ask, select, solve};
+pub use request::{apply, apply_with};
+pub use sparql_solve::{Row, Solutions, ask, ask_with, select, select_with, solve};

@@ -10,7 +10,7 @@ use crate::fault::ApplyFault;
 use crate::quads::{insert_all, remove_all};
 use crate::template::all_instances;
 use rdf_dataset::{Source, Staged, sources_are_sound};
-use rdf_terms::{GraphName, Iri, NoMemory, Term};
+use rdf_terms::{GraphName, Iri, NoMemory, Term, Vocabulary};
 use sparql_solve::{Solutions, sorted_solutions};
 use sparql_trees::Modify;
 use std::alloc::Global;
@@ -74,6 +74,7 @@ fn change<D: Source>(
 /// 10^18; [`ApplyFault::NoMemory`] where memory is wanting.
 pub(crate) fn modify<D: Source>(
     alloc: Global,
+    vocabulary: &Vocabulary,
     operation: &Modify,
     view: &mut Staged<'_, D>,
 ) -> Result<(), ApplyFault>
@@ -83,6 +84,6 @@ pub(crate) fn modify<D: Source>(
     ensures beneath { view.new.under ≡ view.old.under }
 {
     let home = home_of(&operation.with)?;
-    let found = sorted_solutions(alloc, &operation.pattern, &home, view)?;
+    let found = sorted_solutions(alloc, vocabulary, &operation.pattern, &home, view)?;
     change(alloc, operation, &found, &home, view)
 }

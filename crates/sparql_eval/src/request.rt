@@ -7,11 +7,13 @@ use crate::fault::ApplyFault;
 use crate::modify::modify;
 use crate::operations::{is_silent, obstacle, perform};
 use rdf_dataset::{Source, Staged};
+use rdf_terms::Vocabulary;
 use sparql_trees::{Operation, Request};
 use std::alloc::Global;
 
 fn act<S: Source>(
     alloc: Global,
+    vocabulary: &Vocabulary,
     operation: &Operation,
     staged: &mut Staged<'_, S>,
 ) -> Result<(), ApplyFault>
@@ -20,7 +22,7 @@ fn act<S: Source>(
     ensures beneath { staged.new.under ≡ staged.old.under }
 {
     if let Operation::Modify(operation) = operation {
-        return modify(alloc, operation, staged);
+        return modify(alloc, vocabulary, operation, staged);
     }
     if let Some(fault) = obstacle(operation, staged)? {
         return if is_silent(operation) {
@@ -50,8 +52,27 @@ pub fn apply<S: Source>(
         (λ fault. Tells (steps staged.old.now request.now.operations) fault) }
     ensures beneath { staged.new.under ≡ staged.old.under }
 {
+    let vocabulary = Vocabulary::new(alloc)?;
+    apply_with(alloc, &vocabulary, request, staged)
+}
+
+/// What [`apply`] does, with a vocabulary that is lent: whoever applies many requests makes it once.
+///
+/// # Errors
+/// Those of [`apply`].
+pub fn apply_with<S: Source>(
+    alloc: Global,
+    vocabulary: &Vocabulary,
+    request: &Request,
+    staged: &mut Staged<'_, S>,
+) -> Result<(), ApplyFault>
+    ensures leads { OnOk result (steps staged.old.now request.now.operations ≡ Ok staged.new.now) }
+    ensures refused { IfErr result
+        (λ fault. Tells (steps staged.old.now request.now.operations) fault) }
+    ensures beneath { staged.new.under ≡ staged.old.under }
+{
     for operation in request.operations.as_slice() {
-        act(alloc, operation, staged)?;
+        act(alloc, vocabulary, operation, staged)?;
     }
     Ok(())
 }

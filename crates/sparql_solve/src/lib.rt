@@ -26,5 +26,5 @@ mod sides;
 
 pub use keys::runs_give_merges;
 pub use laws::look_ups_are_merges;
-pub use results::{Solutions, ask, select, solve, sorted_solutions};
+pub use results::{Solutions, ask, ask_with, select, select_with, solve, sorted_solutions};
 pub use rows::Row;

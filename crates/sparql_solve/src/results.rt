@@ -37,21 +37,36 @@ pub fn solve<S: Source>(
     ensures { IfOk result (λ s. Solves pattern.now graph.now (S.contents source.now)
         s.variables s.rows.items) }
 {
-    let variables = visible_variables(alloc, pattern)?;
     let vocabulary = Vocabulary::new(alloc)?;
+    solve_with(alloc, &vocabulary, pattern, graph, source)
+}
+
+// What `solve` answers, with a vocabulary that is lent.
+fn solve_with<S: Source>(
+    alloc: Global,
+    vocabulary: &Vocabulary,
+    pattern: &Pattern,
+    graph: &GraphName,
+    source: &S,
+) -> Result<Solutions, NoMemory>
+    ensures { IfOk result (λ s. Solves pattern.now graph.now (S.contents source.now)
+        s.variables s.rows.items) }
+{
+    let variables = visible_variables(alloc, pattern)?;
     let names = variables.as_slice();
-    let rows = group_rows(alloc, names, &vocabulary, graph, source, pattern)?;
+    let rows = group_rows(alloc, names, vocabulary, graph, source, pattern)?;
     Ok(Solutions { variables, rows })
 }
 
 /// The solutions of a pattern in a graph of a dataset, each as often as the algebra counts it,
 /// sorted by the values of the visible variables in the order of their names, unbound first. This
-/// order is the project's own, SPARQL 1.1 Update, section 4.3, names none.
+/// order is the project's own, SPARQL 1.1 Update, section 4.3, names none. The vocabulary is lent.
 ///
 /// # Errors
 /// [`NoMemory`] where memory is wanting.
 pub fn sorted_solutions<S: Source>(
     alloc: Global,
+    vocabulary: &Vocabulary,
     pattern: &Pattern,
     graph: &GraphName,
     source: &S,
@@ -60,7 +75,7 @@ pub fn sorted_solutions<S: Source>(
     ensures rows { IfOk result (λ s. s.rows.items
         ≡ sorted_solutions pattern.now graph.now (S.contents source.now)) }
 {
-    let mut found = solve(alloc, pattern, graph, source)?;
+    let mut found = solve_with(alloc, vocabulary, pattern, graph, source)?;
     sort_rows(&mut found.rows)?;
     Ok(found)
 }
@@ -122,7 +137,29 @@ fn projected_rows(
 pub fn select<S: Source>(alloc: Global, query: &Select, source: &S) -> Result<Vec<Row>, NoMemory>
     ensures { IfOk result (λ rows. IsSelection query.now (S.contents source.now) rows.items) }
 {
-    let found = solve(alloc, &query.pattern, &GraphName::Default, source)?;
+    let vocabulary = Vocabulary::new(alloc)?;
+    select_with(alloc, &vocabulary, query, source)
+}
+
+/// What [`select`] answers, with a vocabulary that is lent: whoever asks many queries makes it once.
+///
+/// # Errors
+/// [`NoMemory`] where memory is wanting.
+pub fn select_with<S: Source>(
+    alloc: Global,
+    vocabulary: &Vocabulary,
+    query: &Select,
+    source: &S,
+) -> Result<Vec<Row>, NoMemory>
+    ensures { IfOk result (λ rows. IsSelection query.now (S.contents source.now) rows.items) }
+{
+    let found = solve_with(
+        alloc,
+        vocabulary,
+        &query.pattern,
+        &GraphName::Default,
+        source,
+    )?;
     let columns = columns_of(alloc, found.variables.as_slice(), query.columns.as_slice())?;
     let rows = found.rows.as_slice();
     let fewer = projected_rows(alloc, rows, columns.as_slice(), query.distinct)?;
@@ -136,6 +173,22 @@ pub fn select<S: Source>(alloc: Global, query: &Select, source: &S) -> Result<Ve
 pub fn ask<S: Source>(alloc: Global, pattern: &Pattern, source: &S) -> Result<bool, NoMemory>
     ensures { IfOk result (λ answer. HasSolution pattern.now (S.contents source.now) answer) }
 {
-    let found = solve(alloc, pattern, &GraphName::Default, source)?;
+    let vocabulary = Vocabulary::new(alloc)?;
+    ask_with(alloc, &vocabulary, pattern, source)
+}
+
+/// What [`ask`] answers, with a vocabulary that is lent: whoever asks many queries makes it once.
+///
+/// # Errors
+/// [`NoMemory`] where memory is wanting.
+pub fn ask_with<S: Source>(
+    alloc: Global,
+    vocabulary: &Vocabulary,
+    pattern: &Pattern,
+    source: &S,
+) -> Result<bool, NoMemory>
+    ensures { IfOk result (λ answer. HasSolution pattern.now (S.contents source.now) answer) }
+{
+    let found = solve_with(alloc, vocabulary, pattern, &GraphName::Default, source)?;
     Ok(!found.rows.as_slice().is_empty())
 }

@@ -1,5 +1,5 @@
 use Rattle.sparql_solve.proofs.ResultLemmas.{answered}
-use Rattle.sparql_solve.proofs.results.ask.Goals as goal
+use Rattle.sparql_solve.proofs.results.ask_with.Goals as goal
 
 pub returns : goal.returns
 returns g c =

@@ -1,6 +1,6 @@
 use Rattle.std.proofs.Common.{◌≡◌, drop}
 use Rattle.sparql_eval.specs.Operations.{steps}
-use Rattle.sparql_eval.proofs.request.apply.Given as goal
+use Rattle.sparql_eval.proofs.request.apply_with.Given as goal
 
 abbrev pub invariant-loop-operation : goal.invariant-loop-operation
 invariant-loop-operation g l = record {

@@ -1,5 +1,5 @@
 use Rattle.sparql_solve.proofs.ResultLemmas.{selected}
-use Rattle.sparql_solve.proofs.results.select.Goals as goal
+use Rattle.sparql_solve.proofs.results.select_with.Goals as goal
 
 pub returns : goal.returns
 returns g c =

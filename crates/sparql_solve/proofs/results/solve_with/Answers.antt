@@ -1,5 +1,5 @@
 use Rattle.sparql_solve.proofs.ResultLemmas.{solved}
-use Rattle.sparql_solve.proofs.results.solve.Goals as goal
+use Rattle.sparql_solve.proofs.results.solve_with.Goals as goal
 
 pub returns : goal.returns
 returns g c =
