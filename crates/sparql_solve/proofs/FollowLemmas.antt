@@ -5,7 +5,7 @@ use Rattle.std.specs.List.Sorted.{IsPermutation}
 use Rattle.std.proofs.lemmas.Bool.{eqb-true, eq-eqb}
 use Rattle.std.proofs.lemmas.Grind.{flat_map-append}
 use Rattle.std.proofs.lemmas.List.{take_more, take_all, take-append-drop, length-replicate}
-use Rattle.std.proofs.lemmas.List.Folds.{list_all-append, flat_map-map}
+use Rattle.std.proofs.lemmas.List.Folds.{list_all-append}
 use Rattle.std.proofs.lemmas.List.Sorted.{sum_by-IsPermutation}
 use Rattle.std.proofs.lemmas.List.Sums.{sum_by-append}
 use Rattle.rdf_terms.specs.declared.term.Term.{Term}
@@ -36,11 +36,11 @@ use Rattle.sparql_solve.specs.declared.look_ups.LookUp.{LookUp}
 use Rattle.sparql_solve.specs.declared.place.Places.{Places}
 use Rattle.sparql_solve.specs.Matching.{has_column, is_place_at, place_by, place_of, places_of}
 use Rattle.sparql_solve.specs.Sides.{look_up_in, tried, found}
-use Rattle.sparql_solve.specs.Members.{AreSolutions, element_solutions, over_names, over_groups}
+use Rattle.sparql_solve.specs.Members.{AreSolutions, element_solutions}
 use Rattle.sparql_solve.specs.Under.{binds_none, is_unit, below, masked, flags_where, is_joined, is_wide, kept, asked, made, made_by, under_name, AreUnder, AreMade, IsLookUpOf}
 use Rattle.sparql_solve.proofs.SideLemmas.{same_all, all_give, times_once, sum_times, basic_look_up}
 use Rattle.sparql_solve.proofs.MemberLemmas.{extended_push, union_is, once_for_all}
-use Rattle.sparql_solve.proofs.SharedLemmas.{replicate_none, agreeing_none, below_none, merge_none, merges_none, below_masked, length_masked, masked_cut, shared, SameBag-kept}
+use Rattle.sparql_solve.proofs.SharedLemmas.{replicate_none, below_none, merges_none, below_masked, length_masked, masked_cut, shared, SameBag-kept}
 
 -- ---- lengths
 

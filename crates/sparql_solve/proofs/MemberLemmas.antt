@@ -1,7 +1,6 @@
 -- The steps of the evaluator against the solutions of the group so far.
-use Rattle.std.proofs.Common.{◌≡◌, ℕ, ◌+◌, ◌<◌, ◌≤◌, Bool, true, false, cond, List, [], ◌∷◌, ◌++◌, map, filter, None, refl, sym, ap, ◌∙◌, subst, length, take, drop, replicate, get_or, append_assoc, append-nil, arith, nat_eq}
-use Rattle.std.specs.List.{fold, flat_map, sum_by, list_any}
-use Rattle.std.proofs.lemmas.Bool.{eqb-true}
+use Rattle.std.proofs.Common.{◌≡◌, ℕ, ◌+◌, ◌<◌, ◌≤◌, false, List, [], ◌∷◌, ◌++◌, map, refl, sym, ap, ◌∙◌, length, take, drop, get_or, append_assoc, append-nil, arith}
+use Rattle.std.specs.List.{fold, flat_map, sum_by}
 use Rattle.std.proofs.lemmas.Grind.{flat_map-append}
 use Rattle.std.proofs.lemmas.List.{take_all, take_more, drop_more}
 use Rattle.std.proofs.lemmas.List.Sums.{sum_by-append}
@@ -9,21 +8,16 @@ use Rattle.rdf_terms.specs.declared.term.Term.{Term}
 use Rattle.rdf_terms.specs.declared.quad.GraphName.{GraphName}
 use Rattle.rdf_terms.specs.declared.quad.GraphName.TheVariants.{Named}
 use Rattle.rdf_dataset.specs.State.{State}
-use Rattle.rdf_dataset.specs.Sorted.{ListsOnce}
-use Rattle.sparql_trees.specs.declared.expression.Expression.{Expression}
 use Rattle.sparql_trees.specs.declared.pattern.Member.{Member}
-use Rattle.sparql_trees.specs.declared.pattern.Member.TheVariants as m
 use Rattle.sparql_trees.specs.declared.pattern.Pattern.{Pattern}
-use Rattle.sparql_trees.specs.declared.pattern.VarOrIri.{VarOrIri}
-use Rattle.sparql_trees.specs.declared.pattern.VarOrIri.TheVariants as v
-use Rattle.sparql_algebra.specs.Algebra.{Algebra, empty_pattern, union, graph, filtered, extended, element, group_of, translation, union_of}
+use Rattle.sparql_algebra.specs.Algebra.{Algebra, union, extended, element, translation}
 use Rattle.sparql_algebra.specs.Bags.{SameBag}
-use Rattle.sparql_algebra.specs.Listing.{Listing, Lists}
-use Rattle.sparql_values.specs.Mapping.{Variables, Mapping, same_term, single}
-use Rattle.sparql_algebra.specs.Solutions.{merges, joins, satisfies, solutions}
+use Rattle.sparql_algebra.specs.Listing.{Listing}
+use Rattle.sparql_values.specs.Mapping.{Variables, Mapping, single}
+use Rattle.sparql_algebra.specs.Solutions.{merges, joins, solutions}
 use Rattle.sparql_algebra.specs.Under.{reads}
-use Rattle.sparql_algebra.proofs.CallerLemmas.{active_unread, joins_commute, SameBag-refl, SameBag-filter, SameBag-joins, SameBag-flat_map, filter_always, names_same, translation-is, element-Union, empty_solutions}
-use Rattle.sparql_solve.specs.Members.{AreSolutions, AreMoreSolutions, element_solutions, over_names, over_groups}
+use Rattle.sparql_algebra.proofs.CallerLemmas.{active_unread, joins_commute, SameBag-refl, SameBag-joins, SameBag-flat_map}
+use Rattle.sparql_solve.specs.Members.{AreSolutions, AreMoreSolutions, over_names, over_groups}
 
 -- ---- the members of a group
 

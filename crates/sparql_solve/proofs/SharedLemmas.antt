@@ -1,9 +1,8 @@
 -- What was found for some columns of a row serves each row that has the same there.
-use Rattle.std.proofs.Common.{◌≡◌, ℕ, zero, suc, ◌+◌, Bool, true, false, cond, ◌&&◌, List, [], ◌∷◌, map, filter, Option, Some, None, refl, sym, ap, ◌∙◌, length, replicate, arith}
+use Rattle.std.proofs.Common.{◌≡◌, ℕ, zero, suc, Bool, true, false, cond, ◌&&◌, List, [], ◌∷◌, map, filter, Option, Some, None, refl, sym, ap, ◌∙◌, length, replicate, arith}
 use mathlib.Core.Bool.{true≢false}
 use Rattle.std.specs.List.{sum_by, list_all}
 use Rattle.rdf_terms.specs.declared.term.Term.{Term}
-use Rattle.sparql_trees.specs.declared.expression.Expression.{Expression}
 use Rattle.sparql_values.specs.Mapping.{Variables, Mapping, same_term, agrees, first_of, compatible, merge}
 use Rattle.sparql_values.proofs.CallerLemmas.{same_term_own}
 use Rattle.sparql_algebra.specs.Algebra.{Element, joined, optional}

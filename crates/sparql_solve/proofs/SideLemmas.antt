@@ -1,5 +1,5 @@
 -- What is looked up under a row gives its merges with the right side's solutions.
-use Rattle.std.proofs.Common.{◌≡◌, ℕ, ◌+◌, ◌*◌, ◌≤◌, zero, suc, Bool, true, false, cond, ◌&&◌, List, [], ◌∷◌, ◌++◌, map, filter, Option, Some, None, IfSome, refl, sym, ap, ◌∙◌, length, drop, replicate, arith, append-nil}
+use Rattle.std.proofs.Common.{◌≡◌, ℕ, ◌+◌, ◌*◌, ◌≤◌, zero, suc, Bool, true, false, cond, ◌&&◌, List, [], ◌∷◌, ◌++◌, map, Option, Some, None, IfSome, refl, sym, ap, ◌∙◌, length, drop, replicate, arith, append-nil}
 use Rattle.std.specs.Prelude.{slice_set}
 use Rattle.std.specs.List.{flat_map, sum_by, count_by, list_any, list_all}
 use Rattle.std.proofs.lemmas.List.{drop_all, length-replicate}
@@ -21,8 +21,8 @@ use Rattle.sparql_values.specs.Mapping.{Variables, Mapping, same_term, column, v
 use Rattle.sparql_algebra.specs.Algebra.{Algebra, basic, join, graph, empty_pattern, Element, joined, optional, filtered, extended, element, group_of, translation}
 use Rattle.sparql_algebra.specs.Bags.{SameBag}
 use Rattle.sparql_algebra.specs.Listing.{Listing, Lists}
-use Rattle.sparql_algebra.specs.Solutions.{basic_solutions, merges, joins, or_alone, left_joins, satisfies, solutions}
-use Rattle.sparql_algebra.proofs.CallerLemmas.{one, sum_by-cong, sum_by-flat_map, SameBag-refl, SameBag-trans, SameBag-filter, SameBag-merges, SameBag-joins, SameBag-or_alone, SameBag-left_joins, SameBag-flat_map, has_length, length_from, length_to, merge_length, set_length, solutions_length, sum_where, sum_zero, same_term_is, name_once, names_same, translation-is, element-Basic, element-Optional, element-Graph, empty_solutions, empty_joins, joins_commute, joins_associate}
+use Rattle.sparql_algebra.specs.Solutions.{basic_solutions, merges, joins, solutions}
+use Rattle.sparql_algebra.proofs.CallerLemmas.{one, sum_by-cong, sum_by-flat_map, SameBag-refl, SameBag-merges, SameBag-joins, SameBag-flat_map, has_length, length_from, length_to, merge_length, set_length, solutions_length, sum_where, sum_zero, same_term_is, name_once, names_same, translation-is, element-Basic, element-Optional, element-Graph, empty_solutions, empty_joins, joins_commute, joins_associate}
 use Rattle.sparql_solve.specs.declared.look_ups.Graphs.{Graphs}
 use Rattle.sparql_solve.specs.declared.look_ups.Graphs.TheVariants.{One, Each}
 use Rattle.sparql_solve.specs.declared.look_ups.LookUp.{LookUp}

@@ -1,11 +1,10 @@
 -- Look-ups of the right side of a join under each left solution.
-use Rattle.std.specs.Prelude.{◌≡◌, ℕ, Bool, List, [], ◌∷◌, length, Option, Some, None, cond, map, filter}
+use Rattle.std.specs.Prelude.{◌≡◌, ℕ, Bool, List, [], ◌∷◌, Option, Some, None, cond, map}
 use Rattle.std.specs.List.{flat_map, list_any}
 use Rattle.rdf_terms.specs.declared.term.Term.{Term}
 use Rattle.rdf_terms.specs.declared.term.Term.TheVariants as t
 use Rattle.rdf_terms.specs.declared.quad.GraphName.{GraphName}
 use Rattle.rdf_terms.specs.declared.quad.GraphName.TheVariants.{Named}
-use Rattle.rdf_dataset.specs.State.{State}
 use Rattle.sparql_trees.specs.declared.pattern.BasicGraphPattern.{BasicGraphPattern}
 use Rattle.sparql_trees.specs.declared.pattern.Member.{Member}
 use Rattle.sparql_trees.specs.declared.pattern.Member.TheVariants as m
@@ -14,9 +13,7 @@ use Rattle.sparql_trees.specs.declared.pattern.VarOrIri.{VarOrIri}
 use Rattle.sparql_trees.specs.declared.pattern.VarOrIri.TheVariants as v
 use Rattle.sparql_values.specs.Mapping.{Variables, Mapping, same_term, value_of, single, compatible, merge}
 use Rattle.sparql_algebra.specs.Algebra.{Element, joined, optional, element}
-use Rattle.sparql_algebra.specs.Bags.{SameBag}
-use Rattle.sparql_algebra.specs.Listing.{Listing, Lists}
-use Rattle.sparql_algebra.specs.Solutions.{merges, or_alone, satisfies}
+use Rattle.sparql_algebra.specs.Listing.{Listing}
 use Rattle.sparql_solve.specs.declared.look_ups.Graphs.{Graphs}
 use Rattle.sparql_solve.specs.declared.look_ups.Graphs.TheVariants.{One, Missing, Each}
 use Rattle.sparql_solve.specs.declared.look_ups.LookUp.{LookUp}

@@ -18,7 +18,7 @@ use crate::members::{is_joined, look_up_of};
 use crate::names::{names_under, rows_of_names};
 use crate::rows::Row;
 use crate::shapes::group_reads;
-use crate::sharing::{asked_columns, gather, is_slow, serves};
+use crate::sharing::{asked_columns, gather, serves, stops};
 use crate::sides::{Found, Made, asked, made_rows, rows_beside, rows_looked_up, rows_with};
 use rdf_dataset::Source;
 use rdf_terms::{GraphName, NoMemory, Term, Text, Vocabulary};
@@ -213,7 +213,7 @@ fn rows_followed<S: Source>(
         let row = &rows[done];
         let is_shared = serves(&found.columns, row, flags);
         let taken = looked.get().saturating_sub(before);
-        if !is_shared && is_slow(taken, done, rows.len(), out.len()) {
+        if !is_shared && stops(member, taken, done, rows.len(), out.len()) {
             return Ok(Made { rows: out, done });
         }
         if !is_shared {

@@ -127,8 +127,17 @@ pub(crate) fn serves(asked: &Row, row: &Row, flags: &[bool]) -> bool
         && compare_at(asked, row, flags).is_eq()
 }
 
-/// Whether rows are followed no further: what the first ones took is more than [`A_ROW`] for each
-/// row that there is or was made, and those that are left would take more than [`AT_LEAST`].
+/// Whether a member is followed no further: a basic graph pattern is to the end, another one as
+/// [`is_slow`] says.
+pub(crate) fn stops(member: &Member, looked: u64, done: usize, all: usize, made: usize) -> bool {
+    match member {
+        Member::Basic(_) => false,
+        _ => is_slow(looked, done, all, made),
+    }
+}
+
+/// Whether what the first rows took is more than [`A_ROW`] for each row that there is or was made,
+/// and those that are left would take more than [`AT_LEAST`].
 pub(crate) fn is_slow(looked: u64, done: usize, all: usize, made: usize) -> bool {
     let looked = u128::from(looked);
     let left = all.saturating_sub(done) as u128;
