@@ -51,16 +51,20 @@ impl<'a> Model for Scope<'a> {
 }
 
 impl<'a> Scope<'a> {
-    /// This base; nothing is declared, and nothing said.
+    /// This base; nothing is declared, and nothing said. The vocabulary is shared.
     ///
     /// # Errors
     /// [`NoMemory`] where memory is wanting.
-    pub fn new(alloc: Global, base: Option<Iri>) -> Result<Scope<'a>, NoMemory>
+    pub fn new(
+        alloc: Global,
+        vocabulary: &Vocabulary,
+        base: Option<Iri>,
+    ) -> Result<Scope<'a>, NoMemory>
         ensures { IfOk result (λ scope. scope ≡ drafting.start (prologue.start base)) }
     {
         Ok(Scope {
             alloc,
-            vocabulary: Vocabulary::new(alloc)?,
+            vocabulary: vocabulary.copy()?,
             prologue: Prologue::new(alloc, base)?,
             graph: None,
             numbering: Numbering::new(alloc),

@@ -15,7 +15,7 @@ use crate::basic::variable_name;
 use crate::group::pattern_of;
 use crate::known::first_unknown;
 use rdf_grammar::PrologueFault;
-use rdf_terms::{Iri, Items, NoMemory, Text};
+use rdf_terms::{Iri, Items, NoMemory, Text, Vocabulary};
 use rdf_tokens::Slice;
 use sparql_drafts::Scope;
 use sparql_grammar::{Columns, Declaration, Query as Written, QueryForm};
@@ -121,15 +121,20 @@ fn said_in<'a>(
 }
 
 // The prologue as it begins.
-fn begun<'a>(alloc: Global, base: Option<&Iri>) -> Result<Scope<'a>, NoMemory>
+fn begun<'a>(
+    alloc: Global,
+    vocabulary: &Vocabulary,
+    base: Option<&Iri>,
+) -> Result<Scope<'a>, NoMemory>
     ensures { IfOk result (λ scope. scope.prologue ≡ prologue.start (option_copied base.entry)) }
 {
-    Scope::new(alloc, copied(base)?)
+    Scope::new(alloc, vocabulary, copied(base)?)
 }
 
 // What a query says whose prefixes are declared.
 fn said_where_known<'a>(
     alloc: Global,
+    vocabulary: &Vocabulary,
     base: Option<&Iri>,
     query: &Written<'a>,
 ) -> Result<Said<'a>, PrologueFault>
@@ -140,7 +145,7 @@ fn said_where_known<'a>(
         × (spec.query_in (option_copied base.entry) query.now ≡ Some (said.query, said.labels)))
         (λ fault. spec.IsFaultOf (option_copied base.entry) query.now fault) }
 {
-    let mut scope = begun(alloc, base)?;
+    let mut scope = begun(alloc, vocabulary, base)?;
     let mut labels = Items::new(alloc);
     match said_in(alloc, &mut scope, &mut labels, query) {
         Err(fault) => Err(fault),
@@ -150,7 +155,7 @@ fn said_where_known<'a>(
 
 /// What a query says: names have their IRIs, and the blank nodes of each basic graph pattern are
 /// hidden variables, numbered from 0 by their places in the text (SPARQL 1.1 Query, sections 4.1, 5
-/// and 16).
+/// and 16). The IRIs of short forms are the vocabulary's.
 ///
 /// # Errors
 /// [`PrologueFault::UnknownPrefix`] where a prefix is used that isn't declared, at the first such
@@ -158,6 +163,7 @@ fn said_where_known<'a>(
 /// [`PrologueFault::NoMemory`] where memory is wanting.
 pub fn said_by<'a>(
     alloc: Global,
+    vocabulary: &Vocabulary,
     base: Option<&Iri>,
     query: &Written<'a>,
 ) -> Result<Said<'a>, PrologueFault>
@@ -169,6 +175,6 @@ pub fn said_by<'a>(
 {
     match first_unknown(alloc, query)? {
         Some(start) => Err(PrologueFault::UnknownPrefix(start)),
-        None => said_where_known(alloc, base, query),
+        None => said_where_known(alloc, vocabulary, base, query),
     }
 }

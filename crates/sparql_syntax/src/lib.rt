@@ -22,8 +22,8 @@ pub use laws::{
     data_are_quads, delete_where_is_its_group, labels_are_shared, one_query, one_request,
 };
 pub use operation::blank_numbers_are_below;
-pub use query::read_query;
-pub use read::read_update;
+pub use query::{read_query, read_query_with};
+pub use read::{read_update, read_update_with};
 pub use sparql_trees::{
     Data, GraphOrDefault, GraphRefAll, GroundData, Modify, Operation, QuadPattern, Request,
     Template,

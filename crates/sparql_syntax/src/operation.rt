@@ -18,7 +18,7 @@ ghost use Rattle.sparql_trees.specs.declared.operation.Operation.TheVariants as 
 use crate::draft::{Draft, Modification};
 use crate::known::first_unknown;
 use rdf_grammar::PrologueFault;
-use rdf_terms::{Iri, Items, NoMemory};
+use rdf_terms::{Iri, Items, NoMemory, Vocabulary};
 use sparql_drafts::{Quads, Scope};
 use sparql_grammar::{
     Block, GraphOrDefault as WrittenPlace, GraphRefAll as WrittenGraphs, Modify, Name,
@@ -297,6 +297,7 @@ fn all_drafts<'a>(
 /// [`PrologueFault::NoMemory`] where memory is wanting.
 pub(crate) fn drafts_of<'a>(
     alloc: Global,
+    vocabulary: &Vocabulary,
     base: Option<&Iri>,
     parts: Vec<Part<'a>>,
 ) -> Result<Items<Draft<'a>>, PrologueFault>
@@ -308,7 +309,7 @@ pub(crate) fn drafts_of<'a>(
     if let Some(start) = first_unknown(alloc, parts.as_slice())? {
         return Err(PrologueFault::UnknownPrefix(start));
     }
-    let mut scope = Scope::new(alloc, copied(base)?)?;
+    let mut scope = Scope::new(alloc, vocabulary, copied(base)?)?;
     all_drafts(alloc, &mut scope, parts)
 }
 

@@ -13,7 +13,7 @@ use crate::labels::first_repeated;
 use crate::text::{check_profile, fault_at, name_fault, start_of, stop_fault, tokens_of};
 use indexmap::IndexSet;
 use rdf_grammar::lexemes;
-use rdf_terms::Iri;
+use rdf_terms::{Iri, Vocabulary};
 use rdf_tokens::Token;
 use sparql_grammar::{Query as Tree, Stop, parse_query};
 use sparql_queries::{Said, said_by};
@@ -62,7 +62,12 @@ fn query_of(alloc: Global, text: &str, said: Said<'_>) -> Result<Query, SyntaxFa
 }
 
 // The query that a text is.
-fn read_text(alloc: Global, text: &str, base: Option<&Iri>) -> Result<Query, SyntaxFault>
+fn read_text(
+    alloc: Global,
+    vocabulary: &Vocabulary,
+    text: &str,
+    base: Option<&Iri>,
+) -> Result<Query, SyntaxFault>
     requires { IsUtf8 text.now }
     ensures { MatchResult result
         (λ query. IsQuery (option_copied base.entry) text.now query)
@@ -72,7 +77,7 @@ fn read_text(alloc: Global, text: &str, base: Option<&Iri>) -> Result<Query, Syn
         Ok(tree) => tree,
         Err(fault) => return Err(fault),
     };
-    let said = match said_by(alloc, base, &tree) {
+    let said = match said_by(alloc, vocabulary, base, &tree) {
         Ok(said) => said,
         Err(fault) => return Err(name_fault(text.as_bytes(), fault)),
     };
@@ -93,8 +98,26 @@ pub fn read_query(alloc: Global, bytes: &[u8], base: Option<&Iri>) -> Result<Que
         (λ query. IsQuery (option_copied base.entry) bytes.now query)
         (λ fault. TellsFault (option_copied base.entry) bytes.now fault fault.kind) }
 {
+    let vocabulary = Vocabulary::new(alloc)?;
+    read_query_with(alloc, &vocabulary, bytes, base)
+}
+
+/// What [`read_query`] answers, with a vocabulary that is lent: whoever reads many queries makes it once.
+///
+/// # Errors
+/// Those of [`read_query`].
+pub fn read_query_with(
+    alloc: Global,
+    vocabulary: &Vocabulary,
+    bytes: &[u8],
+    base: Option<&Iri>,
+) -> Result<Query, SyntaxFault>
+    ensures { MatchResult result
+        (λ query. IsQuery (option_copied base.entry) bytes.now query)
+        (λ fault. TellsFault (option_copied base.entry) bytes.now fault fault.kind) }
+{
     match str::from_utf8(bytes) {
-        Ok(text) => read_text(alloc, text, base),
+        Ok(text) => read_text(alloc, vocabulary, text, base),
         Err(fault) => Err(fault_at(bytes, SyntaxFaultKind::NotUtf8, fault.valid_up_to())),
     }
 }

@@ -17,7 +17,7 @@ use crate::request::operations_of;
 use crate::rules::{Broken, first_broken};
 use crate::text::{check_profile, fault_at, name_fault, start_of, stop_fault, tokens_of};
 use rdf_grammar::lexemes;
-use rdf_terms::{Iri, Items};
+use rdf_terms::{Iri, Items, Vocabulary};
 use rdf_tokens::Token;
 use sparql_grammar::{Part, Stop, parse_update};
 use sparql_trees::Request;
@@ -70,7 +70,12 @@ fn request_of(alloc: Global, text: &str, drafts: Items<Draft<'_>>) -> Result<Req
 }
 
 // The request that a text is.
-fn read_text(alloc: Global, text: &str, base: Option<&Iri>) -> Result<Request, SyntaxFault>
+fn read_text(
+    alloc: Global,
+    vocabulary: &Vocabulary,
+    text: &str,
+    base: Option<&Iri>,
+) -> Result<Request, SyntaxFault>
     requires { IsUtf8 text.now }
     ensures { MatchResult result
         (λ request. IsUpdate (option_copied base.entry) text.now request)
@@ -80,7 +85,7 @@ fn read_text(alloc: Global, text: &str, base: Option<&Iri>) -> Result<Request, S
         Ok(tree) => tree,
         Err(fault) => return Err(fault),
     };
-    let drafts = match drafts_of(alloc, base, tree.into_vec()) {
+    let drafts = match drafts_of(alloc, vocabulary, base, tree.into_vec()) {
         Ok(drafts) => drafts,
         Err(fault) => return Err(name_fault(text.as_bytes(), fault)),
     };
@@ -104,8 +109,26 @@ pub fn read_update(alloc: Global, bytes: &[u8], base: Option<&Iri>) -> Result<Re
         (λ request. IsUpdate (option_copied base.entry) bytes.now request)
         (λ fault. TellsFault (option_copied base.entry) bytes.now fault fault.kind) }
 {
+    let vocabulary = Vocabulary::new(alloc)?;
+    read_update_with(alloc, &vocabulary, bytes, base)
+}
+
+/// What [`read_update`] answers, with a vocabulary that is lent: whoever reads many requests makes it once.
+///
+/// # Errors
+/// Those of [`read_update`].
+pub fn read_update_with(
+    alloc: Global,
+    vocabulary: &Vocabulary,
+    bytes: &[u8],
+    base: Option<&Iri>,
+) -> Result<Request, SyntaxFault>
+    ensures { MatchResult result
+        (λ request. IsUpdate (option_copied base.entry) bytes.now request)
+        (λ fault. TellsFault (option_copied base.entry) bytes.now fault fault.kind) }
+{
     match str::from_utf8(bytes) {
-        Ok(text) => read_text(alloc, text, base),
+        Ok(text) => read_text(alloc, vocabulary, text, base),
         Err(fault) => Err(fault_at(bytes, SyntaxFaultKind::NotUtf8, fault.valid_up_to())),
     }
 }
