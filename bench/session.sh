@@ -1,6 +1,8 @@
 #!/usr/bin/env bash
 # Runs a session of many small commands, a load and its undo in turn, from a file and over a pipe, and prints what each takes. With a
-# second program, as one built before a change, it runs both in turn, in one go, and prints the ratios.
+# second program, as one built before a change, it runs both in turn, in one go, and prints the ratios. Then it runs sessions of loads
+# and deletions of one quad with and without a depth of 100, over a tenth and over all of so many, of 100 quads again and again and of
+# quads that are always new.
 # Usage: bench/session.sh [RDFKEEP [OTHER [COUNT]]], where COUNT is the number of loads, each with its undo (apt-get install time).
 set -euo pipefail
 here=$(cd "$(dirname "$0")" && pwd)
@@ -30,6 +32,19 @@ measure() {
     cmp "$work/out" "$work/answers"
 }
 
+# loads of one quad, each deleted: how many, and how many quads they are of
+changes() {
+    python3 - "$work/$1" "$2" "$3" <<'PY'
+import sys
+
+path, count, quads = sys.argv[1], int(sys.argv[2]), int(sys.argv[3])
+with open(path, "w") as script:
+    for number in range(count):
+        quad = f'<http://e/s{number % quads}> <http://e/p> "{number % quads}" .'
+        script.write(f"%load nquads\n{quad}\n%end\n%update\nDELETE DATA {{ {quad} }}\n%end\n")
+PY
+}
+
 for round in 1 2 3; do
     measure "this.$round" "$rdfkeep"
     if [ -n "$other" ]; then measure "other.$round" "$other"; fi
@@ -52,3 +67,17 @@ if "other" in names:
         ratios = [there / max(here, 0.01) for here, there in zip(best["this", way], best["other", way])]
         print("other / this, %s: user %.2f, wall %.2f, peak %.2f" % (way, *ratios))
 PY
+
+printf '\n%-34s %10s %10s %12s\n' 'loads and deletions of one quad' 'user s' 'wall s' 'peak MB'
+for quads in 100 $((10 * count)); do
+    for size in $((count / 10)) "$count"; do
+        changes changes "$size" "$quads"
+        for words in "" "--depth 100"; do
+            # shellcheck disable=SC2086
+            /usr/bin/time -f '%U %e %M' -o "$work/taken" "$rdfkeep" run $words "$work/changes" > "$work/out"
+            read -r user wall peak < "$work/taken"
+            name="$size of $([ "$quads" = 100 ] && echo 100 || echo all new)${words:+, $words}"
+            printf '%-34s %10s %10s %12s\n' "$name" "$user" "$wall" "$(python3 -c "print('%.1f' % ($peak * 1024 / 1e6))")"
+        done
+    done
+done

@@ -12,7 +12,7 @@ _rdfkeep() {
     COMPREPLY=()
     case $before in
         --format | --from) words=$formats ;;
-        --base) return ;;
+        --base | --depth) return ;;
         --data) compopt -o default 2> /dev/null; return ;;
         *)
             if [[ $COMP_CWORD -eq 1 ]]; then
@@ -23,7 +23,7 @@ _rdfkeep() {
                 compopt -o default 2> /dev/null
                 return
             elif [[ ${COMP_WORDS[1]} == run ]]; then
-                words='--base --data --format --stop --help --version'
+                words='--base --data --depth --format --stop --help --version'
             elif [[ ${COMP_WORDS[1]} == convert ]]; then
                 words='--from --base --help --version'
             fi

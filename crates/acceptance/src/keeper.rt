@@ -39,6 +39,42 @@ fn there_and_back(rt: HostRuntime) {
     assert!(rt; is_back);
 }
 
+const LINES: [&[u8]; 3] = [
+    b"<a:s> <a:p> \"1\" .",
+    b"<a:s> <a:p> \"2\" .",
+    b"<a:s> <a:p> \"3\" .",
+];
+
+// Whether each of three lines is a new quad.
+fn loads_three(keeper: &mut Keeper) -> bool {
+    let mut are_new = true;
+    for line in LINES {
+        are_new = are_new && keeper.load(Format::NQuads, line) == Ok(ADDED);
+    }
+    are_new
+}
+
+// Whether a keeper that keeps two requests takes back two of three, and forgets the mark before them.
+fn takes_back_two(alloc: Global, keeper: &mut Keeper) -> bool {
+    keeper.mark(b"empty").is_ok()
+        && loads_three(keeper)
+        && keeper.entries().len() == 2
+        && keeper.rollback(b"empty") == Err(KeeperFault::NoSuchMark)
+        && keeper.undo() == Ok(REMOVED)
+        && keeper.undo() == Ok(REMOVED)
+        && keeper.undo() == Err(KeeperFault::NothingToUndo)
+        && added(keeper) == Some(0)
+        && has_quads(alloc, keeper, b"<a:s> <a:p> \"1\" .\n")
+}
+
+#[test]
+fn bounded(rt: HostRuntime) {
+    let mut keeper = Keeper::new(rt.alloc(), None).with_depth(2);
+    let is_bounded = takes_back_two(rt.alloc(), &mut keeper);
+    drop(keeper);
+    assert!(rt; is_bounded);
+}
+
 fn has_names(keeper: &Keeper, wanted: &[Term]) -> bool {
     match keeper.names() {
         Ok(names) => names.as_slice() == wanted,

@@ -1,5 +1,6 @@
 //! The whole program, over its words, its standard input, output and error.
 ghost use Rattle.std.specs.Prelude.{◌≡◌, ◌≢◌, ◌≤◌, ℕ, List, [], Option, Some, Result, IfOk, IfErr, OnOk, OnErr};
+ghost use Rattle.rdf_dataset.specs.State.{empty_state};
 ghost use Rattle.std.specs.List.{concat};
 ghost use Rattle.std.specs.Option.{option_copied};
 ghost use Rattle.std.specs.Io.KnownBytes.{Appends};
@@ -7,8 +8,10 @@ ghost use Rattle.rdf_keeper.specs.Conversion.Converts.{Converts};
 ghost use Rattle.rdf_keeper.specs.Inside.Outcomes.{status_of, outcome_of};
 ghost use Rattle.rdf_keeper.specs.Inside.Starts.{BeginsWithData, IsNoWantOfMemory, outcome_after};
 ghost use Rattle.rdf_keeper.specs.Script.Runs.{RunsOver};
+ghost use Rattle.rdf_keeper.specs.declared.program.outcome.Outcome.TheVariants.{BadWords};
 ghost use Rattle.rdf_keeper.specs.declared.script.status.Status.{Status};
-ghost use Rattle.rdf_session.specs.Session.{Session};
+ghost use Rattle.rdf_session.specs.Depth.{IsDepth, greatest_depth};
+ghost use Rattle.rdf_session.specs.Session.{Session, fresh, with_depth};
 ghost use Rattle.rdf_keeper.specs.declared.conversion.fault.ConvertFault.{ConvertFault};
 
 mod help;
@@ -39,6 +42,23 @@ fn base_of(alloc: Global, word: Option<&str>) -> Result<Option<Iri>, Outcome>
             Err(IriFault::NoMemory(refused)) => Err(Outcome::NoMemory(refused)),
             Err(IriFault::Relative | IriFault::BadCharacter) => Err(Outcome::BadBase),
         },
+    }
+}
+
+// The greatest depth of a history.
+const GREATEST_DEPTH: usize = 1_000_000;
+
+// A session without data, which keeps so many entries where the words say how many.
+fn begun(alloc: Global, base: Option<Iri>, depth: Option<usize>) -> Result<Keeper, Outcome>
+    ensures ok { IfOk result (λ keeper. keeper ≡ with_depth depth (fresh base (empty_state 0))) }
+    ensures err { IfErr result (λ outcome. (IsDepth depth → ⊥)
+        × (outcome ≡ BadWords)) }
+{
+    let keeper = Keeper::new(alloc, base);
+    match depth {
+        None => Ok(keeper),
+        Some(depth) if depth == 0 || depth > GREATEST_DEPTH => Err(Outcome::BadWords),
+        Some(depth) => Ok(keeper.with_depth(depth)),
     }
 }
 
@@ -107,8 +127,12 @@ fn run_words<T: Files, R: Read + Drop, W: Write>(
     ensures { status_of result ≡ 2 →
         Appends (W.contents writer.old) (W.contents writer.new) [] }
 {
-    let mut keeper = match base_of(alloc, words.base) {
-        Ok(base) => Keeper::new(alloc, base),
+    let base = match base_of(alloc, words.base) {
+        Ok(base) => base,
+        Err(outcome) => return outcome,
+    };
+    let mut keeper = match begun(alloc, base, words.depth) {
+        Ok(keeper) => keeper,
         Err(outcome) => return outcome,
     };
     if let Some(path) = words.data {

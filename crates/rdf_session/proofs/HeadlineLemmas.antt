@@ -1,17 +1,18 @@
 -- The promise of the whole.
-use Rattle.std.proofs.Common.{◌≡◌, ℕ, List, [], ◌∷◌, ◌++◌, take, Option, Result, Ok, Err, refl, sym, ap, ◌∙◌, subst}
+use Rattle.std.proofs.Common.{◌≡◌, ℕ, Bool, true, false, cond, List, [], ◌∷◌, ◌++◌, take, Option, Result, Ok, Err, refl, sym, ap, ◌∙◌, subst}
 use Rattle.rdf_dataset.specs.State.{State, net_between}
-use Rattle.rdf_session.proofs.GivesBackLemmas.{now_accepted, redo_gives_again, undo_gives_back}
+use Rattle.rdf_session.proofs.ForgettingLemmas.{now_accepted}
+use Rattle.rdf_session.proofs.GivesBackLemmas.{redo_gives_again, undo_gives_back}
 use Rattle.rdf_session.proofs.InsertionLemmas.{load_inserts}
 use Rattle.rdf_session.proofs.NetLemmas.{applied_is, turned_is}
 use Rattle.rdf_session.proofs.OneReplyLemmas.{never_refused, one_document}
 use Rattle.rdf_session.specs.Inside.ReaderLaws.{ReaderLaws}
-use Rattle.rdf_session.proofs.StandingLemmas.{Agrees, fresh_agrees, run_agrees, standing, transition_agrees}
+use Rattle.rdf_session.proofs.StandingLemmas.{AcceptsBoth, Agrees, accepts_both, fresh_agrees, run_agrees, standing, transition_agrees}
 use Rattle.rdf_session.specs.Headline.{HasOperations, HaveOperations, MakeExactly, committed_by, committed, standing_since, still_standing, HaveEntries, Headline}
-use Rattle.rdf_session.specs.History.{nothing}
+use Rattle.rdf_session.specs.History.{is_too_long, nothing, pushed}
 use Rattle.rdf_session.specs.LoadLaws.{insertion}
 use Rattle.rdf_session.specs.Request.{Request, Load, Update, Makes}
-use Rattle.rdf_session.specs.Session.{Session, Command, Reply, Do, Undo, Redo, Mark, Rollback, Commit, Changed, Done, Refused, Transition, fresh, nets_between, now}
+use Rattle.rdf_session.specs.Session.{Session, Command, Reply, Do, Undo, Redo, Mark, Rollback, Commit, Changed, Done, Refused, Transition, accepted, forgetting, fresh, grown, nets_between, now, with_depth}
 use Rattle.rdf_session.specs.Standing.{Run, Requests, Follows, MakesAll, kept_after, requests_of}
 use Rattle.sparql_eval.specs.Operations.{go_on, step, steps}
 use Rattle.sparql_eval.specs.declared.fault.ApplyFault.{ApplyFault}
@@ -105,33 +106,48 @@ makes_on : (base : Base) (requests more : List Request) (s t u : State) → Make
 makes_on base [] more s t u a b = subst (λ x. MakesAll base more x u) a b
 makes_on base (request ∷ requests) more s t u a b = (a.0, a.1, makes_on base requests more a.0 t u a.2 b)
 
-stands_now : (base : Base) (s : Session) (h : Requests) → Agrees base s h → MakesAll base (take h.cursor h.items) s.base (now s)
-stands_now base s h a =
+stands_now : (depth : Option ℕ) (base : Base) (s : Session) (h : Requests) → Agrees depth base s h → MakesAll base (take h.cursor h.items) s.base (now s)
+stands_now depth base s h a =
     subst (λ k. MakesAll base (take k h.items) s.base (now s)) (sym a.cursor) (standing base s.base h.items s.states.items s.states.cursor s.base a.follows a.within)
 
--- the base moves over the requests that a command commits
-base_after : (base : Base) (old new : Session) (c : Command) (r : Reply) (h : Requests) → Agrees base old h → Transition old c r new → MakesAll base (committed_by h (c, r)) old.base new.base
-base_after base old new c (Refused fault) h a st = ap (λ (x : Session). x.base) st.1
-base_after base old new (Do request) (Changed counts) h a st = ap (λ (x : Session). x.base) st.2
-base_after base old new (Do request) Done h a st = absurd st
-base_after base old new Undo (Changed counts) h a st = ap (λ (x : Session). x.base) st.1
-base_after base old new Undo Done h a st = absurd st
-base_after base old new Redo (Changed counts) h a st = ap (λ (x : Session). x.base) st.1
-base_after base old new Redo Done h a st = absurd st
-base_after base old new (Mark name) (Changed counts) h a st = absurd st
-base_after base old new (Mark name) Done h a st = ap (λ (x : Session). x.base) st
-base_after base old new (Rollback name) (Changed counts) h a st = ap (λ (x : Session). x.base) st.3
-base_after base old new (Rollback name) Done h a st = absurd st
-base_after base old new Commit (Changed counts) h a st = absurd st
-base_after base old new Commit Done h a st =
-    subst (MakesAll base (take h.cursor h.items) old.base) (sym (ap (λ (x : Session). x.base) st)) (stands_now base old h a)
+-- the base moves over a request that is forgotten
+base_accepted : (depth : Option ℕ) (base : Base) (old : Session) (h : Requests) (request : Request) (after : State) → Agrees depth base old h → Makes old.base_iri request (now old) after → MakesAll base (cond (is_too_long depth (pushed request h)) (take 1 (pushed request h).items) []) old.base (accepted after old).base
+base_accepted depth base old h request after a makes =
+    subst (λ t. MakesAll base (cond t (take 1 (pushed request h).items) []) old.base (accepted after old).base) (sym b.alike)
+    (by (is_too_long old.depth (grown after old).states))
+  where
+    b : AcceptsBoth depth base old h request after
+    b = accepts_both depth base old h request after a makes
 
-run_base : (base : Base) (events : List (Command × Reply)) (old new : Session) (h : Requests) → Agrees base old h → Run old events new → MakesAll base (committed h events) old.base new.base
-run_base base [] old new h a run = ap (λ (x : Session). x.base) run
-run_base base (event ∷ events) old new h a run =
+    by : (t : Bool) → MakesAll base (cond t (take 1 (pushed request h).items) []) old.base (cond t (forgetting (grown after old)) (grown after old)).base
+    by true = standing base old.base (pushed request h).items (grown after old).states.items 1 old.base b.more.follows b.some
+    by false = refl
+
+-- and over the requests that a command commits
+base_after : (depth : Option ℕ) (base : Base) (old new : Session) (c : Command) (r : Reply) (h : Requests) → Agrees depth base old h → Transition old c r new → MakesAll base (committed_by depth h (c, r)) old.base new.base
+base_after depth base old new c (Refused fault) h a st = ap (λ (x : Session). x.base) st.1
+base_after depth base old new (Do request) (Changed counts) h a st =
+    subst (λ (x : Session). MakesAll base (committed_by depth h (Do request, Changed counts)) old.base x.base) (sym st.2)
+    (base_accepted depth base old h request st.0 a st.1)
+base_after depth base old new (Do request) Done h a st = absurd st
+base_after depth base old new Undo (Changed counts) h a st = ap (λ (x : Session). x.base) st.1
+base_after depth base old new Undo Done h a st = absurd st
+base_after depth base old new Redo (Changed counts) h a st = ap (λ (x : Session). x.base) st.1
+base_after depth base old new Redo Done h a st = absurd st
+base_after depth base old new (Mark name) (Changed counts) h a st = absurd st
+base_after depth base old new (Mark name) Done h a st = ap (λ (x : Session). x.base) st
+base_after depth base old new (Rollback name) (Changed counts) h a st = ap (λ (x : Session). x.base) st.3
+base_after depth base old new (Rollback name) Done h a st = absurd st
+base_after depth base old new Commit (Changed counts) h a st = absurd st
+base_after depth base old new Commit Done h a st =
+    subst (MakesAll base (take h.cursor h.items) old.base) (sym (ap (λ (x : Session). x.base) st)) (stands_now depth base old h a)
+
+run_base : (depth : Option ℕ) (base : Base) (events : List (Command × Reply)) (old new : Session) (h : Requests) → Agrees depth base old h → Run old events new → MakesAll base (committed depth h events) old.base new.base
+run_base depth base [] old new h a run = ap (λ (x : Session). x.base) run
+run_base depth base (event ∷ events) old new h a run =
     let mid : Session = run.0 in
-    makes_on base (committed_by h event) (committed (kept_after h event) events) old.base mid.base new.base (base_after base old mid event.0 event.1 h a run.1)
-    (run_base base events mid new (kept_after h event) (transition_agrees base old mid event.0 event.1 h a run.1) run.2)
+    makes_on base (committed_by depth h event) (committed depth (kept_after depth h event) events) old.base mid.base new.base (base_after depth base old mid event.0 event.1 h a run.1)
+    (run_base depth base events mid new (kept_after depth h event) (transition_agrees depth base old mid event.0 event.1 h a run.1) run.2)
 
 -- ---- the same requests make the same state
 
@@ -143,22 +159,25 @@ one_end base requests s t u a b = same_end (steps s a.operations) t u a.lead (ap
 
 -- ---- all of it
 
--- after a run the base is what the committed requests make, and the state what those that still stand do
-run_lasts : ReaderLaws → (base : Base) (start : State) (events : List (Command × Reply)) (session : Session) → Run (fresh base start) events session → MakeExactly base (committed nothing events) start session.base
-run_lasts laws base start events session run =
-    make_exactly laws base (committed nothing events) start session.base (run_base base events (fresh base start) session nothing (fresh_agrees base start) run)
+abbrev begin : Option ℕ → Base → State → Session
+begin depth base start = with_depth depth (fresh base start)
 
-run_stands : ReaderLaws → (base : Base) (start : State) (events : List (Command × Reply)) (session : Session) → Run (fresh base start) events session → MakeExactly base (still_standing events) start (now session)
-run_stands laws base start events session run =
-    let begun = fresh_agrees base start in
-    make_exactly laws base (still_standing events) start (now session)
-    (makes_on base (committed nothing events) (standing_since events) start session.base (now session)
-    (run_base base events (fresh base start) session nothing begun run)
-    (stands_now base session (requests_of nothing events) (run_agrees base (fresh base start) session events nothing begun run)))
+-- after a run the base is what the committed requests make, and the state what those that still stand do
+run_lasts : ReaderLaws → (depth : Option ℕ) (base : Base) (start : State) (events : List (Command × Reply)) (session : Session) → Run (begin depth base start) events session → MakeExactly base (committed depth nothing events) start session.base
+run_lasts laws depth base start events session run =
+    make_exactly laws base (committed depth nothing events) start session.base (run_base depth base events (begin depth base start) session nothing (fresh_agrees depth base start) run)
+
+run_stands : ReaderLaws → (depth : Option ℕ) (base : Base) (start : State) (events : List (Command × Reply)) (session : Session) → Run (begin depth base start) events session → MakeExactly base (still_standing depth events) start (now session)
+run_stands laws depth base start events session run =
+    let begun = fresh_agrees depth base start in
+    make_exactly laws base (still_standing depth events) start (now session)
+    (makes_on base (committed depth nothing events) (standing_since depth events) start session.base (now session)
+    (run_base depth base events (begin depth base start) session nothing begun run)
+    (stands_now depth base session (requests_of depth nothing events) (run_agrees depth base (begin depth base start) session events nothing begun run)))
 
 pub headline : ReaderLaws → Headline
-headline laws base start events session run =
-    let a = run_agrees base (fresh base start) session events nothing (fresh_agrees base start) run in
+headline laws depth base start events session run =
+    let a = run_agrees depth base (begin depth base start) session events nothing (fresh_agrees depth base start) run in
     record {
       exactly = λ request c new st.
           subst (MakeExactly base (request ∷ []) (now session)) (sym (ap now st.2 ∙ now_accepted st.0 session a.within))
@@ -170,11 +189,11 @@ headline laws base start events session run =
       rightly = λ request fault new st full operations theirs t leads.
           never_refused laws session request fault t st.0 full
           (subst (λ b. Makes b request (now session) t) (sym a.base_iri) (made_by base request operations (now session) t theirs leads));
-      lasting = run_lasts laws base start events session run;
-      standing = run_stands laws base start events session run;
-      same_requests = λ others another other same.
-          one_end base (still_standing events) start (now another) (now session)
-          (subst (λ requests. MakeExactly base requests start (now another)) same (run_stands laws base start others another other))
-          (run_stands laws base start events session run);
+      lasting = run_lasts laws depth base start events session run;
+      standing = run_stands laws depth base start events session run;
+      same_requests = λ other others another run_other same.
+          one_end base (still_standing depth events) start (now another) (now session)
+          (subst (λ requests. MakeExactly base requests start (now another)) same (run_stands laws other base start others another run_other))
+          (run_stands laws depth base start events session run);
       entries = have_entries laws base session.base _ session.states.items a.follows;
     }

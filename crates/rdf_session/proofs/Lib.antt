@@ -1,10 +1,13 @@
 mod AnswerLemmas
+mod BehindLemmas
 mod BetweenLemmas
 mod BlankCountLemmas
 pub mod CallerLemmas
 mod ChainLemmas
 mod ComesAboutLemmas
 mod CommitLemmas
+mod ForgetsLemmas
+mod ForgettingLemmas
 mod GivesBackLemmas
 mod HeadlineLemmas
 mod InsertionLemmas

@@ -40,7 +40,7 @@ pub same_itself : (q : List ℕ) → same q q ≡ true
 same_itself q = ap is_eq (tied_itself nat_list_cmp_total q)
 
 -- a mark that isn't past the place stays, and no other
-upto_kept : (o : Option ℕ) (k place : ℕ) → cond (is_upto k o) o None ≡ Some place → (o ≡ Some place) × (place ≤ k)
+pub upto_kept : (o : Option ℕ) (k place : ℕ) → cond (is_upto k o) o None ≡ Some place → (o ≡ Some place) × (place ≤ k)
 upto_kept None k place e = absurd (no_place place e)
   where
     no_place : (j : ℕ) → None ≡ Some j → ⊥

@@ -20,7 +20,7 @@ use Rattle.rdf_session.specs.Inside.ReaderLaws.{ReaderLaws}
 use Rattle.rdf_session.specs.History.{place_of}
 use Rattle.rdf_session.specs.OneReply.{DifferInLine, IsFull, OneReply, SameReply}
 use Rattle.rdf_session.specs.Request.{Request, Load, Update, Makes, blank_limit, loaded}
-use Rattle.rdf_session.specs.Session.{Session, Command, Reply, Do, Undo, Redo, Mark, Rollback, Commit, Changed, Done, Refused as RefusedReply, MayRefuse, Transition, accepted, counts_between, now}
+use Rattle.rdf_session.specs.Session.{Session, Command, Reply, Do, Undo, Redo, Mark, Rollback, Commit, Changed, Done, Refused as RefusedReply, MayRefuse, Transition, accepted, at_place, counts_between, now}
 use Rattle.rdf_session.specs.declared.fault.KeeperFault.{KeeperFault}
 use Rattle.rdf_session.specs.declared.fault.KeeperFault.TheVariants.{NothingToUndo, NothingToRedo, NoSuchMark, MarkAhead, NoMemory as NoMemoryFault, BlankNumbers, Line as LineFaultOf, Turtle as TurtleFaultOf, Syntax as SyntaxFaultOf, Apply as ApplyFaultOf}
 use Rattle.rdf_session.specs.declared.format.Format.{Format}
@@ -157,7 +157,7 @@ rollback_same s t u name (RefusedReply f) Done a b n m = absurd b
 rollback_same s t u name (Changed c) (RefusedReply g) a b n m = rollback_not s name g a.0 (rollback_fault s name g b.0 (full_fault g m)) a.1 a.2
 rollback_same s t u name (Changed c) (Changed d) a b n m =
     let k = some_place a.0 b.0 (sym a.1 ∙ b.1) in
-    let e : t ≡ u = a.3 ∙ (λ i. record { base_iri = s.base_iri; base = s.base; states = record { items = s.states.items; cursor = k i; marks = s.states.marks } }) ∙ sym b.3 in
+    let e : t ≡ u = a.3 ∙ (λ i. at_place (k i) s) ∙ sym b.3 in
     (ap Changed (a.4 ∙ ap (λ x. counts_between (now s) (now x)) e ∙ sym b.4), e)
 rollback_same s t u name (Changed c) Done a b n m = absurd b
 rollback_same s t u name Done q a b n m = absurd a

@@ -1,6 +1,6 @@
 -- The entries of a map as marks: what a new one and a cut make of them.
-use Rattle.std.proofs.Common.{◌≡◌, ℕ, ◌≤◌, Bool, true, false, cond, List, [], ◌∷◌, map as map_list, refl, sym, ap, ◌∙◌, subst, arith, Option, Some, None}
-use Rattle.std.specs.Prelude.{filter, nat_le, Vec}
+use Rattle.std.proofs.Common.{◌≡◌, ℕ, ◌-◌, ◌≤◌, Bool, true, false, cond, List, [], ◌∷◌, map as map_list, refl, sym, ap, ◌∙◌, subst, arith, Option, Some, None}
+use Rattle.std.specs.Prelude.{SomeIff, filter, nat_le, Vec}
 use mathlib.Core.Logic.{inl, inr}
 use Rattle.std.proofs.lemmas.Bool.Decides.{leb_tells}
 use Rattle.std.specs.BTreeMap.{insert_entry, is_at}
@@ -16,8 +16,9 @@ use Rattle.std.specs.List.Sorted.{IsStrictlySortedBy}
 use Rattle.std.specs.Map.{keys_of, lookup}
 use Rattle.std.specs.Ordering.{is_eq, match_ordering}
 use mathlib.Core.Bool.{true≢false}
+use Rattle.rdf_session.proofs.BehindLemmas.{behind, behind_gone, behind_there, get_behind, lower}
 use Rattle.rdf_session.proofs.MarkLemmas.{get_upto, order, order_apart, one_name, same}
-use Rattle.rdf_session.specs.History.{Marks, is_upto, marks_upto}
+use Rattle.rdf_session.specs.History.{Marks, is_upto, marks_behind, marks_upto}
 use Rattle.rdf_session.specs.Inside.Marks.{AreUpto, Entry, mark_of, marks_of}
 
 abbrev pub Name : Type 0
@@ -26,6 +27,11 @@ Name = Vec ℕ Global
 -- the order of names
 abbrev pub by_name : Name → Name → Ordering
 by_name a b = order a.items b.items
+
+-- a place that passes the test
+abbrev kept : (ℕ → Bool) → Option ℕ → Option ℕ
+kept p None = None
+kept p (Some k) = cond (p k) (Some k) None
 
 abbrev found : List ℕ → List Entry → Option ℕ
 found q es = map.find order q (map_list mark_of es)
@@ -166,3 +172,64 @@ cut_is k es new marks view s e =
     same_map nat_list_cmp_total order_apart _ _ (λ q.
     get_is new q ∙ ap (found q) e ∙ cut_found k es q s
     ∙ sym (get_upto marks k q ∙ ap (λ o. cond (is_upto k o) o None) (ap (λ m. map.get m q) (sym view) ∙ get_is es q)))
+
+-- ---- what is left when the first places are gone
+
+kept_found : (p : ℕ → Bool) (es : List Entry) (q : List ℕ) → IsStrictlySortedBy by_name (keys_of es) → found q (filter (λ e. p e.1) es) ≡ kept p (found q es)
+kept_found p [] q s = refl
+kept_found p (e ∷ es) q s =
+    let ih : found q others ≡ kept p (found q es) = kept_found p es q (rising_tail e es s) in
+    elim (same q e.0.items) as (λ b. same q e.0.items ≡ b → found q (cond (p e.1) (e ∷ others) others) ≡ kept p (cond b (Some e.1) (found q es))) [
+      | true ↦ λ t.
+          elim (p e.1) as (λ v. found q (cond v (e ∷ others) others) ≡ cond v (Some e.1) None) [
+            | true ↦ ap (λ b. cond b (Some e.1) (found q others)) t
+            | false ↦ ih ∙ ap (kept p) (none_above e.0 es q t (rising_head e es s))
+          ]
+      | false ↦ λ t.
+          elim (p e.1) as (λ v. found q (cond v (e ∷ others) others) ≡ kept p (found q es)) [
+            | true ↦ ap (λ b. cond b (Some e.1) (found q others)) t ∙ ih
+            | false ↦ ih
+          ]
+    ] refl
+  where
+    others : List Entry
+    others = filter (λ x. p x.1) es
+
+lowered_found : (count : ℕ) (es : List Entry) (q : List ℕ) → found q (map_list (λ e. (e.0, e.1 - count)) es) ≡ lower count (found q es)
+lowered_found count [] q = refl
+lowered_found count (e ∷ es) q =
+    elim (same q e.0.items) as (λ b. cond b (Some (e.1 - count)) (found q (map_list (λ x. (x.0, x.1 - count)) es)) ≡ lower count (cond b (Some e.1) (found q es))) [
+      | true ↦ refl
+      | false ↦ lowered_found count es q
+    ]
+
+lower_kept : (count : ℕ) (o : Option ℕ) → lower count (kept (λ k. nat_le count k) o) ≡ behind count o
+lower_kept count None = refl
+lower_kept count (Some k) = elim (nat_le count k) as (λ b. lower count (cond b (Some k) None) ≡ cond b (Some (k - count)) None) [ true ↦ refl | false ↦ refl ]
+
+-- those that aren't gone, lowered
+pub left_is : (count : ℕ) (es mid new : List Entry) → IsStrictlySortedBy by_name (keys_of es) → mid ≡ filter (λ e. nat_le count e.1) es → new ≡ map_list (λ e. (e.0, e.1 - count)) mid → marks_of new ≡ marks_behind count (marks_of es)
+left_is count es mid new s e f =
+    same_map nat_list_cmp_total order_apart _ _ (λ q.
+    get_is new q ∙ ap (found q) f ∙ lowered_found count mid q ∙ ap (λ xs. lower count (found q xs)) e ∙ ap (lower count) (kept_found (λ k. nat_le count k) es q s)
+    ∙ lower_kept count (found q es) ∙ ap (behind count) (sym (get_is es q)) ∙ sym (get_behind (marks_of es) count q))
+
+pub lowered_upto : (count place : ℕ) (p : ℕ → Bool) (es : List Entry) → AreUpto place es → AreUpto (place - count) (map_list (λ e. (e.0, e.1 - count)) (filter (λ e. p e.1) es))
+lowered_upto count place p [] h = tt
+lowered_upto count place p (e ∷ es) h =
+    let ih = lowered_upto count place p es h.1 in
+    elim (p e.1) as (λ b. AreUpto (place - count) (map_list (λ x. (x.0, x.1 - count)) (cond b (e ∷ others) others))) [
+      | true ↦ (omega (arith, h.0), ih)
+      | false ↦ ih
+    ]
+  where
+    others : List Entry
+    others = filter (λ x. p x.1) es
+
+-- where a name is behind the places that are gone
+pub place_behind : (name : List ℕ) (count : ℕ) (es : List Entry) (answer : Option ℕ) (at : ℕ) → map.get (marks_of es) name ≡ Some at → SomeIff answer (count ≤ at) (at - count) → answer ≡ map.get (marks_behind count (marks_of es)) name
+place_behind name count es (Some place) at e h = sym (get_behind (marks_of es) count name ∙ ap (behind count) e ∙ behind_there count at h.0 ∙ ap Some (sym h.1))
+place_behind name count es None at e h = sym (get_behind (marks_of es) count name ∙ ap (behind count) e ∙ behind_gone count at (omega (arith, h)))
+
+pub nowhere_behind : (name : List ℕ) (count : ℕ) (es : List Entry) → map.get (marks_of es) name ≡ None → None ≡ map.get (marks_behind count (marks_of es)) name
+nowhere_behind name count es e = sym (get_behind (marks_of es) count name ∙ ap (behind count) e)

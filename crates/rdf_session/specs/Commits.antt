@@ -1,4 +1,4 @@
--- What a commit leaves, and which state is the base: that at the last commit, or the first.
+-- What a commit leaves, and which state is the base where nothing is forgotten: that at the last commit, or the first.
 use Rattle.std.specs.Prelude.{◌≡◌, ℕ, List, [], ◌∷◌, Option, None}
 use Rattle.std.specs.List.{AllByRecursion}
 use Rattle.rdf_dataset.specs.State.{State}
@@ -21,7 +21,7 @@ pub record HasCommitted (old new : Session) : Type 0 where
 abbrev pub CommitKeepsTheState : Type 0
 CommitKeepsTheState = (old new : Session) → Transition old Commit Done new → HasCommitted old new
 
--- Where nothing was committed, the base is the state that the session began with.
+-- Where nothing was committed, the base is the state that the session began with, if it has no depth.
 abbrev pub BaseIsTheFirst : Type 0
 BaseIsTheFirst = (base_iri : Option (List ℕ)) (start : State) (events : List (Command × Reply)) (session : Session)
     → AllByRecursion IsNoCommit events → Run (fresh base_iri start) events session → session.base ≡ start

@@ -2,10 +2,11 @@
 use Rattle.std.specs.Prelude.{◌≡◌, ℕ, ◌≤◌, List, [], ◌∷◌, length, Option}
 use Rattle.rdf_dataset.specs.State.{State}
 use Rattle.rdf_session.specs.Between.{Quietly}
+use Rattle.rdf_session.specs.Depth.{IsDepth, IsWithin}
 use Rattle.rdf_session.specs.History.{LieIn}
 use Rattle.rdf_session.specs.Standing.{Run}
 use Rattle.rdf_session.specs.Request.{Request}
-use Rattle.rdf_session.specs.Session.{Session, Command, Reply, Do, Undo, Redo, Mark, Rollback, Changed, Done, Refused, Transition, counts_between, fresh, now, with_marks}
+use Rattle.rdf_session.specs.Session.{Session, Command, Reply, Do, Undo, Redo, Mark, Rollback, Changed, Done, Refused, Transition, counts_between, fresh, now, with_depth, with_marks}
 use Rattle.rdf_session.specs.declared.fault.Counts.{Counts}
 use Rattle.rdf_session.specs.declared.fault.KeeperFault.{KeeperFault}
 
@@ -13,14 +14,17 @@ use Rattle.rdf_session.specs.declared.fault.KeeperFault.{KeeperFault}
 abbrev pub IsPlaced : Session → Type 0
 IsPlaced s = s.states.cursor ≤ length s.states.items
 
--- and so does each mark
+-- and so does each mark; and it has no more states than its depth
 pub record IsWholeSession (s : Session) : Type 0 where
   pub cursor : IsPlaced s
   pub marks : LieIn (length s.states.items) s.states.marks
+  pub depth : IsDepth s.depth
+  pub within : IsWithin s.depth (length s.states.items)
 
 -- After any commands with any replies a session that began without history is whole.
 abbrev pub RunsAreWhole : Type 0
-RunsAreWhole = (base_iri : Option (List ℕ)) (start : State) (events : List (Command × Reply)) (session : Session) → Run (fresh base_iri start) events session → IsWholeSession session
+RunsAreWhole = (depth : Option ℕ) (base_iri : Option (List ℕ)) (start : State) (events : List (Command × Reply)) (session : Session)
+    → IsDepth depth → Run (with_depth depth (fresh base_iri start)) events session → IsWholeSession session
 
 -- The next undo behind an accepted request, whatever marks and refusals come between, gives back quads, graph names and counter;
 -- its counts are those of the request, turned.

@@ -1,5 +1,5 @@
 -- The promise of the whole: what any commands with any replies leave.
-use Rattle.std.specs.Prelude.{◌≡◌, ◌≢◌, ℕ, List, [], ◌∷◌, ◌++◌, take, Option, Ok}
+use Rattle.std.specs.Prelude.{◌≡◌, ◌≢◌, ℕ, List, [], ◌∷◌, ◌++◌, cond, take, Option, Ok}
 use Rattle.rdf_dataset.specs.State.{State, Change, applied, net_between, turned}
 use Rattle.rdf_terms.specs.Quad.{QuadParts}
 use Rattle.sparql_eval.specs.Operations.{steps}
@@ -9,10 +9,10 @@ use Rattle.sparql_trees.specs.declared.operation.Request.{Request as UpdateReque
 use Rattle.rdf_session.specs.Between.{Quietly}
 use Rattle.rdf_session.specs.Documents.{IsDocument}
 use Rattle.rdf_session.specs.Faults.{no_memory}
-use Rattle.rdf_session.specs.History.{nothing}
+use Rattle.rdf_session.specs.History.{is_too_long, nothing, pushed}
 use Rattle.rdf_session.specs.LoadLaws.{insertion}
 use Rattle.rdf_session.specs.Request.{Request, Load, Update}
-use Rattle.rdf_session.specs.Session.{Session, Command, Reply, Do, Undo, Redo, Commit, Changed, Refused, Transition, fresh, nets_between, now}
+use Rattle.rdf_session.specs.Session.{Session, Command, Reply, Do, Undo, Redo, Commit, Changed, Refused, Transition, fresh, nets_between, now, with_depth}
 use Rattle.rdf_session.specs.Standing.{Run, Requests, kept_after, requests_of}
 use Rattle.rdf_session.specs.declared.fault.Counts.{Counts}
 use Rattle.rdf_session.specs.declared.fault.KeeperFault.{KeeperFault}
@@ -41,24 +41,25 @@ pub record MakeExactly (base_iri : Option (List ℕ)) (requests : List Request) 
 
 -- ---- which requests stand
 
--- those that the command commits: all up to the cursor
-abbrev pub committed_by : Requests → Command × Reply → List Request
-committed_by h (command, Refused fault) = []
-committed_by h (Commit, reply) = take h.cursor h.items
-committed_by h (command, reply) = []
+-- those that the command commits: all up to the cursor; and one that is forgotten is committed by that
+abbrev pub committed_by : Option ℕ → Requests → Command × Reply → List Request
+committed_by depth h (command, Refused fault) = []
+committed_by depth h (Commit, reply) = take h.cursor h.items
+committed_by depth h (Do request, reply) = cond (is_too_long depth (pushed request h)) (take 1 (pushed request h).items) []
+committed_by depth h (command, reply) = []
 
 -- those that these commands commit
-abbrev pub committed : Requests → List (Command × Reply) → List Request
-committed h [] = []
-committed h (event ∷ events) = committed_by h event ++ committed (kept_after h event) events
+abbrev pub committed : Option ℕ → Requests → List (Command × Reply) → List Request
+committed depth h [] = []
+committed depth h (event ∷ events) = committed_by depth h event ++ committed depth (kept_after depth h event) events
 
--- those since the last commit, up to the cursor
-abbrev pub standing_since : List (Command × Reply) → List Request
-standing_since events = take (requests_of nothing events).cursor (requests_of nothing events).items
+-- those since the base, up to the cursor
+abbrev pub standing_since : Option ℕ → List (Command × Reply) → List Request
+standing_since depth events = take (requests_of depth nothing events).cursor (requests_of depth nothing events).items
 
 -- The requests that still stand after these commands: those committed, and those since.
-abbrev pub still_standing : List (Command × Reply) → List Request
-still_standing events = committed nothing events ++ standing_since events
+abbrev pub still_standing : Option ℕ → List (Command × Reply) → List Request
+still_standing depth events = committed depth nothing events ++ standing_since depth events
 
 -- ---- entries
 
@@ -78,8 +79,8 @@ HaveEntries base_iri requests entries s states = ⊥
 
 -- ---- the promise
 
--- What is promised where these commands with these replies led from the start to the session.
-pub record Promise (base_iri : Option (List ℕ)) (start : State) (events : List (Command × Reply)) (session : Session) : Type 0 where
+-- What is promised where, under the depth, these commands with these replies led from the start to the session.
+pub record Promise (depth : Option ℕ) (base_iri : Option (List ℕ)) (start : State) (events : List (Command × Reply)) (session : Session) : Type 0 where
   -- An accepted request leaves exactly the state that its operations make of the state before.
   pub exactly : (request : Request) (c : Counts) (new : Session) → Transition session (Do request) (Changed c) new
       → MakeExactly base_iri (request ∷ []) (now session) (now new)
@@ -95,16 +96,18 @@ pub record Promise (base_iri : Option (List ℕ)) (start : State) (events : List
   pub rightly : (request : Request) (fault : KeeperFault) (new : Session) → Transition session (Do request) (Refused fault) new → fault ≢ no_memory
       → (operations : List Operation) → HasOperations base_iri request operations → (t : State) → steps (now session) operations ≢ Ok t
   -- The base is exactly what the requests that were committed make of the start.
-  pub lasting : MakeExactly base_iri (committed nothing events) start session.base
+  pub lasting : MakeExactly base_iri (committed depth nothing events) start session.base
   -- The state is exactly what the requests that still stand make of it.
-  pub standing : MakeExactly base_iri (still_standing events) start (now session)
-  -- So another run after which the same requests stand leaves the same state, whatever else was done and taken back.
-  pub same_requests : (others : List (Command × Reply)) (another : Session) → Run (fresh base_iri start) others another
-      → still_standing others ≡ still_standing events → now another ≡ now session
-  -- Each request since the last commit, standing or to be redone, has its entry.
-  pub entries : HaveEntries base_iri (requests_of nothing events).items (nets_between session.base session.states.items) session.base session.states.items
+  pub standing : MakeExactly base_iri (still_standing depth events) start (now session)
+  -- So another run after which the same requests stand leaves the same state, whatever its depth and whatever else was done and
+  -- taken back.
+  pub same_requests : (other : Option ℕ) (others : List (Command × Reply)) (another : Session)
+      → Run (with_depth other (fresh base_iri start)) others another
+      → still_standing other others ≡ still_standing depth events → now another ≡ now session
+  -- Each request since the base, standing or to be redone, has its entry.
+  pub entries : HaveEntries base_iri (requests_of depth nothing events).items (nets_between session.base session.states.items) session.base session.states.items
 
--- For every state to start with, after any commands with any replies, the promise is kept.
+-- For every depth and every state to start with, after any commands with any replies, the promise is kept.
 abbrev pub Headline : Type 0
-Headline = (base_iri : Option (List ℕ)) (start : State) (events : List (Command × Reply)) (session : Session)
-    → Run (fresh base_iri start) events session → Promise base_iri start events session
+Headline = (depth : Option ℕ) (base_iri : Option (List ℕ)) (start : State) (events : List (Command × Reply)) (session : Session)
+    → Run (with_depth depth (fresh base_iri start)) events session → Promise depth base_iri start events session

@@ -2,8 +2,10 @@ pub mod Between
 pub mod BlankCount
 pub mod ComesAbout
 pub mod Commits
+pub mod Depth
 pub mod Documents
 pub mod Faults
+pub mod Forgets
 pub mod GivesBack
 pub mod Headline
 pub mod History

@@ -1,7 +1,7 @@
 -- What the states of a session have to do with the requests that stand.
 use Rattle.std.specs.Prelude.{◌≡◌, ℕ, ◌+◌, ◌-◌, List, [], ◌∷◌, Option, unwrap_or}
 use Rattle.rdf_dataset.specs.State.{State}
-use Rattle.rdf_session.specs.History.{History, nothing, pushed, moved, marked, place_of}
+use Rattle.rdf_session.specs.History.{History, kept_within, nothing, pushed, moved, marked, place_of}
 use Rattle.rdf_session.specs.Request.{Request, Makes}
 use Rattle.rdf_session.specs.Session.{Session, Command, Reply, Do, Undo, Redo, Mark, Rollback, Commit, Refused, Transition}
 
@@ -13,19 +13,19 @@ Run old (event ∷ events) new = (mid : Session) × Transition old event.0 event
 abbrev pub Requests : Type 0
 Requests = History Request
 
--- the standing requests are kept by the rules of the states
-abbrev pub kept_after : Requests → Command × Reply → Requests
-kept_after h (c, Refused fault) = h
-kept_after h (Do request, r) = pushed request h
-kept_after h (Undo, r) = moved (h.cursor - 1) h
-kept_after h (Redo, r) = moved (h.cursor + 1) h
-kept_after h (Mark name, r) = marked name h
-kept_after h (Rollback name, r) = moved (unwrap_or (place_of name h) 0) h
-kept_after h (Commit, r) = nothing
+-- the standing requests are kept by the rules of the states, under the same depth
+abbrev pub kept_after : Option ℕ → Requests → Command × Reply → Requests
+kept_after depth h (c, Refused fault) = h
+kept_after depth h (Do request, r) = kept_within depth (pushed request h)
+kept_after depth h (Undo, r) = moved (h.cursor - 1) h
+kept_after depth h (Redo, r) = moved (h.cursor + 1) h
+kept_after depth h (Mark name, r) = marked name h
+kept_after depth h (Rollback name, r) = moved (unwrap_or (place_of name h) 0) h
+kept_after depth h (Commit, r) = nothing
 
-abbrev pub requests_of : Requests → List (Command × Reply) → Requests
-requests_of h [] = h
-requests_of h (event ∷ events) = requests_of (kept_after h event) events
+abbrev pub requests_of : Option ℕ → Requests → List (Command × Reply) → Requests
+requests_of depth h [] = h
+requests_of depth h (event ∷ events) = requests_of depth (kept_after depth h event) events
 
 -- against the base IRI, each state is what its request makes of the state before
 abbrev pub Follows : Option (List ℕ) → State → List Request → List State → Type 0

@@ -1,10 +1,12 @@
 //! The keeper: a dataset with its history.
-ghost use Rattle.std.specs.Prelude.{◌≡◌, ℕ, List, ◌+◌, ◌≤◌, ◌-◌, ◌∷◌, ◌++◌, Result, Ok, Err, IfOk, IfErr, OnErr, MatchResult, length, slice_index_or};
+ghost use Rattle.std.specs.Prelude.{◌≡◌, ℕ, List, ◌+◌, ◌≤◌, ◌-◌, ◌∷◌, ◌++◌, Some, Result, Ok, Err, IfOk, IfErr, OnErr, MatchResult, cond, drop, length, slice_index_or};
 ghost use Rattle.std.specs.FinSet as set;
 ghost use Rattle.std.specs.List.{AllByRecursion, concat};
 ghost use Rattle.rdf_dataset.specs.State.{Begins, empty_state, IsSound, State, net_between};
+ghost use Rattle.rdf_session.specs.Depth.{IsDepth, greatest_depth, is_past};
 ghost use Rattle.rdf_session.specs.Documents.{IsDocument};
 ghost use Rattle.rdf_session.specs.GivesBack.{IsWholeSession};
+ghost use Rattle.rdf_session.specs.History.{marks_behind, nothing};
 ghost use Rattle.rdf_session.specs.Inside.Kept.{AreNets, states_after};
 ghost use Rattle.rdf_session.specs.Inside.Staging.{TellsFault};
 ghost use Rattle.rdf_session.specs.Session.{nets_between};
@@ -12,7 +14,7 @@ ghost use Rattle.rdf_dataset.specs.Sorted.{ListsSorted};
 ghost use Rattle.rdf_session.specs.QuadLines.{ListsQuads};
 ghost use Rattle.rdf_session.specs.Query.{Replies};
 ghost use Rattle.rdf_session.specs.Request.{Load, Update};
-ghost use Rattle.rdf_session.specs.Session.{Commit, Do, Done, Mark, Redo, Rollback, Session, Transition, Undo, accepted, all_states, counts_between, fresh, now, reply_of, reply_of_mark};
+ghost use Rattle.rdf_session.specs.Session.{Commit, Do, Done, Mark, Redo, Rollback, Session, Transition, Undo, accepted, all_states, counts_between, fresh, now, reply_of, reply_of_mark, with_depth};
 ghost use Rattle.rdf_session.specs.Faults.{no_memory};
 
 use crate::fault::{Counts, KeeperFault};
@@ -25,6 +27,7 @@ use crate::update::{read_request, stage_request};
 use rdf_dataset::{Dataset, Net, Source};
 use rdf_terms::{Iri, NoMemory as NoMemoryFault, Quad, Term};
 use std::alloc::Global;
+use std::collections::VecDeque;
 use std::marker::Model;
 
 /// A dataset with its history: the state now, the net of each accepted request, and marks.
@@ -32,8 +35,9 @@ use std::marker::Model;
 #[derive(Drop)]
 pub struct Keeper {
     base_iri: Option<Iri>,
+    depth: Option<usize>,
     dataset: Dataset,
-    entries: Vec<Net>,
+    entries: VecDeque<Net>,
     cursor: usize,
     marks: Marks,
     alloc: Global,
@@ -41,17 +45,18 @@ pub struct Keeper {
 
 impl Model for Keeper {
     ghost use Rattle.rdf_session.specs.Session.{Session, session_code};
-    ghost use Rattle.rdf_session.specs.Inside.Kept.{IsKept, base_of, session_from};
+    ghost use Rattle.rdf_session.specs.Inside.Kept.{IsBounded, IsKept, base_of, session_from};
 
     ghost Value = { Session };
 
     ghost coded = { session_code };
 
-    ghost view = { λ k. session_from k.base_iri
+    ghost view = { λ k. session_from (record { base_iri = k.base_iri; depth = k.depth })
         (base_of k.dataset k.entries.items k.cursor) k.entries.items k.cursor k.marks };
 
     ghost invariant = { λ k. IsKept
-        (base_of k.dataset k.entries.items k.cursor) k.dataset k.entries.items k.cursor k.marks };
+        (base_of k.dataset k.entries.items k.cursor) k.dataset k.entries.items k.cursor k.marks
+        × IsBounded k.depth k.entries.items };
 }
 
 impl Keeper {
@@ -70,12 +75,25 @@ impl Keeper {
         let _sound = dataset.next_blank();
         Keeper {
             base_iri: base,
+            depth: None,
             dataset,
-            entries: Vec::new(alloc),
+            entries: VecDeque::new(alloc),
             cursor: 0,
             marks: Marks::new(alloc),
             alloc,
         }
+    }
+
+    /// The session with a bounded history: where an accepted request brings one entry more than `depth`, the oldest
+    /// is forgotten, and the state behind it is the base. It takes no memory.
+    pub fn with_depth(mut self, depth: usize) -> Keeper
+        requires from_one { 1 ≤ depth }
+        requires upto_greatest { depth ≤ greatest_depth }
+        requires without_history { self.states ≡ nothing }
+        ensures { result ≡ with_depth (Some depth) self }
+    {
+        self.depth = Some(depth);
+        self
     }
 
     /// Loads a document, against the session's base where it is Turtle: its quads come in, each with the name of its graph, and its blank node j becomes
@@ -147,7 +165,8 @@ impl Keeper {
         Ok(evaluate(self.alloc, &query, &self.dataset)?)
     }
 
-    // Takes the net of an accepted request. All growths come before the first change.
+    // Takes the net of an accepted request. All growths come before the first change, and the oldest entry is
+    // forgotten behind the last.
     fn accept(&mut self, net: Net) -> Result<Counts, KeeperFault>
         requires { Begins net (now self.old) }
         ensures ok { IfOk result (λ counts. (after : State) →
@@ -161,9 +180,15 @@ impl Keeper {
         self.dataset.commit(&net)?;
         let counts = counts_of(&net);
         self.entries.truncate(self.cursor);
-        self.entries.push(net).unwrap();
+        self.entries.push_back_reserved(net);
         self.marks.keep_through(self.cursor);
         self.cursor = self.entries.len();
+        forget_oldest(
+            self.depth,
+            &mut self.entries,
+            &mut self.marks,
+            &mut self.cursor,
+        );
         Ok(counts)
     }
 
@@ -229,7 +254,7 @@ impl Keeper {
         }
         let net = composed(
             self.alloc,
-            self.entries.as_slice(),
+            &self.entries,
             place,
             self.cursor,
             self.dataset.next_blank(),
@@ -248,12 +273,11 @@ impl Keeper {
         self.cursor = 0;
     }
 
-    /// The nets between neighbouring states, standing or to be redone.
-    pub fn entries(&self) -> &[Net]
-        ensures { result.now ≡ nets_between self.now.base self.now.states.items }
+    /// The nets between neighbouring states, standing or to be redone, the oldest first.
+    pub fn entries(&self) -> &VecDeque<Net>
+        ensures { result.now.items ≡ nets_between self.now.base self.now.states.items }
     {
-        let entries = &self.entries;
-        entries.as_slice()
+        &self.entries
     }
 
     /// The net between the base and the state now.
@@ -264,7 +288,7 @@ impl Keeper {
         ensures { IfOk result (λ net. net ≡ net_between self.now.base (now self.now)) }
     {
         let counter = self.dataset.next_blank();
-        composed(self.alloc, self.entries.as_slice(), 0, self.cursor, counter)
+        composed(self.alloc, &self.entries, 0, self.cursor, counter)
     }
 
     /// Appends the lines of the quads now, sorted, as canonical N-Quads (RDF 1.1 N-Quads, section 2), and
@@ -325,21 +349,56 @@ fn back_counts_of(net: &Net) -> Counts
     }
 }
 
+// Forgets the first entry, with the marks before it, where there are more than the depth. It takes no memory.
+fn forget_oldest(
+    depth: Option<usize>,
+    entries: &mut VecDeque<Net>,
+    marks: &mut Marks,
+    cursor: &mut usize,
+)
+    requires { IsDepth depth }
+    ensures entries { entries.new.items ≡
+        cond (is_past depth cursor.old) (drop 1 entries.old.items) entries.old.items }
+    ensures marks { marks.new ≡
+        cond (is_past depth cursor.old) (marks_behind 1 marks.old) marks.old }
+    ensures cursor { cursor.new ≡ cond (is_past depth cursor.old) (cursor.old - 1) cursor.old }
+{
+    let Some(depth) = depth else {
+        return;
+    };
+    if *cursor > depth {
+        entries.pop_front();
+        marks.fall(depth);
+        *cursor -= 1;
+    }
+}
+
 // The net from one place of a chain of nets to another; the counter is that of the last place.
 fn composed(
     alloc: Global,
-    entries: &[Net],
+    entries: &VecDeque<Net>,
     from: usize,
     to: usize,
     counter: u64,
 ) -> Result<Net, NoMemoryFault>
     requires order { from ≤ to }
-    requires within { to ≤ length entries.now }
-    ensures { IfOk result (λ net. (base : State) → AreNets base entries.now →
-        counter ≡ (slice_index_or (base ∷ states_after base entries.now) to base).next →
+    requires within { to ≤ length entries.now.items }
+    ensures { IfOk result (λ net. (base : State) → AreNets base entries.now.items →
+        counter ≡ (slice_index_or (base ∷ states_after base entries.now.items) to base).next →
         net ≡ net_between
-        (slice_index_or (base ∷ states_after base entries.now) from base)
-        (slice_index_or (base ∷ states_after base entries.now) to base)) }
+        (slice_index_or (base ∷ states_after base entries.now.items) from base)
+        (slice_index_or (base ∷ states_after base entries.now.items) to base)) }
 {
-    Net::of_chain(alloc, &entries[from..to], counter)
+    // the ring holds them in two runs
+    let (front, back) = entries.as_slices();
+    let seam = front.len();
+    if to <= seam {
+        return Net::of_chain(alloc, &front[from..to], counter);
+    }
+    if from >= seam {
+        return Net::of_chain(alloc, &back[from - seam..to - seam], counter);
+    }
+    let earlier = Net::of_chain(alloc, &front[from..], back[0].before())?;
+    let later = Net::of_chain(alloc, &back[..to - seam], counter)?;
+    earlier.joined(later)
 }

@@ -1,15 +1,16 @@
 //! Laws over the definitions alone: the promise of the whole, and what holds after any list of
-//! commands, that undo gives back and redo gives again, which state is the base, that a command has
-//! one reply and a request one result, and that a load is INSERT DATA and takes just its blank
-//! numbers.
+//! commands, that undo gives back and redo gives again, what a depth forgets, which state is the
+//! base, that a command has one reply and a request one result, and that a load is INSERT DATA and
+//! takes just its blank numbers.
 ghost use Rattle.std.specs.Prelude.{◌≡◌, List, ℕ, Option, take};
 ghost use Rattle.rdf_dataset.specs.State.{State};
 ghost use Rattle.rdf_session.specs.History.{nothing};
-ghost use Rattle.rdf_session.specs.Session.{Session, Command, Reply, fresh, now};
+ghost use Rattle.rdf_session.specs.Session.{Session, Command, Reply, fresh, now, with_depth};
 ghost use Rattle.rdf_session.specs.Standing.{Run, Follows, requests_of, MakesAll};
 ghost use Rattle.rdf_session.specs.BlankCount.{LimitIsTheCount, LoadTakesTheCount, LoadWantsTheCount};
 ghost use Rattle.rdf_session.specs.ComesAbout.{MayBeAccepted, EachCommandRuns};
 ghost use Rattle.rdf_session.specs.Commits.{CommitKeepsTheState, BaseIsTheFirst, BaseIsTheLastCommitted};
+ghost use Rattle.rdf_session.specs.Forgets.{RequestsLeaveTheLast};
 ghost use Rattle.rdf_session.specs.GivesBack.{RunsAreWhole, UndoGivesBack, RedoGivesAgain, RollbackGivesBack, RefusalsLeave};
 ghost use Rattle.rdf_session.specs.Headline.{Headline};
 ghost use Rattle.rdf_session.specs.Inside.ReaderLaws.{ReaderLaws};
@@ -28,13 +29,13 @@ fn readers_keep_laws()
     sparql_syntax::one_request();
 }
 
-/// The promise of the whole. For every state to start with, after any commands with any replies (loads, updates, undos, redos,
+/// The promise of the whole. For every depth and every state to start with, after any commands with any replies (loads, updates, undos, redos,
 /// marks, rollbacks, commits and refusals): an accepted request leaves exactly the state that its operations make of the state
 /// before, one after another; an undo then gives back the state before, in quads, names of graphs and blank counter, and a redo
 /// the state after, whatever marks and refusals come between; a refused command changes nothing, and a request is refused only
 /// where its operations lead to no state, or memory is wanting; the state is exactly what the requests that still stand, those
-/// that were committed among them, make of the start, so the same requests leave the same state, whatever else was done and taken
-/// back; and the entry of each request, standing or to be redone, is the net between its neighbouring states.
+/// that were committed or forgotten among them, make of the start, so the same requests leave the same state, whatever else was
+/// done and taken back; and the entry of each request, standing or to be redone, is the net between its neighbouring states.
 ///
 /// What this speaks of comes about: where operations lead to a state, their request may be accepted, undone and redone, and
 /// from every state whose counter is right commands of each kind run.
@@ -48,25 +49,27 @@ pub fn the_headline()
 
 /// After any commands with any replies, refusals and want of memory among them, each state is what
 /// its standing request makes, against the session's base IRI, of the state before, and the state
-/// now is what the requests up to the cursor make of the base, one after another. The base is the
-/// state at the last commit, or the one that the session began with; a commit leaves the state as
-/// it was, without a history.
+/// now is what the requests up to the cursor make of the base, one after another. Without a depth
+/// the base is the state at the last commit, or the one that the session began with; a commit
+/// leaves the state as it was, without a history.
 pub fn standing_requests()
-    ensures each { (base_iri : Option (List ℕ)) (state : State)
+    ensures each { (depth : Option ℕ) (base_iri : Option (List ℕ)) (state : State)
         (events : List (Command × Reply)) (session : Session) →
-        Run (fresh base_iri state) events session →
-        Follows base_iri session.base (requests_of nothing events).items session.states.items }
-    ensures now { (base_iri : Option (List ℕ)) (state : State)
+        Run (with_depth depth (fresh base_iri state)) events session →
+        Follows base_iri session.base
+        (requests_of depth nothing events).items session.states.items }
+    ensures now { (depth : Option ℕ) (base_iri : Option (List ℕ)) (state : State)
         (events : List (Command × Reply)) (session : Session) →
-        Run (fresh base_iri state) events session →
+        Run (with_depth depth (fresh base_iri state)) events session →
         MakesAll base_iri (take session.states.cursor
-        (requests_of nothing events).items) session.base (now session) }
+        (requests_of depth nothing events).items) session.base (now session) }
     ensures first_base { BaseIsTheFirst }
     ensures last_base { BaseIsTheLastCommitted }
     ensures committed { CommitKeepsTheState }
 {}
 
-/// After any commands with any replies the cursor and each mark lie in the list of states. Where
+/// After any commands with any replies the cursor and each mark lie in the list of states, which is
+/// no longer than the depth. Where
 /// the cursor lies there: the next undo behind an accepted request gives back the state before it,
 /// in quads, graph names and counter, with the counts turned; the next redo behind that gives the
 /// session again that the request had left, its history too, with the same counts. Marks and
@@ -81,6 +84,13 @@ pub fn undo_gives_back()
     ensures redo_undo { RedoThenUndo }
     ensures rollback { RollbackGivesBack }
     ensures refused { RefusalsLeave }
+{}
+
+/// An accepted request leaves the states up to the cursor with the new one behind them, and each mark
+/// at its state; under a depth, where these are more than it allows, but for the first of them and
+/// the marks there.
+pub fn a_depth_forgets_the_oldest()
+    ensures { RequestsLeaveTheLast }
 {}
 
 /// Where no reply is that memory is wanting, a command has one reply, but for a line of a fault

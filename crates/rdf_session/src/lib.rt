@@ -19,5 +19,8 @@ mod update;
 pub use fault::{Counts, KeeperFault};
 pub use format::Format;
 pub use keeper::Keeper;
-pub use law::{a_load_is_insert_data, one_reply, standing_requests, the_headline, undo_gives_back};
+pub use law::{
+    a_depth_forgets_the_oldest, a_load_is_insert_data, one_reply, standing_requests, the_headline,
+    undo_gives_back,
+};
 pub use query::Answer;

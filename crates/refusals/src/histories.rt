@@ -4,6 +4,7 @@ use crate::retry::{changes, is_shown};
 use rdf_dataset::Net;
 use rdf_keeper::{Counts, Format, Keeper, KeeperFault};
 use std::alloc::Global;
+use std::collections::VecDeque;
 
 const BASE: &[u8] = b"<a:y> <a:p> <a:o> .\n<a:z> <a:p> <a:o> .\n";
 
@@ -81,7 +82,7 @@ fn is_at_the_end(alloc: Global, keeper: &mut Keeper) -> bool {
 }
 
 // Whether each entry has as many quads as its request names.
-fn are_entries(entries: &[Net]) -> bool {
+fn are_entries(entries: &VecDeque<Net>) -> bool {
     let mut sizes = 0u64;
     for entry in entries {
         let size = entry.added().len().saturating_add(entry.removed().len());

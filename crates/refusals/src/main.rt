@@ -6,6 +6,7 @@
 
 mod conversions;
 mod datasets;
+mod depths;
 mod histories;
 mod lines;
 mod parts;
@@ -25,7 +26,7 @@ use std::alloc::Global;
 use std::io;
 
 fn main(rt: HostRuntime) -> io::Result<()> {
-    run_parts(&rt, b"0123456789a", line)
+    run_parts(&rt, b"0123456789ab", line)
 }
 
 // What a part finds.
@@ -41,6 +42,7 @@ fn line(alloc: Global, part: u8) -> Told {
         b'7' => Told::new(queries::outcome(alloc)),
         b'8' => Told::new(script::outcome(alloc)),
         b'9' => Told::new(conversions::outcome(alloc)),
-        _ => Told::new(histories::outcome(alloc)),
+        b'a' => Told::new(histories::outcome(alloc)),
+        _ => Told::new(depths::outcome(alloc)),
     }
 }

@@ -5,7 +5,7 @@ use Rattle.rdf_session.specs.Between.{IsQuiet, Quietly}
 use Rattle.rdf_session.specs.GivesBack.{UndoGivesBack, RedoGivesAgain}
 use Rattle.rdf_session.specs.Headline.{Headline}
 use Rattle.rdf_session.specs.Request.{Request}
-use Rattle.rdf_session.specs.Session.{Session, Command, Reply, Do, Undo, Redo, Mark, Rollback, Commit, Changed, Done, Refused, Transition, fresh, now}
+use Rattle.rdf_session.specs.Session.{Session, Command, Reply, Do, Undo, Redo, Mark, Rollback, Commit, Changed, Done, Refused, Transition, fresh, now, with_depth}
 use Rattle.rdf_session.specs.Standing.{Run}
 use Rattle.rdf_session.specs.declared.fault.Counts.{Counts}
 use Rattle.rdf_keeper.specs.Script.Answers.{Answers, is_refused, reply_line}
@@ -59,15 +59,16 @@ answers_are_transitions stop last refused (c ∷ cs) old answers new status (inr
 -- ---- over bytes
 
 pub scripts_are_promised : Headline → ScriptsArePromised
-scripts_are_promised headline base_iri start stop before after answers session status over =
+scripts_are_promised headline depth base_iri start stop before after answers session status over =
     let read = over.read ++ over.last in
+    let begun : Session = with_depth depth (fresh base_iri start) in
     elim over.ends [
       | inl ended ↦
-          let run = answers_are_transitions stop Accepted false (commands true None (raw_lines read)) (fresh base_iri start) answers session status ended.1 in
-          (read, over.consumed, record { asked = commands true None (raw_lines read); theirs = inl refl; events = run.0; told = run.1; promise = headline base_iri start run.0 session run.2 })
+          let run = answers_are_transitions stop Accepted false (commands true None (raw_lines read)) begun answers session status ended.1 in
+          (read, over.consumed, record { asked = commands true None (raw_lines read); theirs = inl refl; events = run.0; told = run.1; promise = headline depth base_iri start run.0 session run.2 })
       | inr front ↦
-          let run = answers_are_transitions stop ReadFailed false (commands false None (raw_lines (upto_last_end read))) (fresh base_iri start) answers session status front in
-          (read, over.consumed, record { asked = commands false None (raw_lines (upto_last_end read)); theirs = inr refl; events = run.0; told = run.1; promise = headline base_iri start run.0 session run.2 })
+          let run = answers_are_transitions stop ReadFailed false (commands false None (raw_lines (upto_last_end read))) begun answers session status front in
+          (read, over.consumed, record { asked = commands false None (raw_lines (upto_last_end read)); theirs = inr refl; events = run.0; told = run.1; promise = headline depth base_iri start run.0 session run.2 })
     ]
 
 -- ---- what comes between

@@ -5,7 +5,7 @@ use Rattle.rdf_dataset.specs.State.{State}
 use Rattle.rdf_session.specs.GivesBack.{IsPlaced}
 use Rattle.rdf_session.specs.Headline.{Promise}
 use Rattle.rdf_session.specs.Request.{Request}
-use Rattle.rdf_session.specs.Session.{Session, Command, Reply, Do, Undo, Redo, Mark, fresh, now}
+use Rattle.rdf_session.specs.Session.{Session, Command, Reply, Do, Undo, Redo, Mark, fresh, now, with_depth}
 use Rattle.rdf_session.specs.Standing.{Run}
 use Rattle.rdf_keeper.specs.Script.Answers.{Answers, reply_line}
 use Rattle.rdf_keeper.specs.Script.Commands.{Asked, act, ask, bad, commands, show, unended}
@@ -46,18 +46,18 @@ AreAskedBy text asked =
     (asked ≡ commands true None (raw_lines text)) ⊎ (asked ≡ commands false None (raw_lines (upto_last_end text)))
 
 -- The promise is kept where a script over these bytes has led from the start to the session, with these answers.
-pub record IsPromised (base_iri : Option (List ℕ)) (start : State) (text : List ℕ) (answers : List (List ℕ)) (session : Session) (status : Status) : Type 0 where
+pub record IsPromised (depth : Option ℕ) (base_iri : Option (List ℕ)) (start : State) (text : List ℕ) (answers : List (List ℕ)) (session : Session) (status : Status) : Type 0 where
   pub asked : List Asked
   pub theirs : AreAskedBy text asked
   pub events : List (Command × Reply)
   pub told : AreTold status asked answers events
-  pub promise : Promise base_iri start events session
+  pub promise : Promise depth base_iri start events session
 
--- For every state to start with it is kept of each script, over the bytes that were read, however it ended.
+-- For every depth and every state to start with it is kept of each script, over the bytes that were read, however it ended.
 abbrev pub ScriptsArePromised : Type 0
-ScriptsArePromised = (base_iri : Option (List ℕ)) (start : State) (stop : Bool) (before after : Option (List ℕ)) (answers : List (List ℕ)) (session : Session) (status : Status)
-    → RunsOver stop before after (fresh base_iri start) answers session status
-    → (read : List ℕ) × Consumes before after read × IsPromised base_iri start read answers session status
+ScriptsArePromised = (depth : Option ℕ) (base_iri : Option (List ℕ)) (start : State) (stop : Bool) (before after : Option (List ℕ)) (answers : List (List ℕ)) (session : Session) (status : Status)
+    → RunsOver stop before after (with_depth depth (fresh base_iri start)) answers session status
+    → (read : List ℕ) × Consumes before after read × IsPromised depth base_iri start read answers session status
 
 -- ---- what comes between
 

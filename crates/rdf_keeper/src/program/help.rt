@@ -31,6 +31,9 @@ Commands:
 --base holds for every body: relative IRIs, like <ada>, in updates and queries are resolved
 against it as those of Turtle are, where the text declares no base.
 
+--depth N forgets the oldest of N loads and updates as one more comes, so that a long session
+holds no more of them. The state behind the one that is forgotten becomes the start.
+
 Example: a script that loads one statement, prints it and takes it back
   %load nquads
   <http://example.org/ada> <http://example.org/knows> <http://example.org/bob> .

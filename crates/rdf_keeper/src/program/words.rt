@@ -7,16 +7,18 @@ use crate::program::help::{
     ABOUT, CONVERT_ABOUT, CONVERT_EXAMPLE, NAME, RUN_ABOUT, RUN_EXAMPLE, VERSION,
 };
 use crate::script::command::format_named;
+use clap::builder::ValueParser;
 use clap::error::ErrorKind;
 use clap::{Arg, ArgAction, ArgMatches, Command, Error};
 use rdf_session::Format;
 use rdf_terms::NoMemory;
 use std::alloc::{AllocError, Global};
 
-/// A session: its base, the data that it begins with, and its script.
+/// A session: its base, how many requests it can take back, the data that it begins with, and its script.
 #[derive(Clone, Copy, Debug, PartialEq, Eq)]
 pub(crate) struct RunWords<'a> {
     pub(crate) base: Option<&'a str>,
+    pub(crate) depth: Option<usize>,
     pub(crate) data: Option<&'a str>,
     pub(crate) format: Format,
     pub(crate) stop: bool,
@@ -105,6 +107,14 @@ fn format_word<'a>(alloc: Global) -> Arg<'a> {
         .help("The format of FILE")
 }
 
+fn depth_word<'a>(alloc: Global) -> Arg<'a> {
+    Arg::new(alloc, "depth")
+        .long("depth")
+        .value_name("N")
+        .value_parser(ValueParser::unsigned(1, 1_000_000))
+        .help("Keep the last N loads and updates to take back, 1 to 1000000; all if not given")
+}
+
 fn stop_word<'a>(alloc: Global) -> Arg<'a> {
     Arg::new(alloc, "stop")
         .long("stop")
@@ -125,6 +135,7 @@ fn run_command<'a>(alloc: Global) -> Result<Command<'a>, AllocError> {
         .arg(base_word(alloc))?
         .arg(data_word(alloc))?
         .arg(format_word(alloc))?
+        .arg(depth_word(alloc))?
         .arg(stop_word(alloc))?
         .arg(script_word(alloc))
 }
@@ -179,6 +190,7 @@ fn format_of(word: Option<&str>) -> Result<Format, FormatFault>
 fn run_words<'a>(matches: &ArgMatches<'a>) -> Result<RunWords<'a>, FormatFault> {
     Ok(RunWords {
         base: matches.get_str("base"),
+        depth: matches.get_one("depth"),
         data: matches.get_str("data"),
         format: format_of(matches.get_str("format"))?,
         stop: matches.get_flag("stop"),

@@ -1,6 +1,7 @@
 -- What a keeper holds, seen as a session: the dataset is the state now, the entries are the nets between neighbours.
 use Rattle.std.specs.Prelude.{◌≡◌, ℕ, ◌≤◌, List, [], ◌∷◌, length, take, slice_index_or, Option}
 use Rattle.rdf_dataset.specs.State.{State, Change, IsSound, net_between, applied, turned}
+use Rattle.rdf_session.specs.Depth.{IsDepth, IsWithin}
 use Rattle.rdf_session.specs.History.{LieIn, Marks}
 use Rattle.rdf_session.specs.Session.{Session}
 
@@ -19,10 +20,23 @@ abbrev pub AreNets : State → List Change → Type 0
 AreNets s [] = Unit {0}
 AreNets s (n ∷ ns) = (n ≡ net_between s (applied n s)) × (IsSound (applied n s) × AreNets (applied n s) ns)
 
+-- what a keeper is given at its beginning
+pub record Settings : Type 0 where
+  pub base_iri : Option (List ℕ)
+  pub depth : Option ℕ
+
 -- the session with this base
-abbrev pub session_from : Option (List ℕ) → State → List Change → ℕ → Marks → Session
-session_from base_iri base entries cursor marks =
-    record { base_iri = base_iri; base = base; states = record { items = states_after base entries; cursor = cursor; marks = marks } }
+abbrev pub session_from : Settings → State → List Change → ℕ → Marks → Session
+session_from given base entries cursor marks = record {
+  base_iri = given.base_iri;
+  depth = given.depth;
+  base = base;
+  states = record { items = states_after base entries; cursor = cursor; marks = marks };
+}
+
+-- no more entries than the depth
+abbrev pub IsBounded : Option ℕ → List Change → Type 0
+IsBounded depth entries = IsDepth depth × IsWithin depth (length entries)
 
 abbrev pub base_of : State → List Change → ℕ → State
 base_of now entries cursor = before_all (take cursor entries) now

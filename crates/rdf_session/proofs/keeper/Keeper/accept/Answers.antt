@@ -1,19 +1,39 @@
-use Rattle.std.proofs.Common.{◌∙◌, ◌∷◌, [], ◌++◌, List, take, ap, length}
+use Rattle.std.proofs.Common.{◌≡◌, ◌+◌, ◌-◌, ◌∙◌, ◌∷◌, [], ◌++◌, List, cond, drop, take, ap, length, refl}
 use Rattle.rdf_dataset.specs.State.{Change}
-use Rattle.rdf_session.proofs.KeptLemmas.{accepted_any, begins_here, kept, length-extended}
+use Rattle.rdf_session.proofs.KeptLemmas.{accepted_any, begins_here, left_bounded, length-extended}
+use Rattle.rdf_session.specs.Depth.{is_past}
+use Rattle.rdf_session.specs.History.{marks_behind}
 use Rattle.rdf_session.proofs.keeper.Keeper.accept.Goals as goal
 
 pub commit-requires : goal.commit-requires
-commit-requires c = record { begins = begins_here _ _ _ _ _ c.self.inside.marks c.self.invariant _ c.self.view_is _ c.requires }
+commit-requires c = record { begins = begins_here _ _ _ _ _ c.self.inside.marks c.self.invariant.0 _ c.self.view_is _ c.requires }
 
 pub invariant_of-self-2 : goal.invariant_of-self-2
 invariant_of-self-2 c =
-    let pn = (rw c.unwrap.ensures at c.push.ensures.items) ∙ ap (λ (xs : List Change). xs ++ c.args.net ∷ []) (c.truncate.ensures.items ∙ ap (take c.self.inside.cursor) c.in_ok-reserve.ensures.items) in
-    let pj = c.len-self-inside.ensures ∙ c.push.new.self.ok.0 ∙ ap length pn ∙ length-extended c.self.inside.entries.items c.self.inside.cursor c.args.net c.self.invariant.within in
-    kept _ _ _ _ _ (accepted_any _ _ _ _ _ c.self.inside.marks c.self.invariant _ c.self.view_is c.commit.new.self c.counts_of-counts.result _ _ _ c.keep_through.new.self c.requires c.in_ok-commit.ensures.ok pn pj c.keep_through.ensures c.counts_of-counts.ensures.added c.counts_of-counts.ensures.removed).0
+    let k = c.self.inside.cursor in
+    let depth = c.self.inside.depth in
+    let more = take k c.self.inside.entries.items ++ c.args.net ∷ [] in
+    let n : c.push_back_reserved.new.self.items ≡ more =
+    c.push_back_reserved.ensures.items ∙ ap (λ (xs : List Change). xs ++ c.args.net ∷ []) (c.truncate.ensures.items ∙ ap (take k) c.in_ok-reserve.ensures.items) in
+    let j : c.len-self-inside.result ≡ k + 1 =
+    c.len-self-inside.ensures ∙ c.push_back_reserved.new.self.ok.0 ∙ ap length n ∙ length-extended c.self.inside.entries.items k c.args.net c.self.invariant.0.within in
+    let pn = c.forget_oldest.ensures.entries ∙ (λ i. cond (is_past depth (j i)) (drop 1 (n i)) (n i)) in
+    let pj = c.forget_oldest.ensures.cursor ∙ (λ i. cond (is_past depth (j i)) (j i - 1) (j i)) in
+    let pm = c.forget_oldest.ensures.marks ∙ (λ i. cond (is_past depth (j i)) (marks_behind 1 (c.keep_through.ensures i)) (c.keep_through.ensures i)) in (
+      (accepted_any _ _ _ _ _ c.self.inside.marks c.self.invariant.0 _ c.self.view_is c.commit.new.self c.counts_of-counts.result _ _ _ _ (is_past depth (k + 1)) c.requires c.in_ok-commit.ensures.ok refl pn pj pm c.counts_of-counts.ensures.added c.counts_of-counts.ensures.removed).0,
+      left_bounded _ _ _ _ _ c.self.inside.marks c.self.invariant.0 _ c.self.view_is _ _ (is_past depth (k + 1)) c.self.invariant.1 refl pn,
+    )
 
 pub returns-clause-ok : goal.returns-clause-ok
 returns-clause-ok c =
-    let pn = (rw c.unwrap.ensures at c.push.ensures.items) ∙ ap (λ (xs : List Change). xs ++ c.args.net ∷ []) (c.truncate.ensures.items ∙ ap (take c.self.inside.cursor) c.in_ok-reserve.ensures.items) in
-    let pj = c.len-self-inside.ensures ∙ c.push.new.self.ok.0 ∙ ap length pn ∙ length-extended c.self.inside.entries.items c.self.inside.cursor c.args.net c.self.invariant.within in
-    (accepted_any _ _ _ _ _ c.self.inside.marks c.self.invariant _ c.self.view_is c.commit.new.self c.counts_of-counts.result _ _ _ c.keep_through.new.self c.requires c.in_ok-commit.ensures.ok pn pj c.keep_through.ensures c.counts_of-counts.ensures.added c.counts_of-counts.ensures.removed).1
+    let k = c.self.inside.cursor in
+    let depth = c.self.inside.depth in
+    let more = take k c.self.inside.entries.items ++ c.args.net ∷ [] in
+    let n : c.push_back_reserved.new.self.items ≡ more =
+    c.push_back_reserved.ensures.items ∙ ap (λ (xs : List Change). xs ++ c.args.net ∷ []) (c.truncate.ensures.items ∙ ap (take k) c.in_ok-reserve.ensures.items) in
+    let j : c.len-self-inside.result ≡ k + 1 =
+    c.len-self-inside.ensures ∙ c.push_back_reserved.new.self.ok.0 ∙ ap length n ∙ length-extended c.self.inside.entries.items k c.args.net c.self.invariant.0.within in
+    let pn = c.forget_oldest.ensures.entries ∙ (λ i. cond (is_past depth (j i)) (drop 1 (n i)) (n i)) in
+    let pj = c.forget_oldest.ensures.cursor ∙ (λ i. cond (is_past depth (j i)) (j i - 1) (j i)) in
+    let pm = c.forget_oldest.ensures.marks ∙ (λ i. cond (is_past depth (j i)) (marks_behind 1 (c.keep_through.ensures i)) (c.keep_through.ensures i)) in
+    (accepted_any _ _ _ _ _ c.self.inside.marks c.self.invariant.0 _ c.self.view_is c.commit.new.self c.counts_of-counts.result _ _ _ _ (is_past depth (k + 1)) c.requires c.in_ok-commit.ensures.ok refl pn pj pm c.counts_of-counts.ensures.added c.counts_of-counts.ensures.removed).1

@@ -5,5 +5,4 @@ use Rattle.rdf_session.proofs.KeptLemmas.{entries_are}
 use Rattle.rdf_session.proofs.keeper.Keeper.entries.Goals as goal
 
 pub returns : goal.returns
-returns c =
-    c.as_slice.ensures.value ∙ entries_are _ _ c.self.invariant.nets ∙ ap (λ (s : Session). nets_between s.base s.states.items) c.self.view_is
+returns c = entries_are _ _ c.self.invariant.0.nets ∙ ap (λ (s : Session). nets_between s.base s.states.items) c.self.view_is

@@ -9,14 +9,14 @@ use Rattle.rdf_session.proofs.keeper.Keeper.insert.Goals as goal
 
 pub accept-requires : goal.accept-requires
 accept-requires c =
-    let n = now_is _ _ _ _ _ c.self.inside.marks c.self.invariant _ c.self.view_is in
+    let n = now_is _ _ _ _ _ c.self.inside.marks c.self.invariant.0 _ c.self.view_is in
     let qs = c.args.quads.items in
     let st = c.in_ok-net.ensures in
     (loaded c.self.inside.dataset qs, st.1.0, st.1.1 ∙ ap (λ s. net_between s (loaded c.self.inside.dataset qs)) n)
 
 pub returns : goal.returns
 returns c = λ format text is.
-    let n = now_is _ _ _ _ _ c.self.inside.marks c.self.invariant _ c.self.view_is in
+    let n = now_is _ _ _ _ _ c.self.inside.marks c.self.invariant.0 _ c.self.view_is in
     let qs = c.args.quads.items in
     let st = c.in_ok-net.ensures in
     let after = loaded (now c.args.self.now) qs in

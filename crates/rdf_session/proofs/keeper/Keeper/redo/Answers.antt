@@ -13,18 +13,18 @@ returns-then-self-len c =
 
 pub commit-requires : goal.commit-requires
 commit-requires c =
-    record { begins = redo_begins _ _ _ _ _ c.self.inside.marks c.self.invariant _ c.self.view_is _ (below _ _ _ _ c.self.invariant.within c.len.ensures c.self.inside.entries.ok.0 c.if-self-len.false) c.index-entry.ensures }
+    record { begins = redo_begins _ _ _ _ _ c.self.inside.marks c.self.invariant.0 _ c.self.view_is _ (below _ _ _ _ c.self.invariant.0.within c.len.ensures c.self.inside.entries.ok.0 c.if-self-len.false) c.index-entry.ensures }
 
 pub returns-in_err-commit : goal.returns-in_err-commit
 returns-in_err-commit c =
     let p = err_from_is_err_and c.from_residual.result c.from_residual.ensures.1 in
     rw (p.1, p.2)
-    (redo_refused _ _ _ _ _ c.self.inside.marks c.self.invariant _ c.self.view_is c.commit.new.self _ (below _ _ _ _ c.self.invariant.within c.len.ensures c.self.inside.entries.ok.0 c.if-self-len.false) c.index-entry.ensures c.in_err-commit.ensures.free c.in_err-commit.ensures.err)
+    (redo_refused _ _ _ _ _ c.self.inside.marks c.self.invariant.0 _ c.self.view_is c.commit.new.self _ (below _ _ _ _ c.self.invariant.0.within c.len.ensures c.self.inside.entries.ok.0 c.if-self-len.false) c.index-entry.ensures c.in_err-commit.ensures.free c.in_err-commit.ensures.err)
 
 pub invariant_of-self-2 : goal.invariant_of-self-2
 invariant_of-self-2 c =
-    kept _ _ _ _ _ (redo_transition _ _ _ _ _ c.self.inside.marks c.self.invariant _ c.self.view_is c.commit.new.self c.counts_of-counts.result _ (below _ _ _ _ c.self.invariant.within c.len.ensures c.self.inside.entries.ok.0 c.if-self-len.false) c.index-entry.ensures c.in_ok-commit.ensures.ok c.counts_of-counts.ensures.added c.counts_of-counts.ensures.removed).0
+    (kept _ _ _ _ _ (redo_transition _ _ _ _ _ c.self.inside.marks c.self.invariant.0 _ c.self.view_is c.commit.new.self c.counts_of-counts.result _ (below _ _ _ _ c.self.invariant.0.within c.len.ensures c.self.inside.entries.ok.0 c.if-self-len.false) c.index-entry.ensures c.in_ok-commit.ensures.ok c.counts_of-counts.ensures.added c.counts_of-counts.ensures.removed).0, c.self.invariant.1)
 
 pub returns : goal.returns
 returns c =
-    (redo_transition _ _ _ _ _ c.self.inside.marks c.self.invariant _ c.self.view_is c.commit.new.self c.counts_of-counts.result _ (below _ _ _ _ c.self.invariant.within c.len.ensures c.self.inside.entries.ok.0 c.if-self-len.false) c.index-entry.ensures c.in_ok-commit.ensures.ok c.counts_of-counts.ensures.added c.counts_of-counts.ensures.removed).1
+    (redo_transition _ _ _ _ _ c.self.inside.marks c.self.invariant.0 _ c.self.view_is c.commit.new.self c.counts_of-counts.result _ (below _ _ _ _ c.self.invariant.0.within c.len.ensures c.self.inside.entries.ok.0 c.if-self-len.false) c.index-entry.ensures c.in_ok-commit.ensures.ok c.counts_of-counts.ensures.added c.counts_of-counts.ensures.removed).1

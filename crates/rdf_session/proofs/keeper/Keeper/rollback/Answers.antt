@@ -5,21 +5,18 @@ use Rattle.rdf_session.proofs.keeper.Keeper.rollback.Goals as goal
 
 pub revert-requires : goal.revert-requires
 revert-requires c =
-    let pick = rw c.as_slice.ensures.value at c.in_ok-net.ensures in
-    let net = pick _ c.self.invariant.nets (c.next_blank.ensures.value ∙ ap (λ (x : State). x.next) c.self.invariant.current) ∙ ap (net_between _) (sym c.self.invariant.current) in
+    let net = c.in_ok-net.ensures _ c.self.invariant.0.nets (c.next_blank.ensures.value ∙ ap (λ (x : State). x.next) c.self.invariant.0.current) ∙ ap (net_between _) (sym c.self.invariant.0.current) in
     let below : c.in-Some.place ≤ c.self.inside.cursor = omega arith in
-    record { ends = rollback_ends _ _ _ _ _ c.self.inside.marks c.self.invariant _ c.self.view_is _ c.in-Some.place below net }
+    record { ends = rollback_ends _ _ _ _ _ c.self.inside.marks c.self.invariant.0 _ c.self.view_is _ c.in-Some.place below net }
 
 pub invariant_of-self-2 : goal.invariant_of-self-2
 invariant_of-self-2 c =
-    let pick = rw c.as_slice.ensures.value at c.in_ok-net.ensures in
-    let net = pick _ c.self.invariant.nets (c.next_blank.ensures.value ∙ ap (λ (x : State). x.next) c.self.invariant.current) ∙ ap (net_between _) (sym c.self.invariant.current) in
+    let net = c.in_ok-net.ensures _ c.self.invariant.0.nets (c.next_blank.ensures.value ∙ ap (λ (x : State). x.next) c.self.invariant.0.current) ∙ ap (net_between _) (sym c.self.invariant.0.current) in
     let below : c.in-Some.place ≤ c.self.inside.cursor = omega arith in
-    kept _ _ _ _ _ (rollback_transition _ _ _ _ _ c.self.inside.marks c.self.invariant _ c.self.view_is c.args.name.now c.revert.new.self c.back_counts_of.result _ c.in-Some.place below (sym c.in-Some.ensures) net c.in_ok-revert.ensures.ok c.back_counts_of.ensures.added c.back_counts_of.ensures.removed).0
+    (kept _ _ _ _ _ (rollback_transition _ _ _ _ _ c.self.inside.marks c.self.invariant.0 _ c.self.view_is c.args.name.now c.revert.new.self c.back_counts_of.result _ c.in-Some.place below (sym c.in-Some.ensures) net c.in_ok-revert.ensures.ok c.back_counts_of.ensures.added c.back_counts_of.ensures.removed).0, c.self.invariant.1)
 
 pub returns : goal.returns
 returns c =
-    let pick = rw c.as_slice.ensures.value at c.in_ok-net.ensures in
-    let net = pick _ c.self.invariant.nets (c.next_blank.ensures.value ∙ ap (λ (x : State). x.next) c.self.invariant.current) ∙ ap (net_between _) (sym c.self.invariant.current) in
+    let net = c.in_ok-net.ensures _ c.self.invariant.0.nets (c.next_blank.ensures.value ∙ ap (λ (x : State). x.next) c.self.invariant.0.current) ∙ ap (net_between _) (sym c.self.invariant.0.current) in
     let below : c.in-Some.place ≤ c.self.inside.cursor = omega arith in
-    (rollback_transition _ _ _ _ _ c.self.inside.marks c.self.invariant _ c.self.view_is c.args.name.now c.revert.new.self c.back_counts_of.result _ c.in-Some.place below (sym c.in-Some.ensures) net c.in_ok-revert.ensures.ok c.back_counts_of.ensures.added c.back_counts_of.ensures.removed).1
+    (rollback_transition _ _ _ _ _ c.self.inside.marks c.self.invariant.0 _ c.self.view_is c.args.name.now c.revert.new.self c.back_counts_of.result _ c.in-Some.place below (sym c.in-Some.ensures) net c.in_ok-revert.ensures.ok c.back_counts_of.ensures.added c.back_counts_of.ensures.removed).1

@@ -7,18 +7,18 @@ above_zero : (k : ℕ) → k ≢ 0 → 0 < k
 above_zero k h = omega (arith, h)
 
 pub revert-requires : goal.revert-requires
-revert-requires c = record { ends = undo_ends _ _ _ _ _ c.self.inside.marks c.self.invariant _ c.self.view_is _ (above_zero _ c.if-self-eq0.false) c.index-entry.ensures }
+revert-requires c = record { ends = undo_ends _ _ _ _ _ c.self.inside.marks c.self.invariant.0 _ c.self.view_is _ (above_zero _ c.if-self-eq0.false) c.index-entry.ensures }
 
 pub returns-in_err-revert : goal.returns-in_err-revert
 returns-in_err-revert c =
     let p = err_from_is_err_and c.from_residual.result c.from_residual.ensures.1 in
     rw (p.1, p.2)
-    (undo_refused _ _ _ _ _ c.self.inside.marks c.self.invariant _ c.self.view_is c.revert.new.self _ (above_zero _ c.if-self-eq0.false) c.index-entry.ensures c.in_err-revert.ensures.free c.in_err-revert.ensures.err)
+    (undo_refused _ _ _ _ _ c.self.inside.marks c.self.invariant.0 _ c.self.view_is c.revert.new.self _ (above_zero _ c.if-self-eq0.false) c.index-entry.ensures c.in_err-revert.ensures.free c.in_err-revert.ensures.err)
 
 pub invariant_of-self-2 : goal.invariant_of-self-2
 invariant_of-self-2 c =
-    kept _ _ _ _ _ (undo_transition _ _ _ _ _ c.self.inside.marks c.self.invariant _ c.self.view_is c.revert.new.self c.back_counts_of-counts.result _ (above_zero _ c.if-self-eq0.false) c.index-entry.ensures c.in_ok-revert.ensures.ok c.back_counts_of-counts.ensures.added c.back_counts_of-counts.ensures.removed).0
+    (kept _ _ _ _ _ (undo_transition _ _ _ _ _ c.self.inside.marks c.self.invariant.0 _ c.self.view_is c.revert.new.self c.back_counts_of-counts.result _ (above_zero _ c.if-self-eq0.false) c.index-entry.ensures c.in_ok-revert.ensures.ok c.back_counts_of-counts.ensures.added c.back_counts_of-counts.ensures.removed).0, c.self.invariant.1)
 
 pub returns : goal.returns
 returns c =
-    (undo_transition _ _ _ _ _ c.self.inside.marks c.self.invariant _ c.self.view_is c.revert.new.self c.back_counts_of-counts.result _ (above_zero _ c.if-self-eq0.false) c.index-entry.ensures c.in_ok-revert.ensures.ok c.back_counts_of-counts.ensures.added c.back_counts_of-counts.ensures.removed).1
+    (undo_transition _ _ _ _ _ c.self.inside.marks c.self.invariant.0 _ c.self.view_is c.revert.new.self c.back_counts_of-counts.result _ (above_zero _ c.if-self-eq0.false) c.index-entry.ensures c.in_ok-revert.ensures.ok c.back_counts_of-counts.ensures.added c.back_counts_of-counts.ensures.removed).1

@@ -12,13 +12,13 @@ use Rattle.rdf_session.proofs.keeper.Keeper.update.Goals as goal
 
 pub accept-requires : goal.accept-requires
 accept-requires c =
-    let n = now_is _ _ _ _ _ c.self.inside.marks c.self.invariant _ c.self.view_is in
+    let n = now_is _ _ _ _ _ c.self.inside.marks c.self.invariant.0 _ c.self.view_is in
     let st = c.in_ok-net.ensures in
     (st.0, st.2, st.3 ∙ ap (λ s. net_between s st.0) n)
 
 pub returns : goal.returns
 returns c =
-    let n = now_is _ _ _ _ _ c.self.inside.marks c.self.invariant _ c.self.view_is in
+    let n = now_is _ _ _ _ _ c.self.inside.marks c.self.invariant.0 _ c.self.view_is in
     let request = c.in_ok-request.request in
     let st = c.in_ok-net.ensures in
     let net : c.in_ok-net.net ≡ net_between (now c.args.self.now) st.0 = st.3 ∙ ap (λ s. net_between s st.0) n in
@@ -39,7 +39,7 @@ returns-in_err-request c =
 
 pub returns-in_err-net : goal.returns-in_err-net
 returns-in_err-net c =
-    let n = now_is _ _ _ _ _ c.self.inside.marks c.self.invariant _ c.self.view_is in
+    let n = now_is _ _ _ _ _ c.self.inside.marks c.self.invariant.0 _ c.self.view_is in
     let request = c.in_ok-request.request in
     let is = subst (λ b. IsUpdate b c.args.text.now request) (c.as_ref.ensures.value ∙ ap (λ (o : Session). o.base_iri) c.self.view_is) c.in_ok-request.ensures in
     let p = err_from_is_err_and c.from_residual-in_err-net.result c.from_residual-in_err-net.ensures.1 in
