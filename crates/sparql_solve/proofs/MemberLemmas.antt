@@ -176,11 +176,11 @@ module _ (vs : Variables) (s : State) where
 
   pub any_names_give : (g active : GraphName) (x : List ℕ) (A : Algebra) (found given : List Term) (rows shown bound held out : List Mapping) → ListsOnce s.names found →
       given ≡ found → active ≡ g → AreSolutions s rows (λ d. solutions vs d active A) → shown ≡ rows → bound ≡ map (single vs x) given → held ≡ bound →
-      out ≡ joins shown held → reads A ≡ false → AreSolutions s out (λ d. over_names vs d x A d.names)
+      SameBag out (joins shown held) → reads A ≡ false → AreSolutions s out (λ d. over_names vs d x A d.names)
   any_names_give g active x A found given rows shown bound held out once eg ea h es eb eh e er d l f =
       let F : Term → List Mapping = λ n. joins (solutions vs d (Named n) A) (single vs x n ∷ []) in
       let N : List Mapping = map (single vs x) found in
-      ap (sum_by f) (e ∙ ap (λ (xs : List Mapping). joins xs held) es ∙ ap (joins rows) (eh ∙ eb ∙ ap (map (single vs x)) eg))
+      e f ∙ ap (sum_by f) (ap (λ (xs : List Mapping). joins xs held) es ∙ ap (joins rows) (eh ∙ eb ∙ ap (map (single vs x)) eg))
       ∙ SameBag-joins rows (solutions vs d active A) N N (h d l) (SameBag-refl N) f
       ∙ once_for_all d active x A er found f
       ∙ SameBag-flat_map F F found d.names (names_same s found d.names once l.names) (λ n. SameBag-refl (F n)) f

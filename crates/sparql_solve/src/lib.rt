@@ -13,6 +13,7 @@ mod laws;
 mod look_ups;
 mod matching;
 mod order;
+mod parts;
 mod place;
 mod results;
 mod rows;

@@ -1,9 +1,18 @@
-use Rattle.std.proofs.Common.{ap, sym, ◌∙◌}
+use Rattle.std.proofs.Common.{List, ap, sym, ◌∙◌}
 use Rattle.std.specs.List.{sum_by}
 use Rattle.std.proofs.lemmas.Result.{IfOk-weaker}
+use Rattle.sparql_values.specs.Mapping.{Mapping}
+use Rattle.sparql_algebra.specs.Solutions.{joins}
 use Rattle.sparql_solve.specs.declared.sides.Side.{Side}
 use Rattle.sparql_solve.specs.Sides.{joins_with}
 use Rattle.sparql_solve.proofs.sides.join_side.Goals as goal
+
+pub returns-in-Rows : goal.returns-in-Rows
+returns-in-Rows g c =
+    IfOk-weaker c.join.result _ _
+    (λ out e d l f. e f ∙ ap (λ (rows : List Mapping). sum_by f (joins c.args.left.now rows)) c.as_slice.ensures
+    ∙ ap (λ (right : Side). sum_by f (joins_with c.args.variables.now d c.args.left.now right)) (sym c.in-Rows.is))
+    c.join.ensures
 
 pub returns-in-LookUp : goal.returns-in-LookUp
 returns-in-LookUp g c =

@@ -10,7 +10,7 @@ use Rattle.sparql_solve.proofs.sides.left_join_side.Goals as goal
 pub returns-in-Rows : goal.returns-in-Rows
 returns-in-Rows g c =
     IfOk-weaker c.left_join.result _ _
-    (λ out e d l f. ap (sum_by f) (e ∙ ap (λ (rows : List Mapping). left_joins c.args.left.now rows (satisfies c.args.variables.now c.args.filters.now)) c.as_slice.ensures)
+    (λ out e d l f. e f ∙ ap (λ (rows : List Mapping). sum_by f (left_joins c.args.left.now rows (satisfies c.args.variables.now c.args.filters.now))) c.as_slice.ensures
     ∙ ap (λ (right : Side). sum_by f (left_joins_with c.args.variables.now d c.args.left.now right (satisfies c.args.variables.now c.args.filters.now))) (sym c.in-Rows.is))
     c.left_join.ensures
 
