@@ -4,6 +4,7 @@ pub mod FitLemmas
 pub mod GrowthLemmas
 pub mod MatchingLemmas
 pub mod LookUpLemmas
+pub mod PatternOrderLemmas
 pub mod BasicLemmas
 pub mod UnderLemmas
 pub mod SideLemmas
@@ -14,3 +15,4 @@ pub mod FollowLemmas
 pub mod DistinctLemmas
 pub mod ResultLemmas
 pub mod KeyLemmas
+pub mod PartLemmas
