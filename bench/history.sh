@@ -38,9 +38,9 @@ for name in ("this", "other", "rdflib"):
     if rounds:
         columns[name] = {step: min(float(it[step]) for it in rounds) for step in rounds[0]}
 steps = list(columns["this"]) + [step for step in columns["rdflib"] if step not in columns["this"]]
-print("%-42s" % "" + "".join("%12s" % name for name in columns) + "".join("%16s" % f"{name} / this" for name in columns if name != "this"))
+print("%-52s" % "" + "".join("%12s" % name for name in columns) + "".join("%16s" % f"{name} / this" for name in columns if name != "this"))
 for step in steps:
-    row = "%-42s" % step + "".join("%12.4f" % it[step] if step in it else "%12s" % "" for it in columns.values())
+    row = "%-52s" % step + "".join("%12.4f" % it[step] if step in it else "%12s" % "" for it in columns.values())
     ours = columns["this"].get(step)
     print(row + "".join("%16.2f" % (it[step] / max(ours, 1e-6)) if ours is not None and step in it else "%16s" % "" for name, it in columns.items() if name != "this"))
 PY

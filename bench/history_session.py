@@ -84,6 +84,8 @@ def of_marks(rdfkeep, count):
     session = Session(rdfkeep)
     print(f"{count} marks, us each", session.all([b"%%mark place%d\n" % it for it in range(count)]) / count * 1e6)
     print(f"updates behind {count} marks, us each", session.all([update(it) for it in range(count)]) / count * 1e6)
+    rounds = [b"%undo\n" + update(count + it) + b"%%mark again%d\n" % it for it in range(count // 10)]
+    print(f"undo, update and mark behind {count} marks, us each", session.all(rounds, 3) / len(rounds) * 1e6)
     session.end()
 
 

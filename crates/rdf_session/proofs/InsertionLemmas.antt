@@ -14,7 +14,7 @@ use Rattle.rdf_session.specs.Request.{blank_limit}
 abbrev Ending : Type 0
 Ending = Result State ApplyFault
 
-leads : (s : State) (d : DataParts) → s.next + d.blanks ≤ last_number → step s (InsertData d) ≡ Ok (after s (InsertData d))
+pub leads : (s : State) (d : DataParts) → s.next + d.blanks ≤ last_number → step s (InsertData d) ≡ Ok (after s (InsertData d))
 leads s d h =
     elim (leb_tells (suc last_number) (s.next + d.blanks)) [
       | inl t ↦ absurd (omega (arith, t.1, h))

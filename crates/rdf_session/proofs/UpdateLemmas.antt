@@ -1,13 +1,18 @@
 -- The refusals of an update, and the state that it leads to.
-use Rattle.std.proofs.Common.{◌≡◌, ℕ, List, Option, Ok, sym, ap, ◌∙◌}
+use Rattle.std.proofs.Common.{◌≡◌, ℕ, List, [], ◌∷◌, Option, Some, Ok, sym, ap, ◌∙◌}
+use Rattle.rdf_dataset.specs.Insertion.{with_data}
+use Rattle.rdf_dataset.specs.Loading.{IsNetOfData}
 use Rattle.rdf_dataset.specs.Staging.{Staging}
 use Rattle.rdf_dataset.specs.State.{State, Change, IsSound, net_between}
-use Rattle.sparql_eval.specs.Operations.{steps}
+use Rattle.sparql_eval.specs.Operations.{go_on, steps}
 use Rattle.sparql_syntax.specs.Update as update
 use Rattle.sparql_syntax.specs.declared.fault.SyntaxFault.{SyntaxFault}
 use Rattle.sparql_syntax.specs.declared.fault.SyntaxFaultKind.{SyntaxFaultKind}
 use Rattle.sparql_syntax.specs.declared.fault.SyntaxFaultKind.TheVariants as kind
+use Rattle.sparql_trees.specs.Data.{DataParts}
 use Rattle.sparql_trees.specs.declared.operation.Operation.{Operation}
+use Rattle.sparql_trees.specs.declared.operation.Operation.TheVariants.{InsertData}
+use Rattle.rdf_session.proofs.InsertionLemmas.{leads}
 use Rattle.rdf_session.specs.Inside.Staging.{StagesSteps, TellsSyntaxFault, syntax_refusal}
 
 pub no_request : (base : Option (List ℕ)) (text : List ℕ) (f : SyntaxFault) (k : SyntaxFaultKind) → update.TellsFault base text f k → TellsSyntaxFault base text (syntax_refusal f k)
@@ -31,4 +36,13 @@ staged_steps s operations before after net begins leads beneath sound is = (
   ap (λ (v : Staging). steps v.now operations) (sym begins) ∙ leads,
   sound,
   is ∙ ap (λ u. net_between u after.now) (beneath ∙ ap (λ (v : Staging). v.under) begins),
+)
+
+-- INSERT DATA alone
+pub data_staged : (s : State) (inserted : DataParts) (net : Change) → IsNetOfData s inserted.quads inserted.blanks (Some net) → StagesSteps s (InsertData inserted ∷ []) (Ok net)
+data_staged s inserted net is = (
+  with_data s inserted.quads inserted.blanks,
+  ap (λ r. go_on r (λ t. steps t [])) (leads s inserted is.0),
+  is.1.0,
+  is.1.1,
 )

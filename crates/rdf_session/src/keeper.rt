@@ -25,8 +25,9 @@ use crate::marks::Marks;
 use crate::query::{Answer, evaluate, read_text};
 use crate::update::{read_request, stage_request};
 use rdf_dataset::{Dataset, Net, Source};
-use rdf_terms::{Iri, NoMemory as NoMemoryFault, Quad, Term};
+use rdf_terms::{Iri, NoMemory as NoMemoryFault, Quad, Term, Vocabulary};
 use std::alloc::Global;
+use std::cell::OnceCell;
 use std::collections::VecDeque;
 use std::marker::Model;
 
@@ -40,6 +41,8 @@ pub struct Keeper {
     entries: VecDeque<Net>,
     cursor: usize,
     marks: Marks,
+    // made by the first request or query that wants it
+    vocabulary: OnceCell<Vocabulary>,
     alloc: Global,
 }
 
@@ -80,6 +83,7 @@ impl Keeper {
             entries: VecDeque::new(alloc),
             cursor: 0,
             marks: Marks::new(alloc),
+            vocabulary: OnceCell::new(),
             alloc,
         }
     }
@@ -149,8 +153,9 @@ impl Keeper {
     pub fn update(&mut self, text: &[u8]) -> Result<Counts, KeeperFault>
         ensures { Transition self.old (Do (Update text.now)) (reply_of result) self.new }
     {
-        let request = read_request(self.alloc, text, self.base_iri.as_ref())?;
-        let net = stage_request(self.alloc, &self.dataset, &request)?;
+        let vocabulary = self.vocabulary()?;
+        let request = read_request(self.alloc, vocabulary, text, self.base_iri.as_ref())?;
+        let net = stage_request(self.alloc, vocabulary, &self.dataset, &request)?;
         self.accept(net)
     }
 
@@ -161,8 +166,15 @@ impl Keeper {
     pub fn query(&self, text: &[u8]) -> Result<Answer, KeeperFault>
         ensures { Replies self.now text.now result }
     {
-        let query = read_text(self.alloc, text, self.base_iri.as_ref())?;
-        Ok(evaluate(self.alloc, &query, &self.dataset)?)
+        let vocabulary = self.vocabulary()?;
+        let query = read_text(self.alloc, vocabulary, text, self.base_iri.as_ref())?;
+        Ok(evaluate(self.alloc, vocabulary, &query, &self.dataset)?)
+    }
+
+    // The vocabulary that is lent to whatever reads or evaluates.
+    fn vocabulary(&self) -> Result<&Vocabulary, NoMemoryFault> {
+        let alloc = self.alloc;
+        self.vocabulary.get_or_try_init(|| Vocabulary::new(alloc))
     }
 
     // Takes the net of an accepted request. All growths come before the first change, and the oldest entry is

@@ -9,10 +9,10 @@ ghost use Rattle.rdf_session.specs.Query.{AnswersQuery, IsOfRows, IsOfTruth};
 use crate::fault::KeeperFault;
 use crate::update::syntax_refusal;
 use rdf_dataset::Dataset;
-use rdf_terms::{Iri, Items, NoMemory, Text};
-use sparql_eval::{Row, ask, select};
+use rdf_terms::{Iri, Items, NoMemory, Text, Vocabulary};
+use sparql_eval::{Row, ask_with, select_with};
 use sparql_results::{boolean_text, write_header, write_row};
-use sparql_syntax::read_query;
+use sparql_syntax::read_query_with;
 use sparql_trees::{Pattern, Query, Select};
 use std::alloc::Global;
 
@@ -28,6 +28,7 @@ pub struct Answer {
 /// The query of a text, its references against the base.
 pub(crate) fn read_text(
     alloc: Global,
+    vocabulary: &Vocabulary,
     text: &[u8],
     base: Option<&Iri>,
 ) -> Result<Query, KeeperFault>
@@ -35,7 +36,7 @@ pub(crate) fn read_text(
         (λ query. IsQuery (option_copied base.entry) text.now query)
         (λ fault. TellsQueryFault (option_copied base.entry) text.now fault) }
 {
-    match read_query(alloc, text, base) {
+    match read_query_with(alloc, vocabulary, text, base) {
         Ok(query) => Ok(query),
         Err(fault) => Err(syntax_refusal(fault)),
     }
@@ -57,10 +58,15 @@ fn append_rows(
     Ok(())
 }
 
-fn selection(alloc: Global, query: &Select, dataset: &Dataset) -> Result<Answer, NoMemory>
+fn selection(
+    alloc: Global,
+    vocabulary: &Vocabulary,
+    query: &Select,
+    dataset: &Dataset,
+) -> Result<Answer, NoMemory>
     ensures { IfOk result (λ answer. IsOfRows query.now dataset.now answer) }
 {
-    let rows = select(alloc, query, dataset)?;
+    let rows = select_with(alloc, vocabulary, query, dataset)?;
     let mut payload = Vec::new(alloc);
     append_rows(
         alloc,
@@ -74,10 +80,15 @@ fn selection(alloc: Global, query: &Select, dataset: &Dataset) -> Result<Answer,
     })
 }
 
-fn truth(alloc: Global, pattern: &Pattern, dataset: &Dataset) -> Result<Answer, NoMemory>
+fn truth(
+    alloc: Global,
+    vocabulary: &Vocabulary,
+    pattern: &Pattern,
+    dataset: &Dataset,
+) -> Result<Answer, NoMemory>
     ensures { IfOk result (λ answer. IsOfTruth pattern.now dataset.now answer) }
 {
-    let text = boolean_text(ask(alloc, pattern, dataset)?);
+    let text = boolean_text(ask_with(alloc, vocabulary, pattern, dataset)?);
     let payload = Vec::from_slice(alloc, text.as_bytes())?;
     Ok(Answer {
         payload: Items::from_vec(payload),
@@ -86,11 +97,16 @@ fn truth(alloc: Global, pattern: &Pattern, dataset: &Dataset) -> Result<Answer, 
 }
 
 /// The answer of the dataset.
-pub(crate) fn evaluate(alloc: Global, query: &Query, dataset: &Dataset) -> Result<Answer, NoMemory>
+pub(crate) fn evaluate(
+    alloc: Global,
+    vocabulary: &Vocabulary,
+    query: &Query,
+    dataset: &Dataset,
+) -> Result<Answer, NoMemory>
     ensures { IfOk result (λ answer. AnswersQuery query.now dataset.now answer) }
 {
     match query {
-        Query::Select(query) => selection(alloc, query, dataset),
-        Query::Ask(pattern) => truth(alloc, pattern, dataset),
+        Query::Select(query) => selection(alloc, vocabulary, query, dataset),
+        Query::Ask(pattern) => truth(alloc, vocabulary, pattern, dataset),
     }
 }

@@ -32,7 +32,7 @@ returns c =
 
 pub returns-in_err-request : goal.returns-in_err-request
 returns-in_err-request c =
-    let p = err_from_is_err_and c.from_residual.result c.from_residual.ensures.1 in
+    let p = err_from_is_err_and c.from_residual-in_err-request.result c.from_residual-in_err-request.ensures.1 in
     let f = c.in_err-request.field-0.0 in
     let told = subst (λ b. TellsSyntaxFault b c.args.text.now f) (c.as_ref.ensures.value ∙ ap (λ (o : Session). o.base_iri) c.self.view_is) c.in_err-request.ensures in
     rw (p.1, p.2) (unread c.args.self.now c.args.text.now f told)
