@@ -1,5 +1,5 @@
 -- The states of a dataset, and the net between two of them (RDF 1.1 Concepts, section 4).
-use Rattle.std.specs.Prelude.{◌≡◌, ℕ, ◌≤◌, ◌+◌, Option, None, Some, IsTrue, refl, ⊤, Bool, true, not, ◌&&◌}
+use Rattle.std.specs.Prelude.{◌≡◌, ℕ, ◌≤◌, ◌+◌, List, Option, None, Some, IsTrue, refl, ⊤, Bool, true, not, ◌&&◌}
 use Rattle.std.specs.Coded.{Coded, code_by, coded×, coded_ℕ}
 use Rattle.std.specs.Ordering.{eq_by_cmp}
 use Rattle.std.specs.FinSet as set
@@ -36,6 +36,10 @@ last_number = 1000000000000000000
 -- no quad, no name
 abbrev pub empty_state : ℕ → State
 empty_state next = record { quads = set.empty; names = set.empty; next = next }
+
+-- these quads and these names, in whatever order and however often
+abbrev pub listed_state : ℕ → List Term → List QuadParts → State
+listed_state next names quads = record { quads = set.from_list quads; names = set.from_list names; next = next }
 
 -- ---- soundness
 

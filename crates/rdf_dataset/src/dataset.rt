@@ -3,7 +3,7 @@ ghost use Rattle.std.specs.Prelude.{◌≡◌, ◌≤◌, ◌+◌, [], length, o
 ghost use Rattle.std.specs.FinSet as set;
 ghost use Rattle.rdf_dataset.specs.Inside.Delta.{IsStateDelta};
 ghost use Rattle.rdf_terms.specs.Lists.{AppendsOnce, ListsSorted};
-ghost use Rattle.rdf_dataset.specs.State.{State, IsSound, Begins, Ends, net_between, empty_state, last_number, matches};
+ghost use Rattle.rdf_dataset.specs.State.{State, IsSound, Begins, Ends, net_between, empty_state, listed_state, last_number, matches};
 
 use crate::net::Net;
 use crate::source::{Source, sources_are_sound};
@@ -60,6 +60,25 @@ impl Dataset {
             next,
             alloc,
         }
+    }
+
+    /// The sound state of these quads and graph names, and of the number of the next blank node. An item
+    /// given twice counts once.
+    ///
+    /// # Errors
+    /// [`NoMemory`] where memory is wanting.
+    pub fn from_state(
+        alloc: Global,
+        next: u64,
+        names: &[Term],
+        quads: &[Quad],
+    ) -> Result<Dataset, NoMemory>
+        requires { IsSound (listed_state next names.now quads.now) }
+        ensures { IfOk result (λ dataset. dataset ≡ listed_state next names.now quads.now) }
+    {
+        let mut store = Store::new(alloc);
+        store.insert_all(quads, names)?;
+        Ok(Dataset { store, next, alloc })
     }
 
     /// The quads, each once, in order.

@@ -20,6 +20,11 @@ mod RoundTripLemmas
 mod SharedLemmas
 mod SortLemmas
 mod SoundLemmas
+mod StateCheckLemmas
+mod StateLineLemmas
+mod StatePartLemmas
+mod StateSetLemmas
+mod StateWriteLemmas
 mod StatementSteps
 mod CallLemmas
 mod SuffixSteps

@@ -24,11 +24,11 @@ tally_is f [] = refl
 tally_is f (x ∷ xs) = sum_by-cons f x xs ∙ ap (λ n. f x + n) (tally_is f xs)
 
 module _ {X : Type 0} (cmp : X → X → Ordering) (o : IsTotalOrder cmp) (anti : IsAntisymmetric cmp) where
-  abbrev AtLeast : X → List X → Type 0
+  abbrev pub AtLeast : X → List X → Type 0
   AtLeast x ys = AllByRecursion (λ y. is_gt (cmp x y) ≡ false) ys
 
   -- no element is above one behind it
-  abbrev Rises : List X → Type 0
+  abbrev pub Rises : List X → Type 0
   Rises [] = Unit {0}
   Rises (x ∷ xs) = AtLeast x xs × Rises xs
 

@@ -25,7 +25,7 @@ use Rattle.rdf_lines.specs.RoundTrip.{statement_of}
 use Rattle.rdf_lines.proofs.WrittenTagLemmas.{tag_no_end}
 use Rattle.rdf_lines.proofs.RoundTripLemmas.{end_text, line_of, quad_line, says_statement}
 
-abbrev NoEnd : List ℕ → Type 0
+abbrev pub NoEnd : List ℕ → Type 0
 NoEnd bs = list_any is_line_end bs ≡ false
 
 both : (xs ys : List ℕ) → NoEnd xs → NoEnd ys → NoEnd (xs ++ ys)
@@ -88,7 +88,7 @@ suffix_no_end datatype None h k = by (pointwise nat_eq datatype xsd_string)
     by true = refl
     by false = both (94 ∷ 94 ∷ []) (60 ∷ (datatype ++ 62 ∷ [])) refl (iri_no_end datatype h)
 
-term_no_end : (t : Term) → is_term t ≡ true → NoEnd (term_text t)
+pub term_no_end : (t : Term) → is_term t ≡ true → NoEnd (term_text t)
 term_no_end (Blank n) h = both (95 ∷ 58 ∷ 98 ∷ []) (decimal n) refl (from_each (decimal n) (digits_no_end (decimal n) (decimal_digits n (ltb-true n 18446744073709551616 h))))
 term_no_end (Iri iri) h = iri_no_end iri h
 term_no_end (Literal l) h =
@@ -102,7 +102,7 @@ end_no_end : (g : GraphName) → is_graph g ≡ true → NoEnd (end_text g)
 end_no_end Default h = refl
 end_no_end (Named name) h = spaced (term_text name) (46 ∷ []) (term_no_end name h) refl
 
-line_no_end : (q : Quad) → QuadTests q → NoEnd (line_of q)
+pub line_no_end : (q : Quad) → QuadTests q → NoEnd (line_of q)
 line_no_end q t =
     let third = term_text q.object ++ 32 ∷ end_text q.graph in
     let second = term_text q.predicate ++ 32 ∷ third in

@@ -2,6 +2,7 @@ pub mod Blanks
 pub mod Document
 pub mod FaultName
 pub mod Grammar
+pub mod Inside
 pub mod Labels
 pub mod Line
 pub mod LineEnds
@@ -11,4 +12,5 @@ pub mod QuadText
 pub mod Reader
 pub mod Reading
 pub mod RoundTrip
+pub mod StateText
 pub mod Written

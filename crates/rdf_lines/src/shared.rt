@@ -3,8 +3,8 @@ ghost use Rattle.std.specs.Prelude.{◌≡◌, ◌++◌, ◌∷◌, [], IfOk, On
 
 use rdf_terms::{GraphName, NoMemory, Quad, Term, TermTable};
 
-// An equal term: one that the table holds from now on, unless it is a blank node, which has no text.
-fn kept_term(terms: &mut TermTable, term: Term) -> Result<Term, NoMemory>
+/// An equal term: one that the table holds from now on, unless it is a blank node, which has no text.
+pub fn kept_term(terms: &mut TermTable, term: Term) -> Result<Term, NoMemory>
     ensures { IfOk result (λ shared. shared ≡ term) }
 {
     if let Term::Blank(number) = term {

@@ -79,12 +79,16 @@ fn append_sorted(alloc: Global, quads: &[Quad], out: &mut Vec<u8>) -> Result<(),
     Ok(())
 }
 
-fn references<'a>(alloc: Global, quads: &'a [Quad]) -> Result<Vec<&'a Quad>, NoMemory>
-    ensures { IfOk result (λ v. map (λ q. q.now) v.items ≡ quads.now) }
+/// The items by reference, in their order.
+///
+/// # Errors
+/// [`NoMemory`] where memory is wanting.
+pub fn references<'a, T>(alloc: Global, items: &'a [T]) -> Result<Vec<&'a T>, NoMemory>
+    ensures { IfOk result (λ v. map (λ x. x.now) v.items ≡ items.now) }
 {
     let mut all = Vec::new(alloc);
-    for quad in quads {
-        all.push(quad)?;
+    for item in items {
+        all.push(item)?;
     }
     Ok(all)
 }
