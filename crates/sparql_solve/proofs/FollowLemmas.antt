@@ -27,7 +27,7 @@ use Rattle.sparql_values.specs.Mapping.{Variables, Mapping, same_term, column, v
 use Rattle.sparql_algebra.specs.Algebra.{Algebra, basic, graph, Element, joined, optional, empty_pattern, filtered, extended, element, group_of, translation, union_of}
 use Rattle.sparql_algebra.specs.Bags.{SameBag}
 use Rattle.sparql_algebra.specs.Listing.{Listing, Lists}
-use Rattle.sparql_algebra.specs.Solutions.{is_at, is_column, occurs, var_or_term, basic_solutions, merges, joins, satisfies, solutions}
+use Rattle.sparql_algebra.specs.Solutions.{is_at, is_column, occurs, var_or_term, basic_solutions, merges, joins, left_joins, satisfies, solutions}
 use Rattle.sparql_algebra.specs.Under.{agreeing, cut, names_left, reads, under}
 use Rattle.sparql_algebra.proofs.CallerLemmas.{and_left, and_right, sum_by-cong, sum_by-filter, SameBag-refl, SameBag-filter, SameBag-map, SameBag-joins, SameBag-flat_map, has_length, single_length, length_from, length_to, merge_length, merges_length, solutions_length, sum_where, sum_by-map, all_under_nothing, all_filter, basic_under, same_term_is, name_once, filter_always, translation-is, element-Basic, element-Union, element-Optional, element-Graph, empty_solutions, compatible_empty, compatible_turn, filter_flat_map, join_alone, joined_alone, left_joined_alone, filter_under, names_kept, variable_under}
 use Rattle.sparql_solve.specs.declared.look_ups.Graphs.{Graphs}
@@ -128,6 +128,14 @@ more_flags test i b before after h eb e =
 
 pub flags_done : (test : ℕ → Bool) (i n : ℕ) (out : List Bool) → out ≡ flags_where test i → i ≤ n → n ≤ i → out ≡ flags_where test n
 flags_done test i n out h le ge = let e : i ≡ n = omega (arith, le, ge) in h ∙ ap (flags_where test) e
+
+-- ---- what was found for all rows, joined by key
+
+pub beside_optional : (vs : Variables) (member : Member) (p : Pattern) (F : List Expression) (rows found out : List Mapping) → member ≡ m.Optional p → F ≡ p.filters →
+    SameBag out (left_joins rows found (satisfies vs F)) → SameBag out (flat_map (λ x. kept vs (element member) x (merges found x)) rows)
+beside_optional vs member p F rows found out em ef h f =
+    h f ∙ ap (λ (E : List Expression). sum_by f (left_joins rows found (satisfies vs E))) ef
+    ∙ ap (λ (k : Element). sum_by f (flat_map (λ x. kept vs k x (merges found x)) rows)) (sym (ap element em ∙ element-Optional p))
 
 module _ (vs : Variables) (s : State) where
   -- ---- all of it
@@ -256,14 +264,14 @@ module _ (vs : Variables) (s : State) where
   -- with what was found for all rows
   pub made_beside : (g : GraphName) (a : Mapping) (k : Element) (rows : List Mapping) (nothing under_it : Mapping) (found given out : List Mapping) →
       nothing ≡ replicate (length vs + 0) None → under_it ≡ asked k a nothing → AreUnder vs s under_it found (λ d. element_solutions vs d g k) → given ≡ found →
-      out ≡ flat_map (λ x. agreeing (kept vs k x (merges given x)) a) rows → AreMade vs s g a k rows out
+      SameBag out (flat_map (λ x. agreeing (kept vs k x (merges given x)) a) rows) → AreMade vs s g a k rows out
   made_beside g a k rows nothing under_it found given out en eu h eg e ea w d l f =
       let more : length vs + 0 ≡ length vs = omega arith in
       let wide : length nothing ≡ length vs = ap length en ∙ length-replicate {A = Option Term} (length vs + 0) None ∙ more in
       let none : binds_none nothing ≡ true = ap binds_none en ∙ replicate_none (length vs + 0) in
       let bag : SameBag found (agreeing (element_solutions vs d g k) (asked k a nothing)) =
       subst (λ (u : Mapping). SameBag found (agreeing (element_solutions vs d g k) u)) eu (h (ap length eu ∙ asked_wide vs k a nothing ea wide) d l) in
-      ap (sum_by f) (e ∙ ap (λ (ys : List Mapping). flat_map (λ x. agreeing (kept vs k x (merges ys x)) a) rows) eg)
+      e f ∙ ap (λ (ys : List Mapping). sum_by f (flat_map (λ x. agreeing (kept vs k x (merges ys x)) a) rows)) eg
       ∙ all_give (is_wide vs) (λ x. agreeing (kept vs k x (merges found x)) a) (made vs d g a k) rows w
       (λ x wx. shared vs a nothing x (wide ∙ sym (wide_from vs x wx)) (below_none nothing x none) k found (element_solutions vs d g k) bag) f
 
@@ -387,14 +395,14 @@ module _ (vs : Variables) (s : State) where
   -- a group that doesn't see the active graph, joined with all names at once
   pub once_follows : (name : VarOrIri) (x : List ℕ) (A : Algebra) (a : Mapping) (g : GraphName) (names given : List Term) (rows shown out : List Mapping) → name ≡ v.Variable x →
       ((d : Listing) → Lists s d → SameBag names (names_left d.names (value_of vs a x))) → given ≡ names → reads A ≡ false →
-      AreUnder vs s a rows (λ d. solutions vs d g A) → shown ≡ rows → out ≡ agreeing (joins shown (map (single vs x) given)) a →
+      AreUnder vs s a rows (λ d. solutions vs d g A) → shown ≡ rows → SameBag out (agreeing (joins shown (map (single vs x) given)) a) →
       (active : GraphName) → AreUnder vs s a out (λ d. solutions vs d active (graph name A))
   once_follows name x A a g names given rows shown out en hn eg er h es e active ea d l f =
       let S : List Mapping = solutions vs d g A in
       let F : Term → List Mapping = λ n. joins (solutions vs d (Named n) A) (single vs x n ∷ []) in
       let left : List Term = names_left d.names (value_of vs a x) in
       let ha : has_length (length vs) a ≡ true = length_to (length vs) a ea in
-      ap (sum_by f) (e ∙ ap (λ (xs : List Mapping). agreeing (joins xs (map (single vs x) given)) a) es
+      e f ∙ ap (sum_by f) (ap (λ (xs : List Mapping). agreeing (joins xs (map (single vs x) given)) a) es
       ∙ ap (λ (ns : List Term). agreeing (joins rows (map (single vs x) ns)) a) eg)
       ∙ SameBag-filter (compatible a) (joins rows (map (single vs x) names)) (joins (agreeing S a) (map (single vs x) names))
       (SameBag-joins rows (agreeing S a) (map (single vs x) names) (map (single vs x) names) (h ea d l) (SameBag-refl (map (single vs x) names))) f
@@ -436,7 +444,7 @@ module _ (vs : Variables) (s : State) where
   pub rest_follows : (g : GraphName) (a : Mapping) (k : Element) (rows rest : List Mapping) (n : ℕ) (nothing under_it : Mapping) (before found given beside out : List Mapping) →
       rest ≡ drop n rows → nothing ≡ replicate (length vs + 0) None → under_it ≡ asked k a nothing →
       AreUnder vs s under_it found (λ d. element_solutions vs d g k) → given ≡ found →
-      beside ≡ flat_map (λ x. agreeing (kept vs k x (merges given x)) a) rest → out ≡ before ++ beside →
+      SameBag beside (flat_map (λ x. agreeing (kept vs k x (merges given x)) a) rest) → out ≡ before ++ beside →
       AreMade vs s g a k (take n rows) before → AreMade vs s g a k rows out
   rest_follows g a k rows rest n nothing under_it before found given beside out er en eu h eg e eo r =
       made_append g a k (take n rows) rest rows before beside out (sym (ap (λ (xs : List Mapping). take n rows ++ xs) er ∙ take-append-drop n rows)) eo r

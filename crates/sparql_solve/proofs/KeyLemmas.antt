@@ -1,16 +1,15 @@
 -- Rows by key: the rows of an index that have a key, and that no others are compatible.
-use Rattle.std.proofs.Common.{◌≡◌, ℕ, zero, suc, ◌+◌, ◌-◌, ◌<◌, ◌≤◌, Bool, true, false, cond, not, ◌&&◌, List, [], ◌∷◌, ◌++◌, map, filter, Option, Some, None, is_some, length, take, drop, get_or, refl, sym, ap, ◌∙◌, subst, arith, append_assoc, append-nil, nat_eq, Bor}
+use Rattle.std.proofs.Common.{◌≡◌, ℕ, zero, suc, ◌+◌, ◌-◌, ◌<◌, ◌≤◌, Bool, true, false, cond, not, ◌&&◌, List, [], ◌∷◌, ◌++◌, map, filter, Option, Some, None, is_some, length, take, drop, get_or, refl, sym, ap, ◌∙◌, subst, arith, append-nil, nat_eq, Bor}
 use Rattle.std.specs.List.{list_all, range_with_len}
 use Rattle.std.specs.List.Sorted.{IsSortedBy, IsStableBy, IsPermutation, IsPartitionPoint, IsPartitionedBy, ties}
 use Rattle.std.specs.Ordering.{is_lt, is_le, is_eq, ordering_index, ordering_reverse, ordering_then}
 use Rattle.std.specs.Cmp.{IsTotalOrder}
 use Rattle.std.specs.declared.cmp.Ordering.{Ordering}
 use Rattle.std.specs.declared.cmp.Ordering.TheVariants.{Less, Equal, Greater}
-use Rattle.std.specs.List.{flat_map}
 use Rattle.std.proofs.Math.ListN.{get_or-map}
 use Rattle.std.proofs.lemmas.Bool.{eqb-true}
 use Rattle.std.proofs.lemmas.Cmp.{tied_itself}
-use Rattle.std.proofs.lemmas.List.{drop_more, get_or-drop, get_or_default, length-drop, length-map, map-id}
+use Rattle.std.proofs.lemmas.List.{get_or-drop, get_or_default, length-drop, length-map, map-id}
 use Rattle.std.proofs.lemmas.List.FromFn.{filter_of_map_range_with_len_more}
 use Rattle.std.proofs.lemmas.List.Sorted.{searchable_from_sorted, length_permutation}
 use Rattle.rdf_terms.specs.declared.term.Term.{Term}
@@ -18,7 +17,7 @@ use Rattle.sparql_values.specs.Mapping.{Mapping, agrees, value_at, compatible, m
 use Rattle.sparql_algebra.specs.Order.{mapping_cmp}
 use Rattle.sparql_algebra.specs.Solutions.{merges}
 use Rattle.sparql_algebra.proofs.CallerLemmas.{and_left, and_right, same_term_is, mapping_total, filter-cong}
-use Rattle.sparql_solve.specs.Keys.{IsIndex, RunsGiveMerges, binds, all_bind, columns_of, key_columns, key, key_cmp, same_key, run}
+use Rattle.sparql_solve.specs.Keys.{IsIndex, IsKeyOf, RunsGiveMerges, binds, all_bind, columns_of, key_columns, key, key_cmp, same_key, run}
 
 -- ---- comparisons
 
@@ -280,17 +279,24 @@ one_key columns a b p q h =
     ap (λ (m : Mapping). is_eq (mapping_cmp (key columns a) m)) (sym (keys_agree columns a b h p q)) ∙ ap is_eq (tied_itself mapping_total (key columns a))
 
 -- each mapping of both lists has the key
-left_has : (A B : List Mapping) (i : ℕ) (d : Mapping) → i < length A → has_key (key_columns A B) (get_or A i d) ≡ true
-left_has [] B i d lt = absurd (omega arith)
-left_has (a ∷ A) B i d lt =
-    all_kept (all_bind (a ∷ A) B) (λ c. binds c (get_or (a ∷ A) i d)) (columns_of a)
-    (λ c e. all_at (binds c) (a ∷ A) i d (and_left (list_all (binds c) (a ∷ A)) _ e) lt)
+left_has : (columns : List ℕ) (A B : List Mapping) (i : ℕ) (d : Mapping) → i < length A → IsKeyOf columns A B → has_key columns (get_or A i d) ≡ true
+left_has [] A B i d lt h = refl
+left_has (c ∷ columns) A B i d lt h =
+    ap (λ t. t && has_key columns (get_or A i d)) (all_at (binds c) A i d (and_left (list_all (binds c) A) _ (and_left (all_bind A B c) _ h)) lt)
+    ∙ left_has columns A B i d lt (and_right (all_bind A B c) _ h)
 
-right_has : (A B : List Mapping) (i : ℕ) (d : Mapping) → i < length B → has_key (key_columns A B) (get_or B i d) ≡ true
-right_has [] B i d lt = refl
-right_has (a ∷ A) B i d lt =
-    all_kept (all_bind (a ∷ A) B) (λ c. binds c (get_or B i d)) (columns_of a)
-    (λ c e. all_at (binds c) B i d (and_right (list_all (binds c) (a ∷ A)) _ e) lt)
+right_has : (columns : List ℕ) (A B : List Mapping) (i : ℕ) (d : Mapping) → i < length B → IsKeyOf columns A B → has_key columns (get_or B i d) ≡ true
+right_has [] A B i d lt h = refl
+right_has (c ∷ columns) A B i d lt h =
+    ap (λ t. t && has_key columns (get_or B i d)) (all_at (binds c) B i d (and_right (list_all (binds c) A) _ (and_left (all_bind A B c) _ h)) lt)
+    ∙ right_has columns A B i d lt (and_right (all_bind A B c) _ h)
+
+key_columns_bound : (A B : List Mapping) → IsKeyOf (key_columns A B) A B
+key_columns_bound [] B = refl
+key_columns_bound (a ∷ A) B = all_kept (all_bind (a ∷ A) B) (all_bind (a ∷ A) B) (columns_of a) (λ c e. e)
+
+pub bound_columns : (columns : List ℕ) (A B : List Mapping) → columns ≡ key_columns A B → IsKeyOf columns A B
+bound_columns columns A B e = subst (λ (cs : List ℕ). IsKeyOf cs A B) (sym e) (key_columns_bound A B)
 
 -- ---- the merges of a run are the merges
 
@@ -303,33 +309,16 @@ run_is columns B index a h =
     let tie : Mapping → Bool = ties (λ x z. is_lt (key_cmp columns x z)) a in
     sym (filter-cong tie (same_key columns a) (tie_is columns a) index) ∙ h.stable a ∙ filter-cong tie (same_key columns a) (tie_is columns a) B
 
-merges_of_run : (A B index : List Mapping) (i : ℕ) (a : Mapping) → i < length A → a ≡ get_or A i a → IsIndex (key_columns A B) B index →
-    merges (run (key_columns A B) index a) a ≡ merges B a
-merges_of_run A B index i a lt here h =
-    let columns : List ℕ = key_columns A B in
-    let own : has_key columns a ≡ true = subst (λ (m : Mapping). has_key columns m ≡ true) (sym here) (left_has A B i a lt) in
+pub merges_of_run : (columns : List ℕ) (A B index : List Mapping) (i : ℕ) (a : Mapping) → i < length A → a ≡ get_or A i a → IsKeyOf columns A B →
+    IsIndex columns B index → merges (run columns index a) a ≡ merges B a
+merges_of_run columns A B index i a lt here k h =
+    let own : has_key columns a ≡ true = subst (λ (m : Mapping). has_key columns m ≡ true) (sym here) (left_has columns A B i a lt k) in
     ap (λ (xs : List Mapping). map (merge a) (filter (compatible a) xs)) (run_is columns B index a h)
-    ∙ ap (map (merge a)) (filter_within (compatible a) (same_key columns a) B (λ k d l e. one_key columns a (get_or B k d) own (right_has A B k d l) e))
+    ∙ ap (map (merge a)) (filter_within (compatible a) (same_key columns a) B (λ j d l e. one_key columns a (get_or B j d) own (right_has columns A B j d l k) e))
 
 pub runs_suffice : RunsGiveMerges
-runs_suffice A B index h k d lt = merges_of_run A B index k (get_or A k d) lt (get_or_default A k d (get_or A k d) lt) h
-
--- ---- for the loops of joins
-
-pub one_merged : (A B index shown merged : List Mapping) (columns used held : List ℕ) (i : ℕ) (a : Mapping) → i < length A → a ≡ get_or A i a →
-    columns ≡ key_columns A B → used ≡ columns → held ≡ columns → IsIndex used B index → shown ≡ index →
-    merged ≡ merges (run held shown a) a → merged ≡ merges B a
-one_merged A B index shown merged columns used held i a lt here ec eu eh h es em =
-    em ∙ ap (λ (xs : List Mapping). merges (run held xs a) a) es ∙ ap (λ (cs : List ℕ). merges (run cs index a) a) (eh ∙ ec)
-    ∙ merges_of_run A B index i a lt here (subst (λ (cs : List ℕ). IsIndex cs B index) (eu ∙ ec) h)
-
-pub more_joined : (F : Mapping → List Mapping) (A : List Mapping) (i : ℕ) (a : Mapping) (out found after whole : List Mapping) → i < length A → a ≡ get_or A i a →
-    out ++ flat_map F (drop i A) ≡ whole → found ≡ F a → after ≡ out ++ found → after ++ flat_map F (drop (i + 1) A) ≡ whole
-more_joined F A i a out found after whole lt here h ef ea =
-    let rest : List Mapping = flat_map F (drop (i + 1) A) in
-    let next : drop i A ≡ a ∷ drop (i + 1) A = drop_more A i a lt ∙ ap (λ (x : Mapping). x ∷ drop (i + 1) A) (sym here) in
-    ap (λ (l : List Mapping). l ++ rest) ea ∙ append_assoc out found rest ∙ ap (λ (l : List Mapping). out ++ (l ++ rest)) ef
-    ∙ sym (ap (λ (l : List Mapping). out ++ flat_map F l) next) ∙ h
+runs_suffice A B index h k d lt =
+    merges_of_run (key_columns A B) A B index k (get_or A k d) lt (get_or_default A k d (get_or A k d) lt) (key_columns_bound A B) h
 
 -- ---- for the loop over the columns
 

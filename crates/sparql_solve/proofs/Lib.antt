@@ -14,3 +14,4 @@ pub mod FollowLemmas
 pub mod DistinctLemmas
 pub mod ResultLemmas
 pub mod KeyLemmas
+pub mod PartLemmas

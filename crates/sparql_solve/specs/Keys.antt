@@ -1,5 +1,5 @@
 -- How the rows of two sides are joined by key: by their values at the columns that each of them binds.
-use Rattle.std.specs.Prelude.{◌≡◌, ℕ, Bool, ◌&&◌, List, [], ◌∷◌, length, is_some, map, filter, All}
+use Rattle.std.specs.Prelude.{◌≡◌, ℕ, Bool, true, ◌&&◌, List, [], ◌∷◌, length, is_some, map, filter, All}
 use Rattle.std.specs.List.{list_all, range_with_len}
 use Rattle.std.specs.List.Sorted.{IsSortedByKey, IsStableByKey}
 use Rattle.std.specs.Ordering.{is_eq}
@@ -24,6 +24,10 @@ columns_of m = range_with_len 0 (length m)
 abbrev pub key_columns : List Mapping → List Mapping → List ℕ
 key_columns [] B = []
 key_columns (a ∷ A) B = filter (all_bind (a ∷ A) B) (columns_of a)
+
+-- each mapping of both lists has a term at each of the columns
+abbrev pub IsKeyOf : List ℕ → List Mapping → List Mapping → Type 0
+IsKeyOf columns A B = list_all (all_bind A B) columns ≡ true
 
 -- what a mapping has at the key columns
 abbrev pub key : List ℕ → Mapping → Mapping

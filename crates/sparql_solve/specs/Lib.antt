@@ -1,4 +1,5 @@
 pub mod Keys
+pub mod Parts
 pub mod LookUps
 pub mod Matching
 pub mod Sides

@@ -1,53 +1,80 @@
-//! Join and LeftJoin of rows, by key (SPARQL 1.1 Query, section 18.5).
-ghost use Rattle.std.specs.Prelude.{◌≡◌, IfOk, IsSortedByKey, map};
-ghost use Rattle.sparql_algebra.specs.Order.{mapping_cmp};
+//! Join and LeftJoin of rows, each part by its own key (SPARQL 1.1 Query, section 18.5).
+ghost use Rattle.std.specs.Prelude.{◌≡◌, ◌++◌, IfOk, OnOk, filter, map};
+ghost use Rattle.std.specs.List.{flat_map};
+ghost use Rattle.sparql_algebra.specs.Bags.{SameBag};
 ghost use Rattle.sparql_algebra.specs.Solutions.{joins, left_joins, merges, or_alone, satisfies};
-ghost use Rattle.sparql_solve.specs.Keys.{key, run};
+ghost use Rattle.sparql_solve.specs.Parts.{merges_in};
 
 use crate::filters::filtered_rows;
-use crate::keys::{index_of, key_columns, run_of};
+use crate::keys::{Part, run_of};
+use crate::parts::{cut_parts, parted, parts_of};
 use crate::rows::Row;
 use rdf_terms::{NoMemory, Text, Vocabulary};
 use sparql_trees::Expression;
 use std::alloc::Global;
 
-// The merges of a row with those that are compatible with it.
-fn merged_rows(alloc: Global, row: &Row, others: &[&Row]) -> Result<Vec<Row>, NoMemory>
-    ensures { IfOk result (λ out. out.items ≡ merges (map (λ r. r.now) others.now) row.now) }
+// Appends the merges of a row with those that are compatible with it.
+fn append_merges(
+    alloc: Global,
+    row: &Row,
+    others: &[&Row],
+    out: &mut Vec<Row>,
+) -> Result<(), NoMemory>
+    ensures { OnOk result (out.new.items
+        ≡ out.old.items ++ merges (map (λ r. r.now) others.now) row.now) }
 {
-    let mut out = Vec::new(alloc);
     for other in others {
         if row.is_compatible(other) {
             out.push(row.merged(alloc, other)?)?;
         }
     }
-    Ok(out)
+    Ok(())
 }
 
-// The merges of a row with those of an index that have its key.
-fn merges_of(
+// Appends the merges of a row with those of the parts that have its key.
+fn append_partners(
     alloc: Global,
     row: &Row,
-    index: &[&Row],
-    columns: &[usize],
-) -> Result<Vec<Row>, NoMemory>
-    requires { IsSortedByKey (key columns.now) mapping_cmp (map (λ r. r.now) index.now) }
-    ensures { IfOk result (λ out. out.items
-        ≡ merges (run columns.now (map (λ r. r.now) index.now) row.now) row.now) }
+    parts: &[Part],
+    out: &mut Vec<Row>,
+) -> Result<(), NoMemory>
+    ensures { OnOk result (out.new.items ≡ out.old.items ++ merges_in parts.now row.now) }
 {
-    merged_rows(alloc, row, run_of(row, index, columns))
+    for part in parts {
+        let run = run_of(row, &part.rows, &part.columns);
+        append_merges(alloc, row, run, out)?;
+    }
+    Ok(())
+}
+
+// Appends the merges of each row.
+fn append_joins(
+    alloc: Global,
+    rows: &[&Row],
+    parts: &[Part],
+    out: &mut Vec<Row>,
+) -> Result<(), NoMemory>
+    ensures { OnOk result (out.new.items
+        ≡ out.old.items ++ flat_map (merges_in parts.now) (map (λ r. r.now) rows.now)) }
+{
+    for row in rows {
+        append_partners(alloc, row, parts, out)?;
+    }
+    Ok(())
 }
 
 /// Join: the merges of all compatible pairs.
 pub(crate) fn join(alloc: Global, left: &[Row], right: &[Row]) -> Result<Vec<Row>, NoMemory>
-    ensures { IfOk result (λ out. out.items ≡ joins left.now right.now) }
+    ensures { IfOk result (λ out. SameBag out.items (joins left.now right.now)) }
 {
-    let columns = key_columns(alloc, left, right)?;
-    let index = index_of(alloc, right, columns.as_slice())?;
+    let left = parted(alloc, left)?;
+    let right = parted(alloc, right)?;
+    let groups = cut_parts(alloc, left.as_slice())?;
+    let others = cut_parts(alloc, right.as_slice())?;
     let mut out = Vec::new(alloc);
-    for row in left {
-        let mut merged = merges_of(alloc, row, index.as_slice(), columns.as_slice())?;
-        out.append(&mut merged)?;
+    for group in &groups {
+        let parts = parts_of(alloc, group, others.as_slice())?;
+        append_joins(alloc, group, parts.as_slice(), &mut out)?;
     }
     Ok(out)
 }
@@ -62,6 +89,45 @@ pub(crate) fn or_alone(alloc: Global, row: &Row, mut merged: Vec<Row>) -> Result
     Ok(merged)
 }
 
+// A row's part of LeftJoin.
+fn optional_merges(
+    alloc: Global,
+    variables: &[Text],
+    vocabulary: &Vocabulary,
+    row: &Row,
+    parts: &[Part],
+    filters: &[Expression],
+) -> Result<Vec<Row>, NoMemory>
+    ensures { IfOk result (λ out. out.items ≡ or_alone row.now
+        (filter (satisfies variables.now filters.now) (merges_in parts.now row.now))) }
+{
+    let mut merged = Vec::new(alloc);
+    append_partners(alloc, row, parts, &mut merged)?;
+    let kept = filtered_rows(alloc, variables, vocabulary, merged, filters)?;
+    or_alone(alloc, row, kept)
+}
+
+// Appends each row's part of LeftJoin.
+fn append_left_joins(
+    alloc: Global,
+    variables: &[Text],
+    vocabulary: &Vocabulary,
+    rows: &[&Row],
+    parts: &[Part],
+    filters: &[Expression],
+    out: &mut Vec<Row>,
+) -> Result<(), NoMemory>
+    ensures { OnOk result (out.new.items ≡ out.old.items ++ flat_map (λ a. or_alone a
+        (filter (satisfies variables.now filters.now) (merges_in parts.now a)))
+        (map (λ r. r.now) rows.now)) }
+{
+    for row in rows {
+        let mut found = optional_merges(alloc, variables, vocabulary, row, parts, filters)?;
+        out.append(&mut found)?;
+    }
+    Ok(())
+}
+
 /// LeftJoin: the merges of all compatible pairs of which each of the filters is true, and each left
 /// row that has none.
 pub(crate) fn left_join(
@@ -72,17 +138,20 @@ pub(crate) fn left_join(
     right: &[Row],
     filters: &[Expression],
 ) -> Result<Vec<Row>, NoMemory>
-    ensures { IfOk result (λ out. out.items
-        ≡ left_joins left.now right.now (satisfies variables.now filters.now)) }
+    ensures { IfOk result (λ out. SameBag out.items
+        (left_joins left.now right.now (satisfies variables.now filters.now))) }
 {
-    let columns = key_columns(alloc, left, right)?;
-    let index = index_of(alloc, right, columns.as_slice())?;
+    let left = parted(alloc, left)?;
+    let right = parted(alloc, right)?;
+    let groups = cut_parts(alloc, left.as_slice())?;
+    let others = cut_parts(alloc, right.as_slice())?;
     let mut out = Vec::new(alloc);
-    for row in left {
-        let merged = merges_of(alloc, row, index.as_slice(), columns.as_slice())?;
-        let kept = filtered_rows(alloc, variables, vocabulary, merged, filters)?;
-        let mut found = or_alone(alloc, row, kept)?;
-        out.append(&mut found)?;
+    for group in &groups {
+        let parts = parts_of(alloc, group, others.as_slice())?;
+        let parts = parts.as_slice();
+        append_left_joins(
+            alloc, variables, vocabulary, group, parts, filters, &mut out,
+        )?;
     }
     Ok(out)
 }

@@ -9,15 +9,25 @@ use rdf_terms::NoMemory;
 use std::alloc::Global;
 use std::cmp::Ordering;
 
+/// Rows in the order of their keys.
+#[derive(Drop)]
+pub(crate) struct Part<'r> {
+    /// The columns of the key.
+    pub(crate) columns: Vec<usize>,
+    pub(crate) rows: Vec<&'r Row>,
+    ghost sorted: { IsSortedByKey (key columns.items) mapping_cmp (map (λ r. r.now) rows.items) },
+}
+
 // Whether each of the rows has a term at the column.
-fn each_binds(rows: &[Row], column: usize) -> bool
-    ensures { result ≡ list_all (binds column) rows.now }
+fn each_binds(rows: &[&Row], column: usize) -> bool
+    ensures { result ≡ list_all (binds column) (map (λ r. r.now) rows.now) }
 {
     rows.iter().all(|row| row.value(column).is_some())
 }
 
-fn all_bind(left: &[Row], right: &[Row], column: usize) -> bool
-    ensures { result ≡ all_bind left.now right.now column }
+fn all_bind(left: &[&Row], right: &[&Row], column: usize) -> bool
+    ensures { result
+        ≡ all_bind (map (λ r. r.now) left.now) (map (λ r. r.now) right.now) column }
 {
     each_binds(left, column) && each_binds(right, column)
 }
@@ -25,10 +35,11 @@ fn all_bind(left: &[Row], right: &[Row], column: usize) -> bool
 /// The columns at which each row of both sides has a term.
 pub(crate) fn key_columns(
     alloc: Global,
-    left: &[Row],
-    right: &[Row],
+    left: &[&Row],
+    right: &[&Row],
 ) -> Result<Vec<usize>, NoMemory>
-    ensures { IfOk result (λ columns. columns.items ≡ key_columns left.now right.now) }
+    ensures { IfOk result (λ columns. columns.items
+        ≡ key_columns (map (λ r. r.now) left.now) (map (λ r. r.now) right.now)) }
 {
     let mut columns = Vec::new(alloc);
     if let Some(first) = left.first() {
@@ -54,22 +65,16 @@ fn compare_keys(row: &Row, other: &Row, columns: &[usize]) -> Ordering
     Ordering::Equal
 }
 
-fn references<'r>(alloc: Global, rows: &'r [Row]) -> Result<Vec<&'r Row>, NoMemory>
-    ensures { IfOk result (λ all. map (λ r. r.now) all.items ≡ rows.now) }
-{
-    Ok(rows.iter().collect(alloc)?)
-}
-
 /// The rows in the order of their keys, those of one key in the order in which they came.
 pub(crate) fn index_of<'r>(
     alloc: Global,
-    rows: &'r [Row],
+    rows: &[&'r Row],
     columns: &[usize],
 ) -> Result<Vec<&'r Row>, NoMemory>
     ensures { IfOk result (λ index.
-        IsIndex columns.now rows.now (map (λ r. r.now) index.items)) }
+        IsIndex columns.now (map (λ r. r.now) rows.now) (map (λ r. r.now) index.items)) }
 {
-    let mut index = references(alloc, rows)?;
+    let mut index = Vec::from_slice(alloc, rows)?;
     if columns.is_empty() {
         return Ok(index);
     }

@@ -17,6 +17,7 @@ mod matching;
 mod members;
 mod names;
 mod order;
+mod parts;
 mod place;
 mod results;
 mod rows;

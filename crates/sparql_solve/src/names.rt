@@ -57,8 +57,8 @@ pub(crate) fn rows_of_names(
     rows: &[Row],
     under: &Row,
 ) -> Result<Vec<Row>, NoMemory>
-    ensures { IfOk result (λ out. out.items
-        ≡ agreeing (joins rows.now (map (single variables.now variable.now) names.now)) under.now) }
+    ensures { IfOk result (λ out. SameBag out.items
+        (agreeing (joins rows.now (map (single variables.now variable.now) names.now)) under.now)) }
 {
     let bound = single_rows(alloc, variables, variable, names)?;
     let joined = join(alloc, rows, &bound)?;

@@ -3,6 +3,7 @@
 ghost use Rattle.std.specs.Prelude.{◌≡◌, IfOk, map, take};
 ghost use Rattle.std.specs.List.{flat_map};
 ghost use Rattle.sparql_algebra.specs.Algebra.{element};
+ghost use Rattle.sparql_algebra.specs.Bags.{SameBag};
 ghost use Rattle.sparql_algebra.specs.Solutions.{merges};
 ghost use Rattle.sparql_algebra.specs.Under.{agreeing};
 ghost use Rattle.sparql_values.specs.Mapping.{merge};
@@ -157,8 +158,8 @@ fn joined_rows(
     found: &[Row],
     member: &Member,
 ) -> Result<Vec<Row>, NoMemory>
-    ensures { IfOk result (λ out. out.items ≡ flat_map (λ x. kept variables.now
-        (element member.now) x (merges found.now x)) rows.now) }
+    ensures { IfOk result (λ out. SameBag out.items (flat_map (λ x. kept variables.now
+        (element member.now) x (merges found.now x)) rows.now)) }
 {
     match member {
         Member::Optional(pattern) => {
@@ -180,8 +181,8 @@ pub(crate) fn rows_beside(
     member: &Member,
     under: &Row,
 ) -> Result<Vec<Row>, NoMemory>
-    ensures { IfOk result (λ out. out.items ≡ flat_map (λ x. agreeing (kept variables.now
-        (element member.now) x (merges found.now x)) under.now) rows.now) }
+    ensures { IfOk result (λ out. SameBag out.items (flat_map (λ x. agreeing (kept variables.now
+        (element member.now) x (merges found.now x)) under.now) rows.now)) }
 {
     let joined = joined_rows(alloc, variables, vocabulary, rows, found, member)?;
     compatible_rows(alloc, under, joined)

@@ -1,14 +1,16 @@
-use Rattle.std.proofs.Common.{ap}
-use Rattle.sparql_algebra.specs.Solutions.{joins, merges}
-use Rattle.sparql_solve.proofs.KeyLemmas.{rows_of, one_merged, more_joined}
+use Rattle.std.proofs.Common.{ap, ◌∙◌}
+use Rattle.sparql_solve.proofs.PartLemmas.{all_rows, group_joined, all_joined}
 use Rattle.sparql_solve.proofs.joins.join.Goals as goal
 
-pub loop-row-preserved : goal.loop-row-preserved
-loop-row-preserved c =
-    more_joined (merges c.args.right.now) c.args.left.now c.loop-row.row-index c.row-item.result c.loop-row.out.items c.in_ok-merged.merged.items
-    c.append.new.self.items (joins c.args.left.now c.args.right.now) c.loop-row-test.true c.row-item.is c.loop-row.invariant
-    (one_merged c.args.left.now c.args.right.now (rows_of c.in_ok-index.index.items) (rows_of c.as_slice-in-loop-row.result.now) c.in_ok-merged.merged.items
-    c.in_ok-columns.columns.items c.as_slice.result.now c.as_slice-in-loop-row-2.result.now c.loop-row.row-index c.row-item.result c.loop-row-test.true
-    c.row-item.is c.in_ok-columns.ensures c.as_slice.ensures.value c.as_slice-in-loop-row-2.ensures.value c.in_ok-index.ensures
-    (ap rows_of c.as_slice-in-loop-row.ensures.value) c.in_ok-merged.ensures)
-    c.in_ok-append.ensures.items
+pub loop-group-preserved : goal.loop-group-preserved
+loop-group-preserved c =
+    group_joined c.deref-group-items.result.now c.loop-group.group-index c.group-item.result c.in_ok-others.others.items c.as_slice-in-loop-group.result.now
+    c.in_ok-parts.parts.items c.as_slice-in-loop-group-2.result.now c.loop-group.out.items c.append_joins.new.out.items c.loop-group-test.true
+    c.group-item.is c.as_slice-in-loop-group.ensures.value c.as_slice-in-loop-group-2.ensures.value c.in_ok-parts.ensures c.loop-group.invariant
+    c.in_ok-append_joins.ensures
+
+pub returns : goal.returns
+returns c =
+    all_joined c.args.left.now c.args.right.now c.in_ok-left.left.items c.in_ok-right.right.items c.as_slice.result.now c.as_slice-2.result.now
+    c.deref-group-items.result.now c.in_ok-others.others.items c.loop-group.group-index c.loop-group.out.items c.in_ok-left.ensures c.in_ok-right.ensures
+    c.as_slice.ensures.value c.as_slice-2.ensures.value (ap all_rows c.deref-group-items.ensures.value ∙ c.in_ok-groups.ensures) c.in_ok-others.ensures c.loop-group-test.false c.loop-group.invariant

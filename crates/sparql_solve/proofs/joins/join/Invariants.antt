@@ -1,6 +1,7 @@
-use Rattle.std.proofs.Common.{◌≡◌, ◌++◌, drop}
+use Rattle.std.proofs.Common.{◌≡◌, take}
 use Rattle.sparql_algebra.specs.Solutions.{joins}
+use Rattle.sparql_solve.proofs.PartLemmas.{all_rows}
 use Rattle.sparql_solve.proofs.joins.join.Given as goal
 
-abbrev pub invariant-loop-row : goal.invariant-loop-row
-invariant-loop-row l = l.out.items ++ joins (drop l.row-index l.left) l.right ≡ joins l.left l.right
+abbrev pub invariant-loop-group : goal.invariant-loop-group
+invariant-loop-group l = l.out.items ≡ joins (all_rows (take l.group-index l.group-items)) (all_rows l.others.items)

@@ -1,17 +1,18 @@
-use Rattle.std.proofs.Common.{List, ap, ◌∙◌}
+use Rattle.std.proofs.Common.{ap, ◌∙◌}
+use Rattle.std.specs.List.{flat_map, sum_by}
 use Rattle.std.proofs.lemmas.Result.{IfOk-weaker}
 use Rattle.sparql_algebra.specs.Algebra.{element}
 use Rattle.sparql_algebra.specs.Solutions.{merges}
-use Rattle.sparql_algebra.specs.Under.{agreeing}
-use Rattle.sparql_algebra.proofs.CallerLemmas.{filter_flat_map}
+use Rattle.sparql_algebra.proofs.CallerLemmas.{SameBag-filter, filter_flat_map}
 use Rattle.sparql_values.specs.Mapping.{Mapping, compatible}
 use Rattle.sparql_solve.specs.Under.{kept}
 use Rattle.sparql_solve.proofs.sides.rows_beside.Goals as goal
 
 pub returns : goal.returns
 returns c =
+    let made = λ (x : Mapping). kept c.args.variables.now (element c.args.member.now) x (merges c.args.found.now x) in
     IfOk-weaker c.compatible_rows.result _ _
-    (λ out e. e ∙ ap (λ (ms : List Mapping). agreeing ms c.args.under.now) c.in_ok-joined.ensures
-    ∙ filter_flat_map (compatible c.args.under.now)
-    (λ x. kept c.args.variables.now (element c.args.member.now) x (merges c.args.found.now x)) c.args.rows.now)
+    (λ out e f. ap (sum_by f) e
+    ∙ SameBag-filter (compatible c.args.under.now) c.in_ok-joined.joined.items (flat_map made c.args.rows.now) c.in_ok-joined.ensures f
+    ∙ ap (sum_by f) (filter_flat_map (compatible c.args.under.now) made c.args.rows.now))
     c.compatible_rows.ensures

@@ -1,0 +1,107 @@
+//! The rows of a join in parts: of rows that bind the same columns, and so have a key of their own
+//! with each part of the other side.
+ghost use Rattle.std.specs.Prelude.{◌≡◌, ◌<◌, ◌≤◌, All, IfOk, length, map};
+ghost use Rattle.std.specs.List.{flat_map};
+ghost use Rattle.sparql_algebra.specs.Bags.{SameBag};
+ghost use Rattle.sparql_algebra.specs.Solutions.{merges};
+ghost use Rattle.sparql_solve.specs.Keys.{IsKeyOf};
+ghost use Rattle.sparql_solve.specs.Parts.{merges_in, part_merges};
+
+use crate::keys::{Part, index_of, key_columns};
+use crate::rows::Row;
+use rdf_terms::NoMemory;
+use std::alloc::Global;
+use std::cmp::Ordering;
+
+// Fewer left rows than these are compared with every right row: to sort the right ones costs more.
+const FEWEST: usize = 16;
+
+// By the columns that have a term. Nothing but time rests on it.
+fn compare_bound(row: &Row, other: &Row) -> Ordering {
+    let bound = row.values().iter().map(|value| value.is_some());
+    bound.cmp(other.values().iter().map(|value| value.is_some()))
+}
+
+fn references<'r>(alloc: Global, rows: &'r [Row]) -> Result<Vec<&'r Row>, NoMemory>
+    ensures { IfOk result (λ all. map (λ r. r.now) all.items ≡ rows.now) }
+{
+    Ok(rows.iter().collect(alloc)?)
+}
+
+/// References to the rows, those that bind the same columns side by side.
+pub(crate) fn parted<'r>(alloc: Global, rows: &'r [Row]) -> Result<Vec<&'r Row>, NoMemory>
+    ensures { IfOk result (λ all. SameBag (map (λ r. r.now) all.items) rows.now) }
+{
+    let mut all = references(alloc, rows)?;
+    all.sort_by(|row, other| compare_bound(row, other))?;
+    Ok(all)
+}
+
+// How many rows at the front bind the same columns as the first one.
+fn part_len(rows: &[&Row]) -> usize
+    requires { 0 < length rows.now }
+    ensures some { 0 < result }
+    ensures within { result ≤ length rows.now }
+{
+    let first = rows[0];
+    let others = &rows[1..];
+    1 + others.partition_point(|row| compare_bound(row, first).is_eq())
+}
+
+/// The rows cut into parts, where those that bind the same columns stand side by side.
+pub(crate) fn cut_parts<'s, 'r>(
+    alloc: Global,
+    rows: &'s [&'r Row],
+) -> Result<Vec<&'s [&'r Row]>, NoMemory>
+    ensures { IfOk result (λ parts. flat_map (λ part. map (λ r. r.now) part.now) parts.items
+        ≡ map (λ r. r.now) rows.now) }
+{
+    let mut parts = Vec::new(alloc);
+    let mut start = 0;
+    while start < rows.len() {
+        let rest = &rows[start..];
+        let len = part_len(rest);
+        parts.push(&rest[..len])?;
+        start += len;
+    }
+    Ok(parts)
+}
+
+// The key columns; none where there are few left rows.
+fn columns_for(alloc: Global, left: &[&Row], right: &[&Row]) -> Result<Vec<usize>, NoMemory>
+    ensures { IfOk result (λ columns. IsKeyOf columns.items
+        (map (λ r. r.now) left.now) (map (λ r. r.now) right.now)) }
+{
+    if left.len() < FEWEST {
+        return Ok(Vec::new(alloc));
+    }
+    key_columns(alloc, left, right)
+}
+
+// A part by the key that it shares with these left rows.
+fn part_of<'r>(alloc: Global, left: &[&Row], rows: &[&'r Row]) -> Result<Part<'r>, NoMemory>
+    ensures { IfOk result (λ part. All
+        (λ a. part_merges a part ≡ merges (map (λ r. r.now) rows.now) a)
+        (map (λ r. r.now) left.now)) }
+{
+    let columns = columns_for(alloc, left, rows)?;
+    let rows = index_of(alloc, rows, columns.as_slice())?;
+    Ok(Part { columns, rows })
+}
+
+/// The parts, each by the key that it shares with these left rows.
+pub(crate) fn parts_of<'r>(
+    alloc: Global,
+    left: &[&Row],
+    right: &[&[&'r Row]],
+) -> Result<Vec<Part<'r>>, NoMemory>
+    ensures { IfOk result (λ parts. All (λ a. merges_in parts.items a
+        ≡ merges (flat_map (λ part. map (λ r. r.now) part.now) right.now) a)
+        (map (λ r. r.now) left.now)) }
+{
+    let mut parts = Vec::new(alloc);
+    for rows in right {
+        parts.push(part_of(alloc, left, rows)?)?;
+    }
+    Ok(parts)
+}
