@@ -4,6 +4,7 @@ pub mod FitLemmas
 pub mod GrowthLemmas
 pub mod MatchingLemmas
 pub mod LookUpLemmas
+pub mod PatternOrderLemmas
 pub mod BasicLemmas
 pub mod UnderLemmas
 pub mod SideLemmas

@@ -1,7 +1,6 @@
 -- What look-ups find under a mapping.
 use Rattle.std.proofs.Common.{◌≡◌, ℕ, ◌+◌, ◌<◌, Bool, true, false, cond, List, [], ◌∷◌, ◌++◌, map, refl, sym, ap, ◌∙◌, subst, length, take, drop, get_or}
 use Rattle.std.specs.List.{sum_by}
-use Rattle.std.proofs.lemmas.List.{drop_more}
 use Rattle.rdf_terms.specs.Quad.{QuadParts}
 use Rattle.rdf_terms.specs.declared.quad.GraphName.{GraphName}
 use Rattle.std.specs.FinSet as set
@@ -54,21 +53,11 @@ looked_as s g p m found given e h = subst (λ (quads : List QuadParts). ListsOnc
 
 -- ---- one triple pattern after another
 
-SameBag-matching : (quads : List QuadParts) (ps : List Places) (ms ns : List Mapping) → SameBag ms ns → SameBag (matching quads ps ms) (matching quads ps ns)
+pub SameBag-matching : (quads : List QuadParts) (ps : List Places) (ms ns : List Mapping) → SameBag ms ns → SameBag (matching quads ps ms) (matching quads ps ns)
 SameBag-matching quads [] ms ns h = h
 SameBag-matching quads (p ∷ ps) ms ns h =
     SameBag-matching quads ps (stepped quads ms p) (stepped quads ns p)
     (SameBag-flat_map (matches_of quads p) (matches_of quads p) ms ns h (λ m. SameBag-refl (matches_of quads p m)))
-
-pub matching_more : (s : State) (g : GraphName) (ps : List Places) (i : ℕ) (p : Places) (rows after start : List Mapping) → i < length ps → p ≡ get_or ps i p →
-    ((d : Listing) → Lists s d → SameBag (matching (d.quads g) (drop i ps) rows) (matching (d.quads g) ps start)) →
-    AreSolutions s after (λ d. stepped (d.quads g) rows p) →
-    (d : Listing) → Lists s d → SameBag (matching (d.quads g) (drop (i + 1) ps) after) (matching (d.quads g) ps start)
-matching_more s g ps i p rows after start lt here h r d l f =
-    let rest : List Places = drop (i + 1) ps in
-    let next : drop i ps ≡ p ∷ rest = drop_more ps i p lt ∙ ap (λ (q : Places). q ∷ rest) (sym here) in
-    SameBag-matching (d.quads g) rest after (stepped (d.quads g) rows p) (r d l) f
-    ∙ ap (λ (qs : List Places). sum_by f (matching (d.quads g) qs rows)) (sym next) ∙ h d l f
 
 -- ---- under one row, in one graph
 

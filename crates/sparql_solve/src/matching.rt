@@ -1,16 +1,20 @@
 //! Basic graph patterns: the rows under which every instance lies in the graph
 //! (SPARQL 1.1 Query, section 18.3.1), by look-ups.
-ghost use Rattle.std.specs.Prelude.{◌≡◌, ◌++◌, IfOk, IsTrue, None, OnOk, Some, cond, map, take};
+ghost use Rattle.std.specs.Prelude.{◌≡◌, ◌++◌, ◌<◌, IfOk, IsTrue, None, OnOk, Some, cond, length, map, take};
 ghost use Rattle.std.specs.List.{list_all};
 ghost use Rattle.rdf_dataset.specs.Sorted.{ListsOnce};
 ghost use Rattle.sparql_solve.specs.Matching.{AsksSame, has_held, matched, matches_of, stepped, matching, quads_under};
 ghost use Rattle.sparql_solve.specs.Members.{AreSolutions};
 
-use crate::place::Places;
+use crate::place::{Place, Places};
 use crate::rows::Row;
 use rdf_dataset::Source;
 use rdf_terms::{GraphName, NoMemory, Quad};
 use std::alloc::Global;
+use std::collections::VecDeque;
+
+// Among how many triple patterns one is looked for that is linked to what is bound.
+const FEW: usize = 64;
 
 // Binds in the row what the triple binds, which was looked up under it, and answers whether it fits;
 // a variable that stands twice may still want two terms.
@@ -137,8 +141,48 @@ fn step<S: Source>(
     Ok(out)
 }
 
+// Whether the row binds a variable of the triple pattern, or there is none in it.
+fn is_linked(row: &Row, places: &Places) -> bool {
+    let mut is_ground = true;
+    for place in [&places.subject, &places.predicate, &places.object] {
+        if let Place::Column(_) = place {
+            if row.has(place) {
+                return true;
+            }
+            is_ground = false;
+        }
+    }
+    is_ground
+}
+
+// The place of the triple pattern that is looked up next under the rows, all of which bind the same
+// columns: of the first few, the first that is linked to what they bind; where none is, the first.
+// Nothing but time rests on it.
+fn next_pattern(rest: &VecDeque<&Places>, rows: &[Row]) -> usize
+    ensures { 0 < length rest.now.items → result < length rest.now.items }
+{
+    let Some(row) = rows.first() else {
+        return 0;
+    };
+    for place in 0..rest.len().min(FEW) {
+        if is_linked(row, rest[place]) {
+            return place;
+        }
+    }
+    0
+}
+
+// References to the triple patterns.
+fn all_patterns<'p>(alloc: Global, patterns: &'p [Places]) -> Result<VecDeque<&'p Places>, NoMemory>
+    ensures { IfOk result (λ all. map (λ r. r.now) all.items ≡ patterns.now) }
+{
+    let all: Vec<&Places> = patterns.iter().collect(alloc)?;
+    Ok(VecDeque::from_vec(all))
+}
+
 /// The rows of all columns that grow from these, one triple pattern after another, each looked up
-/// under each row so far.
+/// under each row so far: in the order in which they are written, but that one none of whose
+/// variables is bound so far waits while there is one that has a bound variable.
 pub(crate) fn matching_rows<S: Source>(
     alloc: Global,
     graph: &GraphName,
@@ -150,7 +194,12 @@ pub(crate) fn matching_rows<S: Source>(
         (λ d. matching (d.quads graph.now) patterns.now start.items)) }
 {
     let mut rows = start;
-    for places in patterns {
+    let mut rest = all_patterns(alloc, patterns)?;
+    while !rest.is_empty() {
+        let next = next_pattern(&rest, &rows);
+        let Some(places) = rest.remove(next) else {
+            unreachable!()
+        };
         rows = step(alloc, graph, source, places, rows)?;
     }
     Ok(rows)
