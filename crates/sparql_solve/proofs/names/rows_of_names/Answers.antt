@@ -1,10 +1,10 @@
-use Rattle.std.proofs.Common.{List, ap, map, ◌∙◌}
+use Rattle.std.proofs.Common.{List, ap, ◌∙◌}
 use Rattle.std.specs.List.{sum_by}
 use Rattle.std.proofs.lemmas.Result.{IfOk-weaker}
 use Rattle.sparql_algebra.specs.Solutions.{joins}
 use Rattle.sparql_algebra.specs.Under.{agreeing}
 use Rattle.sparql_algebra.proofs.CallerLemmas.{SameBag-filter}
-use Rattle.sparql_values.specs.Mapping.{Mapping, compatible, single}
+use Rattle.sparql_values.specs.Mapping.{Mapping, compatible}
 use Rattle.sparql_solve.proofs.names.rows_of_names.Goals as goal
 
 pub returns : goal.returns
