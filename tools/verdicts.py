@@ -3,9 +3,9 @@ import re
 
 from edits import REFUSED, is_of
 
-# what became of an edit: the prover found values at which a goal is false, or no proof of it within its limits; or it is not refused, is no edit that a
-# check can judge, as one by which an answer only names what isn't there any more, was in no check that says anything of it, or is left for another run
-REFUTED, UNPROVED, PROVED, BAD, UNTRIED, SKIPPED = KINDS = ("refuted", "no proof", "not refused", "bad", "not tried", "skipped")
+# what became of an edit: the prover found values at which a goal is false, or no proof of it within its limits, or an answer names what the edit took away,
+# which shows nothing; or it is not refused, is no edit that a check can judge, was in no check that says anything of it, or is left for another run
+REFUTED, UNPROVED, AT_NAMES, PROVED, BAD, UNTRIED, SKIPPED = KINDS = ("refuted", "no proof", "names alone", "not refused", "bad", "not tried", "skipped")
 # what a check says of a goal, and of one that it refutes
 NOTE = re.compile(r"(?m)^note: (src/\S+?):(\d+):\d+: (?:it is not proved that|`search` found no proof) .*?\(`(\S+?)`\)(.*)")
 FALSE = "the facts known there allow values at which this goal is false"
@@ -57,7 +57,7 @@ def verdict(edit, own, lines, failures, said):
     if any(FALSE in it for it in edit.open.values()):
         return REFUTED, f"{edit.at} at {stated([*edit.open], edit.clauses)}"
     if errors and len(errors) >= len(edit.open) and all(NAMES.search(it) for it in errors):
-        return BAD, f"{edit.at} fails only where an answer names what the edit took away, which says nothing of the contract: {errors[0][:120]}"
+        return AT_NAMES, f"{edit.at}, which says nothing of the contract: {errors[0][:120]}"
     if edit.open or errors:
         return UNPROVED, f"{edit.at} at {stated([*edit.open], edit.clauses) if edit.open else errors[0][:120]}"
     # behind some callees that aren't proved the tactics don't try a function's goals
