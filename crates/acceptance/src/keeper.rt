@@ -54,7 +54,8 @@ fn loads_three(keeper: &mut Keeper) -> bool {
     are_new
 }
 
-// Whether a keeper that keeps two requests takes back two of three, and forgets the mark before them.
+// Whether a keeper that keeps two requests takes back two of three, and forgets the mark before
+// them.
 fn takes_back_two(alloc: Global, keeper: &mut Keeper) -> bool {
     keeper.mark(b"empty").is_ok()
         && loads_three(keeper)

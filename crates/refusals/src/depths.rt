@@ -1,4 +1,5 @@
-//! A session under a depth of one: requests that forget the one before, and the way back over the one that is kept.
+//! A session under a depth of one: requests that forget the one before, and the way back over the
+//! one that is kept.
 use crate::retry::{changes, is_shown};
 use rdf_keeper::{Counts, Keeper, KeeperFault};
 use std::alloc::Global;
@@ -16,7 +17,8 @@ const BEHIND_SECOND: &[u8] = b"<a:b> <a:p> <a:o> .\n<a:c> <a:p> <a:o> <a:g> .\n"
 
 const BEHIND_THIRD: &[u8] = b"<a:b> <a:p> <a:o> .\n";
 
-/// Whether requests that are refused forget nothing, and forget as they should when they are made again.
+/// Whether requests that are refused forget nothing, and forget as they should when they are made
+/// again.
 pub fn outcome(alloc: Global) -> &'static str {
     match bounded(alloc) {
         Some(true) => "depths: as without a refusal",
