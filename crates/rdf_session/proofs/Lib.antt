@@ -22,6 +22,7 @@ mod OneResultLemmas
 mod PlaceLemmas
 mod QueryLemmas
 mod RefusalLemmas
+mod SavedLemmas
 mod StandingLemmas
 mod UndoRedoLemmas
 mod UpdateLemmas

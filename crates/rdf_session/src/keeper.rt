@@ -1,5 +1,5 @@
 //! The keeper: a dataset with its history.
-ghost use Rattle.std.specs.Prelude.{◌≡◌, ℕ, List, ◌+◌, ◌≤◌, ◌-◌, ◌∷◌, ◌++◌, Some, Result, Ok, Err, IfOk, IfErr, OnErr, MatchResult, cond, drop, length, slice_index_or};
+ghost use Rattle.std.specs.Prelude.{◌≡◌, ℕ, List, ◌+◌, ◌≤◌, ◌-◌, ◌∷◌, ◌++◌, Some, Result, Ok, Err, IfOk, IfErr, OnErr, OnOk, MatchResult, cond, drop, length, slice_index_or};
 ghost use Rattle.std.specs.FinSet as set;
 ghost use Rattle.std.specs.List.{AllByRecursion, concat};
 ghost use Rattle.rdf_dataset.specs.State.{Begins, empty_state, IsSound, State, net_between};
@@ -14,6 +14,7 @@ ghost use Rattle.rdf_dataset.specs.Sorted.{ListsSorted};
 ghost use Rattle.rdf_session.specs.QuadLines.{ListsQuads};
 ghost use Rattle.rdf_session.specs.Query.{Replies};
 ghost use Rattle.rdf_session.specs.Request.{Load, Update};
+ghost use Rattle.rdf_session.specs.Saved.{IsTextOf, Restores};
 ghost use Rattle.rdf_session.specs.Session.{Commit, Do, Done, Mark, Redo, Rollback, Session, Transition, Undo, accepted, all_states, counts_between, fresh, now, reply_of, reply_of_mark, with_depth};
 ghost use Rattle.rdf_session.specs.Faults.{no_memory};
 
@@ -23,8 +24,10 @@ use crate::lines::write_lines;
 use crate::load::{read, stage};
 use crate::marks::Marks;
 use crate::query::{Answer, evaluate, read_text};
+use crate::saved::{restored, save};
 use crate::update::{read_request, stage_request};
 use rdf_dataset::{Dataset, Net, Source};
+use rdf_lines::StateFault;
 use rdf_terms::{Iri, NoMemory as NoMemoryFault, Quad, Term, Vocabulary};
 use std::alloc::Global;
 use std::cell::OnceCell;
@@ -86,6 +89,18 @@ impl Keeper {
             vocabulary: OnceCell::new(),
             alloc,
         }
+    }
+
+    /// A session that begins at the sound state whose state text the bytes are, without a history.
+    ///
+    /// # Errors
+    /// [`NotState`](StateFault::NotState) where they are the text of no sound state,
+    /// [`NoMemory`](StateFault::NoMemory) where memory is wanting.
+    pub fn restore(alloc: Global, bytes: &[u8], base: Option<Iri>) -> Result<Keeper, StateFault>
+        ensures { Restores base bytes.now result }
+    {
+        let dataset = restored(alloc, bytes)?;
+        Ok(Keeper::over(alloc, dataset, base))
     }
 
     /// The session with a bounded history: where an accepted request brings one entry more than `depth`, the oldest
@@ -317,6 +332,19 @@ impl Keeper {
         let quads = self.dataset.quads()?;
         write_lines(&quads, out)?;
         Ok(quads.len() as u64)
+    }
+
+    /// Appends the state text of the state now, at which [`restore`](Keeper::restore) begins again. The
+    /// history is left out.
+    ///
+    /// # Errors
+    /// [`NoMemory`](rdf_terms::NoMemory): the vector is then as it was.
+    pub fn dump(&self, out: &mut Vec<u8>) -> Result<(), NoMemoryFault>
+        ensures ok { OnOk result ((text : List ℕ)
+            × IsTextOf (now self.now) text × (out.new.items ≡ out.old.items ++ text)) }
+        ensures err { OnErr result (out.new.items ≡ out.old.items) }
+    {
+        save(self.alloc, &self.dataset, out)
     }
 
     /// The names of the graphs now, sorted, those of empty graphs too.

@@ -1,7 +1,7 @@
 //! Laws over the definitions alone: the promise of the whole, and what holds after any list of
 //! commands, that undo gives back and redo gives again, what a depth forgets, which state is the
-//! base, that a command has one reply and a request one result, and that a load is INSERT DATA and
-//! takes just its blank numbers.
+//! base, that a command has one reply and a request one result, that a load is INSERT DATA and
+//! takes just its blank numbers, and that a saved state comes back.
 ghost use Rattle.std.specs.Prelude.{◌≡◌, List, ℕ, Option, take};
 ghost use Rattle.rdf_dataset.specs.State.{State};
 ghost use Rattle.rdf_session.specs.History.{nothing};
@@ -18,6 +18,7 @@ ghost use Rattle.rdf_session.specs.LoadLaws.{LoadInserts, LoadIsRefusedAlike};
 ghost use Rattle.rdf_session.specs.OneQueryReply.{OneQueryReply};
 ghost use Rattle.rdf_session.specs.OneReply.{OneReply};
 ghost use Rattle.rdf_session.specs.OneResult.{SomeResult, OneResult, ResultOrRefusal};
+ghost use Rattle.rdf_session.specs.Saved.{CommandsGoOnAlike, RestoredIsAsCommitted, RestoredIsSavedAlike, SavedComesBack};
 ghost use Rattle.rdf_session.specs.UndoRedo.{UndoThenRedo, RedoThenUndo};
 
 // The laws of the readers, which those below stand on.
@@ -29,7 +30,8 @@ fn readers_keep_laws()
     sparql_syntax::one_request();
 }
 
-/// The promise of the whole. For every depth and every state to start with, after any commands with any replies (loads, updates, undos, redos,
+/// The promise of the whole. For every depth and every state to start with, those that were restored among
+/// them, after any commands with any replies (loads, updates, undos, redos,
 /// marks, rollbacks, commits and refusals): an accepted request leaves exactly the state that its operations make of the state
 /// before, one after another; an undo then gives back the state before, in quads, names of graphs and blank counter, and a redo
 /// the state after, whatever marks and refusals come between; a refused command changes nothing, and a request is refused only
@@ -122,4 +124,18 @@ pub fn a_load_is_insert_data()
     readers_keep_laws();
     rdf_lines::blank_numbers_are_below();
     rdf_turtle::blank_numbers_are_below();
+}
+
+/// A session that is restored from what another saved is at that one's state, whatever base IRI it is
+/// given, and only want of memory refuses it; what is restored is saved as the same text. Under the
+/// same depth and base IRI it is the very session that a commit leaves where the other was saved: all
+/// later commands have the same replies at both, and undo, redo and rollback go no further back.
+pub fn a_saved_state_comes_back()
+    ensures back { SavedComesBack }
+    ensures text { RestoredIsSavedAlike }
+    ensures committed { RestoredIsAsCommitted }
+    ensures alike { CommandsGoOnAlike }
+{
+    rdf_lines::state_text_is_one();
+    rdf_lines::state_texts_differ();
 }

@@ -1,8 +1,8 @@
 //! The session of an RDF dataset: what loads and updates do to it, undo, redo, marks, rollback and
-//! commit, and the laws of these.
+//! commit, its state as text, and the laws of these.
 //!
-//! `rdf_keeper` calls it and hands it on, so hosts name that crate. It reads no file and no script,
-//! saves nothing between runs, and is for one thread.
+//! `rdf_keeper` calls it and hands it on, so hosts name that crate. It reads and writes no file,
+//! reads no script, and is for one thread.
 #![tactic(auto)]
 
 mod fault;
@@ -13,6 +13,7 @@ mod lines;
 mod load;
 mod marks;
 mod query;
+mod saved;
 mod shared_quads;
 mod update;
 
@@ -20,7 +21,7 @@ pub use fault::{Counts, KeeperFault};
 pub use format::Format;
 pub use keeper::Keeper;
 pub use law::{
-    a_depth_forgets_the_oldest, a_load_is_insert_data, one_reply, standing_requests, the_headline,
-    undo_gives_back,
+    a_depth_forgets_the_oldest, a_load_is_insert_data, a_saved_state_comes_back, one_reply,
+    standing_requests, the_headline, undo_gives_back,
 };
 pub use query::Answer;

@@ -1,0 +1,31 @@
+//! The state text of a dataset, and the dataset of a state text.
+ghost use Rattle.std.specs.Prelude.{◌≡◌, ◌++◌, ℕ, List, MatchResult, OnErr, OnOk};
+ghost use Rattle.rdf_dataset.specs.State.{IsSound};
+ghost use Rattle.rdf_session.specs.Inside.Saving.{TellsStateFault};
+ghost use Rattle.rdf_session.specs.Saved.{IsTextOf};
+
+use rdf_dataset::{Dataset, Source};
+use rdf_lines::{StateFault, read_state, write_state};
+use rdf_terms::NoMemory;
+use std::alloc::Global;
+
+/// Appends the state text of the dataset; a refusal leaves the vector as it was.
+pub(crate) fn save(alloc: Global, dataset: &Dataset, out: &mut Vec<u8>) -> Result<(), NoMemory>
+    ensures ok { OnOk result ((text : List ℕ)
+        × IsTextOf dataset.now text × (out.new.items ≡ out.old.items ++ text)) }
+    ensures err { OnErr result (out.new.items ≡ out.old.items) }
+{
+    let names = dataset.names_sorted()?;
+    let quads = dataset.quads()?;
+    write_state(alloc, dataset.next_blank(), &names, &quads, out)
+}
+
+/// The dataset of the sound state whose text the bytes are.
+pub(crate) fn restored(alloc: Global, bytes: &[u8]) -> Result<Dataset, StateFault>
+    ensures { MatchResult result
+        (λ dataset. IsSound dataset × IsTextOf dataset bytes.now)
+        (λ fault. TellsStateFault bytes.now fault) }
+{
+    let state = read_state(alloc, bytes)?;
+    Ok(Dataset::from_state(alloc, state.next, &state.names, &state.quads)?)
+}
