@@ -12,8 +12,8 @@ use Rattle.std.specs.List.{AllByRecursion}
 use Rattle.std.specs.List.Sorted.{IsStrictlySortedBy}
 use Rattle.rdf_terms.specs.Order.{text_cmp}
 use Rattle.rdf_terms.specs.OrderLaws.{text_cmp-IsAntisymmetric}
-use Rattle.sparql_trees.specs.Visible.{Names, names_in, visible, with_names}
-use Rattle.sparql_trees.specs.VisibleLaws.{VisibleAreSorted, OneVisible}
+use Rattle.sparql_trees.specs.Visible.{Names, all_names_in, named, names_in, visible, with_names}
+use Rattle.sparql_trees.specs.VisibleLaws.{AreNames, NamedAreSorted, OneVisible, VisibleAreSorted}
 
 less_greater : Less ≡ Greater → ⊥
 less_greater e = cc
@@ -172,12 +172,19 @@ from_none q names h = elim (with_only q [] names h) [
   | inr t ↦ t
 ]
 
+are_names : (stand : Names) → AreNames stand (with_names [] stand)
+are_names stand = record {
+  rises = with_rise [] stand (none_rise text_cmp nat_list_cmp_total text_cmp-IsAntisymmetric);
+  stands = λ q. (from_none q stand, λ h. with_all q [] stand (inr h));
+}
+
 pub visible_are_sorted : VisibleAreSorted
 unfolding visible
-visible_are_sorted pattern = record {
-  rises = with_rise [] (names_in pattern) (none_rise text_cmp nat_list_cmp_total text_cmp-IsAntisymmetric);
-  stands = λ q. (from_none q (names_in pattern), λ h. with_all q [] (names_in pattern) (inr h));
-}
+visible_are_sorted pattern = are_names (names_in pattern)
+
+pub named_are_sorted : NamedAreSorted
+unfolding named
+named_are_sorted pattern = are_names (all_names_in pattern)
 
 pub one_visible : OneVisible
 one_visible pattern a b h k =

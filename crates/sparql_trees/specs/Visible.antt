@@ -1,5 +1,5 @@
--- The variables that a pattern shows (SPARQL 1.1 Query, section 18.2.1).
-use Rattle.std.specs.Prelude.{ℕ, List, [], ◌∷◌, ◌++◌}
+-- The variables that a pattern names, and those that it shows (SPARQL 1.1 Query, section 18.2.1).
+use Rattle.std.specs.Prelude.{ℕ, Bool, true, false, cond, List, [], ◌∷◌, ◌++◌}
 use Rattle.std.specs.List.{flat_map}
 use Rattle.std.specs.BTreeSet.{insert_key}
 use Rattle.rdf_terms.specs.Order.{text_cmp}
@@ -36,18 +36,28 @@ joined lists = flat_map (λ names. names) lists
 abbrev pub names_of_pattern : Pattern-F Names Names → Names
 names_of_pattern p = joined p.members
 
--- those in triple patterns, those that GRAPH names, and those of the groups inside
-abbrev pub names_of_member : Member-F Names Names → Names
-names_of_member (Member-F.Basic triples) = flat_map triple_names triples.triples
-names_of_member (Member-F.Union groups) = joined groups
-names_of_member (Member-F.Optional group) = group
-names_of_member (Member-F.Graph graph group) = name_names graph ++ group
+-- Those in triple patterns, those that GRAPH names, and those of the groups inside; of MINUS's group, which shows none, where they are
+-- asked for too.
+abbrev pub names_of_member : Bool → Member-F Names Names → Names
+names_of_member minus (Member-F.Basic triples) = flat_map triple_names triples.triples
+names_of_member minus (Member-F.Union groups) = joined groups
+names_of_member minus (Member-F.Optional group) = group
+names_of_member minus (Member-F.Graph graph group) = name_names graph ++ group
+names_of_member minus (Member-F.Minus group) = cond minus group []
 
+abbrev pub names_where : Bool → Pattern → Names
+names_where minus = fold-Pattern Names Names (names_of_member minus) names_of_pattern
+
+abbrev pub member_names : Bool → Member → Names
+member_names minus = fold-Member Names Names (names_of_member minus) names_of_pattern
+
+-- those that are visible: outside MINUS
 abbrev pub names_in : Pattern → Names
-names_in = fold-Pattern Names Names names_of_member names_of_pattern
+names_in = names_where false
 
-abbrev pub member_names : Member → Names
-member_names = fold-Member Names Names names_of_member names_of_pattern
+-- those that stand anywhere, in MINUS too
+abbrev pub all_names_in : Pattern → Names
+all_names_in = names_where true
 
 -- ---- the names in their order
 
@@ -59,3 +69,7 @@ with_names known (n ∷ ns) = with_names (insert_key text_cmp known n) ns
 -- The visible variables: each name once, in the order of code points.
 unfoldable pub visible : Pattern → Names
 visible pattern = with_names [] (names_in pattern)
+
+-- The variables that the pattern names anywhere, in the same order: a MINUS's right side has solutions of its own, which bind them.
+unfoldable pub named : Pattern → Names
+named pattern = with_names [] (all_names_in pattern)

@@ -21,4 +21,4 @@ pub use operation::{GraphOrDefault, GraphRefAll, Operation, Request};
 pub use pattern::{BasicGraphPattern, Member, Pattern, TriplePattern, VarOrIri, VarOrTerm};
 pub use query::{Query, Select};
 pub use template::{Modify, QuadPattern, Template};
-pub use visible::{one_list_of_visible_variables, visible_variables};
+pub use visible::{named_variables, one_list_of_visible_variables, visible_variables};

@@ -60,6 +60,8 @@ pub enum Member {
     Union(Items<Pattern>),
     /// OPTIONAL (section 6).
     Optional(Pattern),
-    /// GRAPH (section 8.3).
+    /// GRAPH (section 13.3).
     Graph(VarOrIri, Pattern),
+    /// MINUS (section 8.2).
+    Minus(Pattern),
 }
