@@ -113,7 +113,7 @@ own a = ap (λ s. equal_by s (operand a) (operand a)) (same_term_own a) ∙ own_
 
 -- ---- `<`
 
-one_number : (a b : ℤ) → int_lt a b ≡ true → int_lt b a ≡ false
+pub one_number : (a b : ℤ) → int_lt a b ≡ true → int_lt b a ≡ false
 one_number (pos a) (pos b) h = let l : a < b = ltb-true a b h in le-ltb b a (omega arith)
 one_number (pos a) (negsuc b) h = cc
 one_number (negsuc a) (pos b) h = refl

@@ -5,5 +5,6 @@ mod LawLemmas
 mod NumberLemmas
 mod OperandLemmas
 mod ResultLemmas
+mod TableLemmas
 mod TermLemmas
 mod ValueLemmas

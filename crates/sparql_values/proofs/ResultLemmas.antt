@@ -56,7 +56,7 @@ term_fits (t.Literal l) = by_tests (has_datatype xsd_string l) (has_datatype xsd
     by_tests false true = boolean_fits l.lexical
     by_tests false false = number_fits (integer_of l) (integer_fits l)
 
-value_fits : (x : Value) → Fits (number_in x)
+pub value_fits : (x : Value) → Fits (number_in x)
 value_fits (Some term) = term_fits term
 value_fits None = nothing
 

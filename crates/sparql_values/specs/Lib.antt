@@ -2,4 +2,5 @@ pub mod Laws
 pub mod Mapping
 pub mod Operands
 pub mod Scopes
+pub mod Tables
 pub mod Values

@@ -1,5 +1,7 @@
 //! What holds of the values of expressions.
 ghost use Rattle.sparql_values.specs.Laws.{EqualIsSymmetric, EqualToItself, LessOneWay, LogicTable, NotEqualNegates, NotTable, ProductsComeBack, SignedComeBack, SumsComeBack, TruthsComeBack};
+ghost use Rattle.sparql_values.specs.Tables.{BoundTable, EffectiveTable, EqualTable, FilterTable, FunctionTable, KindTable, LessTable, NoOrderTurned, NumberTable, OneOfThree, OrderTable, VariableTable};
+ghost use Rattle.sparql_values.specs.Values.{Bindings};
 
 /// `||`, `&&` and `!` have the tables of section 17.2.
 pub fn logic_tables_hold()
@@ -23,4 +25,31 @@ pub fn results_are_read_back()
     ensures sums { SumsComeBack }
     ensures products { ProductsComeBack }
     ensures signs { SignedComeBack }
+{}
+
+/// `=` and the comparisons of each pair of kinds of terms (section 17.3). Of two terms that have an
+/// order one is less or they are equal; `<=` is `<` or `=`, and an error where there is no order.
+pub fn comparison_tables_hold()
+    ensures kinds { KindTable }
+    ensures bounds { BoundTable }
+    ensures equal { EqualTable }
+    ensures less { LessTable }
+    ensures turned { NoOrderTurned }
+    ensures three { OneOfThree }
+    ensures orders { OrderTable }
+{}
+
+/// The effective boolean value and the functions of each kind of term (sections 17.2.2 and 17.4.2).
+pub fn term_tables_hold()
+    ensures effective { EffectiveTable }
+    ensures functions { FunctionTable }
+{}
+
+/// FILTER keeps what is true, neither false nor an error; an unbound variable is an error anywhere but
+/// in BOUND; arithmetic within 128 bits is that of whole numbers, past them an error (sections 17.2,
+/// 17.3 and 17.4.1.1).
+pub fn expression_tables_hold()
+    ensures filters { (bindings : Bindings) → FilterTable bindings }
+    ensures variables { (bindings : Bindings) → VariableTable bindings }
+    ensures numbers { (bindings : Bindings) → NumberTable bindings }
 {}

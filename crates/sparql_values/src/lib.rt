@@ -15,5 +15,8 @@ mod truth;
 mod value;
 
 pub use evaluator::is_satisfied;
-pub use laws::{comparisons_keep_their_laws, logic_tables_hold, results_are_read_back};
+pub use laws::{
+    comparison_tables_hold, comparisons_keep_their_laws, expression_tables_hold, logic_tables_hold,
+    results_are_read_back, term_tables_hold,
+};
 pub use mapping::column;
