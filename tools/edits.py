@@ -60,17 +60,20 @@ class Edit:
         self.path, self.name = path, path.name
         self.text = path.read_text(errors="replace") if path.is_file() else ""
         self.lines, self.functions, self.clauses, self.symbols, self.why = {}, [], [], [], None
+        # a wrong definition, and the law that it has to break, in a line `law: MODULE::NAME`
+        self.is_definition = path.parent.name == "wrong-definitions"
+        self.law = (re.findall(r"(?m)^law: (\S+)$", self.text) or [""])[0]
         # goals that the check doesn't prove either, and that need not be tried, since one is enough
         self.beside = [it for line in re.findall(r"(?m)^# also at: (.*)", self.text) for it in line.split(", ")]
         # the wrong body that it is, whatever its file says beside it
         self.turns = "\n".join(line for line in self.text.split("\n") if line and not line.startswith("#"))
         for file, (was, text) in self.read(folder).items():
-            self.take(file, was, text, folder.name)
-        self.why = self.why or (None if self.functions else "it changes nothing")
-        self.keys, self.alone = {(it.file, it.first) for it in self.functions}, any(it.alone for it in self.functions)
+            self.take_definition(file, was, text, folder) if self.is_definition else self.take(file, was, text, folder.name)
+        self.why = self.why or (None if self.functions and self.lines else "it changes nothing")
+        self.keys, self.alone = {(it.file, it.first) for it in self.functions}, self.is_definition or any(it.alone for it in self.functions)
         self.cycles = {it.cycle for it in self.functions if it.cycle}
         # what a check calls the first of them, whether its answers may be marked, and the goals that it leaves open
-        self.at, self.may_be_marked, self.open = "", True, {}
+        self.at, self.may_be_marked, self.open = "", not self.is_definition, {}
 
     def read(self, folder):
         """The files that it changes, each as it was and as it becomes."""
@@ -84,6 +87,8 @@ class Edit:
                 file = text.strip()
             elif key == "old":
                 old = text
+            elif key == "law" and self.is_definition:
+                continue
             elif key != "new":
                 self.why = f"no line of an edit begins so: {line[:60]}"
             elif not (folder / file).is_file():
@@ -115,6 +120,17 @@ class Edit:
                 self.clauses += re.findall(r"(?m)^\s*ensures\*? (\w+) \{", "\n".join(was.split("\n")[it.first : it.opens + 1]))
             if not inside or is_head:
                 self.why = self.why or f"{file}:{at + 1} is in no function's body: say the same wrong thing in a body"
+
+    def take_definition(self, file, was, text, folder):
+        """Takes the new lines of a definition, which are judged at the law that is named."""
+        if not re.match(r"specs/.*\.antt$", file):
+            self.why = self.why or f"{file} has no definitions"
+        self.lines.update({(file, at): b for at, (a, b) in enumerate(zip(was.split("\n"), text.split("\n"))) if a != b})
+        sources = sorted((folder / "src").rglob("*.rt"))
+        functions = [it for at in sources for it in functions_of(folder.name, str(at.relative_to(folder)), at.read_text())]
+        self.functions = [it for it in functions if f"{folder.name}::{self.law}" in it.names[0]]
+        if len(self.functions) != 1:
+            self.why = self.why or f"no one function of the crate is its law: {self.law or 'it names none'}"
 
     def folders(self):
         """The folders of proofs/ in which its functions' answers stand: of a cycle of calls it is one, beside those of its functions."""

@@ -50,5 +50,6 @@ class Order:
 
     def __call__(self, crate, edit):
         own = any(first <= it.last and it.first <= last for it in edit.functions for first, last in self.files.get(f"crates/{crate}/{it.file}", ()))
-        rank = 0 if own or f"crates/{crate}/must-fail/{edit.name}" in self.files else 1 if crate in self.contracts else 2
+        own = own or edit.is_definition and any(f"crates/{crate}/{file}" in self.files for file, _ in edit.lines)
+        rank = 0 if own or f"crates/{crate}/{edit.path.parent.name}/{edit.name}" in self.files else 1 if crate in self.contracts else 2
         return rank, hashlib.sha256(f"{self.commit} {crate}/{edit.name}".encode()).hexdigest()

@@ -48,6 +48,8 @@ def verdict(edit, own, lines, failures, said):
     unclear = [it for it in own if "could not tell" in failures[it]]
     # (a callee of its cycle isn't covered)
     unclear += [it for it in own if failures[it].startswith("no proof") and "did not prove" not in failures[it]]
+    if edit.is_definition and re.search(r"(?m)^(?:\./)?specs/\S+: error", said):
+        return BAD, "the definition that it leaves is none"
     if not all(s in lines for s in edit.symbols):
         return UNTRIED, "the check has no line of this function"
     if any(UNCOVERED in failures[it] and it.rpartition("::")[2] in names for it in own):
