@@ -13,6 +13,7 @@ FALSE = "the facts known there allow values at which this goal is false"
 CALLS = re.compile(r"[;:]( in `\S+`, of this cycle of calls:)? it (calls|passes) .*")
 # what it says where an answer file names what isn't there any more
 NAMES = re.compile(r"has no field|is not in scope|has no `|was not admitted|record `\S+` \(nearest: ")
+DEPENDS = re.compile(r"declarations? that depends? on ")
 WAITS = "its goals wait for a callee's proof"
 UNCOVERED = "the borrow checker does not cover this function"
 
@@ -44,6 +45,10 @@ def verdicts(batch, said):
 def verdict(edit, own, lines, failures, said):
     """What a check says of one edit, of whose functions `own` fail by themselves."""
     edit.open, errors = open_goals(edit, own, failures, said)
+    if edit.is_definition:
+        # a law fails by its lemmas, on which its answers depend
+        found = re.findall(r"(?m)^(?:\./)?proofs/\S+: error: (.*)", said)
+        errors = [it for it in found if not DEPENDS.search(it)] or errors
     names = {it.name for it in edit.functions}
     unclear = [it for it in own if "could not tell" in failures[it]]
     # (a callee of its cycle isn't covered)
