@@ -44,7 +44,7 @@ name = VAR | iri
 literal = STRING ( TAG | ^^ iri )? | INTEGER | SIGNED | DECIMAL | TRUE | FALSE
 iri = IRI | NAME | NS
 group = { triples? ( other .? triples? )* }
-other = group ( UNION group )* | OPTIONAL group | GRAPH name group | FILTER ( '( expr ') | call )
+other = group ( UNION group )* | OPTIONAL group | MINUS group | GRAPH name group | FILTER ( '( expr ') | call )
 expr = and ( || and )*
 and = rel ( && rel )*
 rel = add ( ( = | != | < | > | <= | >= ) add )?

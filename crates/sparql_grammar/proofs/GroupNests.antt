@@ -31,7 +31,8 @@ module _ (limit b : ℕ) (I J : Derives Group) (i : Keeps bracket limit b I J) w
 
   pattern_keeps : Keeps bracket limit b (g.APattern I) (g.APattern J)
   pattern_keeps = or_keeps bracket limit b _ _ _ _ union_keeps
-      (or_keeps bracket limit b _ _ _ _ (behind_keeps bracket limit b terminal.Optional _ _ refl (map_keeps bracket limit b m.Optional _ _ i)) graph_keeps)
+      (or_keeps bracket limit b _ _ _ _ (behind_keeps bracket limit b terminal.Optional _ _ refl (map_keeps bracket limit b m.Optional _ _ i))
+      (or_keeps bracket limit b _ _ _ _ (behind_keeps bracket limit b terminal.MinusWord _ _ refl (map_keeps bracket limit b m.Minus _ _ i)) graph_keeps))
 
 module _ (limit b : ℕ) (P Q : Derives (List Triples)) (C D : Derives Expression) (I J : Derives Group)
     (p : Keeps bracket limit b P Q) (c : Keeps bracket limit b C D) (i : Keeps bracket limit b I J) where

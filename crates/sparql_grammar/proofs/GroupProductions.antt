@@ -35,6 +35,7 @@ abbrev pub closes_block : Option Terminal → Bool
 closes_block (Some terminal.CloseBrace) = true
 closes_block (Some terminal.OpenBrace) = true
 closes_block (Some terminal.Optional) = true
+closes_block (Some terminal.MinusWord) = true
 closes_block (Some terminal.Graph) = true
 closes_block (Some terminal.Filter) = true
 closes_block _ = false
@@ -54,6 +55,7 @@ block_no_node : (k : Option Terminal) → closes_block k ≡ true → begins_nod
 block_no_node (Some terminal.CloseBrace) h = refl
 block_no_node (Some terminal.OpenBrace) h = refl
 block_no_node (Some terminal.Optional) h = refl
+block_no_node (Some terminal.MinusWord) h = refl
 block_no_node (Some terminal.Graph) h = refl
 block_no_node (Some terminal.Filter) h = refl
 block_no_node _ h = absurd (cc)
@@ -73,6 +75,7 @@ node_no_union _ h = refl
 pattern_closes : (k : Option Terminal) → read.begins_pattern k ≡ true → closes_block k ≡ true
 pattern_closes (Some terminal.OpenBrace) h = refl
 pattern_closes (Some terminal.Optional) h = refl
+pattern_closes (Some terminal.MinusWord) h = refl
 pattern_closes (Some terminal.Graph) h = refl
 pattern_closes (Some terminal.Filter) h = refl
 pattern_closes _ h = absurd (cc)
@@ -81,12 +84,14 @@ pattern_closes _ h = absurd (cc)
 abbrev begins_member : Option Terminal → Bool
 begins_member (Some terminal.OpenBrace) = true
 begins_member (Some terminal.Optional) = true
+begins_member (Some terminal.MinusWord) = true
 begins_member (Some terminal.Graph) = true
 begins_member _ = false
 
 member_pattern : (k : Option Terminal) → begins_member k ≡ true → read.begins_pattern k ≡ true
 member_pattern (Some terminal.OpenBrace) h = refl
 member_pattern (Some terminal.Optional) h = refl
+member_pattern (Some terminal.MinusWord) h = refl
 member_pattern (Some terminal.Graph) h = refl
 member_pattern _ h = absurd (cc)
 
@@ -145,6 +150,9 @@ module _ (group : Reading Group) (Group' : Derives Group) (r : IsGroupRule group
   optional_decides : Decides (steps.◌<$>◌ m.Optional group) (grammar.◌<$>◌ m.Optional Group') always
   optional_decides = last m.Optional _ _ always r.decides
 
+  minus_decides : Decides (steps.◌<$>◌ m.Minus group) (grammar.◌<$>◌ m.Minus Group') always
+  minus_decides = last m.Minus _ _ always r.decides
+
   abbrev GraphRest : Derives Member
   GraphRest = grammar.◌>>=◌ AVarOrIri (λ graph. grammar.◌>>=◌ Group' (λ inside. grammar.pure (m.Graph graph inside)))
 
@@ -154,18 +162,21 @@ module _ (group : Reading Group) (Group' : Derives Group) (r : IsGroupRule group
 
   pattern_sound : (k : Option Terminal) (ts : Lexemes) (x : Member) (us : Lexemes) → next_terminal ts ≡ k → read.pattern_by group k ts ≡ Some (x, us) → g.APattern Group' ts x us
   pattern_sound (Some terminal.Optional) ts x us q h = inr (inl (keyword_sound terminal.Optional _ _ optional_decides ts x us q h))
-  pattern_sound (Some terminal.Graph) ts x us q h = inr (inr (keyword_sound terminal.Graph _ _ graph_decides ts x us q h))
+  pattern_sound (Some terminal.MinusWord) ts x us q h = inr (inr (inl (keyword_sound terminal.MinusWord _ _ minus_decides ts x us q h)))
+  pattern_sound (Some terminal.Graph) ts x us q h = inr (inr (inr (keyword_sound terminal.Graph _ _ graph_decides ts x us q h)))
   pattern_sound _ ts x us q h = inl (union_decides.sound ts x us h)
 
   pattern_complete : (ts : Lexemes) (x : Member) (us : Lexemes) → g.APattern Group' ts x us → ends_pattern us ≡ true → read.pattern_by group (next_terminal ts) ts ≡ Some (x, us)
   pattern_complete ts x us (inl h) e = rw (r.opens ts h.first h.mid h.reads) (union_decides.complete ts x us h e)
   pattern_complete ts x us (inr (inl h)) e = let q = keyword_terminal terminal.Optional _ ts x us h in rw q (keyword_complete terminal.Optional _ _ optional_decides ts x us q h)
-  pattern_complete ts x us (inr (inr h)) e = let q = keyword_terminal terminal.Graph _ ts x us h in rw q (keyword_complete terminal.Graph _ _ graph_decides ts x us q h)
+  pattern_complete ts x us (inr (inr (inl h))) e = let q = keyword_terminal terminal.MinusWord _ ts x us h in rw q (keyword_complete terminal.MinusWord _ _ minus_decides ts x us q h)
+  pattern_complete ts x us (inr (inr (inr h))) e = let q = keyword_terminal terminal.Graph _ ts x us h in rw q (keyword_complete terminal.Graph _ _ graph_decides ts x us q h)
 
   pattern_begins : (ts : Lexemes) (x : Member) (us : Lexemes) → g.APattern Group' ts x us → begins_member (next_terminal ts) ≡ true
   pattern_begins ts x us (inl h) = rw (r.opens ts h.first h.mid h.reads) refl
   pattern_begins ts x us (inr (inl h)) = rw (keyword_terminal terminal.Optional _ ts x us h) refl
-  pattern_begins ts x us (inr (inr h)) = rw (keyword_terminal terminal.Graph _ ts x us h) refl
+  pattern_begins ts x us (inr (inr (inl h))) = rw (keyword_terminal terminal.MinusWord _ ts x us h) refl
+  pattern_begins ts x us (inr (inr (inr h))) = rw (keyword_terminal terminal.Graph _ ts x us h) refl
 
   pattern_strict : (ts : Lexemes) (x : Member) (us : Lexemes) → g.APattern Group' ts x us → length us < length ts
   pattern_strict ts x us (inl h) =
@@ -173,7 +184,8 @@ module _ (group : Reading Group) (Group' : Derives Group) (r : IsGroupRule group
       let c = others_decide.shorter h.mid h.goes.first h.goes.mid h.goes.reads in
       omega (arith, ap length h.goes.goes.1)
   pattern_strict ts x us (inr (inl h)) = keyword_strict terminal.Optional _ _ optional_decides ts x us h
-  pattern_strict ts x us (inr (inr h)) = keyword_strict terminal.Graph _ _ graph_decides ts x us h
+  pattern_strict ts x us (inr (inr (inl h))) = keyword_strict terminal.MinusWord _ _ minus_decides ts x us h
+  pattern_strict ts x us (inr (inr (inr h))) = keyword_strict terminal.Graph _ _ graph_decides ts x us h
 
   pattern_decides : Decides (read.pattern group) (g.APattern Group') ends_pattern
   unfolding read.pattern

@@ -41,6 +41,9 @@ module _ {A B : Type 0} (f : Member-F A B → A) (h : Group-F A B → B) where
   by-Graph : (place : VarOrIri) (x : Group) → fold-Member A B f h (m.Graph place x) ≡ f (Member-F.Graph place (fold-Group A B f h x))
   by-Graph place x = ap (fold-Member A B f h) (sym (m.rolls-Graph place x)) ∙ fold-roll-Member A B f h (Member-F.Graph place x)
 
+  by-Minus : (x : Group) → fold-Member A B f h (m.Minus x) ≡ f (Member-F.Minus (fold-Group A B f h x))
+  by-Minus x = ap (fold-Member A B f h) (sym (m.rolls-Minus x)) ∙ fold-roll-Member A B f h (Member-F.Minus x)
+
   by-group : (xs : List Member) (filters : List Expression) → fold-Group A B f h (record { members = xs; filters = filters }) ≡ h (record { members = map (fold-Member A B f h) xs; filters = filters })
   by-group xs filters = fold-roll-Group A B f h (record { members = xs; filters = filters })
 
@@ -56,6 +59,9 @@ good_optional x h = by-Optional proper_member_of proper_group_of x ∙ h
 
 good_graph : (place : VarOrIri) (x : Group) → proper_var_or_iri place ≡ true → proper_group x ≡ true → proper_member (m.Graph place x) ≡ true
 good_graph place x p h = by-Graph proper_member_of proper_group_of place x ∙ and_from (proper_var_or_iri place) (proper_group x) p h
+
+good_minus : (x : Group) → proper_group x ≡ true → proper_member (m.Minus x) ≡ true
+good_minus x h = by-Minus proper_member_of proper_group_of x ∙ h
 
 -- ---- groups by what is written in them
 
@@ -113,7 +119,8 @@ module _ (Group' : Derives Group) (i : Yields Group' (Passes proper_group)) wher
 
   pattern_gives : Yields (groups.APattern Group') (Passes proper_member)
   pattern_gives = or_gives _ _ (Passes proper_member) union_gives
-      (or_gives _ _ (Passes proper_member) (behind_gives terminal.Optional _ (Passes proper_member) (map_gives m.Optional _ (Passes proper_group) (Passes proper_member) i good_optional)) graph_gives)
+      (or_gives _ _ (Passes proper_member) (behind_gives terminal.Optional _ (Passes proper_member) (map_gives m.Optional _ (Passes proper_group) (Passes proper_member) i good_optional))
+      (or_gives _ _ (Passes proper_member) (behind_gives terminal.MinusWord _ (Passes proper_member) (map_gives m.Minus _ (Passes proper_group) (Passes proper_member) i good_minus)) graph_gives))
 
 module _ (Block : Derives (List Triples)) (Constraint' : Derives Expression) (Group' : Derives Group)
     (p : Yields Block (Some_pass proper_triples)) (asks : Yields Constraint' (Passes proper_expression)) (i : Yields Group' (Passes proper_group)) where

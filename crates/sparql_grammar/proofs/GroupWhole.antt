@@ -17,6 +17,7 @@ closes_there : (k : Option Terminal) → closes_block k ≡ true → closes_temp
 closes_there (Some terminal.CloseBrace) h = refl
 closes_there (Some terminal.OpenBrace) h = refl
 closes_there (Some terminal.Optional) h = refl
+closes_there (Some terminal.MinusWord) h = refl
 closes_there (Some terminal.Graph) h = refl
 closes_there (Some terminal.Filter) h = refl
 closes_there _ h = absurd (cc)

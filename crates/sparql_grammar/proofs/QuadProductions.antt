@@ -127,7 +127,7 @@ module _ (Template Inner : Derives (List Triples)) (Constraint' : Derives Expres
         reads = h.reads;
         goes = record { first = name.first; mid = name.mid; reads = name.reads; goes = record { first = alone triples.first; mid = us; reads = group; goes = (refl, refl) } };
       } in
-      (name.first, triples.first, close.goes.0, inl (record { first = m.Graph name.first (alone triples.first); mid = us; reads = inr (inr member); goes = (refl, refl) }))
+      (name.first, triples.first, close.goes.0, inl (record { first = m.Graph name.first (alone triples.first); mid = us; reads = inr (inr (inr member)); goes = (refl, refl) }))
 
   -- what blocks are written as
   record Written (P : Derives (List Element)) (blocks : List Block) (ts us : Lexemes) : Type 0 where

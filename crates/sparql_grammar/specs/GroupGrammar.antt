@@ -31,6 +31,10 @@ module _ (Group' : Derives Group) where
   abbrev pub OptionalGraphPattern : Derives Member
   OptionalGraphPattern = the terminal.Optional >> m.Optional <$> Group'
 
+  -- 66: MinusGraphPattern = "MINUS" GroupGraphPattern
+  abbrev pub MinusGraphPattern : Derives Member
+  MinusGraphPattern = the terminal.MinusWord >> m.Minus <$> Group'
+
   -- 58: GraphGraphPattern = "GRAPH" VarOrIri GroupGraphPattern
   abbrev pub GraphGraphPattern : Derives Member
   GraphGraphPattern = do
@@ -40,7 +44,7 @@ module _ (Group' : Derives Group) where
     pure (m.Graph graph group)
 
   abbrev pub APattern : Derives Member
-  APattern = GroupOrUnionGraphPattern ∣ OptionalGraphPattern ∣ GraphGraphPattern
+  APattern = GroupOrUnionGraphPattern ∣ OptionalGraphPattern ∣ MinusGraphPattern ∣ GraphGraphPattern
 
 -- Constraint' is the grammar of what stands behind FILTER, and Group' that of the groups inside
 module _ (Constraint' : Derives Expression) (Group' : Derives Group) where
@@ -49,7 +53,7 @@ module _ (Constraint' : Derives Expression) (Group' : Derives Group) where
   Filter = the terminal.Filter >> e.Filter <$> Constraint'
 
   -- 56: GraphPatternNotTriples = GroupOrUnionGraphPattern | OptionalGraphPattern | MinusGraphPattern | GraphGraphPattern
-  -- | ServiceGraphPattern | Filter | Bind | InlineData; MINUS, SERVICE, BIND and VALUES are left out
+  -- | ServiceGraphPattern | Filter | Bind | InlineData; SERVICE, BIND and VALUES are left out
   abbrev pub GraphPatternNotTriples : Derives Element
   GraphPatternNotTriples = (e.Pattern <$> APattern Group') ∣ Filter
 

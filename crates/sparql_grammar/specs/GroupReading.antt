@@ -47,6 +47,7 @@ group_with elements = record { members = members_behind [] elements; filters = f
 abbrev pub begins_pattern : Option Terminal → Bool
 begins_pattern (Some terminal.OpenBrace) = true
 begins_pattern (Some terminal.Optional) = true
+begins_pattern (Some terminal.MinusWord) = true
 begins_pattern (Some terminal.Graph) = true
 begins_pattern (Some terminal.Filter) = true
 begins_pattern _ = false
@@ -74,10 +75,11 @@ module _ (group : Reading Group) where
     group ← group
     pure (m.Graph graph group)
 
-  -- GroupOrUnionGraphPattern | OptionalGraphPattern | GraphGraphPattern, and
-  -- OptionalGraphPattern = "OPTIONAL" GroupGraphPattern
+  -- GroupOrUnionGraphPattern | OptionalGraphPattern | MinusGraphPattern | GraphGraphPattern, and
+  -- OptionalGraphPattern = "OPTIONAL" GroupGraphPattern, and MinusGraphPattern = "MINUS" GroupGraphPattern
   abbrev pub pattern_by : Option Terminal → Reading Member
   pattern_by (Some terminal.Optional) = any >> m.Optional <$> group
+  pattern_by (Some terminal.MinusWord) = any >> m.Minus <$> group
   pattern_by (Some terminal.Graph) = any >> graph_pattern
   pattern_by _ = group_or_union
 
@@ -86,7 +88,7 @@ module _ (group : Reading Group) where
 
 -- constraint is the rule for what stands behind FILTER, and group that for the groups inside
 module _ (constraint : Reading Expression) (group : Reading Group) where
-  -- GraphPatternNotTriples = GroupOrUnionGraphPattern | OptionalGraphPattern | GraphGraphPattern | Filter, and
+  -- GraphPatternNotTriples = GroupOrUnionGraphPattern | OptionalGraphPattern | MinusGraphPattern | GraphGraphPattern | Filter, and
   -- Filter = "FILTER" Constraint
   abbrev pub pattern_or_filter_by : Option Terminal → Reading Element
   pattern_or_filter_by (Some terminal.Filter) = any >> e.Filter <$> constraint

@@ -104,6 +104,7 @@ proper_member_of (Member-F.Triples triples) = is_filled triples && list_all hold
 proper_member_of (Member-F.Union groups) = is_filled groups && list_all holds groups
 proper_member_of (Member-F.Optional group) = group
 proper_member_of (Member-F.Graph graph group) = proper_var_or_iri graph && group
+proper_member_of (Member-F.Minus group) = group
 
 abbrev pub proper_group_of : Group-F Bool Bool → Bool
 proper_group_of g = list_all holds g.members && list_all proper_expression g.filters

@@ -22,7 +22,13 @@ fn begins_pattern(terminal: Option<Terminal>) -> bool
 {
     matches!(
         terminal,
-        Some(Terminal::OpenBrace | Terminal::Optional | Terminal::Graph | Terminal::Filter)
+        Some(
+            Terminal::OpenBrace
+                | Terminal::Optional
+                | Terminal::MinusWord
+                | Terminal::Graph
+                | Terminal::Filter
+        )
     )
 }
 
@@ -115,6 +121,10 @@ fn pattern<'a>(parser: &mut Parser<'_, 'a>, depth: usize) -> Result<Member<'a>, 
         Some(Terminal::Optional) => {
             parser.pass();
             Ok(Member::Optional(group(parser, depth)?))
+        }
+        Some(Terminal::MinusWord) => {
+            parser.pass();
+            Ok(Member::Minus(group(parser, depth)?))
         }
         Some(Terminal::Graph) => {
             parser.pass();

@@ -166,6 +166,8 @@ pub enum Member<'a> {
     Optional(Group<'a>),
     /// 58: GraphGraphPattern.
     Graph(VarOrIri<'a>, Group<'a>),
+    /// 66: MinusGraphPattern.
+    Minus(Group<'a>),
 }
 
 /// What stands between a group's braces, one behind the other (54: GroupGraphPatternSub).

@@ -97,6 +97,7 @@ module _ (p : Prologue) where
     name ← named written
     pattern ← group
     pure (member.Graph name pattern)
+  member_of (Member-F.Minus group) = member.Minus <$> group
 
   abbrev pub group : Group → Does Pattern
   group = fold-Group (Does Member) (Does Pattern) member_of group_of

@@ -45,6 +45,7 @@ module _ (declared : List (List ℕ)) where
   known_member_of (Member-F.Union groups) = list_all holds groups
   known_member_of (Member-F.Optional group) = group
   known_member_of (Member-F.Graph name group) = known_var_or_iri declared name && group
+  known_member_of (Member-F.Minus group) = group
 
   abbrev pub known_group : Group → Bool
   known_group = fold-Group Bool Bool known_member_of known_group_of

@@ -218,5 +218,6 @@ fn member_of<'a>(
             let pattern = pattern_of(alloc, scope, labels, group)?;
             Ok(Member::Graph(name, pattern))
         }
+        Written::Minus(group) => Ok(Member::Minus(pattern_of(alloc, scope, labels, group)?)),
     }
 }

@@ -144,7 +144,7 @@ fn unknown_member<'a>(declared: &IndexSet<Key<'a>>, member: &Member<'a>) -> Opti
     match member {
         Member::Triples(triples) => unknown_all_triples(declared, triples.as_slice()),
         Member::Union(groups) => unknown_groups(declared, groups.as_slice()),
-        Member::Optional(group) => unknown_group(declared, group),
+        Member::Optional(group) | Member::Minus(group) => unknown_group(declared, group),
         Member::Graph(name, group) => {
             if let Some(start) = unknown_var_or_iri(declared, name) {
                 return Some(start);

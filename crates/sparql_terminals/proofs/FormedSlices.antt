@@ -61,7 +61,8 @@ never_filter text =
 never_query : (text : List ℕ) → is_either (query_terminal text) ≡ false
 never_query text =
     neither_way (is_word (codes "select") text) _ _ refl (neither_way (is_word (codes "distinct") text) _ _ refl (neither_way (is_word (codes "ask") text) _ _ refl
-    (neither_way (is_word (codes "where") text) _ _ refl (neither_way (is_word (codes "union") text) _ _ refl (neither_way (is_word (codes "optional") text) _ _ refl (never_filter text))))))
+    (neither_way (is_word (codes "where") text) _ _ refl (neither_way (is_word (codes "union") text) _ _ refl (neither_way (is_word (codes "optional") text) _ _ refl
+    (neither_way (is_word (codes "minus") text) _ _ refl (never_filter text)))))))
 
 never_place : (text : List ℕ) → is_either (place_terminal text) ≡ false
 never_place text =

@@ -13,7 +13,7 @@ outside_words =
     codes "service" ∷ codes "load" ∷ codes "into" ∷ codes "using" ∷ codes "from" ∷ codes "group" ∷ codes "by"
     ∷ codes "having" ∷ codes "order" ∷ codes "limit" ∷ codes "offset" ∷ codes "reduced" ∷ codes "construct"
     ∷ codes "describe" ∷ codes "bind" ∷ codes "values" ∷ codes "undef" ∷ codes "exists" ∷ codes "not" ∷ codes "in"
-    ∷ codes "as" ∷ codes "minus" ∷ codes "count" ∷ codes "sum" ∷ codes "min" ∷ codes "max" ∷ codes "avg"
+    ∷ codes "as" ∷ codes "count" ∷ codes "sum" ∷ codes "min" ∷ codes "max" ∷ codes "avg"
     ∷ codes "sample" ∷ codes "group_concat" ∷ codes "separator" ∷ codes "regex" ∷ codes "langmatches"
     ∷ codes "replace" ∷ codes "coalesce" ∷ codes "if" ∷ codes "strlen" ∷ codes "substr" ∷ codes "ucase"
     ∷ codes "lcase" ∷ codes "contains" ∷ codes "strstarts" ∷ codes "strends" ∷ codes "concat" ∷ codes "abs"

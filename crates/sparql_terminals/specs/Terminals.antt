@@ -46,6 +46,7 @@ query_terminal text =
     else if is_word (codes "where") text then terminal.Where
     else if is_word (codes "union") text then terminal.Union
     else if is_word (codes "optional") text then terminal.Optional
+    else if is_word (codes "minus") text then terminal.MinusWord
     else filter_terminal text
 
 -- where an operation acts

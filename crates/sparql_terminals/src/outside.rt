@@ -9,7 +9,7 @@ use crate::terminal::is_word;
 use rdf_tokens::{Kind, Token, slice_of};
 
 // In lower case.
-const OUTSIDE_WORDS: [&str; 55] = [
+const OUTSIDE_WORDS: [&str; 54] = [
     "service",
     "load",
     "into",
@@ -31,7 +31,6 @@ const OUTSIDE_WORDS: [&str; 55] = [
     "not",
     "in",
     "as",
-    "minus",
     "count",
     "sum",
     "min",

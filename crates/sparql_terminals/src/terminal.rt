@@ -54,6 +54,8 @@ pub enum Terminal {
     Where,
     Union,
     Optional,
+    /// The word; the sign is [`Minus`](Terminal::Minus).
+    MinusWord,
     Filter,
     Bound,
     SameTerm,
@@ -156,6 +158,8 @@ fn query_terminal(text: &str) -> Terminal
         Terminal::Union
     } else if is_word(text, "optional") {
         Terminal::Optional
+    } else if is_word(text, "minus") {
+        Terminal::MinusWord
     } else {
         filter_terminal(text)
     }
