@@ -18,4 +18,4 @@ pub use Rattle.sparql_algebra.proofs.Regroup.{counted_once}
 pub use Rattle.sparql_algebra.proofs.ResultLemmas.{some_same, some_solution_list, one_solution_list}
 pub use Rattle.sparql_algebra.proofs.ShownLemmas.{nothing_left_out}
 pub use Rattle.sparql_algebra.proofs.BoundLemmas.{solutions_below, of_variable}
-pub use Rattle.sparql_algebra.proofs.UnderLemmas.{basic_exact, filter_turn, filter_flat_map, filter_where, join_alone, names_kept, active_unread, filter_cond, all_under_nothing, joined_alone, left_joined_alone, minus_alone, basic_under, union_under, joined_under, left_joined_under, filter_under, variable_under}
+pub use Rattle.sparql_algebra.proofs.UnderLemmas.{basic_exact, any_filtered, filter_again, filter_turn, filter_flat_map, filter_where, join_alone, names_kept, active_unread, filter_cond, all_under_nothing, joined_alone, left_joined_alone, minus_alone, basic_under, union_under, joined_under, left_joined_under, filter_under, variable_under}

@@ -103,7 +103,7 @@ left_joins_under F B a = ap (λ (l : List Mapping). or_alone a (filter F (map (m
 
 -- ---- what is taken away
 
-any_filtered : {X : Type 0} (p q : X → Bool) (xs : List X) → list_any q (filter p xs) ≡ list_any (λ x. p x && q x) xs
+pub any_filtered : {X : Type 0} (p q : X → Bool) (xs : List X) → list_any q (filter p xs) ≡ list_any (λ x. p x && q x) xs
 any_filtered p q [] = refl
 any_filtered p q (x ∷ xs) = by_test (p x) (any_filtered p q xs)
   where
