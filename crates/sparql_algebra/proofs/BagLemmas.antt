@@ -1,11 +1,37 @@
 -- The operators of the algebra keep bags.
-use Rattle.std.proofs.Common.{Bool, cond, List, [], ◌∷◌, ◌++◌, map, filter, refl, sym, ◌∙◌, arith}
-use Rattle.std.specs.List.{sum_by, flat_map}
+use Rattle.std.proofs.Common.{◌≡◌, ℕ, zero, suc, ◌+◌, ◌<◌, Bool, true, false, cond, ◌||◌, List, [], ◌∷◌, ◌++◌, map, filter, refl, sym, ap, ◌∙◌, arith}
+use Rattle.std.specs.List.{sum_by, count_by, flat_map, list_any}
 use Rattle.std.proofs.lemmas.List.Sums.{sum_by-cons, sum_by-append}
 use Rattle.sparql_algebra.specs.Bags.{SameBag}
 use Rattle.sparql_values.specs.Mapping.{Mapping, compatible, merge}
 use Rattle.sparql_algebra.specs.Solutions.{merges, joins, left_joins, or_alone}
-use Rattle.sparql_algebra.proofs.Sums.{sum_by-cong, sum_by-filter, sum_by-map, sum_by-flat_map}
+use Rattle.sparql_algebra.proofs.Sums.{one, sum_by-cong, sum_by-filter, sum_by-map, sum_by-flat_map}
+
+abbrev is_above : ℕ → Bool
+is_above zero = false
+is_above (suc n) = true
+
+above_is : (n : ℕ) → 0 < n → is_above n ≡ true
+above_is zero h = absurd (omega arith)
+above_is (suc n) h = refl
+
+module _ {X : Type 0} where
+  any_counted : (p : X → Bool) (xs : List X) → list_any p xs ≡ is_above (count_by p xs)
+  any_counted p [] = refl
+  any_counted p (x ∷ xs) = by_head (p x) refl (any_counted p xs)
+    where
+      counted : count_by p (x ∷ xs) ≡ one (p x) + count_by p xs
+      counted = sum_by-cons _ x xs
+
+      by_head : (b : Bool) → p x ≡ b → list_any p xs ≡ is_above (count_by p xs) → (b || list_any p xs) ≡ is_above (count_by p (x ∷ xs))
+      by_head true e r = let z : one (p x) ≡ 1 = ap one e in sym (above_is (count_by p (x ∷ xs)) (omega (arith, counted, z)))
+      by_head false e r =
+          let z : one (p x) ≡ 0 = ap one e in
+          let c : count_by p (x ∷ xs) ≡ count_by p xs = omega (arith, counted, z) in
+          r ∙ ap is_above (sym c)
+
+  pub any_same : (p : X → Bool) (xs ys : List X) → SameBag xs ys → list_any p xs ≡ list_any p ys
+  any_same p xs ys h = any_counted p xs ∙ ap is_above (h (λ x. cond (p x) 1 0)) ∙ sym (any_counted p ys)
 
 pub SameBag-refl : {X : Type 0} (xs : List X) → SameBag xs xs
 SameBag-refl xs f = refl

@@ -18,15 +18,15 @@ use Rattle.rdf_dataset.specs.State.{State}
 use Rattle.sparql_trees.specs.declared.pattern.Pattern.{Pattern}
 use Rattle.sparql_trees.specs.declared.pattern.VarOrIri.TheVariants as v
 use Rattle.sparql_algebra.specs.Algebra as algebra
-use Rattle.sparql_algebra.specs.Algebra.{Algebra, basic, join, left_join, union, graph, translation}
+use Rattle.sparql_algebra.specs.Algebra.{Algebra, basic, join, left_join, union, minus, graph, translation}
 use Rattle.sparql_algebra.specs.Bound.{stands_in, is_term_of, AllValues}
 use Rattle.sparql_algebra.specs.Laws.{SolutionsOfState, SolutionsOfTerms, SolutionsBelow}
 use Rattle.sparql_algebra.specs.Listing.{Listing, graph_quads, listing_of}
-use Rattle.sparql_algebra.specs.Results.{pattern_solutions}
-use Rattle.sparql_algebra.specs.Solutions.{distinct, solves, terms_of, all_mappings, assignments, merges, joins, or_alone, left_joins, satisfies, solutions}
+use Rattle.sparql_algebra.specs.Results.{pattern_solutions, projected}
+use Rattle.sparql_algebra.specs.Solutions.{distinct, solves, terms_of, all_mappings, assignments, merges, joins, or_alone, left_joins, shares, left_by, satisfies, solutions}
 use Rattle.sparql_algebra.specs.Sorted.{sorted_solutions}
 use Rattle.sparql_values.specs.Mapping.{Variables, Mapping, same_term, column, value_at, value_in, value_of, set_in, empty_mapping, single, first_of, compatible, merge}
-use Rattle.sparql_trees.specs.Visible.{visible}
+use Rattle.sparql_trees.specs.Visible.{named, visible}
 use Rattle.sparql_algebra.proofs.TruthLemmas.{and_left, and_right, and_true, or_left, or_right, or_cases}
 use Rattle.sparql_algebra.proofs.TermLemmas.{same_term_is, same_term_own}
 use Rattle.sparql_algebra.proofs.AssignmentLemmas.{all_terms}
@@ -86,6 +86,21 @@ module _ (p : Term → Bool) where
   take_passes (suc n) (x ∷ m) h =
       ap (λ b. b && row_passes (take n m)) (and_left (value_passes x) _ h) ∙ take_passes n m (and_right (value_passes x) _ h)
 
+  value_at_passes : (m : Mapping) (place : ℕ) → row_passes m ≡ true → value_passes (value_at m place) ≡ true
+  value_at_passes [] zero h = refl
+  value_at_passes [] (suc place) h = refl
+  value_at_passes (x ∷ m) zero h = and_left (value_passes x) _ h
+  value_at_passes (x ∷ m) (suc place) h = value_at_passes m place (and_right (value_passes x) _ h)
+
+  value_in_passes : (m : Mapping) (o : Option ℕ) → row_passes m ≡ true → value_passes (value_in m o) ≡ true
+  value_in_passes m (Some place) h = value_at_passes m place h
+  value_in_passes m None h = refl
+
+  projected_passes : (variables columns : Variables) (m : Mapping) → row_passes m ≡ true → row_passes (projected variables columns m) ≡ true
+  projected_passes variables [] m h = refl
+  projected_passes variables (name ∷ columns) m h =
+      ap (λ b. b && row_passes (projected variables columns m)) (value_in_passes m (column variables name) h) ∙ projected_passes variables columns m h
+
   -- basic graph patterns
 
   mappings_pass : (n : ℕ) (T : List Term) → list_all p T ≡ true → list_all row_passes (all_mappings n T) ≡ true
@@ -141,6 +156,7 @@ module _ (p : Term → Bool) where
         left_joins_pass (solutions variables d g A) (solutions variables d g B) (satisfies variables F) (solutions_pass g A) (solutions_pass g B)
     solutions_pass g (algebra.filter F A) = all_filter row_passes (satisfies variables F) (solutions variables d g A) (solutions_pass g A)
     solutions_pass g (union A B) = all_append row_passes (solutions variables d g A) (solutions variables d g B) (solutions_pass g A) (solutions_pass g B)
+    solutions_pass g (minus A B) = all_filter row_passes (left_by shares (solutions variables d g B)) (solutions variables d g A) (solutions_pass g A)
     solutions_pass g (graph (v.Iri iri) A) =
         all_cond row_passes (list_any (same_term (t.Iri iri)) d.names) (solutions variables d (Named (t.Iri iri)) A) (solutions_pass (Named (t.Iri iri)) A)
     solutions_pass g (graph (v.Variable name) A) =
@@ -182,9 +198,11 @@ module _ (s : State) where
   unfolding sorted_solutions
   sorted_pass P g =
       all_sort (row_passes (is_term_of s)) (pattern_solutions P g (listing_of s))
-      (solutions_pass (is_term_of s) (visible P) (listing_of s)
+      (all_map (row_passes (is_term_of s)) (row_passes (is_term_of s)) (projected (named P) (visible P))
+      (λ m h. projected_passes (is_term_of s) (named P) (visible P) m h) (solutions (named P) (listing_of s) g (translation P))
+      (solutions_pass (is_term_of s) (named P) (listing_of s)
       (sets.all_on term_cmp_total term_cmp-IsAntisymmetric (is_term_of s) (listing_of s).names name_of_state)
-      (λ h. sets.all_on quad_cmp_total quad_cmp-IsAntisymmetric (quad_passes (is_term_of s)) ((listing_of s).quads h) (quad_of_state h)) g (translation P))
+      (λ h. sets.all_on quad_cmp_total quad_cmp-IsAntisymmetric (quad_passes (is_term_of s)) ((listing_of s).quads h) (quad_of_state h)) g (translation P)))
 
 -- ---- what passes the test is as the value is to be
 

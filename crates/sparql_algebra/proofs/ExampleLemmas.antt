@@ -1,13 +1,16 @@
 -- What the conditions of the examples ask of a mapping.
-use Rattle.std.proofs.Common.{◌≡◌, ℕ, List, Bool, true, ◌&&◌, Some, codes, is_some, ap, ◌∙◌}
+use Rattle.std.proofs.Common.{◌≡◌, ℕ, List, Bool, true, ◌&&◌, Some, codes, is_some, ap, sym, ◌∙◌}
 use Rattle.std.specs.Option.{option_map, option_and_then}
 use Rattle.rdf_terms.specs.declared.term.Term.{Term}
 use Rattle.rdf_terms.specs.declared.term.Term.TheVariants as t
+use Rattle.sparql_trees.specs.declared.expression.Comparison.TheVariants.{Equal}
+use Rattle.sparql_trees.specs.declared.expression.Expression.TheFolds.{fold-roll-Expression}
+use Rattle.sparql_trees.specs.declared.expression.Expression.TheOpen.{Expression-F}
 use Rattle.sparql_trees.specs.declared.expression.Expression.TheVariants as e
 use Rattle.sparql_values.specs.Mapping.{same_term}
-use Rattle.sparql_values.specs.Values.{Value, Bindings, truth, negated, of_truth, boolean_term, value, is_true, is_satisfied}
+use Rattle.sparql_values.specs.Values.{Value, Bindings, truth, negated, of_truth, boolean_term, compared, value, value_by, is_true, is_satisfied}
 use Rattle.sparql_values.proofs.CallerLemmas.{value-Not, value-Bound, value-Variable, value-Term, value-SameTerm}
-use Rattle.sparql_algebra.specs.Examples.{text, no_mailbox, is_bob, other_mailbox}
+use Rattle.sparql_algebra.specs.Examples.{text, no_mailbox, is_bob, other_mailbox, same_numbers}
 
 module _ (b : Bindings) where
   abbrev same : Value → Value → Value
@@ -39,3 +42,13 @@ module _ (b : Bindings) where
       ap (λ (v : Value). is_true (truth v) && true)
       (value-Not b (e.SameTerm (e.Variable (codes "mbox")) (e.Term (t.Iri (codes "mailto:alice"))))
       ∙ ap (λ (v : Value). of_truth (negated (truth v))) (same_is (codes "mbox") (t.Iri (codes "mailto:alice"))))
+
+  abbrev pub asks_same_numbers : Bool
+  asks_same_numbers = is_true (truth (of_truth (option_and_then (λ s. option_and_then (compared Equal s) (b (codes "m"))) (b (codes "n")))))
+
+  pub same_numbers-is : (is_satisfied b same_numbers && true) ≡ (asks_same_numbers && true)
+  same_numbers-is =
+      ap (λ (v : Value). is_true (truth v) && true)
+      (ap (value b) (sym (e.rolls-Compare Equal (e.Variable (codes "n")) (e.Variable (codes "m"))))
+      ∙ fold-roll-Expression Value (value_by b) (Expression-F.Compare Equal (e.Variable (codes "n")) (e.Variable (codes "m")))
+      ∙ (λ i. of_truth (option_and_then (λ s. option_and_then (compared Equal s) (value-Variable b (codes "m") i)) (value-Variable b (codes "n") i))))

@@ -1,7 +1,6 @@
 -- The solutions don't depend on the order in which the graphs are listed.
-use Rattle.std.proofs.Common.{◌≡◌, ℕ, zero, suc, ◌+◌, ◌<◌, Bool, true, false, cond, ◌&&◌, ◌||◌, List, [], ◌∷◌, length, Option, Some, None, refl, sym, ap, ◌∙◌, arith, take}
-use Rattle.std.specs.List.{count_by, list_any, list_all}
-use Rattle.std.proofs.lemmas.List.Sums.{sum_by-cons}
+use Rattle.std.proofs.Common.{◌≡◌, ◌+◌, Bool, true, false, cond, ◌&&◌, List, [], ◌∷◌, length, Option, Some, None, refl, sym, ap, ◌∙◌, take}
+use Rattle.std.specs.List.{list_any, list_all}
 use Rattle.rdf_terms.specs.Quad.{QuadParts}
 use Rattle.rdf_terms.specs.declared.term.Term.{Term}
 use Rattle.rdf_terms.specs.declared.term.Term.TheVariants as t
@@ -12,43 +11,18 @@ use Rattle.sparql_trees.specs.declared.pattern.BasicGraphPattern.{BasicGraphPatt
 use Rattle.sparql_trees.specs.declared.pattern.TriplePattern.{TriplePattern}
 use Rattle.sparql_trees.specs.declared.pattern.VarOrIri.TheVariants as v
 use Rattle.sparql_algebra.specs.Algebra as algebra
-use Rattle.sparql_algebra.specs.Algebra.{Algebra, basic, join, left_join, union, graph}
+use Rattle.sparql_algebra.specs.Algebra.{Algebra, basic, join, left_join, union, minus, graph}
 use Rattle.sparql_algebra.specs.Bags.{SameBag}
 use Rattle.sparql_algebra.specs.Listing.{Listing, Lists}
 use Rattle.sparql_values.specs.Mapping.{Variables, Mapping, same_term, same_mapping, single}
 use Rattle.sparql_algebra.specs.Solutions.{var_or_term, term_at, is_triple, holds, instance_lies, occurs, binds_exactly, assignments, basic_solutions, joins, satisfies, solutions}
 use Rattle.sparql_algebra.proofs.Sums.{one, sums_from_counts}
 use Rattle.sparql_algebra.proofs.TermLemmas.{same_mapping_is, same_mapping_own}
-use Rattle.sparql_algebra.proofs.BagLemmas.{SameBag-refl, SameBag-filter, SameBag-map, SameBag-append, SameBag-flat_map, SameBag-joins, SameBag-left_joins}
+use Rattle.sparql_algebra.proofs.BagLemmas.{any_same, SameBag-refl, SameBag-filter, SameBag-map, SameBag-append, SameBag-flat_map, SameBag-joins, SameBag-left_joins}
+use Rattle.sparql_algebra.proofs.MinusLemmas.{SameBag-minuses}
 use Rattle.sparql_algebra.proofs.UniverseLemmas.{has_length}
 use Rattle.sparql_algebra.proofs.AssignmentLemmas.{assignments_count}
 use Rattle.sparql_algebra.proofs.ListingLemmas.{names_same, quads_same}
-
-abbrev is_above : ℕ → Bool
-is_above zero = false
-is_above (suc n) = true
-
-above_is : (n : ℕ) → 0 < n → is_above n ≡ true
-above_is zero h = absurd (omega arith)
-above_is (suc n) h = refl
-
-module _ {X : Type 0} where
-  any_counted : (p : X → Bool) (xs : List X) → list_any p xs ≡ is_above (count_by p xs)
-  any_counted p [] = refl
-  any_counted p (x ∷ xs) = by_head (p x) refl (any_counted p xs)
-    where
-      counted : count_by p (x ∷ xs) ≡ one (p x) + count_by p xs
-      counted = sum_by-cons _ x xs
-
-      by_head : (b : Bool) → p x ≡ b → list_any p xs ≡ is_above (count_by p xs) → (b || list_any p xs) ≡ is_above (count_by p (x ∷ xs))
-      by_head true e r = let z : one (p x) ≡ 1 = ap one e in sym (above_is (count_by p (x ∷ xs)) (omega (arith, counted, z)))
-      by_head false e r =
-          let z : one (p x) ≡ 0 = ap one e in
-          let c : count_by p (x ∷ xs) ≡ count_by p xs = omega (arith, counted, z) in
-          r ∙ ap is_above (sym c)
-
-  pub any_same : (p : X → Bool) (xs ys : List X) → SameBag xs ys → list_any p xs ≡ list_any p ys
-  any_same p xs ys h = any_counted p xs ∙ ap is_above (h (λ x. cond (p x) 1 0)) ∙ sym (any_counted p ys)
 
 module _ (xs ys : List QuadParts) (same : SameBag xs ys) where
   holds_same : (a b c : Option Term) → holds xs a b c ≡ holds ys a b c
@@ -93,6 +67,8 @@ module _ (variables : Variables) (d e : Listing) (names : SameBag d.names e.name
       SameBag-filter (satisfies variables F) (solutions variables d g A) (solutions variables e g A) (same_solutions g A)
   same_solutions g (union A B) =
       SameBag-append (solutions variables d g A) (solutions variables e g A) (solutions variables d g B) (solutions variables e g B) (same_solutions g A) (same_solutions g B)
+  same_solutions g (minus A B) =
+      SameBag-minuses (solutions variables d g A) (solutions variables e g A) (solutions variables d g B) (solutions variables e g B) (same_solutions g A) (same_solutions g B)
   same_solutions g (graph (v.Iri iri) A) =
       SameBag-cond (list_any (same_term (t.Iri iri)) d.names) (list_any (same_term (t.Iri iri)) e.names)
       (solutions variables d (Named (t.Iri iri)) A) (solutions variables e (Named (t.Iri iri)) A) (any_same (same_term (t.Iri iri)) d.names e.names names)

@@ -8,10 +8,10 @@ use Rattle.rdf_terms.specs.declared.quad.GraphName.{GraphName}
 use Rattle.rdf_terms.specs.declared.quad.GraphName.TheVariants.{Named}
 use Rattle.sparql_trees.specs.declared.pattern.VarOrIri.TheVariants as v
 use Rattle.sparql_algebra.specs.Algebra as algebra
-use Rattle.sparql_algebra.specs.Algebra.{Algebra, basic, join, left_join, union, graph}
+use Rattle.sparql_algebra.specs.Algebra.{Algebra, basic, join, left_join, union, minus, graph}
 use Rattle.sparql_algebra.specs.Listing.{Listing}
 use Rattle.sparql_values.specs.Mapping.{Variables, Mapping, same_term, column, set_in, empty_mapping, single, compatible, merge}
-use Rattle.sparql_algebra.specs.Solutions.{solves, terms_of, all_mappings, assignments, merges, joins, or_alone, left_joins, satisfies, solutions}
+use Rattle.sparql_algebra.specs.Solutions.{solves, terms_of, all_mappings, assignments, merges, joins, or_alone, left_joins, shares, left_by, satisfies, solutions}
 use Rattle.sparql_algebra.proofs.TruthLemmas.{and_left, and_right}
 use Rattle.sparql_algebra.proofs.UniverseLemmas.{has_length, longer}
 
@@ -128,6 +128,8 @@ module _ (variables : Variables) (d : Listing) where
       all_filter (has_length (length variables)) (satisfies variables F) (solutions variables d g A) (solutions_length g A)
   solutions_length g (union A B) =
       all_append (has_length (length variables)) (solutions variables d g A) (solutions variables d g B) (solutions_length g A) (solutions_length g B)
+  solutions_length g (minus A B) =
+      all_filter (has_length (length variables)) (left_by shares (solutions variables d g B)) (solutions variables d g A) (solutions_length g A)
   solutions_length g (graph (v.Iri iri) A) =
       all_cond (has_length (length variables)) (list_any (same_term (t.Iri iri)) d.names) (solutions variables d (Named (t.Iri iri)) A) (solutions_length (Named (t.Iri iri)) A)
   solutions_length g (graph (v.Variable name) A) =

@@ -11,10 +11,13 @@ mod IndependenceLemmas
 mod JoinLemmas
 mod LengthLemmas
 mod ListingLemmas
+mod MinusLemmas
+mod NameLemmas
 mod OrderLemmas
 mod Regroup
 mod ResultLemmas
 mod SetLemmas
+mod ShownLemmas
 mod SortedLemmas
 mod Sums
 mod TermLemmas

@@ -51,10 +51,10 @@ same_sym a b = by_test (same_mapping a b) (same_mapping b a) refl refl
 abbrev pub times : List Mapping → Mapping → ℕ
 times xs m = count_by (same_mapping m) xs
 
-times_cons : (m x : Mapping) (xs : List Mapping) → times (x ∷ xs) m ≡ one (same_mapping m x) + times xs m
+pub times_cons : (m x : Mapping) (xs : List Mapping) → times (x ∷ xs) m ≡ one (same_mapping m x) + times xs m
 times_cons m x xs = sum_by-cons _ x xs
 
-times_own : (x : Mapping) (xs : List Mapping) → times (x ∷ xs) x ≡ 1 + times xs x
+pub times_own : (x : Mapping) (xs : List Mapping) → times (x ∷ xs) x ≡ 1 + times xs x
 times_own x xs = let z : one (same_mapping x x) ≡ 1 = ap one (same_mapping_own x) in omega (arith, times_cons x x xs, z)
 
 pub regroup : (f : Mapping → ℕ) (xs U : List Mapping) → ((m : Mapping) → 0 < times xs m → times U m ≡ 1) →
@@ -125,7 +125,7 @@ join_law A B U V lu lv m =
 
 -- a mapping that begins no pair stays alone
 
-any_at : (p : Mapping → Bool) (m : Mapping) (V : List Mapping) → 0 < times V m → p m ≡ true → list_any p V ≡ true
+pub any_at : (p : Mapping → Bool) (m : Mapping) (V : List Mapping) → 0 < times V m → p m ≡ true → list_any p V ≡ true
 any_at p m [] h t = absurd (omega arith)
 any_at p m (x ∷ V) h t = by_test (same_mapping m x) (p x) refl refl (any_at p m V)
   where
@@ -142,7 +142,7 @@ any_moves p (x ∷ xs) V h t = by_test (p x) refl t (any_moves p xs V (λ m k. h
     by_test true e r k = any_at p x V (h x (omega (arith, times_own x xs))) e
     by_test false e r k = k r
 
-any_listed : (p : Mapping → Bool) (xs V : List Mapping) → ListsCounted V (times xs) → list_any p xs ≡ list_any p V
+pub any_listed : (p : Mapping → Bool) (xs V : List Mapping) → ListsCounted V (times xs) → list_any p xs ≡ list_any p V
 any_listed p xs V l =
     both_true (list_any p xs) (list_any p V)
     (any_moves p xs V (λ m h. let e : times V m ≡ 1 = above (times xs m) (times V m) (l m) h in omega (arith, e)))

@@ -5,7 +5,7 @@ use Rattle.std.proofs.lemmas.List.Sums.{sum_by-cons}
 use Rattle.rdf_terms.specs.declared.quad.GraphName.{GraphName}
 use Rattle.rdf_terms.specs.declared.quad.GraphName.TheVariants.{Default}
 use Rattle.rdf_dataset.specs.State.{State}
-use Rattle.sparql_trees.specs.Visible.{visible}
+use Rattle.sparql_trees.specs.Visible.{named, visible}
 use Rattle.sparql_trees.specs.declared.pattern.Pattern.{Pattern}
 use Rattle.sparql_trees.specs.declared.query.Select.{Select}
 use Rattle.sparql_algebra.specs.Algebra.{translation}
@@ -14,6 +14,7 @@ use Rattle.sparql_algebra.specs.Laws.{SomeSolutions, SolutionsAgree, SomeSelecti
 use Rattle.sparql_algebra.specs.Listing.{Listing, Lists, listing_of}
 use Rattle.sparql_values.specs.Mapping.{Mapping, same_mapping}
 use Rattle.sparql_algebra.specs.Results.{pattern_solutions, projected, projections, times_selected, is_some_solution}
+use Rattle.sparql_algebra.specs.Solutions.{solutions}
 use Rattle.sparql_algebra.specs.Sorted.{sort, sorted_solutions}
 use Rattle.sparql_algebra.proofs.Sums.{one}
 use Rattle.sparql_algebra.proofs.TermLemmas.{same_mapping_own}
@@ -24,7 +25,9 @@ use Rattle.sparql_algebra.proofs.Regroup.{each_once, each_once_lists}
 use Rattle.sparql_algebra.proofs.SortedLemmas.{sort_sorted, sort_same, one_sorted}
 
 pub pattern_same : (P : Pattern) (g : GraphName) (s : State) (d e : Listing) → Lists s d → Lists s e → SameBag (pattern_solutions P g d) (pattern_solutions P g e)
-pattern_same P g s d e h k = listings_same s d e h k (visible P) g (translation P)
+pattern_same P g s d e h k =
+    SameBag-map (projected (named P) (visible P)) (solutions (named P) d g (translation P)) (solutions (named P) e g (translation P))
+    (listings_same s d e h k (named P) g (translation P))
 
 pub some_solutions : SomeSolutions
 some_solutions P g s = (

@@ -6,7 +6,7 @@ use Rattle.sparql_trees.specs.declared.pattern.Member.TheVariants as m
 use Rattle.sparql_trees.specs.declared.pattern.Member.TheOpen.{Member-F}
 use Rattle.sparql_trees.specs.declared.pattern.Member.TheFolds.{fold-roll-Member, fold-roll-Pattern}
 use Rattle.sparql_trees.specs.declared.pattern.Pattern.{Pattern}
-use Rattle.sparql_algebra.specs.Algebra.{Algebra, basic, graph, Element, joined, optional, Translated, filtered, whole, group_of, union_of, group_in, element_in, parts, translation, element}
+use Rattle.sparql_algebra.specs.Algebra.{Algebra, basic, graph, Element, joined, optional, removed, Translated, filtered, whole, group_of, union_of, group_in, element_in, parts, translation, element}
 
 -- a group's own FILTERs, and the rest of it
 pub parts-is : (group : Pattern) → parts group ≡ record { filters = group.filters; pattern = group_of (map element group.members) }
@@ -35,3 +35,7 @@ element-Optional group =
 
 pub element-Graph : (name : VarOrIri) (group : Pattern) → element (m.Graph name group) ≡ joined (graph name (translation group))
 element-Graph name group = ap element (sym (m.rolls-Graph name group)) ∙ fold-roll-Member Element Translated element_in group_in (Member-F.Graph name group)
+
+-- those of MINUS's stay in it
+pub element-Minus : (group : Pattern) → element (m.Minus group) ≡ removed (translation group)
+element-Minus group = ap element (sym (m.rolls-Minus group)) ∙ fold-roll-Member Element Translated element_in group_in (Member-F.Minus group)

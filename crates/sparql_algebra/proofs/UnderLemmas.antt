@@ -13,18 +13,19 @@ use Rattle.sparql_trees.specs.declared.pattern.BasicGraphPattern.{BasicGraphPatt
 use Rattle.sparql_trees.specs.declared.pattern.TriplePattern.{TriplePattern}
 use Rattle.sparql_trees.specs.declared.pattern.VarOrIri.TheVariants as v
 use Rattle.sparql_algebra.specs.Algebra as algebra
-use Rattle.sparql_algebra.specs.Algebra.{Algebra, basic, join, left_join, union, graph}
+use Rattle.sparql_algebra.specs.Algebra.{Algebra, basic, join, left_join, union, minus, graph}
 use Rattle.sparql_values.specs.Mapping.{Variables, Mapping, same_term, column, value_at, value_in, value_of, set_in, empty_mapping, single, agrees, first_of, compatible, merge}
 use Rattle.sparql_algebra.specs.Bags.{SameBag}
 use Rattle.sparql_algebra.specs.Listing.{Listing}
-use Rattle.sparql_algebra.specs.Solutions.{is_at, same_bool, binds_exactly, occurs, instance_lies, solves, terms_of, all_mappings, assignments, basic_solutions, merges, joins, or_alone, left_joins, satisfies, solutions}
-use Rattle.sparql_algebra.specs.Under.{agreeing, left_by, MinusUnder, cut, names_left, AllUnderNothing, BasicUnder, UnionUnder, JoinUnder, LeftJoinUnder, JoinAlone, LeftJoinAlone, FilterUnder, NamedUnder, VariableUnder, GraphSetsActive, sees, UnderSeen, stands_any, is_positive, reads, ActiveUnread}
+use Rattle.sparql_algebra.specs.Solutions.{is_at, same_bool, binds_exactly, occurs, instance_lies, solves, terms_of, all_mappings, assignments, basic_solutions, merges, joins, or_alone, left_joins, shares, left_by, satisfies, solutions}
+use Rattle.sparql_algebra.specs.Under.{agreeing, MinusUnder, MinusUnderLeft, MinusAlone, cut, names_left, AllUnderNothing, BasicUnder, UnionUnder, JoinUnder, LeftJoinUnder, JoinAlone, LeftJoinAlone, FilterUnder, NamedUnder, VariableUnder, GraphSetsActive, sees, UnderSeen, stands_any, is_positive, reads, ActiveUnread}
 use Rattle.sparql_algebra.proofs.TruthLemmas.{and_false, and_true, and_left, and_right, or_left, or_right}
 use Rattle.sparql_algebra.proofs.TermLemmas.{same_term_is}
 use Rattle.sparql_algebra.proofs.UniverseLemmas.{has_length}
 use Rattle.sparql_algebra.proofs.FilterLemmas.{filter_always, filter-cong, filter-filter, filter-append}
 use Rattle.sparql_algebra.proofs.LengthLemmas.{length_to, all_append, all_filter, all_cond, all_map, all_flat_map, single_length, solutions_length}
 use Rattle.sparql_algebra.proofs.BagLemmas.{SameBag-filter, SameBag-joins, SameBag-left_joins}
+use Rattle.sparql_algebra.proofs.MinusLemmas.{SameBag-minuses}
 use Rattle.sparql_algebra.proofs.JoinLemmas.{compatible_turn, merge_turn, compatible_three, compatible_empty, empty_solutions}
 
 -- ---- lists
@@ -102,7 +103,7 @@ left_joins_under F B a = ap (λ (l : List Mapping). or_alone a (filter F (map (m
 
 -- ---- what is taken away
 
-any_filtered : {X : Type 0} (p q : X → Bool) (xs : List X) → list_any q (filter p xs) ≡ list_any (λ x. p x && q x) xs
+pub any_filtered : {X : Type 0} (p q : X → Bool) (xs : List X) → list_any q (filter p xs) ≡ list_any (λ x. p x && q x) xs
 any_filtered p q [] = refl
 any_filtered p q (x ∷ xs) = by_test (p x) (any_filtered p q xs)
   where
@@ -356,6 +357,12 @@ module _ (vs : Variables) (d : Listing) where
       left_join_alone (length vs) a (length_to (length vs) a e) (satisfies vs F) (solutions vs d g A) (solutions vs d g B)
       (solutions_length vs d g A) (solutions_length vs d g B)
 
+  pub minus_under_left : MinusUnderLeft vs d
+  minus_under_left g A B a = minus_under shares (solutions vs d g A) (solutions vs d g B) a
+
+  pub minus_alone : MinusAlone vs d
+  minus_alone g A B a = filter_turn (left_by shares (solutions vs d g B)) (compatible a) (solutions vs d g A)
+
   pub filter_under : FilterUnder vs d
   filter_under g F A a = filter_turn (satisfies vs F) (compatible a) (solutions vs d g A)
 
@@ -372,7 +379,7 @@ module _ (vs : Variables) (d : Listing) where
 -- ---- what a pattern sees
 
 -- no column beside these is bound
-abbrev binds_within : (ℕ → Bool) → Mapping → Bool
+abbrev pub binds_within : (ℕ → Bool) → Mapping → Bool
 binds_within test [] = true
 binds_within test (None ∷ m) = binds_within (λ c. test (suc c)) m
 binds_within test (Some t ∷ m) = test zero && binds_within (λ c. test (suc c)) m
@@ -462,7 +469,7 @@ all_more p q e (x ∷ xs) h = ap (λ b. b && list_all q xs) (e x (and_left (p x)
 
 module _ (vs : Variables) (d : Listing) where
   -- as far as a test is true that is true of what the pattern sees
-  within : (g : GraphName) (P : Algebra) (q : ℕ → Bool) → ((c : ℕ) → sees vs P c ≡ true → q c ≡ true) → list_all (binds_within q) (solutions vs d g P) ≡ true
+  pub within : (g : GraphName) (P : Algebra) (q : ℕ → Bool) → ((c : ℕ) → sees vs P c ≡ true → q c ≡ true) → list_all (binds_within q) (solutions vs d g P) ≡ true
   within g (basic b) q e =
       all_more (binds_exactly (occurs vs b.triples)) (binds_within q) (λ m h. within_more (occurs vs b.triples) q e m (exact_within (occurs vs b.triples) m h))
       (basic_solutions vs (d.quads g) b) (basic_exact vs (d.quads g) b)
@@ -476,6 +483,7 @@ module _ (vs : Variables) (d : Listing) where
   within g (union A B) q e =
       all_append (binds_within q) (solutions vs d g A) (solutions vs d g B) (within g A q (λ c h. e c (or_left (sees vs A c) (sees vs B c) h)))
       (within g B q (λ c h. e c (or_right (sees vs A c) (sees vs B c) h)))
+  within g (minus A B) q e = all_filter (binds_within q) (left_by shares (solutions vs d g B)) (solutions vs d g A) (within g A q e)
   within g (graph (v.Iri iri) A) q e =
       all_cond (binds_within q) (list_any (same_term (t.Iri iri)) d.names) (solutions vs d (Named (t.Iri iri)) A) (within (Named (t.Iri iri)) A q e)
   within g (graph (v.Variable name) A) q e =
@@ -525,6 +533,9 @@ module _ (vs : Variables) (d : Listing) where
   active_unread g h (algebra.filter F A) e = SameBag-filter (satisfies vs F) (solutions vs d g A) (solutions vs d h A) (active_unread g h A e)
   active_unread g h (union A B) e =
       SameBag-append (solutions vs d g A) (solutions vs d h A) (solutions vs d g B) (solutions vs d h B) (active_unread g h A (no_left (reads A) (reads B) e))
+      (active_unread g h B (no_right (reads A) (reads B) e))
+  active_unread g h (minus A B) e =
+      SameBag-minuses (solutions vs d g A) (solutions vs d h A) (solutions vs d g B) (solutions vs d h B) (active_unread g h A (no_left (reads A) (reads B) e))
       (active_unread g h B (no_right (reads A) (reads B) e))
   active_unread g h (graph (v.Iri iri) A) e = λ f. refl
   active_unread g h (graph (v.Variable name) A) e = λ f. refl

@@ -11,8 +11,8 @@ use Rattle.std.specs.declared.cmp.Ordering.{Ordering}
 use Rattle.std.specs.declared.cmp.Ordering.TheVariants.{Less, Equal, Greater}
 use Rattle.std.proofs.lemmas.Map.Keys.{sorted_head, sorted_tail}
 use Rattle.rdf_terms.specs.Order.{text_cmp}
-use Rattle.sparql_trees.specs.Visible.{Names, names_in, with_names, visible}
-use Rattle.sparql_algebra.specs.Laws.{VariablesInOrder, VariablesAreAll}
+use Rattle.sparql_trees.specs.Visible.{Names, all_names_in, names_in, with_names, named, visible}
+use Rattle.sparql_algebra.specs.Laws.{VariablesInOrder, VariablesAreAll, NamedInOrder, NamedAreAll}
 use Rattle.sparql_algebra.proofs.TruthLemmas.{or_false, or_assoc}
 
 or_swap : (a b c : Bool) → (a || (b || c)) ≡ (b || (a || c))
@@ -93,3 +93,11 @@ variables_in_order P = names_sorted [] (names_in P) (sorted_nil nat_list_cmp_tot
 pub variables_are_all : VariablesAreAll
 unfolding visible
 variables_are_all P name = names_any name [] (names_in P) ∙ or_false (list_any (eq_by_cmp text_cmp name) (names_in P))
+
+pub named_in_order : NamedInOrder
+unfolding named
+named_in_order P = names_sorted [] (all_names_in P) (sorted_nil nat_list_cmp_total text_apart)
+
+pub named_are_all : NamedAreAll
+unfolding named
+named_are_all P name = names_any name [] (all_names_in P) ∙ or_false (list_any (eq_by_cmp text_cmp name) (all_names_in P))

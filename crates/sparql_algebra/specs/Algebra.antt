@@ -16,21 +16,24 @@ pub data Algebra : Type 0 where
   left_join : List Expression → Algebra → Algebra → Algebra
   filter : List Expression → Algebra → Algebra
   union : Algebra → Algebra → Algebra
+  minus : Algebra → Algebra → Algebra
   graph : VarOrIri → Algebra → Algebra
 
 -- the empty pattern
 abbrev pub empty_pattern : Algebra
 empty_pattern = basic (record { triples = []; hidden = 0 })
 
--- What an element of a group is to the elements before it: it is joined on, or optional under a condition.
+-- What an element of a group is to the elements before it: it is joined on, optional under a condition, or takes solutions away.
 pub data Element : Type 0 where
   joined : Algebra → Element
   optional : List Expression → Algebra → Element
+  removed : Algebra → Element
 
 -- the pattern so far, and an element after it
 abbrev pub extended : Algebra → Element → Algebra
 extended G (joined A) = join G A
 extended G (optional F A) = left_join F G A
+extended G (removed A) = minus G A
 
 -- the elements from left to right, beginning with the empty pattern
 abbrev pub group_of : List Element → Algebra
@@ -57,12 +60,13 @@ union_of (A ∷ As) = fold union A As
 abbrev pub group_in : Pattern-F Element Translated → Translated
 group_in group = record { filters = group.filters; pattern = group_of group.members }
 
--- OPTIONAL's condition is its group's own FILTERs, which see what stands on the left too
+-- OPTIONAL's condition is its group's own FILTERs, which see what stands on the left too; MINUS's stay in its group
 abbrev pub element_in : Member-F Element Translated → Element
 element_in (Member-F.Basic triples) = joined (basic triples)
 element_in (Member-F.Union groups) = joined (union_of (map whole groups))
 element_in (Member-F.Optional group) = optional group.filters group.pattern
 element_in (Member-F.Graph name group) = joined (graph name (whole group))
+element_in (Member-F.Minus group) = removed (whole group)
 
 -- the translation of a group, of its FILTERs apart from the rest, and of an element of it
 abbrev pub parts : Pattern → Translated

@@ -1,5 +1,5 @@
 -- The algebra by counts: what each operator makes of the counts of its parts (SPARQL 1.1 Query, section 18.5).
-use Rattle.std.specs.Prelude.{◌≡◌, ℕ, ◌+◌, ◌*◌, ◌≤◌, Bool, true, false, ◌&&◌, cond, List, [], ◌∷◌, ◌++◌, count_by, length, take, nat_eq}
+use Rattle.std.specs.Prelude.{◌≡◌, ℕ, ◌+◌, ◌*◌, ◌≤◌, ◌<◌, Bool, true, false, ◌&&◌, cond, List, [], ◌∷◌, ◌++◌, count_by, length, take, nat_eq}
 use Rattle.std.specs.List.{sum_by, list_any}
 use Rattle.rdf_terms.specs.Quad.{QuadParts}
 use Rattle.rdf_terms.specs.declared.term.Term.{Term}
@@ -9,11 +9,11 @@ use Rattle.rdf_terms.specs.declared.quad.GraphName.TheVariants.{Named}
 use Rattle.sparql_trees.specs.declared.expression.Expression.{Expression}
 use Rattle.sparql_trees.specs.declared.pattern.BasicGraphPattern.{BasicGraphPattern}
 use Rattle.sparql_trees.specs.declared.pattern.VarOrIri.TheVariants as v
-use Rattle.sparql_algebra.specs.Algebra.{Algebra, basic, join, left_join, filter, union, graph, empty_pattern}
+use Rattle.sparql_algebra.specs.Algebra.{Algebra, basic, join, left_join, filter, union, minus, graph, empty_pattern}
 use Rattle.sparql_algebra.specs.Bags.{once_if_any}
 use Rattle.sparql_algebra.specs.Listing.{Listing}
 use Rattle.sparql_values.specs.Mapping.{Variables, Mapping, same_term, same_mapping, compatible, merge, single}
-use Rattle.sparql_algebra.specs.Solutions.{count, satisfies, solves}
+use Rattle.sparql_algebra.specs.Solutions.{count, satisfies, shares, left_by, solves}
 
 -- a finite list of the mappings that are counted above 0, each once
 abbrev pub ListsCounted : List Mapping → (Mapping → ℕ) → Type 0
@@ -66,6 +66,11 @@ module _ (variables : Variables) (d : Listing) where
   abbrev pub UnionLaw : Type 0
   UnionLaw = (g : GraphName) (A B : Algebra) (m : Mapping) → # g (union A B) m ≡ # g A m + # g B m
 
+  -- a mapping keeps its count where no compatible one has a variable in common with it; every other one is counted no more
+  abbrev pub MinusLaw : Type 0
+  MinusLaw = (g : GraphName) (A B : Algebra) (V : List Mapping) → ListsCounted V (# g B) →
+      (m : Mapping) → # g (minus A B) m ≡ cond (left_by shares V m) (# g A m) 0
+
   -- in the graph of that name, where it is there
   abbrev pub NamedLaw : Type 0
   NamedLaw = (g : GraphName) (iri : List ℕ) (A : Algebra) (m : Mapping) →
@@ -110,3 +115,22 @@ module _ (variables : Variables) (d : Listing) where
   abbrev pub FilterEntersUnion : Type 0
   FilterEntersUnion = (g : GraphName) (F : List Expression) (A B : Algebra) (m : Mapping) →
       # g (filter F (union A B)) m ≡ # g (union (filter F A) (filter F B)) m
+
+  abbrev pub MinusAddsNone : Type 0
+  MinusAddsNone = (g : GraphName) (A B : Algebra) (m : Mapping) → # g (minus A B) m ≤ # g A m
+
+  -- nothing takes a mapping away that has no variable in common with it, compatible though it is
+  abbrev pub NothingShared : Type 0
+  NothingShared = (g : GraphName) (A B : Algebra) (m : Mapping) → ((b : Mapping) → 0 < # g B b → shares m b ≡ false) →
+      # g (minus A B) m ≡ # g A m
+
+  -- and each compatible one does that has
+  abbrev pub SharedIsTaken : Type 0
+  SharedIsTaken = (g : GraphName) (A B : Algebra) (m b : Mapping) → 0 < # g B b → compatible m b ≡ true → shares m b ≡ true →
+      # g (minus A B) m ≡ 0
+
+  abbrev pub EmptyTakesNone : Type 0
+  EmptyTakesNone = (g : GraphName) (A : Algebra) (m : Mapping) → # g (minus A empty_pattern) m ≡ # g A m
+
+  abbrev pub MinusOfUnion : Type 0
+  MinusOfUnion = (g : GraphName) (A B C : Algebra) (m : Mapping) → # g (minus A (union B C)) m ≡ # g (minus (minus A B) C) m

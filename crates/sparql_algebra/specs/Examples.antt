@@ -6,7 +6,8 @@ use Rattle.rdf_terms.specs.declared.quad.GraphName.{GraphName}
 use Rattle.rdf_terms.specs.declared.quad.GraphName.TheVariants.{Default, Named}
 use Rattle.rdf_terms.specs.declared.term.Term.{Term}
 use Rattle.rdf_terms.specs.declared.term.Term.TheVariants as t
-use Rattle.sparql_trees.specs.declared.expression.Comparison.TheVariants.{Less}
+use Rattle.sparql_trees.specs.Visible.{named, visible}
+use Rattle.sparql_trees.specs.declared.expression.Comparison.TheVariants.{Equal, Less}
 use Rattle.sparql_trees.specs.declared.expression.Expression.{Expression}
 use Rattle.sparql_trees.specs.declared.expression.Expression.TheVariants as e
 use Rattle.sparql_trees.specs.declared.pattern.BasicGraphPattern.{BasicGraphPattern}
@@ -17,9 +18,10 @@ use Rattle.sparql_trees.specs.declared.pattern.TriplePattern.{TriplePattern}
 use Rattle.sparql_trees.specs.declared.pattern.VarOrIri.TheVariants as v
 use Rattle.sparql_trees.specs.declared.pattern.VarOrTerm.{VarOrTerm}
 use Rattle.sparql_trees.specs.declared.pattern.VarOrTerm.TheVariants as p
-use Rattle.sparql_algebra.specs.Algebra.{Algebra, basic, join, left_join, filter, union, graph, empty_pattern, translation}
+use Rattle.sparql_algebra.specs.Algebra.{Algebra, basic, join, left_join, filter, union, minus, graph, empty_pattern, translation}
 use Rattle.sparql_algebra.specs.Listing.{Listing}
 use Rattle.sparql_values.specs.Mapping.{Variables, Mapping}
+use Rattle.sparql_algebra.specs.Results.{pattern_solutions}
 use Rattle.sparql_algebra.specs.Solutions.{solutions, count}
 
 abbrev pub triple : VarOrTerm → List ℕ → VarOrTerm → TriplePattern
@@ -54,6 +56,7 @@ below_three = e.Compare Less (e.Variable (codes "v1")) (e.Term (t.Literal (recor
 -- `{ ?s :p1 ?v1 }`, `{ { ?s :p1 ?v1 } UNION { ?s :p2 ?v2 } }` and `{ ?s :p1 ?v1 OPTIONAL { ?s :p2 ?v2 } }`; nothing is simplified.
 -- With FILTER: `{ ?s :p1 ?v1 . FILTER (?v1 < 3) }`, `{ ?s :p1 ?v1 FILTER (?v1 < 3) OPTIONAL { ?s :p2 ?v2 } }`,
 -- `{ ?s :p1 ?v1 OPTIONAL { ?s :p2 ?v2 FILTER (?v1 < 3) } }`, and the last one with a group of its own around what stands in OPTIONAL.
+-- `{ ?s :p1 ?v1 MINUS { ?s :p2 ?v2 } }`, and the same with FILTER (?v1 < 3) behind MINUS's group and in it.
 pub record TranslationExamples : Type 0 where
   pub one : translation (group (m.Basic first ∷ [])) ≡ in_group first
   pub united :
@@ -71,6 +74,14 @@ pub record TranslationExamples : Type 0 where
   pub inside :
       translation (group (m.Basic first ∷ m.Optional (group (m.Union (group_where below_three (m.Basic second ∷ []) ∷ []) ∷ [])) ∷ []))
       ≡ left_join [] (in_group first) (join empty_pattern (filter (below_three ∷ []) (in_group second)))
+  pub taken :
+      translation (group (m.Basic first ∷ m.Minus (group (m.Basic second ∷ [])) ∷ [])) ≡ minus (in_group first) (in_group second)
+  pub taken_at_the_end :
+      translation (group_where below_three (m.Basic first ∷ m.Minus (group (m.Basic second ∷ [])) ∷ []))
+      ≡ filter (below_three ∷ []) (minus (in_group first) (in_group second))
+  pub taken_inside :
+      translation (group (m.Basic first ∷ m.Minus (group_where below_three (m.Basic second ∷ [])) ∷ []))
+      ≡ minus (in_group first) (filter (below_three ∷ []) (in_group second))
 
 -- ---- OPTIONAL (section 6.1)
 
@@ -138,6 +149,99 @@ pub record FilterExamples : Type 0 where
       ≡ (Some (t.Iri (codes "mailto:work")) ∷ Some (text (codes "Alice")) ∷ Some (t.Blank 0) ∷ []) ∷ []
   pub condition : solutions mailboxes people Default (left_join (is_bob ∷ []) with_name with_mailbox) ≡ alice_alone ∷ bob_alone ∷ []
   pub behind : solutions mailboxes people Default (filter (is_bob ∷ []) optional_mailbox) ≡ bob_alone ∷ []
+
+-- ---- MINUS (sections 8.3.1 to 8.3.3)
+
+-- one triple pattern in a group
+abbrev pub asks : VarOrTerm → List ℕ → VarOrTerm → Algebra
+asks s predicate o = in_group (alone (triple s predicate o) 0)
+
+-- `:a :b :c`
+abbrev pub one_triple : Listing
+one_triple = record { names = []; quads = λ g. quad g (t.Iri (codes ":a")) (codes ":b") (t.Iri (codes ":c")) ∷ [] }
+
+-- a triple pattern of three variables
+abbrev pub any_triple : List ℕ → List ℕ → List ℕ → Algebra
+any_triple subject predicate object =
+    in_group (alone (record { subject = p.Variable subject; predicate = v.Variable predicate; object = p.Variable object }) 0)
+
+-- `{ ?s ?p ?o MINUS { ?x ?y ?z } }`, over all of these variables
+abbrev pub no_variable_shared : Algebra
+no_variable_shared = minus (any_triple (codes "s") (codes "p") (codes "o")) (any_triple (codes "x") (codes "y") (codes "z"))
+
+abbrev pub six_variables : Variables
+six_variables = codes "o" ∷ codes "p" ∷ codes "s" ∷ codes "x" ∷ codes "y" ∷ codes "z" ∷ []
+
+-- `{ ?s ?p ?o MINUS { :a :b :c } }`
+abbrev pub fixed_pattern : Algebra
+fixed_pattern = minus (any_triple (codes "s") (codes "p") (codes "o")) (asks (p.Term (t.Iri (codes ":a"))) (codes ":b") (p.Term (t.Iri (codes ":c"))))
+
+abbrev pub three_variables : Variables
+three_variables = codes "o" ∷ codes "p" ∷ codes "s" ∷ []
+
+-- `:a :p "1" . :a :q "1" . :a :q "2" . :b :p "3" . :b :q "4" . :b :q "5"`
+abbrev pub ps_and_qs : Listing
+ps_and_qs = record {
+  names = [];
+  quads = λ g.
+      quad g (t.Iri (codes ":a")) (codes ":p") (text (codes "1")) ∷ quad g (t.Iri (codes ":a")) (codes ":q") (text (codes "1")) ∷
+      quad g (t.Iri (codes ":a")) (codes ":q") (text (codes "2")) ∷ quad g (t.Iri (codes ":b")) (codes ":p") (text (codes "3")) ∷
+      quad g (t.Iri (codes ":b")) (codes ":q") (text (codes "4")) ∷ quad g (t.Iri (codes ":b")) (codes ":q") (text (codes "5")) ∷ [];
+}
+
+abbrev pub with_p : Algebra
+with_p = asks (p.Variable (codes "x")) (codes ":p") (p.Variable (codes "n"))
+
+abbrev pub with_q : Algebra
+with_q = asks (p.Variable (codes "x")) (codes ":q") (p.Variable (codes "m"))
+
+-- `?n = ?m`
+abbrev pub same_numbers : Expression
+same_numbers = e.Compare Equal (e.Variable (codes "n")) (e.Variable (codes "m"))
+
+abbrev pub numbers : Variables
+numbers = codes "m" ∷ codes "n" ∷ codes "x" ∷ []
+
+abbrev pub a_with_one : Mapping
+a_with_one = None ∷ Some (text (codes "1")) ∷ Some (t.Iri (codes ":a")) ∷ []
+
+abbrev pub b_with_three : Mapping
+b_with_three = None ∷ Some (text (codes "3")) ∷ Some (t.Iri (codes ":b")) ∷ []
+
+-- Alice has a mailbox, and Bob none
+abbrev pub any_mailbox : Algebra
+any_mailbox = asks (p.Variable (codes "y")) (codes "mbox") (p.Variable (codes "mbox"))
+
+abbrev pub with_another : Variables
+with_another = codes "mbox" ∷ codes "name" ∷ codes "x" ∷ codes "y" ∷ []
+
+-- `{ ?s :p ?o MINUS { ?s :q ?x } }`, over `:s :p "1" . :s :q "1" . :t :p "1"`
+abbrev pub p_without_q : Pattern
+p_without_q = group (m.Basic (alone (triple (p.Variable (codes "s")) (codes ":p") (p.Variable (codes "o"))) 0) ∷ m.Minus (group (m.Basic (alone (triple (p.Variable (codes "s")) (codes ":q") (p.Variable (codes "x"))) 0) ∷ [])) ∷ [])
+
+abbrev pub s_and_t : Listing
+s_and_t = record {
+  names = [];
+  quads = λ g.
+      quad g (t.Iri (codes ":s")) (codes ":p") (text (codes "1")) ∷ quad g (t.Iri (codes ":s")) (codes ":q") (text (codes "1")) ∷
+      quad g (t.Iri (codes ":t")) (codes ":p") (text (codes "1")) ∷ [];
+}
+
+-- Nothing is taken away where no variable is shared, be there a solution of all triples or of none that has a variable. A solution takes away
+-- those with which it shares one; the filter of MINUS's group doesn't see ?n, so there it has no solution. A variable that OPTIONAL left
+-- unbound is not shared: `{ ?x name ?name OPTIONAL { ?x mbox ?mbox } MINUS { ?y mbox ?mbox } }` leaves Bob. A variable that stands in MINUS
+-- alone is not visible, and has its values there (section 18.2.1).
+pub record MinusExamples : Type 0 where
+  pub unshared : length (solutions six_variables one_triple Default no_variable_shared) ≡ 1
+  pub fixed : length (solutions three_variables one_triple Default fixed_pattern) ≡ 1
+  pub shared : solutions numbers ps_and_qs Default (minus with_p with_q) ≡ []
+  pub inner : solutions numbers ps_and_qs Default (minus with_p (filter (same_numbers ∷ []) with_q)) ≡ a_with_one ∷ b_with_three ∷ []
+  pub unbound :
+      solutions with_another people Default (minus optional_mailbox any_mailbox)
+      ≡ (None ∷ Some (text (codes "Bob")) ∷ Some (t.Blank 1) ∷ None ∷ []) ∷ []
+  pub named_there : named p_without_q ≡ codes "o" ∷ codes "s" ∷ codes "x" ∷ []
+  pub visible_there : visible p_without_q ≡ codes "o" ∷ codes "s" ∷ []
+  pub shown : pattern_solutions p_without_q Default s_and_t ≡ (Some (text (codes "1")) ∷ Some (t.Iri (codes ":t")) ∷ []) ∷ []
 
 -- ---- counts
 

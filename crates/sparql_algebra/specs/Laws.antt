@@ -1,6 +1,6 @@
 -- What holds of every dataset, pattern and query.
-use Rattle.std.specs.Prelude.{◌≡◌, ◌↔◌, ℕ, ◌+◌, ◌<◌, Bool, true, false, ◌&&◌, cond, List, length, take, Option, Some, None, count_by, nat_eq}
-use Rattle.std.specs.List.{list_any, list_all}
+use Rattle.std.specs.Prelude.{◌≡◌, ◌↔◌, ℕ, ◌+◌, ◌<◌, Bool, true, false, ◌&&◌, cond, List, length, take, Option, Some, None, count_by, nat_eq, is_some}
+use Rattle.std.specs.List.{list_any, list_all, flat_map}
 use Rattle.std.specs.List.Sorted.{IsStrictlySortedBy}
 use Rattle.std.specs.Ordering.{eq_by_cmp}
 use Rattle.std.specs.FinSet as set
@@ -9,7 +9,7 @@ use Rattle.rdf_terms.specs.declared.term.Term.{Term}
 use Rattle.rdf_terms.specs.declared.quad.GraphName.{GraphName}
 use Rattle.rdf_terms.specs.declared.quad.GraphName.TheVariants.{Default}
 use Rattle.rdf_dataset.specs.State.{State, IsSound}
-use Rattle.sparql_trees.specs.Visible.{names_in, visible}
+use Rattle.sparql_trees.specs.Visible.{all_names_in, named, names_in, triple_names, visible}
 use Rattle.sparql_trees.specs.declared.pattern.BasicGraphPattern.{BasicGraphPattern}
 use Rattle.sparql_trees.specs.declared.pattern.Pattern.{Pattern}
 use Rattle.sparql_trees.specs.declared.pattern.TriplePattern.{TriplePattern}
@@ -17,10 +17,10 @@ use Rattle.sparql_trees.specs.declared.query.Select.{Select}
 use Rattle.sparql_algebra.specs.Algebra.{Algebra, basic, translation}
 use Rattle.sparql_algebra.specs.Bound.{IsValueOf, IsValue, IsValueBelow, AllValues}
 use Rattle.sparql_algebra.specs.Listing.{Listing, Lists}
-use Rattle.sparql_values.specs.Mapping.{Variables, Mapping, same_term, same_mapping}
-use Rattle.sparql_algebra.specs.Results.{Solves, IsSelection, HasSolution}
+use Rattle.sparql_values.specs.Mapping.{Variables, Mapping, same_term, same_mapping, value_of}
+use Rattle.sparql_algebra.specs.Results.{Solves, IsSelection, HasSolution, projected, pattern_count, pattern_solutions}
 use Rattle.sparql_algebra.specs.Sorted.{IsSolutionList, sorted_solutions}
-use Rattle.sparql_algebra.specs.Solutions.{var_or_term, term_at, holds, occurs, binds_exactly, count}
+use Rattle.sparql_algebra.specs.Solutions.{var_or_term, term_at, holds, occurs, binds_exactly, solutions, count}
 
 -- ---- listings
 
@@ -82,6 +82,14 @@ abbrev pub VariablesAreAll : Type 0
 VariablesAreAll = (P : Pattern) (name : List ℕ) →
     list_any (eq_by_cmp text_cmp name) (visible P) ≡ list_any (eq_by_cmp text_cmp name) (names_in P)
 
+-- the same of those that are named anywhere
+abbrev pub NamedInOrder : Type 0
+NamedInOrder = (P : Pattern) → IsStrictlySortedBy text_cmp (named P)
+
+abbrev pub NamedAreAll : Type 0
+NamedAreAll = (P : Pattern) (name : List ℕ) →
+    list_any (eq_by_cmp text_cmp name) (named P) ≡ list_any (eq_by_cmp text_cmp name) (all_names_in P)
+
 abbrev pub SomeSolutions : Type 0
 SomeSolutions = (P : Pattern) (g : GraphName) (s : State) → (rows : List Mapping) × Solves P g s (visible P) rows
 
@@ -102,10 +110,44 @@ SomeAnswer = (P : Pattern) (s : State) → (answer : Bool) × HasSolution P s an
 -- it is true where some mapping is counted
 abbrev pub AnswerTellsSolutions : Type 0
 AnswerTellsSolutions = (P : Pattern) (s : State) (answer : Bool) → HasSolution P s answer → (d : Listing) → Lists s d →
-    (answer ≡ true) ↔ ((m : Mapping) × (0 < count (visible P) d Default (translation P) m))
+    (answer ≡ true) ↔ ((m : Mapping) × (0 < pattern_count P Default d m))
 
 abbrev pub OneAnswer : Type 0
 OneAnswer = (P : Pattern) (s : State) (x y : Bool) → HasSolution P s x → HasSolution P s y → x ≡ y
+
+-- ---- variables that stand in MINUS alone
+
+-- the name is one of these
+abbrev pub is_among : List ℕ → Variables → Bool
+is_among name names = list_any (eq_by_cmp text_cmp name) names
+
+-- of the variables the mapping binds no others than these
+abbrev pub BindsOnly : Variables → Variables → Mapping → Type 0
+BindsOnly variables some m = (name : List ℕ) → is_among name some ≡ false → value_of variables m name ≡ None
+
+-- a solution binds no variable that isn't visible
+abbrev pub VisibleAreBound : Type 0
+VisibleAreBound = (P : Pattern) (g : GraphName) (d : Listing) (m : Mapping) → 0 < count (named P) d g (translation P) m →
+    BindsOnly (named P) (visible P) m
+
+-- So nothing is lost where the visible ones alone are shown: as often as a mapping of these there is counted the one of all named variables
+-- that has the same values and binds no others.
+abbrev pub ShownCountsSame : Type 0
+ShownCountsSame = (P : Pattern) (g : GraphName) (d : Listing) (m : Mapping) → length m ≡ length (named P) → BindsOnly (named P) (visible P) m →
+    pattern_count P g d (projected (named P) (visible P) m) ≡ count (named P) d g (translation P) m
+
+-- where no variable stands in MINUS alone, nothing is left out
+abbrev pub NothingLeftOut : Type 0
+NothingLeftOut = (P : Pattern) (g : GraphName) (d : Listing) → named P ≡ visible P →
+    pattern_solutions P g d ≡ solutions (visible P) d g (translation P)
+
+-- Each variable has a place while solutions are found: a solution of triple patterns whose variables all stand in the pattern, in MINUS or
+-- outside, binds just those that stand in them.
+abbrev pub TriplesBindTheirOwn : Type 0
+TriplesBindTheirOwn = (P : Pattern) (b : BasicGraphPattern) →
+    ((name : List ℕ) → is_among name (flat_map triple_names b.triples) ≡ true → is_among name (all_names_in P) ≡ true) →
+    (g : GraphName) (d : Listing) (m : Mapping) → 0 < count (named P) d g (basic b) m →
+    (name : List ℕ) → is_some (value_of (named P) m name) ≡ is_among name (flat_map triple_names b.triples)
 
 -- ---- sorted solutions
 

@@ -3,7 +3,7 @@ use Rattle.std.specs.Prelude.{◌≡◌, ℕ, Bool, true, false, List, [], ◌�
 use Rattle.rdf_terms.specs.declared.quad.GraphName.{GraphName}
 use Rattle.rdf_terms.specs.declared.quad.GraphName.TheVariants.{Default}
 use Rattle.rdf_dataset.specs.State.{State}
-use Rattle.sparql_trees.specs.Visible.{visible}
+use Rattle.sparql_trees.specs.Visible.{named, visible}
 use Rattle.sparql_trees.specs.declared.pattern.Pattern.{Pattern}
 use Rattle.sparql_trees.specs.declared.query.Select.{Select}
 use Rattle.sparql_algebra.specs.Algebra.{translation}
@@ -11,23 +11,28 @@ use Rattle.sparql_algebra.specs.Bags.{once_if_any}
 use Rattle.sparql_algebra.specs.Listing.{Listing, Lists}
 use Rattle.sparql_values.specs.Mapping.{Variables, Mapping, same_mapping, value_of}
 use Rattle.sparql_algebra.specs.Order.{mapping_cmp}
-use Rattle.sparql_algebra.specs.Solutions.{solutions, count}
+use Rattle.sparql_algebra.specs.Solutions.{solutions}
 
--- the solutions of a pattern in a graph
+-- the columns of a mapping; one that is no variable of the pattern is unbound
+abbrev pub projected : Variables → Variables → Mapping → Mapping
+projected variables columns m = map (value_of variables m) columns
+
+-- The solutions of a pattern in a graph. They are found over all variables that the pattern names, since a MINUS's right side binds its
+-- own, and shown at the visible ones.
 abbrev pub pattern_solutions : Pattern → GraphName → Listing → List Mapping
-pattern_solutions P g d = solutions (visible P) d g (translation P)
+pattern_solutions P g d = map (projected (named P) (visible P)) (solutions (named P) d g (translation P))
+
+-- how often a mapping of the visible variables is counted
+abbrev pub pattern_count : Pattern → GraphName → Listing → Mapping → ℕ
+pattern_count P g d m = count_by (same_mapping m) (pattern_solutions P g d)
 
 -- The rows are mappings of the visible variables, in the order of their names. However the graphs are listed, they hold each mapping as
 -- often as the algebra counts it.
 pub record Solves (P : Pattern) (g : GraphName) (s : State) (variables : Variables) (rows : List Mapping) : Type 0 where
   pub variables_are : variables ≡ visible P
-  pub counted : (d : Listing) → Lists s d → (m : Mapping) → count_by (same_mapping m) rows ≡ count (visible P) d g (translation P) m
+  pub counted : (d : Listing) → Lists s d → (m : Mapping) → count_by (same_mapping m) rows ≡ pattern_count P g d m
 
 -- ---- SELECT
-
--- the columns of a mapping; one that is no variable of the pattern is unbound
-abbrev pub projected : Variables → Variables → Mapping → Mapping
-projected variables columns m = map (value_of variables m) columns
 
 -- the columns of each solution, in the default graph
 abbrev pub projections : Select → Listing → List Mapping

@@ -1,5 +1,5 @@
 -- The solutions of a pattern, each as often as the algebra counts it (SPARQL 1.1 Query, sections 18.3 to 18.5).
-use Rattle.std.specs.Prelude.{ℕ, zero, suc, ◌+◌, Bool, not, cond, true, false, ◌&&◌, ◌||◌, List, [], ◌∷◌, ◌++◌, length, Option, Some, None, map, filter, count_by, is_some, nat_eq, take}
+use Rattle.std.specs.Prelude.{ℕ, zero, suc, ◌+◌, Bool, not, cond, true, false, ◌&&◌, ◌||◌, List, [], ◌∷◌, ◌++◌, length, Option, Some, None, map, filter, count_by, is_some, nat_eq, take, zip}
 use Rattle.std.specs.List.{list_all, list_any, flat_map}
 use Rattle.rdf_terms.specs.Quad.{QuadParts}
 use Rattle.rdf_terms.specs.declared.term.Term.{Term}
@@ -14,7 +14,7 @@ use Rattle.sparql_trees.specs.declared.pattern.VarOrIri.TheVariants as v
 use Rattle.sparql_trees.specs.declared.pattern.VarOrTerm.{VarOrTerm}
 use Rattle.sparql_trees.specs.declared.pattern.VarOrTerm.TheVariants as p
 use Rattle.sparql_algebra.specs.Algebra as algebra
-use Rattle.sparql_algebra.specs.Algebra.{Algebra, basic, join, left_join, union, graph}
+use Rattle.sparql_algebra.specs.Algebra.{Algebra, basic, join, left_join, union, minus, graph}
 use Rattle.sparql_algebra.specs.Listing.{Listing}
 use Rattle.sparql_values.specs.Mapping.{Variables, Mapping, same_term, same_mapping, column, value_at, value_in, value_of, single, compatible, merge}
 use Rattle.sparql_values.specs.Values.{is_satisfied}
@@ -120,6 +120,26 @@ or_alone a (m ∷ ms) = m ∷ ms
 abbrev pub left_joins : List Mapping → List Mapping → (Mapping → Bool) → List Mapping
 left_joins A B F = flat_map (λ a. or_alone a (filter F (merges B a))) A
 
+-- ---- Minus (section 18.5)
+
+-- at one variable: both have it
+abbrev pub both_have : Option Term × Option Term → Bool
+both_have (Some s, Some t) = true
+both_have (Some s, None) = false
+both_have (None, y) = false
+
+-- two mappings have a variable in common: their domains are not disjoint
+abbrev pub shares : Mapping → Mapping → Bool
+shares a b = list_any both_have (zip a b)
+
+-- no compatible mapping of the list passes the test beside this one
+abbrev pub left_by : (Mapping → Mapping → Bool) → List Mapping → Mapping → Bool
+left_by test B a = not (list_any (λ b. compatible a b && test a b) B)
+
+-- the mappings with which no compatible one has a variable in common
+abbrev pub minuses : List Mapping → List Mapping → List Mapping
+minuses A B = filter (left_by shares B) A
+
 -- ---- conditions (section 18.5: Filter)
 
 -- each expression is true of the mapping, none is false or an error
@@ -135,6 +155,7 @@ module _ (variables : Variables) (d : Listing) where
   solutions g (left_join F A B) = left_joins (solutions g A) (solutions g B) (satisfies variables F)
   solutions g (algebra.filter F A) = filter (satisfies variables F) (solutions g A)
   solutions g (union A B) = solutions g A ++ solutions g B
+  solutions g (minus A B) = minuses (solutions g A) (solutions g B)
   solutions g (graph (v.Iri iri) A) = cond (list_any (same_term (t.Iri iri)) d.names) (solutions (Named (t.Iri iri)) A) []
   solutions g (graph (v.Variable name) A) = flat_map (λ n. joins (solutions (Named n) A) (single variables name n ∷ [])) d.names
 

@@ -3,20 +3,17 @@ use Rattle.std.specs.Prelude.{◌≡◌, List, [], ◌∷◌, cond, count_by, Is
 use Rattle.std.specs.Ordering.{is_lt}
 use Rattle.rdf_terms.specs.declared.quad.GraphName.{GraphName}
 use Rattle.rdf_dataset.specs.State.{State}
-use Rattle.sparql_trees.specs.Visible.{visible}
 use Rattle.sparql_trees.specs.declared.pattern.Pattern.{Pattern}
-use Rattle.sparql_algebra.specs.Algebra.{translation}
 use Rattle.sparql_algebra.specs.Listing.{Listing, Lists, listing_of}
 use Rattle.sparql_algebra.specs.Order.{mapping_cmp}
-use Rattle.sparql_algebra.specs.Results.{pattern_solutions}
-use Rattle.sparql_algebra.specs.Solutions.{count}
+use Rattle.sparql_algebra.specs.Results.{pattern_solutions, pattern_count}
 use Rattle.sparql_values.specs.Mapping.{Mapping, same_mapping}
 
 -- The mappings of the visible variables stand in their order, by the values from the left, unbound first. However the graphs are listed,
 -- each stands there as often as the algebra counts it.
 pub record IsSolutionList (P : Pattern) (g : GraphName) (s : State) (rows : List Mapping) : Type 0 where
   pub sorted : IsSorted mapping_cmp rows
-  pub counted : (d : Listing) → Lists s d → (m : Mapping) → count_by (same_mapping m) rows ≡ count (visible P) d g (translation P) m
+  pub counted : (d : Listing) → Lists s d → (m : Mapping) → count_by (same_mapping m) rows ≡ pattern_count P g d m
 
 -- ---- the one such list
 

@@ -1,6 +1,6 @@
 -- Patterns under a mapping: those of a pattern's solutions that are compatible with it, each as often. Each operator under a mapping is made of
 -- its parts under mappings, so no part is to be evaluated alone.
-use Rattle.std.specs.Prelude.{◌≡◌, ℕ, zero, suc, Bool, true, false, not, cond, ◌&&◌, ◌||◌, List, [], ◌∷◌, ◌++◌, length, Option, Some, None, map, filter}
+use Rattle.std.specs.Prelude.{◌≡◌, ℕ, zero, suc, Bool, true, false, cond, ◌||◌, List, [], ◌∷◌, ◌++◌, length, Option, Some, None, map, filter}
 use Rattle.std.specs.List.{list_any, flat_map}
 use Rattle.rdf_terms.specs.declared.term.Term.{Term}
 use Rattle.rdf_terms.specs.declared.term.Term.TheVariants as t
@@ -11,10 +11,10 @@ use Rattle.sparql_trees.specs.declared.pattern.BasicGraphPattern.{BasicGraphPatt
 use Rattle.sparql_trees.specs.declared.pattern.VarOrIri.{VarOrIri}
 use Rattle.sparql_trees.specs.declared.pattern.VarOrIri.TheVariants as v
 use Rattle.sparql_algebra.specs.Algebra as algebra
-use Rattle.sparql_algebra.specs.Algebra.{Algebra, basic, join, left_join, union, graph}
+use Rattle.sparql_algebra.specs.Algebra.{Algebra, basic, join, left_join, union, minus, graph}
 use Rattle.sparql_algebra.specs.Bags.{SameBag}
 use Rattle.sparql_algebra.specs.Listing.{Listing}
-use Rattle.sparql_algebra.specs.Solutions.{is_at, occurs, merges, joins, or_alone, left_joins, satisfies, solutions}
+use Rattle.sparql_algebra.specs.Solutions.{is_at, occurs, merges, joins, or_alone, left_joins, shares, left_by, minuses, satisfies, solutions}
 use Rattle.sparql_values.specs.Mapping.{Variables, Mapping, same_term, column, value_of, empty_mapping, single, agrees, compatible, merge}
 
 -- the mappings that are compatible with this one
@@ -37,6 +37,7 @@ sees variables (join A B) c = sees variables A c || sees variables B c
 sees variables (left_join F A B) c = sees variables A c || sees variables B c
 sees variables (algebra.filter F A) c = sees variables A c
 sees variables (union A B) c = sees variables A c || sees variables B c
+sees variables (minus A B) c = sees variables A c
 sees variables (graph (v.Iri iri) A) c = sees variables A c
 sees variables (graph (v.Variable name) A) c = sees variables A c || is_at c (column variables name)
 
@@ -55,11 +56,8 @@ reads (join A B) = reads A || reads B
 reads (left_join F A B) = reads A || reads B
 reads (algebra.filter F A) = reads A
 reads (union A B) = reads A || reads B
+reads (minus A B) = reads A || reads B
 reads (graph name A) = false
-
--- those from which no compatible mapping takes any away, of the pairs for which the test is true
-abbrev pub left_by : (Mapping → Mapping → Bool) → List Mapping → Mapping → Bool
-left_by test B x = not (list_any (λ y. compatible x y && test x y) B)
 
 -- Whichever the test is, what a list takes away from a mapping is asked for under that mapping.
 abbrev pub MinusUnder : Type 0
@@ -109,6 +107,11 @@ module _ (variables : Variables) (d : Listing) where
       under g (left_join F A B) a
       ≡ flat_map (λ x. agreeing (or_alone x (filter (satisfies variables F) (map (merge x) (under g B x)))) a) (under g A a)
 
+  -- The right side under the left one alone, whatever it has in common with the mapping.
+  abbrev pub MinusUnderLeft : Type 0
+  MinusUnderLeft = (g : GraphName) (A B : Algebra) (a : Mapping) →
+      under g (minus A B) a ≡ filter (λ x. left_by shares (under g B x) x) (under g A a)
+
   -- ---- a right side that is found alone
 
   abbrev pub JoinAlone : Type 0
@@ -118,6 +121,9 @@ module _ (variables : Variables) (d : Listing) where
   abbrev pub LeftJoinAlone : Type 0
   LeftJoinAlone = (g : GraphName) (F : List Expression) (A B : Algebra) (a : Mapping) → IsRow a →
       under g (left_join F A B) a ≡ agreeing (left_joins (under g A a) (solutions variables d g B) (satisfies variables F)) a
+
+  abbrev pub MinusAlone : Type 0
+  MinusAlone = (g : GraphName) (A B : Algebra) (a : Mapping) → under g (minus A B) a ≡ minuses (under g A a) (solutions variables d g B)
 
   -- ---- conditions and graphs
 

@@ -1,5 +1,5 @@
 //! What holds of the algebra of patterns, and of the results of queries.
-ghost use Rattle.sparql_algebra.specs.Laws.{SomeListing, ListingsAgree, TriplesAreHeld, NamesAreHeld, AssignmentsCountOnce, AssignmentsListed, VariablesInOrder, VariablesAreAll, SomeSolutions, SolutionsAgree, SomeSelection, OneSelection, SomeAnswer, OneAnswer, AnswerTellsSolutions, SomeSolutionList, OneSolutionList, SolutionsOfState, SolutionsOfTerms, SolutionsBelow};
+ghost use Rattle.sparql_algebra.specs.Laws.{SomeListing, ListingsAgree, TriplesAreHeld, NamesAreHeld, AssignmentsCountOnce, AssignmentsListed, VariablesInOrder, VariablesAreAll, NamedInOrder, NamedAreAll, VisibleAreBound, ShownCountsSame, NothingLeftOut, TriplesBindTheirOwn, SomeSolutions, SolutionsAgree, SomeSelection, OneSelection, SomeAnswer, OneAnswer, AnswerTellsSolutions, SomeSolutionList, OneSolutionList, SolutionsOfState, SolutionsOfTerms, SolutionsBelow};
 ghost use Rattle.sparql_algebra.specs.Counts as counts;
 ghost use Rattle.sparql_algebra.specs.Growth.{MergesGrow};
 ghost use Rattle.sparql_algebra.specs.Listing.{Listing};
@@ -8,13 +8,15 @@ ghost use Rattle.sparql_values.specs.Mapping.{Variables};
 /// The counts of the algebra, operator by operator: sums over pairs of compatible mappings whose
 /// merge is the mapping (SPARQL 1.1 Query, sections 18.3.1 and 18.5). A basic graph pattern counts
 /// a mapping once for each assignment of its hidden variables; Filter counts it as before where the
-/// condition is true of it, and LeftJoin asks the condition of each merge.
+/// condition is true of it, and LeftJoin asks the condition of each merge. Minus counts it as before
+/// where no compatible mapping has a variable in common with it, and not at all where one has.
 pub fn counts_are_the_algebra()
     ensures basic { (vs : Variables) (d : Listing) → counts.BasicLaw vs d }
     ensures join { (vs : Variables) (d : Listing) → counts.JoinLaw vs d }
     ensures left_join { (vs : Variables) (d : Listing) → counts.LeftJoinLaw vs d }
     ensures filter { (vs : Variables) (d : Listing) → counts.FilterLaw vs d }
     ensures union { (vs : Variables) (d : Listing) → counts.UnionLaw vs d }
+    ensures minus { (vs : Variables) (d : Listing) → counts.MinusLaw vs d }
     ensures named { (vs : Variables) (d : Listing) → counts.NamedLaw vs d }
     ensures variable { (vs : Variables) (d : Listing) → counts.VariableLaw vs d }
     ensures listed { (vs : Variables) (d : Listing) → counts.ListedLaw vs d }
@@ -48,6 +50,17 @@ pub fn counts_depend_on_the_state()
     ensures assignments_listed { AssignmentsListed }
 {}
 
+/// Minus counts no mapping more than its left side does. What has no variable in common with a
+/// mapping takes none of it away, as the empty pattern does, and each compatible mapping that has
+/// takes all of it. Minus of a Union takes away what one side and then the other one does.
+pub fn minus_takes_away()
+    ensures adds_none { (vs : Variables) (d : Listing) → counts.MinusAddsNone vs d }
+    ensures nothing_shared { (vs : Variables) (d : Listing) → counts.NothingShared vs d }
+    ensures shared { (vs : Variables) (d : Listing) → counts.SharedIsTaken vs d }
+    ensures empty { (vs : Variables) (d : Listing) → counts.EmptyTakesNone vs d }
+    ensures of_union { (vs : Variables) (d : Listing) → counts.MinusOfUnion vs d }
+{}
+
 /// Each pattern has solutions in each graph, and any two lists of them hold each mapping as often.
 /// Their variables are those of the pattern's triple patterns and GRAPHs, in the order of their
 /// names, each once (SPARQL 1.1 Query, section 18.2.1).
@@ -56,6 +69,19 @@ pub fn solutions_agree()
     ensures all { VariablesAreAll }
     ensures some { SomeSolutions }
     ensures agree { SolutionsAgree }
+{}
+
+/// Solutions are found over all variables that a pattern names, in MINUS too, and shown at those
+/// that stand outside it: these alone are bound, so nothing is lost. Where no variable stands in
+/// MINUS alone, they are found over the visible ones. Triple patterns in MINUS bind their variables,
+/// as those outside do (SPARQL 1.1 Query, sections 18.2.1 and 18.5).
+pub fn variables_of_minus()
+    ensures order { NamedInOrder }
+    ensures all { NamedAreAll }
+    ensures bound { VisibleAreBound }
+    ensures counts { ShownCountsSame }
+    ensures same { NothingLeftOut }
+    ensures triples { TriplesBindTheirOwn }
 {}
 
 /// Each SELECT has one list of rows.

@@ -11,8 +11,9 @@ mod under;
 
 pub use examples::the_standards_examples_hold;
 pub use laws::{
-    counts_are_the_algebra, counts_depend_on_the_state, merges_grow, one_answer, one_selection,
-    one_solution_list, operators_keep_their_laws, solutions_agree, solutions_are_of_the_dataset,
+    counts_are_the_algebra, counts_depend_on_the_state, merges_grow, minus_takes_away, one_answer,
+    one_selection, one_solution_list, operators_keep_their_laws, solutions_agree,
+    solutions_are_of_the_dataset, variables_of_minus,
 };
 pub use under::{
     joined_under_the_left, operators_under_a_mapping, patterns_see_their_own, sides_found_alone,

@@ -15,22 +15,25 @@ pub fn joined_under_the_left()
 
 /// Each operator under a mapping is made of its parts under mappings (SPARQL 1.1 Query, section
 /// 18.5): the right side of Join under what the mapping and the left solution have, that of
-/// LeftJoin under the left solution alone, Filter's condition asked of the pattern's own solution,
-/// and GRAPH in the graphs whose name agrees with the mapping.
+/// LeftJoin and of Minus under the left solution alone, Filter's condition asked of the pattern's
+/// own solution, and GRAPH in the graphs whose name agrees with the mapping.
 pub fn operators_under_a_mapping()
     ensures basic { (vs : Variables) (d : Listing) → u.BasicUnder vs d }
     ensures union { (vs : Variables) (d : Listing) → u.UnionUnder vs d }
     ensures join { (vs : Variables) (d : Listing) → u.JoinUnder vs d }
     ensures left_join { (vs : Variables) (d : Listing) → u.LeftJoinUnder vs d }
+    ensures minus { (vs : Variables) (d : Listing) → u.MinusUnderLeft vs d }
     ensures filter { (vs : Variables) (d : Listing) → u.FilterUnder vs d }
     ensures named { (vs : Variables) (d : Listing) → u.NamedUnder vs d }
     ensures variable { (vs : Variables) (d : Listing) → u.VariableUnder vs d }
 {}
 
-/// Where the right side was found alone, what is compatible with the mapping is kept of the join.
+/// Where the right side was found alone, what is compatible with the mapping is kept of the join,
+/// or of what Minus leaves.
 pub fn sides_found_alone()
     ensures join { (vs : Variables) (d : Listing) → u.JoinAlone vs d }
     ensures left_join { (vs : Variables) (d : Listing) → u.LeftJoinAlone vs d }
+    ensures minus { (vs : Variables) (d : Listing) → u.MinusAlone vs d }
 {}
 
 /// GRAPH is the same in every active graph, and so is a pattern that has no triple patterns outside

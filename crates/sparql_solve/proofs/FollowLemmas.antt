@@ -4,7 +4,7 @@ use Rattle.std.specs.List.{flat_map, sum_by, count_by, list_any, list_all}
 use Rattle.std.specs.List.Sorted.{IsPermutation}
 use Rattle.std.proofs.lemmas.Bool.{eqb-true, eq-eqb}
 use Rattle.std.proofs.lemmas.Grind.{flat_map-append}
-use Rattle.std.proofs.lemmas.List.{take_more, take_all, take-append-drop, length-replicate}
+use Rattle.std.proofs.lemmas.List.{take_more, take_all, take-append-drop, take-take, drop-take, length-replicate}
 use Rattle.std.proofs.lemmas.List.Folds.{list_all-append}
 use Rattle.std.proofs.lemmas.List.Sorted.{sum_by-IsPermutation}
 use Rattle.std.proofs.lemmas.List.Sums.{sum_by-append}
@@ -24,12 +24,12 @@ use Rattle.sparql_trees.specs.declared.pattern.VarOrIri.TheVariants as v
 use Rattle.sparql_trees.specs.declared.pattern.VarOrTerm.{VarOrTerm}
 use Rattle.sparql_trees.specs.declared.pattern.VarOrTerm.TheVariants as slot
 use Rattle.sparql_values.specs.Mapping.{Variables, Mapping, same_term, column, value_in, value_of, empty_mapping, single, compatible, merge}
-use Rattle.sparql_algebra.specs.Algebra.{Algebra, basic, graph, Element, joined, optional, empty_pattern, filtered, extended, element, group_of, translation, union_of}
+use Rattle.sparql_algebra.specs.Algebra.{Algebra, basic, graph, Element, joined, optional, removed, empty_pattern, filtered, extended, element, group_of, translation, union_of}
 use Rattle.sparql_algebra.specs.Bags.{SameBag}
 use Rattle.sparql_algebra.specs.Listing.{Listing, Lists}
-use Rattle.sparql_algebra.specs.Solutions.{is_at, is_column, occurs, var_or_term, basic_solutions, merges, joins, satisfies, solutions}
+use Rattle.sparql_algebra.specs.Solutions.{is_at, is_column, occurs, var_or_term, basic_solutions, merges, joins, shares, left_by, satisfies, solutions}
 use Rattle.sparql_algebra.specs.Under.{agreeing, cut, names_left, reads, under}
-use Rattle.sparql_algebra.proofs.CallerLemmas.{and_left, and_right, sum_by-cong, sum_by-filter, SameBag-refl, SameBag-filter, SameBag-map, SameBag-joins, SameBag-flat_map, has_length, single_length, length_from, length_to, merge_length, merges_length, solutions_length, sum_where, sum_by-map, all_under_nothing, all_filter, basic_under, same_term_is, name_once, filter_always, translation-is, element-Basic, element-Union, element-Optional, element-Graph, empty_solutions, compatible_empty, compatible_turn, filter_flat_map, join_alone, joined_alone, left_joined_alone, filter_under, names_kept, variable_under}
+use Rattle.sparql_algebra.proofs.CallerLemmas.{and_left, and_right, sum_by-cong, sum_by-filter, SameBag-refl, SameBag-filter, SameBag-map, SameBag-joins, SameBag-flat_map, has_length, single_length, length_from, length_to, merge_length, merges_length, solutions_length, sum_where, sum_by-map, all_under_nothing, all_filter, basic_under, same_term_is, name_once, filter_always, translation-is, element-Basic, element-Union, element-Optional, element-Graph, element-Minus, empty_solutions, compatible_empty, compatible_turn, filter_flat_map, filter_again, filter_turn, join_alone, joined_alone, left_joined_alone, minus_alone, filter_under, names_kept, variable_under}
 use Rattle.sparql_solve.specs.declared.look_ups.Graphs.{Graphs}
 use Rattle.sparql_solve.specs.declared.look_ups.Graphs.TheVariants.{One}
 use Rattle.sparql_solve.specs.declared.look_ups.LookUp.{LookUp}
@@ -37,10 +37,11 @@ use Rattle.sparql_solve.specs.declared.place.Places.{Places}
 use Rattle.sparql_solve.specs.Matching.{has_column, is_place_at, place_by, place_of, places_of}
 use Rattle.sparql_solve.specs.Sides.{look_up_in, tried, found}
 use Rattle.sparql_solve.specs.Members.{AreSolutions, element_solutions}
-use Rattle.sparql_solve.specs.Under.{binds_none, is_unit, below, masked, flags_where, is_joined, is_wide, kept, asked, made, made_by, under_name, AreUnder, AreMade, IsLookUpOf}
+use Rattle.sparql_solve.specs.Under.{binds_none, is_unit, is_served, below, masked, flags_where, is_joined, is_removed, is_wide, met, where_none, kept, asked, made, made_by, under_name, AreUnder, AreMade, IsLookUpOf}
 use Rattle.sparql_solve.proofs.SideLemmas.{same_all, all_give, times_once, sum_times, basic_look_up}
 use Rattle.sparql_solve.proofs.MemberLemmas.{extended_push, union_is, once_for_all}
-use Rattle.sparql_solve.proofs.SharedLemmas.{replicate_none, below_none, merges_none, below_masked, length_masked, masked_cut, shared, SameBag-kept}
+use Rattle.sparql_solve.proofs.MinusLemmas.{all_left}
+use Rattle.sparql_solve.proofs.SharedLemmas.{met_is, replicate_none, below_none, merges_none, below_masked, length_masked, masked_cut, shared, SameBag-kept}
 
 -- ---- lengths
 
@@ -63,6 +64,7 @@ merged_wide vs a x ea ex =
 asked_wide : (vs : Variables) (k : Element) (a x : Mapping) → length a ≡ length vs → length x ≡ length vs → length (asked k a x) ≡ length vs
 asked_wide vs (joined A) a x ea ex = merged_wide vs a x ea ex
 asked_wide vs (optional F A) a x ea ex = ex
+asked_wide vs (removed A) a x ea ex = ex
 
 -- ---- the names tried
 
@@ -193,6 +195,14 @@ module _ (vs : Variables) (s : State) where
       sym (filter_flat_map (compatible a) (merges (solutions vs d g A)) (under vs d g G a)) ∙ sym (joined_alone vs d g G A a ea)
   extended_made d g G a (optional F A) ea =
       sym (filter_flat_map (compatible a) (λ x. kept vs (optional F A) x (merges (solutions vs d g A) x)) (under vs d g G a)) ∙ sym (left_joined_alone vs d g F G A a ea)
+  extended_made d g G a (removed A) ea =
+      let S : List Mapping = solutions vs d g A in
+      let rows : List Mapping = under vs d g G a in
+      sym (filter_flat_map (compatible a) (λ x. where_none x (merges (filter (shares x) S) x)) rows)
+      ∙ ap (filter (compatible a)) (all_left S rows)
+      ∙ filter_turn (left_by shares S) (compatible a) rows
+      ∙ ap (filter (left_by shares S)) (filter_again (compatible a) (solutions vs d g G))
+      ∙ sym (minus_alone vs d g G A a)
 
   under_wide : (d : Listing) (g : GraphName) (G : Algebra) (a : Mapping) → list_all (is_wide vs) (under vs d g G a) ≡ true
   under_wide d g G a =
@@ -229,42 +239,66 @@ module _ (vs : Variables) (s : State) where
       ∙ sum_by-append f (flat_map (made vs d g a k) xs) (flat_map (made vs d g a k) ys) in
       omega (arith, e1, e2, e3, e4)
 
-  pub made_one_more : (g : GraphName) (a : Mapping) (k : Element) (rows : List Mapping) (i : ℕ) (x : Mapping) (before more out : List Mapping) → i < length rows → x ≡ get_or rows i x →
-      out ≡ before ++ more → AreMade vs s g a k (take i rows) before → AreMade vs s g a k (x ∷ []) more → AreMade vs s g a k (take (i + 1) rows) out
-  made_one_more g a k rows i x before more out lt here eo h r =
-      made_append g a k (take i rows) (x ∷ []) (take (i + 1) rows) before more out
-      (take_more rows i x lt ∙ ap (λ (y : Mapping). take i rows ++ y ∷ []) (sym here)) eo h r
-
-  pub made_done : (g : GraphName) (a : Mapping) (k : Element) (rows : List Mapping) (i n : ℕ) (out : List Mapping) → length rows ≤ i → length rows ≤ n →
-      AreMade vs s g a k (take i rows) out → AreMade vs s g a k (take n rows) out
-  made_done g a k rows i n out le more h = subst (λ (xs : List Mapping). AreMade vs s g a k xs out) (take_all i rows le ∙ sym (take_all n rows more)) h
+  -- the rows at the front of those that are left
+  pub made_more : (g : GraphName) (a : Mapping) (k : Element) (rows block : List Mapping) (i n : ℕ) (before more out : List Mapping) → block ≡ take n (drop i rows) → out ≡ before ++ more →
+      AreMade vs s g a k (take i rows) before → AreMade vs s g a k block more → AreMade vs s g a k (take (i + n) rows) out
+  made_more g a k rows block i n before more out eb eo h r =
+      made_append g a k (take i rows) block (take (i + n) rows) before more out
+      (sym (take-append-drop i (take (i + n) rows)) ∙ ap (λ (xs : List Mapping). xs ++ drop i (take (i + n) rows)) (take-take i (i + n) rows (omega arith))
+      ∙ ap (λ (xs : List Mapping). take i rows ++ xs) (drop-take i n rows ∙ sym eb)) eo h r
 
   pub made_all : (g : GraphName) (a : Mapping) (k : Element) (rows : List Mapping) (i : ℕ) (out : List Mapping) → length rows ≤ i →
       AreMade vs s g a k (take i rows) out → AreMade vs s g a k rows out
   made_all g a k rows i out le h = subst (λ (xs : List Mapping). AreMade vs s g a k xs out) (take_all i rows le) h
 
-  -- with what was found for the columns of a row that these are
-  pub made_shared : (g : GraphName) (a : Mapping) (k : Element) (key x : Mapping) (found given out : List Mapping) → length key ≡ length x → below key x ≡ true →
-      AreUnder vs s (asked k a key) found (λ d. element_solutions vs d g k) → given ≡ found → out ≡ agreeing (kept vs k x (merges given x)) a →
-      AreMade vs s g a k (x ∷ []) out
-  made_shared g a k key x found given out el eb h eg e ea w d l f =
-      let ex : length x ≡ length vs = wide_from vs x (and_left (is_wide vs x) _ w) in
-      ap (sum_by f) (e ∙ ap (λ (xs : List Mapping). agreeing (kept vs k x (merges xs x)) a) eg)
-      ∙ shared vs a key x el eb k found (element_solutions vs d g k) (h (asked_wide vs k a key ea (el ∙ ex)) d l) f
-      ∙ ap (sum_by f) (sym (append-nil (made vs d g a k x)))
+  all_both : (p q : Mapping → Bool) (xs : List Mapping) → list_all p xs ≡ true → list_all q xs ≡ true → list_all (λ x. p x && q x) xs ≡ true
+  all_both p q [] h k = refl
+  all_both p q (x ∷ xs) h k =
+      ap (λ b. (b && q x) && list_all (λ y. p y && q y) xs) (and_left (p x) _ h) ∙ ap (λ b. b && list_all (λ y. p y && q y) xs) (and_left (q x) _ k)
+      ∙ all_both p q xs (and_right (p x) _ h) (and_right (q x) _ k)
+
+  -- the first of some rows, and what is behind it
+  first_apart : (rest block : List Mapping) (n : ℕ) (x : Mapping) → block ≡ take n rest → 0 < n → 0 < length rest → x ≡ get_or rest 0 x → block ≡ x ∷ drop 1 block
+  first_apart [] block n x eb l m e = absurd (omega (arith, m))
+  first_apart (y ∷ rest) block n x eb l m e = eb ∙ by_number n l ∙ ap (λ (z : Mapping). z ∷ drop 1 (take n (y ∷ rest))) (sym e) ∙ ap (λ (zs : List Mapping). x ∷ drop 1 zs) (sym eb)
+    where
+      by_number : (n : ℕ) → 0 < n → take n (y ∷ rest) ≡ y ∷ drop 1 (take n (y ∷ rest))
+      by_number zero l = absurd (omega (arith, l))
+      by_number (suc n) l = refl
+
+  -- with what was found for the columns of the first row that these are
+  pub made_served : (g : GraphName) (a : Mapping) (k : Element) (flags : List Bool) (key x : Mapping) (rest block found given out : List Mapping) (n : ℕ) →
+      length flags ≡ length vs → key ≡ masked flags x → block ≡ take n rest → 0 < n → 0 < length rest → x ≡ get_or rest 0 x →
+      list_all (is_served key) (drop 1 block) ≡ true → AreUnder vs s (asked k a key) found (λ d. element_solutions vs d g k) → given ≡ found →
+      SameBag out (flat_map (λ y. agreeing (kept vs k y (merges (met k y given) y)) a) block) → AreMade vs s g a k block out
+  made_served g a k flags key x rest block found given out n ef ek eb l m here served h eg e ea w d p f =
+      let cut : block ≡ x ∷ drop 1 block = first_apart rest block n x eb l m here in
+      let wide : list_all (is_wide vs) (x ∷ drop 1 block) ≡ true = subst (λ (xs : List Mapping). list_all (is_wide vs) xs ≡ true) cut w in
+      let ex : length x ≡ length vs = wide_from vs x (and_left (is_wide vs x) _ wide) in
+      let el : length key ≡ length x = ap length ek ∙ length_masked flags x (ef ∙ sym ex) in
+      let first : is_served key x ≡ true =
+      ap (λ b. b && below key x) (eq-eqb (length key) (length x) el) ∙ ap (λ (y : Mapping). below y x) ek ∙ below_masked flags x in
+      let all : list_all (is_served key) block ≡ true =
+      ap (list_all (is_served key)) cut ∙ ap (λ b. b && list_all (is_served key) (drop 1 block)) first ∙ served in
+      e f ∙ ap (λ (ys : List Mapping). sum_by f (flat_map (λ y. agreeing (kept vs k y (merges (met k y ys) y)) a) block)) eg
+      ∙ all_give (λ y. is_wide vs y && is_served key y) (λ y. agreeing (kept vs k y (merges (met k y found) y)) a) (made vs d g a k) block
+      (all_both (is_wide vs) (is_served key) block w all)
+      (λ y q. shared vs a key y (eqb-true (length key) (length y) (and_left (nat_eq (length key) (length y)) _ (and_right (is_wide vs y) _ q)))
+      (and_right (nat_eq (length key) (length y)) _ (and_right (is_wide vs y) _ q)) k found (element_solutions vs d g k)
+      (h (asked_wide vs k a key ea (el ∙ ex)) d p)) f
 
   -- with what was found for all rows
   pub made_beside : (g : GraphName) (a : Mapping) (k : Element) (rows : List Mapping) (nothing under_it : Mapping) (found given out : List Mapping) →
       nothing ≡ replicate (length vs + 0) None → under_it ≡ asked k a nothing → AreUnder vs s under_it found (λ d. element_solutions vs d g k) → given ≡ found →
-      SameBag out (flat_map (λ x. agreeing (kept vs k x (merges given x)) a) rows) → AreMade vs s g a k rows out
+      SameBag out (flat_map (λ x. agreeing (kept vs k x (merges (met k x given) x)) a) rows) → AreMade vs s g a k rows out
   made_beside g a k rows nothing under_it found given out en eu h eg e ea w d l f =
       let more : length vs + 0 ≡ length vs = omega arith in
       let wide : length nothing ≡ length vs = ap length en ∙ length-replicate {A = Option Term} (length vs + 0) None ∙ more in
       let none : binds_none nothing ≡ true = ap binds_none en ∙ replicate_none (length vs + 0) in
       let bag : SameBag found (agreeing (element_solutions vs d g k) (asked k a nothing)) =
       subst (λ (u : Mapping). SameBag found (agreeing (element_solutions vs d g k) u)) eu (h (ap length eu ∙ asked_wide vs k a nothing ea wide) d l) in
-      e f ∙ ap (λ (ys : List Mapping). sum_by f (flat_map (λ x. agreeing (kept vs k x (merges ys x)) a) rows)) eg
-      ∙ all_give (is_wide vs) (λ x. agreeing (kept vs k x (merges found x)) a) (made vs d g a k) rows w
+      e f ∙ ap (λ (ys : List Mapping). sum_by f (flat_map (λ x. agreeing (kept vs k x (merges (met k x ys) x)) a) rows)) eg
+      ∙ all_give (is_wide vs) (λ x. agreeing (kept vs k x (merges (met k x found) x)) a) (made vs d g a k) rows w
       (λ x wx. shared vs a nothing x (wide ∙ sym (wide_from vs x wx)) (below_none nothing x none) k found (element_solutions vs d g k) bag) f
 
   pub kept_follow : (a : Mapping) (k : Element) (x : Mapping) (rows out : List Mapping) (F : Listing → List Mapping) → AreSolutions s rows F →
@@ -272,19 +306,21 @@ module _ (vs : Variables) (s : State) where
   kept_follow a k x rows out F h e d l f =
       ap (sum_by f) e ∙ SameBag-filter (compatible a) (kept vs k x rows) (kept vs k x (F d)) (SameBag-kept vs k x rows (F d) (h d l)) f
 
-  pub made_looked_up : (g : GraphName) (a : Mapping) (k : Element) (rows out : List Mapping) (l : LookUp) → IsLookUpOf vs s l (λ d. element_solutions vs d g k) →
+  pub made_looked_up : (g : GraphName) (a : Mapping) (k : Element) (rows out : List Mapping) (l : LookUp) → is_removed k ≡ false → IsLookUpOf vs s l (λ d. element_solutions vs d g k) →
       AreSolutions s out (λ d. flat_map (made_by vs d l a k) rows) → AreMade vs s g a k rows out
-  made_looked_up g a k rows out l is h ea w d p f =
+  made_looked_up g a k rows out l stays is h ea w d p f =
       h d p f
       ∙ all_give (is_wide vs) (made_by vs d l a k) (made vs d g a k) rows w
-      (λ x wx. SameBag-filter (compatible a) (kept vs k x (found vs d l x)) (kept vs k x (merges (element_solutions vs d g k) x))
-      (SameBag-kept vs k x (found vs d l x) (merges (element_solutions vs d g k) x) (is d p x (wide_from vs x wx)))) f
+      (λ x wx f2. SameBag-filter (compatible a) (kept vs k x (found vs d l x)) (kept vs k x (merges (element_solutions vs d g k) x))
+      (SameBag-kept vs k x (found vs d l x) (merges (element_solutions vs d g k) x) (is d p x (wide_from vs x wx))) f2
+      ∙ ap (λ (xs : List Mapping). sum_by f2 (agreeing (kept vs k x (merges xs x)) a)) (sym (met_is k stays x (element_solutions vs d g k)))) f
 
   -- the first member of a group
   pub made_first : (g : GraphName) (a : Mapping) (k : Element) (rows out : List Mapping) → is_unit rows ≡ true → is_joined k ≡ true →
       AreUnder vs s a out (λ d. element_solutions vs d g k) → AreMade vs s g a k rows out
   made_first g a k [] out u j h = cc
   made_first g a (optional F A) (x ∷ []) out u j h = cc
+  made_first g a (removed A) (x ∷ []) out u j h = cc
   made_first g a (joined A) (x ∷ []) out u j h = λ ea w d l f.
       h ea d l f
       ∙ ap (λ (ms : List Mapping). sum_by f (agreeing ms a))
@@ -335,6 +371,11 @@ module _ (vs : Variables) (s : State) where
   optional_member g a member p members out em es h =
       subst (λ k. AreUnder vs s a out (λ d. element_solutions vs d g k)) (sym (ap element em ∙ element-Optional p))
       (subst (λ (ms : List Member). AreUnder vs s a out (λ d. solutions vs d g (group_of (map element ms)))) es h)
+
+  pub minus_member : (g : GraphName) (a : Mapping) (member : Member) (p : Pattern) (out : List Mapping) → member ≡ m.Minus p →
+      AreUnder vs s a out (λ d. solutions vs d g (translation p)) → AreUnder vs s a out (λ d. element_solutions vs d g (element member))
+  minus_member g a member p out em h =
+      subst (λ k. AreUnder vs s a out (λ d. element_solutions vs d g k)) (sym (ap element em ∙ element-Minus p)) h
 
   pub graph_member : (g : GraphName) (a : Mapping) (member : Member) (name : VarOrIri) (p : Pattern) (out : List Mapping) → member ≡ m.Graph name p →
       ((active : GraphName) → AreUnder vs s a out (λ d. solutions vs d active (graph name (translation p)))) →
@@ -407,12 +448,13 @@ module _ (vs : Variables) (s : State) where
   -- ---- the cycle's steps
 
   pub looked_up_follows : (g : GraphName) (a : Mapping) (k : Element) (rows one two before out : List Mapping) (n : ℕ) (o : Option LookUp) (l : LookUp) → one ≡ rows → two ≡ rows →
-      o ≡ Some l → IfSome o (λ u. IsLookUpOf vs s u (λ d. element_solutions vs d g k)) → AreSolutions s before (λ d. flat_map (made_by vs d l a k) (take n one)) →
+      o ≡ Some l → IfSome o (λ u. IsLookUpOf vs s u (λ d. element_solutions vs d g k)) → IfSome o (λ _. is_removed k ≡ false) → AreSolutions s before (λ d. flat_map (made_by vs d l a k) (take n one)) →
       (AreMade vs s g a k (take n two) before → AreMade vs s g a k two out) → AreMade vs s g a k rows out
-  looked_up_follows g a k rows one two before out n o l e1 e2 eo io h r =
+  looked_up_follows g a k rows one two before out n o l e1 e2 eo io so h r =
       let is : IsLookUpOf vs s l (λ d. element_solutions vs d g k) = subst (λ (u : Option LookUp). IfSome u (λ v. IsLookUpOf vs s v (λ d. element_solutions vs d g k))) eo io in
+      let stays : is_removed k ≡ false = subst (λ (u : Option LookUp). IfSome u (λ _. is_removed k ≡ false)) eo so in
       subst (λ (xs : List Mapping). AreMade vs s g a k xs out) e2
-      (r (subst (λ (xs : List Mapping). AreMade vs s g a k (take n xs) before) (e1 ∙ sym e2) (made_looked_up g a k (take n one) before l is h)))
+      (r (subst (λ (xs : List Mapping). AreMade vs s g a k (take n xs) before) (e1 ∙ sym e2) (made_looked_up g a k (take n one) before l stays is h)))
 
   pub gathered_follow : (g : GraphName) (a : Mapping) (k : Element) (rows sorted one two before out : List Mapping) (n : ℕ) → IsPermutation rows sorted → one ≡ sorted → two ≡ sorted →
       AreMade vs s g a k (take n one) before → (AreMade vs s g a k (take n two) before → AreMade vs s g a k two out) → AreMade vs s g a k rows out
@@ -421,14 +463,6 @@ module _ (vs : Variables) (s : State) where
       (subst (λ (xs : List Mapping). AreMade vs s g a k xs out) e2
       (r (subst (λ (xs : List Mapping). AreMade vs s g a k (take n xs) before) (e1 ∙ sym e2) h)))
 
-  pub made_anew : (g : GraphName) (a : Mapping) (k : Element) (flags : List Bool) (key x : Mapping) (found given out : List Mapping) → length flags ≡ length vs →
-      key ≡ masked flags x → AreUnder vs s (asked k a key) found (λ d. element_solutions vs d g k) → given ≡ found →
-      out ≡ agreeing (kept vs k x (merges given x)) a → AreMade vs s g a k (x ∷ []) out
-  made_anew g a k flags key x found given out ef ek h eg e ea w =
-      let ex : length x ≡ length vs = wide_from vs x (and_left (is_wide vs x) _ w) in
-      made_shared g a k key x found given out (ap length ek ∙ length_masked flags x (ef ∙ sym ex))
-      (ap (λ (m : Mapping). below m x) ek ∙ below_masked flags x) h eg e ea w
-
   pub asked_follows : (g : GraphName) (a : Mapping) (k : Element) (key it : Mapping) (rows : List Mapping) → it ≡ asked k a key →
       AreUnder vs s it rows (λ d. element_solutions vs d g k) → AreUnder vs s (asked k a key) rows (λ d. element_solutions vs d g k)
   asked_follows g a k key it rows e h = subst (λ (u : Mapping). AreUnder vs s u rows (λ d. element_solutions vs d g k)) e h
@@ -436,7 +470,7 @@ module _ (vs : Variables) (s : State) where
   pub rest_follows : (g : GraphName) (a : Mapping) (k : Element) (rows rest : List Mapping) (n : ℕ) (nothing under_it : Mapping) (before found given beside out : List Mapping) →
       rest ≡ drop n rows → nothing ≡ replicate (length vs + 0) None → under_it ≡ asked k a nothing →
       AreUnder vs s under_it found (λ d. element_solutions vs d g k) → given ≡ found →
-      SameBag beside (flat_map (λ x. agreeing (kept vs k x (merges given x)) a) rest) → out ≡ before ++ beside →
+      SameBag beside (flat_map (λ x. agreeing (kept vs k x (merges (met k x given) x)) a) rest) → out ≡ before ++ beside →
       AreMade vs s g a k (take n rows) before → AreMade vs s g a k rows out
   rest_follows g a k rows rest n nothing under_it before found given beside out er en eu h eg e eo r =
       made_append g a k (take n rows) rest rows before beside out (sym (ap (λ (xs : List Mapping). take n rows ++ xs) er ∙ take-append-drop n rows)) eo r
@@ -447,9 +481,3 @@ module _ (vs : Variables) (s : State) where
   first_follows g a k rows given out b eg eb t h =
       let both : (is_unit given && is_joined k) ≡ true = sym eb ∙ t in
       subst (λ (xs : List Mapping). AreMade vs s g a k xs out) eg (made_first g a k given out (and_left (is_unit given) _ both) (and_right (is_unit given) _ both) h)
-
-  pub found_as : (g : GraphName) (a : Mapping) (k : Element) (key it : Mapping) (rows those : List Mapping) → key ≡ it → rows ≡ those →
-      AreUnder vs s (asked k a it) those (λ d. element_solutions vs d g k) → AreUnder vs s (asked k a key) rows (λ d. element_solutions vs d g k)
-  found_as g a k key it rows those ek er h =
-      subst (λ (m : Mapping). AreUnder vs s (asked k a m) rows (λ d. element_solutions vs d g k)) (sym ek)
-      (subst (λ (xs : List Mapping). AreUnder vs s (asked k a it) xs (λ d. element_solutions vs d g k)) (sym er) h)

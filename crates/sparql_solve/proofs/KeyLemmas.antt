@@ -16,6 +16,7 @@ use Rattle.rdf_terms.specs.declared.term.Term.{Term}
 use Rattle.sparql_values.specs.Mapping.{Mapping, agrees, value_at, compatible, merge}
 use Rattle.sparql_algebra.specs.Order.{mapping_cmp}
 use Rattle.sparql_algebra.specs.Solutions.{merges}
+use Rattle.sparql_algebra.specs.Under.{agreeing}
 use Rattle.sparql_algebra.proofs.CallerLemmas.{and_left, and_right, same_term_is, mapping_total, filter-cong}
 use Rattle.sparql_solve.specs.Keys.{IsIndex, IsKeyOf, RunsGiveMerges, binds, all_bind, columns_of, key_columns, key, key_cmp, same_key, run}
 
@@ -309,12 +310,17 @@ run_is columns B index a h =
     let tie : Mapping → Bool = ties (λ x z. is_lt (key_cmp columns x z)) a in
     sym (filter-cong tie (same_key columns a) (tie_is columns a) index) ∙ h.stable a ∙ filter-cong tie (same_key columns a) (tie_is columns a) B
 
-pub merges_of_run : (columns : List ℕ) (A B index : List Mapping) (i : ℕ) (a : Mapping) → i < length A → a ≡ get_or A i a → IsKeyOf columns A B →
-    IsIndex columns B index → merges (run columns index a) a ≡ merges B a
-merges_of_run columns A B index i a lt here k h =
+-- those of a run that are compatible with the mapping are all that are
+pub compatible_in_run : (columns : List ℕ) (A B index : List Mapping) (i : ℕ) (a : Mapping) → i < length A → a ≡ get_or A i a → IsKeyOf columns A B →
+    IsIndex columns B index → agreeing (run columns index a) a ≡ agreeing B a
+compatible_in_run columns A B index i a lt here k h =
     let own : has_key columns a ≡ true = subst (λ (m : Mapping). has_key columns m ≡ true) (sym here) (left_has columns A B i a lt k) in
-    ap (λ (xs : List Mapping). map (merge a) (filter (compatible a) xs)) (run_is columns B index a h)
-    ∙ ap (map (merge a)) (filter_within (compatible a) (same_key columns a) B (λ j d l e. one_key columns a (get_or B j d) own (right_has columns A B j d l k) e))
+    ap (filter (compatible a)) (run_is columns B index a h)
+    ∙ filter_within (compatible a) (same_key columns a) B (λ j d l e. one_key columns a (get_or B j d) own (right_has columns A B j d l k) e)
+
+merges_of_run : (columns : List ℕ) (A B index : List Mapping) (i : ℕ) (a : Mapping) → i < length A → a ≡ get_or A i a → IsKeyOf columns A B →
+    IsIndex columns B index → merges (run columns index a) a ≡ merges B a
+merges_of_run columns A B index i a lt here k h = ap (map (merge a)) (compatible_in_run columns A B index i a lt here k h)
 
 pub runs_suffice : RunsGiveMerges
 runs_suffice A B index h k d lt =

@@ -16,3 +16,4 @@ pub mod DistinctLemmas
 pub mod ResultLemmas
 pub mod KeyLemmas
 pub mod PartLemmas
+pub mod MinusLemmas

@@ -9,11 +9,12 @@ use Rattle.std.proofs.lemmas.List.Sorted.{sum_by-IsPermutation}
 use Rattle.sparql_values.specs.Mapping.{Mapping, compatible, merge}
 use Rattle.sparql_algebra.specs.Bags.{SameBag}
 use Rattle.sparql_algebra.specs.Solutions.{merges, joins, left_joins, or_alone}
+use Rattle.sparql_algebra.specs.Under.{agreeing}
 use Rattle.sparql_algebra.proofs.CallerLemmas.{sum_by-map, SameBag-joins, SameBag-left_joins}
 use Rattle.sparql_solve.specs.declared.keys.Part.{Part}
 use Rattle.sparql_solve.specs.Keys.{IsIndex, IsKeyOf, run}
-use Rattle.sparql_solve.specs.Parts.{merges_in, part_merges}
-use Rattle.sparql_solve.proofs.KeyLemmas.{rows_of, merges_of_run}
+use Rattle.sparql_solve.specs.Parts.{merges_in, part_merges, part_run}
+use Rattle.sparql_solve.proofs.KeyLemmas.{rows_of, compatible_in_run}
 
 abbrev pub Rows : Type 0
 Rows = List (Bor Mapping)
@@ -54,21 +55,21 @@ all_cut rows rest parts h e =
 -- ---- each part by its key
 
 pub part_gives : (columns used : List ℕ) (A B index : List Mapping) → used ≡ columns → IsKeyOf columns A B → IsIndex used B index →
-    All (λ a. merges (run columns index a) a ≡ merges B a) A
+    All (λ a. agreeing (run columns index a) a ≡ agreeing B a) A
 part_gives columns used A B index e k h i d lt =
-    merges_of_run columns A B index i (get_or A i d) lt (get_or_default A i d (get_or A i d) lt) k (subst (λ (cs : List ℕ). IsIndex cs B index) e h)
+    compatible_in_run columns A B index i (get_or A i d) lt (get_or_default A i d (get_or A i d) lt) k (subst (λ (cs : List ℕ). IsIndex cs B index) e h)
 
 merges-append : (B D : List Mapping) (a : Mapping) → merges (B ++ D) a ≡ merges B a ++ merges D a
 merges-append B D a = ap (map (merge a)) (filter-append (compatible a) B D) ∙ map-append (merge a) (filter (compatible a) B) (filter (compatible a) D)
 
-rows_more : (parts : List (Bor Rows)) (i : ℕ) (x : Bor Rows) → i < length parts → x ≡ get_or parts i x →
+pub rows_more : (parts : List (Bor Rows)) (i : ℕ) (x : Bor Rows) → i < length parts → x ≡ get_or parts i x →
     all_rows (take (i + 1) parts) ≡ all_rows (take i parts) ++ rows_of x.now
 rows_more parts i x lt here =
     ap all_rows (take_more parts i x lt ∙ ap (λ (y : Bor Rows). take i parts ++ y ∷ []) (sym here))
     ∙ flat_map-append (λ (q : Bor Rows). rows_of q.now) (take i parts) (x ∷ []) ∙ ap (λ (m : List Mapping). all_rows (take i parts) ++ m) (one_part x)
 
 pub one_more_part : (A : List Mapping) (right : List (Bor Rows)) (i : ℕ) (x : Bor Rows) (parts after : List Part) (p : Part) → i < length right → x ≡ get_or right i x →
-    All (λ a. merges_in parts a ≡ merges (all_rows (take i right)) a) A → All (λ a. part_merges a p ≡ merges (rows_of x.now) a) A → after ≡ parts ++ p ∷ [] →
+    All (λ a. merges_in parts a ≡ merges (all_rows (take i right)) a) A → All (λ a. agreeing (part_run a p) a ≡ agreeing (rows_of x.now) a) A → after ≡ parts ++ p ∷ [] →
     All (λ a. merges_in after a ≡ merges (all_rows (take (i + 1) right)) a) A
 one_more_part A right i x parts after p lt here h hp e k d l =
     let a : Mapping = get_or A k d in
@@ -76,7 +77,7 @@ one_more_part A right i x parts after p lt here h hp e k d l =
     ap (λ (ps : List Part). merges_in ps a) e
     ∙ flat_map-append (part_merges a) parts (p ∷ [])
     ∙ ap (λ (m : List Mapping). m ++ flat_map (part_merges a) (p ∷ [])) (h k d l)
-    ∙ ap (λ (m : List Mapping). merges front a ++ m) (append-nil (part_merges a p) ∙ hp k d l)
+    ∙ ap (λ (m : List Mapping). merges front a ++ m) (append-nil (part_merges a p) ∙ ap (map (merge a)) (hp k d l))
     ∙ sym (merges-append front (rows_of x.now) a)
     ∙ ap (λ (B : List Mapping). merges B a) (sym (rows_more right i x lt here))
 
@@ -94,7 +95,7 @@ module _ {X Y : Type 0} where
       ap (λ (l : List Y). l ++ flat_map F xs) (h 0 x (omega arith)) ∙ ap (λ (l : List Y). G x ++ l) (flat_map_where F G xs (λ k d lt. h (suc k) d (omega arith)))
 
 -- one group more, where what it gives is what its rows do
-one_group : (F G : Mapping → List Mapping) (groups : List (Bor Rows)) (i : ℕ) (x : Bor Rows) (out after : List Mapping) → i < length groups →
+pub one_group : (F G : Mapping → List Mapping) (groups : List (Bor Rows)) (i : ℕ) (x : Bor Rows) (out after : List Mapping) → i < length groups →
     x ≡ get_or groups i x → out ≡ flat_map F (all_rows (take i groups)) → All (λ a. G a ≡ F a) (rows_of x.now) → after ≡ out ++ flat_map G (rows_of x.now) →
     after ≡ flat_map F (all_rows (take (i + 1) groups))
 one_group F G groups i x out after lt here h r e =

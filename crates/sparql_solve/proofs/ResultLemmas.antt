@@ -7,7 +7,7 @@ use Rattle.std.proofs.lemmas.List.Sorted.{sum_by-IsPermutation}
 use Rattle.rdf_terms.specs.declared.quad.GraphName.{GraphName}
 use Rattle.rdf_terms.specs.declared.quad.GraphName.TheVariants.{Default}
 use Rattle.rdf_dataset.specs.State.{State}
-use Rattle.sparql_trees.specs.Visible.{visible}
+use Rattle.sparql_trees.specs.Visible.{named, visible}
 use Rattle.sparql_trees.specs.declared.pattern.Pattern.{Pattern}
 use Rattle.sparql_trees.specs.declared.query.Select.{Select}
 use Rattle.sparql_algebra.specs.Algebra.{translation}
@@ -18,15 +18,44 @@ use Rattle.sparql_algebra.specs.Order.{mapping_cmp}
 use Rattle.sparql_algebra.specs.Results.{Solves, IsSelection, HasSolution, pattern_solutions, projected, projections, times_selected, is_some_solution}
 use Rattle.sparql_algebra.specs.Solutions.{solutions}
 use Rattle.sparql_algebra.specs.Sorted.{sorted_solutions}
-use Rattle.sparql_algebra.proofs.CallerLemmas.{sums_from_counts, same_mapping_is, same_mapping_own, SameBag-map, some_same, some_solution_list, one_solution_list}
+use Rattle.sparql_algebra.proofs.CallerLemmas.{sums_from_counts, same_mapping_is, same_mapping_own, SameBag-map, nothing_left_out, some_same, some_solution_list, one_solution_list}
 use Rattle.sparql_solve.specs.Members.{AreSolutions}
 
-pub solved : (P : Pattern) (g : GraphName) (s : State) (vs names : Variables) (rows : List Mapping) → vs ≡ visible P → names ≡ vs →
-    AreSolutions s rows (λ d. solutions names d g (translation P)) → Solves P g s vs rows
-solved P g s vs names rows e en h = record {
+project_is : (vs names : Variables) (m : Mapping) → map (value_in m) (map (column vs) names) ≡ projected vs names m
+project_is vs [] m = refl
+project_is vs (n ∷ ns) m = ap (λ (r : Mapping). value_of vs m n ∷ r) (project_is vs ns m)
+
+map_same : (f g : Mapping → Mapping) (xs : List Mapping) → ((x : Mapping) → f x ≡ g x) → map f xs ≡ map g xs
+map_same f g [] e = refl
+map_same f g (x ∷ xs) e = ap (λ (y : Mapping). y ∷ map f xs) (e x) ∙ ap (λ (l : List Mapping). g x ∷ l) (map_same f g xs e)
+
+-- where no variable stands in MINUS alone
+pub solved_alike : (P : Pattern) (g : GraphName) (s : State) (vs all names those : Variables) (rows : List Mapping) → vs ≡ visible P → all ≡ named P → names ≡ all → those ≡ vs →
+    names ≡ those → AreSolutions s rows (λ d. solutions names d g (translation P)) → Solves P g s vs rows
+solved_alike P g s vs all names those rows e ea en et same h =
+    let shown : names ≡ visible P = same ∙ et ∙ e in
+    let alike : named P ≡ visible P = sym (en ∙ ea) ∙ shown in
+    record {
+      variables_are = e;
+      counted = λ d l m.
+          h d l (λ x. cond (same_mapping m x) 1 0)
+          ∙ ap (λ (ns : Variables). count_by (same_mapping m) (solutions ns d g (translation P))) shown
+          ∙ ap (λ (ms : List Mapping). count_by (same_mapping m) ms) (sym (nothing_left_out P g d alike));
+    }
+
+-- the visible ones of the named variables
+pub solved_shown : (P : Pattern) (g : GraphName) (s : State) (vs all names those : Variables) (found given rows : List Mapping) → vs ≡ visible P → all ≡ named P → names ≡ all →
+    those ≡ vs → AreSolutions s found (λ d. solutions names d g (translation P)) → given ≡ found →
+    rows ≡ map (λ r. map (value_in r) (map (column names) those)) given → Solves P g s vs rows
+solved_shown P g s vs all names those found given rows e ea en et h eg er = record {
   variables_are = e;
   counted = λ d l m.
-      subst (λ (ns : Variables). SameBag rows (solutions ns d g (translation P))) (en ∙ e) (h d l) (λ x. cond (same_mapping m x) 1 0);
+      ap (λ (ms : List Mapping). count_by (same_mapping m) ms)
+      (er ∙ map_same (λ r. map (value_in r) (map (column names) those)) (projected names those) given (λ r. project_is names those r)
+      ∙ ap (map (projected names those)) eg)
+      ∙ SameBag-map (projected names those) found (solutions names d g (translation P)) (h d l) (λ x. cond (same_mapping m x) 1 0)
+      ∙ ap (λ (ns : Variables). count_by (same_mapping m) (map (projected ns those) (solutions ns d g (translation P)))) (en ∙ ea)
+      ∙ ap (λ (ns : Variables). count_by (same_mapping m) (map (projected (named P) ns) (solutions (named P) d g (translation P)))) (et ∙ e);
 }
 
 pub sorted_found : (P : Pattern) (g : GraphName) (s : State) (vs : Variables) (found rows : List Mapping) → Solves P g s vs found → IsPermutation found rows →
@@ -39,14 +68,6 @@ sorted_found P g s vs found rows h p k =
 solved_bag : (P : Pattern) (g : GraphName) (s : State) (vs : Variables) (rows : List Mapping) → Solves P g s vs rows → (d : Listing) → Lists s d →
     SameBag rows (pattern_solutions P g d)
 solved_bag P g s vs rows h d l = sums_from_counts same_mapping same_mapping_is same_mapping_own rows (pattern_solutions P g d) (h.counted d l)
-
-project_is : (vs names : Variables) (m : Mapping) → map (value_in m) (map (column vs) names) ≡ projected vs names m
-project_is vs [] m = refl
-project_is vs (n ∷ ns) m = ap (λ (r : Mapping). value_of vs m n ∷ r) (project_is vs ns m)
-
-map_same : (f g : Mapping → Mapping) (xs : List Mapping) → ((x : Mapping) → f x ≡ g x) → map f xs ≡ map g xs
-map_same f g [] e = refl
-map_same f g (x ∷ xs) e = ap (λ (y : Mapping). y ∷ map f xs) (e x) ∙ ap (λ (l : List Mapping). g x ∷ l) (map_same f g xs e)
 
 pub selected : (q : Select) (s : State) (vs given names : Variables) (found held fewer out : List Mapping) (columns cs : List (Option ℕ)) →
     Solves q.pattern Default s vs found → given ≡ vs → names ≡ q.columns → columns ≡ map (column given) names → cs ≡ columns → held ≡ found →

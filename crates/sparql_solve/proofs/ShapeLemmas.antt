@@ -9,9 +9,9 @@ use Rattle.sparql_trees.specs.declared.pattern.Member.{Member}
 use Rattle.sparql_trees.specs.declared.pattern.Member.TheVariants as m
 use Rattle.sparql_trees.specs.declared.pattern.Pattern.{Pattern}
 use Rattle.sparql_trees.specs.declared.pattern.TriplePattern.{TriplePattern}
-use Rattle.sparql_algebra.specs.Algebra.{Algebra, empty_pattern, union, extended, Element, joined, optional, filtered, element, group_of, translation, union_of}
+use Rattle.sparql_algebra.specs.Algebra.{Algebra, empty_pattern, union, extended, Element, joined, optional, removed, filtered, element, group_of, translation, union_of}
 use Rattle.sparql_algebra.specs.Under.{stands_any, is_positive, reads}
-use Rattle.sparql_algebra.proofs.CallerLemmas.{translation-is, element-Basic, element-Union, element-Optional}
+use Rattle.sparql_algebra.proofs.CallerLemmas.{translation-is, element-Basic, element-Union, element-Optional, element-Minus}
 use Rattle.sparql_solve.specs.Members.{part}
 
 both_false : (a b : Bool) → a ≡ false → b ≡ false → (a || b) ≡ false
@@ -40,6 +40,7 @@ reads_group p = reads (translation p)
 extended_unread : (G : Algebra) (k : Element) → reads G ≡ false → reads (part k) ≡ false → reads (extended G k) ≡ false
 extended_unread G (joined A) h k = both_false (reads G) (reads A) h k
 extended_unread G (optional F A) h k = both_false (reads G) (reads A) h k
+extended_unread G (removed A) h k = both_false (reads G) (reads A) h k
 
 first_false : (a b : Bool) → (a || b) ≡ false → a ≡ false
 first_false true b h = h
@@ -92,3 +93,6 @@ pub optional_unread : (member : Member) (p : Pattern) → member ≡ m.Optional 
 optional_unread member p e h =
     ap (λ (x : Element). reads (part x)) (ap element e ∙ element-Optional p)
     ∙ sym (filtered_unread p.filters (group_of (map element p.members))) ∙ sym (ap reads (translation-is p)) ∙ h
+
+pub minus_unread : (member : Member) (p : Pattern) → member ≡ m.Minus p → reads (translation p) ≡ false → reads_member member ≡ false
+minus_unread member p e h = ap (λ (x : Element). reads (part x)) (ap element e ∙ element-Minus p) ∙ h

@@ -1,16 +1,17 @@
 -- What was found for some columns of a row serves each row that has the same there.
 use Rattle.std.proofs.Common.{◌≡◌, ℕ, zero, suc, Bool, true, false, cond, ◌&&◌, List, [], ◌∷◌, map, filter, Option, Some, None, refl, sym, ap, ◌∙◌, length, replicate, arith}
 use mathlib.Core.Bool.{true≢false}
-use Rattle.std.specs.List.{sum_by, list_all}
+use Rattle.std.specs.List.{flat_map, sum_by, list_all}
+use Rattle.std.proofs.lemmas.List.Sums.{sum_by-cons}
 use Rattle.rdf_terms.specs.declared.term.Term.{Term}
 use Rattle.sparql_values.specs.Mapping.{Variables, Mapping, same_term, agrees, first_of, compatible, merge}
 use Rattle.sparql_values.proofs.CallerLemmas.{same_term_own}
-use Rattle.sparql_algebra.specs.Algebra.{Element, joined, optional}
+use Rattle.sparql_algebra.specs.Algebra.{Element, joined, optional, removed}
 use Rattle.sparql_algebra.specs.Bags.{SameBag}
-use Rattle.sparql_algebra.specs.Solutions.{merges, or_alone, satisfies}
+use Rattle.sparql_algebra.specs.Solutions.{merges, or_alone, shares, satisfies}
 use Rattle.sparql_algebra.specs.Under.{agreeing, cut}
-use Rattle.sparql_algebra.proofs.CallerLemmas.{and_left, and_right, has_length, length_from, same_term_is, SameBag-filter, SameBag-merges, SameBag-or_alone, filter_always, filter-cong}
-use Rattle.sparql_solve.specs.Under.{binds_none, lies, below, shown, masked, flags_where, kept, asked}
+use Rattle.sparql_algebra.proofs.CallerLemmas.{and_left, and_right, has_length, length_from, same_term_is, SameBag-refl, SameBag-filter, SameBag-flat_map, SameBag-merges, SameBag-or_alone, filter_always, filter_turn, filter-cong}
+use Rattle.sparql_solve.specs.Under.{binds_none, lies, below, shown, masked, flags_where, is_removed, met, where_none, kept, asked}
 
 -- ---- rows that bind nothing
 
@@ -154,19 +155,50 @@ module _ (a key x : Mapping) (e : length key ≡ length x) (h : below key x ≡ 
       by_test false false i j r = r ∙ sym (left_cons s S false j)
 
 module _ (vs : Variables) (a key x : Mapping) (e : length key ≡ length x) (h : below key x ≡ true) where
-  kept_below : (k : Element) (S : List Mapping) → agreeing (kept vs k x (merges (agreeing S (asked k a key)) x)) a ≡ agreeing (kept vs k x (merges S x)) a
+  kept_below : (k : Element) (S : List Mapping) →
+      agreeing (kept vs k x (merges (met k x (agreeing S (asked k a key))) x)) a ≡ agreeing (kept vs k x (merges (met k x S) x)) a
   kept_below (joined A) S = merged_below a key x e h S
   kept_below (optional F A) S = ap (λ (ms : List Mapping). agreeing (or_alone x (filter (satisfies vs F) ms)) a) (merges_below a key x e h S)
+  kept_below (removed A) S =
+      ap (λ (ms : List Mapping). agreeing (where_none x ms) a)
+      (ap (λ (xs : List Mapping). merges xs x) (filter_turn (compatible key) (shares x) S) ∙ merges_below a key x e h (filter (shares x) S))
+
+SameBag-where_none : (x : Mapping) (A B : List Mapping) → SameBag A B → SameBag (where_none x A) (where_none x B)
+SameBag-where_none x [] [] r = SameBag-refl (x ∷ [])
+SameBag-where_none x [] (y ∷ B) r = absurd (omega (arith, r (λ _. 1), sum_by-cons (λ (_ : Mapping). 1) y B))
+SameBag-where_none x (y ∷ A) [] r = absurd (omega (arith, r (λ _. 1), sum_by-cons (λ (_ : Mapping). 1) y A))
+SameBag-where_none x (y ∷ A) (z ∷ B) r = SameBag-refl []
+
+SameBag-met : (k : Element) (x : Mapping) (A B : List Mapping) → SameBag A B → SameBag (met k x A) (met k x B)
+SameBag-met (joined P) x A B r = r
+SameBag-met (optional F P) x A B r = r
+SameBag-met (removed P) x A B r = SameBag-filter (shares x) A B r
 
 pub SameBag-kept : (vs : Variables) (k : Element) (x : Mapping) (A B : List Mapping) → SameBag A B → SameBag (kept vs k x A) (kept vs k x B)
 SameBag-kept vs (joined P) x A B r = r
 SameBag-kept vs (optional F P) x A B r =
     SameBag-or_alone x (filter (satisfies vs F) A) (filter (satisfies vs F) B) (SameBag-filter (satisfies vs F) A B r)
+SameBag-kept vs (removed P) x A B r = SameBag-where_none x A B r
 
 -- what was found for the columns of a row that these are
 pub shared : (vs : Variables) (a key x : Mapping) → length key ≡ length x → below key x ≡ true → (k : Element) (found S : List Mapping) →
-    SameBag found (agreeing S (asked k a key)) → SameBag (agreeing (kept vs k x (merges found x)) a) (agreeing (kept vs k x (merges S x)) a)
+    SameBag found (agreeing S (asked k a key)) →
+    SameBag (agreeing (kept vs k x (merges (met k x found) x)) a) (agreeing (kept vs k x (merges (met k x S) x)) a)
 shared vs a key x e h k found S r f =
-    SameBag-filter (compatible a) (kept vs k x (merges found x)) (kept vs k x (merges (agreeing S (asked k a key)) x))
-    (SameBag-kept vs k x (merges found x) (merges (agreeing S (asked k a key)) x) (SameBag-merges x found (agreeing S (asked k a key)) r)) f
+    SameBag-filter (compatible a) (kept vs k x (merges (met k x found) x)) (kept vs k x (merges (met k x (agreeing S (asked k a key))) x))
+    (SameBag-kept vs k x (merges (met k x found) x) (merges (met k x (agreeing S (asked k a key))) x)
+    (SameBag-merges x (met k x found) (met k x (agreeing S (asked k a key))) (SameBag-met k x found (agreeing S (asked k a key)) r))) f
     ∙ ap (sum_by f) (kept_below vs a key x e h k S)
+
+-- where nothing is taken away, each solution counts
+pub met_is : (k : Element) → is_removed k ≡ false → (x : Mapping) (S : List Mapping) → met k x S ≡ S
+met_is (joined A) e x S = refl
+met_is (optional F A) e x S = refl
+met_is (removed A) e x S = cc
+
+pub one_by_one : (vs : Variables) (a : Mapping) (k : Element) (S rows out : List Mapping) (b : Bool) → b ≡ is_removed k → b ≡ false →
+    out ≡ flat_map (λ x. agreeing (kept vs k x (merges S x)) a) rows → SameBag out (flat_map (λ x. agreeing (kept vs k x (merges (met k x S) x)) a) rows)
+one_by_one vs a k S rows out b eb e h f =
+    ap (sum_by f) h
+    ∙ SameBag-flat_map (λ x. agreeing (kept vs k x (merges S x)) a) (λ x. agreeing (kept vs k x (merges (met k x S) x)) a) rows rows (SameBag-refl rows)
+    (λ x f2. ap (λ (xs : List Mapping). sum_by f2 (agreeing (kept vs k x (merges xs x)) a)) (sym (met_is k (sym eb ∙ e) x S))) f

@@ -18,7 +18,7 @@ use Rattle.sparql_trees.specs.declared.pattern.Pattern.{Pattern}
 use Rattle.sparql_trees.specs.declared.pattern.VarOrIri.{VarOrIri}
 use Rattle.sparql_trees.specs.declared.pattern.VarOrIri.TheVariants as v
 use Rattle.sparql_values.specs.Mapping.{Variables, Mapping, same_term, column, value_at, value_in, value_of, set_in, single, empty_mapping, compatible, merge}
-use Rattle.sparql_algebra.specs.Algebra.{Algebra, basic, join, graph, empty_pattern, Element, joined, optional, filtered, extended, element, group_of, translation}
+use Rattle.sparql_algebra.specs.Algebra.{Algebra, basic, join, graph, empty_pattern, Element, joined, optional, removed, filtered, extended, element, group_of, translation}
 use Rattle.sparql_algebra.specs.Bags.{SameBag}
 use Rattle.sparql_algebra.specs.Listing.{Listing, Lists}
 use Rattle.sparql_algebra.specs.Solutions.{basic_solutions, merges, joins, solutions}
@@ -249,12 +249,14 @@ module _ (vs : Variables) (s : State) where
       by_kind : (k : Element) → where_joined y k ≡ Some x → (y ∷ []) ≡ (x ∷ [])
       by_kind (joined A) e = let is : y ≡ x = cc in ap (λ (z : Member). z ∷ []) is
       by_kind (optional F A) e = cc
+      by_kind (removed A) e = cc
   lone_is (y ∷ z ∷ xs) x h = cc
 
   joined_bag : (d : Listing) (g : GraphName) (x y : Member) (k : Element) → where_joined x k ≡ Some y →
       SameBag (element_solutions vs d g k) (solutions vs d g (extended empty_pattern k))
   joined_bag d g x y (joined A) h f = sym (unit_bag vs d g A f)
   joined_bag d g x y (optional F A) h f = cc
+  joined_bag d g x y (removed A) h f = cc
 
   pub optional_look_up : (g : GraphName) (member : Member) (p : Pattern) (given : List Member) (x : Member) (l : LookUp) → member ≡ m.Optional p → given ≡ p.members →
       lone_joined given ≡ Some x → IsLookUpOf vs s l (λ d. element_solutions vs d g (element x)) → IsLookUpOf vs s l (λ d. element_solutions vs d g (element member))

@@ -7,7 +7,7 @@ use Rattle.rdf_terms.specs.declared.quad.GraphName.TheVariants.{Named}
 use Rattle.rdf_dataset.specs.State.{State}
 use Rattle.sparql_trees.specs.declared.pattern.Pattern.{Pattern}
 use Rattle.sparql_values.specs.Mapping.{Variables, Mapping, single}
-use Rattle.sparql_algebra.specs.Algebra.{Algebra, Element, joined, optional, translation}
+use Rattle.sparql_algebra.specs.Algebra.{Algebra, Element, joined, optional, removed, translation}
 use Rattle.sparql_algebra.specs.Bags.{SameBag}
 use Rattle.sparql_algebra.specs.Listing.{Listing, Lists}
 use Rattle.sparql_algebra.specs.Solutions.{joins, solutions}
@@ -24,12 +24,14 @@ AreMoreSolutions s rows rest F = (d : Listing) → Lists s d → SameBag (rows +
 abbrev pub part : Element → Algebra
 part (joined A) = A
 part (optional F A) = A
+part (removed A) = A
 
 module _ (vs : Variables) (d : Listing) where
   -- the solutions of an element alone, without its condition
   abbrev pub element_solutions : GraphName → Element → List Mapping
   element_solutions g (joined A) = solutions vs d g A
   element_solutions g (optional F A) = solutions vs d g A
+  element_solutions g (removed A) = solutions vs d g A
 
   -- the solutions over some of the names, the variable bound to the name
   abbrev pub over_names : List ℕ → Algebra → List Term → List Mapping

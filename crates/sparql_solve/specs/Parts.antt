@@ -1,15 +1,37 @@
 -- The right side of a join in parts, each by the key that it shares with some left rows.
-use Rattle.std.specs.Prelude.{List, map}
-use Rattle.std.specs.List.{flat_map}
-use Rattle.sparql_values.specs.Mapping.{Mapping}
-use Rattle.sparql_algebra.specs.Solutions.{merges}
+use Rattle.std.specs.Prelude.{ℕ, Bool, ◌&&◌, cond, List, [], ◌∷◌, map}
+use Rattle.std.specs.List.{flat_map, list_any}
+use Rattle.sparql_values.specs.Mapping.{Mapping, compatible}
+use Rattle.sparql_algebra.specs.Solutions.{merges, shares}
 use Rattle.sparql_solve.specs.declared.keys.Part.{Part}
-use Rattle.sparql_solve.specs.Keys.{run}
+use Rattle.sparql_solve.specs.Keys.{binds, run}
 
--- the merges of a mapping with those of a part that have its key
+-- those of a part that have the key of a mapping
+abbrev pub part_run : Mapping → Part → List Mapping
+part_run a p = run p.columns.items (map (λ r. r.now) p.rows.items) a
+
+-- its merges with these
 abbrev pub part_merges : Mapping → Part → List Mapping
-part_merges a p = merges (run p.columns.items (map (λ r. r.now) p.rows.items) a) a
+part_merges a p = merges (part_run a p) a
 
 -- and with those of all parts, one after another
 abbrev pub merges_in : List Part → Mapping → List Mapping
 merges_in parts a = flat_map (part_merges a) parts
+
+-- ---- Minus (SPARQL 1.1 Query, section 18.5)
+
+-- a mapping of each list has a term at the column
+abbrev pub both_bind : List Mapping → List Mapping → ℕ → Bool
+both_bind A B column = list_any (binds column) A && list_any (binds column) B
+
+-- the mapping is compatible with another one, and has a variable in common with it
+abbrev pub meets : Mapping → Mapping → Bool
+meets a b = compatible a b && shares a b
+
+-- it meets one of a part that has its key
+abbrev pub meets_in : Mapping → Part → Bool
+meets_in a p = list_any (meets a) (part_run a p)
+
+-- the mapping, where it meets none of the parts
+abbrev pub left_in : List Part → Mapping → List Mapping
+left_in parts a = cond (list_any (meets_in a) parts) [] (a ∷ [])

@@ -12,7 +12,7 @@ use Rattle.sparql_trees.specs.declared.pattern.Pattern.{Pattern}
 use Rattle.sparql_trees.specs.declared.pattern.VarOrIri.{VarOrIri}
 use Rattle.sparql_trees.specs.declared.pattern.VarOrIri.TheVariants as v
 use Rattle.sparql_values.specs.Mapping.{Variables, Mapping, same_term, value_of, single, compatible, merge}
-use Rattle.sparql_algebra.specs.Algebra.{Element, joined, optional, element}
+use Rattle.sparql_algebra.specs.Algebra.{Element, joined, optional, removed, element}
 use Rattle.sparql_algebra.specs.Listing.{Listing}
 use Rattle.sparql_solve.specs.declared.look_ups.Graphs.{Graphs}
 use Rattle.sparql_solve.specs.declared.look_ups.Graphs.TheVariants.{One, Missing, Each}
@@ -61,8 +61,9 @@ module _ (vs : Variables) (d : Listing) where
 abbrev pub where_joined : Member → Element → Option Member
 where_joined x (joined A) = Some x
 where_joined x (optional F A) = None
+where_joined x (removed A) = None
 
--- the only one, where there is one alone that isn't optional
+-- the only one, where there is one alone that is joined
 abbrev pub lone_joined : List Member → Option Member
 lone_joined [] = None
 lone_joined (x ∷ []) = where_joined x (element x)

@@ -1,15 +1,15 @@
 -- The steps of the evaluator: every member of a group is found under each row so far (SPARQL 1.1 Query, section 18.6).
-use Rattle.std.specs.Prelude.{◌≡◌, ℕ, zero, suc, Bool, true, false, List, [], ◌∷◌, length, Option, Some, None, is_none, map, filter, nat_eq, zip}
+use Rattle.std.specs.Prelude.{◌≡◌, ℕ, zero, suc, Bool, true, false, ◌&&◌, List, [], ◌∷◌, length, Option, Some, None, is_none, map, filter, nat_eq, zip}
 use Rattle.std.specs.List.{flat_map, list_all}
 use Rattle.rdf_terms.specs.declared.term.Term.{Term}
 use Rattle.rdf_terms.specs.declared.quad.GraphName.{GraphName}
 use Rattle.rdf_terms.specs.declared.quad.GraphName.TheVariants.{Named}
 use Rattle.rdf_dataset.specs.State.{State}
 use Rattle.sparql_values.specs.Mapping.{Variables, Mapping, same_value, single, merge}
-use Rattle.sparql_algebra.specs.Algebra.{Algebra, Element, joined, optional}
+use Rattle.sparql_algebra.specs.Algebra.{Algebra, Element, joined, optional, removed}
 use Rattle.sparql_algebra.specs.Bags.{SameBag}
 use Rattle.sparql_algebra.specs.Listing.{Listing, Lists}
-use Rattle.sparql_algebra.specs.Solutions.{merges, or_alone, satisfies}
+use Rattle.sparql_algebra.specs.Solutions.{merges, or_alone, shares, satisfies}
 use Rattle.sparql_algebra.specs.Under.{agreeing, under}
 use Rattle.sparql_solve.specs.declared.look_ups.LookUp.{LookUp}
 use Rattle.sparql_solve.specs.Members.{AreSolutions, element_solutions}
@@ -35,6 +35,10 @@ lies (None, y) = true
 abbrev pub below : Mapping → Mapping → Bool
 below a b = list_all lies (zip a b)
 
+-- it has as many columns and lies below
+abbrev pub is_served : Mapping → Mapping → Bool
+is_served a b = nat_eq (length a) (length b) && below a b
+
 abbrev pub shown : Option Term × Bool → Option Term
 shown (x, true) = x
 shown (x, false) = None
@@ -53,17 +57,36 @@ flags_where test (suc n) = test zero ∷ flags_where (λ c. test (suc c)) n
 abbrev pub is_joined : Element → Bool
 is_joined (joined A) = true
 is_joined (optional F A) = false
+is_joined (removed A) = false
 
--- what an element makes of a mapping, where these are the mapping's merges with the solutions of its pattern
+abbrev pub is_removed : Element → Bool
+is_removed (joined A) = false
+is_removed (optional F A) = false
+is_removed (removed A) = true
+
+-- those solutions of an element's pattern that count for a mapping: of MINUS's those that have a variable in common with it
+abbrev pub met : Element → Mapping → List Mapping → List Mapping
+met (joined A) x S = S
+met (optional F A) x S = S
+met (removed A) x S = filter (shares x) S
+
+-- the mapping, where there is none of these
+abbrev pub where_none : Mapping → List Mapping → List Mapping
+where_none x [] = x ∷ []
+where_none x (m ∷ ms) = []
+
+-- what an element makes of a mapping, where these are the mapping's merges with the solutions that count for it
 abbrev pub kept : Variables → Element → Mapping → List Mapping → List Mapping
 kept vs (joined A) x ms = ms
 kept vs (optional F A) x ms = or_alone x (filter (satisfies vs F) ms)
+kept vs (removed A) x ms = where_none x ms
 
--- Under what an element's pattern is found for a mapping that stands under another one: OPTIONAL's under the mapping alone, since a merge that isn't
--- compatible with the other one keeps the mapping from standing alone.
+-- Under what an element's pattern is found for a mapping that stands under another one: OPTIONAL's and MINUS's under the mapping alone, since a
+-- merge that isn't compatible with the other one keeps the mapping from standing alone, or from staying.
 abbrev pub asked : Element → Mapping → Mapping → Mapping
 asked (joined A) a x = merge a x
 asked (optional F A) a x = x
+asked (removed A) a x = x
 
 -- However the state is listed, the rows are those of these solutions that are compatible with the mapping of the variables, each as often.
 abbrev pub AreUnder : Variables → State → Mapping → List Mapping → (Listing → List Mapping) → Type 0
@@ -76,7 +99,7 @@ IsLookUpOf vs s l F = (d : Listing) → Lists s d → (m : Mapping) → length m
 module _ (vs : Variables) (d : Listing) where
   -- what an element makes of a mapping, of that what is compatible with the one above
   abbrev pub made : GraphName → Mapping → Element → Mapping → List Mapping
-  made g a k x = agreeing (kept vs k x (merges (element_solutions vs d g k) x)) a
+  made g a k x = agreeing (kept vs k x (merges (met k x (element_solutions vs d g k)) x)) a
 
   -- the same by look-ups
   abbrev pub made_by : LookUp → Mapping → Element → Mapping → List Mapping

@@ -1,6 +1,6 @@
 //! The evaluator: a group's members from left to right, each found under the rows so far (SPARQL
 //! 1.1 Query, section 18.6). Every function answers what is compatible with the row above it.
-ghost use Rattle.std.specs.Prelude.{◌≡◌, ◌&&◌, ◌∷◌, [], IfOk, IfSome, None, cond, length, map, replicate, take};
+ghost use Rattle.std.specs.Prelude.{◌≡◌, ◌&&◌, false, ◌∷◌, [], IfOk, IfSome, None, cond, length, map, replicate, take};
 ghost use Rattle.std.specs.List.{flat_map, list_any};
 ghost use Rattle.rdf_terms.specs.declared.quad.GraphName.TheVariants.{Named};
 ghost use Rattle.rdf_terms.specs.declared.quad.GraphName.{GraphName};
@@ -8,18 +8,18 @@ ghost use Rattle.sparql_algebra.specs.Algebra.{element, graph, group_of, transla
 ghost use Rattle.sparql_algebra.specs.Solutions.{solutions};
 ghost use Rattle.sparql_solve.specs.Members.{AreSolutions, element_solutions};
 ghost use Rattle.sparql_values.specs.Mapping.{same_term};
-ghost use Rattle.sparql_solve.specs.Under.{AreMade, AreUnder, IsLookUpOf, asked, is_joined, is_unit, masked, under_name};
+ghost use Rattle.sparql_solve.specs.Under.{AreMade, AreUnder, IsLookUpOf, asked, is_joined, is_removed, is_unit, masked, under_name};
 
 use crate::basic::basic_under;
 use crate::counted::Counted;
 use crate::filters::filtered_rows;
 use crate::look_ups::{LookUp, is_named};
-use crate::members::{is_joined, look_up_of};
+use crate::members::{is_joined, is_removed, look_up_of};
 use crate::names::{names_under, rows_of_names};
 use crate::rows::Row;
 use crate::shapes::group_reads;
-use crate::sharing::{asked_columns, gather, serves, stops};
-use crate::sides::{Found, Made, asked, made_rows, rows_beside, rows_looked_up, rows_with};
+use crate::sharing::{asked_columns, gather, served_len, stops};
+use crate::sides::{Found, Made, asked, rows_beside, rows_looked_up, rows_served, rows_with};
 use rdf_dataset::Source;
 use rdf_terms::{GraphName, NoMemory, Term, Text, Vocabulary};
 use sparql_trees::{Member, Pattern, VarOrIri};
@@ -76,7 +76,7 @@ fn is_first(rows: &[Row], member: &Member) -> bool
 }
 
 // The look-ups by which a member is found under rows: all that OPTIONAL has, since it is found
-// under the row alone, and those of other members where the row above binds nothing.
+// under the row alone, and those of joined members where the row above binds nothing.
 fn direct_look_up<S: Source>(
     alloc: Global,
     variables: &[Text],
@@ -85,11 +85,13 @@ fn direct_look_up<S: Source>(
     member: &Member,
     under: &Row,
 ) -> Result<Option<LookUp>, NoMemory>
-    ensures { IfOk result (λ found. IfSome found (λ look_up.
+    ensures gives { IfOk result (λ found. IfSome found (λ look_up.
         IsLookUpOf variables.now (S.contents source.now) look_up
         (λ d. element_solutions variables.now d graph.now (element member.now)))) }
+    ensures stays { IfOk result (λ found. IfSome found (λ _.
+        is_removed (element member.now) ≡ false)) }
 {
-    if is_joined(member) && !under.is_unbound() {
+    if is_removed(member) || is_joined(member) && !under.is_unbound() {
         return Ok(None);
     }
     look_up_of(alloc, variables, graph, source, member)
@@ -203,39 +205,31 @@ fn rows_followed<S: Source>(
 {
     let before = looked.get();
     let mut out = Vec::new(alloc);
-    let Some(first) = rows.first() else {
-        return Ok(Made { rows: out, done: 0 });
-    };
-    let mut found = found_for(
-        alloc, variables, vocabulary, graph, source, looked, first, flags, member, under,
-    )?;
-    for done in 0..rows.len() {
-        let row = &rows[done];
-        let is_shared = serves(&found.columns, row, flags);
+    let mut done = 0;
+    while done < rows.len() {
         let taken = looked.get().saturating_sub(before);
-        if !is_shared && stops(member, taken, done, rows.len(), out.len()) {
+        if stops(member, taken, done, rows.len(), out.len()) {
             return Ok(Made { rows: out, done });
         }
-        if !is_shared {
-            found = found_for(
-                alloc, variables, vocabulary, graph, source, looked, row, flags, member, under,
-            )?;
-        }
-        let mut made = made_rows(
+        let rest = &rows[done..];
+        let found = found_for(
+            alloc, variables, vocabulary, graph, source, looked, &rest[0], flags, member, under,
+        )?;
+        let len = served_len(&found.columns, rest, flags);
+        let served = &rest[..len];
+        let mut made = rows_served(
             alloc,
             variables,
             vocabulary,
-            row,
+            served,
             &found.rows,
             member,
             under,
         )?;
         out.append(&mut made)?;
+        done += len;
     }
-    Ok(Made {
-        rows: out,
-        done: rows.len(),
-    })
+    Ok(Made { rows: out, done })
 }
 
 // What is found for a row: under what it has at the columns that are asked for.
@@ -301,7 +295,7 @@ fn with_the_rest<S: Source>(
     Ok(out)
 }
 
-// The solutions of a member, of OPTIONAL without its group's filters.
+// The solutions of a member, of OPTIONAL without its group's filters, of MINUS those of its group.
 #[cycle(follow)]
 fn member_under<S: Source>(
     alloc: Global,
@@ -332,6 +326,9 @@ fn member_under<S: Source>(
         }
         Member::Graph(name, pattern) => graph_under(
             alloc, variables, vocabulary, name, source, looked, pattern, under,
+        ),
+        Member::Minus(pattern) => group_under(
+            alloc, variables, vocabulary, graph, source, looked, pattern, under,
         ),
     }
 }

@@ -15,6 +15,7 @@ mod laws;
 mod look_ups;
 mod matching;
 mod members;
+mod minus;
 mod names;
 mod order;
 mod parts;

@@ -7,7 +7,7 @@ ghost use Rattle.sparql_algebra.specs.Algebra.{element, graph, translation};
 ghost use Rattle.sparql_algebra.specs.Solutions.{solutions};
 ghost use Rattle.sparql_solve.specs.Sides.{HoldsJust, lone_joined};
 ghost use Rattle.sparql_solve.specs.Members.{element_solutions};
-ghost use Rattle.sparql_solve.specs.Under.{IsLookUpOf, is_joined};
+ghost use Rattle.sparql_solve.specs.Under.{IsLookUpOf, is_joined, is_removed};
 
 use crate::look_ups::{Graphs, LookUp, graphs_of, look_up_in};
 use rdf_dataset::Source;
@@ -15,17 +15,24 @@ use rdf_terms::{GraphName, NoMemory, Text};
 use sparql_trees::{BasicGraphPattern, Member, Pattern, VarOrIri};
 use std::alloc::Global;
 
-/// Whether the member is joined: all but OPTIONAL are.
+/// Whether the member is joined: all but OPTIONAL and MINUS are.
 pub(crate) fn is_joined(member: &Member) -> bool
     ensures { result ≡ is_joined (element member.now) }
 {
     match member {
-        Member::Optional(_) => false,
-        _ => true,
+        Member::Optional(_) | Member::Minus(_) => false,
+        Member::Basic(_) | Member::Union(_) | Member::Graph(_, _) => true,
     }
 }
 
-// The only member, where it isn't OPTIONAL.
+/// Whether the member takes solutions away, as MINUS does.
+pub(crate) fn is_removed(member: &Member) -> bool
+    ensures { result ≡ is_removed (element member.now) }
+{
+    matches!(member, Member::Minus(_))
+}
+
+// The only member, where it is joined.
 fn lone_joined(members: &[Member]) -> Option<&Member>
     ensures { option_copied result ≡ lone_joined members.now }
 {
@@ -33,8 +40,8 @@ fn lone_joined(members: &[Member]) -> Option<&Member>
         return None;
     };
     match member {
-        Member::Optional(_) => None,
-        _ => Some(member),
+        Member::Optional(_) | Member::Minus(_) => None,
+        Member::Basic(_) | Member::Union(_) | Member::Graph(_, _) => Some(member),
     }
 }
 
@@ -95,7 +102,7 @@ fn look_up_of_joined<S: Source>(
         Member::Graph(name, pattern) => {
             look_up_of_graph(alloc, variables, source, name, pattern)
         }
-        _ => Ok(None),
+        Member::Union(_) | Member::Optional(_) | Member::Minus(_) => Ok(None),
     }
 }
 

@@ -4,8 +4,9 @@ ghost use Rattle.std.specs.Prelude.{◌≡◌, ◌<◌, ◌≤◌, All, IfOk, le
 ghost use Rattle.std.specs.List.{flat_map};
 ghost use Rattle.sparql_algebra.specs.Bags.{SameBag};
 ghost use Rattle.sparql_algebra.specs.Solutions.{merges};
+ghost use Rattle.sparql_algebra.specs.Under.{agreeing};
 ghost use Rattle.sparql_solve.specs.Keys.{IsKeyOf};
-ghost use Rattle.sparql_solve.specs.Parts.{merges_in, part_merges};
+ghost use Rattle.sparql_solve.specs.Parts.{merges_in, part_run};
 
 use crate::keys::{Part, index_of, key_columns};
 use crate::rows::Row;
@@ -78,10 +79,14 @@ fn columns_for(alloc: Global, left: &[&Row], right: &[&Row]) -> Result<Vec<usize
     key_columns(alloc, left, right)
 }
 
-// A part by the key that it shares with these left rows.
-fn part_of<'r>(alloc: Global, left: &[&Row], rows: &[&'r Row]) -> Result<Part<'r>, NoMemory>
+/// A part by the key that it shares with these left rows.
+pub(crate) fn part_of<'r>(
+    alloc: Global,
+    left: &[&Row],
+    rows: &[&'r Row],
+) -> Result<Part<'r>, NoMemory>
     ensures { IfOk result (λ part. All
-        (λ a. part_merges a part ≡ merges (map (λ r. r.now) rows.now) a)
+        (λ a. agreeing (part_run a part) a ≡ agreeing (map (λ r. r.now) rows.now) a)
         (map (λ r. r.now) left.now)) }
 {
     let columns = columns_for(alloc, left, rows)?;

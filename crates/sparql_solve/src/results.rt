@@ -10,7 +10,7 @@ use crate::order::{ordered, sort_rows};
 use crate::rows::Row;
 use rdf_dataset::Source;
 use rdf_terms::{GraphName, Items, NoMemory, Text, Vocabulary};
-use sparql_trees::{Pattern, Select, visible_variables};
+use sparql_trees::{Pattern, Select, named_variables, visible_variables};
 use sparql_values::column;
 use std::alloc::Global;
 
@@ -41,7 +41,8 @@ pub fn solve<S: Source>(
     solve_with(alloc, &vocabulary, pattern, graph, source)
 }
 
-// What `solve` answers, with a vocabulary that is lent.
+// What `solve` answers, with a vocabulary that is lent. Rows are found over all variables that the
+// pattern names; those that stand in MINUS alone are left out at the end, where there are some.
 fn solve_with<S: Source>(
     alloc: Global,
     vocabulary: &Vocabulary,
@@ -53,9 +54,32 @@ fn solve_with<S: Source>(
         s.variables s.rows.items) }
 {
     let variables = visible_variables(alloc, pattern)?;
-    let names = variables.as_slice();
+    let named = named_variables(alloc, pattern)?;
+    let names = named.as_slice();
     let rows = group_rows(alloc, names, vocabulary, graph, source, pattern)?;
+    if names == variables.as_slice() {
+        return Ok(Solutions { variables, rows });
+    }
+    let rows = shown_rows(alloc, names, variables.as_slice(), &rows)?;
     Ok(Solutions { variables, rows })
+}
+
+// What rows over these names have at the variables.
+fn shown_rows(
+    alloc: Global,
+    names: &[Text],
+    variables: &[Text],
+    rows: &[Row],
+) -> Result<Vec<Row>, NoMemory>
+    ensures { IfOk result (λ out. out.items
+        ≡ map (λ r. map (value_in r) (map (column names.now) variables.now)) rows.now) }
+{
+    let columns = columns_of(alloc, names, variables)?;
+    let mut out = Vec::with_capacity(alloc, rows.len())?;
+    for row in rows {
+        out.push(row.projected(alloc, columns.as_slice())?)?;
+    }
+    Ok(out)
 }
 
 /// The solutions of a pattern in a graph of a dataset, each as often as the algebra counts it,

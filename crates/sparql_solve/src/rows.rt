@@ -3,6 +3,7 @@ ghost use Rattle.std.specs.Prelude.{◌≡◌, ◌+◌, ◌<◌, length, is_some
 ghost use Rattle.std.specs.Option.{option_copied, option_map};
 ghost use Rattle.sparql_values.specs.Mapping.{agrees, compatible, merge, same_mapping, same_term, same_value, single, value_at, value_in};
 ghost use Rattle.sparql_algebra.specs.Order.{mapping_cmp};
+ghost use Rattle.sparql_algebra.specs.Solutions.{both_have, shares};
 ghost use Rattle.sparql_solve.specs.LookUps.{widened};
 ghost use Rattle.sparql_solve.specs.Matching.{assigned, held, vacant};
 ghost use Rattle.sparql_solve.specs.Under.{below, binds_none, lies, masked, shown};
@@ -44,6 +45,13 @@ fn agree(x: &Option<Term>, y: &Option<Term>) -> bool
         (Some(s), Some(t)) => is_same(s, t),
         _ => true,
     }
+}
+
+// Whether both values are terms.
+fn both_have(x: &Option<Term>, y: &Option<Term>) -> bool
+    ensures { result ≡ both_have (x.now, y.now) }
+{
+    x.is_some() && y.is_some()
 }
 
 // Whether the value is nothing or the same as the other.
@@ -115,6 +123,16 @@ impl Row {
             .iter()
             .zip(&other.values)
             .all(|(x, y)| agree(x, y))
+    }
+
+    /// Whether it has a variable in common with another row: one that both bind.
+    pub(crate) fn shares(&self, other: &Row) -> bool
+        ensures { result ≡ shares self.now other.now }
+    {
+        self.values
+            .iter()
+            .zip(&other.values)
+            .any(|(x, y)| both_have(x, y))
     }
 
     pub(crate) fn merged(&self, alloc: Global, other: &Row) -> Result<Row, NoMemory>

@@ -53,5 +53,6 @@ fn reads(member: &Member) -> bool
         Member::Union(groups) => groups_read(groups.as_slice()),
         Member::Optional(pattern) => group_reads(pattern),
         Member::Graph(_, _) => false,
+        Member::Minus(pattern) => group_reads(pattern),
     }
 }

@@ -1,8 +1,9 @@
 //! Rows that share what is found for them: those that have the same at the columns whose variables
 //! a member names. Which columns these are is seen in nothing but time, and so is when rows are
 //! followed no further.
-ghost use Rattle.std.specs.Prelude.{◌≡◌, IfOk, IsPermutation, IsTrue, OnOk, length, true};
-ghost use Rattle.sparql_solve.specs.Under.{below};
+ghost use Rattle.std.specs.Prelude.{◌≡◌, ◌<◌, ◌≤◌, IfOk, IsPermutation, IsTrue, OnOk, drop, length, take, true};
+ghost use Rattle.std.specs.List.{list_all};
+ghost use Rattle.sparql_solve.specs.Under.{is_served};
 
 use crate::rows::Row;
 use rdf_terms::{NoMemory, Text};
@@ -76,6 +77,7 @@ fn names(member: &Member, variable: &Text) -> bool {
         Member::Graph(name, pattern) => {
             is_named_by(name, variable) || group_names(pattern, variable)
         }
+        Member::Minus(pattern) => group_names(pattern, variable),
     }
 }
 
@@ -117,14 +119,28 @@ pub(crate) fn gather(rows: &mut Vec<Row>, flags: &[bool]) -> Result<(), NoMemory
     Ok(())
 }
 
-/// Whether what was found for the columns of a row that these are serves another row.
-pub(crate) fn serves(asked: &Row, row: &Row, flags: &[bool]) -> bool
-    ensures length { IsTrue result → length asked.now ≡ length row.now }
-    ensures below { IsTrue result → below asked.now row.now ≡ true }
+// Whether what was found for the columns of a row that these are serves another row.
+fn serves(asked: &Row, row: &Row, flags: &[bool]) -> bool
+    ensures { IsTrue result → is_served asked.now row.now ≡ true }
 {
     asked.values().len() == row.values().len()
         && asked.is_below(row)
         && compare_at(asked, row, flags).is_eq()
+}
+
+/// How many rows at the front are served by what was found for the columns of the first one that
+/// these are.
+pub(crate) fn served_len(asked: &Row, rows: &[Row], flags: &[bool]) -> usize
+    requires { 0 < length rows.now }
+    ensures some { 0 < result }
+    ensures within { result ≤ length rows.now }
+    ensures served { list_all (is_served asked.now) (drop 1 (take result rows.now)) ≡ true }
+{
+    let mut len = 1;
+    while len < rows.len() && serves(asked, &rows[len], flags) {
+        len += 1;
+    }
+    len
 }
 
 /// Whether a member is followed no further: a basic graph pattern is to the end, another one as

@@ -8,11 +8,13 @@ ghost use Rattle.sparql_algebra.specs.Solutions.{merges};
 ghost use Rattle.sparql_algebra.specs.Under.{agreeing};
 ghost use Rattle.sparql_values.specs.Mapping.{merge};
 ghost use Rattle.sparql_solve.specs.Members.{AreSolutions};
-ghost use Rattle.sparql_solve.specs.Under.{asked, kept, made_by};
+ghost use Rattle.sparql_solve.specs.Under.{asked, kept, made_by, met, where_none};
 
 use crate::filters::filtered_rows;
 use crate::joins::{join, left_join, or_alone};
 use crate::look_ups::{Graphs, LookUp, found_rows};
+use crate::members::is_removed;
+use crate::minus::minus;
 use crate::rows::Row;
 use crate::sharing::is_slow;
 use rdf_dataset::Source;
@@ -68,18 +70,29 @@ pub(crate) fn rows_with(alloc: Global, rows: &[Row], bound: &Row) -> Result<Vec<
     Ok(out)
 }
 
-/// Under what a member is found for a row that stands under another one: OPTIONAL under the row
-/// alone.
+/// Under what a member is found for a row that stands under another one: OPTIONAL and MINUS under
+/// the row alone.
 pub(crate) fn asked(alloc: Global, member: &Member, under: &Row, row: &Row) -> Result<Row, NoMemory>
     ensures { IfOk result (λ out. out ≡ asked (element member.now) under.now row.now) }
 {
     match member {
-        Member::Optional(_) => row.copy(alloc),
-        _ => under.merged(alloc, row),
+        Member::Optional(_) | Member::Minus(_) => row.copy(alloc),
+        Member::Basic(_) | Member::Union(_) | Member::Graph(_, _) => under.merged(alloc, row),
     }
 }
 
-// What a member makes of a row, whose merges with what was found for it these are. The filters of
+// The row, where there is none of these.
+fn where_none(alloc: Global, row: &Row, merged: &[Row]) -> Result<Vec<Row>, NoMemory>
+    ensures { IfOk result (λ out. out.items ≡ where_none row.now merged.now) }
+{
+    let mut out = Vec::new(alloc);
+    if merged.is_empty() {
+        out.push(row.copy(alloc)?)?;
+    }
+    Ok(out)
+}
+
+// What a member makes of a row, whose merges with what counts for it these are. The filters of
 // OPTIONAL's own group are its condition.
 fn passed_rows(
     alloc: Global,
@@ -98,7 +111,8 @@ fn passed_rows(
             let passed = filtered_rows(alloc, variables, vocabulary, merged, filters)?;
             or_alone(alloc, row, passed)
         }
-        _ => Ok(merged),
+        Member::Minus(_) => where_none(alloc, row, &merged),
+        Member::Basic(_) | Member::Union(_) | Member::Graph(_, _) => Ok(merged),
     }
 }
 
@@ -132,8 +146,8 @@ fn merges_of(alloc: Global, row: &Row, found: &[Row]) -> Result<Vec<Row>, NoMemo
     Ok(out)
 }
 
-/// What a member makes of a row with what was found for it.
-pub(crate) fn made_rows(
+// What a member makes of a row with what was found for it.
+fn made_rows(
     alloc: Global,
     variables: &[Text],
     vocabulary: &Vocabulary,
@@ -159,14 +173,15 @@ fn joined_rows(
     member: &Member,
 ) -> Result<Vec<Row>, NoMemory>
     ensures { IfOk result (λ out. SameBag out.items (flat_map (λ x. kept variables.now
-        (element member.now) x (merges found.now x)) rows.now)) }
+        (element member.now) x (merges (met (element member.now) x found.now) x)) rows.now)) }
 {
     match member {
         Member::Optional(pattern) => {
             let filters = pattern.filters.as_slice();
             left_join(alloc, variables, vocabulary, rows, found, filters)
         }
-        _ => join(alloc, rows, found),
+        Member::Minus(_) => minus(alloc, rows, found),
+        Member::Basic(_) | Member::Union(_) | Member::Graph(_, _) => join(alloc, rows, found),
     }
 }
 
@@ -182,10 +197,53 @@ pub(crate) fn rows_beside(
     under: &Row,
 ) -> Result<Vec<Row>, NoMemory>
     ensures { IfOk result (λ out. SameBag out.items (flat_map (λ x. agreeing (kept variables.now
-        (element member.now) x (merges found.now x)) under.now) rows.now)) }
+        (element member.now) x (merges (met (element member.now) x found.now) x)) under.now)
+        rows.now)) }
 {
     let joined = joined_rows(alloc, variables, vocabulary, rows, found, member)?;
     compatible_rows(alloc, under, joined)
+}
+
+// What a member makes of rows one by one.
+fn rows_one_by_one(
+    alloc: Global,
+    variables: &[Text],
+    vocabulary: &Vocabulary,
+    rows: &[Row],
+    found: &[Row],
+    member: &Member,
+    under: &Row,
+) -> Result<Vec<Row>, NoMemory>
+    ensures { IfOk result (λ out. out.items ≡ flat_map (λ x. agreeing (kept variables.now
+        (element member.now) x (merges found.now x)) under.now) rows.now) }
+{
+    let mut out = Vec::new(alloc);
+    for row in rows {
+        let mut made = made_rows(alloc, variables, vocabulary, row, found, member, under)?;
+        out.append(&mut made)?;
+    }
+    Ok(out)
+}
+
+/// What a member makes of rows with what was found for all of them. MINUS's is found by key, since
+/// it may be compatible with each of them and have nothing in common with any.
+pub(crate) fn rows_served(
+    alloc: Global,
+    variables: &[Text],
+    vocabulary: &Vocabulary,
+    rows: &[Row],
+    found: &[Row],
+    member: &Member,
+    under: &Row,
+) -> Result<Vec<Row>, NoMemory>
+    ensures { IfOk result (λ out. SameBag out.items (flat_map (λ x. agreeing (kept variables.now
+        (element member.now) x (merges (met (element member.now) x found.now) x)) under.now)
+        rows.now)) }
+{
+    if is_removed(member) {
+        return rows_beside(alloc, variables, vocabulary, rows, found, member, under);
+    }
+    rows_one_by_one(alloc, variables, vocabulary, rows, found, member, under)
 }
 
 // Whether every name may have to be tried.

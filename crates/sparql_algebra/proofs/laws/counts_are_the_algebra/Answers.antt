@@ -7,6 +7,7 @@ use Rattle.sparql_values.specs.Mapping.{same_term, same_mapping}
 use Rattle.sparql_algebra.specs.Solutions.{satisfies, solutions}
 use Rattle.sparql_algebra.proofs.CountLawLemmas.{basic_law, cond_counts, variable_law}
 use Rattle.sparql_algebra.proofs.Regroup.{join_law, left_join_law, filter_law, each_once, each_once_lists}
+use Rattle.sparql_algebra.proofs.MinusLemmas.{minus_law}
 use Rattle.sparql_algebra.proofs.laws.counts_are_the_algebra.Goals as goal
 
 pub returns-clause-basic : goal.returns-clause-basic
@@ -23,6 +24,9 @@ returns-clause-filter c vs d g F A m = filter_law (satisfies vs F) (solutions vs
 
 pub returns-clause-union : goal.returns-clause-union
 returns-clause-union c vs d g A B m = sum_by-append (λ x. cond (same_mapping m x) 1 0) (solutions vs d g A) (solutions vs d g B)
+
+pub returns-clause-minus : goal.returns-clause-minus
+returns-clause-minus c vs d g A B V lv m = minus_law (solutions vs d g A) (solutions vs d g B) V lv m
 
 pub returns-clause-named : goal.returns-clause-named
 returns-clause-named c vs d g iri A m = cond_counts (list_any (same_term (t.Iri iri)) d.names) (solutions vs d (Named (t.Iri iri)) A) m

@@ -1,14 +1,14 @@
-use Rattle.std.proofs.Common.{◌<◌, ◌-◌, ap, ◌∙◌, take, drop, length, arith}
+use Rattle.std.proofs.Common.{◌≡◌, ◌<◌, ◌≤◌, ◌-◌, List, refl, ap, ◌∙◌, take, drop, length, arith}
 use Rattle.std.proofs.lemmas.List.{take_all, length-drop}
 use Rattle.std.proofs.lemmas.Result.{IfOk-weaker}
 use Rattle.rdf_terms.specs.declared.quad.GraphName.TheVariants.{Named, Default}
 use Rattle.sparql_algebra.specs.Algebra.{element, translation}
 use Rattle.sparql_algebra.specs.Under.{under}
+use Rattle.sparql_values.specs.Mapping.{Mapping}
 use Rattle.sparql_solve.specs.Under.{under_name}
 use Rattle.sparql_solve.proofs.FollowLemmas as follow
 use Rattle.sparql_solve.proofs.SideLemmas.{done_gives}
 use Rattle.sparql_solve.proofs.MemberLemmas.{more_gives}
-use Rattle.sparql_solve.proofs.evaluator.+follow.Goals.{rows_followed-then-not-is_shared-2+in_ok-found-2, rows_followed-else-not-is_shared-2}
 use Rattle.sparql_solve.proofs.evaluator.+follow.Goals as goal
 
 pub group_under-returns : goal.group_under-returns
@@ -34,7 +34,7 @@ rows_after-returns-in-Some g t c =
     IfOk-weaker c.with_the_rest.result _ _
     (λ out h. follow.looked_up_follows c.args.variables.now (g.S.Source.contents c.args.source.now) c.args.graph.now c.args.under.now
     (element c.args.member.now) c.args.rows.items c.deref.result.now c.deref-in-Some.result.now c.in_ok-made.made.rows.items out.items
-    c.in_ok-made.made.done c.in_ok-direct.direct c.in-Some.look_up c.deref.ensures.value c.deref-in-Some.ensures.value c.in-Some.is c.in_ok-direct.ensures
+    c.in_ok-made.made.done c.in_ok-direct.direct c.in-Some.look_up c.deref.ensures.value c.deref-in-Some.ensures.value c.in-Some.is c.in_ok-direct.ensures.gives c.in_ok-direct.ensures.stays
     c.in_ok-made.ensures h)
     c.with_the_rest.ensures
 
@@ -58,7 +58,7 @@ pub rows_followed-loop-done-init : goal.rows_followed-loop-done-init
 rows_followed-loop-done-init g t c = record {
   made = follow.made_nothing c.args.variables.now (g.S.Source.contents c.args.source.now) c.args.graph.now c.args.under.now (element c.args.member.now)
       c.new-out.result.items c.new-out.ensures.items;
-  found = c.in_ok-found.ensures.rows;
+  within = omega arith;
 }
 
 pub rows_followed-loop-done-preserved : goal.rows_followed-loop-done-preserved
@@ -67,37 +67,25 @@ rows_followed-loop-done-preserved g t c =
     let s = g.S.Source.contents c.args.source.now in
     let a = c.args.under.now in
     let k = element c.args.member.now in
-    let x = c.index-rows-done.result in
-    let lt : c.loop-done.done < length c.args.rows.now = omega arith in
-    elim c.if-not-is_shared-2.branch [
-      | rows_followed-then-not-is_shared-2+in_ok-found-2 w ↦
-          let found = w.in_ok-found-2.found in
-          record {
-            made = follow.made_one_more vs s c.args.graph.now a k c.args.rows.now c.loop-done.done x c.loop-done.out.items c.in_ok-made.made.items
-                c.append.new.self.items lt c.index-rows-done.is c.in_ok-append.ensures.items c.loop-done.invariant.made
-                (follow.made_anew vs s c.args.graph.now a k c.args.flags.now found.columns x found.rows.items c.deref.result.now c.in_ok-made.made.items
-                c.requires w.in_ok-found-2.ensures.columns w.in_ok-found-2.ensures.rows (c.deref.ensures.value ∙ (λ i. (w.found-is i).rows.items))
-                c.in_ok-made.ensures);
-            found = follow.found_as vs s c.args.graph.now a k c.if-not-is_shared-2.found.columns found.columns c.if-not-is_shared-2.found.rows.items
-                found.rows.items (λ i. (w.found-is i).columns) (λ i. (w.found-is i).rows.items) w.in_ok-found-2.ensures.rows;
-          }
-      | rows_followed-else-not-is_shared-2 w ↦
-          let found = c.loop-done.found in
-          record {
-            made = follow.made_one_more vs s c.args.graph.now a k c.args.rows.now c.loop-done.done x c.loop-done.out.items c.in_ok-made.made.items
-                c.append.new.self.items lt c.index-rows-done.is c.in_ok-append.ensures.items c.loop-done.invariant.made
-                (follow.made_shared vs s c.args.graph.now a k found.columns x found.rows.items c.deref.result.now c.in_ok-made.made.items
-                (c.serves-is_shared.ensures.length w.if-not-is_shared-2.false) (c.serves-is_shared.ensures.below w.if-not-is_shared-2.false)
-                c.loop-done.invariant.found (c.deref.ensures.value ∙ (λ i. (w.found-is i).rows.items)) c.in_ok-made.ensures);
-            found = follow.found_as vs s c.args.graph.now a k c.if-not-is_shared-2.found.columns found.columns c.if-not-is_shared-2.found.rows.items
-                found.rows.items (λ i. (w.found-is i).columns) (λ i. (w.found-is i).rows.items) c.loop-done.invariant.found;
-          }
-    ]
-
-pub rows_followed-returns : goal.rows_followed-returns
-rows_followed-returns g t c =
-    follow.made_done c.args.variables.now (g.S.Source.contents c.args.source.now) c.args.graph.now c.args.under.now (element c.args.member.now)
-    c.args.rows.now c.loop-done.done (length c.args.rows.now) c.loop-done.out.items (omega arith) (omega arith) c.loop-done.invariant.made
+    let rows = c.args.rows.now in
+    let done = c.loop-done.done in
+    let len = c.served_len-len.result in
+    let left : List Mapping = drop done rows in
+    let rest : List Mapping = take (length rows - done) left in
+    let whole : rest ≡ left = take_all (length rows - done) left (omega (arith, length-drop done rows)) in
+    let long : length left ≡ length rows - done = length-drop done rows in
+    let same : length rest ≡ length left = ap length whole in
+    let less : done < length rows = c.loop-done-test.true in
+    let within : len ≤ length rest = c.served_len-len.ensures.within in
+    record {
+      made = follow.made_more vs s c.args.graph.now a k rows (take len rest) done len c.loop-done.out.items c.in_ok-made.made.items c.append.new.self.items
+          (ap (take len) whole) c.in_ok-append.ensures.items c.loop-done.invariant.made
+          (follow.made_served vs s c.args.graph.now a k c.args.flags.now c.in_ok-found.found.columns c.index-rest-0.result rest (take len rest)
+          c.in_ok-found.found.rows.items c.deref.result.now c.in_ok-made.made.items len c.requires c.in_ok-found.ensures.columns refl
+          c.served_len-len.ensures.some (omega (arith, same, long, less)) c.index-rest-0.is c.served_len-len.ensures.served c.in_ok-found.ensures.rows
+          c.deref.ensures.value c.in_ok-made.ensures);
+      within = omega (arith, same, long, less, within);
+    }
 
 pub found_for-returns-clause-rows : goal.found_for-returns-clause-rows
 found_for-returns-clause-rows g t c =
@@ -139,6 +127,13 @@ member_under-returns-in-Optional g t c =
     (λ out h. follow.optional_member c.args.variables.now (g.S.Source.contents c.args.source.now) c.args.graph.now c.args.under.now c.args.member.now
     c.in-Optional.pattern c.as_slice-members.result.now out.items c.in-Optional.is c.as_slice-members.ensures h)
     c.members_under.ensures
+
+pub member_under-returns-in-Minus : goal.member_under-returns-in-Minus
+member_under-returns-in-Minus g t c =
+    IfOk-weaker c.group_under.result _ _
+    (λ out h. follow.minus_member c.args.variables.now (g.S.Source.contents c.args.source.now) c.args.graph.now c.args.under.now c.args.member.now
+    c.in-Minus.pattern out.items c.in-Minus.is h)
+    c.group_under.ensures
 
 pub member_under-returns-in-Graph : goal.member_under-returns-in-Graph
 member_under-returns-in-Graph g t c =

@@ -1,4 +1,4 @@
-use Rattle.std.proofs.Common.{◌≡◌, length, map, take, drop}
+use Rattle.std.proofs.Common.{◌≡◌, ◌≤◌, ◌-◌, length, map, take, drop}
 use Rattle.std.specs.List.{flat_map}
 use Rattle.sparql_algebra.specs.Algebra.{element, group_of, translation}
 use Rattle.sparql_algebra.specs.Solutions.{solutions}
@@ -14,9 +14,11 @@ invariant-members_under-loop-member g l =
 abbrev pub invariant-rows_followed-loop-done : goal.invariant-rows_followed-loop-done
 invariant-rows_followed-loop-done g l = record {
   made : AreMade l.variables (g.S.Source.contents l.source) l.graph l.under (element l.member) (take l.done l.rows) l.out.items;
-  found : AreUnder l.variables (g.S.Source.contents l.source) (asked (element l.member) l.under l.found.columns) l.found.rows.items
-      (λ d. element_solutions l.variables d l.graph (element l.member));
+  within : l.done ≤ length l.rows;
 }
+
+abbrev pub decreases-rows_followed-loop-done : goal.decreases-rows_followed-loop-done
+decreases-rows_followed-loop-done g l = length l.rows - l.done
 
 abbrev pub invariant-union_under-loop-group : goal.invariant-union_under-loop-group
 invariant-union_under-loop-group g l =

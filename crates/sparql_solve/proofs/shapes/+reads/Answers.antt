@@ -1,4 +1,4 @@
-use Rattle.sparql_solve.proofs.ShapeLemmas.{reads_member, reads_group, none_more, none_all, group_unread, groups_unread, basic_unread, union_unread, optional_unread}
+use Rattle.sparql_solve.proofs.ShapeLemmas.{reads_member, reads_group, none_more, none_all, group_unread, groups_unread, basic_unread, union_unread, optional_unread, minus_unread}
 use Rattle.sparql_solve.proofs.shapes.+reads.Goals as goal
 
 pub groups_read-loop-group-preserved : goal.groups_read-loop-group-preserved
@@ -29,3 +29,6 @@ reads-returns-in-Union t c e =
 
 pub reads-returns-in-Optional : goal.reads-returns-in-Optional
 reads-returns-in-Optional t c e = optional_unread c.args.member.now c.in-Optional.pattern c.in-Optional.is (c.group_reads.ensures e)
+
+pub reads-returns-in-Minus : goal.reads-returns-in-Minus
+reads-returns-in-Minus t c e = minus_unread c.args.member.now c.in-Minus.pattern c.in-Minus.is (c.group_reads-in-Minus.ensures e)

@@ -4,8 +4,9 @@ use Rattle.std.proofs.lemmas.Result.{IfOk-weaker}
 use Rattle.sparql_trees.specs.declared.expression.Expression.{Expression}
 use Rattle.sparql_algebra.specs.Algebra.{Element, element}
 use Rattle.sparql_algebra.specs.Solutions.{left_joins, merges, satisfies}
-use Rattle.sparql_algebra.proofs.CallerLemmas.{element-Optional}
-use Rattle.sparql_solve.specs.Under.{kept}
+use Rattle.sparql_algebra.proofs.CallerLemmas.{element-Optional, element-Minus}
+use Rattle.sparql_solve.specs.Under.{kept, met}
+use Rattle.sparql_solve.proofs.MinusLemmas.{all_left}
 use Rattle.sparql_solve.proofs.sides.joined_rows.Goals as goal
 
 pub returns-in-Optional : goal.returns-in-Optional
@@ -15,6 +16,17 @@ returns-in-Optional c =
     let found = c.args.found.now in
     IfOk-weaker c.left_join.result _ _
     (λ out h f. h f ∙ ap (λ (F : List Expression). sum_by f (left_joins rows found (satisfies vs F))) c.as_slice-filters.ensures
-    ∙ ap (λ (k : Element). sum_by f (flat_map (λ x. kept vs k x (merges found x)) rows))
+    ∙ ap (λ (k : Element). sum_by f (flat_map (λ x. kept vs k x (merges (met k x found) x)) rows))
     (sym (ap element c.in-Optional.is ∙ element-Optional c.in-Optional.pattern)))
     c.left_join.ensures
+
+pub returns-in-Minus : goal.returns-in-Minus
+returns-in-Minus c =
+    let vs = c.args.variables.now in
+    let rows = c.args.rows.now in
+    let found = c.args.found.now in
+    IfOk-weaker c.minus.result _ _
+    (λ out h f. h f ∙ ap (sum_by f) (sym (all_left found rows))
+    ∙ ap (λ (k : Element). sum_by f (flat_map (λ x. kept vs k x (merges (met k x found) x)) rows))
+    (sym (ap element c.in-Minus.is ∙ element-Minus _)))
+    c.minus.ensures
