@@ -1,5 +1,6 @@
 pub mod CallerLemmas
 mod ChainLemmas
+mod ExchangeLemmas
 mod InsertionLemmas
 mod LoadingLemmas
 mod QuadEditLemmas

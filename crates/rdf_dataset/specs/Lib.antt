@@ -1,4 +1,5 @@
 pub mod Chains
+pub mod Exchange
 pub mod Insertion
 pub mod Inside
 pub mod Laws

@@ -8,6 +8,7 @@
 mod chain;
 mod dataset;
 mod edits;
+mod exchange;
 mod insertion;
 mod loading;
 mod net;

@@ -40,7 +40,7 @@ fn numbered_on(
 }
 
 // Those of the quads that the source hasn't, each once, in order.
-fn new_quads<D: Source>(under: &D, quads: Vec<Quad>) -> Sorted<Quad>
+pub(crate) fn new_quads<D: Source>(under: &D, quads: Vec<Quad>) -> Sorted<Quad>
     ensures { set.from_list {R = quad_cmp} result ≡ set.difference
         (quads_with (D.contents under.now).quads quads.items) (D.contents under.now).quads }
 {
@@ -82,7 +82,11 @@ fn is_that(before: Option<&GraphName>, graph: &GraphName) -> bool
 
 // The names that the graphs of quads bring. Quads of one graph often stand together: its name is
 // looked for once then.
-fn new_names<D: Source>(alloc: Global, under: &D, quads: &[Quad]) -> Result<Delta<Term>, NoMemory>
+pub(crate) fn new_names<D: Source>(
+    alloc: Global,
+    under: &D,
+    quads: &[Quad],
+) -> Result<Delta<Term>, NoMemory>
     ensures names { IfOk result (λ names. IsDelta (D.contents under.now).names
         (names_with (D.contents under.now).names quads.now) names.added names.removed) }
     ensures sound { OnOk result (AllByRecursion (λ q. IsTrue (is_quad q)) quads.now) }

@@ -1,17 +1,15 @@
-//! Updates: the operations of a request act on a staged view of the dataset; a request that is one INSERT DATA
-//! makes its net at once, as a load does.
-ghost use Rattle.std.specs.Prelude.{◌≡◌, [], ◌∷◌, IfOk, MatchResult};
+//! Updates: what the operations of a request make of the dataset, as a net.
+ghost use Rattle.std.specs.Prelude.{◌≡◌, MatchResult};
 ghost use Rattle.std.specs.Option.{option_copied};
 ghost use Rattle.sparql_syntax.specs.Update.{IsUpdate};
-ghost use Rattle.sparql_trees.specs.declared.operation.Operation.TheVariants.{InsertData};
 ghost use Rattle.rdf_session.specs.Inside.Staging.{StagesSteps, TellsSyntaxFault, apply_refusal, syntax_refusal};
 
 use crate::fault::KeeperFault;
-use rdf_dataset::{Dataset, Net, Staged};
-use rdf_terms::{Iri, NoMemory, Quad, Vocabulary};
-use sparql_eval::{ApplyFault, apply_with};
+use rdf_dataset::{Dataset, Net};
+use rdf_terms::{Iri, Vocabulary};
+use sparql_eval::{ApplyFault, net_of_request};
 use sparql_syntax::{SyntaxFault, SyntaxFaultKind, read_update_with};
-use sparql_trees::{Data, Operation, Request};
+use sparql_trees::Request;
 use std::alloc::Global;
 
 /// The refusal that a fault of syntax is.
@@ -62,27 +60,6 @@ pub(crate) fn read_request(
     }
 }
 
-fn copies(alloc: Global, quads: &[Quad]) -> Result<Vec<Quad>, NoMemory>
-    ensures { IfOk result (λ copied. copied.items ≡ quads.now) }
-{
-    let mut copied = Vec::with_capacity(alloc, quads.len())?;
-    for quad in quads {
-        copied.push(quad.copy()?)?;
-    }
-    Ok(copied)
-}
-
-// The net from the dataset to what INSERT DATA makes of it (SPARQL 1.1 Update, section 3.1.1).
-fn stage_data(alloc: Global, dataset: &Dataset, inserted: &Data) -> Result<Net, KeeperFault>
-    ensures { StagesSteps dataset.now (InsertData inserted.now ∷ []) result }
-{
-    let quads = copies(alloc, inserted.quads())?;
-    match Net::of_data(alloc, dataset, quads, inserted.blanks())? {
-        None => Err(KeeperFault::Apply(ApplyFault::BlankNumbers)),
-        Some(net) => Ok(net),
-    }
-}
-
 /// The net from the dataset to what the operations of a request make of it.
 pub(crate) fn stage_request(
     alloc: Global,
@@ -92,12 +69,8 @@ pub(crate) fn stage_request(
 ) -> Result<Net, KeeperFault>
     ensures { StagesSteps dataset.now request.now.operations result }
 {
-    if let [Operation::InsertData(inserted)] = request.operations.as_slice() {
-        return stage_data(alloc, dataset, inserted);
-    }
-    let mut staged = Staged::over(alloc, dataset);
-    match apply_with(alloc, vocabulary, request, &mut staged) {
-        Ok(()) => Ok(staged.into_net()?),
+    match net_of_request(alloc, vocabulary, request, dataset) {
+        Ok(net) => Ok(net),
         Err(fault) => Err(apply_refusal(fault)),
     }
 }

@@ -2,6 +2,7 @@ mod GraphLemmas
 mod LawLemmas
 mod ModifyLawLemmas
 mod ModifyLemmas
+mod NetLemmas
 mod OtherLemmas
 mod QuadLemmas
 mod ResultLemmas

@@ -6,11 +6,12 @@ use Rattle.rdf_terms.specs.declared.quad.GraphName.{GraphName}
 use Rattle.rdf_dataset.specs.State.{State, IsSound}
 use Rattle.sparql_algebra.specs.Bound.{AllValues, IsValueBelow}
 use Rattle.sparql_algebra.proofs.CallerLemmas.{solutions_below}
-use Rattle.sparql_eval.specs.Operations.{home_of, solutions_of}
+use Rattle.sparql_eval.specs.Operations.{home_of, instances_of, solutions_of}
 use Rattle.sparql_eval.specs.Templates.{all_instances}
 use Rattle.sparql_eval.proofs.TemplateLemmas.{all_instances_below, values_more}
 use Rattle.sparql_trees.specs.Visible.{visible}
 use Rattle.sparql_trees.specs.declared.template.Modify.{Modify as Modification}
+use Rattle.sparql_trees.specs.declared.template.QuadPattern.{QuadPattern}
 use Rattle.sparql_values.specs.Mapping.{Mapping, Variables}
 
 home_below : (graph : Option (List ℕ)) (next : ℕ) → IsGraphBelow next (home_of graph)
@@ -32,3 +33,7 @@ module _ (s : State) (m : Modification) (variables : Variables) (rows : List Map
       subst (AreBelow next) (sym e)
       (all_instances_below next variables home m.insert.blanks m.insert.quads first rows (values_more s.next next rows low (omega (arith, counter)))
       (subst (IsGraphBelow next) (sym found.home_is) (home_below m.with next)) (omega (arith, from, counter)))
+
+  -- the instances of a template under them are those of the operation
+  pub found_instances : (blanks : ℕ) (quads : List QuadPattern) (first : ℕ) → first ≡ s.next → all_instances variables home blanks quads first rows ≡ instances_of s m blanks quads
+  found_instances blanks quads first from = λ i. all_instances (found.variables_are i) (found.home_is i) blanks quads (from i) (found.rows_are i)

@@ -1,2 +1,3 @@
 -- What only private functions speak of.
+pub mod Exchanges
 pub mod Staging

@@ -9,6 +9,7 @@ mod fault;
 mod graphs;
 mod laws;
 mod modify;
+mod net;
 mod operations;
 mod quads;
 mod request;
@@ -20,5 +21,6 @@ pub use laws::{
     insert_data_is_modify, modify_deletes_then_inserts, move_is_copy_then_drop, one_answer,
     others_stay, silent_changes_nothing,
 };
+pub use net::net_of_request;
 pub use request::{apply, apply_with};
 pub use sparql_solve::{Row, Solutions, ask, ask_with, select, select_with, solve};

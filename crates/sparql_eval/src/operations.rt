@@ -16,8 +16,8 @@ use rdf_terms::{Iri, NoMemory, Quad, Term};
 use sparql_trees::{Data, GraphOrDefault, GraphRefAll, Operation};
 use std::alloc::Global;
 
-// The counter of blank nodes goes no further.
-const LAST_NUMBER: u64 = 1_000_000_000_000_000_000;
+/// The counter of blank nodes goes no further.
+pub(crate) const LAST_NUMBER: u64 = 1_000_000_000_000_000_000;
 
 fn is_named<D: Source>(iri: &Iri, view: &Staged<'_, D>) -> Result<bool, NoMemory>
     ensures { IfOk result (λ named. named ≡ contains view.now.now.names (iri_term iri.now)) }
@@ -94,10 +94,11 @@ pub(crate) fn is_silent(operation: &Operation) -> bool
     }
 }
 
-fn copies(alloc: Global, quads: &[Quad]) -> Result<Vec<Quad>, NoMemory>
+/// Equal quads.
+pub(crate) fn copies(alloc: Global, quads: &[Quad]) -> Result<Vec<Quad>, NoMemory>
     ensures { IfOk result (λ copied. copied.items ≡ quads.now) }
 {
-    let mut copied = Vec::new(alloc);
+    let mut copied = Vec::with_capacity(alloc, quads.len())?;
     for quad in quads {
         copied.push(quad.copy()?)?;
     }
