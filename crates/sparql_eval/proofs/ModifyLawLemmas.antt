@@ -19,6 +19,7 @@ use Rattle.rdf_terms.specs.declared.term.Term.TheVariants.{Blank, Iri, Literal}
 use Rattle.rdf_dataset.specs.Insertion.{graph_from, graph_names, names_in, quad_from, term_from, with_all}
 use Rattle.rdf_dataset.specs.State.{State, last_number, with_blanks}
 use Rattle.sparql_algebra.specs.Listing.{listing_of}
+use Rattle.sparql_algebra.specs.Results.{projected}
 use Rattle.sparql_algebra.specs.Solutions.{solutions}
 use Rattle.sparql_algebra.specs.Sorted.{sort, sorted_solutions}
 use Rattle.sparql_algebra.proofs.CallerLemmas.{translation-is}
@@ -32,7 +33,7 @@ use Rattle.sparql_eval.specs.declared.fault.ApplyFault.TheVariants.{BlankNumbers
 use Rattle.sparql_eval.proofs.LawLemmas.{any_join, not_silent}
 use Rattle.sparql_eval.proofs.QuadLemmas.{without_all-nothing}
 use Rattle.sparql_eval.proofs.SetLemmas.{or_false}
-use Rattle.sparql_trees.specs.Visible.{Names, names_of_member, names_of_pattern, visible, with_names}
+use Rattle.sparql_trees.specs.Visible.{Names, named, names_of_member, names_of_pattern, names_where, visible, with_names}
 use Rattle.sparql_trees.specs.declared.pattern.Member.TheFolds.{fold-roll-Pattern}
 use Rattle.sparql_trees.specs.declared.pattern.VarOrIri.{VarOrIri}
 use Rattle.sparql_trees.specs.declared.pattern.VarOrIri.TheVariants as name
@@ -129,14 +130,22 @@ each_solution_has_its_own_blank_nodes variables home blanks first quads before m
 
 -- ---- INSERT DATA
 
+no_names : (minus : Bool) → names_where minus empty_pattern ≡ []
+no_names minus = fold-roll-Pattern Names Names (names_of_member minus) names_of_pattern (record { members = []; filters = [] })
+
 none_visible : visible empty_pattern ≡ []
 unfolding visible
-none_visible = ap (with_names []) (fold-roll-Pattern Names Names names_of_member names_of_pattern (record { members = []; filters = [] }))
+none_visible = ap (with_names []) (no_names false)
+
+none_named : named empty_pattern ≡ []
+unfolding named
+none_named = ap (with_names []) (no_names true)
 
 -- the one solution of the empty pattern is the empty one
 empty_once : (s : State) → sorted_solutions empty_pattern Default s ≡ [] ∷ []
 unfolding sorted_solutions
-empty_once s = λ i. sort (solutions (none_visible i) (listing_of s) Default (translation-is empty_pattern i))
+empty_once s = λ i.
+    sort (map (projected (none_named i) (none_visible i)) (solutions (none_named i) (listing_of s) Default (translation-is empty_pattern i)))
 
 -- ---- with other numbers
 

@@ -1,5 +1,5 @@
 -- What look-ups find under a mapping.
-use Rattle.std.proofs.Common.{◌≡◌, ℕ, ◌+◌, ◌<◌, Bool, true, false, cond, List, [], ◌∷◌, ◌++◌, map, refl, sym, ap, ◌∙◌, subst, length, take, drop, get_or}
+use Rattle.std.proofs.Common.{◌≡◌, ℕ, Bool, true, false, cond, List, [], ◌∷◌, ◌++◌, map, refl, sym, ap, ◌∙◌, subst, length, take}
 use Rattle.std.specs.List.{sum_by}
 use Rattle.rdf_terms.specs.Quad.{QuadParts}
 use Rattle.rdf_terms.specs.declared.quad.GraphName.{GraphName}
@@ -8,7 +8,7 @@ use Rattle.rdf_dataset.specs.State.{State, Quads, matches}
 use Rattle.rdf_dataset.specs.Sorted.{ListsOnce}
 use Rattle.sparql_values.specs.Mapping.{Mapping}
 use Rattle.sparql_algebra.specs.Bags.{SameBag}
-use Rattle.sparql_algebra.specs.Listing.{Listing, Lists, graph_quads}
+use Rattle.sparql_algebra.specs.Listing.{graph_quads}
 use Rattle.sparql_algebra.proofs.CallerLemmas.{sum_by-cong, sum_by-filter, SameBag-refl, SameBag-map, SameBag-flat_map, found_quads}
 use Rattle.sparql_solve.specs.declared.look_ups.LookUp.{LookUp}
 use Rattle.sparql_solve.specs.declared.place.Places.{Places}

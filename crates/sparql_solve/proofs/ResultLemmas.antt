@@ -1,9 +1,14 @@
 -- Results of queries from the rows of the evaluator.
-use Rattle.std.proofs.Common.{◌≡◌, ℕ, Bool, not, cond, List, [], ◌∷◌, map, Option, refl, sym, ap, ◌∙◌, subst, length, nat_eq}
+use Rattle.std.proofs.Common.{◌≡◌, ℕ, ◌+◌, ◌<◌, Bool, true, not, cond, List, [], ◌∷◌, ◌++◌, map, get_or, Option, refl, sym, ap, ◌∙◌, subst, length, drop, append_assoc, nat_eq}
 use Rattle.std.proofs.Math.Dec.{eqb-suc-zero}
+use Rattle.std.specs.Cmp.{Equal-is}
+use Rattle.std.specs.Cmp.Lexicographic.{pointwise, texts_ties}
 use Rattle.std.specs.List.{count_by}
 use Rattle.std.specs.List.Sorted.{IsSorted, IsPermutation}
+use Rattle.std.proofs.lemmas.List.{drop_more}
 use Rattle.std.proofs.lemmas.List.Sorted.{sum_by-IsPermutation}
+use Rattle.rdf_terms.specs.Order.{text_cmp}
+use Rattle.rdf_terms.specs.OrderLaws.{text_cmp-IsAntisymmetric}
 use Rattle.rdf_terms.specs.declared.quad.GraphName.{GraphName}
 use Rattle.rdf_terms.specs.declared.quad.GraphName.TheVariants.{Default}
 use Rattle.rdf_dataset.specs.State.{State}
@@ -18,7 +23,7 @@ use Rattle.sparql_algebra.specs.Order.{mapping_cmp}
 use Rattle.sparql_algebra.specs.Results.{Solves, IsSelection, HasSolution, pattern_solutions, projected, projections, times_selected, is_some_solution}
 use Rattle.sparql_algebra.specs.Solutions.{solutions}
 use Rattle.sparql_algebra.specs.Sorted.{sorted_solutions}
-use Rattle.sparql_algebra.proofs.CallerLemmas.{sums_from_counts, same_mapping_is, same_mapping_own, SameBag-map, nothing_left_out, some_same, some_solution_list, one_solution_list}
+use Rattle.sparql_algebra.proofs.CallerLemmas.{and_left, and_right, sums_from_counts, same_mapping_is, same_mapping_own, SameBag-map, nothing_left_out, some_same, some_solution_list, one_solution_list}
 use Rattle.sparql_solve.specs.Members.{AreSolutions}
 
 project_is : (vs names : Variables) (m : Mapping) → map (value_in m) (map (column vs) names) ≡ projected vs names m
@@ -28,6 +33,28 @@ project_is vs (n ∷ ns) m = ap (λ (r : Mapping). value_of vs m n ∷ r) (proje
 map_same : (f g : Mapping → Mapping) (xs : List Mapping) → ((x : Mapping) → f x ≡ g x) → map f xs ≡ map g xs
 map_same f g [] e = refl
 map_same f g (x ∷ xs) e = ap (λ (y : Mapping). y ∷ map f xs) (e x) ∙ ap (λ (l : List Mapping). g x ∷ l) (map_same f g xs e)
+
+-- one row more at the columns
+pub shown_more : (columns cs : List (Option ℕ)) (rows : List Mapping) (i : ℕ) (x row : Mapping) (out after whole : List Mapping) → i < length rows → x ≡ get_or rows i x →
+    cs ≡ columns → row ≡ map (value_in x) cs → after ≡ out ++ row ∷ [] → out ++ map (λ (r : Mapping). map (value_in r) columns) (drop i rows) ≡ whole →
+    after ++ map (λ (r : Mapping). map (value_in r) columns) (drop (i + 1) rows) ≡ whole
+shown_more columns cs rows i x row out after whole lt here ec er ea h =
+    let shown : Mapping → Mapping = λ r. map (value_in r) columns in
+    ap (λ (xs : List Mapping). xs ++ map shown (drop (i + 1) rows)) (ea ∙ ap (λ (m : Mapping). out ++ m ∷ []) (er ∙ ap (map (value_in x)) ec))
+    ∙ append_assoc out (shown x ∷ []) (map shown (drop (i + 1) rows))
+    ∙ ap (λ (xs : List Mapping). out ++ map shown xs) (sym (drop_more rows i x lt ∙ ap (λ (y : Mapping). y ∷ drop (i + 1) rows) (sym here))) ∙ h
+
+names_apart : (a b : List ℕ) → pointwise nat_eq a b ≡ true → a ≡ b
+names_apart a b h = text_cmp-IsAntisymmetric a b ((Equal-is (text_cmp a b)).0 (sym (texts_ties a b) ∙ h))
+
+pub names_alike : (vs ws : Variables) → pointwise (pointwise nat_eq) vs ws ≡ true → vs ≡ ws
+names_alike [] [] h = refl
+names_alike [] (w ∷ ws) h = cc
+names_alike (v ∷ vs) [] h = cc
+names_alike (v ∷ vs) (w ∷ ws) h =
+    let first : v ≡ w = names_apart v w (and_left (pointwise nat_eq v w) _ h) in
+    let rest : vs ≡ ws = names_alike vs ws (and_right (pointwise nat_eq v w) _ h) in
+    λ i. first i ∷ rest i
 
 -- where no variable stands in MINUS alone
 pub solved_alike : (P : Pattern) (g : GraphName) (s : State) (vs all names those : Variables) (rows : List Mapping) → vs ≡ visible P → all ≡ named P → names ≡ all → those ≡ vs →

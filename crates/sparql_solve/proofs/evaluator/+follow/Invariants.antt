@@ -3,8 +3,8 @@ use Rattle.std.specs.List.{flat_map}
 use Rattle.sparql_algebra.specs.Algebra.{element, group_of, translation}
 use Rattle.sparql_algebra.specs.Solutions.{solutions}
 use Rattle.sparql_algebra.specs.Under.{under}
-use Rattle.sparql_solve.specs.Members.{AreMoreSolutions, element_solutions}
-use Rattle.sparql_solve.specs.Under.{AreMade, AreUnder, asked, under_name}
+use Rattle.sparql_solve.specs.Members.{AreMoreSolutions}
+use Rattle.sparql_solve.specs.Under.{AreMade, AreUnder, under_name}
 use Rattle.sparql_solve.proofs.evaluator.+follow.Given as goal
 
 abbrev pub invariant-members_under-loop-member : goal.invariant-members_under-loop-member

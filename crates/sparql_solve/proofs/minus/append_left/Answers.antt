@@ -1,7 +1,3 @@
-use Rattle.std.proofs.Common.{◌++◌, map}
-use Rattle.std.specs.List.{flat_map}
-use Rattle.sparql_solve.specs.Parts.{left_in}
-use Rattle.sparql_solve.proofs.KeyLemmas.{rows_of}
 use Rattle.sparql_solve.proofs.MinusLemmas.{one_taken, one_kept}
 use Rattle.sparql_solve.proofs.minus.append_left.Goals as goal
 
