@@ -16,3 +16,5 @@ pub mod DistinctLemmas
 pub mod ResultLemmas
 pub mod KeyLemmas
 pub mod PartLemmas
+pub mod AskLemmas
+pub mod AskGroupLemmas
