@@ -3,7 +3,7 @@ ghost use Rattle.std.specs.Prelude.{◌≡◌};
 
 use rdf_dataset::{Dataset, Source, Staged};
 use rdf_terms::{GraphName, NoMemory, Quad, Term};
-use sparql_eval::{apply, solve};
+use sparql_eval::{apply, ask, solve};
 use sparql_syntax::{read_query, read_update};
 use sparql_trees::{Pattern, Query};
 use std::alloc::Global;
@@ -229,6 +229,57 @@ fn what_stands_in_graph_is_found_once_for_all_names_around_it(rt: HostRuntime) {
     ] {
         assert!(rt;
             cost_over(rt.alloc(), GRAPHS, group) == Some(wanted),
+            "{group}"
+        );
+    }
+}
+
+// Whether a group has a solution, and how many look-ups look at how many quads for that.
+fn ask_cost(alloc: Global, data: &str, group: &str) -> Option<(bool, usize, usize)> {
+    let dataset = Dataset::new(alloc);
+    let mut view = Staged::over(alloc, &dataset);
+    insert(alloc, &mut view, data)?;
+    let calls = Cell::new(0);
+    let looked = Cell::new(0);
+    let source = Counting {
+        under: &view,
+        calls: &calls,
+        looked: &looked,
+    };
+    let answer = ask(alloc, &pattern(alloc, group)?, &source).ok()?;
+    Some((answer, calls.get(), looked.get()))
+}
+
+#[test]
+fn ask_looks_at_what_its_first_solution_takes(rt: HostRuntime) {
+    for (group, wanted) in [
+        ("{ ?s e:p ?o . ?o e:q ?x }", (true, 2, 101)),
+        ("{ ?s e:p ?o { ?o e:q ?x } }", (true, 2, 101)),
+        ("{ ?s e:p ?o OPTIONAL { ?o e:q ?x } }", (true, 2, 101)),
+        ("{ ?a e:p ?b . ?c e:q ?d . ?e e:p ?f }", (true, 3, 300)),
+        ("{ { ?s e:p ?o } UNION { ?s e:q ?o } }", (true, 1, 100)),
+        ("{ { ?s e:none ?o } UNION { ?s e:q ?o } }", (true, 2, 100)),
+        ("{ ?s e:p ?o . ?o e:none ?x }", (false, 101, 100)),
+        ("{ ?s e:p ?o . ?o e:q ?x FILTER(?x = 1) }", (false, 101, 200)),
+    ] {
+        let data = chains(rt.alloc()).unwrap_or(String::new(rt.alloc()));
+        assert!(rt;
+            ask_cost(rt.alloc(), data.as_str(), group) == Some(wanted),
+            "{group}"
+        );
+    }
+}
+
+#[test]
+fn ask_looks_no_further_than_the_first_graph_with_a_solution(rt: HostRuntime) {
+    for (group, wanted) in [
+        ("{ GRAPH ?g { ?s ?p ?o } }", (true, 1, 1)),
+        ("{ GRAPH e:g7 { ?s ?p ?o } }", (true, 1, 1)),
+        ("{ GRAPH e:none { ?s ?p ?o } }", (false, 0, 0)),
+    ] {
+        let data = many_graphs(rt.alloc()).unwrap_or(String::new(rt.alloc()));
+        assert!(rt;
+            ask_cost(rt.alloc(), data.as_str(), group) == Some(wanted),
             "{group}"
         );
     }

@@ -1,10 +1,11 @@
 -- A condition asked expression by expression.
-use Rattle.std.proofs.Common.{◌≡◌, ℕ, ◌+◌, ◌<◌, Bool, true, ◌&&◌, List, [], ◌∷◌, filter, sym, ap, ◌∙◌, arith, length, drop, get_or, nat_eq}
+use Rattle.std.proofs.Common.{◌≡◌, ℕ, ◌+◌, ◌<◌, Bool, true, false, cond, ◌≤◌, ◌&&◌, List, [], ◌∷◌, filter, sym, ap, ◌∙◌, arith, length, drop, get_or, nat_eq}
 use Rattle.std.proofs.lemmas.Bool.{eqb-true}
-use Rattle.std.proofs.lemmas.List.{drop_more}
+use Rattle.std.proofs.lemmas.List.{drop_all, drop_more}
 use Rattle.sparql_trees.specs.declared.expression.Expression.{Expression}
 use Rattle.sparql_values.specs.Mapping.{Variables, Mapping, value_of}
 use Rattle.sparql_values.specs.Values.{is_satisfied}
+use Rattle.sparql_algebra.specs.Results.{is_some_solution}
 use Rattle.sparql_algebra.specs.Solutions.{satisfies}
 use Rattle.sparql_algebra.proofs.CallerLemmas.{filter_always}
 
@@ -21,3 +22,24 @@ asked vs F i x m values answer whole lt here h ev e =
 pub no_filters : (vs : Variables) (F : List Expression) (rows : List Mapping) (b : Bool) → b ≡ nat_eq (length F) 0 → b ≡ true → rows ≡ filter (satisfies vs F) rows
 no_filters vs [] rows b e t = sym (filter_always rows)
 no_filters vs (x ∷ F) rows b e t = absurd (omega (arith, eqb-true (length (x ∷ F)) 0 (sym e ∙ t)))
+
+-- ---- rows of which one passes
+
+module _ (q : Mapping → Bool) (rows : List Mapping) (i : ℕ) where
+  here : (x : Mapping) → i < length rows → x ≡ get_or rows i x → (b : Bool) → q x ≡ b →
+      filter q (drop i rows) ≡ cond b (x ∷ filter q (drop (i + 1) rows)) (filter q (drop (i + 1) rows))
+  here x lt is b e =
+      ap (filter q) (drop_more rows i x lt ∙ ap (λ (y : Mapping). y ∷ drop (i + 1) rows) (sym is))
+      ∙ ap (λ c. cond c (x ∷ filter q (drop (i + 1) rows)) (filter q (drop (i + 1) rows))) e
+
+  pub passes_here : (x : Mapping) → i < length rows → x ≡ get_or rows i x → q x ≡ true →
+      is_some_solution (filter q (drop i rows)) ≡ is_some_solution (filter q rows) → true ≡ is_some_solution (filter q rows)
+  passes_here x lt is e h = sym (ap is_some_solution (here x lt is true e)) ∙ h
+
+  pub fails_here : (x : Mapping) → i < length rows → x ≡ get_or rows i x → q x ≡ false →
+      is_some_solution (filter q (drop i rows)) ≡ is_some_solution (filter q rows) →
+      is_some_solution (filter q (drop (i + 1) rows)) ≡ is_some_solution (filter q rows)
+  fails_here x lt is e h = sym (ap is_some_solution (here x lt is false e)) ∙ h
+
+  pub none_passes : length rows ≤ i → is_some_solution (filter q (drop i rows)) ≡ is_some_solution (filter q rows) → false ≡ is_some_solution (filter q rows)
+  none_passes le h = sym (ap (λ (xs : List Mapping). is_some_solution (filter q xs)) (drop_all i rows le)) ∙ h

@@ -57,7 +57,7 @@ all_wide vs (x ∷ xs) h =
     ap (λ b. b && list_all (is_wide vs) xs) (wide_to vs x (length_from (length vs) x (and_left (has_length (length vs) x) _ h)))
     ∙ all_wide vs xs (and_right (has_length (length vs) x) _ h)
 
-merged_wide : (vs : Variables) (a x : Mapping) → length a ≡ length vs → length x ≡ length vs → length (merge a x) ≡ length vs
+pub merged_wide : (vs : Variables) (a x : Mapping) → length a ≡ length vs → length x ≡ length vs → length (merge a x) ≡ length vs
 merged_wide vs a x ea ex =
     length_from (length vs) (merge a x) (merge_length (length vs) a x (length_to (length vs) a ea) (length_to (length vs) x ex))
 
@@ -189,7 +189,7 @@ module _ (vs : Variables) (s : State) where
       asked_of (x ∷ E) A r = SameBag-filter (satisfies vs (x ∷ E)) rows (under vs d g A a) r f ∙ ap (sum_by f) (sym (filter_under vs d g (x ∷ E) A a))
 
   -- what an element makes of all rows
-  extended_made : (d : Listing) (g : GraphName) (G : Algebra) (a : Mapping) (k : Element) → length a ≡ length vs →
+  pub extended_made : (d : Listing) (g : GraphName) (G : Algebra) (a : Mapping) (k : Element) → length a ≡ length vs →
       flat_map (made vs d g a k) (under vs d g G a) ≡ under vs d g (extended G k) a
   extended_made d g G a (joined A) ea =
       sym (filter_flat_map (compatible a) (merges (solutions vs d g A)) (under vs d g G a)) ∙ sym (joined_alone vs d g G A a ea)
@@ -337,7 +337,7 @@ module _ (vs : Variables) (s : State) where
 
   -- ---- UNION
 
-  union_of_each : (g : GraphName) (a : Mapping) (ps : List Pattern) (b : Bool) → b ≡ nat_eq (length ps) 0 → b ≡ false → (d : Listing) →
+  pub union_of_each : (g : GraphName) (a : Mapping) (ps : List Pattern) (b : Bool) → b ≡ nat_eq (length ps) 0 → b ≡ false → (d : Listing) →
       flat_map (λ p. under vs d g (translation p) a) ps ≡ under vs d g (union_of (map translation ps)) a
   union_of_each g a [] b e n d = cc
   union_of_each g a (p ∷ ps) b e n d =

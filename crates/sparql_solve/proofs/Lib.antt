@@ -17,3 +17,5 @@ pub mod ResultLemmas
 pub mod KeyLemmas
 pub mod PartLemmas
 pub mod MinusLemmas
+pub mod AskLemmas
+pub mod AskGroupLemmas

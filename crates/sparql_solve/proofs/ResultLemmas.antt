@@ -23,7 +23,7 @@ use Rattle.sparql_algebra.specs.Order.{mapping_cmp}
 use Rattle.sparql_algebra.specs.Results.{Solves, IsSelection, HasSolution, pattern_solutions, projected, projections, times_selected, is_some_solution}
 use Rattle.sparql_algebra.specs.Solutions.{solutions}
 use Rattle.sparql_algebra.specs.Sorted.{sorted_solutions}
-use Rattle.sparql_algebra.proofs.CallerLemmas.{and_left, and_right, sums_from_counts, same_mapping_is, same_mapping_own, SameBag-map, nothing_left_out, some_same, some_solution_list, one_solution_list}
+use Rattle.sparql_algebra.proofs.CallerLemmas.{and_left, and_right, sums_from_counts, same_mapping_is, same_mapping_own, SameBag-map, nothing_left_out, some_solution_list, one_solution_list}
 use Rattle.sparql_solve.specs.Members.{AreSolutions}
 
 project_is : (vs names : Variables) (m : Mapping) → map (value_in m) (map (column vs) names) ≡ projected vs names m
@@ -123,11 +123,16 @@ selected q s vs given names found held fewer out columns cs h eg en ec es eh kep
         subst (λ (xs : List Mapping). SameBag xs (projections q d)) (sym is)
         (SameBag-map (projected (visible q.pattern) q.columns) found (pattern_solutions q.pattern Default d) (solved_bag q.pattern Default s vs found h d l))
 
-some_is : (xs : List Mapping) → not (nat_eq (length xs) 0) ≡ is_some_solution xs
+pub some_is : (xs : List Mapping) → not (nat_eq (length xs) 0) ≡ is_some_solution xs
 some_is [] = refl
 some_is (x ∷ xs) = ap not (eqb-suc-zero (length xs))
 
-pub answered : (P : Pattern) (s : State) (vs : Variables) (given rows : List Mapping) (empty : Bool) → Solves P Default s vs rows → given ≡ rows →
-    empty ≡ nat_eq (length given) 0 → HasSolution P s (not empty)
-answered P s vs given rows empty h eg e d l =
-    ap not e ∙ some_is given ∙ ap is_some_solution eg ∙ some_same rows (pattern_solutions P Default d) (solved_bag P Default s vs rows h d l)
+some_shown : (f : Mapping → Mapping) (xs : List Mapping) → is_some_solution (map f xs) ≡ is_some_solution xs
+some_shown f [] = refl
+some_shown f (x ∷ xs) = refl
+
+pub answered : (P : Pattern) (s : State) (all names : Variables) (answer : Bool) → all ≡ named P → names ≡ all →
+    ((d : Listing) → Lists s d → answer ≡ is_some_solution (solutions names d Default (translation P))) → HasSolution P s answer
+answered P s all names answer e en h d l =
+    h d l ∙ ap (λ (ns : Variables). is_some_solution (solutions ns d Default (translation P))) (en ∙ e)
+    ∙ sym (some_shown (projected (named P) (visible P)) (solutions (named P) d Default (translation P)))

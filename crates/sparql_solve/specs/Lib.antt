@@ -5,3 +5,4 @@ pub mod Matching
 pub mod Sides
 pub mod Members
 pub mod Under
+pub mod Ask

@@ -73,3 +73,8 @@ lone_joined (x ∷ y ∷ xs) = None
 pub record HoldsJust (p : Pattern) (b : BasicGraphPattern) : Type 0 where
   pub member : p.members ≡ m.Basic b ∷ []
   pub filters : p.filters ≡ []
+
+-- the group holds just this member, and no filters
+pub record HoldsOnly (p : Pattern) (x : Member) : Type 0 where
+  pub member : p.members ≡ x ∷ []
+  pub filters : p.filters ≡ []

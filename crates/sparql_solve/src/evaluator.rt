@@ -49,8 +49,8 @@ pub(crate) fn group_rows<S: Source>(
     )
 }
 
-// The solution of the empty pattern: the row that binds nothing.
-fn unit_rows(alloc: Global, variables: &[Text]) -> Result<Vec<Row>, NoMemory>
+/// The solution of the empty pattern: the row that binds nothing.
+pub(crate) fn unit_rows(alloc: Global, variables: &[Text]) -> Result<Vec<Row>, NoMemory>
     ensures { IfOk result (λ out. out.items ≡ replicate (length variables.now) None ∷ []) }
 {
     let mut rows = Vec::new(alloc);
@@ -144,9 +144,9 @@ fn members_under<S: Source>(
     Ok(rows)
 }
 
-// The rows after a member of the group.
+/// The rows after a member of the group.
 #[cycle(follow)]
-fn rows_after<S: Source>(
+pub(crate) fn rows_after<S: Source>(
     alloc: Global,
     variables: &[Text],
     vocabulary: &Vocabulary,
@@ -361,10 +361,10 @@ fn union_under<S: Source>(
     Ok(out)
 }
 
-// GRAPH, whichever graph is the active one. It sets the active graph, so with a variable a group
-// whose triple patterns all stand in GRAPH is found once for all names.
+/// GRAPH, whichever graph is the active one. It sets the active graph, so with a variable a group
+/// whose triple patterns all stand in GRAPH is found once for all names.
 #[cycle(follow)]
-fn graph_under<S: Source>(
+pub(crate) fn graph_under<S: Source>(
     alloc: Global,
     variables: &[Text],
     vocabulary: &Vocabulary,

@@ -1,5 +1,6 @@
 //! Filter of rows (SPARQL 1.1 Query, section 18.5).
 ghost use Rattle.std.specs.Prelude.{◌≡◌, IfOk, filter};
+ghost use Rattle.sparql_algebra.specs.Results.{is_some_solution};
 ghost use Rattle.sparql_algebra.specs.Solutions.{satisfies};
 
 use crate::rows::Row;
@@ -47,4 +48,23 @@ pub(crate) fn filtered_rows(
         }
     }
     Ok(out)
+}
+
+/// Whether each of the filters is true of one of the rows.
+pub(crate) fn some_satisfies(
+    alloc: Global,
+    variables: &[Text],
+    vocabulary: &Vocabulary,
+    rows: &[Row],
+    filters: &[Expression],
+) -> Result<bool, NoMemory>
+    ensures { IfOk result (λ answer. answer
+        ≡ is_some_solution (filter (satisfies variables.now filters.now) rows.now)) }
+{
+    for row in rows {
+        if satisfies(alloc, variables, vocabulary, row, filters)? {
+            return Ok(true);
+        }
+    }
+    Ok(false)
 }

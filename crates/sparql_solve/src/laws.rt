@@ -1,4 +1,5 @@
-//! What holds of look-ups.
+//! What holds of look-ups, and of members that are followed.
+ghost use Rattle.sparql_solve.specs.Ask.{FollowedInParts, GroupIsFollowed};
 ghost use Rattle.sparql_solve.specs.LookUps.{LookUpsGiveMerges, LookUpsGivePairs};
 
 /// Under one left solution, the look-ups of a basic graph pattern in a graph give each pair of a
@@ -9,4 +10,11 @@ ghost use Rattle.sparql_solve.specs.LookUps.{LookUpsGiveMerges, LookUpsGivePairs
 pub fn look_ups_are_merges()
     ensures pairs { LookUpsGivePairs }
     ensures merges { LookUpsGiveMerges }
+{}
+
+/// What follows from some rows by the members of a group, and from others, follows from both; and
+/// from the row that binds nothing the group's solutions do (SPARQL 1.1 Query, section 18.6).
+pub fn rows_are_followed()
+    ensures parts { FollowedInParts }
+    ensures group { GroupIsFollowed }
 {}

@@ -5,7 +5,9 @@
 //! nothing, reads no text, and writes none: rows are terms.
 #![tactic(auto)]
 
+mod asking;
 mod basic;
+mod chunks;
 mod counted;
 mod evaluator;
 mod filters;
@@ -27,6 +29,6 @@ mod sharing;
 mod sides;
 
 pub use keys::runs_give_merges;
-pub use laws::look_ups_are_merges;
+pub use laws::{look_ups_are_merges, rows_are_followed};
 pub use results::{Solutions, ask, ask_with, select, select_with, solve, sorted_solutions};
 pub use rows::Row;

@@ -110,9 +110,9 @@ fn quads_under<S: Source>(
     Ok(())
 }
 
-// The rows that one triple pattern makes of these, by look-ups of its triples. Rows that ask the
-// same one after another share a look-up.
-fn step<S: Source>(
+/// The rows that one triple pattern makes of these, by look-ups of its triples. Rows that ask the
+/// same one after another share a look-up.
+pub(crate) fn step<S: Source>(
     alloc: Global,
     graph: &GraphName,
     source: &S,
@@ -155,10 +155,10 @@ fn is_linked(row: &Row, places: &Places) -> bool {
     is_ground
 }
 
-// The place of the triple pattern that is looked up next under the rows, all of which bind the same
-// columns: of the first few, the first that is linked to what they bind; where none is, the first.
-// Nothing but time rests on it.
-fn next_pattern(rest: &VecDeque<&Places>, rows: &[Row]) -> usize
+/// The place of the triple pattern that is looked up next under the rows: of the first few, the
+/// first that is linked to what the first row binds; where none is, the first. Nothing but time
+/// rests on it.
+pub(crate) fn next_pattern(rest: &VecDeque<&Places>, rows: &[Row]) -> usize
     ensures { 0 < length rest.now.items → result < length rest.now.items }
 {
     let Some(row) = rows.first() else {
@@ -172,12 +172,29 @@ fn next_pattern(rest: &VecDeque<&Places>, rows: &[Row]) -> usize
     0
 }
 
-// References to the triple patterns.
-fn all_patterns<'p>(alloc: Global, patterns: &'p [Places]) -> Result<VecDeque<&'p Places>, NoMemory>
+/// References to the triple patterns.
+pub(crate) fn all_patterns<'p>(
+    alloc: Global,
+    patterns: &'p [Places],
+) -> Result<VecDeque<&'p Places>, NoMemory>
     ensures { IfOk result (λ all. map (λ r. r.now) all.items ≡ patterns.now) }
 {
     let all: Vec<&Places> = patterns.iter().collect(alloc)?;
     Ok(VecDeque::from_vec(all))
+}
+
+/// The same references once more.
+pub(crate) fn copied<'p>(
+    alloc: Global,
+    patterns: &VecDeque<&'p Places>,
+) -> Result<VecDeque<&'p Places>, NoMemory>
+    ensures { IfOk result (λ all. all.items ≡ patterns.now.items) }
+{
+    let mut all = VecDeque::new(alloc);
+    for place in 0..patterns.len() {
+        all.push_back(patterns[place])?;
+    }
+    Ok(all)
 }
 
 /// The rows of all columns that grow from these, one triple pattern after another, each looked up

@@ -5,7 +5,7 @@ ghost use Rattle.rdf_terms.specs.declared.quad.GraphName.{GraphName};
 ghost use Rattle.sparql_trees.specs.declared.pattern.BasicGraphPattern.{BasicGraphPattern};
 ghost use Rattle.sparql_algebra.specs.Algebra.{element, graph, translation};
 ghost use Rattle.sparql_algebra.specs.Solutions.{solutions};
-ghost use Rattle.sparql_solve.specs.Sides.{HoldsJust, lone_joined};
+ghost use Rattle.sparql_solve.specs.Sides.{HoldsJust, HoldsOnly, lone_joined};
 ghost use Rattle.sparql_solve.specs.Members.{element_solutions};
 ghost use Rattle.sparql_solve.specs.Under.{IsLookUpOf, is_joined, is_removed};
 
@@ -42,6 +42,16 @@ fn lone_joined(members: &[Member]) -> Option<&Member>
     match member {
         Member::Optional(_) | Member::Minus(_) => None,
         Member::Basic(_) | Member::Union(_) | Member::Graph(_, _) => Some(member),
+    }
+}
+
+/// The only member of a group without filters.
+pub(crate) fn lone_member(pattern: &Pattern) -> Option<&Member>
+    ensures { IfSome (option_copied result) (λ member. HoldsOnly pattern.now member) }
+{
+    match pattern.members.as_slice() {
+        [member] if pattern.filters.is_empty() => Some(member),
+        _ => None,
     }
 }
 
@@ -82,8 +92,8 @@ fn look_up_of_graph<S: Source>(
     Ok(Some(look_up_in(alloc, variables, graphs, basic)?))
 }
 
-// The look-ups of a member that is a basic graph pattern, by itself or in GRAPH.
-fn look_up_of_joined<S: Source>(
+/// The look-ups of a member that is a basic graph pattern, by itself or in GRAPH.
+pub(crate) fn look_up_of_joined<S: Source>(
     alloc: Global,
     variables: &[Text],
     graph: &GraphName,

@@ -5,6 +5,7 @@ ghost use Rattle.sparql_algebra.specs.Results.{HasSolution, IsSelection, Solves,
 ghost use Rattle.sparql_algebra.specs.Sorted.{sorted_solutions};
 ghost use Rattle.sparql_trees.specs.Visible.{visible};
 
+use crate::asking::has_solution;
 use crate::evaluator::group_rows;
 use crate::order::{ordered, sort_rows};
 use crate::rows::Row;
@@ -213,6 +214,8 @@ pub fn ask_with<S: Source>(
 ) -> Result<bool, NoMemory>
     ensures { IfOk result (λ answer. HasSolution pattern.now (S.contents source.now) answer) }
 {
-    let found = solve_with(alloc, vocabulary, pattern, &GraphName::Default, source)?;
-    Ok(!found.rows.as_slice().is_empty())
+    let named = named_variables(alloc, pattern)?;
+    let names = named.as_slice();
+    let graph = GraphName::Default;
+    has_solution(alloc, names, vocabulary, &graph, source, pattern)
 }

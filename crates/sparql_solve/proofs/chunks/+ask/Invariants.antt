@@ -1,0 +1,60 @@
+use Rattle.std.proofs.Common.{◌≡◌, ◌+◌, ◌*◌, true, length, map, drop}
+use Rattle.std.specs.List.{list_all}
+use Rattle.sparql_algebra.specs.Algebra.{element}
+use Rattle.sparql_algebra.specs.Listing.{Listing, Lists}
+use Rattle.sparql_algebra.specs.Results.{is_some_solution}
+use Rattle.sparql_solve.specs.Ask.{followed, has_columns}
+use Rattle.sparql_solve.specs.Under.{is_wide}
+use Rattle.sparql_solve.proofs.AskLemmas.{Asks, Grows, grows_to}
+use Rattle.sparql_solve.proofs.PatternOrderLemmas.{asked}
+use Rattle.sparql_solve.proofs.chunks.+ask.Given as goal
+
+abbrev pub decreases-some_after : goal.decreases-some_after
+decreases-some_after g l = 5 * length l.rooms.now + 1
+
+abbrev pub decreases-some_of_first : goal.decreases-some_of_first
+decreases-some_of_first g l = 5 * length l.rooms.now
+
+abbrev pub decreases-some_looked_up : goal.decreases-some_looked_up
+decreases-some_looked_up g l = 5 * length l.rooms.now + 3
+
+abbrev pub decreases-some_matched : goal.decreases-some_matched
+decreases-some_matched g l = 5 * length l.rooms.now + 2
+
+abbrev pub decreases-some_of_first_matched : goal.decreases-some_of_first_matched
+decreases-some_of_first_matched g l = 5 * length l.rooms.now
+
+abbrev pub invariant-some_after-loop-place : goal.invariant-some_after-loop-place
+invariant-some_after-loop-place g l =
+    (d : Listing) → Lists (g.S.Source.contents l.source) d → length l.under ≡ length l.variables → list_all (is_wide l.variables) l.fn.rows.items ≡ true →
+    Asks l.variables d l.graph l.under l.filters l.members (drop l.place l.members) l.fn.rows.items l.rows.items
+
+abbrev pub invariant-some_of_first-loop-first : goal.invariant-some_of_first-loop-first
+invariant-some_of_first-loop-first g l = record {
+  wide : list_all (is_wide l.variables) l.fn.rows.items ≡ true → list_all (is_wide l.variables) l.rows.items ≡ true;
+  same : (d : Listing) → Lists (g.S.Source.contents l.source) d → length l.under ≡ length l.variables → list_all (is_wide l.variables) l.fn.rows.items ≡ true →
+      is_some_solution (followed l.variables d l.graph l.under (map element l.members) l.filters l.rows.items)
+      ≡ is_some_solution (followed l.variables d l.graph l.under (map element l.members) l.filters l.fn.rows.items);
+}
+
+abbrev pub decreases-some_of_first-loop-first : goal.decreases-some_of_first-loop-first
+decreases-some_of_first-loop-first g l = length l.rows.items
+
+abbrev pub invariant-some_matched-loop-rest : goal.invariant-some_matched-loop-rest
+invariant-some_matched-loop-rest g l =
+    (d : Listing) → Lists (g.S.Source.contents l.source) d → length l.under ≡ length l.variables → list_all (has_columns l.variables) l.fn.start.items ≡ true →
+    Grows l.variables d l.graph l.under l.own l.members l.filters (asked l.fn.patterns.items) (asked l.rest.items) l.fn.start.items l.rows.items
+
+abbrev pub decreases-some_matched-loop-rest : goal.decreases-some_matched-loop-rest
+decreases-some_matched-loop-rest g l = length l.rest.items
+
+abbrev pub invariant-some_of_first_matched-loop-first : goal.invariant-some_of_first_matched-loop-first
+invariant-some_of_first_matched-loop-first g l = record {
+  wide : list_all (has_columns l.variables) l.fn.rows.items ≡ true → list_all (has_columns l.variables) l.rows.items ≡ true;
+  same : (d : Listing) → Lists (g.S.Source.contents l.source) d → length l.under ≡ length l.variables → list_all (has_columns l.variables) l.fn.rows.items ≡ true →
+      is_some_solution (grows_to l.variables d l.graph l.under l.own l.members l.filters (asked l.patterns.items) l.rows.items)
+      ≡ is_some_solution (grows_to l.variables d l.graph l.under l.own l.members l.filters (asked l.patterns.items) l.fn.rows.items);
+}
+
+abbrev pub decreases-some_of_first_matched-loop-first : goal.decreases-some_of_first_matched-loop-first
+decreases-some_of_first_matched-loop-first g l = length l.rows.items

@@ -1,0 +1,236 @@
+//! Whether a group has a solution (ASK; SPARQL 1.1 Query, section 16.3). A UNION or a GRAPH that
+//! stands alone in it is gone into; the members of other groups are followed in chunks of rows.
+ghost use Rattle.std.specs.Prelude.{◌≡◌, [], IfOk, cond, length, map};
+ghost use Rattle.std.specs.List.{flat_map, list_any};
+ghost use Rattle.rdf_terms.specs.declared.quad.GraphName.TheVariants.{Named};
+ghost use Rattle.rdf_terms.specs.declared.quad.GraphName.{GraphName};
+ghost use Rattle.sparql_algebra.specs.Algebra.{element, graph, group_of, translation, union_of};
+ghost use Rattle.sparql_algebra.specs.Listing.{Listing, Lists};
+ghost use Rattle.sparql_algebra.specs.Results.{is_some_solution};
+ghost use Rattle.sparql_algebra.specs.Solutions.{solutions};
+ghost use Rattle.sparql_solve.specs.Ask.{SaysWhether};
+ghost use Rattle.sparql_solve.specs.Under.{under_name};
+ghost use Rattle.sparql_values.specs.Mapping.{same_term};
+
+use crate::chunks::{first_rooms, some_after};
+use crate::counted::Counted;
+use crate::evaluator::{graph_under, unit_rows};
+use crate::look_ups::is_named;
+use crate::members::lone_member;
+use crate::names::names_under;
+use crate::rows::Row;
+use crate::shapes::group_reads;
+use rdf_dataset::Source;
+use rdf_terms::{GraphName, NoMemory, Term, Text, Vocabulary};
+use sparql_trees::{Member, Pattern, VarOrIri};
+use std::alloc::Global;
+use std::cell::Cell;
+
+/// Whether a group has a solution in a graph.
+pub(crate) fn has_solution<S: Source>(
+    alloc: Global,
+    variables: &[Text],
+    vocabulary: &Vocabulary,
+    graph: &GraphName,
+    source: &S,
+    pattern: &Pattern,
+) -> Result<bool, NoMemory>
+    ensures { IfOk result (λ answer. (d : Listing) → Lists (S.contents source.now) d → answer
+        ≡ is_some_solution (solutions variables.now d graph.now (translation pattern.now))) }
+{
+    let nothing = Row::empty(alloc, variables.len(), 0)?;
+    let looked = Cell::new(0);
+    let counted = Counted {
+        source,
+        looked: &looked,
+    };
+    some_in_group(
+        alloc, variables, vocabulary, graph, &counted, &looked, pattern, &nothing,
+    )
+}
+
+// Whether a group has a solution, its members being followed in chunks.
+fn some_in_members<S: Source>(
+    alloc: Global,
+    variables: &[Text],
+    vocabulary: &Vocabulary,
+    graph: &GraphName,
+    source: &S,
+    looked: &Cell<u64>,
+    pattern: &Pattern,
+    under: &Row,
+) -> Result<bool, NoMemory>
+    ensures { IfOk result (λ answer.
+        SaysWhether variables.now (S.contents source.now) under.now answer
+        (λ d. solutions variables.now d graph.now (translation pattern.now))) }
+{
+    let rows = unit_rows(alloc, variables)?;
+    let rooms = first_rooms(alloc)?;
+    let members = pattern.members.as_slice();
+    let filters = pattern.filters.as_slice();
+    some_after(
+        alloc, variables, vocabulary, graph, source, looked, rows, members, filters, &rooms, under,
+    )
+}
+
+// Whether a group has a solution.
+#[cycle(some)]
+fn some_in_group<S: Source>(
+    alloc: Global,
+    variables: &[Text],
+    vocabulary: &Vocabulary,
+    graph: &GraphName,
+    source: &S,
+    looked: &Cell<u64>,
+    pattern: &Pattern,
+    under: &Row,
+) -> Result<bool, NoMemory>
+    ensures { IfOk result (λ answer.
+        SaysWhether variables.now (S.contents source.now) under.now answer
+        (λ d. solutions variables.now d graph.now (translation pattern.now))) }
+{
+    let Some(member) = lone_member(pattern) else {
+        return some_in_members(
+            alloc, variables, vocabulary, graph, source, looked, pattern, under,
+        );
+    };
+    match member {
+        Member::Union(groups) => {
+            let groups = groups.as_slice();
+            some_in_union(
+                alloc, variables, vocabulary, graph, source, looked, groups, under,
+            )
+        }
+        Member::Graph(name, inner) => some_in_graph(
+            alloc, variables, vocabulary, name, source, looked, inner, under,
+        ),
+        _ => some_in_members(
+            alloc, variables, vocabulary, graph, source, looked, pattern, under,
+        ),
+    }
+}
+
+// Whether one of the groups with UNION between them has a solution: others aren't looked at then.
+#[cycle(some)]
+fn some_in_union<S: Source>(
+    alloc: Global,
+    variables: &[Text],
+    vocabulary: &Vocabulary,
+    graph: &GraphName,
+    source: &S,
+    looked: &Cell<u64>,
+    groups: &[Pattern],
+    under: &Row,
+) -> Result<bool, NoMemory>
+    ensures { IfOk result (λ answer.
+        SaysWhether variables.now (S.contents source.now) under.now answer
+        (λ d. solutions variables.now d graph.now (union_of (map translation groups.now)))) }
+{
+    if groups.is_empty() {
+        return Ok(true);
+    }
+    for group in groups {
+        if some_in_group(
+            alloc, variables, vocabulary, graph, source, looked, group, under,
+        )? {
+            return Ok(true);
+        }
+    }
+    Ok(false)
+}
+
+// Whether GRAPH has a solution, whichever graph is the active one.
+#[cycle(some)]
+fn some_in_graph<S: Source>(
+    alloc: Global,
+    variables: &[Text],
+    vocabulary: &Vocabulary,
+    name: &VarOrIri,
+    source: &S,
+    looked: &Cell<u64>,
+    pattern: &Pattern,
+    under: &Row,
+) -> Result<bool, NoMemory>
+    ensures { IfOk result (λ answer. (active : GraphName) →
+        SaysWhether variables.now (S.contents source.now) under.now answer
+        (λ d. solutions variables.now d active (graph name.now (translation pattern.now)))) }
+{
+    match name {
+        VarOrIri::Iri(iri) => {
+            let name = Term::Iri(iri.copy()?);
+            some_in_named(
+                alloc, variables, vocabulary, name, source, looked, pattern, under,
+            )
+        }
+        VarOrIri::Variable(variable) if group_reads(pattern) => {
+            let names = names_under(alloc, variables, variable, source, under)?;
+            some_in_each(
+                alloc, variables, vocabulary, variable, &names, source, looked, pattern, under,
+            )
+        }
+        VarOrIri::Variable(_) => {
+            let rows = graph_under(
+                alloc, variables, vocabulary, name, source, looked, pattern, under,
+            )?;
+            Ok(!rows.as_slice().is_empty())
+        }
+    }
+}
+
+// Whether GRAPH with an IRI has a solution: none where no graph has that name.
+#[cycle(some)]
+fn some_in_named<S: Source>(
+    alloc: Global,
+    variables: &[Text],
+    vocabulary: &Vocabulary,
+    name: Term,
+    source: &S,
+    looked: &Cell<u64>,
+    pattern: &Pattern,
+    under: &Row,
+) -> Result<bool, NoMemory>
+    ensures { IfOk result (λ answer.
+        SaysWhether variables.now (S.contents source.now) under.now answer
+        (λ d. cond (list_any (same_term name) d.names)
+        (solutions variables.now d (Named name) (translation pattern.now)) [])) }
+{
+    if !is_named(source, &name) {
+        return Ok(false);
+    }
+    let graph = GraphName::Named(name);
+    some_in_group(
+        alloc, variables, vocabulary, &graph, source, looked, pattern, under,
+    )
+}
+
+// Whether the group has a solution in one of the graphs of these names, under the row and the name,
+// to which the variable is bound.
+#[cycle(some)]
+fn some_in_each<S: Source>(
+    alloc: Global,
+    variables: &[Text],
+    vocabulary: &Vocabulary,
+    variable: &Text,
+    names: &[Term],
+    source: &S,
+    looked: &Cell<u64>,
+    pattern: &Pattern,
+    under: &Row,
+) -> Result<bool, NoMemory>
+    ensures { IfOk result (λ answer. length under.now ≡ length variables.now →
+        (d : Listing) → Lists (S.contents source.now) d → answer ≡ is_some_solution
+        (flat_map (under_name variables.now d variable.now (translation pattern.now) under.now)
+        names.now)) }
+{
+    for name in names {
+        let bound = Row::single(alloc, variables, variable, name)?;
+        let both = under.merged(alloc, &bound)?;
+        let graph = GraphName::Named(name.copy()?);
+        if some_in_group(
+            alloc, variables, vocabulary, &graph, source, looked, pattern, &both,
+        )? {
+            return Ok(true);
+        }
+    }
+    Ok(false)
+}
