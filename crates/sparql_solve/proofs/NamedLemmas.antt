@@ -39,12 +39,6 @@ basic_names bool b = ap (member_names bool) (sym (m.rolls-Basic b)) ∙ fold-rol
 union_names : (b : Bool) (ps : List Pattern) → member_names b (m.Union ps) ≡ joined (map (names_where b) ps)
 union_names b ps = ap (member_names b) (sym (m.rolls-Union ps)) ∙ fold-roll-Member Names Names (names_of_member b) names_of_pattern (Member-F.Union ps)
 
-optional_names : (b : Bool) (p : Pattern) → member_names b (m.Optional p) ≡ names_where b p
-optional_names b p = ap (member_names b) (sym (m.rolls-Optional p)) ∙ fold-roll-Member Names Names (names_of_member b) names_of_pattern (Member-F.Optional p)
-
-graph_names : (b : Bool) (n : VarOrIri) (p : Pattern) → member_names b (m.Graph n p) ≡ name_names n ++ names_where b p
-graph_names b n p = ap (member_names b) (sym (m.rolls-Graph n p)) ∙ fold-roll-Member Names Names (names_of_member b) names_of_pattern (Member-F.Graph n p)
-
 pub basic_alike : (member : Member) (b : BasicGraphPattern) → member ≡ m.Basic b → member_names true member ≡ member_names false member
 basic_alike member b e = ap (member_names true) e ∙ basic_names true b ∙ sym (basic_names false b) ∙ sym (ap (member_names false) e)
 
@@ -53,12 +47,3 @@ pub union_alike : (member : Member) (ps given : List Pattern) → member ≡ m.U
 union_alike member ps given e eg h =
     ap (member_names true) e ∙ union_names true ps ∙ ap (λ (qs : List Pattern). joined (map (names_where true) qs)) (sym eg) ∙ h
     ∙ ap (λ (qs : List Pattern). joined (map (names_where false) qs)) eg ∙ sym (union_names false ps) ∙ sym (ap (member_names false) e)
-
-pub optional_alike : (member : Member) (p : Pattern) → member ≡ m.Optional p → names_where true p ≡ names_where false p → member_names true member ≡ member_names false member
-optional_alike member p e h =
-    ap (member_names true) e ∙ optional_names true p ∙ h ∙ sym (optional_names false p) ∙ sym (ap (member_names false) e)
-
-pub graph_alike : (member : Member) (n : VarOrIri) (p : Pattern) → member ≡ m.Graph n p → names_where true p ≡ names_where false p →
-    member_names true member ≡ member_names false member
-graph_alike member n p e h =
-    ap (member_names true) e ∙ graph_names true n p ∙ ap (λ (ns : Names). name_names n ++ ns) h ∙ sym (graph_names false n p) ∙ sym (ap (member_names false) e)

@@ -1,6 +1,6 @@
 use Rattle.std.proofs.Common.{true, false}
 use Rattle.sparql_trees.specs.Visible.{member_names, names_where}
-use Rattle.sparql_solve.proofs.NamedLemmas.{same_more, same_all, group_alike, basic_alike, union_alike, optional_alike, graph_alike}
+use Rattle.sparql_solve.proofs.NamedLemmas.{same_more, same_all, group_alike, basic_alike, union_alike}
 use Rattle.sparql_solve.proofs.shapes.+minus.Goals as goal
 
 pub one_has_minus-loop-group-preserved : goal.one_has_minus-loop-group-preserved
