@@ -9,6 +9,7 @@ pub mod BasicLemmas
 pub mod UnderLemmas
 pub mod SideLemmas
 pub mod ShapeLemmas
+pub mod NamedLemmas
 pub mod MemberLemmas
 pub mod SharedLemmas
 pub mod FollowLemmas

@@ -1,5 +1,5 @@
 -- Results of queries from the rows of the evaluator.
-use Rattle.std.proofs.Common.{◌≡◌, ℕ, ◌+◌, ◌<◌, Bool, true, not, cond, List, [], ◌∷◌, ◌++◌, map, get_or, Option, refl, sym, ap, ◌∙◌, subst, length, drop, append_assoc, nat_eq}
+use Rattle.std.proofs.Common.{◌≡◌, ℕ, ◌+◌, ◌<◌, Bool, true, false, not, cond, List, [], ◌∷◌, ◌++◌, map, get_or, Option, refl, sym, ap, ◌∙◌, subst, length, drop, append_assoc, nat_eq}
 use Rattle.std.proofs.Math.Dec.{eqb-suc-zero}
 use Rattle.std.specs.Cmp.{Equal-is}
 use Rattle.std.specs.Cmp.Lexicographic.{pointwise, texts_ties}
@@ -12,7 +12,7 @@ use Rattle.rdf_terms.specs.OrderLaws.{text_cmp-IsAntisymmetric}
 use Rattle.rdf_terms.specs.declared.quad.GraphName.{GraphName}
 use Rattle.rdf_terms.specs.declared.quad.GraphName.TheVariants.{Default}
 use Rattle.rdf_dataset.specs.State.{State}
-use Rattle.sparql_trees.specs.Visible.{named, visible}
+use Rattle.sparql_trees.specs.Visible.{named, names_where, visible, with_names}
 use Rattle.sparql_trees.specs.declared.pattern.Pattern.{Pattern}
 use Rattle.sparql_trees.specs.declared.query.Select.{Select}
 use Rattle.sparql_algebra.specs.Algebra.{translation}
@@ -55,6 +55,18 @@ names_alike (v ∷ vs) (w ∷ ws) h =
     let first : v ≡ w = names_apart v w (and_left (pointwise nat_eq v w) _ h) in
     let rest : vs ≡ ws = names_alike vs ws (and_right (pointwise nat_eq v w) _ h) in
     λ i. first i ∷ rest i
+
+-- where no MINUS stands in the pattern
+pub solved : (P : Pattern) (g : GraphName) (s : State) (vs names : Variables) (rows : List Mapping) → vs ≡ visible P → names ≡ vs → names_where true P ≡ names_where false P →
+    AreSolutions s rows (λ d. solutions names d g (translation P)) → Solves P g s vs rows
+unfolding named visible
+solved P g s vs names rows e en alike h = record {
+  variables_are = e;
+  counted = λ d l m.
+      h d l (λ x. cond (same_mapping m x) 1 0)
+      ∙ ap (λ (ns : Variables). count_by (same_mapping m) (solutions ns d g (translation P))) (en ∙ e)
+      ∙ ap (λ (ms : List Mapping). count_by (same_mapping m) ms) (sym (nothing_left_out P g d (ap (with_names []) alike)));
+}
 
 -- where no variable stands in MINUS alone
 pub solved_alike : (P : Pattern) (g : GraphName) (s : State) (vs all names those : Variables) (rows : List Mapping) → vs ≡ visible P → all ≡ named P → names ≡ all → those ≡ vs →

@@ -9,6 +9,7 @@ use crate::asking::has_solution;
 use crate::evaluator::group_rows;
 use crate::order::{ordered, sort_rows};
 use crate::rows::Row;
+use crate::shapes::has_minus;
 use rdf_dataset::Source;
 use rdf_terms::{GraphName, Items, NoMemory, Text, Vocabulary};
 use sparql_trees::{Pattern, Select, named_variables, visible_variables};
@@ -55,13 +56,34 @@ fn solve_with<S: Source>(
         s.variables s.rows.items) }
 {
     let variables = visible_variables(alloc, pattern)?;
-    let named = named_variables(alloc, pattern)?;
-    let names = named.as_slice();
+    if has_minus(pattern) {
+        return solve_minus(alloc, vocabulary, pattern, graph, source, variables);
+    }
+    let names = variables.as_slice();
     let rows = group_rows(alloc, names, vocabulary, graph, source, pattern)?;
-    if names == variables.as_slice() {
+    Ok(Solutions { variables, rows })
+}
+
+// What `solve` answers, where MINUS stands in the pattern.
+fn solve_minus<S: Source>(
+    alloc: Global,
+    vocabulary: &Vocabulary,
+    pattern: &Pattern,
+    graph: &GraphName,
+    source: &S,
+    variables: Items<Text>,
+) -> Result<Solutions, NoMemory>
+    requires { variables ≡ visible pattern.now }
+    ensures { IfOk result (λ s. Solves pattern.now graph.now (S.contents source.now)
+        s.variables s.rows.items) }
+{
+    let named = named_variables(alloc, pattern)?;
+    let all = named.as_slice();
+    let rows = group_rows(alloc, all, vocabulary, graph, source, pattern)?;
+    if all == variables.as_slice() {
         return Ok(Solutions { variables, rows });
     }
-    let rows = shown_rows(alloc, names, variables.as_slice(), &rows)?;
+    let rows = shown_rows(alloc, all, variables.as_slice(), &rows)?;
     Ok(Solutions { variables, rows })
 }
 

@@ -1,8 +1,10 @@
-//! Whether patterns read the active graph (SPARQL 1.1 Query, section 13.3).
-ghost use Rattle.std.specs.Prelude.{◌≡◌, ◌||◌, false, map};
+//! Whether patterns read the active graph, and whether they hold MINUS (SPARQL 1.1 Query, sections
+//! 13.3 and 8.2).
+ghost use Rattle.std.specs.Prelude.{◌≡◌, ◌||◌, false, true, map};
 ghost use Rattle.sparql_algebra.specs.Algebra.{element, translation, union_of};
 ghost use Rattle.sparql_algebra.specs.Under.{is_positive, reads, stands_any};
 ghost use Rattle.sparql_solve.specs.Members.{part};
+ghost use Rattle.sparql_trees.specs.Visible.{joined, member_names, names_where};
 
 use sparql_trees::{BasicGraphPattern, Member, Pattern};
 
@@ -54,5 +56,46 @@ fn reads(member: &Member) -> bool
         Member::Optional(pattern) => group_reads(pattern),
         Member::Graph(_, _) => false,
         Member::Minus(pattern) => group_reads(pattern),
+    }
+}
+
+// Whether MINUS stands in one of the groups.
+#[cycle(minus)]
+fn one_has_minus(groups: &[Pattern]) -> bool
+    ensures { result ≡ false → joined (map (names_where true) groups.now)
+        ≡ joined (map (names_where false) groups.now) }
+{
+    for group in groups {
+        if has_minus(group) {
+            return true;
+        }
+    }
+    false
+}
+
+/// Whether MINUS stands in the group, at any depth: where it doesn't, each variable that the group
+/// names is visible.
+#[cycle(minus)]
+pub(crate) fn has_minus(pattern: &Pattern) -> bool
+    ensures { result ≡ false → names_where true pattern.now ≡ names_where false pattern.now }
+{
+    let members = pattern.members.as_slice();
+    for member in members {
+        if holds_minus(member) {
+            return true;
+        }
+    }
+    false
+}
+
+#[cycle(minus)]
+fn holds_minus(member: &Member) -> bool
+    ensures { result ≡ false → member_names true member.now ≡ member_names false member.now }
+{
+    match member {
+        Member::Basic(_) => false,
+        Member::Union(groups) => one_has_minus(groups.as_slice()),
+        Member::Optional(pattern) | Member::Graph(_, pattern) => has_minus(pattern),
+        Member::Minus(_) => true,
     }
 }

@@ -225,8 +225,8 @@ fn rows_one_by_one(
     Ok(out)
 }
 
-/// What a member makes of rows with what was found for all of them. MINUS's is found by key, since
-/// it may be compatible with each of them and have nothing in common with any.
+/// What a member makes of rows with what was found for all of them. MINUS takes away by key: all of
+/// it may be compatible with each of them, and have no variable in common with any.
 pub(crate) fn rows_served(
     alloc: Global,
     variables: &[Text],
