@@ -1,7 +1,7 @@
 #!/usr/bin/env python3
 """Prints how the time of hostile texts and sessions grows: hostile.py [RDFKEEP [SECONDS [WORD..]]], where RDFKEEP is the built program
 
-Each shape below is given at sizes n that double from 1,024, each in a process of its own, until one takes SECONDS of a processor (2 if not
+Each shape below is given at sizes n that double from 1,024, each in a process of its own, until one takes SECONDS of a processor (1 if not
 given) or the text is 32 MB long. A row has the times at the three largest sizes, and how many times that of half the size each is. A shape is
 named again at the end where both times it is more than three. Of WORDs only the shapes whose names have one of them are tried.
 
@@ -85,6 +85,7 @@ TURTLE = {
     "a name that ends in n dots: Syntax": lambda n: turtle("PREFIX p: <a:> p:a" + "." * n + " <a:p> 1 ."),
     "a prefix of n dots": lambda n: turtle("PREFIX p" + ".p" * n + ": <a:> p" + ".p" * n + ":s <a:p> 1 ."),
     "a word of n dots: Syntax": lambda n: turtle("a" + ".a" * n),
+    "a name of n bytes": lambda n: turtle("PREFIX p: <a:> p:" + "x" * n + " <a:p> 1 ."),
     "a name of n escapes": lambda n: turtle("PREFIX p: <a:> p:" + "%41\\-" * n + " <a:p> 1 ."),
     "a name of n colons": lambda n: turtle("PREFIX p: <a:> p:" + ":" * n + " <a:p> 1 ."),
     "a long string of quotes": lambda n: turtle('<a:s> <a:p> """' + '""\\"' * n + '""" .'),
@@ -151,6 +152,8 @@ QUERIES = {
     "MINUS of nothing": lambda n: query("ASK { " + "MINUS { } " * n + "}"),
     "MINUS in MINUS, 98 deep": lambda n: data("<a:s> <a:p> 1") + query("ASK { " + levels(n, "?s ?p ?o MINUS {", "}") + " }"),
     "GRAPHs": lambda n: data("GRAPH <a:g> { <a:s> <a:p> 1 }") + query("SELECT * { " + "GRAPH ?g { ?s ?p ?o } " * n + "}"),
+    "GRAPH in GRAPH, 98 deep": lambda n: data("GRAPH <a:g> { <a:s> <a:p> 1 } GRAPH <a:h> { }") + query("ASK { " + levels(n, "GRAPH ?g {", "}", "?s ?p ?o") + " }"),
+    "OPTIONAL in OPTIONAL, 98 deep": lambda n: data("<a:s> <a:p> 1") + query("ASK { " + levels(n, "?s ?p ?o OPTIONAL {", "}") + " }"),
     "GRAPHs of n names": lambda n: data("GRAPH <a:g> { <a:s> <a:p> 1 }") + query("SELECT * { " + many(n, "GRAPH ?g% { } ") + "}"),
     "GRAPH ?g over n graphs": lambda n: graphs(n) + query("SELECT * { GRAPH ?g { ?s <a:p> ?o } }"),
     "GRAPH ?g behind itself over n graphs": lambda n: graphs(n) + query("SELECT * { GRAPH ?g { ?s <a:p> ?o } GRAPH ?g { ?t <a:p> ?o } }"),
@@ -207,7 +210,7 @@ SESSIONS = {
     "undos of nothing: NothingToUndo": lambda n: "%undo\n" * n,
     "updates": requests,
     "updates and undos": lambda n: requests(n) + "%undo\n" * n,
-    "updates, undos and redos": lambda n: requests(n) + "%undo\n" * n + "%redo\n" * n,
+    "updates, undos, redos, and what changed": lambda n: requests(n) + "%undo\n" * n + "%redo\n" * n + "%changes\n",
     "an update, its undo and redo, again and again": lambda n: (data("<a:s> <a:p> 1") + "%undo\n%redo\n%undo\n") * n,
     "updates, and what changed": lambda n: requests(n) + "%changes\n",
     "updates, and back": lambda n: "%mark x\n" + requests(n) + "%rollback x\n" + "%redo\n" * n,
@@ -274,7 +277,7 @@ def measured(rdfkeep, seconds, name, make, room):
         size *= 2
 
 
-def main(rdfkeep=str(pathlib.Path(__file__).resolve().parent.parent / "rdfkeep"), seconds="2", *words):
+def main(rdfkeep=str(pathlib.Path(__file__).resolve().parent.parent / "rdfkeep"), seconds="1", *words):
     grows = []
     print("%-68s %9s %28s   %s" % ("", "largest n", "seconds at n/4, n/2 and n", "times the one before"))
     with tempfile.TemporaryDirectory() as folder:
