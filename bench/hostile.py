@@ -220,6 +220,7 @@ SESSIONS = {
     "marks": marks,
     "one mark, again and again": lambda n: "%mark m\n" * n,
     "marks, then an update, an undo and another": lambda n: marks(n) + (data("<a:s> <a:p> 1") + "%undo\n") * n,
+    "marks, then an update, a mark, an undo, again and again": lambda n: marks(n) + (data("<a:s> <a:p> 1") + "%mark x\n%undo\n") * n,
     "marks, each behind an update that an undo takes back": lambda n: "".join(data(f"<a:{i}> <a:p> 1") + f"%mark m{i}\n%undo\n" for i in range(n)),
     "marks ahead: MarkAhead": lambda n: requests(n) + "%mark x\n" + "%undo\n" * n + "%rollback x\n" * n,
     "commits": lambda n: (data("<a:s> <a:p> 1") + "%commit\n") * n,
