@@ -19,6 +19,10 @@ SHAPES = {
     "linked by the last triple": "SELECT * WHERE { ?a e:p ?b . ?c e:r ?d . ?b e:q ?c }",
     "as many graphs as rows": "SELECT * WHERE { ?a e:p ?b GRAPH ?g { ?a e:n ?x } }",
     "ASK of all": "ASK { ?s ?p ?o }",
+    "MINUS that shares a variable": "SELECT * WHERE { ?a e:p ?b MINUS { ?a e:m ?x } }",
+    "MINUS behind OPTIONAL": "SELECT * WHERE { ?a e:p ?b OPTIONAL { ?a e:m ?x } MINUS { ?c e:m ?x } }",
+    "MINUS that shares none": "SELECT * WHERE { ?a e:p ?b MINUS { ?c e:q ?d } }",
+    "MINUS over all graphs": "SELECT * WHERE { ?a e:p ?b MINUS { GRAPH ?g { ?a e:n ?x } } }",
 }
 
 

@@ -1,5 +1,5 @@
 #!/usr/bin/env bash
-# Asks seven queries of 10^5 quads with rdfkeep, Apache Jena, rdflib and roqet, in one go, and prints the processor time that
+# Asks nine queries of 10^5 quads with rdfkeep, Apache Jena, rdflib and roqet, in one go, and prints the processor time that
 # each takes, loading apart, and the most memory of each process. rdfkeep's times are means of twenty in one session, from the
 # query's text to the last row, Jena's the best of many, warm, and of its two datasets in memory, rdflib's the best of three,
 # roqet's one run less one that only loads. Each must find as many rows.
@@ -15,7 +15,7 @@ for python in python3 /usr/bin/python3; do
 done
 work=$(mktemp -d)
 trap 'rm -rf "$work"' EXIT
-names=(star path optional filter union distinct groups)
+names=(star path optional filter union distinct groups minus unbound)
 
 python3 "$here/query_catalogue.py" "$work" "$count" "$seed"
 printf 'input: %s quads, seed %s\n' "$(wc -l < "$work/data")" "$seed"

@@ -22,6 +22,10 @@ QUERIES = {
     "union": "SELECT ?d WHERE { { ?d t:author p:5 } UNION { ?d t:author p:6 } UNION { ?d t:subject s:9 } }",
     "distinct": "SELECT DISTINCT ?field WHERE { ?d t:subject ?subject . ?subject t:broader ?field }",
     "groups": "SELECT ?d ?title ?field WHERE { { ?d t:subject ?s . ?s t:broader s:1 } { ?d t:title ?title . ?d t:year 1995 } }",
+    # two thirds of the people have an address
+    "minus": "SELECT ?person ?name WHERE { ?person t:name ?name MINUS { ?person t:mail ?mail } }",
+    # what they share is unbound in a third of the rows
+    "unbound": "SELECT ?person ?mail WHERE { ?person t:name ?name OPTIONAL { ?person t:mail ?mail } MINUS { ?other t:mail ?mail . ?other a t:Person } }",
 }
 
 

@@ -1,8 +1,8 @@
 #!/usr/bin/env python3
 """Times rdflib on what query_catalogue.py wrote: query_rdflib.py FOLDER NAME..
 
-It prints a line for each query: its name, the processor seconds of Graph.query up to the last row, the best of three, and how many rows
-there are.
+It prints a line for each query: its name, the processor seconds of Graph.query up to the last row, the best of three, or of one
+that takes over five, and how many rows there are.
 """
 import pathlib
 import sys
@@ -16,7 +16,7 @@ def main(folder, *names):
     graph.parse(str(folder / "data"), format="nt")
     for name in names:
         text, rounds = (folder / f"{name}.rq").read_text(), []
-        for _ in range(3):
+        while len(rounds) < 3 and sum(rounds) < 5:
             begun = time.process_time()
             rows = len(list(graph.query(text)))
             rounds.append(time.process_time() - begun)

@@ -97,6 +97,16 @@ GROUP = f"""{{
 *
 )
 {TRIPLE}}}
+MINUS {{
+{TRIPLE}MINUS {{ GRAPH
+*
+{{ }} }}
+FILTER(
+*
+!=
+*
+)
+{TRIPLE}}}
 GRAPH
 *
 {{ GRAPH
@@ -196,6 +206,11 @@ DELETE {{
 *
 {{
 {TRIPLE}}}
+{TRIPLE}}}
+MINUS {{
+{TRIPLE}FILTER(
+*
+)
 {TRIPLE}}}
 {{
 {TRIPLE}}} UNION {{
@@ -317,6 +332,8 @@ $
 {LABEL}}}
 {LABEL}FILTER(true)
 {LABEL}OPTIONAL {{
+{LABEL}FILTER(true)
+{LABEL}}} MINUS {{
 {LABEL}FILTER(true)
 {LABEL}}} {{
 {LABEL}}} GRAPH ?g {{
