@@ -6,7 +6,7 @@ use Rattle.rdf_keeper.specs.Inside.Streams.{WritesTo}
 use Rattle.rdf_keeper.specs.Inside.Outcomes.{status_of, error_line}
 use Rattle.rdf_keeper.specs.declared.streams.writing.WriteFault.{WriteFault}
 use Rattle.rdf_keeper.specs.declared.program.outcome.Outcome.{Outcome}
-use Rattle.rdf_keeper.specs.declared.program.outcome.Outcome.TheVariants.{Done, SomeRefused, BadDocument, BadWords, BadBase, BadData, ReadFailed, WriteFailed, NoMemory, ParserNoMemory}
+use Rattle.rdf_keeper.specs.declared.program.outcome.Outcome.TheVariants.{Done, SomeRefused, BadDocument, BadWords, BadBase, BadData, NotState, ReadFailed, WriteFailed, NoMemory, ParserNoMemory}
 use Rattle.rdf_keeper.proofs.StreamLemmas.{Appends-chain}
 
 pub as_far : (before after : Option (List ℕ)) (text want : List ℕ) (r : Result (Unit {0}) WriteFault) → text ≡ want → WritesTo before text r after → (front more : List ℕ) × (want ≡ front ++ more) × Appends before after front
@@ -20,6 +20,7 @@ no_line (BadDocument at) e = cc
 no_line BadWords e = refl
 no_line BadBase e = cc
 no_line (BadData fault) e = cc
+no_line NotState e = cc
 no_line ReadFailed e = cc
 no_line WriteFailed e = cc
 no_line (NoMemory _) e = cc

@@ -3,7 +3,7 @@ ghost use Rattle.std.specs.Prelude.{◌≡◌, [], ◌∷◌, ◌++◌, ◌<◌,
 ghost use Rattle.std.specs.List.{position_from};
 ghost use Rattle.rdf_keeper.specs.Script.Commands.{is_end};
 ghost use Rattle.rdf_keeper.specs.Script.LineWords.{is_gap, words};
-ghost use Rattle.rdf_keeper.specs.Script.Lines.{bare, upto_last_end};
+ghost use Rattle.rdf_keeper.specs.Script.Lines.{bare, raw_lines, upto_last_end};
 ghost use Rattle.rdf_keeper.specs.Inside.Says.{IsWholeLine};
 
 use memchr::memchr;
@@ -25,6 +25,17 @@ fn line_end(text: &[u8]) -> Option<usize>
     ensures within { IfSome result (λ i. i < length text.now) }
 {
     memchr(b'\n', text)
+}
+
+/// How many lines a text has; the last may lack its end.
+pub(crate) fn line_count(text: &[u8]) -> usize
+    ensures { result ≡ length (raw_lines text.now) }
+{
+    let ends = text.iter().filter(|b| **b == b'\n').count();
+    match text.last() {
+        None | Some(b'\n') => ends,
+        Some(_) => ends + 1,
+    }
 }
 
 /// The line without its end.
