@@ -3,6 +3,7 @@ pub mod Cuts
 pub mod Examples
 pub mod Feeds
 pub mod FirstEnds
+pub mod LineCounts
 pub mod Lines
 pub mod Show
 pub mod OneShow

@@ -68,12 +68,12 @@ fn loaded(
 }
 
 // A session whose start is the state of a state text.
-fn restored(alloc: Global, base: Option<Iri>, text: &[u8]) -> Result<Keeper, Outcome>
+fn restored(alloc: Global, base: Option<Iri>, text: Vec<u8>) -> Result<Keeper, Outcome>
     ensures { MatchResult result
-        (λ keeper. BeginsWith State base text.now keeper)
-        (λ outcome. RefusesData State base text.now outcome) }
+        (λ keeper. BeginsWith State base text.items keeper)
+        (λ outcome. RefusesData State base text.items outcome) }
 {
-    match Keeper::restore(alloc, text, base) {
+    match Keeper::restore_text(alloc, text, base) {
         Ok(keeper) => Ok(keeper),
         Err(StateFault::NotState) => Err(Outcome::NotState),
         Err(StateFault::NoMemory(refused)) => Err(Outcome::NoMemory(refused)),
@@ -93,7 +93,7 @@ fn over_data(
 {
     match format {
         StartFormat::Document(format) => loaded(alloc, base, format, text),
-        StartFormat::State => restored(alloc, base, text.as_slice()),
+        StartFormat::State => restored(alloc, base, text),
     }
 }
 

@@ -1,9 +1,9 @@
 //! Lines and their words.
 ghost use Rattle.std.specs.Prelude.{◌≡◌, [], ◌∷◌, ◌++◌, ◌<◌, ◌≤◌, length, nat_eq, MatchOption, IfSome, not};
-ghost use Rattle.std.specs.List.{position_from};
+ghost use Rattle.std.specs.List.{filter, position_from};
 ghost use Rattle.rdf_keeper.specs.Script.Commands.{is_end};
 ghost use Rattle.rdf_keeper.specs.Script.LineWords.{is_gap, words};
-ghost use Rattle.rdf_keeper.specs.Script.Lines.{bare, raw_lines, upto_last_end};
+ghost use Rattle.rdf_keeper.specs.Script.Lines.{bare, upto_last_end};
 ghost use Rattle.rdf_keeper.specs.Inside.Says.{IsWholeLine};
 
 use memchr::memchr;
@@ -27,15 +27,11 @@ fn line_end(text: &[u8]) -> Option<usize>
     memchr(b'\n', text)
 }
 
-/// How many lines a text has; the last may lack its end.
-pub(crate) fn line_count(text: &[u8]) -> usize
-    ensures { result ≡ length (raw_lines text.now) }
+/// How many lines end in a text.
+pub(crate) fn line_ends(text: &[u8]) -> usize
+    ensures { result ≡ length (filter (λ b. nat_eq b 10) text.now) }
 {
-    let ends = text.iter().filter(|b| **b == b'\n').count();
-    match text.last() {
-        None | Some(b'\n') => ends,
-        Some(_) => ends + 1,
-    }
+    text.iter().filter(|b| **b == b'\n').count()
 }
 
 /// The line without its end.

@@ -5,7 +5,7 @@ ghost use Rattle.rdf_lines.specs.QuadText.{quad_text};
 ghost use Rattle.rdf_keeper.specs.Script.Show.{ListsChange, Shows, name_line};
 ghost use Rattle.rdf_keeper.specs.declared.script.command.Topic.TheVariants.{State};
 
-use crate::script::line::line_count;
+use crate::script::line::line_ends;
 use rdf_dataset::Net;
 use rdf_lines::write_quad;
 use rdf_session::Keeper;
@@ -75,5 +75,5 @@ pub(crate) fn append_state(keeper: &Keeper, out: &mut Vec<u8>) -> Result<u64, No
 {
     let before = out.len();
     keeper.dump(out)?;
-    Ok(line_count(&out[before..]) as u64)
+    Ok(line_ends(&out[before..]) as u64)
 }
