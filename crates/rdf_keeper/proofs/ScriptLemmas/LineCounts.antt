@@ -1,10 +1,12 @@
 -- How many lines a text has that ends at an LF, as a state text does.
-use Rattle.std.proofs.Common.{◌≡◌, ◌∙◌, ◌⊎◌, inl, inr, ℕ, ◌+◌, Bool, true, false, cond, List, [], ◌∷◌, ◌++◌, length, refl, sym, ap, nat_eq, suc, subst, codes, append_assoc, append-nil}
+use Rattle.std.proofs.Common.{◌≡◌, ◌∙◌, ◌⊎◌, inl, inr, ℕ, ◌+◌, Bool, true, false, cond, List, [], ◌∷◌, ◌++◌, length, refl, sym, ap, nat_eq, suc, subst, codes, append_assoc, append-nil, length-append, take, drop, ◌-◌, ◌≤◌, arith}
 use Rattle.std.specs.List.{filter, flat_map, onto_first}
 use Rattle.std.specs.Prelude.{decimal}
+use Rattle.std.proofs.Math.Seq.{drop-append_seam}
+use Rattle.std.proofs.lemmas.List.{take_all}
 use Rattle.std.proofs.lemmas.Bool.Decides.{eqb_tells}
 use Rattle.rdf_dataset.specs.State.{State as DatasetState}
-use Rattle.rdf_lines.specs.QuadText.{graph_text, quad_text}
+use Rattle.rdf_lines.specs.QuadText.{quad_text}
 use Rattle.rdf_lines.specs.StateText.{name_line, state_text}
 use Rattle.rdf_session.specs.Saved.{IsTextOf}
 use Rattle.rdf_terms.specs.Quad.{QuadParts}
@@ -71,9 +73,7 @@ name_ends : (n : Term) → Ends (name_line n)
 name_ends n = ends_behind (codes "#% graph ") _ (ends_behind (term_text n) _ ([], refl))
 
 quad_ends : (q : QuadParts) → Ends (quad_text q)
-quad_ends q =
-    ends_behind (term_text q.subject) _ (ends_behind (codes " ") _ (ends_behind (term_text q.predicate) _ (ends_behind (codes " ") _
-    (ends_behind (term_text q.object) _ (ends_behind (codes " ") _ (ends_behind (graph_text q.graph) _ (46 ∷ [], refl)))))))
+quad_ends q = ends_behind _ (codes ".\n") (46 ∷ [], refl)
 
 state_text_ends : (next : ℕ) (names : List Term) (quads : List QuadParts) → Ends (state_text next names quads)
 state_text_ends next names quads =
@@ -82,3 +82,11 @@ state_text_ends next names quads =
 
 pub state_lines_counted : (s : DatasetState) (text : List ℕ) → IsTextOf s text → length (raw_lines text) ≡ length (filter (λ b. nat_eq b 10) text)
 state_lines_counted s text is = lines_are_feeds text (subst Ends (sym is.is) (state_text_ends s.next is.names_listed is.quads_listed))
+
+-- ---- what was appended
+
+pub appended : (held out old text : List ℕ) (n : ℕ) → held ≡ out → out ≡ old ++ text → n ≡ length old → take (length held - n) (drop n held) ≡ text
+appended held out old text n d e l =
+    let is : held ≡ old ++ text = d ∙ e in
+    let long : length text ≤ length (old ++ text) - length old = rw length-append (omega arith) in
+    (λ i. take (length (is i) - l i) (drop (l i) (is i))) ∙ ap (take (length (old ++ text) - length old)) (drop-append_seam old text) ∙ take_all (length (old ++ text) - length old) text long
