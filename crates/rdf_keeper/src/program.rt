@@ -47,10 +47,10 @@ fn base_of(alloc: Global, word: Option<&str>) -> Result<Option<Iri>, Outcome>
 // The session that the words begin with.
 fn session_of<T: Files>(rt: &T, alloc: Global, words: RunWords<'_>) -> Result<Keeper, Outcome>
     ensures { IfOk result (λ keeper. (base : Option (List ℕ)) × (start : Session)
-        × (base ≡ option_copied words.base)
-        × MatchOption words.data (start ≡ fresh base (empty_state 0))
-        (λ _. (text : List ℕ) × BeginsWith words.format base text start)
-        × (keeper ≡ with_depth words.depth start)) }
+        × (base ≡ option_copied words.entry.base)
+        × MatchOption words.entry.data (start ≡ fresh base (empty_state 0))
+        (λ _. (text : List ℕ) × BeginsWith words.entry.format base text start)
+        × (keeper ≡ with_depth words.entry.depth start)) }
 {
     let depth = depth_of(words.depth)?;
     let base = base_of(alloc, words.base)?;

@@ -118,9 +118,10 @@ pub(crate) fn begun<T: Files>(
     path: Option<&str>,
     format: StartFormat,
 ) -> Result<Keeper, Outcome>
-    ensures { IfOk result (λ keeper. MatchOption path
+    ensures start { IfOk result (λ keeper. MatchOption path.entry
         (keeper ≡ fresh base (empty_state 0))
         (λ _. (text : List ℕ) × BeginsWith format base text keeper)) }
+    ensures without_history { IfOk result (λ keeper. keeper.states ≡ nothing) }
 {
     match path {
         None => Ok(Keeper::new(alloc, base)),
