@@ -11,7 +11,8 @@ _rdfkeep() {
     fi
     COMPREPLY=()
     case $before in
-        --format | --from) words=$formats ;;
+        --format) words="$formats state" ;;
+        --from) words=$formats ;;
         --base | --depth) return ;;
         --data) compopt -o default 2> /dev/null; return ;;
         *)

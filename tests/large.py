@@ -1,12 +1,13 @@
 #!/usr/bin/env python3
 """Writes large documents into the current folder, with what the program has to make of them, known by construction.
 
-    large.py nquads|ntriples|turtle|update convert|print|load
-    large.py lines|faulty|long-line|cr-lf|objects|statements|brackets|updates
+    large.py nquads|ntriples|turtle|update convert|print|load|save|restore
+    large.py lines|faulty|long-line|cr-lf|objects|statements|brackets|updates|state
 
 The first form makes 10^5 statements by a seeded generator, always the same: long texts, escapes, many labels and
 prefixes. `convert` writes the document as data and its canonical lines as stdout; `print` its sorted lines, as the
-command %print shows them; `load` a script that loads, undoes and redoes it. An update is the data of one INSERT DATA,
+command %print shows them; `load` a script that loads, undoes and redoes it; `save` the state text of what it makes,
+as %state shows it, and `restore` that text as data, too. An update is the data of one INSERT DATA,
 which can only be loaded.
 The second form makes documents whose size is their only difficulty.
 """
@@ -98,6 +99,14 @@ class Document:
 
     def sorted_lines(self):
         return [line(quad) for quad in sorted(self.quads)]
+
+    def graphs(self):
+        return [graph for (graph,) in sorted({quad[0] for quad in self.quads if quad[0]})]
+
+    def state_lines(self):
+        """The lines of the state text."""
+        names = [f"#% graph {written(graph)}\n" for graph in self.graphs()]
+        return ["#% rdfkeep state 2\n", f"#% next {self.count}\n", *names, *self.sorted_lines()]
 
 
 def line(quad):
@@ -246,9 +255,13 @@ def large(form, what):
     elif what == "print":
         write("data", text)
         write("stdout", "ok 0\n" + "".join(document.sorted_lines()) + f"ok {count}\n")
+    elif what in ("save", "restore"):
+        lines = document.state_lines()
+        write("data", text if what == "save" else "".join(lines))
+        write("stdout", "".join(lines) + f"ok {len(lines)}\n")
     elif what == "load":
-        graphs = sorted({quad[0] for quad in document.quads if quad[0]})
-        names = "".join(written(graph[0]) + "\n" for graph in graphs) + f"ok {len(graphs)}\n"
+        graphs = document.graphs()
+        names = "".join(written(graph) + "\n" for graph in graphs) + f"ok {len(graphs)}\n"
         command = "%update" if form == "update" else f"%load {form}"
         write("script", f"{command}\n{text}\n%end\n%graphs\n%undo\n%graphs\n%redo\n%mark all\n%rollback all\n")
         write("stdout", f"ok +{count} -0\n{names}ok +0 -{count}\nok 0\nok +{count} -0\nok\nok +0 -0\n")
@@ -294,6 +307,14 @@ def size(what):
         script = "".join(f"%update\n{body}\n%end\n%undo\n" for body, _ in bodies)
         write("script", script + "%update\nINSERT DATA {\n" + "(" * 1_000_000 + "\n%end\n%graphs\n")
         write("stdout", answers + "refused: TooDeep line 2\nok 0\n")
+    elif what == "state":
+        # 1,000,000 lines: half of its names are of graphs without quads
+        names = [f"<a:{number:04}>" for number in range(1_000)]
+        quads = [f'_:b{number} <a:p> "{number}" {names[number // 1_000]} .\n' for number in range(500_000)]
+        lines = ["#% rdfkeep state 2\n", "#% next 500000\n", *(f"#% graph {name}\n" for name in names)]
+        lines += [f'<a:{number:06}> <a:p> "x" .\n' for number in range(1_000_000 - len(lines) - len(quads))] + quads
+        write("data", "".join(lines))
+        write("stdout", "".join(lines) + "ok 1000000\n")
     elif what == "brackets":
         write("data", "<a:s> <a:p>\n" + "(" * 1_000_000)
 

@@ -1,12 +1,17 @@
--- What is written of an ending.
-use Rattle.std.proofs.Common.{◌≡◌, ◌∙◌, refl, sym, subst, ℕ, List, [], ◌∷◌, ◌++◌, append-nil, Option}
-use Rattle.std.specs.Prelude.{Result, Ok, Err}
+-- What is written of an ending, and how a session begins.
+use Rattle.std.proofs.Common.{◌≡◌, ◌∙◌, refl, sym, ap, subst, ℕ, List, [], ◌∷◌, ◌++◌, append-nil, Option}
+use Rattle.std.specs.Prelude.{Result, Ok, Err, IfOk, MatchResult}
 use Rattle.std.specs.Io.KnownBytes.{Appends}
 use Rattle.rdf_keeper.specs.Inside.Streams.{WritesTo}
 use Rattle.rdf_keeper.specs.Inside.Outcomes.{status_of, error_line}
 use Rattle.rdf_keeper.specs.declared.streams.writing.WriteFault.{WriteFault}
 use Rattle.rdf_keeper.specs.declared.program.outcome.Outcome.{Outcome}
-use Rattle.rdf_keeper.specs.declared.program.outcome.Outcome.TheVariants.{Done, SomeRefused, BadDocument, BadWords, BadBase, BadData, ReadFailed, WriteFailed, NoMemory, ParserNoMemory}
+use Rattle.rdf_keeper.specs.declared.program.outcome.Outcome.TheVariants.{Done, SomeRefused, BadDocument, BadWords, BadBase, BadData, NotState, ReadFailed, WriteFailed, NoMemory, ParserNoMemory}
+use Rattle.rdf_session.specs.History.{nothing}
+use Rattle.rdf_session.specs.Session.{Session}
+use Rattle.rdf_keeper.specs.Inside.Starts.{BeginsWith, RefusesData}
+use Rattle.rdf_keeper.specs.declared.program.words.StartFormat.{StartFormat}
+use Rattle.rdf_keeper.specs.declared.program.words.StartFormat.TheVariants.{Document, State}
 use Rattle.rdf_keeper.proofs.StreamLemmas.{Appends-chain}
 
 pub as_far : (before after : Option (List ℕ)) (text want : List ℕ) (r : Result (Unit {0}) WriteFault) → text ≡ want → WritesTo before text r after → (front more : List ℕ) × (want ≡ front ++ more) × Appends before after front
@@ -20,6 +25,7 @@ no_line (BadDocument at) e = cc
 no_line BadWords e = refl
 no_line BadBase e = cc
 no_line (BadData fault) e = cc
+no_line NotState e = cc
 no_line ReadFailed e = cc
 no_line WriteFailed e = cc
 no_line (NoMemory _) e = cc
@@ -33,3 +39,16 @@ pub stays_quiet : (before mid after : Option (List ℕ)) (o : Outcome) → statu
 stays_quiet before mid after o zero so_far (front, more, parts, wrote) =
     let none = first_nil front more (sym (no_line o zero) ∙ parts) in
     Appends-chain before mid after [] [] so_far (subst (Appends mid after) none wrote)
+
+-- ---- how a session begins
+
+begins_without_history : (format : StartFormat) (base : Option (List ℕ)) (text : List ℕ) (start : Session) → BeginsWith format base text start → start.states ≡ nothing
+begins_without_history (Document format) base text start b = ap (λ (s : Session). s.states) b.3
+begins_without_history State base text start b = ap (λ (s : Session). s.states) b.3
+
+-- over the data of the text, where they aren't refused
+pub begun_with : (format : StartFormat) (base : Option (List ℕ)) (text : List ℕ) (r : Result Session Outcome)
+    → MatchResult r (λ start. BeginsWith format base text start) (λ outcome. RefusesData format base text outcome)
+    → IfOk r (λ start. (held : List ℕ) × BeginsWith format base held start) × IfOk r (λ start. start.states ≡ nothing)
+begun_with format base text (Ok start) b = ((text, b), begins_without_history format base text start b)
+begun_with format base text (Err outcome) b = (tt, tt)

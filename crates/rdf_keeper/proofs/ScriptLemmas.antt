@@ -3,6 +3,7 @@ pub mod Cuts
 pub mod Examples
 pub mod Feeds
 pub mod FirstEnds
+pub mod LineCounts
 pub mod Lines
 pub mod Show
 pub mod OneShow
@@ -13,4 +14,5 @@ pub mod Printed
 pub mod Promised
 pub mod Refusals
 pub mod Runs
+pub mod Saved
 pub mod Words

@@ -11,4 +11,5 @@ pub mod Printed
 pub mod Promised
 pub mod Refusals
 pub mod Runs
+pub mod Saved
 pub mod Statuses

@@ -1,10 +1,11 @@
-//! Laws over the definitions alone: that a script's lines are its text, that its pieces are the script, that it has one output, that its refusals change nothing, and
-//! that what is printed is read back in each format.
+//! Laws over the definitions alone: that a script's lines are its text, that its pieces are the script, that it has one output, that its refusals change nothing,
+//! that what is printed is read back in each format, and that what is shown of a state is taken up again.
 ghost use Rattle.rdf_keeper.specs.Script.Promised.{AnswersAreTransitions, ScriptsArePromised, UndoneInAScript, RedoneInAScript};
 ghost use Rattle.rdf_keeper.specs.Script.Refusals.{RefusedAnswersLeave};
 ghost use Rattle.rdf_keeper.specs.Script.LineLaws.{LinesAreTheText, LinesAreEnded, OneCut};
 ghost use Rattle.rdf_keeper.specs.Script.Printed.{LinesAreDocuments, SortedTextsAreDocuments, PrintedLinesAreDocuments};
 ghost use Rattle.rdf_keeper.specs.Script.Pieces.{PiecesAreTheText};
+ghost use Rattle.rdf_keeper.specs.Script.Saved.{RestoredShowsItsText, ScriptsGoOnAlike, ShownComesBack};
 ghost use Rattle.rdf_keeper.specs.Script.OneOutput.{OneOutput, OneOutputOfBytes, OneText, OneTextOfBytes};
 
 /// A refusal, of a script's line that is no command too, leaves the session as it was.
@@ -63,3 +64,14 @@ pub fn printed_lines_are_documents()
     ensures sorted { SortedTextsAreDocuments }
     ensures printed { PrintedLinesAreDocuments }
 {}
+
+/// What `%state` shows of a session, without its count, restores that session's state, whatever base IRI it is given, and only want
+/// of memory refuses it; what is restored from a text shows that very text. At the same base IRI and under the same depth all later
+/// scripts are answered byte for byte as they may be behind a `%commit` where the other was saved.
+pub fn a_shown_state_comes_back()
+    ensures back { ShownComesBack }
+    ensures text { RestoredShowsItsText }
+    ensures alike { ScriptsGoOnAlike }
+{
+    rdf_session::a_saved_state_comes_back();
+}

@@ -3,7 +3,8 @@
 //! words.
 //!
 //! The program calls it, and each host that wants a session (`crates/library_example` is one). It
-//! saves nothing between runs, is for one thread, and has no network.
+//! saves nothing by itself: a host writes and reads the state text where it wants. It is for one
+//! thread, and has no network.
 #![tactic(auto)]
 
 mod conversion;
@@ -17,12 +18,14 @@ mod streams;
 pub use conversion::{ConvertFault, DocumentFault, convert};
 pub use examples::the_worked_examples_hold;
 pub use law::{
-    a_script_has_one_output, a_script_keeps_the_promise, pieces_are_the_script,
-    printed_lines_are_documents, refused_answers_leave, script_lines_are_the_text,
+    a_script_has_one_output, a_script_keeps_the_promise, a_shown_state_comes_back,
+    pieces_are_the_script, printed_lines_are_documents, refused_answers_leave,
+    script_lines_are_the_text,
 };
 pub use program::start;
+pub use rdf_lines::StateFault;
 pub use rdf_session::{
-    Answer, Counts, Format, Keeper, KeeperFault, a_load_is_insert_data, one_reply,
-    standing_requests, the_headline, undo_gives_back,
+    Answer, Counts, Format, Keeper, KeeperFault, a_load_is_insert_data, a_saved_state_comes_back,
+    one_reply, standing_requests, the_headline, undo_gives_back,
 };
 pub use script::{Feed, Settings, Status, run};

@@ -1,30 +1,29 @@
 //! The whole program, over its words, its standard input, output and error.
-ghost use Rattle.std.specs.Prelude.{◌≡◌, ◌≢◌, ◌≤◌, ℕ, List, [], Option, Some, Result, IfOk, IfErr, OnOk, OnErr};
+ghost use Rattle.std.specs.Prelude.{◌≡◌, ◌≢◌, ◌≤◌, ℕ, List, [], Option, Some, Result, IfOk, MatchOption};
 ghost use Rattle.rdf_dataset.specs.State.{empty_state};
 ghost use Rattle.std.specs.List.{concat};
 ghost use Rattle.std.specs.Option.{option_copied};
 ghost use Rattle.std.specs.Io.KnownBytes.{Appends};
 ghost use Rattle.rdf_keeper.specs.Conversion.Converts.{Converts};
 ghost use Rattle.rdf_keeper.specs.Inside.Outcomes.{status_of, outcome_of};
-ghost use Rattle.rdf_keeper.specs.Inside.Starts.{BeginsWithData, IsNoWantOfMemory, outcome_after};
+ghost use Rattle.rdf_keeper.specs.Inside.Starts.{BeginsWith, outcome_after};
 ghost use Rattle.rdf_keeper.specs.Script.Runs.{RunsOver};
-ghost use Rattle.rdf_keeper.specs.declared.program.outcome.Outcome.TheVariants.{BadWords};
 ghost use Rattle.rdf_keeper.specs.declared.script.status.Status.{Status};
-ghost use Rattle.rdf_session.specs.Depth.{IsDepth, greatest_depth};
 ghost use Rattle.rdf_session.specs.Session.{Session, fresh, with_depth};
 ghost use Rattle.rdf_keeper.specs.declared.conversion.fault.ConvertFault.{ConvertFault};
 
+mod data;
 mod help;
 mod outcome;
 mod words;
 
 use crate::conversion::convert;
+use crate::program::data::{begun, bounded, depth_of};
 use crate::program::outcome::{Outcome, outcome_of, report};
 use crate::program::words::{Asked, ConvertWords, RunWords, WordsFault, read_words};
 use crate::script::{Settings, Status, run};
-use crate::streams::reading::{Ending, read_all};
 use crate::streams::writing::write_whole;
-use rdf_session::{Format, Keeper, KeeperFault};
+use rdf_session::{Format, Keeper};
 use rdf_terms::{Iri, IriFault};
 use std::alloc::Global;
 use std::fs;
@@ -45,52 +44,18 @@ fn base_of(alloc: Global, word: Option<&str>) -> Result<Option<Iri>, Outcome>
     }
 }
 
-// The greatest depth of a history.
-const GREATEST_DEPTH: usize = 1_000_000;
-
-// A session without data, which keeps so many entries where the words say how many.
-fn begun(alloc: Global, base: Option<Iri>, depth: Option<usize>) -> Result<Keeper, Outcome>
-    ensures ok { IfOk result (λ keeper. keeper ≡ with_depth depth (fresh base (empty_state 0))) }
-    ensures err { IfErr result (λ outcome. (IsDepth depth → ⊥)
-        × (outcome ≡ BadWords)) }
+// The session that the words begin with.
+fn session_of<T: Files>(rt: &T, alloc: Global, words: RunWords<'_>) -> Result<Keeper, Outcome>
+    ensures { IfOk result (λ keeper. (base : Option (List ℕ)) × (start : Session)
+        × (base ≡ option_copied words.entry.base)
+        × MatchOption words.entry.data (start ≡ fresh base (empty_state 0))
+        (λ _. (text : List ℕ) × BeginsWith words.entry.format base text start)
+        × (keeper ≡ with_depth words.entry.depth start)) }
 {
-    let keeper = Keeper::new(alloc, base);
-    match depth {
-        None => Ok(keeper),
-        Some(depth) if depth == 0 || depth > GREATEST_DEPTH => Err(Outcome::BadWords),
-        Some(depth) => Ok(keeper.with_depth(depth)),
-    }
-}
-
-// Loads a file into the keeper and makes it the start.
-fn begin<T: Files>(
-    rt: &T,
-    alloc: Global,
-    keeper: &mut Keeper,
-    path: &str,
-    format: Format,
-) -> Result<(), Outcome>
-    ensures ok { OnOk result (BeginsWithData format keeper.old keeper.new) }
-    ensures err { OnErr result (keeper.new ≡ keeper.old) }
-    ensures faulty { IfErr result IsNoWantOfMemory }
-{
-    let Ok(mut file) = fs::open(rt, path) else {
-        return Err(Outcome::ReadFailed);
-    };
-    let mut text = Vec::new(alloc);
-    match read_all(&mut file, &mut text) {
-        Ending::AtEnd => {}
-        Ending::Failed => return Err(Outcome::ReadFailed),
-        Ending::NoMemory(refused) => return Err(Outcome::NoMemory(refused)),
-    }
-    match keeper.load_text(format, text) {
-        Ok(_) => {
-            keeper.commit();
-            Ok(())
-        }
-        Err(KeeperFault::NoMemory(refused)) => Err(Outcome::NoMemory(refused)),
-        Err(fault) => Err(Outcome::BadData(fault)),
-    }
+    let depth = depth_of(words.depth)?;
+    let base = base_of(alloc, words.base)?;
+    let keeper = begun(rt, alloc, base, words.data, words.format)?;
+    Ok(bounded(keeper, depth))
 }
 
 // Runs a script to its end.
@@ -127,19 +92,10 @@ fn run_words<T: Files, R: Read + Drop, W: Write>(
     ensures { status_of result ≡ 2 →
         Appends (W.contents writer.old) (W.contents writer.new) [] }
 {
-    let base = match base_of(alloc, words.base) {
-        Ok(base) => base,
-        Err(outcome) => return outcome,
-    };
-    let mut keeper = match begun(alloc, base, words.depth) {
+    let keeper = match session_of(rt, alloc, words) {
         Ok(keeper) => keeper,
         Err(outcome) => return outcome,
     };
-    if let Some(path) = words.data {
-        if let Err(outcome) = begin(rt, alloc, &mut keeper, path, words.format) {
-            return outcome;
-        }
-    }
     let settings = Settings { stop: words.stop };
     match words.script {
         None => run_all(alloc, keeper, reader, writer, settings),

@@ -24,7 +24,7 @@ use crate::lines::write_lines;
 use crate::load::{read, stage};
 use crate::marks::Marks;
 use crate::query::{Answer, evaluate, read_text};
-use crate::saved::{restored, save};
+use crate::saved::{restored, restored_text, save};
 use crate::update::{read_request, stage_request};
 use rdf_dataset::{Dataset, Net, Source};
 use rdf_lines::StateFault;
@@ -101,6 +101,21 @@ impl Keeper {
     {
         let dataset = restored(alloc, bytes)?;
         Ok(Keeper::over(alloc, dataset, base))
+    }
+
+    /// A session that begins as [`restore`](Keeper::restore) has it, and lets the text go as soon as it is read.
+    ///
+    /// # Errors
+    /// Those of [`restore`](Keeper::restore).
+    pub fn restore_text(
+        alloc: Global,
+        text: Vec<u8>,
+        base: Option<Iri>,
+    ) -> Result<Keeper, StateFault>
+        ensures { Restores base text.items result }
+    {
+        let start = restored_text(alloc, text)?;
+        Ok(Keeper::over(alloc, start, base))
     }
 
     /// The session with a bounded history: where an accepted request brings one entry more than `depth`, the oldest

@@ -15,6 +15,7 @@ mod queries;
 mod retry;
 mod script;
 mod sessions;
+mod states;
 mod terms;
 mod told;
 mod turtle;
@@ -26,7 +27,7 @@ use std::alloc::Global;
 use std::io;
 
 fn main(rt: HostRuntime) -> io::Result<()> {
-    run_parts(&rt, b"0123456789ab", line)
+    run_parts(&rt, b"0123456789abc", line)
 }
 
 // What a part finds.
@@ -43,6 +44,7 @@ fn line(alloc: Global, part: u8) -> Told {
         b'8' => Told::new(script::outcome(alloc)),
         b'9' => Told::new(conversions::outcome(alloc)),
         b'a' => Told::new(histories::outcome(alloc)),
-        _ => Told::new(depths::outcome(alloc)),
+        b'b' => Told::new(depths::outcome(alloc)),
+        _ => Told::new(states::outcome(alloc)),
     }
 }

@@ -18,10 +18,12 @@ use Rattle.rdf_keeper.specs.Script.Show.{Shows, name_line}
 use Rattle.rdf_keeper.specs.Script.OneOutput.{FirmAnswers, FullAnswers, IsWhole, OneOutput, OneText, SameAnswer, SameAnswers}
 use Rattle.rdf_keeper.specs.Script.Runs.{Serves, to_end, final}
 use Rattle.rdf_keeper.specs.declared.script.command.Topic.{Topic}
-use Rattle.rdf_keeper.specs.declared.script.command.Topic.TheVariants.{Changes, Graphs, Quads}
+use Rattle.rdf_keeper.specs.declared.script.command.Topic.TheVariants.{Changes, Graphs, Quads, State}
 use Rattle.rdf_keeper.specs.declared.script.status.Status.{Status}
 use Rattle.rdf_keeper.specs.declared.script.status.Status.TheVariants.{Accepted, WriteFailed}
 use Rattle.rdf_keeper.proofs.ScriptLemmas.OneShow.{one_sorted}
+use Rattle.rdf_keeper.proofs.ScriptLemmas.Saved.{one_state_text}
+use Rattle.rdf_keeper.specs.Script.Lines.{raw_lines}
 use Rattle.rdf_keeper.specs.Script.Statuses.{no_memory}
 
 -- ---- one topic
@@ -39,6 +41,7 @@ lines_same Changes s lines others a b =
     let d = one_sorted quad_cmp_total quad_cmp-IsAntisymmetric net.added a.3 b.3 a.7 b.7 in
     a.8 ∙ (λ i. map (λ n. codes "- graph " ++ name_line n) (nr i) ++ map (λ q. codes "- " ++ quad_text q) (r i)
     ++ map (λ n. codes "+ graph " ++ name_line n) (na i) ++ map (λ q. codes "+ " ++ quad_text q) (d i)) ∙ sym b.8
+lines_same State s lines others a b = a.2 ∙ ap raw_lines (one_state_text (now s) a.0 b.0 a.1 b.1) ∙ sym b.2
 
 -- ---- one answer
 

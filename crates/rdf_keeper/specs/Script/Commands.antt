@@ -10,7 +10,7 @@ use Rattle.rdf_session.specs.declared.format.Format.TheVariants.{NQuads, NTriple
 use Rattle.rdf_keeper.specs.declared.script.command.Body.{Body}
 use Rattle.rdf_keeper.specs.declared.script.command.Body.TheVariants.{Load as LoadBody, Update as UpdateBody, Query as QueryBody, Unknown as UnknownBody}
 use Rattle.rdf_keeper.specs.declared.script.command.Topic.{Topic}
-use Rattle.rdf_keeper.specs.declared.script.command.Topic.TheVariants.{Changes, Graphs, Quads}
+use Rattle.rdf_keeper.specs.declared.script.command.Topic.TheVariants.{Changes, Graphs, Quads, State}
 
 pub data Asked : Type 0 where
   -- a transition of the session
@@ -61,7 +61,8 @@ plain word =
     if bytes_eq word (codes "%commit") then act session.Commit else
     if bytes_eq word (codes "%changes") then show Changes else
     if bytes_eq word (codes "%graphs") then show Graphs else
-    if bytes_eq word (codes "%print") then show Quads else bad
+    if bytes_eq word (codes "%print") then show Quads else
+    if bytes_eq word (codes "%state") then show State else bad
 
 -- a command with a name
 abbrev pub named : List ℕ → List ℕ → Asked

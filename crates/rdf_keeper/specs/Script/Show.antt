@@ -7,9 +7,11 @@ use Rattle.rdf_dataset.specs.State.{Change, net_between}
 use Rattle.rdf_lines.specs.QuadText.{quad_text}
 use Rattle.rdf_terms.specs.TermText.{term_text}
 use Rattle.rdf_session.specs.QuadLines.{ListsQuads}
+use Rattle.rdf_session.specs.Saved.{IsTextOf}
 use Rattle.rdf_session.specs.Session.{Session, now}
+use Rattle.rdf_keeper.specs.Script.Lines.{raw_lines}
 use Rattle.rdf_keeper.specs.declared.script.command.Topic.{Topic}
-use Rattle.rdf_keeper.specs.declared.script.command.Topic.TheVariants.{Changes, Graphs, Quads}
+use Rattle.rdf_keeper.specs.declared.script.command.Topic.TheVariants.{Changes, Graphs, Quads, State as StateText}
 
 -- the line of a graph's name
 abbrev pub name_line : Term → List ℕ
@@ -28,3 +30,4 @@ abbrev pub Shows : Topic → Session → List (List ℕ) → Type 0
 Shows Quads s lines = ListsQuads (now s) lines
 Shows Graphs s lines = (names : List Term) × ListsSorted (now s).names names × (lines ≡ map name_line names)
 Shows Changes s lines = ListsChange (net_between s.base (now s)) lines
+Shows StateText s lines = (text : List ℕ) × IsTextOf (now s) text × (lines ≡ raw_lines text)

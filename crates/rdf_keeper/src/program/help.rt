@@ -22,6 +22,7 @@ Commands:
   %query             answer the lines up to %end, a query in SPARQL
   %print             print the quads
   %graphs            print the names of the graphs
+  %state             print the state whole, to be saved
   %undo, %redo       take back the last change, or make it again
   %mark NAME         give this state a name
   %rollback NAME     go back to the state of that name
@@ -30,6 +31,9 @@ Commands:
 
 --base holds for every body: relative IRIs, like <ada>, in updates and queries are resolved
 against it as those of Turtle are, where the text declares no base.
+
+What %state prints, without its last line, is a state text: --data FILE --format state begins
+at that very state, empty graphs and the numbers of blank nodes included, without a history.
 
 --depth N forgets the oldest of N loads and updates as one more comes, so that a long session
 holds no more of them. The state behind the one that is forgotten becomes the start.

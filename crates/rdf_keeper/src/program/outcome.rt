@@ -2,13 +2,15 @@
 ghost use Rattle.std.specs.Prelude.{◌≡◌, ◌++◌, ◌≤◌, length, ℕ, List};
 ghost use Rattle.std.specs.Io.KnownBytes.{Appends};
 ghost use Rattle.rdf_keeper.specs.Conversion.Faults.{document_fault_name};
+ghost use Rattle.rdf_lines.specs.FaultName.{state_fault_name};
 ghost use Rattle.rdf_session.specs.Faults.{name_of};
-ghost use Rattle.rdf_keeper.specs.Inside.Outcomes.{status_of, error_line, outcome_of, refused_data, refused_document, refused_line};
+ghost use Rattle.rdf_keeper.specs.Inside.Outcomes.{status_of, error_line, outcome_of, refused_data, refused_document, refused_line, refused_state};
 
 use crate::conversion::{ConvertFault, DocumentFault};
 use crate::short_line::{append, append_place};
 use crate::streams::writing::write_whole;
 use arrayvec::ArrayVec;
+use rdf_lines::StateFault;
 use rdf_session::KeeperFault;
 use rdf_terms::NoMemory;
 use std::io::Write;
@@ -28,6 +30,8 @@ pub(crate) enum Outcome {
     BadBase,
     /// The data that the session begins with are refused.
     BadData(KeeperFault),
+    /// The state text that the session begins at is the text of no sound state.
+    NotState,
     /// A file doesn't open, or a read failed.
     ReadFailed,
     /// A write failed.
@@ -57,7 +61,7 @@ fn status_of(outcome: &Outcome) -> u8
     match outcome {
         Outcome::Done => 0,
         Outcome::SomeRefused | Outcome::BadDocument(_) => 1,
-        Outcome::BadWords | Outcome::BadBase | Outcome::BadData(_) => 2,
+        Outcome::BadWords | Outcome::BadBase | Outcome::BadData(_) | Outcome::NotState => 2,
         Outcome::ReadFailed | Outcome::WriteFailed => 3,
         Outcome::NoMemory(_) | Outcome::ParserNoMemory => 4,
     }
@@ -72,6 +76,13 @@ fn document_fault_name(fault: DocumentFault) -> &'static [u8]
 
 fn keeper_fault_name(fault: KeeperFault) -> &'static [u8]
     ensures name { result.now ≡ name_of fault }
+    ensures short { length result.now ≤ 16 }
+{
+    fault.name().as_bytes()
+}
+
+fn state_fault_name(fault: StateFault) -> &'static [u8]
+    ensures name { result.now ≡ state_fault_name fault }
     ensures short { length result.now ≤ 16 }
 {
     fault.name().as_bytes()
@@ -102,6 +113,12 @@ fn refused_data(fault: KeeperFault) -> ArrayVec<u8, 64>
     refused(keeper_fault_name(fault), fault.line())
 }
 
+fn refused_state() -> ArrayVec<u8, 64>
+    ensures { result.items ≡ refused_state }
+{
+    refused(state_fault_name(StateFault::NotState), None)
+}
+
 fn plain(text: &[u8]) -> ArrayVec<u8, 64>
     requires { length text.now ≤ 64 }
     ensures { result.items ≡ text.now }
@@ -120,6 +137,7 @@ fn error_line(outcome: &Outcome) -> ArrayVec<u8, 64>
         Outcome::BadDocument(fault) => refused_document(*fault),
         Outcome::BadBase => plain(b"rdfkeep: bad base\n"),
         Outcome::BadData(fault) => refused_data(*fault),
+        Outcome::NotState => refused_state(),
         Outcome::ReadFailed => plain(b"rdfkeep: read failed\n"),
         Outcome::WriteFailed => plain(b"rdfkeep: write failed\n"),
         Outcome::NoMemory(_) | Outcome::ParserNoMemory => plain(b"rdfkeep: no memory\n"),

@@ -1,6 +1,8 @@
 //! What the words of a command line ask for.
 ghost use Rattle.std.specs.Prelude.{◌≡◌, All, Any, IfNone, IfSome, IsSome, map, ok_or};
+ghost use Rattle.rdf_keeper.specs.Inside.Starts.{start_format_named};
 ghost use Rattle.rdf_keeper.specs.Script.Commands.{format_named};
+ghost use Rattle.rdf_keeper.specs.declared.program.words.StartFormat.{StartFormat};
 ghost use Rattle.rdf_session.specs.declared.format.Format.{Format};
 
 use crate::program::help::{
@@ -14,13 +16,22 @@ use rdf_session::Format;
 use rdf_terms::NoMemory;
 use std::alloc::{AllocError, Global};
 
+/// What the data are that a session begins with.
+#[derive(Clone, Copy, Debug, PartialEq, Eq)]
+pub(crate) enum StartFormat {
+    /// A document, which is loaded.
+    Document(Format),
+    /// A state text, which is restored.
+    State,
+}
+
 /// A session: its base, how many requests it can take back, the data that it begins with, and its script.
 #[derive(Clone, Copy, Debug, PartialEq, Eq)]
 pub(crate) struct RunWords<'a> {
     pub(crate) base: Option<&'a str>,
     pub(crate) depth: Option<usize>,
     pub(crate) data: Option<&'a str>,
-    pub(crate) format: Format,
+    pub(crate) format: StartFormat,
     pub(crate) stop: bool,
     pub(crate) script: Option<&'a str>,
 }
@@ -75,15 +86,37 @@ pub(crate) enum FormatFault {
     Unknown,
 }
 
+/// The format of the data that a session begins with, by its name.
+pub(crate) fn start_format_named(word: &[u8]) -> Option<StartFormat>
+    ensures { result ≡ start_format_named word.now }
+{
+    if word == b"state".as_slice() {
+        Some(StartFormat::State)
+    } else {
+        format_named(word).map(StartFormat::Document)
+    }
+}
+
 static FORMATS: [&str; 3] = ["nquads", "ntriples", "turtle"];
 
-// The words that the parser lets through for a format: those that name one.
+static START_FORMATS: [&str; 4] = ["nquads", "ntriples", "turtle", "state"];
+
+// The words that the parser lets through for a document: those that name its format.
 fn format_words() -> &'static [&'static str]
     ensures known { All (λ word. IsSome (format_named word.now)) result.now }
     ensures each { (format : Format) →
         Any (λ word. format_named word ≡ Some format) (map (λ word. word.now) result.now) }
 {
     FORMATS.as_slice()
+}
+
+// The words that the parser lets through for start data: those that name their format.
+fn start_format_words() -> &'static [&'static str]
+    ensures known { All (λ word. IsSome (start_format_named word.now)) result.now }
+    ensures each { (format : StartFormat) →
+        Any (λ word. start_format_named word ≡ Some format) (map (λ word. word.now) result.now) }
+{
+    START_FORMATS.as_slice()
 }
 
 fn base_word<'a>(alloc: Global) -> Arg<'a> {
@@ -94,7 +127,7 @@ fn base_word<'a>(alloc: Global) -> Arg<'a> {
 
 fn data_word<'a>(alloc: Global) -> Arg<'a> {
     Arg::new(alloc, "data").long("data").value_name("FILE").help(
-        "A file that is loaded before the script and becomes its start",
+        "A file that is loaded, or restored, before the script and becomes its start",
     )
 }
 
@@ -102,7 +135,7 @@ fn format_word<'a>(alloc: Global) -> Arg<'a> {
     Arg::new(alloc, "format")
         .long("format")
         .value_name("F")
-        .value_parser(format_words())
+        .value_parser(start_format_words())
         .default_value("nquads")
         .help("The format of FILE")
 }
@@ -187,12 +220,22 @@ fn format_of(word: Option<&str>) -> Result<Format, FormatFault>
     format_named(name.as_bytes()).ok_or(FormatFault::Unknown)
 }
 
+// The format of start data that an option's word names.
+fn start_format_of(word: Option<&str>) -> Result<StartFormat, FormatFault>
+    ensures missing { IfNone word.entry (result ≡ Err FormatFault.Missing) }
+    ensures given { IfSome word.entry (λ name.
+        result ≡ ok_or (start_format_named name.now) FormatFault.Unknown) }
+{
+    let name = word.ok_or(FormatFault::Missing)?;
+    start_format_named(name.as_bytes()).ok_or(FormatFault::Unknown)
+}
+
 fn run_words<'a>(matches: &ArgMatches<'a>) -> Result<RunWords<'a>, FormatFault> {
     Ok(RunWords {
         base: matches.get_str("base"),
         depth: matches.get_one("depth"),
         data: matches.get_str("data"),
-        format: format_of(matches.get_str("format"))?,
+        format: start_format_of(matches.get_str("format"))?,
         stop: matches.get_flag("stop"),
         script: matches.get_str("script"),
     })

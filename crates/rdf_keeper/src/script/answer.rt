@@ -7,7 +7,7 @@ ghost use Rattle.rdf_keeper.specs.Script.Show.{Shows};
 ghost use Rattle.rdf_session.specs.Session.{Reply, reply_of, reply_of_mark, Done as DoneReply};
 
 use crate::script::command::{Command, Topic};
-use crate::script::show::{append_change, append_names};
+use crate::script::show::{append_change, append_names, append_state};
 use crate::short_line::{append, append_place};
 use arrayvec::ArrayVec;
 use itoa::Buffer;
@@ -120,6 +120,7 @@ fn append_topic(keeper: &Keeper, topic: Topic, out: &mut Vec<u8>) -> Result<u64,
             Ok(names.len() as u64)
         }
         Topic::Quads => keeper.write_quads(out),
+        Topic::State => append_state(keeper, out),
     }
 }
 

@@ -17,6 +17,8 @@ pub enum Topic {
     Graphs,
     /// The quads.
     Quads,
+    /// The state text.
+    State,
 }
 
 /// A command, with its name or the text of its body. That of a load, which may be large, is its own.
@@ -150,6 +152,8 @@ fn plain(word: &[u8]) -> Command<'_>
         Command::Show(Topic::Graphs)
     } else if word == b"%print".as_slice() {
         Command::Show(Topic::Quads)
+    } else if word == b"%state".as_slice() {
+        Command::Show(Topic::State)
     } else {
         Command::Bad
     }

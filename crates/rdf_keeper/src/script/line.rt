@@ -1,6 +1,6 @@
 //! Lines and their words.
 ghost use Rattle.std.specs.Prelude.{◌≡◌, [], ◌∷◌, ◌++◌, ◌<◌, ◌≤◌, length, nat_eq, MatchOption, IfSome, not};
-ghost use Rattle.std.specs.List.{position_from};
+ghost use Rattle.std.specs.List.{filter, position_from};
 ghost use Rattle.rdf_keeper.specs.Script.Commands.{is_end};
 ghost use Rattle.rdf_keeper.specs.Script.LineWords.{is_gap, words};
 ghost use Rattle.rdf_keeper.specs.Script.Lines.{bare, upto_last_end};
@@ -25,6 +25,13 @@ fn line_end(text: &[u8]) -> Option<usize>
     ensures within { IfSome result (λ i. i < length text.now) }
 {
     memchr(b'\n', text)
+}
+
+/// How many lines end in a text.
+pub(crate) fn line_ends(text: &[u8]) -> usize
+    ensures { result ≡ length (filter (λ b. nat_eq b 10) text.now) }
+{
+    text.iter().filter(|b| **b == b'\n').count()
 }
 
 /// The line without its end.

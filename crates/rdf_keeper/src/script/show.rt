@@ -2,10 +2,13 @@
 ghost use Rattle.std.specs.Prelude.{◌≡◌, ◌++◌, ℕ, List, length, map, IfOk, OnOk};
 ghost use Rattle.std.specs.List.{concat};
 ghost use Rattle.rdf_lines.specs.QuadText.{quad_text};
-ghost use Rattle.rdf_keeper.specs.Script.Show.{ListsChange, name_line};
+ghost use Rattle.rdf_keeper.specs.Script.Show.{ListsChange, Shows, name_line};
+ghost use Rattle.rdf_keeper.specs.declared.script.command.Topic.TheVariants.{State};
 
+use crate::script::line::line_ends;
 use rdf_dataset::Net;
 use rdf_lines::write_quad;
+use rdf_session::Keeper;
 use rdf_terms::{NoMemory, Quad, Term, write_term};
 
 fn append_name(before: &[u8], name: &Term, out: &mut Vec<u8>) -> Result<(), NoMemory>
@@ -63,4 +66,14 @@ pub(crate) fn append_change(net: &Net, out: &mut Vec<u8>) -> Result<u64, NoMemor
     let names = names_removed.len() + names_added.len();
     let quads = removed.len() + added.len();
     Ok((names + quads) as u64)
+}
+
+/// Appends the lines of the state text of the state now, and answers how many there are.
+pub(crate) fn append_state(keeper: &Keeper, out: &mut Vec<u8>) -> Result<u64, NoMemory>
+    ensures { IfOk result (λ count. (lines : List (List ℕ)) × Shows State keeper.now lines
+        × (out.new.items ≡ out.old.items ++ concat lines) × (count ≡ length lines)) }
+{
+    let before = out.len();
+    keeper.dump(out)?;
+    Ok(line_ends(&out[before..]) as u64)
 }
