@@ -194,7 +194,7 @@ module _ (vs : Variables) (s : State) where
   extended_made d g G a (optional F A) ea =
       sym (filter_flat_map (compatible a) (λ x. kept vs (optional F A) x (merges (solutions vs d g A) x)) (under vs d g G a)) ∙ sym (left_joined_alone vs d g F G A a ea)
 
-  under_wide : (d : Listing) (g : GraphName) (G : Algebra) (a : Mapping) → list_all (is_wide vs) (under vs d g G a) ≡ true
+  pub under_wide : (d : Listing) (g : GraphName) (G : Algebra) (a : Mapping) → list_all (is_wide vs) (under vs d g G a) ≡ true
   under_wide d g G a =
       all_wide vs (under vs d g G a) (all_filter (has_length (length vs)) (compatible a) (solutions vs d g G) (solutions_length vs d g G))
 

@@ -18,3 +18,4 @@ pub mod KeyLemmas
 pub mod PartLemmas
 pub mod AskLemmas
 pub mod AskGroupLemmas
+pub mod ApartLemmas
