@@ -284,3 +284,44 @@ fn ask_looks_no_further_than_the_first_graph_with_a_solution(rt: HostRuntime) {
         );
     }
 }
+
+#[test]
+fn members_behind_triple_patterns_in_graph_are_found_behind_all_names(rt: HostRuntime) {
+    for (group, wanted) in [
+        (
+            "{ GRAPH ?g { ?s ?p ?o GRAPH ?h { ?x e:none ?y } } }",
+            (0, 1000, 100),
+        ),
+        (
+            "{ GRAPH ?g { ?s ?p ?o { GRAPH ?h { ?x e:none ?y FILTER(?y = 1) } } } }",
+            (0, 200, 100),
+        ),
+    ] {
+        let data = many_graphs(rt.alloc()).unwrap_or(String::new(rt.alloc()));
+        assert!(rt;
+            cost_over(rt.alloc(), data.as_str(), group) == Some(wanted),
+            "{group}"
+        );
+    }
+}
+
+// GRAPH in GRAPH, so many deep, each with a triple pattern; the last finds nothing.
+fn graphs_in_graphs(alloc: Global, depth: usize) -> Option<String> {
+    let mut group = String::new(alloc);
+    write!(group, "{{ ").ok()?;
+    for i in 0..depth {
+        write!(group, "GRAPH ?g{i} {{ ?s ?p ?o ").ok()?;
+    }
+    write!(group, ". ?s e:none ?o }}").ok()?;
+    for _level in 0..depth {
+        write!(group, "}}").ok()?;
+    }
+    Some(group)
+}
+
+#[test]
+fn graphs_in_graphs_cost_what_their_depth_does(rt: HostRuntime) {
+    let group = graphs_in_graphs(rt.alloc(), 24).unwrap_or(String::new(rt.alloc()));
+    let cost = cost_over(rt.alloc(), GRAPHS, group.as_str());
+    assert!(rt; cost == Some((0, 0, 0)), "{cost:?}");
+}

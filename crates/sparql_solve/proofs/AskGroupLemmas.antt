@@ -21,9 +21,9 @@ use Rattle.sparql_algebra.specs.Results.{is_some_solution}
 use Rattle.sparql_algebra.specs.Solutions.{satisfies, solutions}
 use Rattle.sparql_algebra.specs.Under.{agreeing, names_left, under}
 use Rattle.sparql_algebra.proofs.CallerLemmas.{some_same, SameBag-refl, SameBag-filter, SameBag-flat_map, SameBag-joins, filter_always, filter_under, variable_under, all_under_nothing, translation-is, element-Union, element-Graph, empty_joins, empty_solutions, single_length, solutions_length, length_from}
-use Rattle.sparql_solve.specs.Ask.{SaysWhether, all_made, followed}
+use Rattle.sparql_solve.specs.Ask.{SaysWhether, followed}
 use Rattle.sparql_solve.specs.Sides.{HoldsOnly}
-use Rattle.sparql_solve.specs.Under.{is_wide, made, under_name, AreUnder}
+use Rattle.sparql_solve.specs.Under.{all_made, is_wide, made, under_name, AreUnder}
 use Rattle.sparql_solve.proofs.AskLemmas.{some_append, all_made_bag}
 use Rattle.sparql_solve.proofs.FollowLemmas as follow
 use Rattle.sparql_solve.proofs.ResultLemmas.{some_is}

@@ -27,12 +27,12 @@ use Rattle.sparql_solve.specs.declared.look_ups.LookUp.{LookUp}
 use Rattle.sparql_solve.specs.declared.place.Place.{Place}
 use Rattle.sparql_solve.specs.declared.place.Place.TheVariants.{Fixed, Column, Nowhere}
 use Rattle.sparql_solve.specs.declared.place.Places.{Places}
-use Rattle.sparql_solve.specs.Ask.{all_made, cut_under, followed, has_columns, looked_up_under}
+use Rattle.sparql_solve.specs.Ask.{cut_under, followed, has_columns, looked_up_under}
 use Rattle.sparql_solve.specs.LookUps.{widened}
 use Rattle.sparql_solve.specs.Matching.{assigned, assigned_at, matched, matches_of, stepped, matching}
 use Rattle.sparql_solve.specs.Members.{AreSolutions, element_solutions}
 use Rattle.sparql_solve.specs.Sides.{found, found_in, found_among}
-use Rattle.sparql_solve.specs.Under.{is_joined, is_wide, kept, made, AreMade, IsLookUpOf, where_none}
+use Rattle.sparql_solve.specs.Under.{is_joined, is_wide, kept, made, AreMade, IsLookUpOf, where_none, all_made}
 use Rattle.sparql_solve.proofs.PatternOrderLemmas.{asked, one_looked_up}
 use Rattle.sparql_solve.proofs.SideLemmas.{same_all, all_give}
 

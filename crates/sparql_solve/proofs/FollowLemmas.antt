@@ -204,7 +204,7 @@ module _ (vs : Variables) (s : State) where
       ∙ ap (filter (left_by shares S)) (filter_again (compatible a) (solutions vs d g G))
       ∙ sym (minus_alone vs d g G A a)
 
-  under_wide : (d : Listing) (g : GraphName) (G : Algebra) (a : Mapping) → list_all (is_wide vs) (under vs d g G a) ≡ true
+  pub under_wide : (d : Listing) (g : GraphName) (G : Algebra) (a : Mapping) → list_all (is_wide vs) (under vs d g G a) ≡ true
   under_wide d g G a =
       all_wide vs (under vs d g G a) (all_filter (has_length (length vs)) (compatible a) (solutions vs d g G) (solutions_length vs d g G))
 

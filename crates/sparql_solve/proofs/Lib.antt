@@ -20,3 +20,4 @@ pub mod PartLemmas
 pub mod MinusLemmas
 pub mod AskLemmas
 pub mod AskGroupLemmas
+pub mod ApartLemmas

@@ -1,6 +1,5 @@
 -- Whether a group has a solution, seen from some rows before others are looked at (SPARQL 1.1 Query, section 16.3).
 use Rattle.std.specs.Prelude.{◌≡◌, Bool, List, [], ◌∷◌, ◌++◌, length, map, filter, take, nat_le}
-use Rattle.std.specs.List.{flat_map, fold}
 use Rattle.rdf_terms.specs.declared.quad.GraphName.{GraphName}
 use Rattle.rdf_dataset.specs.State.{State}
 use Rattle.sparql_trees.specs.declared.expression.Expression.{Expression}
@@ -14,7 +13,7 @@ use Rattle.sparql_algebra.specs.Solutions.{satisfies}
 use Rattle.sparql_algebra.specs.Under.{agreeing, under}
 use Rattle.sparql_solve.specs.declared.look_ups.LookUp.{LookUp}
 use Rattle.sparql_solve.specs.Sides.{found_in}
-use Rattle.sparql_solve.specs.Under.{made}
+use Rattle.sparql_solve.specs.Under.{all_made}
 
 -- However the state is listed, the answer says whether there is some of these solutions that is compatible with the mapping of the variables.
 abbrev pub SaysWhether : Variables → State → Mapping → Bool → (Listing → List Mapping) → Type 0
@@ -33,13 +32,9 @@ abbrev pub looked_up_under : Listing → LookUp → GraphName → Mapping → Ma
 looked_up_under d l g a x = agreeing (found_in d l g x) a
 
 module _ (vs : Variables) (d : Listing) (g : GraphName) (a : Mapping) where
-  -- what the elements make of mappings, one element after another
-  abbrev pub all_made : List Element → List Mapping → List Mapping
-  all_made ks ms = fold (λ xs k. flat_map (made vs d g a k) xs) ms ks
-
-  -- and of that what satisfies the condition
+  -- of what the elements make of mappings, one element after another, what satisfies the condition
   abbrev pub followed : List Element → List Expression → List Mapping → List Mapping
-  followed ks F ms = filter (satisfies vs F) (all_made ks ms)
+  followed ks F ms = filter (satisfies vs F) (all_made vs d g a ks ms)
 
 -- ---- laws
 

@@ -1,6 +1,6 @@
 -- The steps of the evaluator: every member of a group is found under each row so far (SPARQL 1.1 Query, section 18.6).
-use Rattle.std.specs.Prelude.{◌≡◌, ℕ, zero, suc, Bool, true, false, ◌&&◌, List, [], ◌∷◌, length, Option, Some, None, is_none, map, filter, nat_eq, zip}
-use Rattle.std.specs.List.{flat_map, list_all}
+use Rattle.std.specs.Prelude.{◌≡◌, ℕ, zero, suc, Bool, true, false, ◌&&◌, List, [], ◌∷◌, length, Option, Some, None, is_none, map, filter, nat_eq, zip, not}
+use Rattle.std.specs.List.{flat_map, list_all, fold}
 use Rattle.rdf_terms.specs.declared.term.Term.{Term}
 use Rattle.rdf_terms.specs.declared.quad.GraphName.{GraphName}
 use Rattle.rdf_terms.specs.declared.quad.GraphName.TheVariants.{Named}
@@ -10,7 +10,7 @@ use Rattle.sparql_algebra.specs.Algebra.{Algebra, Element, joined, optional, rem
 use Rattle.sparql_algebra.specs.Bags.{SameBag}
 use Rattle.sparql_algebra.specs.Listing.{Listing, Lists}
 use Rattle.sparql_algebra.specs.Solutions.{merges, or_alone, shares, satisfies}
-use Rattle.sparql_algebra.specs.Under.{agreeing, under}
+use Rattle.sparql_algebra.specs.Under.{agreeing, under, reads}
 use Rattle.sparql_solve.specs.declared.look_ups.LookUp.{LookUp}
 use Rattle.sparql_solve.specs.Members.{AreSolutions, element_solutions}
 use Rattle.sparql_solve.specs.Sides.{found}
@@ -58,6 +58,12 @@ abbrev pub is_joined : Element → Bool
 is_joined (joined A) = true
 is_joined (optional F A) = false
 is_joined (removed A) = false
+
+-- it is joined, and doesn't see the active graph
+abbrev pub is_apart : Element → Bool
+is_apart (joined A) = not (reads A)
+is_apart (optional F A) = false
+is_apart (removed A) = false
 
 abbrev pub is_removed : Element → Bool
 is_removed (joined A) = false
@@ -108,6 +114,10 @@ module _ (vs : Variables) (d : Listing) where
   -- the solutions in the graph of this name, under the mapping and the variable's value
   abbrev pub under_name : List ℕ → Algebra → Mapping → Term → List Mapping
   under_name name A a n = map (λ x. merge x (single vs name n)) (under vs d (Named n) A (merge a (single vs name n)))
+
+  -- what elements make of mappings, one element after another
+  abbrev pub all_made : GraphName → Mapping → List Element → List Mapping → List Mapping
+  all_made g a ks ms = fold (λ xs k. flat_map (made g a k) xs) ms ks
 
 -- a mapping of all variables
 abbrev pub is_wide : Variables → Mapping → Bool

@@ -19,7 +19,7 @@ use crate::look_ups::is_named;
 use crate::members::lone_member;
 use crate::names::names_under;
 use crate::rows::Row;
-use crate::shapes::group_reads;
+use crate::shapes::{before_apart, group_reads};
 use rdf_dataset::Source;
 use rdf_terms::{GraphName, NoMemory, Term, Text, Vocabulary};
 use sparql_trees::{Member, Pattern, VarOrIri};
@@ -139,6 +139,13 @@ fn some_in_union<S: Source>(
     Ok(false)
 }
 
+// Whether the group in GRAPH with a variable has to be found name by name.
+fn is_found_by_name(pattern: &Pattern) -> bool {
+    let members = pattern.members.as_slice();
+    let is_whole = before_apart(members) == members.len();
+    group_reads(pattern) && (is_whole || !pattern.filters.is_empty())
+}
+
 // Whether GRAPH has a solution, whichever graph is the active one.
 #[cycle(some)]
 fn some_in_graph<S: Source>(
@@ -162,7 +169,7 @@ fn some_in_graph<S: Source>(
                 alloc, variables, vocabulary, name, source, looked, pattern, under,
             )
         }
-        VarOrIri::Variable(variable) if group_reads(pattern) => {
+        VarOrIri::Variable(variable) if is_found_by_name(pattern) => {
             let names = names_under(alloc, variables, variable, source, under)?;
             some_in_each(
                 alloc, variables, vocabulary, variable, &names, source, looked, pattern, under,

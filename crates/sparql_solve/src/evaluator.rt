@@ -1,10 +1,11 @@
 //! The evaluator: a group's members from left to right, each found under the rows so far (SPARQL
 //! 1.1 Query, section 18.6). Every function answers what is compatible with the row above it.
-ghost use Rattle.std.specs.Prelude.{◌≡◌, ◌&&◌, false, ◌∷◌, [], IfOk, IfSome, None, cond, length, map, replicate, take};
+ghost use Rattle.std.specs.Prelude.{◌≡◌, ◌&&◌, false, ◌∷◌, [], IfOk, IfSome, None, cond, length, map, replicate, take, ◌≤◌};
 ghost use Rattle.std.specs.List.{flat_map, list_any};
 ghost use Rattle.rdf_terms.specs.declared.quad.GraphName.TheVariants.{Named};
 ghost use Rattle.rdf_terms.specs.declared.quad.GraphName.{GraphName};
-ghost use Rattle.sparql_algebra.specs.Algebra.{element, graph, group_of, translation, union_of};
+ghost use Rattle.sparql_trees.specs.declared.pattern.VarOrIri.TheVariants.{Variable};
+ghost use Rattle.sparql_algebra.specs.Algebra.{element, filtered, graph, group_of, translation, union_of};
 ghost use Rattle.sparql_algebra.specs.Solutions.{solutions};
 ghost use Rattle.sparql_solve.specs.Members.{AreSolutions, element_solutions};
 ghost use Rattle.sparql_values.specs.Mapping.{same_term};
@@ -17,12 +18,12 @@ use crate::look_ups::{LookUp, is_named};
 use crate::members::{is_joined, is_removed, look_up_of};
 use crate::names::{names_under, rows_of_names};
 use crate::rows::Row;
-use crate::shapes::group_reads;
+use crate::shapes::{before_apart, group_reads};
 use crate::sharing::{asked_columns, gather, served_len, stops};
 use crate::sides::{Found, Made, asked, rows_beside, rows_looked_up, rows_served, rows_with};
 use rdf_dataset::Source;
 use rdf_terms::{GraphName, NoMemory, Term, Text, Vocabulary};
-use sparql_trees::{Member, Pattern, VarOrIri};
+use sparql_trees::{Expression, Member, Pattern, VarOrIri};
 use std::alloc::Global;
 use std::cell::Cell;
 
@@ -135,8 +136,33 @@ fn members_under<S: Source>(
     ensures { IfOk result (λ out. AreUnder variables.now (S.contents source.now) under.now out.items
         (λ d. solutions variables.now d graph.now (group_of (map element members.now)))) }
 {
+    let many = members.len();
+    first_under(
+        alloc, variables, vocabulary, graph, source, looked, members, many, under,
+    )
+}
+
+// So many of the first members, from left to right.
+#[cycle(follow)]
+fn first_under<S: Source>(
+    alloc: Global,
+    variables: &[Text],
+    vocabulary: &Vocabulary,
+    graph: &GraphName,
+    source: &S,
+    looked: &Cell<u64>,
+    members: &[Member],
+    many: usize,
+    under: &Row,
+) -> Result<Vec<Row>, NoMemory>
+    requires { many ≤ length members.now }
+    ensures { IfOk result (λ out. AreUnder variables.now (S.contents source.now) under.now out.items
+        (λ d. solutions variables.now d graph.now
+        (group_of (map element (take many members.now))))) }
+{
     let mut rows = unit_rows(alloc, variables)?;
-    for member in members {
+    for place in 0..many {
+        let member = &members[place];
         rows = rows_after(
             alloc, variables, vocabulary, graph, source, looked, rows, member, under,
         )?;
@@ -386,12 +412,12 @@ pub(crate) fn graph_under<S: Source>(
             )
         }
         VarOrIri::Variable(variable) => {
-            let names = names_under(alloc, variables, variable, source, under)?;
             if group_reads(pattern) {
-                return each_under(
-                    alloc, variables, vocabulary, variable, &names, source, looked, pattern, under,
+                return reading_under(
+                    alloc, variables, vocabulary, variable, source, looked, pattern, under,
                 );
             }
+            let names = names_under(alloc, variables, variable, source, under)?;
             let active = GraphName::Default;
             let rows = group_under(
                 alloc, variables, vocabulary, &active, source, looked, pattern, under,
@@ -426,7 +452,51 @@ fn named_under<S: Source>(
     )
 }
 
-// In the graphs of these names, under the row and the name, to which the variable is bound.
+// GRAPH with a variable and triple patterns. Where the group has no filters, the members at its end
+// that don't see the active graph are found behind all names: once, and not once for each name.
+#[cycle(follow)]
+fn reading_under<S: Source>(
+    alloc: Global,
+    variables: &[Text],
+    vocabulary: &Vocabulary,
+    variable: &Text,
+    source: &S,
+    looked: &Cell<u64>,
+    pattern: &Pattern,
+    under: &Row,
+) -> Result<Vec<Row>, NoMemory>
+    ensures { IfOk result (λ out. (active : GraphName) →
+        AreUnder variables.now (S.contents source.now) under.now out.items
+        (λ d. solutions variables.now d active
+        (graph (Variable variable.now) (translation pattern.now)))) }
+{
+    let names = names_under(alloc, variables, variable, source, under)?;
+    let members = pattern.members.as_slice();
+    let filters = pattern.filters.as_slice();
+    if !filters.is_empty() {
+        let all = members.len();
+        return each_under(
+            alloc, variables, vocabulary, variable, &names, source, looked, members, all, filters,
+            under,
+        );
+    }
+    let first = before_apart(members);
+    let mut rows = each_under(
+        alloc, variables, vocabulary, variable, &names, source, looked, members, first, filters,
+        under,
+    )?;
+    for place in first..members.len() {
+        let active = GraphName::Default;
+        let member = &members[place];
+        rows = rows_after(
+            alloc, variables, vocabulary, &active, source, looked, rows, member, under,
+        )?;
+    }
+    Ok(rows)
+}
+
+// So many of the first members under the filters in the graphs of these names, under the row and the
+// name, to which the variable is bound.
 #[cycle(follow)]
 fn each_under<S: Source>(
     alloc: Global,
@@ -436,22 +506,27 @@ fn each_under<S: Source>(
     names: &[Term],
     source: &S,
     looked: &Cell<u64>,
-    pattern: &Pattern,
+    members: &[Member],
+    many: usize,
+    filters: &[Expression],
     under: &Row,
 ) -> Result<Vec<Row>, NoMemory>
+    requires { many ≤ length members.now }
     ensures { IfOk result (λ out. length under.now ≡ length variables.now →
         AreSolutions (S.contents source.now) out.items (λ d. flat_map (under_name variables.now d
-        variable.now (translation pattern.now) under.now) names.now)) }
+        variable.now (filtered filters.now (group_of (map element (take many members.now))))
+        under.now) names.now)) }
 {
     let mut out = Vec::new(alloc);
     for name in names {
         let bound = Row::single(alloc, variables, variable, name)?;
         let both = under.merged(alloc, &bound)?;
         let graph = GraphName::Named(name.copy()?);
-        let found = group_under(
-            alloc, variables, vocabulary, &graph, source, looked, pattern, &both,
+        let found = first_under(
+            alloc, variables, vocabulary, &graph, source, looked, members, many, &both,
         )?;
-        let mut with_name = rows_with(alloc, &found, &bound)?;
+        let passed = filtered_rows(alloc, variables, vocabulary, found, filters)?;
+        let mut with_name = rows_with(alloc, &passed, &bound)?;
         out.append(&mut with_name)?;
     }
     Ok(out)

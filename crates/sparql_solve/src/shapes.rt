@@ -1,11 +1,14 @@
 //! Whether patterns read the active graph, and whether they hold MINUS (SPARQL 1.1 Query, sections
 //! 13.3 and 8.2).
-ghost use Rattle.std.specs.Prelude.{◌≡◌, ◌||◌, false, true, map};
+ghost use Rattle.std.specs.Prelude.{◌≡◌, ◌||◌, false, true, map, ◌≤◌, IsTrue, drop, length};
 ghost use Rattle.sparql_algebra.specs.Algebra.{element, translation, union_of};
 ghost use Rattle.sparql_algebra.specs.Under.{is_positive, reads, stands_any};
 ghost use Rattle.sparql_solve.specs.Members.{part};
 ghost use Rattle.sparql_trees.specs.Visible.{joined, member_names, names_where};
+ghost use Rattle.std.specs.List.{list_all};
+ghost use Rattle.sparql_solve.specs.Under.{is_apart};
 
+use crate::members::is_joined;
 use sparql_trees::{BasicGraphPattern, Member, Pattern};
 
 // Whether there are triple patterns, or hidden variables of some.
@@ -44,6 +47,29 @@ pub(crate) fn group_reads(pattern: &Pattern) -> bool
         }
     }
     false
+}
+
+// Whether the member is joined, and has no triple patterns outside GRAPH.
+fn is_apart(member: &Member) -> bool
+    ensures { IsTrue result → is_apart (element member.now) ≡ true }
+{
+    is_joined(member) && !reads(member)
+}
+
+/// How many members stand before those at the end that are joined and have no triple patterns
+/// outside GRAPH.
+pub(crate) fn before_apart(members: &[Member]) -> usize
+    ensures within { result ≤ length members.now }
+    ensures apart { list_all (λ m. is_apart (element m)) (drop result members.now) ≡ true }
+{
+    let mut first = members.len();
+    while first > 0 {
+        if !is_apart(&members[first - 1]) {
+            return first;
+        }
+        first -= 1;
+    }
+    0
 }
 
 #[cycle(reads)]

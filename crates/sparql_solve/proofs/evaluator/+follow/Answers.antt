@@ -1,11 +1,13 @@
-use Rattle.std.proofs.Common.{◌≡◌, ◌<◌, ◌≤◌, ◌-◌, List, refl, ap, take, drop, length, arith}
+use Rattle.std.proofs.Common.{◌≡◌, ◌<◌, ◌≤◌, ◌-◌, List, refl, ap, take, drop, length, arith, sym, ◌∙◌, map}
+use Rattle.std.proofs.lemmas.Bool.{eqb-true}
 use Rattle.std.proofs.lemmas.List.{take_all, length-drop}
 use Rattle.std.proofs.lemmas.Result.{IfOk-weaker}
 use Rattle.rdf_terms.specs.declared.quad.GraphName.TheVariants.{Named, Default}
-use Rattle.sparql_algebra.specs.Algebra.{element, translation}
+use Rattle.sparql_algebra.specs.Algebra.{element, filtered, group_of, translation}
 use Rattle.sparql_algebra.specs.Under.{under}
 use Rattle.sparql_values.specs.Mapping.{Mapping}
 use Rattle.sparql_solve.specs.Under.{under_name}
+use Rattle.sparql_solve.proofs.ApartLemmas as apart
 use Rattle.sparql_solve.proofs.FollowLemmas as follow
 use Rattle.sparql_solve.proofs.SideLemmas.{done_gives}
 use Rattle.sparql_solve.proofs.MemberLemmas.{more_gives}
@@ -19,15 +21,27 @@ group_under-returns g t c =
     c.in_ok-rows.ensures e)
     c.filtered_rows.ensures
 
-pub members_under-loop-member-init : goal.members_under-loop-member-init
-members_under-loop-member-init g t c =
+pub members_under-returns : goal.members_under-returns
+members_under-returns g t c =
+    IfOk-weaker c.first_under.result _ _
+    (λ out h. apart.all_members c.args.variables.now (g.S.Source.contents c.args.source.now) c.args.graph.now c.args.under.now c.args.members.now
+    (length c.args.members.now) out.items refl h)
+    c.first_under.ensures
+
+pub first_under-loop-place-init : goal.first_under-loop-place-init
+first_under-loop-place-init g t c =
     follow.unit_follows c.args.variables.now (g.S.Source.contents c.args.source.now) c.args.graph.now c.args.under.now c.in_ok-rows.rows.items c.in_ok-rows.ensures
 
-pub members_under-loop-member-preserved : goal.members_under-loop-member-preserved
-members_under-loop-member-preserved g t c =
+pub first_under-loop-place-preserved : goal.first_under-loop-place-preserved
+first_under-loop-place-preserved g t c =
     follow.members_follow c.args.variables.now (g.S.Source.contents c.args.source.now) c.args.graph.now c.args.under.now c.args.members.now
-    c.loop-member.member-index c.member-item.result c.loop-member.rows.items c.in_ok-rows-2.rows.items c.loop-member-test.true
-    c.member-item.is c.loop-member.invariant c.in_ok-rows-2.ensures
+    c.loop-place.place c.index-members-place.result c.loop-place.rows.items c.in_ok-rows-2.rows.items (omega (arith, c.requires)) c.index-members-place.is
+    c.loop-place.invariant c.in_ok-rows-2.ensures
+
+pub first_under-returns : goal.first_under-returns
+first_under-returns g t c =
+    apart.so_many c.args.variables.now (g.S.Source.contents c.args.source.now) c.args.graph.now c.args.under.now c.args.members.now c.loop-place.place
+    c.args.many c.loop-place.rows.items (omega arith) c.loop-place.invariant
 
 pub rows_after-returns-in-Some : goal.rows_after-returns-in-Some
 rows_after-returns-in-Some g t c =
@@ -164,36 +178,74 @@ union_under-returns g t c ea =
 
 pub graph_under-returns-then-group_reads : goal.graph_under-returns-then-group_reads
 graph_under-returns-then-group_reads g t c =
-    IfOk-weaker c.each_under.result _ _
-    (λ out h. follow.variable_follows c.args.variables.now (g.S.Source.contents c.args.source.now) c.args.name.now c.in-Variable.variable
-    c.args.pattern.now c.args.under.now c.in_ok-names-in-Variable.names.items c.deref.result.now out.items c.in-Variable.is
-    c.in_ok-names-in-Variable.ensures c.deref.ensures.value h)
-    c.each_under.ensures
+    IfOk-weaker c.reading_under.result _ _
+    (λ out h. apart.named_so c.args.variables.now (g.S.Source.contents c.args.source.now) c.args.name.now c.in-Variable.variable c.args.pattern.now
+    c.args.under.now out.items c.in-Variable.is h)
+    c.reading_under.ensures
 
 pub graph_under-returns-in_ok-rows-in-Variable : goal.graph_under-returns-in_ok-rows-in-Variable
 graph_under-returns-in_ok-rows-in-Variable g t c =
     IfOk-weaker c.rows_of_names.result _ _
     (λ out e. follow.once_follows c.args.variables.now (g.S.Source.contents c.args.source.now) c.args.name.now c.in-Variable.variable
-    (translation c.args.pattern.now) c.args.under.now Default c.in_ok-names-in-Variable.names.items c.deref-in-Variable.result.now
-    c.in_ok-rows-in-Variable.rows.items c.deref-in-Variable-2.result.now out.items c.in-Variable.is c.in_ok-names-in-Variable.ensures
-    c.deref-in-Variable.ensures.value (c.group_reads.ensures c.if-group_reads.false) c.in_ok-rows-in-Variable.ensures
-    c.deref-in-Variable-2.ensures.value e)
+    (translation c.args.pattern.now) c.args.under.now Default c.in_ok-names-in-Variable.names.items c.deref.result.now
+    c.in_ok-rows-in-Variable.rows.items c.deref-in-Variable.result.now out.items c.in-Variable.is c.in_ok-names-in-Variable.ensures
+    c.deref.ensures.value (c.group_reads.ensures c.if-group_reads.false) c.in_ok-rows-in-Variable.ensures
+    c.deref-in-Variable.ensures.value e)
     c.rows_of_names.ensures
+
+pub reading_under-returns-then-not-is_empty : goal.reading_under-returns-then-not-is_empty
+reading_under-returns-then-not-is_empty g t c =
+    IfOk-weaker c.each_under.result _ _
+    (λ out r. apart.each_follows c.args.variables.now (g.S.Source.contents c.args.source.now) c.args.variable.now c.args.pattern.now c.args.under.now
+    c.in_ok-names.names.items c.deref.result.now c.as_slice-members.result.now (length c.as_slice-members.result.now) c.as_slice-filters.result.now
+    out.items refl c.as_slice-members.ensures
+    c.as_slice-filters.ensures c.in_ok-names.ensures c.deref.ensures.value r)
+    c.each_under.ensures
+
+pub reading_under-loop-place-init : goal.reading_under-loop-place-init
+reading_under-loop-place-init g t c d l ea w =
+    apart.follows_all c.args.variables.now (g.S.Source.contents c.args.source.now) Default c.args.under.now d
+    (drop c.before_apart-first.result c.as_slice-members.result.now) c.in_ok-rows.rows.items w
+
+pub reading_under-loop-place-preserved : goal.reading_under-loop-place-preserved
+reading_under-loop-place-preserved g t c d l ea w =
+    apart.follows_next c.args.variables.now (g.S.Source.contents c.args.source.now) Default c.args.under.now
+    (drop c.before_apart-first.result c.as_slice-members.result.now) c.as_slice-members.result.now c.loop-place.place c.index-members-place.result
+    c.in_ok-rows.rows.items c.loop-place.rows.items c.in_ok-rows-2.rows.items (omega arith) c.index-members-place.is c.in_ok-rows-2.ensures d l ea
+    (c.loop-place.invariant d l ea w)
+
+pub reading_under-returns : goal.reading_under-returns
+reading_under-returns g t c =
+    let vs = c.args.variables.now in
+    let s = g.S.Source.contents c.args.source.now in
+    let ms = c.as_slice-members.result.now in
+    let n = c.before_apart-first.result in
+    let last : length ms ≤ c.loop-place.place = omega (arith, c.before_apart-first.ensures.within) in
+    apart.apart_follows vs s c.args.variable.now c.args.pattern.now c.args.under.now c.in_ok-names.names.items c.deref-2.result.now ms (take n ms)
+    c.as_slice-filters.result.now n Default c.in_ok-rows.rows.items c.loop-place.rows.items c.as_slice-members.ensures c.as_slice-filters.ensures
+    (eqb-true (length c.as_slice-filters.result.now) 0 (sym c.is_empty.ensures ∙ c.if-not-is_empty.false)) refl c.in_ok-names.ensures
+    c.deref-2.ensures.value c.before_apart-first.ensures.apart c.in_ok-rows.ensures
+    (λ d l ea w. apart.all_followed vs s Default c.args.under.now (drop n ms) ms c.loop-place.place c.in_ok-rows.rows.items c.loop-place.rows.items last d
+    (c.loop-place.invariant d l ea w))
 
 pub each_under-loop-name-preserved : goal.each_under-loop-name-preserved
 each_under-loop-name-preserved g t c ea =
-    more_gives (g.S.Source.contents c.args.source.now)
-    (λ d n. under_name c.args.variables.now d c.args.variable.now (translation c.args.pattern.now) c.args.under.now n)
+    let vs = c.args.variables.now in
+    let s = g.S.Source.contents c.args.source.now in
+    let A = filtered c.args.filters.now (group_of (map element (take c.args.many c.args.members.now))) in
+    more_gives s (λ d n. under_name vs d c.args.variable.now A c.args.under.now n)
     c.args.names.now c.loop-name.name-index c.name-item.result c.loop-name.out.items c.in_ok-with_name.with_name.items c.append.new.self.items
     c.loop-name-test.true c.name-item.is (c.loop-name.invariant ea)
-    (follow.name_follows c.args.variables.now (g.S.Source.contents c.args.source.now) c.args.variable.now (translation c.args.pattern.now)
-    c.args.under.now c.name-item.result c.in_ok-bound.bound c.in_ok-both.both (Named c.in_ok-copy.field-0) c.in_ok-found.found.items c.deref.result.now
-    c.in_ok-with_name.with_name.items c.in_ok-bound.ensures c.in_ok-both.ensures (ap Named c.in_ok-copy.ensures) c.in_ok-found.ensures
+    (follow.name_follows vs s c.args.variable.now A c.args.under.now c.name-item.result c.in_ok-bound.bound c.in_ok-both.both (Named c.in_ok-copy.field-0)
+    c.in_ok-passed.passed.items c.deref.result.now c.in_ok-with_name.with_name.items c.in_ok-bound.ensures c.in_ok-both.ensures
+    (ap Named c.in_ok-copy.ensures)
+    (apart.filtered_group vs s (Named c.in_ok-copy.field-0) c.in_ok-both.both (take c.args.many c.args.members.now) c.args.filters.now c.in_ok-found.found.items
+    c.in_ok-passed.passed.items c.in_ok-found.ensures c.in_ok-passed.ensures)
     c.deref.ensures.value c.in_ok-with_name.ensures ea)
     c.in_ok-append.ensures.items
 
 pub each_under-returns : goal.each_under-returns
 each_under-returns g t c ea =
     done_gives (g.S.Source.contents c.args.source.now)
-    (λ d n. under_name c.args.variables.now d c.args.variable.now (translation c.args.pattern.now) c.args.under.now n)
+    (λ d n. under_name c.args.variables.now d c.args.variable.now (filtered c.args.filters.now (group_of (map element (take c.args.many c.args.members.now)))) c.args.under.now n)
     c.args.names.now c.loop-name.name-index c.loop-name.out.items c.loop-name-test.false (c.loop-name.invariant ea)

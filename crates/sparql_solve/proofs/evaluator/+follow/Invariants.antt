@@ -1,15 +1,18 @@
-use Rattle.std.proofs.Common.{◌≡◌, ◌≤◌, ◌-◌, length, map, take, drop}
-use Rattle.std.specs.List.{flat_map}
-use Rattle.sparql_algebra.specs.Algebra.{element, group_of, translation}
+use Rattle.std.proofs.Common.{◌≡◌, ◌≤◌, ◌-◌, length, map, take, drop, true}
+use Rattle.std.specs.List.{flat_map, list_all}
+use Rattle.sparql_algebra.specs.Algebra.{element, group_of, translation, filtered}
 use Rattle.sparql_algebra.specs.Solutions.{solutions}
 use Rattle.sparql_algebra.specs.Under.{under}
-use Rattle.sparql_solve.specs.Members.{AreMoreSolutions}
-use Rattle.sparql_solve.specs.Under.{AreMade, AreUnder, under_name}
+use Rattle.sparql_solve.specs.Members.{AreMoreSolutions, element_solutions}
+use Rattle.sparql_solve.specs.Under.{AreMade, AreUnder, under_name, asked, is_wide}
+use Rattle.rdf_terms.specs.declared.quad.GraphName.TheVariants.{Default}
+use Rattle.sparql_algebra.specs.Listing.{Listing, Lists}
+use Rattle.sparql_solve.proofs.ApartLemmas.{Follows}
 use Rattle.sparql_solve.proofs.evaluator.+follow.Given as goal
 
-abbrev pub invariant-members_under-loop-member : goal.invariant-members_under-loop-member
-invariant-members_under-loop-member g l =
-    AreUnder l.variables (g.S.Source.contents l.source) l.under l.rows.items (λ d. solutions l.variables d l.graph (group_of (map element (take l.member-index l.members))))
+abbrev pub invariant-first_under-loop-place : goal.invariant-first_under-loop-place
+invariant-first_under-loop-place g l =
+    AreUnder l.variables (g.S.Source.contents l.source) l.under l.rows.items (λ d. solutions l.variables d l.graph (group_of (map element (take l.place l.members))))
 
 abbrev pub invariant-rows_followed-loop-done : goal.invariant-rows_followed-loop-done
 invariant-rows_followed-loop-done g l = record {
@@ -26,9 +29,14 @@ invariant-union_under-loop-group g l =
     AreMoreSolutions (g.S.Source.contents l.source) l.out.items (λ d. flat_map (λ p. under l.variables d l.graph (translation p) l.under) (drop l.group-index l.groups))
     (λ d. flat_map (λ p. under l.variables d l.graph (translation p) l.under) l.groups)
 
+abbrev pub invariant-reading_under-loop-place : goal.invariant-reading_under-loop-place
+invariant-reading_under-loop-place g l =
+    (d : Listing) → Lists (g.S.Source.contents l.source) d → length l.under ≡ length l.variables → list_all (is_wide l.variables) l.initial.rows.items ≡ true →
+    Follows l.variables d Default l.under (drop l.first l.members) (drop l.place l.members) l.initial.rows.items l.rows.items
+
 abbrev pub invariant-each_under-loop-name : goal.invariant-each_under-loop-name
 invariant-each_under-loop-name g l =
     length l.under ≡ length l.variables →
     AreMoreSolutions (g.S.Source.contents l.source) l.out.items
-    (λ d. flat_map (under_name l.variables d l.variable (translation l.pattern) l.under) (drop l.name-index l.names))
-    (λ d. flat_map (under_name l.variables d l.variable (translation l.pattern) l.under) l.names)
+    (λ d. flat_map (under_name l.variables d l.variable (filtered l.filters (group_of (map element (take l.many l.members)))) l.under) (drop l.name-index l.names))
+    (λ d. flat_map (under_name l.variables d l.variable (filtered l.filters (group_of (map element (take l.many l.members)))) l.under) l.names)
