@@ -1,5 +1,5 @@
 -- What is done with a device: read calls and write calls, in their order.
-use Rattle.std.specs.Prelude.{◌≡◌, ℕ, ◌+◌, Bool, true, false, ◌||◌, List, [], ◌∷◌, ◌++◌, take, Result, Ok, Err}
+use Rattle.std.specs.Prelude.{◌≡◌, ◌≤◌, ℕ, ◌+◌, Bool, true, false, ◌||◌, List, [], ◌∷◌, ◌++◌, length, take, Result, Ok, Err}
 
 pub data Event : Type 0 where
   -- a read call gave these bytes; with none, the end was read
@@ -75,3 +75,24 @@ has_failed (e ∷ log) = is_failure e || has_failed log
 
 abbrev pub EndsWith : List Event → Event → Type 0
 EndsWith log e = (before : List Event) × (log ≡ before ++ e ∷ [])
+
+-- ---- the order of calls, where a read call asks for no more than a piece, and may come behind some logs
+
+abbrev pub MayBe : ℕ → (List Event → Type 0) → List Event → Event → Type 0
+MayBe piece May before (Gave bytes) = (has_end before ≡ false) × May before × (length bytes ≤ piece)
+MayBe piece May before ReadFault = (has_end before ≡ false) × May before
+MayBe piece May before (Took bytes) = Unit {0}
+MayBe piece May before WriteFault = Unit {0}
+
+-- No call comes behind one that failed, nor a read call behind the end, or where it may not.
+pub record MayCome (piece : ℕ) (May : List Event → Type 0) (before : List Event) (e : Event) : Type 0 where
+  pub goes_on : has_failed before ≡ false
+  pub may_be : MayBe piece May before e
+
+-- each event of a log may come behind those before it, where some came before the log
+abbrev pub IsOrderlyBehind : ℕ → (List Event → Type 0) → List Event → List Event → Type 0
+IsOrderlyBehind piece May before [] = Unit {0}
+IsOrderlyBehind piece May before (e ∷ log) = MayCome piece May before e × IsOrderlyBehind piece May (before ++ e ∷ []) log
+
+abbrev pub IsOrderly : ℕ → (List Event → Type 0) → List Event → Type 0
+IsOrderly piece May log = IsOrderlyBehind piece May [] log

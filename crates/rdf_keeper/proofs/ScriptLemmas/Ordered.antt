@@ -5,80 +5,35 @@ use Rattle.std.specs.List.{concat}
 use Rattle.std.specs.Prelude.{Ok, Err, Option}
 use Rattle.std.specs.Io.KnownBytes.{Consumes, IsAtEnd}
 use Rattle.rdf_session.specs.Session.{Session}
-use Rattle.rdf_keeper.specs.Devices.{EndsWith, Event, Gave, ReadFault, Took, WriteFault, given, has_end, has_failed, is_end, is_failure, read_calls, taken}
+use Rattle.rdf_keeper.specs.Devices.{EndsWith, Event, Gave, IsOrderly, MayCome, ReadFault, Took, WriteFault, given, has_end, has_failed, is_end, is_failure, read_calls, taken}
 use Rattle.rdf_keeper.specs.Inside.Streams.{AreTaken, AreWrites, Wrote, is_write_fault}
 use Rattle.rdf_keeper.specs.Script.Answers.{Answers}
 use Rattle.rdf_keeper.specs.Script.Commands.{Asked, commands}
 use Rattle.rdf_keeper.specs.Script.Lines.{raw_lines, upto_last_end}
-use Rattle.rdf_keeper.specs.Script.Orders.{AreAnswered, EndsAs, IsOrderly, IsOrderlyBehind, MayBe, MayCome, MayRead, Ran, commands_read, status_behind}
+use Rattle.rdf_keeper.specs.Script.Orders.{AreAnswered, EndsAs, Ran, commands_read, status_behind}
 use Rattle.rdf_keeper.specs.Script.Pieces.{EndsWithin, Fed, GoesOn, nothing_pending, unfed, whole_commands}
 use Rattle.rdf_keeper.specs.Script.Runs.{Answered, Course, Serves, final, so_far, to_end}
 use Rattle.rdf_keeper.specs.Script.Statuses.{no_memory}
 use Rattle.rdf_keeper.specs.declared.script.status.Status.{Status}
 use Rattle.rdf_keeper.specs.declared.script.status.Status.TheVariants.{Accepted, Refused, ReadFailed, WriteFailed, NoMemory}
 use Rattle.rdf_keeper.proofs.DeviceLemmas.Logs.{calls-append, end-append, failed-append, given-append, or_false, some_given, taken-append, true_false}
+use Rattle.rdf_keeper.proofs.DeviceLemmas.Orderly.{orderly-append, orderly_for, orderly_one, wrote_fits}
 use Rattle.rdf_keeper.proofs.DeviceLemmas.Written.{writes_go_on, wrote_calls, wrote_end, wrote_given, wrote_taken, wrote_to_fault}
 use Rattle.rdf_keeper.proofs.ScriptLemmas.Feeds.{ends_further, goes_further, goes_nowhere}
 use Rattle.rdf_keeper.proofs.ScriptLemmas.Runs.{serves_done, serves_ended, serves_on}
 
-module _ (stop : Bool) (start : Session) where
-  -- ---- more answers, more events
+-- more answers may come
+answered_for : (stop : Bool) (start : Session) (answers more : List (List ℕ)) (before : List Event) → AreAnswered stop start answers before → AreAnswered stop start (answers ++ more) before
+answered_for stop start answers more before (first, others, mid, refused, parts, wrote, served) =
+    (first, others ++ more, mid, refused, ap (λ t. t ++ more) parts ∙ append_assoc first others more, wrote, served)
 
-  may_read_on : (answers more : List (List ℕ)) (before : List Event) → MayRead stop start answers before → MayRead stop start (answers ++ more) before
-  may_read_on answers more before (no_end, (first, others, mid, refused, parts, wrote, served)) =
-      (no_end, (first, others ++ more, mid, refused, ap (λ t. t ++ more) parts ∙ append_assoc first others more, wrote, served))
-
-  may_be_on : (answers more : List (List ℕ)) (before : List Event) (e : Event) → MayBe stop start answers before e → MayBe stop start (answers ++ more) before e
-  may_be_on answers more before (Gave bytes) m = (m.0, may_read_on answers more before m.1)
-  may_be_on answers more before ReadFault m = may_read_on answers more before m
-  may_be_on answers more before (Took bytes) m = tt
-  may_be_on answers more before WriteFault m = tt
-
-  orderly_on : (answers more : List (List ℕ)) (before log : List Event) → IsOrderlyBehind stop start answers before log → IsOrderlyBehind stop start (answers ++ more) before log
-  orderly_on answers more before [] o = tt
-  orderly_on answers more before (e ∷ log) o =
-      (record { goes_on = o.0.goes_on; may_be = may_be_on answers more before e o.0.may_be }, orderly_on answers more (before ++ e ∷ []) log o.1)
-
-  module _ (answers : List (List ℕ)) where
-    orderly-append : (before xs ys : List Event) → IsOrderlyBehind stop start answers before xs → IsOrderlyBehind stop start answers (before ++ xs) ys → IsOrderlyBehind stop start answers before (xs ++ ys)
-    orderly-append before [] ys p q = subst (λ b. IsOrderlyBehind stop start answers b ys) (append-nil before) q
-    orderly-append before (x ∷ xs) ys p q =
-        (p.0, orderly-append (before ++ x ∷ []) xs ys p.1 (subst (λ b. IsOrderlyBehind stop start answers b ys) (sym (append_assoc before (x ∷ []) xs)) q))
-
-    orderly_one : (log : List Event) (e : Event) → IsOrderly stop start answers log → MayCome stop start answers log e → IsOrderly stop start answers (log ++ e ∷ [])
-    orderly_one log e p m = orderly-append [] log (e ∷ []) p (m, tt)
-
-    took_goes_on : (log : List Event) (b : ℕ) (bytes : List ℕ) → has_failed log ≡ false → has_failed (log ++ Took (b ∷ bytes) ∷ []) ≡ false
-    took_goes_on log b bytes g = failed-append log (Took (b ∷ bytes) ∷ []) ∙ or_false (has_failed log) false g refl
-
-    -- write calls that took something come in order
-    writes_fit : (log more : List Event) → has_failed log ≡ false → AreWrites more → IsOrderlyBehind stop start answers log more
-    writes_fit log [] g w = tt
-    writes_fit log (Gave bytes ∷ more) g w = absurd w
-    writes_fit log (ReadFault ∷ more) g w = absurd w
-    writes_fit log (Took [] ∷ more) g w = absurd w
-    writes_fit log (Took (b ∷ bytes) ∷ more) g w =
-        (record { goes_on = g; may_be = tt }, writes_fit (log ++ Took (b ∷ bytes) ∷ []) more (took_goes_on log b bytes g) w)
-    writes_fit log (WriteFault ∷ more) g w = absurd w
-
-    -- and behind them one that failed, or took nothing
-    wrote_fits : (log more : List Event) (failed : Bool) (text : List ℕ) → has_failed log ≡ false → Wrote failed text more → IsOrderlyBehind stop start answers log more
-    wrote_fits log more false text g w = writes_fit log more g w.0
-    wrote_fits log more true text g (done, last, is, how, (w, e)) =
-        subst (λ m. IsOrderlyBehind stop start answers log m) (sym is)
-        (orderly-append log done (last ∷ []) (writes_fit log done g w)
-        (come (failed-append log done ∙ or_false (has_failed log) (has_failed done) g (writes_go_on done w)) last how, tt))
-      where
-        come : has_failed (log ++ done) ≡ false → (last : Event) → ((last ≡ WriteFault) ⊎ (last ≡ Took [])) → MayCome stop start answers (log ++ done) last
-        come g last how = elim how [
-          | inl a ↦ subst (λ v. MayCome stop start answers (log ++ done) v) (sym a) (record { goes_on = g; may_be = tt })
-          | inr b ↦ subst (λ v. MayCome stop start answers (log ++ done) v) (sym b) (record { goes_on = g; may_be = tt })
-        ]
+orderly_on : (stop : Bool) (start : Session) (answers more : List (List ℕ)) (log : List Event) → IsOrderly 4096 (AreAnswered stop start answers) log → IsOrderly 4096 (AreAnswered stop start (answers ++ more)) log
+orderly_on stop start answers more log o = orderly_for 4096 (AreAnswered stop start answers) (AreAnswered stop start (answers ++ more)) (answered_for stop start answers more) [] log o
 
 -- ---- between two read calls: all commands that were wholly read are answered, and the session goes on
 
 pub record Ready (stop : Bool) (start : Session) (calls : ℕ) (log : List Event) (answers : List (List ℕ)) (t : Session) (feed : Fed) : Type 0 where
-  pub orderly : IsOrderly stop start answers log
+  pub orderly : IsOrderly 4096 (AreAnswered stop start answers) log
   pub goes_on : has_failed log ≡ false
   pub no_end : has_end log ≡ false
   pub counted : read_calls log ≡ calls
@@ -145,8 +100,8 @@ ends_as calls log more text status real g w = by status real w
     by (NoMemory _) = λ real w. all_went w
 
 module _ (stop : Bool) (start : Session) (calls n : ℕ) (log : List Event) (answers : List (List ℕ)) (t : Session) (feed : Fed) (r : Ready stop start n log answers t feed) where
-  may_read : MayRead stop start answers log
-  may_read = (r.no_end, (answers, [], t, feed.refused, sym (append-nil answers), r.written, subst (λ cs. Answered stop false cs start answers t (Ok feed.refused)) (sym (before_end log r.no_end)) r.on.answered))
+  may_read : AreAnswered stop start answers log
+  may_read = (answers, [], t, feed.refused, sym (append-nil answers), r.written, subst (λ cs. Answered stop false cs start answers t (Ok feed.refused)) (sym (before_end log r.no_end)) r.on.answered)
 
   -- ---- a read call that gave bytes, and what was written then
 
@@ -180,11 +135,11 @@ module _ (stop : Bool) (start : Session) (calls n : ℕ) (log : List Event) (ans
         let before = r.counted in
         omega (arith, all, one, none, before)
 
-    now_orderly : IsOrderly stop start (answers ++ ys) now
+    now_orderly : IsOrderly 4096 (AreAnswered stop start (answers ++ ys)) now
     now_orderly =
-        orderly-append stop start (answers ++ ys) [] (log ++ Gave bytes ∷ []) more
-        (orderly_on stop start answers ys [] (log ++ Gave bytes ∷ []) (orderly_one stop start answers log (Gave bytes) r.orderly (record { goes_on = r.goes_on; may_be = (few, may_read) })))
-        (wrote_fits stop start (answers ++ ys) (log ++ Gave bytes ∷ []) more failed (concat ys) read_goes_on w)
+        orderly-append 4096 (AreAnswered stop start (answers ++ ys)) [] (log ++ Gave bytes ∷ []) more
+        (orderly_on stop start answers ys (log ++ Gave bytes ∷ []) (orderly_one 4096 (AreAnswered stop start answers) log (Gave bytes) r.orderly (record { goes_on = r.goes_on; may_be = (r.no_end, may_read, few) })))
+        (wrote_fits 4096 (AreAnswered stop start (answers ++ ys)) (log ++ Gave bytes ∷ []) more failed (concat ys) read_goes_on w)
 
   pub answered_on : (bytes : List ℕ) → bytes ≢ [] → length bytes ≤ 4096 → (more : List Event) (ys : List (List ℕ)) → Wrote false (concat ys) more → (u : Session) (next : Fed) → GoesOn feed bytes t ys u next
       → Ready stop start (n + 1) ((log ++ Gave bytes ∷ []) ++ more) (answers ++ ys) u next
@@ -238,9 +193,9 @@ module _ (stop : Bool) (start : Session) (calls n : ℕ) (log : List Event) (ans
       let before = r.counted in
       record {
         orderly =
-            orderly-append stop start (answers ++ ys) [] read more
-            (orderly_on stop start answers ys [] read (orderly_one stop start answers log (Gave []) r.orderly (record { goes_on = r.goes_on; may_be = (omega arith, may_read) })))
-            (wrote_fits stop start (answers ++ ys) read more failed (concat ys) goes_on w);
+            orderly-append 4096 (AreAnswered stop start (answers ++ ys)) [] read more
+            (orderly_on stop start answers ys read (orderly_one 4096 (AreAnswered stop start answers) log (Gave []) r.orderly (record { goes_on = r.goes_on; may_be = (r.no_end, may_read, omega arith) })))
+            (wrote_fits 4096 (AreAnswered stop start (answers ++ ys)) read more failed (concat ys) goes_on w);
         written =
             taken-append read more ∙ ap (λ z. z ++ taken more) (taken-append log (Gave [] ∷ []) ∙ append-nil (taken log) ∙ r.written)
             ∙ ap (λ z. concat answers ++ z) (wrote_taken failed (concat ys) more w) ∙ sym (concat-append answers ys);
@@ -266,7 +221,7 @@ module _ (stop : Bool) (start : Session) (calls n : ℕ) (log : List Event) (ans
       let count = calls-append log (ReadFault ∷ []) in
       let before = r.counted in
       record {
-        orderly = orderly_one stop start answers log ReadFault r.orderly (record { goes_on = r.goes_on; may_be = may_read });
+        orderly = orderly_one 4096 (AreAnswered stop start answers) log ReadFault r.orderly (record { goes_on = r.goes_on; may_be = (r.no_end, may_read) });
         written = taken-append log (ReadFault ∷ []) ∙ append-nil (taken log) ∙ r.written;
         served = served_so_far (log ++ ReadFault ∷ []) (given-append log (ReadFault ∷ []) ∙ append-nil (given log)) (end-append log (ReadFault ∷ []) ∙ or_false (has_end log) false r.no_end refl);
         ends = inl (log, refl);

@@ -1,77 +1,31 @@
--- What a session over a device says of the bytes of a reader, and where each call stands in its log.
+-- What a session over a device says of the bytes of a reader.
 use Rattle.std.proofs.Common.{◌≡◌, ◌⊎◌, ◌≤◌, ◌<◌, ℕ, ◌+◌, Bool, true, false, cond, ◌||◌, List, [], ◌∷◌, ◌++◌, length, None, refl, sym, ap, ◌∙◌, subst, append-nil, append_assoc, arith, inl, inr}
 use Rattle.std.specs.List.{concat}
 use Rattle.std.specs.Prelude.{Ok, Err, Option}
 use Rattle.std.specs.Io.KnownBytes.{Consumes, IsAtEnd}
 use Rattle.rdf_session.specs.Session.{Session}
-use Rattle.rdf_keeper.specs.Devices.{Event, Gave, ReadFault, Took, WriteFault, Leads, given, has_end, has_failed, is_end, is_failure, read_calls, taken}
+use Rattle.rdf_keeper.specs.Devices.{Event, Gave, IsOrderly, MayCome, ReadFault, Took, WriteFault, Leads, given, has_end, has_failed, is_end, is_failure, read_calls, taken}
 use Rattle.rdf_keeper.specs.Script.Answers.{Answers}
 use Rattle.rdf_keeper.specs.Script.Commands.{commands}
 use Rattle.rdf_keeper.specs.Script.Lines.{raw_lines, upto_last_end}
-use Rattle.rdf_keeper.specs.Script.Orders.{IsOrderly, IsOrderlyBehind, MayCome, MayRead, Ran}
+use Rattle.rdf_keeper.specs.Script.Orders.{AreAnswered, Ran}
 use Rattle.rdf_keeper.specs.Script.Runs.{Answered, RunsOver, Serves, to_end}
 use Rattle.rdf_keeper.specs.declared.script.status.Status.{Status}
 use Rattle.rdf_keeper.specs.declared.script.status.Status.TheVariants.{Accepted, ReadFailed}
 use Rattle.rdf_keeper.specs.declared.streams.device.Lent.{Lent}
 use Rattle.rdf_keeper.proofs.DeviceLemmas.Logs.{end-append, given-append, true_false, true_or_false}
+use Rattle.rdf_keeper.proofs.DeviceLemmas.Orderly.{ended_at, none_behind_end, nothing_given, orderly_at}
 use Rattle.rdf_keeper.proofs.DeviceLemmas.Pairs.{LentStep, lent_end}
 use Rattle.rdf_keeper.proofs.ScriptLemmas.Ordered.{before_end, behind_end}
-
-module _ (stop : Bool) (start : Session) (answers : List (List ℕ)) where
-  -- each call, wherever it stands in a log
-  pub orderly_at : (before xs : List Event) (e : Event) (ys : List Event) → IsOrderlyBehind stop start answers before (xs ++ e ∷ ys)
-      → MayCome stop start answers (before ++ xs) e × IsOrderlyBehind stop start answers ((before ++ xs) ++ e ∷ []) ys
-  orderly_at before [] e ys p = subst (λ b. MayCome stop start answers b e × IsOrderlyBehind stop start answers (b ++ e ∷ []) ys) (sym (append-nil before)) p
-  orderly_at before (x ∷ xs) e ys p =
-      subst (λ b. MayCome stop start answers b e × IsOrderlyBehind stop start answers (b ++ e ∷ []) ys) (append_assoc before (x ∷ []) xs) (orderly_at (before ++ x ∷ []) xs e ys p.1)
-
-  or_end : (a b : Bool) → a ≡ true → (a || b) ≡ true
-  or_end true b h = refl
-  or_end false b h = cc
-
-  -- no read call comes behind the end
-  pub none_behind : (before log : List Event) → has_end before ≡ true → IsOrderlyBehind stop start answers before log → read_calls log ≡ 0
-  none_behind before [] h o = refl
-  none_behind before (Gave bytes ∷ log) h o = absurd (true_false (sym h ∙ o.0.may_be.1.0))
-  none_behind before (ReadFault ∷ log) h o = absurd (true_false (sym h ∙ o.0.may_be.0))
-  none_behind before (Took bytes ∷ log) h o = none_behind (before ++ Took bytes ∷ []) log (end-append before (Took bytes ∷ []) ∙ or_end (has_end before) false h) o.1
-  none_behind before (WriteFault ∷ log) h o = none_behind (before ++ WriteFault ∷ []) log (end-append before (WriteFault ∷ []) ∙ or_end (has_end before) false h) o.1
-
-  or_last : (a b : Bool) → b ≡ true → (a || (b || false)) ≡ true
-  or_last true b h = refl
-  or_last false b h = ap (λ v. v || false) h
-
-  pub none_behind_end : (before after : List Event) → IsOrderly stop start answers (before ++ Gave [] ∷ after) → read_calls after ≡ 0
-  none_behind_end before after o =
-      none_behind (before ++ Gave [] ∷ []) after (end-append before (Gave [] ∷ []) ∙ or_last (has_end before) true refl) (orderly_at [] before (Gave []) after o).1
-
--- where the end was read
-ended_at : (log : List Event) → has_end log ≡ true → (before after : List Event) × (log ≡ before ++ Gave [] ∷ after)
-ended_at [] h = absurd (true_false (sym h))
-ended_at (Gave [] ∷ log) h = ([], log, refl)
-ended_at (Gave (b ∷ bytes) ∷ log) h = let r = ended_at log h in (Gave (b ∷ bytes) ∷ r.0, r.1, ap (λ l. Gave (b ∷ bytes) ∷ l) r.2)
-ended_at (ReadFault ∷ log) h = let r = ended_at log h in (ReadFault ∷ r.0, r.1, ap (λ l. ReadFault ∷ l) r.2)
-ended_at (Took bytes ∷ log) h = let r = ended_at log h in (Took bytes ∷ r.0, r.1, ap (λ l. Took bytes ∷ l) r.2)
-ended_at (WriteFault ∷ log) h = let r = ended_at log h in (WriteFault ∷ r.0, r.1, ap (λ l. WriteFault ∷ l) r.2)
 
 pub reader_at_end : {R W : Type 0} (remaining : R → Option (List ℕ)) (contents : W → Option (List ℕ)) (calls : ℕ) (stop : Bool) (s : Lent R W) (log : List Event) (old : Session) (answers : List (List ℕ)) (new : Session) (status : Status) (t : Lent R W)
     → Leads (LentStep remaining contents) s log t → Ran calls stop log old answers new status → has_end log ≡ true → IsAtEnd (remaining t.reader.now)
 reader_at_end remaining contents calls stop s log old answers new status t l r h =
     let at = ended_at log h in
     lent_end remaining contents s at.0 at.1 t (subst (λ m. Leads (LentStep remaining contents) s m t) at.2 l)
-    (none_behind_end stop old answers at.0 at.1 (subst (IsOrderly stop old answers) at.2 r.orderly))
+    (none_behind_end 4096 (AreAnswered stop old answers) at.0 at.1 (subst (IsOrderly 4096 (AreAnswered stop old answers)) at.2 r.orderly))
 
 -- ---- the last read call
-
-pub nothing_given : (log : List Event) → read_calls log ≡ 0 → given log ≡ []
-nothing_given [] none = refl
-nothing_given (Gave bytes ∷ log) none = absurd (no_call (read_calls log) none)
-  where
-    no_call : (n : ℕ) → n + 1 ≡ 0 → ⊥
-    no_call n e = omega (arith, e)
-nothing_given (ReadFault ∷ log) none = nothing_given log (let e : read_calls log ≡ 0 = omega (arith, none) in e)
-nothing_given (Took bytes ∷ log) none = nothing_given log none
-nothing_given (WriteFault ∷ log) none = nothing_given log none
 
 -- a read call with these bytes
 abbrev IsReadOf : Event → List ℕ → Type 0
@@ -103,10 +57,10 @@ given_of : (e : Event) (bytes : List ℕ) → IsReadOf e bytes → given (e ∷ 
 given_of e bytes is = elim is [ inl g ↦ ap (λ v. given (v ∷ [])) g ∙ append-nil bytes | inr f ↦ ap (λ v. given (v ∷ [])) f.0 ∙ sym f.1 ]
 
 module _ (calls : ℕ) (stop : Bool) (log : List Event) (old new : Session) (answers : List (List ℕ)) (status : Status) (r : Ran calls stop log old answers new status) where
-  read_came : (before : List Event) (e : Event) (bytes : List ℕ) → IsReadOf e bytes → MayCome stop old answers before e → (length bytes ≤ 4096) × MayRead stop old answers before
+  read_came : (before : List Event) (e : Event) (bytes : List ℕ) → IsReadOf e bytes → MayCome 4096 (AreAnswered stop old answers) before e → (length bytes ≤ 4096) × (has_end before ≡ false) × AreAnswered stop old answers before
   read_came before e bytes is m = elim is [
-    | inl g ↦ (let n : MayCome stop old answers before (Gave bytes) = subst (MayCome stop old answers before) g m in n.may_be)
-    | inr f ↦ (let n : MayCome stop old answers before ReadFault = subst (MayCome stop old answers before) f.0 m in (subst (λ b. length b ≤ 4096) (sym f.1) (omega arith), n.may_be))
+    | inl g ↦ (let n : MayCome 4096 (AreAnswered stop old answers) before (Gave bytes) = subst (MayCome 4096 (AreAnswered stop old answers) before) g m in (n.may_be.2, n.may_be.0, n.may_be.1))
+    | inr f ↦ (let n : MayCome 4096 (AreAnswered stop old answers) before ReadFault = subst (MayCome 4096 (AreAnswered stop old answers) before) f.0 m in (subst (λ b. length b ≤ 4096) (sym f.1) (omega arith), n.may_be.0, n.may_be.1))
   ]
 
   -- by the bytes that all read calls but the last gave, and those that this gave
@@ -135,8 +89,8 @@ runs_over calls stop log old new answers status before after r consumed end = el
         ends = subst (Ends calls stop log old new answers status r after) nothing (ends_over calls stop log old new answers status r after end);
       }
   | inr (xs, e, ys, bytes, is, none, read) ↦
-      let came = read_came calls stop log old new answers status r xs e bytes read (orderly_at stop old answers [] xs e ys (subst (IsOrderly stop old answers) is r.orderly)).0 in
-      let may = came.1 in
+      let came = read_came calls stop log old new answers status r xs e bytes read (orderly_at 4096 (AreAnswered stop old answers) [] xs e ys (subst (IsOrderly 4096 (AreAnswered stop old answers)) is r.orderly)).0 in
+      let may = came.2 in
       let parts : given log ≡ given xs ++ bytes =
       ap given is ∙ given-append xs (e ∷ ys) ∙ ap (λ t. given xs ++ t) (given-append (e ∷ []) ys ∙ ap (λ t. given (e ∷ []) ++ t) (nothing_given ys none) ∙ append-nil (given (e ∷ [])) ∙ given_of e bytes read) in
       record {
@@ -144,7 +98,7 @@ runs_over calls stop log old new answers status before after r consumed end = el
         last = bytes;
         consumed = subst (Consumes before after) parts consumed;
         one_piece = came.0;
-        at_once = (may.1.0, may.1.1, may.1.2, may.1.3, may.1.4, subst (λ cs. Answered stop false cs old may.1.0 may.1.2 (Ok may.1.3)) (before_end xs may.0) may.1.6);
+        at_once = (may.0, may.1, may.2, may.3, may.4, subst (λ cs. Answered stop false cs old may.0 may.2 (Ok may.3)) (before_end xs came.1) may.6);
         ends = subst (Ends calls stop log old new answers status r after) parts (ends_over calls stop log old new answers status r after end);
       }
 ]

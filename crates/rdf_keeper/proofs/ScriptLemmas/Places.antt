@@ -4,33 +4,27 @@ use Rattle.std.specs.List.{concat}
 use Rattle.std.specs.Prelude.{Ok, Err, Result}
 use Rattle.std.proofs.lemmas.List.Folds.{concat-append}
 use Rattle.rdf_session.specs.Session.{Session}
-use Rattle.rdf_keeper.specs.Devices.{Event, Gave, ReadFault, Took, WriteFault, given, has_end, has_failed, is_end, is_failure, read_calls, taken}
+use Rattle.rdf_keeper.specs.Devices.{Event, Gave, IsOrderly, MayCome, ReadFault, Took, WriteFault, given, has_end, has_failed, is_end, is_failure, read_calls, taken}
 use Rattle.rdf_keeper.specs.Script.Commands.{Asked, commands}
 use Rattle.rdf_keeper.specs.Script.Lines.{raw_lines, upto_last_end}
 use Rattle.rdf_keeper.specs.Script.OrderLaws.{FailedReadsComeBehindAnswers, NothingComesBehindAFailure, NothingIsReadBehindARefusal, NothingIsReadBehindTheEnd, ReadsComeBehindAnswers, WritesAreAnswers}
-use Rattle.rdf_keeper.specs.Script.Orders.{AreAnswered, IsOrderly, MayCome, MayRead, Ran, commands_read, status_behind}
+use Rattle.rdf_keeper.specs.Script.Orders.{AreAnswered, Ran, commands_read, status_behind}
 use Rattle.rdf_keeper.specs.Script.Runs.{Answered, Course, Serves, so_far, to_end}
 use Rattle.rdf_keeper.specs.declared.script.status.Status.{Status}
-use Rattle.rdf_keeper.proofs.DeviceLemmas.Logs.{end-append, failed-append, given-append, taken-append, true_false}
-use Rattle.rdf_keeper.proofs.ScriptLemmas.OverBytes.{none_behind_end, nothing_given, orderly_at}
+use Rattle.rdf_keeper.proofs.DeviceLemmas.Logs.{end-append, given-append, taken-append}
+use Rattle.rdf_keeper.proofs.DeviceLemmas.Orderly.{failures_in_order, no_end_in, none_behind_end, nothing_given, orderly_at}
 
 pub reads_in_order : ReadsComeBehindAnswers
-reads_in_order stop start answers before bytes after o = (orderly_at stop start answers [] before (Gave bytes) after o).0.may_be
+reads_in_order stop start answers before bytes after o = (let m = (orderly_at 4096 (AreAnswered stop start answers) [] before (Gave bytes) after o).0.may_be in (m.1, m.2))
 
 pub failed_reads_in_order : FailedReadsComeBehindAnswers
-failed_reads_in_order stop start answers before after o = (orderly_at stop start answers [] before ReadFault after o).0.may_be
+failed_reads_in_order stop start answers before after o = (orderly_at 4096 (AreAnswered stop start answers) [] before ReadFault after o).0.may_be.1
 
 pub ends_in_order : NothingIsReadBehindTheEnd
-ends_in_order stop start answers before after o = none_behind_end stop start answers before after o
+ends_in_order stop start answers before after o = none_behind_end 4096 (AreAnswered stop start answers) before after o
 
-or_last : (a b : Bool) → b ≡ true → (a || (b || false)) ≡ true
-or_last true b h = refl
-or_last false b h = ap (λ v. v || false) h
-
-pub failures_in_order : NothingComesBehindAFailure
-failures_in_order stop start answers before e [] o h = refl
-failures_in_order stop start answers before e (y ∷ ys) o h =
-    absurd (true_false (sym (or_last (has_failed before) (is_failure e) h) ∙ sym (failed-append before (e ∷ [])) ∙ (orderly_at stop start answers [] before e (y ∷ ys) o).1.0.goes_on))
+pub failures_come_last : NothingComesBehindAFailure
+failures_come_last stop start answers before e after o h = failures_in_order 4096 (AreAnswered stop start answers) before e after o h
 
 -- ---- where the first refusal ends a session
 
@@ -50,7 +44,7 @@ none_refused refused q (c ∷ cs) s t answers a = elim a [
     kept false r e = e
 
 pub refusals_in_order : NothingIsReadBehindARefusal
-refusals_in_order start answers before (no_end, (first, others, mid, refused, parts, wrote, served)) =
+refusals_in_order start answers before (first, others, mid, refused, parts, wrote, served) =
     (first, mid, wrote, subst (λ q. Answered true false (commands_read before) start first mid (Ok q)) (none_refused false refused (commands_read before) start mid first served) served)
 
 -- ---- writes
@@ -81,16 +75,6 @@ first_read (ReadFault ∷ log) = inr ([], ReadFault, log, refl, refl, inl refl)
 first_read (Took bytes ∷ log) = elim (first_read log) [ inl none ↦ inl none | inr r ↦ inr (Took bytes ∷ r.0, r.1, r.2, ap (λ l. Took bytes ∷ l) r.3, r.4, r.5) ]
 first_read (WriteFault ∷ log) = elim (first_read log) [ inl none ↦ inl none | inr r ↦ inr (WriteFault ∷ r.0, r.1, r.2, ap (λ l. WriteFault ∷ l) r.3, r.4, r.5) ]
 
-no_end_in : (log : List Event) → read_calls log ≡ 0 → has_end log ≡ false
-no_end_in [] none = refl
-no_end_in (Gave bytes ∷ log) none = absurd (no_call (read_calls log) none)
-  where
-    no_call : (n : ℕ) → n + 1 ≡ 0 → ⊥
-    no_call n e = omega (arith, e)
-no_end_in (ReadFault ∷ log) none = no_end_in log (let e : read_calls log ≡ 0 = omega (arith, none) in e)
-no_end_in (Took bytes ∷ log) none = no_end_in log none
-no_end_in (WriteFault ∷ log) none = no_end_in log none
-
 or_right : (a b : Bool) → b ≡ false → (a || b) ≡ a
 or_right true b h = refl
 or_right false b h = h
@@ -108,8 +92,8 @@ module _ (stop : Bool) (start : Session) (answers : List (List ℕ)) where
   written_then : (before : List Event) (bytes : List ℕ) (log : List Event) → taken (before ++ Took bytes ∷ log) ≡ (taken before ++ bytes) ++ taken log
   written_then before bytes log = taken-append before (Took bytes ∷ log) ∙ sym (append_assoc (taken before) bytes (taken log))
 
-  at_read : (before : List Event) (bytes : List ℕ) (log : List Event) → read_calls log ≡ 0 → MayRead stop start answers (before ++ Took bytes ∷ log) → AsFar before bytes
-  at_read before bytes log none (no_end, (first, others, mid, refused, parts, wrote, served)) = (
+  at_read : (before : List Event) (bytes : List ℕ) (log : List Event) → read_calls log ≡ 0 → AreAnswered stop start answers (before ++ Took bytes ∷ log) → AsFar before bytes
+  at_read before bytes log none (first, others, mid, refused, parts, wrote, served) = (
     first,
     others,
     taken log,
@@ -118,10 +102,10 @@ module _ (stop : Bool) (start : Session) (answers : List (List ℕ)) where
     sym wrote ∙ written_then before bytes log,
   )
 
-  may_read : (before : List Event) (e : Event) → ((e ≡ ReadFault) ⊎ ((bytes : List ℕ) × (e ≡ Gave bytes))) → MayCome stop start answers before e → MayRead stop start answers before
+  may_read : (before : List Event) (e : Event) → ((e ≡ ReadFault) ⊎ ((bytes : List ℕ) × (e ≡ Gave bytes))) → MayCome 4096 (AreAnswered stop start answers) before e → AreAnswered stop start answers before
   may_read before e is m = elim is [
-    | inl f ↦ (let n : MayCome stop start answers before ReadFault = subst (MayCome stop start answers before) f m in n.may_be)
-    | inr (bytes, g) ↦ (let n : MayCome stop start answers before (Gave bytes) = subst (MayCome stop start answers before) g m in n.may_be.1)
+    | inl f ↦ (let n : MayCome 4096 (AreAnswered stop start answers) before ReadFault = subst (MayCome 4096 (AreAnswered stop start answers) before) f m in n.may_be.1)
+    | inr (bytes, g) ↦ (let n : MayCome 4096 (AreAnswered stop start answers) before (Gave bytes) = subst (MayCome 4096 (AreAnswered stop start answers) before) g m in n.may_be.1)
   ]
 
 pub writes_in_order : WritesAreAnswers
@@ -139,5 +123,5 @@ writes_in_order calls stop start new answers status before bytes after r = elim 
       let whole : before ++ Took bytes ∷ after ≡ (before ++ Took bytes ∷ log) ++ e ∷ others =
       ap (λ l. before ++ Took bytes ∷ l) is ∙ sym (append_assoc before (Took bytes ∷ log) (e ∷ others)) in
       at_read stop start answers before bytes log none
-      (may_read stop start answers (before ++ Took bytes ∷ log) e read (orderly_at stop start answers [] (before ++ Took bytes ∷ log) e others (subst (λ l. IsOrderly stop start answers l) whole r.orderly)).0)
+      (may_read stop start answers (before ++ Took bytes ∷ log) e read (orderly_at 4096 (AreAnswered stop start answers) [] (before ++ Took bytes ∷ log) e others (subst (IsOrderly 4096 (AreAnswered stop start answers)) whole r.orderly)).0)
 ]

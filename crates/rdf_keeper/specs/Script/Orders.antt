@@ -1,9 +1,9 @@
 -- In which order a session reads its script and writes its answers.
-use Rattle.std.specs.Prelude.{◌≡◌, ◌⊎◌, ◌≤◌, ℕ, Bool, true, false, if◌then◌else◌, List, [], ◌∷◌, ◌++◌, length, Option, None, Ok}
+use Rattle.std.specs.Prelude.{◌≡◌, ◌⊎◌, ◌≤◌, ℕ, Bool, true, false, if◌then◌else◌, List, [], ◌++◌, Option, None, Ok}
 use Rattle.std.specs.List.{concat}
 use Rattle.std.specs.Io.KnownBytes.{Appends, Consumes, IsAtEnd}
 use Rattle.rdf_session.specs.Session.{Session}
-use Rattle.rdf_keeper.specs.Devices.{EndsWith, Event, Gave, ReadFault, Took, WriteFault, given, has_end, has_failed, read_calls, taken}
+use Rattle.rdf_keeper.specs.Devices.{EndsWith, Event, IsOrderly, ReadFault, Took, WriteFault, given, has_end, has_failed, read_calls, taken}
 use Rattle.rdf_keeper.specs.Script.Answers.{Answers}
 use Rattle.rdf_keeper.specs.Script.Commands.{Asked, commands}
 use Rattle.rdf_keeper.specs.Script.Lines.{raw_lines, upto_last_end}
@@ -19,35 +19,11 @@ commands_read log = if has_end log then commands true None (raw_lines (given log
 abbrev pub status_behind : List Event → Status
 status_behind log = if has_end log then Accepted else ReadFailed
 
--- The answers to all of them are written, and none of them ended the session. More answers may come.
+-- The answers to all of them are written, and none of them ended the session: more may be read. More answers may come then.
 abbrev pub AreAnswered : Bool → Session → List (List ℕ) → List Event → Type 0
 AreAnswered stop start answers log =
     (first others : List (List ℕ)) × (mid : Session) × (refused : Bool) × (answers ≡ first ++ others) × (taken log ≡ concat first)
     × Answered stop false (commands_read log) start first mid (Ok refused)
-
--- a read call may come
-abbrev pub MayRead : Bool → Session → List (List ℕ) → List Event → Type 0
-MayRead stop start answers before = (has_end before ≡ false) × AreAnswered stop start answers before
-
-abbrev pub MayBe : Bool → Session → List (List ℕ) → List Event → Event → Type 0
-MayBe stop start answers before (Gave bytes) = (length bytes ≤ piece_size) × MayRead stop start answers before
-MayBe stop start answers before ReadFault = MayRead stop start answers before
-MayBe stop start answers before (Took bytes) = Unit {0}
-MayBe stop start answers before WriteFault = Unit {0}
-
--- No call comes behind one that failed, nor a read call behind the end. Before a read call all commands that were
--- wholly read are answered, and none of them ended the session.
-pub record MayCome (stop : Bool) (start : Session) (answers : List (List ℕ)) (before : List Event) (e : Event) : Type 0 where
-  pub goes_on : has_failed before ≡ false
-  pub may_be : MayBe stop start answers before e
-
--- each event of a log may come behind those before it, where some came before the log
-abbrev pub IsOrderlyBehind : Bool → Session → List (List ℕ) → List Event → List Event → Type 0
-IsOrderlyBehind stop start answers before [] = Unit {0}
-IsOrderlyBehind stop start answers before (e ∷ log) = MayCome stop start answers before e × IsOrderlyBehind stop start answers (before ++ e ∷ []) log
-
-abbrev pub IsOrderly : Bool → Session → List (List ℕ) → List Event → Type 0
-IsOrderly stop start answers log = IsOrderlyBehind stop start answers [] log
 
 -- How a session ends, by what was done. A fault that is told is the last call's; or so many read calls found no end.
 abbrev pub EndsAs : ℕ → List Event → Status → Type 0
@@ -58,7 +34,7 @@ EndsAs calls log status = has_failed log ≡ false
 
 -- what a session with so many read calls at most does, and how it ends
 pub record Ran (calls : ℕ) (stop : Bool) (log : List Event) (old : Session) (answers : List (List ℕ)) (new : Session) (status : Status) : Type 0 where
-  pub orderly : IsOrderly stop old answers log
+  pub orderly : IsOrderly piece_size (AreAnswered stop old answers) log
   pub written : taken log ≡ concat answers
   pub served : Serves (to_end Answers stop (status_behind log)) false (commands_read log) old answers new status
   pub ends : EndsAs calls log status
