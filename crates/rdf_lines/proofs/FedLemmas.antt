@@ -4,18 +4,20 @@ use Rattle.std.proofs.lemmas.Bool.Decides.{Decides-eqb}
 use Rattle.std.specs.Prelude.{Ok, Err}
 use Rattle.rdf_lines.specs.Document.{HasSaid, IsDocument, ReadsAll, ReadsFront}
 use Rattle.rdf_lines.specs.FaultName.{no_memory}
-use Rattle.rdf_lines.specs.Fed.{Ends, Faults, Fed, FedBegins, HasBeenFed, Takes, and_then, behind_front, with_front}
+use Rattle.rdf_lines.specs.Fed.{Ends, Faults, Fed, FedBegins, HasBeenFed, StopsFed, and_then, behind_front, with_front}
 use Rattle.rdf_lines.specs.Labels.{all_noted, labels_of, quad_in}
 use Rattle.rdf_lines.specs.Line.{LineSays}
 use Rattle.rdf_lines.specs.Lines.{lines, lines_behind}
 use Rattle.rdf_lines.specs.Pieces.{HasLine, HasNoLine, Hold, feed_len, onto}
-use Rattle.rdf_lines.specs.Reader.{Answer, FaultOf, ReadsLine, StopsAt, fault}
+use Rattle.rdf_lines.specs.Reader.{Answer, FaultOf, ReadsLine, fault}
 use Rattle.rdf_lines.specs.declared.cut.Place.{Place}
+use Rattle.rdf_lines.specs.declared.fault.FaultKind.{FaultKind}
+use Rattle.rdf_lines.specs.declared.fault.FaultKind.TheVariants.{NotUtf8, Syntax, Relative, Read, NoMemory, Failed}
 use Rattle.rdf_lines.specs.declared.fault.LineFault.{LineFault}
 use Rattle.rdf_lines.specs.declared.format.LineFormat.{LineFormat}
 use Rattle.rdf_terms.specs.declared.quad.Quad.{Quad}
 use Rattle.rdf_lines.proofs.FrontLemmas.{said_all, said_document, said_nothing, said_silent, said_statement}
-use Rattle.rdf_lines.proofs.LawLemmas.{fault_says, quads_of, same_fault, some_reading}
+use Rattle.rdf_lines.proofs.LawLemmas.{quads_of, same_fault, some_reading}
 use Rattle.rdf_lines.proofs.PieceLemmas.{onto-append, onto-cons, onto-none}
 
 -- ---- the bytes
@@ -53,13 +55,23 @@ module _ (format : LineFormat) (front : List (List ℕ)) (n m : ℕ) (labels now
   reached : (text : List ℕ) (f : LineFault) (behind : List (List ℕ)) → lines text ≡ front ++ behind → f.line ≡ n → ReadsFront format text f.line quads behind
   reached text f behind e is = (front, labels, e, subst (λ k. HasSaid format front k labels quads) (sym is) said)
 
-  fault_said : (text : List ℕ) (f : LineFault) (behind : List (List ℕ)) → lines text ≡ front ++ line ∷ behind → ReadsLine format line n labels (Err f) m now → StopsAt format text quads f
+  faulty : (text : List ℕ) (f : LineFault) (kind : FaultKind) (behind : List (List ℕ)) → lines text ≡ front ++ line ∷ behind → f ≡ fault n kind → LineSays format line (Err kind) → IsDocument format text quads (Some f)
+  faulty text f kind behind e is says =
+      subst (λ g. IsDocument format text quads (Some g)) (sym is) (said_all format front n labels quads said text (line ∷ behind) (Some (fault n kind)) e (inr (inr (kind, says, refl, refl))))
+
+  fault_said : (text : List ℕ) (f : LineFault) (behind : List (List ℕ)) → lines text ≡ front ++ line ∷ behind → ReadsLine format line n labels (Err f) m now → StopsFed format text quads f f.kind
   fault_said text f behind e r = elim r.2 [
-    | inl own ↦
-        inl (subst (λ g. IsDocument format text quads (Some g)) (same_fault f n r.0)
-        (said_all format front n labels quads said text (line ∷ behind) (Some (fault n f.kind)) e (inr (inr (f.kind, fault_says format line f.kind own, refl, refl)))))
-    | inr memory ↦ inr (inr memory, (line ∷ behind, reached text f (line ∷ behind) e r.0))
+    | inl own ↦ by f.kind own (sym (same_fault f n r.0))
+    | inr memory ↦ subst (StopsFed format text quads f) (sym memory) (line ∷ behind, reached text f (line ∷ behind) e r.0)
   ]
+    where
+      by : (kind : FaultKind) → FaultOf format line kind → f ≡ fault n kind → StopsFed format text quads f kind
+      by NotUtf8 own is = faulty text f NotUtf8 behind e is own
+      by Syntax own is = faulty text f Syntax behind e is own
+      by Relative own is = faulty text f Relative behind e is own
+      by Read own is = absurd own
+      by (NoMemory _) own is = absurd own
+      by Failed own is = absurd own
 
 -- ---- a reader
 
@@ -104,13 +116,14 @@ front_fed old xs read quads none (front, holds, said) =
 
 pub front_faults : (old : Fed) (xs : List ℕ) (f : LineFault) → f.line ≡ old.number → f.kind ≡ no_memory → Faults old xs f
 front_faults old xs f is_line is_kind read quads beyond (front, holds, said) =
-    inr (inr is_kind, (onto old.line (lines_behind old.behind_return (xs ++ beyond)), (front, old.labels, holds (xs ++ beyond), subst (λ k. HasSaid old.format front k old.labels quads) (sym is_line) said)))
+    subst (StopsFed old.format (read ++ (xs ++ beyond)) quads f) (sym is_kind)
+    (onto old.line (lines_behind old.behind_return (xs ++ beyond)), (front, old.labels, holds (xs ++ beyond), subst (λ k. HasSaid old.format front k old.labels quads) (sym is_line) said))
 
 -- behind a front of the piece
 pub faults_on : (old mid : Fed) (front xs : List ℕ) (f : LineFault) → ((read : List ℕ) (quads : List Quad) → HasBeenFed read quads old → HasBeenFed (read ++ front) quads mid) → mid.format ≡ old.format → Faults mid xs f → Faults old (front ++ xs) f
 faults_on old mid front xs f on format faults read quads beyond fed =
     let text : (read ++ front) ++ (xs ++ beyond) ≡ read ++ ((front ++ xs) ++ beyond) = append_assoc read front (xs ++ beyond) ∙ ap (λ l. read ++ l) (sym (append_assoc front xs beyond)) in
-    subst (λ t. StopsAt old.format t quads f) text (subst (λ v. StopsAt v ((read ++ front) ++ (xs ++ beyond)) quads f) format (faults (read ++ front) quads beyond (on read quads fed)))
+    subst (λ t. StopsFed old.format t quads f f.kind) text (subst (λ v. StopsFed v ((read ++ front) ++ (xs ++ beyond)) quads f f.kind) format (faults (read ++ front) quads beyond (on read quads fed)))
 
 -- ---- step by step
 

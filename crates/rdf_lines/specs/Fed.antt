@@ -1,8 +1,10 @@
 -- A reader of lines that is fed its text a piece at a time.
 use Rattle.std.specs.Prelude.{◌≡◌, ℕ, ◌+◌, ◌<◌, ◌≤◌, Bool, false, List, [], ◌∷◌, ◌++◌, length, drop, Option, Some, None, Result, Ok, Err}
-use Rattle.rdf_lines.specs.Document.{HasSaid, IsDocument}
+use Rattle.rdf_lines.specs.Document.{HasSaid, IsDocument, ReadsFront}
 use Rattle.rdf_lines.specs.Pieces.{Hold, feed_len}
-use Rattle.rdf_lines.specs.Reader.{Answer, StopsAt}
+use Rattle.rdf_lines.specs.Reader.{Answer}
+use Rattle.rdf_lines.specs.declared.fault.FaultKind.{FaultKind}
+use Rattle.rdf_lines.specs.declared.fault.FaultKind.TheVariants.{Read, NoMemory, Failed}
 use Rattle.rdf_lines.specs.declared.fault.LineFault.{LineFault}
 use Rattle.rdf_lines.specs.declared.format.LineFormat.{LineFormat}
 use Rattle.rdf_terms.specs.declared.quad.Quad.{Quad}
@@ -50,14 +52,22 @@ pub record Takes (old : Fed) (piece : List ℕ) (quad : Option Quad) (rest : Lis
   pub number : new.number + length rest ≤ old.number + length piece
   pub fed : (read : List ℕ) (quads : List Quad) → HasBeenFed read quads old → HasBeenFed (read ++ front) (and_then quads quad) new
 
+-- A fault behind these quads of a text, by its kind: that of the text's document, or want of memory at a line whose
+-- forerunners say the quads.
+abbrev pub StopsFed : LineFormat → List ℕ → List Quad → LineFault → FaultKind → Type 0
+StopsFed format text quads fault (NoMemory _) = (behind : List (List ℕ)) × ReadsFront format text fault.line quads behind
+StopsFed format text quads fault Read = ⊥
+StopsFed format text quads fault Failed = ⊥
+StopsFed format text quads fault kind = IsDocument format text quads (Some fault)
+
 -- The piece has a fault, however the text goes on.
 abbrev pub Faults : Fed → List ℕ → LineFault → Type 0
-Faults old piece fault = (read : List ℕ) (quads : List Quad) (beyond : List ℕ) → HasBeenFed read quads old → StopsAt old.format (read ++ (piece ++ beyond)) quads fault
+Faults old piece fault = (read : List ℕ) (quads : List Quad) (beyond : List ℕ) → HasBeenFed read quads old → StopsFed old.format (read ++ (piece ++ beyond)) quads fault fault.kind
 
 -- The text has ended: its last line says this.
 abbrev pub Ends : Fed → Answer → Type 0
 Ends old (Ok quad) = (read : List ℕ) (quads : List Quad) → HasBeenFed read quads old → IsDocument old.format read (and_then quads quad) None
-Ends old (Err fault) = (read : List ℕ) (quads : List Quad) → HasBeenFed read quads old → StopsAt old.format read quads fault
+Ends old (Err fault) = (read : List ℕ) (quads : List Quad) → HasBeenFed read quads old → StopsFed old.format read quads fault fault.kind
 
 -- However the text goes on, its document has these quads first.
 abbrev pub FedBegins : Type 0
