@@ -1,26 +1,27 @@
-//! Sessions that answer at once: dialogues, where nothing is asked before the last answer came, and what is read
-//! before a session ends.
-use rdf_keeper::{Feed, Keeper, Settings, Status, run};
+//! Sessions and conversions that answer at once: dialogues, where nothing is asked before the last answer came, and what is
+//! read before a session ends.
+use rdf_keeper::{Feed, Format, Keeper, Settings, Status, convert, run};
 use std::alloc::Global;
 use std::cell::Cell;
 use std::io;
-use std::io::{ErrorKind, Read, Write};
+use std::io::{Read, Write};
 use std::test::Fail;
 
-// Gives a piece at a call, each only once as many answers have come as pieces were given; then the end.
+// Gives a piece at a call, then the end, and notes where fewer answers have come than pieces were given.
 #[derive(Drop)]
 struct Asker<'a> {
     pieces: &'a [&'static [u8]],
     calls: &'a Cell<usize>,
     answers: &'a Cell<usize>,
-    waits: bool,
+    // It was read before an answer came.
+    early: &'a Cell<bool>,
 }
 
 impl Read for Asker<'_> {
     fn read(&mut self, buf: &mut [u8]) -> io::Result<usize> {
         let call = self.calls.get();
-        if self.waits && self.answers.get() < call {
-            return Err(io::Error::from(ErrorKind::Other));
+        if self.answers.get() < call {
+            self.early.set(true);
         }
         self.calls.set(call.saturating_add(1));
         match self.pieces.get(call) {
@@ -53,21 +54,24 @@ impl Write for Listener<'_> {
     }
 }
 
-// What a session over these pieces writes, its status, and how often it reads.
-fn held(
-    alloc: Global,
-    pieces: &[&'static [u8]],
-    waits: bool,
-    stop: bool,
-) -> (Vec<u8>, Status, usize) {
-    let calls = Cell::new(0);
-    let answers = Cell::new(0);
+// What came of these pieces, how often they were read, and whether some call came too early.
+#[derive(Drop)]
+struct Said {
+    taken: Vec<u8>,
+    status: Status,
+    calls: usize,
+    early: bool,
+}
+
+// A session over these pieces.
+fn held(alloc: Global, pieces: &[&'static [u8]], stop: bool) -> Said {
+    let (calls, answers, early) = (Cell::new(0), Cell::new(0), Cell::new(false));
     let mut keeper = Keeper::new(alloc, None);
     let mut reader = Asker {
         pieces,
         calls: &calls,
         answers: &answers,
-        waits,
+        early: &early,
     };
     let mut writer = Listener {
         answers: &answers,
@@ -76,7 +80,12 @@ fn held(
     let settings = Settings { stop };
     let status = run(alloc, &mut keeper, &mut reader, &mut writer, settings);
     let Listener { taken, .. } = writer;
-    (taken, status, calls.get())
+    Said {
+        taken,
+        status,
+        calls: calls.get(),
+        early: early.get(),
+    }
 }
 
 #[test]
@@ -85,19 +94,51 @@ fn a_dialogue_comes_to_its_end(rt: HostRuntime) {
         b"%load nquads\n<a:s> <a:p> \"x\" .\n%end\n",
         b"%mark a\r\n",
         b"%undo\n",
-        b"%frob",
+        b"%frob\n",
     ];
-    let (taken, status, calls) = held(rt.alloc(), &pieces, true, false);
-    assert_eq!(rt; taken.as_slice(), b"ok +1 -0\nok\nok +0 -1\n".as_slice());
-    assert!(rt; status == Status::ReadFailed && calls == 4);
+    let said = held(rt.alloc(), &pieces, false);
+    assert_eq!(rt;
+        said.taken.as_slice(),
+        b"ok +1 -0\nok\nok +0 -1\nrefused: BadCommand\n".as_slice()
+    );
+    assert!(rt; said.status == Status::Refused && said.calls == 5 && !said.early);
+}
+
+// Whether a conversion of these pieces, each with a line, writes each line before more is read.
+fn is_converted(alloc: Global, pieces: &[&'static [u8]], lines: &[u8]) -> bool {
+    let (calls, answers, early) = (Cell::new(0), Cell::new(0), Cell::new(false));
+    let mut reader = Asker {
+        pieces,
+        calls: &calls,
+        answers: &answers,
+        early: &early,
+    };
+    let mut writer = Listener {
+        answers: &answers,
+        taken: Vec::new(alloc),
+    };
+    let answer = convert(alloc, Format::NQuads, None, &mut reader, &mut writer);
+    let Listener { taken, .. } = writer;
+    answer == Ok(()) && !early.get() && taken.as_slice() == lines
+}
+
+#[test]
+fn lines_down_a_pipe_are_converted_at_once(rt: HostRuntime) {
+    let pieces: [&'static [u8]; 3] = [
+        b"<a:s> <a:p> \"x\" .\n",
+        b"# a comment\n<a:s> <a:p> \"y\" .\r",
+        b"\n<a:s> <a:p> \"z\" .\n\n",
+    ];
+    let lines = b"<a:s> <a:p> \"x\" .\n<a:s> <a:p> \"y\" .\n<a:s> <a:p> \"z\" .\n";
+    assert!(rt; is_converted(rt.alloc(), &pieces, lines));
 }
 
 #[test]
 fn nothing_is_read_after_the_refusal_that_stops(rt: HostRuntime) {
     let pieces: [&'static [u8]; 2] = [b"%frob\n", b"%print\n"];
-    let (taken, status, calls) = held(rt.alloc(), &pieces, false, true);
-    assert_eq!(rt; taken.as_slice(), b"refused: BadCommand\n".as_slice());
-    assert!(rt; status == Status::Refused && calls == 1);
+    let said = held(rt.alloc(), &pieces, true);
+    assert_eq!(rt; said.taken.as_slice(), b"refused: BadCommand\n".as_slice());
+    assert!(rt; said.status == Status::Refused && said.calls == 1);
 }
 
 #[test]
@@ -108,12 +149,12 @@ fn a_line_end_between_two_pieces(rt: HostRuntime) {
         b"\n%un",
         b"do",
     ];
-    let (taken, status, calls) = held(rt.alloc(), &pieces, false, false);
+    let said = held(rt.alloc(), &pieces, false);
     assert_eq!(rt;
-        taken.as_slice(),
+        said.taken.as_slice(),
         b"ok +0 -0\nok +0 -0\nrefused: NothingToUndo\n".as_slice()
     );
-    assert!(rt; status == Status::Refused && calls == 5);
+    assert!(rt; said.status == Status::Refused && said.calls == 5);
 }
 
 // What a session that is fed these two pieces writes behind the first, and at its end.

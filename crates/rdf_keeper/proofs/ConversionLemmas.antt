@@ -1,7 +1,7 @@
 -- What is written of a document.
 pub mod Converts
-pub mod Documents
-pub mod Fronts
+pub mod Gathered
+pub mod Ordered
 pub mod TripleLines
 pub mod Turtle
 pub mod WholeLines

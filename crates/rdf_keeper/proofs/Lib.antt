@@ -1,4 +1,5 @@
 pub mod ConversionLemmas
+pub mod DeviceLemmas
 pub mod ProgramLemmas
 pub mod ScriptLemmas
 pub mod StreamLemmas

@@ -9,7 +9,10 @@ pub mod Show
 pub mod OneShow
 pub mod OneOutput
 pub mod OneOutputOfBytes
+pub mod Ordered
+pub mod OverBytes
 pub mod Pieces
+pub mod Places
 pub mod Printed
 pub mod Promised
 pub mod Refusals

@@ -1,3 +1,4 @@
--- Conversions: what is written of a document, and the faults that end one.
+-- Conversions: what is written of a document, in which order, and the faults that end one.
 pub mod Converts
 pub mod Faults
+pub mod Orders

@@ -1,4 +1,5 @@
 pub mod Conversion
+pub mod Devices
 pub mod Examples
 pub mod Inside
 pub mod Script

@@ -6,6 +6,8 @@ pub mod LineWords
 pub mod Lines
 pub mod Show
 pub mod OneOutput
+pub mod OrderLaws
+pub mod Orders
 pub mod Pieces
 pub mod Printed
 pub mod Promised

@@ -4,6 +4,7 @@ ghost use Rattle.std.specs.Io.KnownBytes.{Appends};
 ghost use Rattle.rdf_keeper.specs.Conversion.Converts.{Converts};
 
 mod fault;
+mod gathered;
 mod held;
 mod lines;
 mod triple_lines;

@@ -4,6 +4,7 @@ ghost use Rattle.rdf_keeper.specs.Script.Promised.{AnswersAreTransitions, Script
 ghost use Rattle.rdf_keeper.specs.Script.Refusals.{RefusedAnswersLeave};
 ghost use Rattle.rdf_keeper.specs.Script.LineLaws.{LinesAreTheText, LinesAreEnded, OneCut};
 ghost use Rattle.rdf_keeper.specs.Script.Printed.{LinesAreDocuments, SortedTextsAreDocuments, PrintedLinesAreDocuments};
+ghost use Rattle.rdf_keeper.specs.Script.OrderLaws.{FailedReadsComeBehindAnswers, NothingComesBehindAFailure, NothingIsReadBehindARefusal, NothingIsReadBehindTheEnd, ReadsComeBehindAnswers, WritesAreAnswers};
 ghost use Rattle.rdf_keeper.specs.Script.Pieces.{PiecesAreTheText};
 ghost use Rattle.rdf_keeper.specs.Script.Saved.{RestoredShowsItsText, ScriptsGoOnAlike, ShownComesBack};
 ghost use Rattle.rdf_keeper.specs.Script.OneOutput.{OneOutput, OneOutputOfBytes, OneText, OneTextOfBytes};
@@ -45,6 +46,18 @@ pub fn a_script_keeps_the_promise()
 /// and with what is left where it ends they are its commands: what [`crate::Feed::take`] answers piece by piece.
 pub fn pieces_are_the_script()
     ensures { PiecesAreTheText }
+{}
+
+/// Where each call of a session stands in the log of [`crate::run_on`]. Before a read call all commands that were wholly read
+/// are answered, and where the first refusal ends a session, none of these answers is one. No read call comes behind the end,
+/// and no call behind one that failed. What is written is never ahead of the commands that were wholly read.
+pub fn each_call_has_its_place()
+    ensures reads { ReadsComeBehindAnswers }
+    ensures failed_reads { FailedReadsComeBehindAnswers }
+    ensures refusals { NothingIsReadBehindARefusal }
+    ensures ends { NothingIsReadBehindTheEnd }
+    ensures failures { NothingComesBehindAFailure }
+    ensures writes { WritesAreAnswers }
 {}
 
 /// The lines of a script, one after another, are its text. An LF ends each of them but perhaps the last, and stands nowhere

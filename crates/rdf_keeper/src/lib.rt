@@ -19,8 +19,8 @@ pub use conversion::{ConvertFault, DocumentFault, convert};
 pub use examples::the_worked_examples_hold;
 pub use law::{
     a_script_has_one_output, a_script_keeps_the_promise, a_shown_state_comes_back,
-    pieces_are_the_script, printed_lines_are_documents, refused_answers_leave,
-    script_lines_are_the_text,
+    each_call_has_its_place, pieces_are_the_script, printed_lines_are_documents,
+    refused_answers_leave, script_lines_are_the_text,
 };
 pub use program::start;
 pub use rdf_lines::StateFault;
@@ -28,4 +28,5 @@ pub use rdf_session::{
     Answer, Counts, Format, Keeper, KeeperFault, a_load_is_insert_data, a_saved_state_comes_back,
     one_reply, standing_requests, the_headline, undo_gives_back,
 };
-pub use script::{Feed, Settings, Status, run};
+pub use script::{Feed, Settings, Status, run, run_on, run_within};
+pub use streams::Device;

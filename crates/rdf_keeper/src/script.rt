@@ -10,5 +10,5 @@ mod show;
 mod status;
 
 pub use feed::{Feed, Settings};
-pub use runner::run;
+pub use runner::{run, run_on, run_within};
 pub use status::Status;

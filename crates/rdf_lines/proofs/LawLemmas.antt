@@ -187,7 +187,7 @@ law format text answers end quads ending calls (ss, reads, are) =
 
 -- ---- each text is one document
 
-some_reading : (format : LineFormat) (n : ℕ) (ls : List (List ℕ)) → (ss : List Statement) × (ending : Option LineFault) × ReadsAll format n ls ss ending
+pub some_reading : (format : LineFormat) (n : ℕ) (ls : List (List ℕ)) → (ss : List Statement) × (ending : Option LineFault) × ReadsAll format n ls ss ending
 some_reading format n [] = ([], None, (refl, refl))
 some_reading format n (l ∷ ls) = let says = some_answer format l in by says.0 says.1 (some_reading format (n + 1) ls)
   where

@@ -4,6 +4,7 @@ mod ApartLemmas
 mod BlankLabelLemmas
 mod BlankLemmas
 pub mod CallerLemmas
+mod FedLemmas
 mod FrontLemmas
 mod GreedyLemmas
 mod HeldLemmas

@@ -1,6 +1,7 @@
 pub mod Blanks
 pub mod Document
 pub mod FaultName
+pub mod Fed
 pub mod Grammar
 pub mod Inside
 pub mod Labels

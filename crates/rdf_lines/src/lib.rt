@@ -8,6 +8,7 @@
 
 mod cut;
 mod fault;
+mod fed;
 mod format;
 mod held;
 mod labels;
@@ -28,6 +29,7 @@ mod write;
 mod written;
 
 pub use fault::{FaultKind, LineFault};
+pub use fed::{FedLines, what_is_fed_comes_first};
 pub use format::LineFormat;
 pub use held::{
     blank_numbers_are_below, each_text_is_one_document, labels_are_told_apart, lines_are_the_text,

@@ -1,4 +1,4 @@
--- What a conversion holds and writes at a time, and what its readers' faults are to it.
+-- What a conversion writes at its end, and what its readers' faults are to it.
 use Rattle.std.specs.Prelude.{◌≡◌, ◌≢◌, ◌⊎◌, ℕ, List, [], ◌++◌, Option, Result, Ok, Err}
 use Rattle.std.specs.Io.KnownBytes.{Appends}
 use Rattle.rdf_lines.specs.declared.fault.LineFault.{LineFault}
@@ -10,14 +10,6 @@ use Rattle.rdf_turtle.specs.declared.fault.TurtleFaultKind.TheVariants as turtle
 use Rattle.rdf_keeper.specs.declared.conversion.fault.DocumentFault.TheVariants.{Line as InLine, Turtle as InTurtle}
 use Rattle.rdf_keeper.specs.declared.conversion.fault.ConvertFault.{ConvertFault}
 use Rattle.rdf_keeper.specs.declared.conversion.fault.ConvertFault.TheVariants.{Document, Read, Write, NoMemory}
-
--- one more line behind those that are held: all but what is still held is written
-abbrev pub Gathers : Option (List ℕ) → List ℕ → List ℕ → Result (Unit {0}) ConvertFault → Option (List ℕ) → List ℕ → Type 0
-Gathers before held line (Ok u) after now = (out : List ℕ) × Appends before after out × (held ++ line ≡ out ++ now)
-Gathers before held line (Err Write) after now = (out more : List ℕ) × Appends before after out × (held ++ line ≡ out ++ more) × (more ≢ [])
-Gathers before held line (Err (NoMemory _)) after now = Appends before after held
-Gathers before held line (Err Read) after now = ⊥
-Gathers before held line (Err (Document fault)) after now = ⊥
 
 -- what is held is written, and the answer given
 abbrev pub Finishes : Option (List ℕ) → List ℕ → Result (Unit {0}) ConvertFault → Result (Unit {0}) ConvertFault → Option (List ℕ) → Type 0

@@ -1,31 +1,63 @@
 //! Documents of lines, written while they are read.
-ghost use Rattle.std.specs.Prelude.{◌≡◌, ℕ, List, Some};
+ghost use Rattle.std.specs.Prelude.{◌≡◌, ◌++◌, ℕ, List, Some, MatchResult};
 ghost use Rattle.std.specs.Io.KnownBytes.{Appends};
 ghost use Rattle.rdf_keeper.specs.Conversion.Converts.{ConvertsLines};
-ghost use Rattle.rdf_keeper.specs.Inside.Held.{fault_of_kind};
+ghost use Rattle.rdf_keeper.specs.Conversion.Orders.{LinesConverted};
+ghost use Rattle.rdf_keeper.specs.Devices.{Event, Leads};
+ghost use Rattle.rdf_keeper.specs.Inside.Streams.{WritesOn};
 
-use crate::conversion::fault::{ConvertFault, DocumentFault};
-use crate::conversion::held::{finish, gather};
-use rdf_lines::{
-    FaultKind, LineFault, LineFormat, LineReader, answers_are_the_document,
-    each_text_is_one_document,
-};
+use crate::conversion::fault::ConvertFault;
+use crate::conversion::gathered::{gather, gather_last};
+use crate::streams::device::{Device, Lent};
+use crate::streams::reading::READ_CALLS;
+use crate::streams::writing::write_on;
+use rdf_lines::{FedLines, LineFormat, what_is_fed_comes_first};
 use std::alloc::Global;
 use std::io::{Read, Write};
 
-fn fault_of(fault: LineFault) -> ConvertFault
-    ensures { result ≡ fault_of_kind fault fault.kind }
+// How many bytes are read at once at most.
+const PIECE: usize = 65536;
+
+/// Converts a document of lines over a device: before each read call the lines of all statements that came are written.
+pub(crate) fn convert_lines_on<D: Device>(
+    alloc: Global,
+    format: LineFormat,
+    device: &mut D,
+) -> Result<(), ConvertFault>
+    ensures { (log : List Event) × Leads D.step device.old log device.new
+        × LinesConverted READ_CALLS format log result }
 {
-    match fault.kind {
-        FaultKind::Read => ConvertFault::Read,
-        FaultKind::NoMemory(refused) => ConvertFault::NoMemory(refused),
-        FaultKind::NotUtf8 | FaultKind::Syntax | FaultKind::Relative | FaultKind::Failed => {
-            ConvertFault::Document(DocumentFault::Line(fault))
+    what_is_fed_comes_first();
+    let mut document = FedLines::new(alloc, format);
+    let mut lines = Vec::new(alloc);
+    let mut buffer = [0u8; PIECE];
+    for turn in 0..READ_CALLS {
+        match device.read(&mut buffer) {
+            Ok(0) => {
+                let ended = gather_last(document, &mut lines);
+                if write_on(device, lines.as_slice()).is_err() {
+                    return Err(ConvertFault::Write);
+                }
+                return ended;
+            }
+            Ok(n) => {
+                let fed = gather(document, &buffer[..n], &mut lines);
+                if write_on(device, lines.as_slice()).is_err() {
+                    return Err(ConvertFault::Write);
+                }
+                lines.clear();
+                match fed {
+                    Ok(next) => document = next,
+                    Err(fault) => return Err(fault),
+                }
+            }
+            Err(_) => return Err(ConvertFault::Read),
         }
     }
+    Err(ConvertFault::Read)
 }
 
-/// Converts a document of lines.
+/// The same, over a reader and a writer.
 pub(crate) fn convert_lines<R: Read, W: Write>(
     alloc: Global,
     format: LineFormat,
@@ -36,24 +68,10 @@ pub(crate) fn convert_lines<R: Read, W: Write>(
         (out : List ℕ) × Appends (W.contents writer.old) (W.contents writer.new) out
         × ConvertsLines format text (R.remaining reader.new) out result }
 {
-    answers_are_the_document();
-    each_text_is_one_document();
-    let mut document = match LineReader::new(alloc, format) {
-        Ok(document) => document,
-        Err(refused) => return Err(ConvertFault::NoMemory(refused)),
-    };
-    let mut lines = Vec::new(alloc);
-    loop {
-        match document.next(reader) {
-            Ok(Some(quad)) => match gather(&quad, &mut lines, writer) {
-                Ok(()) => drop(quad),
-                Err(fault) => {
-                    drop(quad);
-                    return Err(fault);
-                }
-            },
-            Ok(None) => return finish(lines.as_slice(), writer, Ok(())),
-            Err(fault) => return finish(lines.as_slice(), writer, Err(fault_of(fault))),
-        }
-    }
+    let mut device = Lent { reader, writer };
+    let answer = convert_lines_on(alloc, format, &mut device);
+    // No effect at run time. The proof reads what the two hold from these uses.
+    let _ = &*device.reader;
+    let _ = &*device.writer;
+    answer
 }

@@ -3,10 +3,11 @@ ghost use Rattle.std.specs.Prelude.{◌≡◌, ◌++◌, ◌∷◌, [], ℕ, Lis
 ghost use Rattle.std.specs.List.{concat};
 ghost use Rattle.std.specs.Io.KnownBytes.{Appends};
 ghost use Rattle.rdf_session.specs.Session.{Session};
+ghost use Rattle.rdf_keeper.specs.Devices.{Event};
 ghost use Rattle.rdf_keeper.specs.Script.Answers.{Answers};
 ghost use Rattle.rdf_keeper.specs.Inside.Asks.{asked_of};
 ghost use Rattle.rdf_keeper.specs.Inside.Says.{IsWholeLine};
-ghost use Rattle.rdf_keeper.specs.Inside.Streams.{WritesTo};
+ghost use Rattle.rdf_keeper.specs.Inside.Streams.{Writes, WritesOn, fails_to_write, is_write_fault};
 ghost use Rattle.rdf_keeper.specs.Script.Commands.{commands};
 ghost use Rattle.rdf_keeper.specs.Script.Lines.{raw_lines, upto_last_end};
 ghost use Rattle.rdf_keeper.specs.Script.Pieces.{EndsWithin, GoesOn, unfed};
@@ -17,8 +18,10 @@ use crate::script::command::Command;
 use crate::script::gathered::{Gathered, Says};
 use crate::script::line::whole_line;
 use crate::script::status::Status;
-use crate::streams::writing::{WriteFault, write_whole};
+use crate::streams::device::{Device, LentWriter};
+use crate::streams::writing::{WriteFault, write_on};
 use rdf_session::Keeper;
+use rdf_terms::NoMemory;
 use std::alloc::Global;
 use std::io::Write;
 use std::marker::Model;
@@ -55,12 +58,12 @@ impl Model for Feed {
     ghost invariant = { λ f. upto_last_end f.gathered.line ≡ [] };
 }
 
-fn write_answer<W: Write>(writer: &mut W, answer: &Answer) -> Result<(), WriteFault>
-    ensures { WritesTo (W.contents writer.old) (answer.now.payload.items ++ answer.now.line.items)
-        result (W.contents writer.new) }
+fn write_answer<D: Device>(device: &mut D, answer: &Answer) -> Result<(), WriteFault>
+    ensures { WritesOn D.step device.old (answer.now.payload.items ++ answer.now.line.items)
+        result device.new }
 {
-    write_whole(writer, answer.payload.as_slice())?;
-    write_whole(writer, answer.line.as_slice())
+    write_on(device, answer.payload.as_slice())?;
+    write_on(device, answer.line.as_slice())
 }
 
 fn ending(last: Status, refused: bool) -> Status
@@ -74,20 +77,20 @@ fn ending(last: Status, refused: bool) -> Status
 }
 
 // Answers a command, and says whether something was refused so far.
-fn answer<W: Write>(
+fn answer<D: Device>(
     alloc: Global,
     keeper: &mut Keeper,
     command: Command<'_>,
-    writer: &mut W,
+    device: &mut D,
     stop: bool,
     refused: bool,
 ) -> Result<bool, Status>
     ensures { (answers : List (List ℕ))
-        × Appends (W.contents writer.old) (W.contents writer.new) (concat answers)
+        × Writes D.step device.old (fails_to_write result) (concat answers) device.new
         × Answered stop refused (asked_of command.entry ∷ []) keeper.old answers keeper.new result }
 {
     let reply = serve(alloc, keeper, command);
-    if write_answer(writer, &reply).is_err() {
+    if write_answer(device, &reply).is_err() {
         return Err(Status::WriteFailed);
     }
     if stop && reply.refused {
@@ -97,20 +100,20 @@ fn answer<W: Write>(
 }
 
 // Answers the last command of a script, and says how the session ends.
-fn answer_last<W: Write>(
+fn answer_last<D: Device>(
     alloc: Global,
     keeper: &mut Keeper,
     command: Command<'_>,
-    writer: &mut W,
+    device: &mut D,
     stop: bool,
     refused: bool,
 ) -> Status
     ensures { (answers : List (List ℕ))
-        × Appends (W.contents writer.old) (W.contents writer.new) (concat answers)
+        × Writes D.step device.old (is_write_fault result) (concat answers) device.new
         × Serves (to_end Answers stop Status.Accepted) refused (asked_of command.entry ∷ [])
         keeper.old answers keeper.new result }
 {
-    match answer(alloc, keeper, command, writer, stop, refused) {
+    match answer(alloc, keeper, command, device, stop, refused) {
         Ok(refused) => ending(Status::Accepted, refused),
         Err(status) => status,
     }
@@ -137,15 +140,15 @@ impl Feed {
     }
 
     // Is fed the end of a line, with what was left of it.
-    fn take_line<W: Write>(
+    fn take_line<D: Device>(
         mut self,
         keeper: &mut Keeper,
         line: &[u8],
-        writer: &mut W,
+        device: &mut D,
     ) -> Result<Feed, Status>
         requires { IsWholeLine line.now }
         ensures { (answers : List (List ℕ))
-            × Appends (W.contents writer.old) (W.contents writer.new) (concat answers)
+            × Writes D.step device.old (fails_to_write result) (concat answers) device.new
             × MatchResult result (GoesOn self line.now keeper.old answers keeper.new)
             (λ status. (text : List ℕ) →
             EndsWithin self (line.now ++ text) keeper.old answers keeper.new status) }
@@ -158,7 +161,7 @@ impl Feed {
             Says::Opens(body) => self.gathered.begin(Some(body)),
             Says::Inside => self.gathered.keep_line(),
             Says::Asks(command) => {
-                match answer(self.alloc, keeper, command, writer, self.stop, self.refused) {
+                match answer(self.alloc, keeper, command, device, self.stop, self.refused) {
                     Ok(refused) => self.refused = refused,
                     Err(status) => return Err(status),
                 }
@@ -166,7 +169,7 @@ impl Feed {
             }
             Says::Loads(format) => {
                 let load = Command::Load(format, self.gathered.take_body());
-                match answer(self.alloc, keeper, load, writer, self.stop, self.refused) {
+                match answer(self.alloc, keeper, load, device, self.stop, self.refused) {
                     Ok(refused) => self.refused = refused,
                     Err(status) => return Err(status),
                 }
@@ -176,15 +179,72 @@ impl Feed {
     }
 
     // Is fed the front of a line.
-    fn take_front(mut self, front: &[u8]) -> Result<Feed, Status>
+    fn take_front(mut self, front: &[u8]) -> Result<Feed, NoMemory>
         requires { upto_last_end front.now ≡ [] }
         ensures { MatchResult result
             (λ next. (s : Session) → GoesOn self front.now s [] s next)
-            (λ status. (s : Session) → EndsWithin self front.now s [] s status) }
+            (λ refused. (s : Session) →
+            EndsWithin self front.now s [] s (Status.NoMemory refused)) }
     {
         match self.gathered.push(front) {
             Ok(()) => Ok(self),
+            Err(refused) => Err(refused),
+        }
+    }
+
+    // Is fed the next piece, runs each command whose last line end comes with it, and writes the answers.
+    pub(crate) fn take_on<D: Device>(
+        self,
+        keeper: &mut Keeper,
+        piece: &[u8],
+        device: &mut D,
+    ) -> Result<Feed, Status>
+        ensures { (answers : List (List ℕ))
+            × Writes D.step device.old (fails_to_write result) (concat answers) device.new
+            × MatchResult result (GoesOn self piece.now keeper.old answers keeper.new)
+            (EndsWithin self piece.now keeper.old answers keeper.new) }
+    {
+        self.line_is_open();
+        let mut feed = self;
+        let mut rest = piece;
+        while let Some((line, after)) = whole_line(rest) {
+            match feed.take_line(keeper, line, device) {
+                Ok(next) => feed = next,
+                Err(status) => return Err(status),
+            }
+            rest = after;
+        }
+        match feed.take_front(rest) {
+            Ok(next) => Ok(next),
             Err(refused) => Err(Status::NoMemory(refused)),
+        }
+    }
+
+    // The script has ended: runs what is left of it, and writes the answer.
+    pub(crate) fn end_on<D: Device>(mut self, keeper: &mut Keeper, device: &mut D) -> Status
+        ensures { (answers : List (List ℕ))
+            × Writes D.step device.old (is_write_fault result) (concat answers) device.new
+            × Serves (to_end Answers self.stop Status.Accepted) self.refused
+            (commands true self.pending.body (raw_lines self.pending.line))
+            keeper.old answers keeper.new result }
+    {
+        match self.gathered.line_says() {
+            Says::Nothing => ending(Status::Accepted, self.refused),
+            Says::Opens(_) => {
+                let begun = Command::Unended;
+                answer_last(self.alloc, keeper, begun, device, self.stop, self.refused)
+            }
+            Says::Inside => {
+                let open = Command::Unended;
+                answer_last(self.alloc, keeper, open, device, self.stop, self.refused)
+            }
+            Says::Asks(command) => {
+                answer_last(self.alloc, keeper, command, device, self.stop, self.refused)
+            }
+            Says::Loads(format) => {
+                let last = Command::Load(format, self.gathered.take_body());
+                answer_last(self.alloc, keeper, last, device, self.stop, self.refused)
+            }
         }
     }
 
@@ -205,44 +265,25 @@ impl Feed {
             × MatchResult result (GoesOn self piece.now keeper.old answers keeper.new)
             (EndsWithin self piece.now keeper.old answers keeper.new) }
     {
-        self.line_is_open();
-        let mut feed = self;
-        let mut rest = piece;
-        while let Some((line, after)) = whole_line(rest) {
-            match feed.take_line(keeper, line, writer) {
-                Ok(next) => feed = next,
-                Err(status) => return Err(status),
-            }
-            rest = after;
-        }
-        feed.take_front(rest)
+        let mut device = LentWriter { writer };
+        let fed = self.take_on(keeper, piece, &mut device);
+        // No effect at run time. The proof reads what the writer holds from this use.
+        let _ = &*device.writer;
+        fed
     }
 
     /// The script has ended: runs what is left of it, and writes the answer.
-    pub fn end<W: Write>(mut self, keeper: &mut Keeper, writer: &mut W) -> Status
+    pub fn end<W: Write>(self, keeper: &mut Keeper, writer: &mut W) -> Status
         ensures { (answers : List (List ℕ))
             × Appends (W.contents writer.old) (W.contents writer.new) (concat answers)
             × Serves (to_end Answers self.stop Status.Accepted) self.refused
             (commands true self.pending.body (raw_lines self.pending.line))
             keeper.old answers keeper.new result }
     {
-        match self.gathered.line_says() {
-            Says::Nothing => ending(Status::Accepted, self.refused),
-            Says::Opens(_) => {
-                let begun = Command::Unended;
-                answer_last(self.alloc, keeper, begun, writer, self.stop, self.refused)
-            }
-            Says::Inside => {
-                let open = Command::Unended;
-                answer_last(self.alloc, keeper, open, writer, self.stop, self.refused)
-            }
-            Says::Asks(command) => {
-                answer_last(self.alloc, keeper, command, writer, self.stop, self.refused)
-            }
-            Says::Loads(format) => {
-                let last = Command::Load(format, self.gathered.take_body());
-                answer_last(self.alloc, keeper, last, writer, self.stop, self.refused)
-            }
-        }
+        let mut device = LentWriter { writer };
+        let status = self.end_on(keeper, &mut device);
+        // No effect at run time. The proof reads what the writer holds from this use.
+        let _ = &*device.writer;
+        status
     }
 }

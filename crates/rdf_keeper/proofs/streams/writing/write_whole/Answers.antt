@@ -1,8 +1,10 @@
-use Rattle.std.proofs.Common.{◌++◌, take}
-use Rattle.rdf_keeper.proofs.StreamLemmas.{Appends-chain, split_on}
+use Rattle.std.proofs.Common.{rules}
+use Rattle.rdf_keeper.proofs.DeviceLemmas.Pairs.{writer_writes_to}
 use Rattle.rdf_keeper.proofs.streams.writing.write_whole.Goals as goal
 
-pub loop-rest-preserved : goal.loop-rest-preserved
-loop-rest-preserved g c =
-    let inv = c.loop-rest.invariant in
-    (inv.0 ++ take c.in-Ok.n c.loop-rest.rest.now, split_on _ _ _ _ _ inv.1 c.split_at.ensures.back, Appends-chain _ _ _ _ _ inv.2 c.in-Ok.ensures.bytes)
+pub returns : goal.returns
+returns g c =
+    let all = writer_writes_to g.W.Write.contents _ _ _ c.write_on-answer.result c.write_on-answer.ensures in
+    let name = all.0 in
+    let wrote = all.1 in
+    search rules

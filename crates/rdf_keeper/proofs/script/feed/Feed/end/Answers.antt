@@ -1,40 +1,13 @@
-use Rattle.std.proofs.Common.{[], refl, inl, sym, ap, ◌∙◌}
-use Rattle.rdf_keeper.specs.Inside.Says.{asked_at_end}
-use Rattle.rdf_keeper.proofs.ScriptLemmas.Feeds.{end_served, last_reached}
-use Rattle.rdf_keeper.proofs.ScriptLemmas.Pieces.{last_asked, loads_text}
-use Rattle.rdf_keeper.proofs.ScriptLemmas.Runs.{nothing_written}
+use Rattle.std.proofs.Common.{rules}
+use Rattle.std.specs.List.{concat}
+use Rattle.rdf_keeper.specs.Inside.Streams.{is_write_fault}
+use Rattle.rdf_keeper.proofs.DeviceLemmas.Pairs.{writer_writes}
 use Rattle.rdf_keeper.proofs.script.feed.Feed.end.Goals as goal
-
-pub returns-in-Nothing : goal.returns-in-Nothing
-returns-in-Nothing g c =
-    let p = c.self.inside.gathered in
-    let last = last_asked p c.line_says.result c.self.invariant c.line_says.ensures.place c.line_says.ensures.commands ∙ ap (asked_at_end p.body) c.in-Nothing.is in
-    ([], nothing_written _, end_served _ _ c.self.view_is [] (sym last) _ _ [] _ (last_reached c.self.inside.stop c.self.inside.refused [] _ _ [] _ _ c.ending.ensures (refl, refl, inl refl)))
-
-pub returns-in-Opens : goal.returns-in-Opens
-returns-in-Opens g c =
-    let p = c.self.inside.gathered in
-    let last = last_asked p c.line_says.result c.self.invariant c.line_says.ensures.place c.line_says.ensures.commands ∙ ap (asked_at_end p.body) c.in-Opens.is in
-    let a = c.answer_last.ensures in
-    (a.0, a.1, end_served _ _ c.self.view_is _ (sym last) _ _ a.0 _ a.2)
-
-pub returns-in-Inside : goal.returns-in-Inside
-returns-in-Inside g c =
-    let p = c.self.inside.gathered in
-    let last = last_asked p c.line_says.result c.self.invariant c.line_says.ensures.place c.line_says.ensures.commands ∙ ap (asked_at_end p.body) c.in-Inside.is in
-    let a = c.answer_last-in-Inside.ensures in
-    (a.0, a.1, end_served _ _ c.self.view_is _ (sym last) _ _ a.0 _ a.2)
-
-pub returns-in-Asks : goal.returns-in-Asks
-returns-in-Asks g c =
-    let p = c.self.inside.gathered in
-    let last = last_asked p c.line_says.result c.self.invariant c.line_says.ensures.place c.line_says.ensures.commands ∙ ap (asked_at_end p.body) c.in-Asks.is in
-    let a = c.answer_last-in-Asks.ensures in
-    (a.0, a.1, end_served _ _ c.self.view_is _ (sym last) _ _ a.0 _ a.2)
 
 pub returns : goal.returns
 returns g c =
-    let p = c.self.inside.gathered in
-    let last = last_asked p c.line_says.result c.self.invariant c.line_says.ensures.place c.line_says.ensures.commands ∙ ap (asked_at_end p.body) c.in-Loads.is in
-    let a = c.answer_last-in-Loads.ensures in
-    (a.0, a.1, end_served _ _ c.self.view_is _ (loads_text p.body c.in-Loads.format c.take_body.result.items c.in-Loads.ensures.place c.take_body.ensures.text ∙ sym last) _ _ a.0 _ a.2)
+    let e = c.end_on-status.ensures in
+    let all = writer_writes g.W.Write.contents _ _ (is_write_fault c.end_on-status.result) (concat e.0) e.1 in
+    let name = all.0 in
+    let wrote = all.1 in
+    (e.0, search rules, e.2)
