@@ -308,8 +308,8 @@ fn members_behind_triple_patterns_in_graph_are_found_behind_all_names(rt: HostRu
     }
 }
 
-// GRAPH in GRAPH, so many deep, each with a triple pattern that both graphs have once; in each of them
-// the last one, which none has, is looked up once.
+// GRAPH in GRAPH, so many deep, each with a triple pattern that both graphs have once; the last one
+// also with one that neither has.
 fn graphs_in_graphs(alloc: Global, depth: usize) -> Option<String> {
     let mut group = String::new(alloc);
     write!(group, "{{ ").ok()?;
