@@ -40,7 +40,12 @@ const OUTPUT: &[u8] = b"ok +1 -0\n<http://e/s> <http://e/p> \"x\" .\nok 1\nok +0
 const DUE: [(usize, usize); 7] = [(0, 0), (0, 0), (0, 0), (9, 1), (46, 1), (55, 0), (60, 0)];
 
 // Whether the session has written so much, and has left so many quads.
-fn is_left(alloc: Global, output: &[u8], keeper: &Keeper, (written, quads): (usize, usize)) -> bool {
+fn is_left(
+    alloc: Global,
+    output: &[u8],
+    keeper: &Keeper,
+    (written, quads): (usize, usize),
+) -> bool {
     let mut lines = Vec::new(alloc);
     Some(output) == OUTPUT.get(..written) && keeper.write_quads(&mut lines) == Ok(quads as u64)
 }
@@ -79,13 +84,24 @@ fn is_written(alloc: Global, written: usize, failure: Ending) -> bool {
     let quads = if written < 46 { 1 } else { 0 };
     status.code() == 3
         && writer.calls == (written as u64).saturating_add(1)
-        && is_left(alloc, writer.device.taken.as_slice(), &keeper, (written, quads))
+        && is_left(
+            alloc,
+            writer.device.taken.as_slice(),
+            &keeper,
+            (written, quads),
+        )
 }
 
 #[test]
 fn each_write_fails_in_turn(rt: HostRuntime) {
     for written in 0..OUTPUT.len() {
-        assert!(rt; is_written(rt.alloc(), written, Ending::Failed), "{written}");
-        assert!(rt; is_written(rt.alloc(), written, Ending::Nothing), "{written}");
+        assert!(rt;
+            is_written(rt.alloc(), written, Ending::Failed),
+            "{written}"
+        );
+        assert!(rt;
+            is_written(rt.alloc(), written, Ending::Nothing),
+            "{written}"
+        );
     }
 }

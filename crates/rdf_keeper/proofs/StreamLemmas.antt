@@ -1,10 +1,7 @@
 -- Bytes that are read and written one piece after another.
 use Rattle.std.proofs.Common.{◌≡◌, ℕ, List, [], ◌++◌, Option, Some, None, refl, sym, ap, ◌∙◌, append_assoc, take, drop}
 use Rattle.std.proofs.lemmas.List.{take-append-drop}
-use Rattle.std.specs.Prelude.{Err, ◌≢◌, ◌∷◌}
-use Rattle.rdf_keeper.specs.Inside.Streams.{WritesTo}
-use Rattle.rdf_keeper.specs.declared.streams.writing.WriteFault.{WriteFault}
-use Rattle.std.specs.Io.KnownBytes.{Appends, Consumes, Keeps}
+use Rattle.std.specs.Io.KnownBytes.{Appends, Consumes}
 
 pub Appends-chain : (a b c : Option (List ℕ)) (xs ys : List ℕ) → Appends a b xs → Appends b c ys → Appends a c (xs ++ ys)
 Appends-chain None b c xs ys p q = tt
@@ -18,19 +15,5 @@ Consumes-chain (Some a) None c xs ys p q = absurd p
 Consumes-chain (Some a) (Some b) None xs ys p q = absurd q
 Consumes-chain (Some a) (Some b) (Some c) xs ys p q = p ∙ ap (λ zs. xs ++ zs) q ∙ sym (append_assoc xs ys c)
 
-pub Keeps-appends : (a b c : Option (List ℕ)) (xs : List ℕ) → Appends a b xs → Keeps b c → Appends a c xs
-Keeps-appends None b c xs p q = tt
-Keeps-appends (Some a) None c xs p q = absurd p
-Keeps-appends (Some a) (Some b) None xs p q = absurd q
-Keeps-appends (Some a) (Some b) (Some c) xs p q = q ∙ p
-
 pub split_on : (t f r l : List ℕ) (n : ℕ) → t ≡ f ++ r → l ≡ drop n r → t ≡ (f ++ take n r) ++ l
 split_on t f r l n p q = p ∙ ap (λ xs. f ++ xs) (sym (take-append-drop n r)) ∙ sym (append_assoc f (take n r) (drop n r)) ∙ ap (λ xs. (f ++ take n r) ++ xs) (sym q)
-
-not_empty : (xs ys : List ℕ) → xs ≢ [] → xs ++ ys ≢ []
-not_empty [] ys h e = h refl
-not_empty (x ∷ xs) ys h e = cc
-
--- a fault in the first of two texts
-pub first_fault : (a b : Option (List ℕ)) (xs ys : List ℕ) (e : WriteFault) → WritesTo a xs (Err e) b → WritesTo a (xs ++ ys) (Err e) b
-first_fault a b xs ys e w = (w.0, w.1 ++ ys, ap (λ zs. zs ++ ys) w.2 ∙ append_assoc w.0 w.1 ys, not_empty w.1 ys w.3, w.4)

@@ -1,24 +1,19 @@
 -- A session that is fed its script: what lines, and pieces one after another, make of it.
 use Rattle.std.proofs.Common.{◌≡◌, ℕ, Bool, true, false, List, [], ◌∷◌, ◌++◌, Option, Some, None, refl, sym, ap, ◌∙◌, subst, append-nil, arith, inl, inr, length, ◌≤◌}
 use Rattle.std.specs.Prelude.{Ok, Err}
-use Rattle.std.specs.Io.KnownBytes.{Appends, Consumes, IsAtEnd, Keeps}
 use Rattle.rdf_session.specs.Session.{Session}
 use Rattle.rdf_keeper.specs.Inside.Says.{IsWholeLine, asked_by, body_behind}
 use Rattle.rdf_keeper.specs.declared.script.gathered.Says.{Says}
 use Rattle.rdf_keeper.specs.Script.Commands.{Asked, commands}
 use Rattle.rdf_keeper.specs.Script.Lines.{raw_lines, upto_last_end}
-use Rattle.rdf_keeper.specs.Script.Pieces.{EndsWithin, Fed, GoesOn, Pending, nothing_pending, unfed, whole_commands}
-use Rattle.rdf_keeper.specs.Script.Runs.{Answered, Serves, to_end, RunsOver, final}
+use Rattle.rdf_keeper.specs.Script.Pieces.{EndsWithin, Fed, GoesOn, Pending, whole_commands}
+use Rattle.rdf_keeper.specs.Script.Runs.{Answered, Serves, to_end, final}
 use Rattle.rdf_keeper.specs.Script.Answers.{Answers}
 use Rattle.rdf_keeper.specs.declared.script.command.Body.{Body}
 use Rattle.rdf_keeper.specs.declared.script.status.Status.{Status}
-use Rattle.rdf_keeper.specs.declared.script.status.Status.TheVariants.{Accepted, ReadFailed}
+use Rattle.rdf_keeper.specs.declared.script.status.Status.TheVariants.{Accepted}
 use Rattle.rdf_keeper.proofs.ScriptLemmas.Pieces.{leaves_append, leaves_none, leaves_front, leaves_line, line_commands, no_whole, whole-append}
-use Rattle.rdf_keeper.proofs.ScriptLemmas.Runs.{nothing_written, serves_done, serves_ended, serves_on}
-use Rattle.rdf_keeper.proofs.StreamLemmas.{Consumes-chain}
-
-pub unwritten : {A : Type 0} (contents : A → Option (List ℕ)) (w v : A) → v ≡ w → Appends (contents w) (contents v) []
-unwritten contents w v e = subst (λ x. Appends (contents w) (contents x) []) (sym e) (nothing_written (contents w))
+use Rattle.rdf_keeper.proofs.ScriptLemmas.Runs.{serves_done, serves_ended, serves_on}
 
 -- ---- a line
 
@@ -105,62 +100,3 @@ pub end_served : (f f' : Fed) → f ≡ f' → (asked : List Asked) → asked �
 end_served f f' same cs last s t xs status served =
     subst (λ v. Serves (to_end Answers v.stop Accepted) v.refused (commands true v.pending.body (raw_lines v.pending.line)) s xs t status) same
     (subst (λ ds. Serves (to_end Answers f.stop Accepted) f.refused ds s xs t status) last served)
-
--- ---- over the bytes that a reader gives
-
-consumed_none : (mid after : Option (List ℕ)) → Keeps mid after → Consumes mid after []
-consumed_none None after k = tt
-consumed_none (Some a) None k = absurd k
-consumed_none (Some a) (Some b) k = sym k
-
-pub nothing_read : (a : Option (List ℕ)) → Consumes a a []
-nothing_read None = tt
-nothing_read (Some a) = refl
-
-pub kept : (a : Option (List ℕ)) → Keeps a a
-kept None = tt
-kept (Some a) = refl
-
-module _ (stop : Bool) (before mid : Option (List ℕ)) (read : List ℕ) (s t : Session) (xs : List (List ℕ)) (g : Fed) (ate : Consumes before mid read) (on : GoesOn (unfed stop) read s xs t g) where
-  pub over_end : (after : Option (List ℕ)) (u : Session) (ys : List (List ℕ)) (status : Status) → Consumes mid after [] → IsAtEnd after
-      → Serves (to_end Answers g.stop Accepted) g.refused (commands true g.pending.body (raw_lines g.pending.line)) t ys u status → RunsOver stop before after s (xs ++ ys) u status
-  over_end after u ys status none at_end run =
-      let whole = whole_commands nothing_pending read in
-      let all : commands true None (raw_lines (read ++ [])) ≡ whole ++ commands true g.pending.body (raw_lines g.pending.line) =
-      on.leaves.behind true [] ∙ ap (λ l. whole ++ commands true g.pending.body (raw_lines l)) (append-nil g.pending.line) in
-      record {
-        read = read;
-        last = [];
-        consumed = Consumes-chain before mid after read [] ate none;
-        one_piece = omega arith;
-        at_once = (xs, ys, t, g.refused, refl, on.answered);
-        ends = inl (
-          at_end,
-          subst (λ cs. Serves (to_end Answers stop Accepted) false cs s (xs ++ ys) u status) (sym all)
-              (serves_on stop (final Accepted) (λ st. st) false g.refused whole (commands true g.pending.body (raw_lines g.pending.line)) s t u xs ys status on.answered
-              (subst (λ v. Serves (to_end Answers v Accepted) g.refused (commands true g.pending.body (raw_lines g.pending.line)) t ys u status) on.same run)),
-        );
-      }
-
-  pub over_fault : (after : Option (List ℕ)) → Keeps mid after → RunsOver stop before after s xs t ReadFailed
-  over_fault after keeps = record {
-    read = read;
-    last = [];
-    consumed = Consumes-chain before mid after read [] ate (consumed_none mid after keeps);
-    one_piece = omega arith;
-    at_once = (xs, [], t, g.refused, sym (append-nil xs), on.answered);
-    ends = inr (subst (λ l. Serves (to_end Answers stop ReadFailed) false (commands false None (raw_lines (upto_last_end l))) s xs t ReadFailed) (sym (append-nil read))
-        (serves_done stop (final ReadFailed) (λ st. st) false g.refused (whole_commands nothing_pending read) s t xs on.answered));
-  }
-
-  pub over_piece : (after : Option (List ℕ)) (piece : List ℕ) (u : Session) (ys : List (List ℕ)) (status : Status) → Consumes mid after piece → length piece ≤ 4096 → EndsWithin g piece t ys u status → RunsOver stop before after s (xs ++ ys) u status
-  over_piece after piece u ys status more small ends = record {
-    read = read;
-    last = piece;
-    consumed = Consumes-chain before mid after read piece ate more;
-    one_piece = small;
-    at_once = (xs, ys, t, g.refused, refl, on.answered);
-    ends = inr (subst (λ cs. Serves (to_end Answers stop ReadFailed) false cs s (xs ++ ys) u status) (append-nil (whole_commands nothing_pending (read ++ piece)))
-        (serves_ended stop (final ReadFailed) (λ st. st) false (whole_commands nothing_pending (read ++ piece)) [] s u (xs ++ ys) status
-        (ends_further (unfed stop) g read piece s t u xs ys status on ends)));
-  }

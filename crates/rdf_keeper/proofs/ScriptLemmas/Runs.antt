@@ -1,27 +1,13 @@
 -- The steps of a session over its commands.
 use Rattle.std.proofs.Common.{◌≡◌, ◌≢◌, inl, inr, ℕ, Bool, true, false, ◌&&◌, ◌||◌, List, [], ◌∷◌, ◌++◌, refl, sym, ap, ◌∙◌, Option, Some, None, subst, append-nil}
-use Rattle.std.proofs.lemmas.List.Folds.{concat-append}
-use Rattle.std.specs.List.{concat}
-use Rattle.std.specs.Prelude.{MatchResult, Result, Ok, Err, is_err}
-use Rattle.std.specs.Io.KnownBytes.{Appends}
+use Rattle.std.specs.Prelude.{Result, Ok, Err}
 use Rattle.rdf_session.specs.Session.{Session}
 use Rattle.rdf_keeper.specs.Script.Commands.{Asked}
 use Rattle.rdf_keeper.specs.Script.Answers.{Answers}
-use Rattle.rdf_keeper.specs.Inside.Streams.{WritesTo}
 use Rattle.rdf_keeper.specs.Script.Runs.{Answered, Course, Serves, so_far}
-use Rattle.rdf_keeper.proofs.StreamLemmas.{Appends-chain}
 use Rattle.rdf_keeper.specs.declared.script.status.Status.{Status}
 use Rattle.rdf_keeper.specs.declared.script.status.Status.TheVariants.{Refused, WriteFailed}
-use Rattle.rdf_keeper.specs.declared.streams.writing.WriteFault.{WriteFault}
 use Rattle.rdf_keeper.specs.Script.Statuses.{no_memory}
-
-pub wrote_ok : (a b : Option (List ℕ)) (text : List ℕ) (r : Result (Unit {0}) WriteFault) → is_err r ≡ false → WritesTo a text r b → Appends a b text
-wrote_ok a b text (Ok u) e w = w
-wrote_ok a b text (Err f) e w = cc
-
-pub wrote_err : (a b : Option (List ℕ)) (text : List ℕ) (r : Result (Unit {0}) WriteFault) → is_err r ≡ true → WritesTo a text r b → (front more : List ℕ) × (text ≡ front ++ more) × (more ≢ []) × Appends a b front
-wrote_err a b text (Ok u) e w = cc
-wrote_err a b text (Err f) e w = w
 
 -- ---- one command
 
@@ -108,23 +94,3 @@ module _ {O : Type 0} (stop : Bool) (next : Bool → O) (ended : Status → O) w
           | inr (inr x) ↦ inr (p.0, p.1, p.2, p.3, inr (inr (x.0, x.1, x.2, serves_ended (refused || p.1) cs more p.2 t x.1 st x.3)))
         ]
       ]
-
--- one more answer behind those that were written
-pub one_more : (before mid after : Option (List ℕ)) (answers : List (List ℕ)) (text : List ℕ) → Appends before mid (concat answers) → Appends mid after text → Appends before after (concat (answers ++ text ∷ []))
-one_more before mid after answers text wrote writes =
-    subst (Appends before after) (sym (concat-append answers (text ∷ []) ∙ ap (λ t. concat answers ++ t) (append-nil text))) (Appends-chain before mid after (concat answers) text wrote writes)
-
-pub nothing_written : (a : Option (List ℕ)) → Appends a a []
-nothing_written None = tt
-nothing_written (Some xs) = sym (append-nil xs)
-
-pub one_written : (before after : Option (List ℕ)) (text : List ℕ) → Appends before after text → Appends before after (concat (text ∷ []))
-one_written before after text wrote = subst (Appends before after) (sym (append-nil text)) wrote
-
--- the answers to more commands
-pub more_written : (before mid after : Option (List ℕ)) (xs ys : List (List ℕ)) → Appends before mid (concat xs) → Appends mid after (concat ys) → Appends before after (concat (xs ++ ys))
-more_written before mid after xs ys a b = subst (Appends before after) (sym (concat-append xs ys)) (Appends-chain before mid after (concat xs) (concat ys) a b)
-
-pub one_or_other : {A E : Type 0} (r : Result A E) (P P' : A → Type 0) (Q Q' : E → Type 0) → MatchResult r P Q → ((x : A) → P x → P' x) → ((e : E) → Q e → Q' e) → MatchResult r P' Q'
-one_or_other (Ok x) P P' Q Q' m f g = f x m
-one_or_other (Err e) P P' Q Q' m f g = g e m
