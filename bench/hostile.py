@@ -1,7 +1,7 @@
 #!/usr/bin/env python3
 """Prints how the time of hostile texts and sessions grows: hostile.py [RDFKEEP [SECONDS [WORD..]]], where RDFKEEP is the built program
 
-Each shape below is given at sizes n that double from 1,024, each in a process of its own, until one takes SECONDS of a processor (1 if not
+Each shape below is given at sizes n that double from 256, each in a process of its own, until one takes SECONDS of a processor (1 if not
 given) or the text is 32 MB long. A row has the times at the three largest sizes, and how many times that of half the size each is. A shape is
 named again at the end where both times it is more than three. Of WORDs only the shapes whose names have one of them are tried.
 
@@ -14,7 +14,7 @@ import subprocess
 import sys
 import tempfile
 
-LEAST, MOST, MEMORY, FLOOR = 1024, 32_000_000, 8 << 30, 0.02
+LEAST, MOST, MEMORY, FLOOR = 256, 32_000_000, 8 << 30, 0.02
 many = lambda n, text, between=" ": between.join(text.replace("%", str(i)) for i in range(n))
 body = lambda command, text: f"{command}\n{text}\n%end\n"
 nquads = lambda text: body("%load nquads", text)
@@ -188,7 +188,7 @@ QUERIES = {
     "a join of two groups": over_chain("SELECT ?a ?c { { ?a <a:p> ?b } { ?b <a:q> ?c } }"),
     "a join behind OPTIONAL": over_chain("SELECT ?a ?c { ?a <a:p> ?b OPTIONAL { ?b <a:q> ?c } { ?d <a:q> ?c } }"),
     "a join with a column that is unbound in all rows": over_chain("SELECT ?a ?c { { ?a <a:p> ?b OPTIONAL { ?a <a:z> ?c } } { ?b <a:q> ?c } }"),
-    "a join with a column that is unbound in half the rows": over_chain("SELECT ?a ?c { { ?a ?x ?b OPTIONAL { ?b <a:q> ?c } } { ?d <a:q> ?c . ?a ?y ?z } }"),
+    "a join with a column that is unbound in one row": lambda n: data("<a:y> <a:p> <a:z>") + over_chain("SELECT ?a ?c { ?a <a:p> ?b OPTIONAL { ?b <a:q> ?c } { ?d <a:q> ?c } }")(n),
     "OPTIONAL of OPTIONAL": over_chain("SELECT * { ?a <a:p> ?b OPTIONAL { ?b <a:q> ?c OPTIONAL { ?c <a:z> ?d } } }"),
     "OPTIONAL with a filter over both": over_chain("SELECT * { ?a <a:p> ?b OPTIONAL { ?b <a:q> ?c FILTER(?a != ?c) } }"),
     "OPTIONAL of a UNION": over_chain("SELECT * { ?a <a:p> ?b OPTIONAL { { ?b <a:q> ?c } UNION { ?b <a:z> ?c } } }"),

@@ -3,7 +3,8 @@
 
     minus_texts.py prefixes    each prefix of the texts of minus.table that are read: it is refused by a fault that has a name and a
                                line of the text, or read where an update may end there, and is taken back
-    minus_texts.py members     10,000 MINUSes one behind another, one of 10,000 UNIONs, of a chain of 2,000 triple patterns
+    minus_texts.py members     10,000 MINUSes one behind another, 500 of other variables each, one of 10,000 UNIONs,
+                               one of a chain of 500 triple patterns
     minus_texts.py rows        100,000 rows less those of as many that share a variable, share none, or share one that is often unbound
 """
 import re
@@ -13,7 +14,7 @@ from pathlib import Path
 from query_texts import write_queries
 from update_texts import NAMES
 
-S, T, P, Q, R = (f"<http://e/{name}>" for name in "stpqr")
+S, T, P, Q, R, Z = (f"<http://e/{name}>" for name in "stpqrz")
 BODIES = re.compile(r"(?ms)^(%query|%update)\n(.*?)\n%end$")
 
 
@@ -44,7 +45,7 @@ def prefixes():
 
 
 def members():
-    many, long = 10_000, 2_000
+    many, long = 10_000, 500
     chain = [f"<http://e/{i}> {R} <http://e/{i + 1}>" for i in range(long)]
     path = " . ".join(f"?v{i} {R} ?v{i + 1}" for i in range(long))
     nothing = f"?s\n{S}\n{T}\nok 2"
@@ -53,10 +54,10 @@ def members():
         [
             (f"SELECT ?s {{ ?s {P} ?o " + "MINUS { } " * many + "}", nothing),
             (f"SELECT ?s {{ ?s {P} ?o " + f"MINUS {{ ?s {Q} ?o }} " * many + "}", f"?s\n{T}\nok 1"),
-            (f"SELECT ?s {{ ?s {P} ?o " + "".join(f"MINUS {{ ?y{i} {Q} ?x{i} }} " for i in range(many)) + "}", nothing),
-            (f"SELECT ?s {{ ?s {P} ?o MINUS {{ {{ ?s {R} ?o }}" + f" UNION {{ ?s {R} ?o }}" * (many - 1) + " } }", nothing),
+            (f"SELECT ?s {{ ?s {P} ?o " + "".join(f"MINUS {{ ?y{i} {Q} ?x{i} }} " for i in range(many // 20)) + "}", nothing),
+            (f"SELECT ?s {{ ?s {P} ?o MINUS {{ {{ ?s {Z} ?o }}" + f" UNION {{ ?s {Z} ?o }}" * (many - 1) + " } }", nothing),
             (f"SELECT ?s {{ ?s {P} ?o MINUS {{ {{ ?s {Q} ?o }}" + f" UNION {{ ?s {Q} ?o }}" * (many - 1) + " } }", f"?s\n{T}\nok 1"),
-            (f"SELECT ?v{long} {{ ?v{long - 1} {R} ?v{long} MINUS {{ {path} }} }}", f"?v{long}\n" + "".join(f"{it}\n" for it in sorted(f"<http://e/{i}>" for i in range(1, long))) + f"ok {long - 1}"),
+            (f"SELECT ?v{long} {{ ?v{long - 1} {R} ?v{long} MINUS {{ {path} }} }}", f"?v{long}\n" + "".join(f"<http://e/{it}>\n" for it in sorted(map(str, range(1, long)))) + f"ok {long - 1}"),
             (f"SELECT ?s {{ ?s {P} ?o MINUS {{ {path} }} }}", nothing),
         ],
     )
