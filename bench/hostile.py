@@ -145,7 +145,7 @@ QUERIES = {
     "dots and groups": lambda n: query("ASK { " + "{ } . " * n + "}"),
     "OPTIONALs": lambda n: data("<a:s> <a:p> 1") + query("SELECT * { ?s ?p ?o " + many(n, "OPTIONAL { ?s <a:q> ?o% } ") + "}"),
     "OPTIONALs of one variable": lambda n: data("<a:s> <a:p> 1") + query("SELECT * { ?s ?p ?o " + "OPTIONAL { ?s <a:q> ?x } " * n + "}"),
-    "UNIONs": lambda n: data("<a:s> <a:p> 1") + query("SELECT * { { } " + many(n, "UNION { ?s <a:p> ?o% } ") + "}"),
+    "UNIONs": lambda n: data("<a:s> <a:p> 1") + query("SELECT ?s { { } " + many(n, "UNION { ?s <a:p> ?o% } ") + "}"),
     "UNIONs of one variable": lambda n: data("<a:s> <a:p> 1") + query("SELECT * { { } " + "UNION { ?s <a:p> ?o } " * n + "}"),
     "UNION behind UNION": lambda n: data("<a:s> <a:p> 1") + query("SELECT * { " + "{ ?s <a:p> ?o } UNION { ?s <a:q> ?o } " * n + "}"),
     "MINUS behind MINUS": lambda n: data("<a:s> <a:p> 1") + query("SELECT * { ?s ?p ?o " + many(n, "MINUS { ?s <a:q> ?o% } ") + "}"),

@@ -2,7 +2,7 @@
 # Asks nine queries of 10^5 quads with rdfkeep, Apache Jena, rdflib and roqet, in one go, and prints the processor time that
 # each takes, loading apart, and the most memory of each process. rdfkeep's times are means of twenty in one session, from the
 # query's text to the last row, Jena's the best of many, warm, and of its two datasets in memory, rdflib's the best of three,
-# roqet's one run less one that only loads. Each must find as many rows.
+# roqet's one run less one that only loads. Each must find as many rows; roqet has no MINUS.
 # Usage: bench/query.sh [RDFKEEP [COUNT [SEED]]], where RDFKEEP is the built program and COUNT the number of quads
 # (apt-get install libapache-jena-java default-jdk-headless python3-rdflib rasqal-utils time).
 set -euo pipefail
