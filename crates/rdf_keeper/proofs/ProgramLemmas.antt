@@ -1,5 +1,5 @@
 -- What is written of an ending, and how a session begins.
-use Rattle.std.proofs.Common.{◌≡◌, ◌∙◌, refl, sym, ap, subst, ℕ, List, [], ◌∷◌, ◌++◌, append-nil, Option}
+use Rattle.std.proofs.Common.{◌≡◌, ◌∙◌, refl, sym, ap, subst, ℕ, List, [], ◌∷◌, ◌++◌, append-nil, Option, None}
 use Rattle.std.specs.Prelude.{Result, Ok, Err, IfOk, MatchResult}
 use Rattle.std.specs.Io.KnownBytes.{Appends}
 use Rattle.rdf_keeper.specs.Inside.Streams.{WritesTo}
@@ -8,7 +8,7 @@ use Rattle.rdf_keeper.specs.declared.streams.writing.WriteFault.{WriteFault}
 use Rattle.rdf_keeper.specs.declared.program.outcome.Outcome.{Outcome}
 use Rattle.rdf_keeper.specs.declared.program.outcome.Outcome.TheVariants.{Done, SomeRefused, BadDocument, BadWords, BadBase, BadData, NotState, ReadFailed, WriteFailed, NoMemory, ParserNoMemory}
 use Rattle.rdf_session.specs.History.{nothing}
-use Rattle.rdf_session.specs.Session.{Session}
+use Rattle.rdf_session.specs.Session.{Session, with_depth}
 use Rattle.rdf_keeper.specs.Inside.Starts.{BeginsWith, RefusesData}
 use Rattle.rdf_keeper.specs.declared.program.words.StartFormat.{StartFormat}
 use Rattle.rdf_keeper.specs.declared.program.words.StartFormat.TheVariants.{Document, State}
@@ -46,9 +46,16 @@ begins_without_history : (format : StartFormat) (base : Option (List ℕ)) (text
 begins_without_history (Document format) base text start b = ap (λ (s : Session). s.states) b.3
 begins_without_history State base text start b = ap (λ (s : Session). s.states) b.3
 
+begins_unbounded : (format : StartFormat) (base : Option (List ℕ)) (text : List ℕ) (start : Session) → BeginsWith format base text start → start.depth ≡ None
+begins_unbounded (Document format) base text start b = ap (λ (s : Session). s.depth) b.3 ∙ ap (λ (s : Session). s.depth) b.2.2
+begins_unbounded State base text start b = ap (λ (s : Session). s.depth) b.3
+
 -- over the data of the text, where they aren't refused
 pub begun_with : (format : StartFormat) (base : Option (List ℕ)) (text : List ℕ) (r : Result Session Outcome)
     → MatchResult r (λ start. BeginsWith format base text start) (λ outcome. RefusesData format base text outcome)
-    → IfOk r (λ start. (held : List ℕ) × BeginsWith format base held start) × IfOk r (λ start. start.states ≡ nothing)
-begun_with format base text (Ok start) b = ((text, b), begins_without_history format base text start b)
-begun_with format base text (Err outcome) b = (tt, tt)
+    → IfOk r (λ start. (held : List ℕ) × BeginsWith format base held start) × IfOk r (λ start. start.depth ≡ None) × IfOk r (λ start. start.states ≡ nothing)
+begun_with format base text (Ok start) b = ((text, b), begins_unbounded format base text start b, begins_without_history format base text start b)
+begun_with format base text (Err outcome) b = (tt, tt, tt)
+
+pub bounded_by_none : (s : Session) → s.depth ≡ None → s ≡ with_depth None s
+bounded_by_none s e = λ i. record { base_iri = s.base_iri; depth = e i; base = s.base; states = s.states }

@@ -1,5 +1,5 @@
 //! The session that a run begins with.
-ghost use Rattle.std.specs.Prelude.{◌≡◌, ℕ, List, Option, Some, MatchResult, MatchOption, IfOk, IfErr};
+ghost use Rattle.std.specs.Prelude.{◌≡◌, ℕ, List, Option, None, Some, MatchResult, MatchOption, IfOk, IfErr};
 ghost use Rattle.std.specs.Option.{option_copied};
 ghost use Rattle.rdf_dataset.specs.State.{empty_state};
 ghost use Rattle.rdf_keeper.specs.Inside.Starts.{BeginsWith, RefusesData};
@@ -33,9 +33,10 @@ pub(crate) fn depth_of(word: Option<usize>) -> Result<Option<usize>, Outcome>
     }
 }
 
-/// The session with a history that is bounded, where a depth is given.
+/// The session, which has no history, with one that is bounded where a depth is given.
 pub(crate) fn bounded(keeper: Keeper, depth: Option<usize>) -> Keeper
     requires depth { IsDepth depth }
+    requires unbounded { keeper.depth ≡ None }
     requires without_history { keeper.states ≡ nothing }
     ensures { result ≡ with_depth depth keeper }
 {
@@ -121,6 +122,7 @@ pub(crate) fn begun<T: Files>(
     ensures start { IfOk result (λ keeper. MatchOption path.entry
         (keeper ≡ fresh base (empty_state 0))
         (λ _. (text : List ℕ) × BeginsWith format base text keeper)) }
+    ensures unbounded { IfOk result (λ keeper. keeper.depth ≡ None) }
     ensures without_history { IfOk result (λ keeper. keeper.states ≡ nothing) }
 {
     match path {
