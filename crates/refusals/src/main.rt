@@ -22,7 +22,7 @@ mod without_memory;
 
 use crate::parts::run_parts;
 use crate::told::Told;
-use crate::trials::trials;
+use crate::trials::TRIALS;
 use std::alloc::Global;
 use std::io;
 
@@ -30,14 +30,14 @@ use std::io;
 const OWN: usize = 12;
 
 fn main(rt: HostRuntime) -> io::Result<()> {
-    run_parts(&rt, OWN + trials().len(), line)
+    run_parts(&rt, OWN + TRIALS.len(), line)
 }
 
 // What a part finds.
 fn line(alloc: Global, part: usize) -> Told {
     match part.checked_sub(OWN) {
         None => own(alloc, part),
-        Some(number) => match trials().get(number) {
+        Some(number) => match TRIALS.get(number) {
             Some(trial) => trial.told(alloc),
             None => Told::new("no such part"),
         },

@@ -60,152 +60,138 @@ const NAMED_ROWS: &[u8] =
 const ASK: &[u8] = b"ASK { <http://e/s> <http://e/p> \"1\" }";
 
 /// The trials, in the order of their lines.
-pub fn trials() -> [Trial; 33] {
-    [
-        update("update of UNION", Scene::Between, UNION, 3, 0),
-        update("update of two operations", Scene::Between, TWO, 1, 1),
-        update("update of OPTIONAL", Scene::Between, OPTIONAL, 1, 1),
-        update("update of GRAPH ?g", Scene::Between, GRAPHS, 1, 0),
-        update("update of each kind of term", Scene::Between, TERMS, 4, 0),
-        update(
-            "COPY",
-            Scene::Between,
-            b"COPY DEFAULT TO <http://e/g>",
-            7,
-            1,
-        ),
-        update(
-            "MOVE",
-            Scene::Between,
-            b"MOVE <http://e/g> TO DEFAULT",
-            1,
-            9,
-        ),
-        update(
-            "ADD",
-            Scene::Between,
-            b"ADD <http://e/g> TO <http://e/h>",
-            2,
-            0,
-        ),
-        update("first update", Scene::Begun, UNION, 3, 0),
-        load("load of N-Quads", Scene::Between, Format::NQuads, LINES, 1),
-        load(
-            "load of N-Triples",
-            Scene::Between,
-            Format::NTriples,
-            TRIPLES,
-            2,
-        ),
-        load("load of Turtle", Scene::Between, Format::Turtle, TURTLE, 4),
-        command("undo of a DELETE", Scene::Between, Command::Undo, 1, 0),
-        command("redo", Scene::Between, Command::Redo, 1, 0),
-        command(
-            "rollback over five entries",
-            Scene::Between,
-            Command::Rollback(b"base"),
-            1,
-            4,
-        ),
-        command(
-            "rollback over two entries",
-            Scene::Between,
-            Command::Rollback(b"middle"),
-            1,
-            1,
-        ),
-        command("mark", Scene::Between, Command::Mark(b"new"), 0, 0),
-        command(
-            "mark that moves",
-            Scene::Between,
-            Command::Mark(b"ahead"),
-            0,
-            0,
-        ),
-        update("update that forgets", Scene::Bounded, FORGETS, 1, 1),
-        load(
-            "load that forgets",
-            Scene::Bounded,
-            Format::NQuads,
-            TRIPLES,
-            2,
-        ),
-        command(
-            "rollback over one entry",
-            Scene::Bounded,
-            Command::Rollback(b"base"),
-            1,
-            1,
-        ),
-        command("undo under a depth", Scene::Bounded, Command::Undo, 1, 1),
-        command(
-            "redo under a depth",
-            Scene::BoundedBefore,
-            Command::Redo,
-            1,
-            1,
-        ),
-        query(
-            "query of OPTIONAL and FILTER",
-            Scene::Between,
-            FILTERED,
-            FILTERED_ROWS,
-            1,
-        ),
-        query(
-            "query of DISTINCT",
-            Scene::Between,
-            DISTINCT,
-            DISTINCT_ROWS,
-            3,
-        ),
-        query("query of UNION", Scene::Between, EITHER, EITHER_ROWS, 3),
-        query(
-            "query of a nested group",
-            Scene::Between,
-            NESTED,
-            NESTED_ROWS,
-            3,
-        ),
-        query("query of GRAPH ?g", Scene::Between, NAMED, NAMED_ROWS, 2),
-        query("first query", Scene::Begun, ASK, b"true\n", 1),
-        Trial::new("changes", Scene::Between, Call::Changes(4, 1)),
-        Trial::new("names", Scene::Between, Call::Names(3)),
-        Trial::new("quads as text", Scene::Between, Call::Quads),
-        Trial::new("state text", Scene::Between, Call::Dump),
-    ]
-}
-
-fn command(name: &'static str, scene: Scene, command: Command, added: u64, removed: u64) -> Trial {
-    Trial::new(name, scene, Call::Command(command, added, removed))
-}
-
-fn update(
-    name: &'static str,
-    scene: Scene,
-    text: &'static [u8],
-    added: u64,
-    removed: u64,
-) -> Trial {
-    command(name, scene, Command::Update(text), added, removed)
-}
-
-fn load(
-    name: &'static str,
-    scene: Scene,
-    format: Format,
-    text: &'static [u8],
-    added: u64,
-) -> Trial {
-    command(name, scene, Command::Load(format, text), added, 0)
-}
-
-fn query(
-    name: &'static str,
-    scene: Scene,
-    text: &'static [u8],
-    payload: &'static [u8],
-    rows: u64,
-) -> Trial {
-    Trial::new(name, scene, Call::Query(text, payload, rows))
-}
+pub const TRIALS: [Trial; 33] = [
+    Trial("update of UNION", Scene::Between, Call::Update(UNION, 3, 0)),
+    Trial(
+        "update of two operations",
+        Scene::Between,
+        Call::Update(TWO, 1, 1),
+    ),
+    Trial(
+        "update of OPTIONAL",
+        Scene::Between,
+        Call::Update(OPTIONAL, 1, 1),
+    ),
+    Trial(
+        "update of GRAPH ?g",
+        Scene::Between,
+        Call::Update(GRAPHS, 1, 0),
+    ),
+    Trial(
+        "update of each kind of term",
+        Scene::Between,
+        Call::Update(TERMS, 4, 0),
+    ),
+    Trial(
+        "COPY",
+        Scene::Between,
+        Call::Update(b"COPY DEFAULT TO <http://e/g>", 7, 1),
+    ),
+    Trial(
+        "MOVE",
+        Scene::Between,
+        Call::Update(b"MOVE <http://e/g> TO DEFAULT", 1, 9),
+    ),
+    Trial(
+        "ADD",
+        Scene::Between,
+        Call::Update(b"ADD <http://e/g> TO <http://e/h>", 2, 0),
+    ),
+    Trial("first update", Scene::Begun, Call::Update(UNION, 3, 0)),
+    Trial(
+        "load of N-Quads",
+        Scene::Between,
+        Call::Load(Format::NQuads, LINES, 1),
+    ),
+    Trial(
+        "load of N-Triples",
+        Scene::Between,
+        Call::Load(Format::NTriples, TRIPLES, 2),
+    ),
+    Trial(
+        "load of Turtle",
+        Scene::Between,
+        Call::Load(Format::Turtle, TURTLE, 4),
+    ),
+    Trial(
+        "undo of a DELETE",
+        Scene::Between,
+        Call::Command(Command::Undo, 1, 0),
+    ),
+    Trial("redo", Scene::Between, Call::Command(Command::Redo, 1, 0)),
+    Trial(
+        "rollback over five entries",
+        Scene::Between,
+        Call::Command(Command::Rollback(b"base"), 1, 4),
+    ),
+    Trial(
+        "rollback over two entries",
+        Scene::Between,
+        Call::Command(Command::Rollback(b"middle"), 1, 1),
+    ),
+    Trial(
+        "mark",
+        Scene::Between,
+        Call::Command(Command::Mark(b"new"), 0, 0),
+    ),
+    Trial(
+        "mark that moves",
+        Scene::Between,
+        Call::Command(Command::Mark(b"ahead"), 0, 0),
+    ),
+    Trial(
+        "update that forgets",
+        Scene::Bounded,
+        Call::Update(FORGETS, 1, 1),
+    ),
+    Trial(
+        "load that forgets",
+        Scene::Bounded,
+        Call::Load(Format::NQuads, TRIPLES, 2),
+    ),
+    Trial(
+        "rollback over one entry",
+        Scene::Bounded,
+        Call::Command(Command::Rollback(b"base"), 1, 1),
+    ),
+    Trial(
+        "undo under a depth",
+        Scene::Bounded,
+        Call::Command(Command::Undo, 1, 1),
+    ),
+    Trial(
+        "redo under a depth",
+        Scene::BoundedBefore,
+        Call::Command(Command::Redo, 1, 1),
+    ),
+    Trial(
+        "query of OPTIONAL and FILTER",
+        Scene::Between,
+        Call::Query(FILTERED, FILTERED_ROWS, 1),
+    ),
+    Trial(
+        "query of DISTINCT",
+        Scene::Between,
+        Call::Query(DISTINCT, DISTINCT_ROWS, 3),
+    ),
+    Trial(
+        "query of UNION",
+        Scene::Between,
+        Call::Query(EITHER, EITHER_ROWS, 3),
+    ),
+    Trial(
+        "query of a nested group",
+        Scene::Between,
+        Call::Query(NESTED, NESTED_ROWS, 3),
+    ),
+    Trial(
+        "query of GRAPH ?g",
+        Scene::Between,
+        Call::Query(NAMED, NAMED_ROWS, 2),
+    ),
+    Trial("first query", Scene::Begun, Call::Query(ASK, b"true\n", 1)),
+    Trial("changes", Scene::Between, Call::Changes(4, 1)),
+    Trial("names", Scene::Between, Call::Names(3)),
+    Trial("quads as text", Scene::Between, Call::Quads),
+    Trial("state text", Scene::Between, Call::State),
+];

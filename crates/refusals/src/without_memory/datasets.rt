@@ -13,7 +13,8 @@ pub fn outcome(alloc: Global) -> Told {
 
 fn are_answered(alloc: Global) -> Option<bool> {
     let (dataset, net) = begun(alloc)?;
-    Some(is_read(alloc, &dataset, net)? && is_walked(alloc)?)
+    let asked = Asked::new(alloc)?;
+    Some(is_read(alloc, &dataset, &asked) && is_net(alloc, net) && is_walked(alloc)?)
 }
 
 // What is there, and what isn't.
@@ -42,17 +43,25 @@ impl Asked {
     }
 }
 
-// A dataset of two quads, where the net begins that leads to two others.
-fn is_read(alloc: Global, dataset: &Dataset, net: Net) -> Option<bool> {
-    let asked = Asked::new(alloc)?;
+// A dataset of two quads, and a view of it.
+fn is_read(alloc: Global, dataset: &Dataset, asked: &Asked) -> bool {
     requests_count(alloc);
     let mut view = Staged::over(alloc, dataset);
     let finds = asked.is_answered(dataset) && asked.is_answered(&view);
     let counts = dataset.next_blank() == 1 && view.next_blank() == 1;
     let takes = view.take_blanks(3) == Some(1) && view.next_blank() == 4;
-    let nets = leads(&net, 1, 3) && leads(&net.reversed(), 3, 1) && is_none(alloc);
     memory_is_back(alloc);
-    Some(finds && counts && takes && nets)
+    finds && counts && takes
+}
+
+// A net, the same the other way, and one of no change.
+fn is_net(alloc: Global, net: Net) -> bool {
+    requests_count(alloc);
+    let leads_on = leads(&net, 1, 3);
+    let leads_back = leads(&net.reversed(), 3, 1);
+    let is_none = is_none(&Net::empty(alloc, 7));
+    memory_is_back(alloc);
+    leads_on && leads_back && is_none
 }
 
 // Whether the net takes two quads and a name out and brings as many in.
@@ -63,8 +72,7 @@ fn leads(net: &Net, before: u64, after: u64) -> bool {
 }
 
 // Whether the empty net changes nothing.
-fn is_none(alloc: Global) -> bool {
-    let net = Net::empty(alloc, 7);
+fn is_none(net: &Net) -> bool {
     let quads = net.added().is_empty() && net.removed().is_empty();
     let names = net.names_added().is_empty() && net.names_removed().is_empty();
     quads && names && net.before() == 7 && net.after() == 7

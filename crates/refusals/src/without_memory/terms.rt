@@ -12,19 +12,16 @@ pub fn outcome(alloc: Global) -> Told {
 }
 
 fn are_answered(alloc: Global) -> Option<bool> {
-    let (number, word) = (typed(alloc, "-07")?, typed(alloc, "x")?);
-    let (first, second) = (iri(alloc, "a:s")?, iri(alloc, "a:t")?);
-    let mut table = TermTable::new(alloc);
-    table.intern(iri(alloc, "a:s")?).ok()?;
-    let object = iri(alloc, "a:o")?;
-    let graph = GraphName::Named(iri(alloc, "a:g")?);
+    let integers = are_integers(&typed(alloc, "-07")?, &typed(alloc, "x")?, alloc);
+    let classes = are_classes(alloc);
+    Some(integers && classes && is_table(alloc)? && is_quad(alloc)?)
+}
+
+fn are_integers(number: &Literal, word: &Literal, alloc: Global) -> bool {
     requests_count(alloc);
-    let integers = integer_value(&number) == Some(-7) && integer_value(&word).is_none();
-    let finds = holds(&table, &first) && table.find(&second).is_none();
-    let is_quad = is_made(graph, first, second, object);
-    let is_answered = integers && finds && is_quad && are_classes();
+    let are_right = integer_value(number) == Some(-7) && integer_value(word).is_none();
     memory_is_back(alloc);
-    Some(is_answered)
+    are_right
 }
 
 fn typed(alloc: Global, text: &str) -> Option<Literal> {
@@ -37,19 +34,46 @@ fn iri(alloc: Global, text: &str) -> Option<Term> {
     Some(Term::Iri(Iri::new(alloc, text).ok()?))
 }
 
-fn are_classes() -> bool {
+fn are_classes(alloc: Global) -> bool {
+    requests_count(alloc);
     let base = is_pn_chars_base('é') && !is_pn_chars_base('_') && !is_pn_chars_base('7');
     let with_underscore = is_pn_chars_u('_') && !is_pn_chars_u('-');
     let chars = is_pn_chars('7') && is_pn_chars('-') && !is_pn_chars('.');
-    base && with_underscore && chars && is_forbidden_in_iri(' ') && !is_forbidden_in_iri('é')
+    let iris = is_forbidden_in_iri(' ') && !is_forbidden_in_iri('é');
+    memory_is_back(alloc);
+    base && with_underscore && chars && iris
+}
+
+// A table of one term.
+fn is_table(alloc: Global) -> Option<bool> {
+    let mut table = TermTable::new(alloc);
+    table.intern(iri(alloc, "a:s")?).ok()?;
+    Some(finds(alloc, &table, &iri(alloc, "a:s")?, &iri(alloc, "a:t")?))
+}
+
+fn finds(alloc: Global, table: &TermTable, held: &Term, other: &Term) -> bool {
+    requests_count(alloc);
+    let finds = gives_back(table, held) && table.find(other).is_none();
+    memory_is_back(alloc);
+    finds
 }
 
 // Whether the table finds the term, and gives it back by its id.
-fn holds(table: &TermTable, term: &Term) -> bool {
+fn gives_back(table: &TermTable, term: &Term) -> bool {
     match table.find(term) {
         Some(id) => table.term(id) == term,
         None => false,
     }
+}
+
+fn is_quad(alloc: Global) -> Option<bool> {
+    let graph = GraphName::Named(iri(alloc, "a:g")?);
+    let subject = iri(alloc, "a:s")?;
+    let (predicate, object) = (iri(alloc, "a:p")?, iri(alloc, "a:o")?);
+    requests_count(alloc);
+    let is_made = is_made(graph, subject, predicate, object);
+    memory_is_back(alloc);
+    Some(is_made)
 }
 
 // Whether these are the places of a quad.
@@ -58,5 +82,5 @@ fn is_made(graph: GraphName, subject: Term, predicate: Term, object: Term) -> bo
         return false;
     };
     let is_named = matches!(quad.graph(), GraphName::Named(Term::Iri(_)));
-    is_named && quad.subject() < quad.predicate() && *quad.object() < *quad.subject()
+    is_named && quad.predicate() < quad.subject() && quad.object() < quad.predicate()
 }
