@@ -1,24 +1,70 @@
-// Preloaded into a program, refuses one of its requests for memory: that whose number, from 1, stands in the variable REFUSED.
+// Preloaded into a program, refuses requests for memory: that whose number, from 1, stands in the variable REFUSED, and with LASTING
+// each later one too, until memory is back. As the program ends it writes to its standard error how many requests counted, and how
+// many were refused.
+//
+// A program tells by requests of two sizes that no other request has (crates/refusals/src/signs.rt has them too) from where on
+// requests count, and that memory is back, from where on none does. With ALL each counts, from the program's start on.
+enum { REQUESTS_COUNT = 7340033, MEMORY_IS_BACK = 7340035 };
+
 extern void *__libc_malloc(unsigned long size);
 extern void *__libc_realloc(void *memory, unsigned long size);
 extern char *getenv(const char *name);
 extern unsigned long strtoul(const char *text, char **end, int base);
+extern long write(int file, const void *text, unsigned long size);
 
-static unsigned long refused, asked;
+static unsigned long chosen, counted, refused;
+static int lasts, counts, is_over;
 
 __attribute__((constructor)) static void begin(void)
 {
     const char *number = getenv("REFUSED");
-    refused = number ? strtoul(number, 0, 10) : 0;
-    asked = 0;
+    chosen = number ? strtoul(number, 0, 10) : 0;
+    lasts = getenv("LASTING") != 0;
+    counts = getenv("ALL") != 0;
+}
+
+static int is_refused(unsigned long size)
+{
+    if (size == REQUESTS_COUNT || size == MEMORY_IS_BACK) {
+        counts = size == REQUESTS_COUNT;
+        is_over = is_over || refused;
+        return 0;
+    }
+    if (!counts)
+        return 0;
+    ++counted;
+    if (!chosen || is_over || (lasts ? counted < chosen : counted != chosen))
+        return 0;
+    ++refused;
+    return 1;
 }
 
 void *malloc(unsigned long size)
 {
-    return ++asked == refused ? 0 : __libc_malloc(size);
+    return is_refused(size) ? 0 : __libc_malloc(size);
 }
 
 void *realloc(void *memory, unsigned long size)
 {
-    return ++asked == refused ? 0 : __libc_realloc(memory, size);
+    return is_refused(size) ? 0 : __libc_realloc(memory, size);
+}
+
+static unsigned long written(char *text, unsigned long place, unsigned long number)
+{
+    do {
+        text[--place] = '0' + number % 10;
+        number /= 10;
+    } while (number);
+    return place;
+}
+
+__attribute__((destructor)) static void end(void)
+{
+    char text[48];
+    unsigned long place = sizeof text;
+    text[--place] = '\n';
+    place = written(text, place, refused);
+    text[--place] = ' ';
+    place = written(text, place, counted);
+    write(2, text + place, sizeof text - place);
 }

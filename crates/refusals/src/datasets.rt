@@ -4,6 +4,7 @@
 ghost use Rattle.std.specs.Prelude.{◌≡◌, ℕ, IsTrue, IfSome, MatchBool};
 ghost use Rattle.rdf_dataset.specs.State.{IsTermBelow, IsQuadBelow, Begins, Ends};
 
+use crate::signs::{memory_is_back, requests_count};
 use rdf_dataset::{Dataset, Net, Source, Staged};
 use rdf_terms::{GraphName, Iri, Quad, Term};
 use std::alloc::Global;
@@ -64,13 +65,20 @@ pub fn outcome(alloc: Global) -> &'static str {
 }
 
 fn session(alloc: Global) -> Option<bool> {
+    requests_count(alloc);
     let questions = match Questions::new(alloc) {
-        None => Questions::new(alloc)?,
+        None => {
+            memory_is_back(alloc);
+            Questions::new(alloc)?
+        }
         Some(questions) => questions,
     };
     match begun(alloc) {
         Some(both) => Some(survives(both, &questions)),
-        None => Some(survives(begun(alloc)?, &questions)),
+        None => {
+            memory_is_back(alloc);
+            Some(survives(begun(alloc)?, &questions))
+        }
     }
 }
 
@@ -92,7 +100,7 @@ fn survives(both: (Dataset, Net), questions: &Questions) -> bool
 }
 
 // The dataset at the front, and the net from there to the back.
-fn begun(alloc: Global) -> Option<(Dataset, Net)>
+pub fn begun(alloc: Global) -> Option<(Dataset, Net)>
     ensures { IfSome result (λ both. Begins both.1 both.0) }
 {
     let dataset = Dataset::new(alloc);
@@ -116,7 +124,7 @@ fn moved(mut dataset: Dataset, first: Net, second: &Net) -> Option<(Dataset, Net
     }
 }
 
-fn iri(alloc: Global, text: &str) -> Option<Term>
+pub fn iri(alloc: Global, text: &str) -> Option<Term>
     ensures { IfSome result (λ t. (next : ℕ) → IsTermBelow next t) }
 {
     match Iri::new(alloc, text) {
@@ -125,7 +133,7 @@ fn iri(alloc: Global, text: &str) -> Option<Term>
     }
 }
 
-fn quad(alloc: Global, graph: &str, subject: &str) -> Option<Quad>
+pub fn quad(alloc: Global, graph: &str, subject: &str) -> Option<Quad>
     ensures { IfSome result (λ q. (next : ℕ) → IsQuadBelow next q) }
 {
     let name = iri(alloc, graph)?;
@@ -194,6 +202,7 @@ fn goes(dataset: &mut Dataset, net: &Net, questions: &Questions) -> bool
     if commits(dataset, net) {
         return true;
     }
+    memory_is_back(questions.alloc);
     questions.at_front(dataset) && commits(dataset, net)
 }
 
@@ -204,6 +213,7 @@ fn comes_back(dataset: &mut Dataset, net: &Net, questions: &Questions) -> bool
     if reverts(dataset, net) {
         return true;
     }
+    memory_is_back(questions.alloc);
     questions.at_back(dataset) && reverts(dataset, net)
 }
 
@@ -215,13 +225,13 @@ impl Questions {
     }
 
     fn at_front(&self, dataset: &Dataset) -> bool {
-        is_at(dataset, FRONT)
+        is_at(self.alloc, dataset, FRONT)
             && self.finds(dataset, &self.front, 1, 2)
             && self.finds(dataset, &self.back, 0, 0)
     }
 
     fn at_back(&self, dataset: &Dataset) -> bool {
-        is_at(dataset, BACK)
+        is_at(self.alloc, dataset, BACK)
             && self.finds(dataset, &self.front, 0, 0)
             && self.finds(dataset, &self.back, 1, 2)
     }
@@ -250,6 +260,7 @@ impl Questions {
             .matches(graph, subject, predicate, object, &mut quads)
             .is_err()
         {
+            memory_is_back(self.alloc);
             if !quads.is_empty() {
                 return None;
             }
@@ -262,8 +273,8 @@ impl Questions {
 }
 
 // Whether what is listed is two quads of the place's graph and its name.
-fn is_at(dataset: &Dataset, place: Place) -> bool {
-    let Some((quads, names)) = listed(dataset) else {
+fn is_at(alloc: Global, dataset: &Dataset, place: Place) -> bool {
+    let Some((quads, names)) = listed(alloc, dataset) else {
         return false;
     };
     dataset.next_blank() == place.next
@@ -273,13 +284,19 @@ fn is_at(dataset: &Dataset, place: Place) -> bool {
         && names.iter().all(|name| is_iri(name, place.graph))
 }
 
-fn listed(dataset: &Dataset) -> Option<(Vec<Quad>, Vec<Term>)> {
+fn listed(alloc: Global, dataset: &Dataset) -> Option<(Vec<Quad>, Vec<Term>)> {
     let quads = match dataset.quads() {
-        Err(_) => dataset.quads().ok()?,
+        Err(_) => {
+            memory_is_back(alloc);
+            dataset.quads().ok()?
+        }
         Ok(quads) => quads,
     };
     let names = match dataset.names_sorted() {
-        Err(_) => dataset.names_sorted().ok()?,
+        Err(_) => {
+            memory_is_back(alloc);
+            dataset.names_sorted().ok()?
+        }
         Ok(names) => names,
     };
     Some((quads, names))

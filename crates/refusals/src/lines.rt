@@ -1,5 +1,6 @@
 //! A document of four lines, read again where memory was wanting. The line at which that was told is the
 //! part's place.
+use crate::signs::{memory_is_back, requests_count};
 use crate::told::Told;
 use rdf_lines::{FaultKind, LineFormat, read_lines};
 use rdf_terms::{GraphName, Quad, Term};
@@ -10,18 +11,19 @@ const TEXT: &[u8] =
 
 /// Whether the document is read, after a refusal too, and the line at which that was told.
 pub fn outcome(alloc: Global) -> Told {
+    let name = "lines, 4 places";
     match read(alloc) {
-        Some(refused_at) => Told {
-            text: "lines: 4 places, as without a refusal",
-            refused_at,
-        },
-        None => Told::new("lines: changed by a refusal"),
+        Some(refused_at) => Told::kept(name, true).at(refused_at),
+        None => Told::kept(name, false),
     }
 }
 
 // The line at which the first reading was refused, if it was; nothing where the document isn't read.
 fn read(alloc: Global) -> Option<Option<u64>> {
-    match read_lines(alloc, LineFormat::NQuads, TEXT) {
+    requests_count(alloc);
+    let first = read_lines(alloc, LineFormat::NQuads, TEXT);
+    memory_is_back(alloc);
+    match first {
         Ok(quads) => are_read(quads.as_slice(), None),
         Err(fault) => match fault.kind {
             FaultKind::NoMemory(_) => {

@@ -1,43 +1,151 @@
-//! A script from bytes to bytes. A command that is refused answers so, and the script is run anew.
+//! A script whose commands are read one at a call, tried where any request for memory may be refused: the
+//! refused command answers so, and the others as in a script without it; or, where the line or the body
+//! had no room, the session ends there. The number of that command is the part's place.
+use crate::signs::{memory_is_back, requests_count};
+use crate::told::Told;
 use rdf_keeper::{Keeper, Settings, Status, run};
 use std::alloc::Global;
+use std::io;
+use std::io::Read;
 
-const SCRIPT: &[u8] =
-    b"%load nquads\n<a:s> <a:p> \"x\" .\n%end\n%mark a\n%print\n%update\nINSERT DATA { <a:s> <a:p> 1 }\n%end\n%changes\n%rollback a\n%undo\n%print\n";
+// Each takes memory.
+const COMMANDS: [&[u8]; 10] = [
+    b"%load nquads\n<a:s> <a:p> \"x\" <a:g> .\n%end\n",
+    b"%mark a\n",
+    b"%print\n",
+    b"%update\nDELETE DATA { GRAPH <a:g> { <a:s> <a:p> \"x\" } }\n%end\n",
+    b"%undo\n",
+    b"%update\nINSERT DATA { <a:s> <a:p> 1 }\n%end\n",
+    b"%changes\n",
+    b"%query\nSELECT ?o WHERE { <a:s> <a:p> ?o }\n%end\n",
+    b"%graphs\n",
+    b"%rollback a\n",
+];
 
-const OUTPUT: &[u8] =
-    b"ok +1 -0\nok\n<a:s> <a:p> \"x\" .\nok 1\nok +1 -0\n+ <a:s> <a:p> \"1\"^^<http://www.w3.org/2001/XMLSchema#integer> .\n+ <a:s> <a:p> \"x\" .\nok 2\nok +0 -1\nok +0 -1\nok 0\n";
+const ANSWERS: &[u8] =
+    b"ok +1 -0\nok\n<a:s> <a:p> \"x\" <a:g> .\nok 1\nok +0 -1\nok +1 -0\nok +1 -0\n+ graph <a:g>\n+ <a:s> <a:p> \"1\"^^<http://www.w3.org/2001/XMLSchema#integer> .\n+ <a:s> <a:p> \"x\" <a:g> .\nok 3\n?o\n\"1\"^^<http://www.w3.org/2001/XMLSchema#integer>\nok 1\n<a:g>\nok 1\nok +0 -1\n";
 
-/// Whether a script that is refused says so, and writes what it should when it is run again.
-pub fn outcome(alloc: Global) -> &'static str {
-    match script(alloc) {
-        Some(true) => "script: as without a refusal",
-        _ => "script: changed by a refusal",
+const REFUSED: &[u8] = b"refused: NoMemory\n";
+
+// More than any of these scripts is answered.
+const ROOM: usize = 4096;
+
+// Gives a command at each call, but for one that is left out. As the next is asked for, the one before has
+// been answered: memory is back then.
+#[derive(Drop)]
+struct Commands {
+    alloc: Global,
+    next: usize,
+    left_out: Option<usize>,
+}
+
+impl Read for Commands {
+    fn read(&mut self, buf: &mut [u8]) -> io::Result<usize> {
+        memory_is_back(self.alloc);
+        if self.left_out == Some(self.next) {
+            self.next = self.next.saturating_add(1);
+        }
+        let Some(command) = COMMANDS.get(self.next) else {
+            return Ok(0);
+        };
+        self.next = self.next.saturating_add(1);
+        for (place, byte) in buf.iter_mut().zip(*command) {
+            *place = *byte;
+        }
+        requests_count(self.alloc);
+        Ok(command.len().min(buf.len()))
     }
 }
 
-fn script(alloc: Global) -> Option<bool> {
-    let (output, status) = ran(alloc);
-    if output.as_slice() == OUTPUT && status == Status::Accepted {
-        return Some(true);
-    }
-    // a command, or the session itself, was refused
-    let is_refusal = matches!(
-        status,
-        Status::Refused | Status::NoMemory(_) | Status::WriteFailed
-    );
-    if !is_refusal {
-        return None;
-    }
-    let (output, status) = ran(alloc);
-    Some(output.as_slice() == OUTPUT && status == Status::Accepted)
+// What a script was answered, and how it ended.
+#[derive(Drop)]
+struct Session {
+    output: Vec<u8>,
+    status: Status,
 }
 
-fn ran(alloc: Global) -> (Vec<u8>, Status) {
+/// Whether a script is answered as it should, and at which command it was refused.
+pub fn outcome(alloc: Global) -> Told {
+    let name = "script, 10 places";
+    match tried(alloc) {
+        Some(refused_at) => Told::kept(name, true).at(refused_at),
+        None => Told::kept(name, false),
+    }
+}
+
+// Nothing where it isn't answered so.
+fn tried(alloc: Global) -> Option<Option<u64>> {
+    let found = ran(alloc, None)?;
+    memory_is_back(alloc);
+    let output = found.output.as_slice();
+    match found.status {
+        Status::Accepted if output == ANSWERS => Some(None),
+        Status::Refused => Some(Some(refused_command(alloc, output)?)),
+        Status::NoMemory(_) if ends_with_answer(output) && ANSWERS.starts_with(output) => {
+            Some(Some(answers_in(output).saturating_add(1)))
+        }
+        _ => None,
+    }
+}
+
+fn ran(alloc: Global, left_out: Option<usize>) -> Option<Session> {
+    let mut output = Vec::with_capacity(alloc, ROOM).ok()?;
     let mut keeper = Keeper::new(alloc, None);
-    let mut reader = SCRIPT;
-    let mut output = Vec::new(alloc);
+    let mut commands = Commands {
+        alloc,
+        next: 0,
+        left_out,
+    };
     let settings = Settings { stop: false };
-    let status = run(alloc, &mut keeper, &mut reader, &mut output, settings);
-    (output, status)
+    let status = run(alloc, &mut keeper, &mut commands, &mut output, settings);
+    Some(Session { output, status })
+}
+
+// The number of the one command that was refused, where the others are answered as without it.
+fn refused_command(alloc: Global, output: &[u8]) -> Option<u64> {
+    let (before, behind) = parted(output)?;
+    let number = answers_in(before);
+    let wanted = ran(alloc, Some(number as usize))?;
+    let wanted = wanted.output.as_slice();
+    let is_kept = wanted.starts_with(before) && wanted.ends_with(behind);
+    if is_kept && wanted.len() == before.len().saturating_add(behind.len()) {
+        Some(number.saturating_add(1))
+    } else {
+        None
+    }
+}
+
+// What stands before the refusal, and what behind it.
+fn parted(output: &[u8]) -> Option<(&[u8], &[u8])> {
+    for place in 0..output.len() {
+        if ends_with_answer(&output[..place]) && output[place..].starts_with(REFUSED) {
+            return Some((
+                &output[..place],
+                output.get(place.checked_add(REFUSED.len())?..)?,
+            ));
+        }
+    }
+    None
+}
+
+// Whether it ends where an answer does: its last line begins as an answer's last.
+fn ends_with_answer(output: &[u8]) -> bool {
+    let mut is_answer = true;
+    for line in output.split(|byte| *byte == b'\n') {
+        if !line.is_empty() {
+            is_answer = line.starts_with(b"ok");
+        }
+    }
+    is_answer && (output.is_empty() || output.ends_with(b"\n"))
+}
+
+// How many lines begin as an answer's last.
+fn answers_in(output: &[u8]) -> u64 {
+    let mut count = 0u64;
+    for line in output.split(|byte| *byte == b'\n') {
+        if line.starts_with(b"ok") {
+            count = count.saturating_add(1);
+        }
+    }
+    count
 }

@@ -1,4 +1,5 @@
 //! A session that is restored from a state text and saved again, by a call and by a script.
+use crate::signs::{memory_is_back, requests_count};
 use rdf_keeper::{Keeper, Settings, StateFault, Status, run};
 use std::alloc::Global;
 
@@ -10,6 +11,7 @@ const COUNT: &[u8] = b"ok 9\n";
 /// Whether a state that isn't restored or saved is so for want of memory alone, and is restored and saved
 /// as it should when it is asked for again.
 pub fn outcome(alloc: Global) -> &'static str {
+    requests_count(alloc);
     match comes_back(alloc) {
         Some(true) => "states: as without a refusal",
         _ => "states: changed by a refusal",
@@ -24,7 +26,10 @@ fn comes_back(alloc: Global) -> Option<bool> {
 fn restored(alloc: Global) -> Option<Keeper> {
     match Keeper::restore(alloc, TEXT, None) {
         Ok(keeper) => Some(keeper),
-        Err(StateFault::NoMemory(_)) => Keeper::restore(alloc, TEXT, None).ok(),
+        Err(StateFault::NoMemory(_)) => {
+            memory_is_back(alloc);
+            Keeper::restore(alloc, TEXT, None).ok()
+        }
         Err(StateFault::NotState) => None,
     }
 }
@@ -40,6 +45,7 @@ fn is_saved(alloc: Global, keeper: &Keeper) -> Option<bool> {
         if text.as_slice() != b"# ".as_slice() {
             return None;
         }
+        memory_is_back(alloc);
         keeper.dump(&mut text).ok()?;
     }
     Some(text.as_slice().strip_prefix(b"# ") == Some(TEXT))
@@ -48,6 +54,7 @@ fn is_saved(alloc: Global, keeper: &Keeper) -> Option<bool> {
 fn begun(alloc: Global) -> Option<Vec<u8>> {
     let mut text = Vec::new(alloc);
     if text.extend_from_slice(b"# ").is_err() {
+        memory_is_back(alloc);
         text.extend_from_slice(b"# ").ok()?;
     }
     Some(text)
@@ -67,6 +74,7 @@ fn is_shown(alloc: Global, keeper: &mut Keeper) -> Option<bool> {
     if !is_refusal {
         return None;
     }
+    memory_is_back(alloc);
     let (output, status) = ran(alloc, keeper);
     Some(status == Status::Accepted && is_text_and_count(output.as_slice()))
 }

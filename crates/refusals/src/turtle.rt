@@ -1,5 +1,6 @@
 //! A Turtle document, and a text that uses a prefix without its declaration, each read again where memory
 //! was wanting. What they are read to is known.
+use crate::signs::{memory_is_back, requests_count};
 use rdf_lines::write_quad;
 use rdf_terms::{NoMemory, Quad};
 use rdf_turtle::{TurtleFault, TurtleFaultKind, read_turtle};
@@ -16,6 +17,7 @@ const UNDECLARED: &[u8] = b"PREFIX p: <a:>\n<a:s> p:p p:o .\n<a:s> p:p q:o .\n";
 
 /// Whether each text that is refused has no line, and is read as it should be when it is read again.
 pub fn outcome(alloc: Global) -> &'static str {
+    requests_count(alloc);
     if is_document_read(alloc) && is_fault_told(alloc) {
         "turtle: as without a refusal"
     } else {
@@ -40,7 +42,10 @@ fn is_fault_told(alloc: Global) -> bool {
 // What the text is read to, or where that was refused, what it is read to again.
 fn read(alloc: Global, text: &[u8]) -> Result<Vec<Quad>, TurtleFault> {
     match read_turtle(alloc, text, None) {
-        Err(fault) if is_refused(fault) => read_turtle(alloc, text, None),
+        Err(fault) if is_refused(fault) => {
+            memory_is_back(alloc);
+            read_turtle(alloc, text, None)
+        }
         answer => answer,
     }
 }
@@ -51,7 +56,10 @@ fn is_refused(fault: TurtleFault) -> bool {
 
 fn are_lines(alloc: Global, quads: &[Quad]) -> bool {
     let text = match text_of(alloc, quads) {
-        Err(_) => text_of(alloc, quads),
+        Err(_) => {
+            memory_is_back(alloc);
+            text_of(alloc, quads)
+        }
         text => text,
     };
     match text {

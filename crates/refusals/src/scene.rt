@@ -1,0 +1,92 @@
+//! The sessions over which calls are tried. Each begins at a base of seven quads, whose graph `empty` has
+//! none.
+use crate::command::{Command, answer};
+use rdf_keeper::{Format, Keeper};
+use std::alloc::Global;
+
+/// A session over which a call is tried.
+#[derive(Clone, Copy)]
+pub enum Scene {
+    /// At the base, before any request.
+    Begun,
+    /// Five entries behind the base, two before the end, with marks on both sides.
+    Between,
+    /// Under a depth of one, behind its entry.
+    Bounded,
+    /// The same, before its entry.
+    BoundedBefore,
+}
+
+/// The names of marks, some of which no session has.
+pub const MARKS: [&[u8]; 5] = [b"base", b"middle", b"here", b"ahead", b"new"];
+
+const BASE: &[u8] =
+    b"<http://e/s> <http://e/p> \"x\" .\n<http://e/s> <http://e/p> \"1\" .\n<http://e/t> <http://e/p> \"1\" .\n<http://e/s> <http://e/q> \"2\" .\n<http://e/u> <http://e/p> \"a\" .\n<http://e/u> <http://e/q> \"4\"^^<http://www.w3.org/2001/XMLSchema#integer> .\n_:b <http://e/p> \"3\" <http://e/h> .\n";
+
+const CREATE: &[u8] = b"CREATE GRAPH <http://e/empty>";
+
+// The third and the fourth cancel each other.
+const BETWEEN: [Command; 13] = [
+    Command::Mark(b"base"),
+    Command::Update(
+        b"INSERT DATA { <http://e/a> <http://e/p> \"b\" GRAPH <http://e/g> { <http://e/a> <http://e/p> \"b\" , \"c\" } }",
+    ),
+    Command::Update(b"INSERT { _:x <http://e/of> ?s } WHERE { ?s <http://e/q> \"2\" }"),
+    Command::Update(b"DELETE DATA { GRAPH <http://e/g> { <http://e/a> <http://e/p> \"c\" } }"),
+    Command::Mark(b"middle"),
+    Command::Update(b"INSERT DATA { GRAPH <http://e/g> { <http://e/a> <http://e/p> \"c\" } }"),
+    Command::Update(b"DELETE WHERE { GRAPH <http://e/h> { ?s ?p ?o } }"),
+    Command::Mark(b"here"),
+    Command::Update(b"INSERT DATA { GRAPH <http://e/k> { <http://e/z> <http://e/p> _:n } }"),
+    Command::Update(b"DELETE DATA { <http://e/t> <http://e/p> \"1\" }"),
+    Command::Mark(b"ahead"),
+    Command::Undo,
+    Command::Undo,
+];
+
+const BOUNDED: [Command; 3] = [
+    Command::Mark(b"base"),
+    Command::Update(
+        b"DELETE DATA { <http://e/s> <http://e/p> \"x\" } ; INSERT DATA { GRAPH <http://e/g> { <http://e/s> <http://e/p> \"w\" } }",
+    ),
+    Command::Mark(b"here"),
+];
+
+impl Scene {
+    /// The session, where memory isn't wanting.
+    pub fn session(self, alloc: Global) -> Option<Keeper> {
+        let mut keeper = match self {
+            Scene::Begun | Scene::Between => Keeper::new(alloc, None),
+            Scene::Bounded | Scene::BoundedBefore => Keeper::new(alloc, None).with_depth(1),
+        };
+        self.set(&mut keeper)?;
+        Some(keeper)
+    }
+
+    fn set(self, keeper: &mut Keeper) -> Option<()> {
+        answer(keeper, Command::Load(Format::NQuads, BASE)).ok()?;
+        match self {
+            Scene::Begun => {
+                keeper.commit();
+                Some(())
+            }
+            Scene::Between => goes_on(keeper, &BETWEEN),
+            Scene::Bounded => goes_on(keeper, &BOUNDED),
+            Scene::BoundedBefore => {
+                goes_on(keeper, &BOUNDED)?;
+                answer(keeper, Command::Undo).ok()?;
+                Some(())
+            }
+        }
+    }
+}
+
+// Makes the base, and has the commands carried out.
+fn goes_on(keeper: &mut Keeper, commands: &[Command]) -> Option<()> {
+    answer(keeper, Command::Update(CREATE)).ok()?;
+    keeper.commit();
+    for command in commands {
+        answer(keeper, *command).ok()?;
+    }
+    Some(())
+}
