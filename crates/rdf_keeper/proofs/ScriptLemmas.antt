@@ -4,6 +4,7 @@ pub mod Examples
 pub mod Feeds
 pub mod FirstEnds
 pub mod LineCounts
+pub mod LineEnds
 pub mod Lines
 pub mod Show
 pub mod OneShow

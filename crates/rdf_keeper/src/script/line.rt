@@ -31,7 +31,13 @@ fn line_end(text: &[u8]) -> Option<usize>
 pub(crate) fn line_ends(text: &[u8]) -> usize
     ensures { result ≡ length (filter (λ b. nat_eq b 10) text.now) }
 {
-    text.iter().filter(|b| **b == b'\n').count()
+    let mut rest = text;
+    let mut ends = 0;
+    while let Some((_, behind)) = whole_line(rest) {
+        rest = behind;
+        ends += 1;
+    }
+    ends
 }
 
 /// The line without its end.
