@@ -17,6 +17,10 @@ const OPTIONAL: &[u8] =
 const GRAPHS: &[u8] =
     b"INSERT { GRAPH <http://e/n> { ?s <http://e/in> ?g } } WHERE { GRAPH ?g { ?s <http://e/p> ?o } }";
 
+// The one subject with a 1 that has no q.
+const LACKING: &[u8] =
+    b"DELETE { ?s <http://e/p> \"1\" } INSERT { ?s <http://e/p> _:n } WHERE { ?s <http://e/p> \"1\" MINUS { ?s <http://e/q> ?x } }";
+
 // Each kind of term, a reference, a prefix, a list and a node without a label.
 const TERMS: &[u8] =
     b"PREFIX p: <a:> BASE <http://e/> INSERT DATA { GRAPH p:h { _:x p:p [ p:q \"2\\u0033\"@EN , 4 ] . <r> a ( ) } }";
@@ -46,6 +50,10 @@ const EITHER: &[u8] =
 
 const EITHER_ROWS: &[u8] = b"?s\n<http://e/s>\n<http://e/s>\n<http://e/t>\n";
 
+const WITHOUT: &[u8] = b"SELECT ?s ?x WHERE { ?s <http://e/p> \"1\" MINUS { ?s <http://e/q> ?x } }";
+
+const WITHOUT_ROWS: &[u8] = b"?s\t?x\n<http://e/t>\t\n";
+
 // The inner group has a solution without a value.
 const NESTED: &[u8] =
     b"SELECT ?s ?o WHERE { ?s <http://e/p> \"1\" { { ?s <http://e/q> ?o } UNION { } } }";
@@ -60,7 +68,7 @@ const NAMED_ROWS: &[u8] =
 const ASK: &[u8] = b"ASK { <http://e/s> <http://e/p> \"1\" }";
 
 /// The trials, in the order of their lines.
-pub const TRIALS: [Trial; 33] = [
+pub const TRIALS: [Trial; 35] = [
     Trial("update of UNION", Scene::Between, Call::Update(UNION, 3, 0)),
     Trial(
         "update of two operations",
@@ -76,6 +84,11 @@ pub const TRIALS: [Trial; 33] = [
         "update of GRAPH ?g",
         Scene::Between,
         Call::Update(GRAPHS, 1, 0),
+    ),
+    Trial(
+        "update of MINUS",
+        Scene::Between,
+        Call::Update(LACKING, 1, 1),
     ),
     Trial(
         "update of each kind of term",
@@ -178,6 +191,11 @@ pub const TRIALS: [Trial; 33] = [
         "query of UNION",
         Scene::Between,
         Call::Query(EITHER, EITHER_ROWS, 3),
+    ),
+    Trial(
+        "query of MINUS",
+        Scene::Between,
+        Call::Query(WITHOUT, WITHOUT_ROWS, 1),
     ),
     Trial(
         "query of a nested group",
