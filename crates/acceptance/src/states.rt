@@ -111,12 +111,28 @@ fn each_front_of_a_state(rt: HostRuntime) {
 fn each_byte_of_a_state_left_out_or_doubled(rt: HostRuntime) {
     let less = with_one_less_or_more(rt.alloc(), true);
     let more = with_one_less_or_more(rt.alloc(), false);
-    assert!(rt; less == Some(Tally { taken: 46, wrong: 0 }));
-    assert!(rt; more == Some(Tally { taken: 64, wrong: 0 }));
+    assert!(rt;
+        less == Some(Tally {
+            taken: 46,
+            wrong: 0
+        })
+    );
+    assert!(rt;
+        more == Some(Tally {
+            taken: 64,
+            wrong: 0
+        })
+    );
 }
 
 #[test]
 fn each_byte_of_a_state_another(rt: HostRuntime) {
     let tally = with_another(rt.alloc());
-    assert!(rt; tally == Some(Tally { taken: 4042, wrong: 0 }));
+    assert!(rt;
+        tally
+            == Some(Tally {
+                taken: 4042,
+                wrong: 0
+            })
+    );
 }
