@@ -32,28 +32,44 @@ clean:
 
 # ---- what a newcomer runs, and where it is put
 #
-#   make example     each command that README.md shows, compared with what it shows; the manual page and the completions checked
-#   make install     the program, its manual page and its completions for bash, under PREFIX and, for a package, DESTDIR
+#   make example     each command that README.md shows, compared with what it shows; the manual page, the completions and the packages checked
+#   make install     the program, its manual page and its completions for bash, zsh and fish, under PREFIX and, for a package, DESTDIR
 #   make uninstall   takes them away
+#   make deb         a Debian package of what `make` built, in out/
+#   make dist        an archive of the sources, as the last commit has them, in out/
 
+PROGRAM ?= rdfkeep
 PREFIX ?= /usr/local
 INSTALL ?= install
 bindir = $(PREFIX)/bin
 datadir = $(PREFIX)/share
 man1dir = $(datadir)/man/man1
 bashcompdir = $(datadir)/bash-completion/completions
+# (of these folders zsh looks into the one below /usr alone, and into the other below /usr/local alone)
+zshcompdir = $(datadir)/zsh/$(if $(filter /usr,$(PREFIX)),vendor-completions,site-functions)
+fishcompdir = $(datadir)/fish/vendor_completions.d
 
-.PHONY: example install uninstall
+.PHONY: example install uninstall deb dist
 
 example: rdfkeep
 	tools/readme-examples ./rdfkeep
 	tools/check-manual ./rdfkeep
+	tools/check-packages ./rdfkeep
 
-install: rdfkeep
-	$(INSTALL) -d "$(DESTDIR)$(bindir)" "$(DESTDIR)$(man1dir)" "$(DESTDIR)$(bashcompdir)"
-	$(INSTALL) -m 755 rdfkeep "$(DESTDIR)$(bindir)/rdfkeep"
+install: $(PROGRAM)
+	$(INSTALL) -d "$(DESTDIR)$(bindir)" "$(DESTDIR)$(man1dir)" "$(DESTDIR)$(bashcompdir)" "$(DESTDIR)$(zshcompdir)" "$(DESTDIR)$(fishcompdir)"
+	$(INSTALL) -m 755 "$(PROGRAM)" "$(DESTDIR)$(bindir)/rdfkeep"
 	$(INSTALL) -m 644 man/rdfkeep.1 "$(DESTDIR)$(man1dir)/rdfkeep.1"
 	$(INSTALL) -m 644 completions/rdfkeep.bash "$(DESTDIR)$(bashcompdir)/rdfkeep"
+	$(INSTALL) -m 644 completions/_rdfkeep "$(DESTDIR)$(zshcompdir)/_rdfkeep"
+	$(INSTALL) -m 644 completions/rdfkeep.fish "$(DESTDIR)$(fishcompdir)/rdfkeep.fish"
 
 uninstall:
 	rm -f "$(DESTDIR)$(bindir)/rdfkeep" "$(DESTDIR)$(man1dir)/rdfkeep.1" "$(DESTDIR)$(bashcompdir)/rdfkeep"
+	rm -f "$(DESTDIR)$(zshcompdir)/_rdfkeep" "$(DESTDIR)$(fishcompdir)/rdfkeep.fish"
+
+deb: $(PROGRAM)
+	@tools/make-package deb "$(PROGRAM)"
+
+dist:
+	@tools/make-package dist

@@ -6,3 +6,4 @@ mod LoadingLemmas
 mod QuadEditLemmas
 mod StateLemmas
 mod StoredLemmas
+mod UnreadLemmas

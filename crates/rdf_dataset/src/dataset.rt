@@ -88,9 +88,8 @@ impl Dataset {
     pub fn quads(&self) -> Result<Vec<Quad>, NoMemory>
         ensures { IfOk result (λ quads. ListsSorted self.now.quads quads.items) }
     {
-        let mut quads = Vec::new(self.alloc);
-        self.store.append_quads(&mut quads)?;
-        Ok(in_order(quads))
+        let quads = self.store.quads_sorted()?;
+        Ok(quads)
     }
 
     /// The graph names, each once, in order.

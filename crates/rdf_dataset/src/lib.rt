@@ -15,8 +15,10 @@ mod net;
 mod quad_edits;
 mod source;
 mod staged;
+mod unread;
 
 pub use dataset::Dataset;
 pub use net::Net;
 pub use source::{Source, sources_are_sound};
 pub use staged::Staged;
+pub use unread::Unread;

@@ -49,8 +49,8 @@ pub(crate) fn new_quads<D: Source>(under: &D, quads: Vec<Quad>) -> Sorted<Quad>
     Sorted::from_list(new)
 }
 
-// Puts the name of a quad's graph in.
-fn name_graph<D: Source>(
+/// Puts the name of a quad's graph in.
+pub(crate) fn name_graph<D: Source>(
     names: &mut TreeDelta<Term>,
     under: &D,
     quad: &Quad,

@@ -45,7 +45,8 @@ pub use round_trip::{
 pub use shared::push_shared;
 pub use state::ReaderState;
 pub use state_text::{
-    StateFault, StateText, read_state, state_text_is_one, state_texts_differ, write_state,
+    StateFault, StateText, read_state, state_text_is_one, state_texts_differ, write_sorted_state,
+    write_state,
 };
 pub use statement::{Node, Object, Statement};
 pub use write::{sorted_text_is_one, write_quad, write_sorted};

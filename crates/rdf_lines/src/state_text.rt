@@ -17,7 +17,7 @@ pub use fault::StateFault;
 use parts::read_parts;
 use rdf_terms::{Quad, Term};
 use std::alloc::Global;
-pub use write::write_state;
+pub use write::{write_sorted_state, write_state};
 
 /// What a state text says: the number of the next blank node, the graphs' names, and the quads.
 #[derive(Debug, Drop)]

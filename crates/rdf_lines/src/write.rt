@@ -79,6 +79,17 @@ fn append_sorted(alloc: Global, quads: &[Quad], out: &mut Vec<u8>) -> Result<(),
     Ok(())
 }
 
+/// Appends the lines of the quads, in the order that they have.
+pub(crate) fn append_lines(quads: &[Quad], out: &mut Vec<u8>) -> Result<(), NoMemory>
+    ensures ok { OnOk result (out.new.items ≡ out.old.items ++ flat_map quad_text quads.now) }
+    ensures kept { take (length out.old.items) out.new.items ≡ out.old.items }
+{
+    for quad in quads {
+        write_quad(quad, out)?;
+    }
+    Ok(())
+}
+
 /// The items by reference, in their order.
 ///
 /// # Errors

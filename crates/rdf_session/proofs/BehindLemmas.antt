@@ -19,7 +19,7 @@ abbrev pub lower : ℕ → Option ℕ → Option ℕ
 lower count None = None
 lower count (Some place) = Some (place - count)
 
-get_from : (marks : Marks) (k : ℕ) (q : List ℕ) → map.get (marks_from k marks) q ≡ cond (is_from k (map.get marks q)) (map.get marks q) None
+pub get_from : (marks : Marks) (k : ℕ) (q : List ℕ) → map.get (marks_from k marks) q ≡ cond (is_from k (map.get marks q)) (map.get marks q) None
 get_from marks k q =
     get-retain_keys marks (λ name. is_from k (map.get marks name)) q
     (λ x e. ap (λ name. is_from k (map.get marks name)) (sym (order_apart q x e)))
@@ -35,7 +35,7 @@ find_lower count q (e ∷ es) =
       | false ↦ find_lower count q es
     ]
 
-get_lower : (marks : Marks) (count : ℕ) (q : List ℕ) → map.get (marks_lower count marks) q ≡ lower count (map.get marks q)
+pub get_lower : (marks : Marks) (count : ℕ) (q : List ℕ) → map.get (marks_lower count marks) q ≡ lower count (map.get marks q)
 get_lower marks count q =
     get-from_entries nat_list_cmp_total (map_list (λ e. (e.0, e.1 - count)) (map.entries marks)) q
     ∙ find_lower count q (map.entries marks) ∙ ap (lower count) (sym (get-entries marks q))
@@ -54,10 +54,10 @@ get_behind marks count q =
 
 -- ---- places
 
-is_there : (count place : ℕ) → count ≤ place → nat_le count place ≡ true
+pub is_there : (count place : ℕ) → count ≤ place → nat_le count place ≡ true
 is_there count place h = elim (leb_tells count place) [ inl t ↦ t.0 | inr t ↦ absurd (omega (arith, t.1, h)) ]
 
-is_gone : (count place : ℕ) → place < count → nat_le count place ≡ false
+pub is_gone : (count place : ℕ) → place < count → nat_le count place ≡ false
 is_gone count place h = elim (leb_tells count place) [ inl t ↦ absurd (omega (arith, t.1, h)) | inr t ↦ t.0 ]
 
 pub behind_there : (count place : ℕ) → count ≤ place → behind count (Some place) ≡ Some (place - count)
@@ -86,7 +86,7 @@ behind_is count place o e = ap (behind count) e ∙ behind_there count (place + 
 
 -- ---- marks behind places
 
-alike : (m n : Marks) → ((q : List ℕ) → map.get m q ≡ map.get n q) → m ≡ n
+pub alike : (m n : Marks) → ((q : List ℕ) → map.get m q ≡ map.get n q) → m ≡ n
 alike m n same_places = same_map nat_list_cmp_total order_apart m n same_places
 
 behind_nothing : (o : Option ℕ) → behind 0 o ≡ o
@@ -157,6 +157,20 @@ marks_behind_insert count place name marks =
     put : (q : List ℕ) (b : Bool) → behind count (cond b (Some (place + count)) (map.get marks q)) ≡ cond b (Some place) (behind count (map.get marks q))
     put q true = behind_is count place (Some (place + count)) refl
     put q false = refl
+
+behind_from : (count : ℕ) (o : Option ℕ) → behind count (cond (is_from count o) o None) ≡ behind count o
+behind_from count None = refl
+behind_from count (Some place) =
+    elim (nat_le count place) as (λ b. nat_le count place ≡ b → behind count (cond b (Some place) None) ≡ behind count (Some place)) [
+      | true ↦ λ t. refl
+      | false ↦ λ t. ap (λ b. cond b (Some (place - count)) None) (sym t)
+    ] refl
+
+-- those before them make no difference
+pub marks_behind_from : (count : ℕ) (marks : Marks) → marks_behind count (marks_from count marks) ≡ marks_behind count marks
+marks_behind_from count marks =
+    alike _ _ (λ q.
+    get_behind (marks_from count marks) count q ∙ ap (behind count) (get_from marks count q) ∙ behind_from count (map.get marks q) ∙ sym (get_behind marks count q))
 
 -- they lie in the list of what is left
 pub lie_behind : (n : ℕ) (marks : Marks) → LieIn n marks → LieIn (n - 1) (marks_behind 1 marks)

@@ -13,6 +13,7 @@ mod HeadlineLemmas
 mod InsertionLemmas
 mod KeptLemmas
 mod LineLemmas
+mod ListedLemmas
 mod LoadLemmas
 mod MarkLemmas
 mod NetLemmas

@@ -28,7 +28,7 @@ same_truth false false f g = refl
 pub order_apart : IsAntisymmetric order
 order_apart = slice_cmp-IsAntisymmetric nat_cmp-IsAntisymmetric
 
-equal_of : (r : Ordering) → is_eq r ≡ true → r ≡ Equal
+pub equal_of : (r : Ordering) → is_eq r ≡ true → r ≡ Equal
 equal_of Less e = absurd (true≢false (sym e))
 equal_of Equal e = refl
 equal_of Greater e = absurd (true≢false (sym e))

@@ -3,7 +3,7 @@ ghost use Rattle.std.specs.Prelude.{◌≡◌, ℕ, List, ◌+◌, ◌≤◌, �
 ghost use Rattle.std.specs.FinSet as set;
 ghost use Rattle.std.specs.List.{AllByRecursion, concat};
 ghost use Rattle.rdf_dataset.specs.State.{Begins, empty_state, IsSound, State, net_between};
-ghost use Rattle.rdf_session.specs.Depth.{IsDepth, greatest_depth, is_past};
+ghost use Rattle.rdf_session.specs.Depth.{greatest_depth, is_past};
 ghost use Rattle.rdf_session.specs.Documents.{IsDocument};
 ghost use Rattle.rdf_session.specs.GivesBack.{IsWholeSession};
 ghost use Rattle.rdf_session.specs.History.{marks_behind, nothing};
@@ -359,7 +359,7 @@ impl Keeper {
             × IsTextOf (now self.now) text × (out.new.items ≡ out.old.items ++ text)) }
         ensures err { OnErr result (out.new.items ≡ out.old.items) }
     {
-        save(self.alloc, &self.dataset, out)
+        save(&self.dataset, out)
     }
 
     /// The names of the graphs now, sorted, those of empty graphs too.
@@ -411,7 +411,6 @@ fn forget_oldest(
     marks: &mut Marks,
     cursor: &mut usize,
 )
-    requires { IsDepth depth }
     ensures entries { entries.new.items ≡
         cond (is_past depth cursor.old) (drop 1 entries.old.items) entries.old.items }
     ensures marks { marks.new ≡
@@ -423,7 +422,7 @@ fn forget_oldest(
     };
     if *cursor > depth {
         entries.pop_front();
-        marks.fall(depth);
+        marks.fall();
         *cursor -= 1;
     }
 }

@@ -12,6 +12,7 @@ mod law;
 mod lines;
 mod load;
 mod marks;
+mod places;
 mod query;
 mod saved;
 mod shared_quads;

@@ -1,39 +1,36 @@
 //! Marks: places in a history by name.
 ghost use Rattle.std.specs.Prelude.{◌≡◌, ◌<◌, ◌≤◌, ◌^◌, OnOk, OnErr};
 ghost use Rattle.std.specs.FinMap as marks;
-ghost use Rattle.rdf_session.specs.Depth.{greatest_depth};
 ghost use Rattle.rdf_session.specs.History.{marks_behind, marks_upto};
 
+use crate::places::Places;
 use std::alloc::{AllocError, Global};
-use std::collections::BTreeMap;
 use std::marker::Model;
+
+// So often a first place goes before the places are counted from nought again.
+const MOST_GONE: usize = 1 << 62;
 
 /// Places by name, each name once.
 #[derive(Drop)]
 pub struct Marks {
-    // each so many places further on than it is; those before that place are gone
-    places: BTreeMap<Vec<u8>, usize>,
+    // each so many places further on than it is; none lies before that place
+    places: Places,
     gone: usize,
-    // none lies past it
-    greatest: usize,
-    alloc: Global,
 }
 
 impl Model for Marks {
     ghost use Rattle.std.specs.Coded.{coded_list, coded_ℕ};
     ghost use Rattle.std.specs.FinMap as map;
-    ghost use Rattle.std.specs.Prelude.{◌≤◌};
-    ghost use Rattle.rdf_session.specs.Depth.{greatest_depth};
-    ghost use Rattle.rdf_session.specs.History.{Marks as Places, marks_behind};
-    ghost use Rattle.rdf_session.specs.Inside.Marks.{AreUpto, marks_of};
+    ghost use Rattle.std.specs.Prelude.{◌<◌, ◌^◌};
+    ghost use Rattle.rdf_session.specs.History.{Marks as Seen, marks_behind};
 
-    ghost Value = { Places };
+    ghost Value = { Seen };
 
     ghost coded = { map.code (coded_list coded_ℕ) coded_ℕ };
 
-    ghost view = { λ m. marks_behind m.gone (marks_of m.places.entries) };
+    ghost view = { λ m. marks_behind m.gone m.places };
 
-    ghost invariant = { λ m. AreUpto m.greatest m.places.entries × (m.gone ≤ greatest_depth) };
+    ghost invariant = { λ m. m.gone < 2 ^ 62 };
 }
 
 impl Marks {
@@ -42,10 +39,8 @@ impl Marks {
         ensures { result ≡ marks.empty }
     {
         Marks {
-            places: BTreeMap::new(alloc),
+            places: Places::new(alloc),
             gone: 0,
-            greatest: 0,
-            alloc,
         }
     }
 
@@ -53,7 +48,7 @@ impl Marks {
     pub fn place_of(&self, name: &[u8]) -> Option<usize>
         ensures { result ≡ marks.get self.now name.now }
     {
-        self.places.get(name)?.checked_sub(self.gone)
+        self.places.place_of(name)?.checked_sub(self.gone)
     }
 
     /// Puts the name at the place, and nowhere else.
@@ -65,43 +60,28 @@ impl Marks {
         ensures ok { OnOk result (self.new ≡ marks.insert self.old name.now place) }
         ensures err { OnErr result (self.new ≡ self.old) }
     {
-        let name = Vec::from_slice(self.alloc, name)?;
-        let place = place + self.gone;
-        self.places.insert(name, place)?;
-        self.greatest = self.greatest.max(place);
-        Ok(())
+        self.places.put(name, place + self.gone)
     }
 
-    /// Drops the marks past the place. It looks at them only where there may be some.
+    /// Drops the marks past the place. It looks at no others, and takes no memory.
     pub fn keep_through(&mut self, place: usize)
         requires { place < 2 ^ 63 }
         ensures { self.new ≡ marks_upto place self.old }
     {
-        let last = place + self.gone;
-        if self.greatest > last {
-            self.places.retain(|_, at| *at <= last);
-            self.greatest = last;
-        }
+        self.places.keep_through(place + self.gone);
     }
 
-    /// Drops the marks at the first place, and lowers all others by one. It takes no memory, and looks
-    /// at them once in so many calls: so no more are held than were put in twice as many.
-    pub fn fall(&mut self, calls: usize)
-        requires { calls ≤ greatest_depth }
+    /// Drops the marks at the first place, and lowers all others by one. It takes no memory, and looks only at those that
+    /// it drops, but for once in 2^62 calls.
+    pub fn fall(&mut self)
         ensures { self.new ≡ marks_behind 1 self.old }
     {
-        let gone = self.gone + 1;
-        if gone < calls {
-            self.gone = gone;
-            return;
+        self.gone += 1;
+        self.places.keep_from(self.gone);
+        if self.gone == MOST_GONE {
+            self.places.lower(self.gone);
+            self.gone = 0;
         }
-        self.places.retain(|_, at| *at >= gone);
-        self.places.retain(|_, at| {
-            *at = at.saturating_sub(gone);
-            true
-        });
-        self.gone = 0;
-        self.greatest = self.greatest.saturating_sub(gone);
     }
 
     /// Drops all.
@@ -110,6 +90,5 @@ impl Marks {
     {
         self.places.clear();
         self.gone = 0;
-        self.greatest = 0;
     }
 }

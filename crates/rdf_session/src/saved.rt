@@ -5,19 +5,19 @@ ghost use Rattle.rdf_session.specs.Inside.Saving.{TellsStateFault};
 ghost use Rattle.rdf_session.specs.Saved.{IsTextOf};
 
 use rdf_dataset::{Dataset, Source};
-use rdf_lines::{StateFault, StateText, read_state, write_state};
+use rdf_lines::{StateFault, StateText, read_state, write_sorted_state};
 use rdf_terms::NoMemory;
 use std::alloc::Global;
 
 /// Appends the state text of the dataset; a refusal leaves the vector as it was.
-pub(crate) fn save(alloc: Global, dataset: &Dataset, out: &mut Vec<u8>) -> Result<(), NoMemory>
+pub(crate) fn save(dataset: &Dataset, out: &mut Vec<u8>) -> Result<(), NoMemory>
     ensures ok { OnOk result ((text : List ℕ)
         × IsTextOf dataset.now text × (out.new.items ≡ out.old.items ++ text)) }
     ensures err { OnErr result (out.new.items ≡ out.old.items) }
 {
     let names = dataset.names_sorted()?;
     let quads = dataset.quads()?;
-    write_state(alloc, dataset.next_blank(), &names, &quads, out)
+    write_sorted_state(dataset.next_blank(), &names, &quads, out)
 }
 
 // The dataset of what a state text says.

@@ -44,7 +44,7 @@ module _ {K : Type 0} {R : K → K → Ordering} (o : IsTotalOrder R) (apart : I
       at_most true m n h = omega arith
       at_most false m n h = omega arith
 
-  once_tail : (x : K) (xs : List K) → length (x ∷ xs) ≡ set.len (set.from_list {R = R} (x ∷ xs)) → (set.contains (set.from_list {R = R} xs) x ≡ false) × (length xs ≡ set.len (set.from_list {R = R} xs))
+  pub once_tail : (x : K) (xs : List K) → length (x ∷ xs) ≡ set.len (set.from_list {R = R} (x ∷ xs)) → (set.contains (set.from_list {R = R} xs) x ≡ false) × (length xs ≡ set.len (set.from_list {R = R} xs))
   once_tail x xs h = by (set.contains (set.from_list {R = R} xs) x) (set.len (set.from_list {R = R} xs)) (length xs) (len_le xs) (omega arith ∙ h ∙ len-insert o (set.from_list xs) x)
     where
       by : (b : Bool) (m n : ℕ) → m ≤ n → n + 1 ≡ cond b m (m + 1) → (b ≡ false) × (n ≡ m)

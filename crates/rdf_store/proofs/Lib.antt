@@ -2,7 +2,9 @@ mod ImageLemmas
 mod ListLemmas
 mod ShownLemmas
 mod NumberLemmas
+mod OrderLemmas
 mod PatternLemmas
+mod RankLemmas
 mod ResultLemmas
 mod GrowthLemmas
 mod StoreLemmas

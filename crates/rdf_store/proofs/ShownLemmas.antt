@@ -1,6 +1,6 @@
 -- Lists of what a store shows, by the numbers that its sets list.
 use Rattle.std.proofs.Common.{◌≡◌, ℕ, ◌<◌, zero, suc, Bool, true, List, [], ◌∷◌, ◌++◌, map, length, refl, sym, ap, subst, ◌∙◌, arith, append-nil, get_or}
-use Rattle.std.specs.Prelude.{All, IsTrue}
+use Rattle.std.specs.Prelude.{All, IsPermutation, IsSorted, IsTrue}
 use Rattle.std.proofs.lemmas.List.{length-map}
 use Rattle.std.proofs.lemmas.List.Elements.{All-map}
 use Rattle.std.specs.declared.cmp.Ordering.{Ordering}
@@ -17,7 +17,9 @@ use Rattle.rdf_orders.specs.Quads.{IdQuad, id_quad_cmp, key_in, quad_of}
 use Rattle.rdf_orders.specs.Contents.{Contents, ListsKeys, ListsIds}
 use Rattle.rdf_orders.specs.Runs.{AppendsKeysOnce}
 use Rattle.rdf_orders.proofs.CallerLemmas.{id_quad_cmp_total, id_quad_cmp-IsAntisymmetric, contains_kept, first_of_both, either_first, either_second}
-use Rattle.rdf_terms.specs.Lists.{AppendsOnce, ListsOnce}
+use Rattle.rdf_terms.specs.Lists.{AppendsOnce, ListsOnce, ListsSorted}
+use Rattle.rdf_terms.specs.OrderLaws.{quad_cmp_total, quad_cmp-IsAntisymmetric}
+use Rattle.rdf_store.proofs.OrderLemmas.{listed_in_order}
 use Rattle.rdf_store.specs.Stored.{Stored}
 use Rattle.rdf_store.specs.Inside.Numbers.{AreNumbersOf, HasTerms, HaveTerms, shown, parts_at, parts_of, term_at}
 use Rattle.rdf_store.proofs.ImageLemmas.{eq_of_same}
@@ -63,6 +65,11 @@ module _ (table : List Term) (c : Contents) (s : Stored) (kept : HaveTerms table
       appended = e ∙ ap (λ ks. old ++ ks) (ap (map (parts_of table)) l.are_keys ∙ parts_of_keys table l.found);
       each_once = subst (λ (v : Stored). ListsOnce v.quads (map (parts_at table) l.found)) is (quads_listed table c kept once l.found l.sorted.lists);
     }
+
+    pub quads_in_order : (keys : List (List ℕ)) (quads : List QuadParts) → ListsKeys c.quads keys → IsPermutation (map (parts_of table) keys) quads → IsSorted quad_cmp quads → ListsSorted s.quads quads
+    quads_in_order keys quads l moved sorted =
+        let a = quads_appended keys [] (map (parts_of table) keys) l refl in
+        listed_in_order quad_cmp_total quad_cmp-IsAntisymmetric s.quads (map (parts_of table) keys) quads (subst (ListsOnce s.quads) (sym a.appended) a.each_once) moved sorted
 
     pub names_appended : (numbers : List ℕ) (old new : List Term) → ListsIds c.names numbers → new ≡ old ++ map (term_at table) numbers → AppendsOnce s.names old new
     names_appended numbers old new l e = record {

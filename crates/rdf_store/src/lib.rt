@@ -9,6 +9,7 @@
 mod look_ups;
 mod numbers;
 mod pattern;
+mod ranks;
 mod store;
 
 pub use store::Store;

@@ -3,12 +3,13 @@ ghost use Rattle.std.specs.Prelude.{◌≡◌, ◌+◌, ◌++◌, ◌∷◌, [],
 ghost use Rattle.std.specs.FinSet as set;
 ghost use Rattle.rdf_terms.specs.Table.{IsIdOf};
 ghost use Rattle.rdf_orders.specs.Quads.{quad_of};
-ghost use Rattle.rdf_terms.specs.Lists.{AppendsOnce};
+ghost use Rattle.rdf_terms.specs.Lists.{AppendsOnce, ListsSorted};
 ghost use Rattle.rdf_store.specs.Stored.{matches};
 ghost use Rattle.rdf_store.specs.Inside.Numbers.{HasTerms, parts_of, term_at};
 
 use crate::numbers::quad_from;
 use crate::pattern::{Pattern, pattern_of};
+use crate::ranks::quads_in_order;
 use crate::store::Store;
 use rdf_orders::Key;
 use rdf_terms::{
@@ -58,8 +59,12 @@ fn append_all(table: &TermTable, keys: &[Key], out: &mut Vec<Quad>) -> Result<()
     Ok(())
 }
 
-// Appends the quads that have the keys in `Spo` of a tree, or changes nothing.
-fn append_tree(table: &TermTable, keys: &BTreeSet<Key>, out: &mut Vec<Quad>) -> Result<(), NoMemory>
+/// Appends the quads that have the keys in `Spo` of a tree, or changes nothing.
+pub(crate) fn append_tree(
+    table: &TermTable,
+    keys: &BTreeSet<Key>,
+    out: &mut Vec<Quad>,
+) -> Result<(), NoMemory>
     requires { All (λ key. HasTerms table.now (quad_of key)) keys.now.keys }
     ensures ok { OnOk result (out.new.items
         ≡ out.old.items ++ map (parts_of table.now) keys.now.keys) }
@@ -101,6 +106,19 @@ impl Store {
     {
         terms_are_held_once(&self.table);
         append_tree(&self.table, self.sets.keys(), out)
+    }
+
+    /// The quads, each once, in order. Where the table of terms isn't much longer than they are, each
+    /// term is compared with others once for all quads whose graph, subject or predicate it is.
+    ///
+    /// # Errors
+    /// [`NoMemory`] where memory is wanting.
+    pub fn quads_sorted(&self) -> Result<Vec<Quad>, NoMemory>
+        ensures { IfOk result (λ quads. ListsSorted self.now.quads quads.items) }
+    {
+        terms_are_held_once(&self.table);
+        let quads = quads_in_order(self.alloc, &self.table, self.sets.keys())?;
+        Ok(quads)
     }
 
     /// Appends each graph name once, in any order.

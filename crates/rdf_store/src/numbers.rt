@@ -9,7 +9,7 @@ use rdf_terms::{GraphName, NoMemory, Quad, Term, TermId, TermTable, terms_are_he
 use std::alloc::Global;
 
 /// The default graph's number. No table holds so many terms.
-const DEFAULT: u64 = u64::MAX;
+pub(crate) const DEFAULT: u64 = u64::MAX;
 
 /// The number of a term, where the table holds it.
 pub(crate) fn find_term(table: &TermTable, term: &Term) -> Option<u64>

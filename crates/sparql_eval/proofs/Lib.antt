@@ -8,3 +8,4 @@ mod QuadLemmas
 mod ResultLemmas
 mod SetLemmas
 mod TemplateLemmas
+mod UnreadLemmas

@@ -1,3 +1,4 @@
 -- What only private functions speak of.
 pub mod Exchanges
 pub mod Staging
+pub mod Unread

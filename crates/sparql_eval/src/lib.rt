@@ -14,6 +14,7 @@ mod operations;
 mod quads;
 mod request;
 mod template;
+mod unread;
 
 pub use fault::ApplyFault;
 pub use laws::{

@@ -1,6 +1,8 @@
-//! What a request makes of what a source holds, as a net. Where one operation says all, as those of an
-//! editor do, no view is staged: terms that it brings are numbered by whoever commits the net, and not before.
-ghost use Rattle.std.specs.Prelude.{◌≡◌, [], ◌∷◌, IfErr, IfOk};
+//! What a request makes of what a source holds, as a net. A view is staged for operations whose outcome a later one
+//! reads, and for no others, such as those of an editor: terms that these bring are numbered by whoever commits the net,
+//! and not before.
+ghost use Rattle.std.specs.Prelude.{◌≡◌, [], ◌∷◌, ◌++◌, IfErr, IfOk};
+ghost use Rattle.sparql_eval.specs.Inside.Unread.{AreUnread};
 ghost use Rattle.sparql_eval.specs.Nets.{IsNetOf};
 ghost use Rattle.sparql_eval.specs.Operations.{Tells, steps};
 ghost use Rattle.sparql_trees.specs.declared.operation.Operation.TheVariants.{DeleteData, InsertData, Modify as modify};
@@ -8,7 +10,8 @@ ghost use Rattle.sparql_trees.specs.declared.operation.Operation.TheVariants.{De
 use crate::fault::ApplyFault;
 use crate::modify::{Exchange, exchange_of};
 use crate::operations::copies;
-use crate::request::apply_with;
+use crate::request::apply_each;
+use crate::unread::{net_of_unread, unread_from};
 use rdf_dataset::{Net, Source, Staged, sources_are_sound};
 use rdf_terms::Vocabulary;
 use sparql_trees::{Data, GroundData, Modify, Operation, Request};
@@ -59,24 +62,67 @@ fn net_of_modify<S: Source>(
     Ok(Net::of_exchange(alloc, under, gone, blanks, come)?)
 }
 
-// Any request: its operations act on a staged view.
-fn net_by_staging<S: Source>(
+// The net of operations of which none reads what one before it leaves. Where there is one, its quads are put in order at
+// once.
+fn net_of_last<S: Source>(
     alloc: Global,
     vocabulary: &Vocabulary,
-    request: &Request,
+    operations: &[Operation],
     under: &S,
 ) -> Result<Net, ApplyFault>
-    ensures made { IfOk result (IsNetOf (S.contents under.now) request.now.operations) }
-    ensures refused { IfErr result
-        (Tells (steps (S.contents under.now) request.now.operations)) }
+    requires { AreUnread operations.now }
+    ensures made { IfOk result (IsNetOf (S.contents under.now) operations.now) }
+    ensures refused { IfErr result (Tells (steps (S.contents under.now) operations.now)) }
 {
-    let mut staged = Staged::over(alloc, under);
-    apply_with(alloc, vocabulary, request, &mut staged)?;
-    Ok(staged.into_net()?)
+    match operations {
+        [Operation::InsertData(inserted)] => net_of_data(alloc, inserted, under),
+        [Operation::DeleteData(deleted)] => net_of_deletions(alloc, deleted, under),
+        [Operation::Modify(operation)] => net_of_modify(alloc, vocabulary, operation, under),
+        _ => net_of_unread(alloc, vocabulary, operations, under),
+    }
 }
 
-/// The net from what the source holds to what the operations of a request make of it. Where there is one
-/// operation, on quads, no view is staged.
+// The net of operations that act on a staged view, and then of those whose outcome none reads.
+fn net_in_parts<S: Source>(
+    alloc: Global,
+    vocabulary: &Vocabulary,
+    read: &[Operation],
+    last: &[Operation],
+    under: &S,
+) -> Result<Net, ApplyFault>
+    requires { AreUnread last.now }
+    ensures made { IfOk result (IsNetOf (S.contents under.now) (read.now ++ last.now)) }
+    ensures refused { IfErr result (Tells (steps (S.contents under.now) (read.now ++ last.now))) }
+{
+    if read.is_empty() {
+        return net_of_last(alloc, vocabulary, last, under);
+    }
+    let mut staged = Staged::over(alloc, under);
+    apply_each(alloc, vocabulary, read, &mut staged)?;
+    if last.is_empty() {
+        return Ok(staged.into_net()?);
+    }
+    let after = net_of_last(alloc, vocabulary, last, &staged)?;
+    Ok(staged.into_net()?.joined(after)?)
+}
+
+// The net of any operations. Only those are staged whose outcome a later one reads.
+fn net_of_each<S: Source>(
+    alloc: Global,
+    vocabulary: &Vocabulary,
+    operations: &[Operation],
+    under: &S,
+) -> Result<Net, ApplyFault>
+    ensures made { IfOk result (IsNetOf (S.contents under.now) operations.now) }
+    ensures refused { IfErr result (Tells (steps (S.contents under.now) operations.now)) }
+{
+    let (read, last) = operations.split_at(unread_from(operations));
+    net_in_parts(alloc, vocabulary, read, last, under)
+}
+
+/// The net from what the source holds to what the operations of a request make of it. Of several operations only
+/// those are staged whose outcome a later one reads: that of data, and of a last DELETE/INSERT before it, is a net at
+/// once.
 ///
 /// # Errors
 /// Those of [`apply`](crate::apply).
@@ -90,10 +136,5 @@ pub fn net_of_request<S: Source>(
     ensures refused { IfErr result
         (Tells (steps (S.contents under.now) request.now.operations)) }
 {
-    match request.operations.as_slice() {
-        [Operation::InsertData(inserted)] => net_of_data(alloc, inserted, under),
-        [Operation::DeleteData(deleted)] => net_of_deletions(alloc, deleted, under),
-        [Operation::Modify(operation)] => net_of_modify(alloc, vocabulary, operation, under),
-        _ => net_by_staging(alloc, vocabulary, request, under),
-    }
+    net_of_each(alloc, vocabulary, request.operations.as_slice(), under)
 }

@@ -34,6 +34,26 @@ fn act<S: Source>(
     Ok(perform(alloc, operation, staged)?)
 }
 
+/// Lets operations act on a staged view in their order.
+///
+/// # Errors
+/// Those of [`apply`].
+pub(crate) fn apply_each<S: Source>(
+    alloc: Global,
+    vocabulary: &Vocabulary,
+    operations: &[Operation],
+    staged: &mut Staged<'_, S>,
+) -> Result<(), ApplyFault>
+    ensures leads { OnOk result (steps staged.old.now operations.now ≡ Ok staged.new.now) }
+    ensures refused { IfErr result (λ fault. Tells (steps staged.old.now operations.now) fault) }
+    ensures beneath { staged.new.under ≡ staged.old.under }
+{
+    for operation in operations {
+        act(alloc, vocabulary, operation, staged)?;
+    }
+    Ok(())
+}
+
 /// Lets the operations of a request act on a staged view in their order.
 ///
 /// # Errors
@@ -71,8 +91,5 @@ pub fn apply_with<S: Source>(
         (λ fault. Tells (steps staged.old.now request.now.operations) fault) }
     ensures beneath { staged.new.under ≡ staged.old.under }
 {
-    for operation in request.operations.as_slice() {
-        act(alloc, vocabulary, operation, staged)?;
-    }
-    Ok(())
+    apply_each(alloc, vocabulary, request.operations.as_slice(), staged)
 }

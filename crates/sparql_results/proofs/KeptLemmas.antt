@@ -12,3 +12,21 @@ pub kept_in_loop : (old start ys mid zs more new : List ℕ) → take (length ol
     → take (length more) new ≡ more → take (length old) new ≡ old
 kept_in_loop old start ys mid zs more new begins is_mid is_more kept =
     kept_through old start new begins (kept_on start (ys ++ zs) more new (is_more ∙ ap (λ (t : List ℕ). t ++ zs) is_mid ∙ append_assoc start ys zs) kept)
+
+-- the same over two steps, and over three
+pub kept_over_two : (old xs ys a b new : List ℕ) → a ≡ old ++ xs → b ≡ a ++ ys → take (length b) new ≡ b → take (length old) new ≡ old
+kept_over_two old xs ys a b new first second kept = kept_on old xs a new first (kept_on a ys b new second kept)
+
+pub kept_over_three : (old xs ys zs a b d new : List ℕ) → a ≡ old ++ xs → b ≡ a ++ ys → d ≡ b ++ zs → take (length d) new ≡ d → take (length old) new ≡ old
+kept_over_three old xs ys zs a b d new first second third kept = kept_over_two old xs ys a b new first second (kept_on b zs d new third kept)
+
+-- ---- what was written, step by step
+
+pub in_three : (old xs ys zs a b new : List ℕ) → a ≡ old ++ xs → b ≡ a ++ ys → new ≡ b ++ zs → new ≡ old ++ ((xs ++ ys) ++ zs)
+in_three old xs ys zs a b new first second third =
+    let front : b ≡ old ++ (xs ++ ys) = second ∙ ap (λ (t : List ℕ). t ++ ys) first ∙ append_assoc old xs ys in
+    third ∙ ap (λ (t : List ℕ). t ++ zs) front ∙ append_assoc old (xs ++ ys) zs
+
+pub in_four : (old xs ys zs us a b d new : List ℕ) → a ≡ old ++ xs → b ≡ a ++ ys → d ≡ b ++ zs → new ≡ d ++ us → new ≡ old ++ (((xs ++ ys) ++ zs) ++ us)
+in_four old xs ys zs us a b d new first second third fourth =
+    fourth ∙ ap (λ (t : List ℕ). t ++ us) (in_three old xs ys zs a b d first second third) ∙ append_assoc old ((xs ++ ys) ++ zs) us

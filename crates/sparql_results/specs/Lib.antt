@@ -1,2 +1,7 @@
+pub mod CsvText
+pub mod FormLaws
+pub mod Formats
+pub mod JsonReading
+pub mod JsonText
 pub mod ResultsText
 pub mod RowLaws

@@ -1,10 +1,7 @@
 use Rattle.std.proofs.Common.{subst}
 use Rattle.rdf_dataset.specs.State.{State}
 use Rattle.rdf_terms.specs.Lists.{ListsSorted}
-use Rattle.rdf_dataset.proofs.StoredLemmas.{lists_gained}
 use Rattle.rdf_dataset.proofs.dataset.Dataset.quads.Goals as goal
 
 pub returns : goal.returns
-returns c =
-    subst (λ (s : State). ListsSorted s.quads c.in_order.result.items) c.self.view_is
-    (c.in_order.ensures c.self.inside.store.quads (lists_gained c.self.inside.store.quads _ _ c.in_ok-append_quads.ensures.ok c.new-quads.ensures.items))
+returns c = subst (λ (s : State). ListsSorted s.quads c.in_ok-quads.quads.items) c.self.view_is c.in_ok-quads.ensures

@@ -6,7 +6,7 @@ pub returns-clause-ok : goal.returns-clause-ok
 returns-clause-ok c =
     let names = c.in_ok-append_names.ensures.ok in
     on_ok_weaker c.write_sorted.result (λ quads.
-    written c.args.out.now.items c.extend_from_slice.new.self.items c.append_number.new.out.items c.push.new.self.items c.append_names.new.out.items c.write_sorted.new.out.items
+    written c.args.out.now.items c.append_head.new.out.items c.append_names.new.out.items c.write_sorted.new.out.items
     quads.0 c.args.next c.args.names.now names.0 c.args.quads.now
-    c.in_ok-extend_from_slice.ensures.items c.in_ok-append_number.ensures.ok c.in_ok-push.ensures.items names.3 quads.2
+    c.in_ok-append_head.ensures.ok names.3 quads.2
     c.requires.names_once names.1 names.2 c.requires.quads_once quads.1) c.write_sorted.ensures.ok

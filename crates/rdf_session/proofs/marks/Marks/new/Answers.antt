@@ -3,4 +3,4 @@ use Rattle.rdf_session.proofs.BehindLemmas.{marks_behind_nothing}
 use Rattle.rdf_session.proofs.marks.Marks.new.Goals as goal
 
 pub returns : goal.returns
-returns c = rw c.new.ensures.empty (marks_behind_nothing map.empty)
+returns c = rw c.new.ensures (marks_behind_nothing map.empty)
