@@ -78,3 +78,9 @@ pub record HoldsJust (p : Pattern) (b : BasicGraphPattern) : Type 0 where
 pub record HoldsOnly (p : Pattern) (x : Member) : Type 0 where
   pub member : p.members ≡ x ∷ []
   pub filters : p.filters ≡ []
+
+-- the member is MINUS of just this basic graph pattern
+pub record RemovesJust (x : Member) (b : BasicGraphPattern) : Type 0 where
+  pub group : Pattern
+  pub member : x ≡ m.Minus group
+  pub holds : HoldsJust group b

@@ -1,19 +1,22 @@
 -- The steps of the evaluator: every member of a group is found under each row so far (SPARQL 1.1 Query, section 18.6).
 use Rattle.std.specs.Prelude.{◌≡◌, ℕ, zero, suc, Bool, true, false, ◌&&◌, List, [], ◌∷◌, length, Option, Some, None, is_none, map, filter, nat_eq, zip, not}
-use Rattle.std.specs.List.{flat_map, list_all, fold}
+use Rattle.std.specs.List.{flat_map, list_all, list_any, fold}
 use Rattle.rdf_terms.specs.declared.term.Term.{Term}
 use Rattle.rdf_terms.specs.declared.quad.GraphName.{GraphName}
 use Rattle.rdf_terms.specs.declared.quad.GraphName.TheVariants.{Named}
 use Rattle.rdf_dataset.specs.State.{State}
 use Rattle.sparql_values.specs.Mapping.{Variables, Mapping, same_value, single, merge}
-use Rattle.sparql_algebra.specs.Algebra.{Algebra, Element, joined, optional, removed}
+use Rattle.sparql_trees.specs.declared.pattern.BasicGraphPattern.{BasicGraphPattern}
+use Rattle.sparql_algebra.specs.Algebra.{Algebra, basic, Element, joined, optional, removed}
 use Rattle.sparql_algebra.specs.Bags.{SameBag}
 use Rattle.sparql_algebra.specs.Listing.{Listing, Lists}
 use Rattle.sparql_algebra.specs.Solutions.{merges, or_alone, shares, satisfies}
 use Rattle.sparql_algebra.specs.Under.{agreeing, under, reads}
+use Rattle.sparql_solve.specs.declared.look_ups.Graphs.TheVariants.{One}
 use Rattle.sparql_solve.specs.declared.look_ups.LookUp.{LookUp}
+use Rattle.sparql_solve.specs.Matching.{has_column}
 use Rattle.sparql_solve.specs.Members.{AreSolutions, element_solutions}
-use Rattle.sparql_solve.specs.Sides.{found}
+use Rattle.sparql_solve.specs.Sides.{found, look_up_in}
 
 -- ---- rows
 
@@ -127,3 +130,11 @@ is_wide vs m = nat_eq (length m) (length vs)
 abbrev pub AreMade : Variables → State → GraphName → Mapping → Element → List Mapping → List Mapping → Type 0
 AreMade vs s g a k rows out =
     length a ≡ length vs → list_all (is_wide vs) rows ≡ true → AreSolutions s out (λ d. flat_map (made vs d g a k) rows)
+
+-- for each column of the variables whether a triple pattern of the look-ups has it
+abbrev pub own_columns : Variables → LookUp → List Bool
+own_columns vs l = flags_where (λ at. list_any (has_column at) l.places) (length vs)
+
+-- the rows are what MINUS of the basic graph pattern that is looked up makes of these
+abbrev pub AreLeft : Variables → State → LookUp → Mapping → List Mapping → List Mapping → Type 0
+AreLeft vs s l a rows out = (g : GraphName) (b : BasicGraphPattern) → l ≡ look_up_in vs (One g) b → AreMade vs s g a (removed (basic b)) rows out

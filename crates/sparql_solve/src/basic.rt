@@ -4,9 +4,11 @@ ghost use Rattle.std.specs.List.{list_any};
 ghost use Rattle.sparql_algebra.specs.Algebra.{basic};
 ghost use Rattle.sparql_algebra.specs.Solutions.{solutions};
 ghost use Rattle.sparql_solve.specs.Matching.{has_column, is_place_at};
+ghost use Rattle.sparql_solve.specs.Members.{AreSolutions};
+ghost use Rattle.sparql_solve.specs.Sides.{found};
 ghost use Rattle.sparql_solve.specs.Under.{AreUnder, flags_where, masked};
 
-use crate::look_ups::{Graphs, found_rows, look_up_in};
+use crate::look_ups::{Graphs, LookUp, found_rows, look_up_in};
 use crate::place::{Place, Places};
 use crate::rows::Row;
 use rdf_dataset::Source;
@@ -38,8 +40,12 @@ fn any_has(patterns: &[Places], at: usize) -> bool
     patterns.iter().any(|places| has_column(places, at))
 }
 
-// For each of so many columns whether one of the triple patterns has it.
-fn own_columns(alloc: Global, columns: usize, patterns: &[Places]) -> Result<Vec<bool>, NoMemory>
+/// For each of so many columns whether one of the triple patterns has it.
+pub(crate) fn own_columns(
+    alloc: Global,
+    columns: usize,
+    patterns: &[Places],
+) -> Result<Vec<bool>, NoMemory>
     ensures { IfOk result (λ out. out.items
         ≡ flags_where (λ at. list_any (has_column at) patterns.now) columns) }
 {
@@ -61,6 +67,22 @@ fn masked_rows(alloc: Global, rows: &[Row], flags: &[bool]) -> Result<Vec<Row>, 
     Ok(out)
 }
 
+/// What look-ups find under a row, in these columns alone.
+pub(crate) fn own_rows<S: Source>(
+    alloc: Global,
+    variables: &[Text],
+    source: &S,
+    look_up: &LookUp,
+    own: &[bool],
+    under: &Row,
+) -> Result<Vec<Row>, NoMemory>
+    ensures { IfOk result (λ out. AreSolutions (S.contents source.now) out.items
+        (λ d. map (masked own.now) (found variables.now d look_up.now under.now))) }
+{
+    let rows = found_rows(alloc, variables, source, look_up, under)?;
+    masked_rows(alloc, &rows, own)
+}
+
 /// A basic graph pattern: what is looked up under the row, without the columns that are the row's
 /// alone.
 pub(crate) fn basic_under<S: Source>(
@@ -75,7 +97,6 @@ pub(crate) fn basic_under<S: Source>(
         (λ d. solutions variables.now d graph.now (basic pattern.now))) }
 {
     let look_up = look_up_in(alloc, variables, Graphs::One(graph.copy()?), pattern)?;
-    let rows = found_rows(alloc, variables, source, &look_up, under)?;
     let own = own_columns(alloc, variables.len(), look_up.places.as_slice())?;
-    masked_rows(alloc, &rows, &own)
+    own_rows(alloc, variables, source, &look_up, &own, under)
 }

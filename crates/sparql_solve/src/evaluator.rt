@@ -1,6 +1,6 @@
 //! The evaluator: a group's members from left to right, each found under the rows so far (SPARQL
 //! 1.1 Query, section 18.6). Every function answers what is compatible with the row above it.
-ghost use Rattle.std.specs.Prelude.{◌≡◌, ◌&&◌, false, ◌∷◌, [], IfOk, IfSome, None, cond, length, map, replicate, take, ◌≤◌};
+ghost use Rattle.std.specs.Prelude.{◌≡◌, ◌&&◌, false, ◌∷◌, [], IfNone, IfOk, IfSome, IsPermutation, None, OnOk, cond, length, map, replicate, take, ◌≤◌};
 ghost use Rattle.std.specs.List.{flat_map, list_any};
 ghost use Rattle.rdf_terms.specs.declared.quad.GraphName.TheVariants.{Named};
 ghost use Rattle.rdf_terms.specs.declared.quad.GraphName.{GraphName};
@@ -15,12 +15,13 @@ use crate::basic::basic_under;
 use crate::counted::Counted;
 use crate::filters::filtered_rows;
 use crate::look_ups::{LookUp, is_named};
-use crate::members::{is_joined, is_removed, look_up_of};
+use crate::members::{is_joined, is_removed, look_up_of, removed_basic};
 use crate::names::{names_under, rows_of_names};
 use crate::rows::Row;
 use crate::shapes::{before_apart, group_reads};
 use crate::sharing::{asked_columns, gather, served_len, stops};
 use crate::sides::{Found, Made, asked, rows_beside, rows_looked_up, rows_served, rows_with};
+use crate::taken::rows_taken;
 use rdf_dataset::Source;
 use rdf_terms::{GraphName, NoMemory, Term, Text, Vocabulary};
 use sparql_trees::{Expression, Member, Pattern, VarOrIri};
@@ -96,6 +97,39 @@ fn direct_look_up<S: Source>(
         return Ok(None);
     }
     look_up_of(alloc, variables, graph, source, member)
+}
+
+// What a member makes of the first rows by look-ups under each of them, where it has such.
+fn made_directly<S: Source>(
+    alloc: Global,
+    variables: &[Text],
+    vocabulary: &Vocabulary,
+    graph: &GraphName,
+    source: &S,
+    looked: &Cell<u64>,
+    rows: &mut Vec<Row>,
+    member: &Member,
+    under: &Row,
+) -> Result<Option<Made>, NoMemory>
+    ensures gathered { OnOk result (IsPermutation rows.old.items rows.new.items) }
+    ensures made { IfOk result (λ found. IfSome found (λ m.
+        AreMade variables.now (S.contents source.now) graph.now under.now (element member.now)
+        (take m.done rows.new.items) m.rows.items)) }
+    ensures none { IfOk result (λ found. IfNone found (rows.new.items ≡ rows.old.items)) }
+{
+    if let Some(basic) = removed_basic(member) {
+        let made = rows_taken(
+            alloc, variables, graph, source, looked, rows, basic, under,
+        )?;
+        return Ok(Some(made));
+    }
+    let Some(look_up) = direct_look_up(alloc, variables, graph, source, member, under)? else {
+        return Ok(None);
+    };
+    let made = rows_looked_up(
+        alloc, variables, vocabulary, source, looked, &*rows, &look_up, member, under,
+    )?;
+    Ok(Some(made))
 }
 
 // A group: its members under its own filters, which are asked of its own rows.
@@ -186,11 +220,10 @@ pub(crate) fn rows_after<S: Source>(
     ensures { IfOk result (λ out. AreMade variables.now (S.contents source.now) graph.now under.now
         (element member.now) rows.items out.items) }
 {
-    let direct = direct_look_up(alloc, variables, graph, source, member, under)?;
-    if let Some(look_up) = direct {
-        let made = rows_looked_up(
-            alloc, variables, vocabulary, source, looked, &rows, &look_up, member, under,
-        )?;
+    let direct = made_directly(
+        alloc, variables, vocabulary, graph, source, looked, &mut rows, member, under,
+    )?;
+    if let Some(made) = direct {
         return with_the_rest(
             alloc, variables, vocabulary, graph, source, looked, &rows, made, member, under,
         );

@@ -5,7 +5,7 @@ ghost use Rattle.rdf_terms.specs.declared.quad.GraphName.{GraphName};
 ghost use Rattle.sparql_trees.specs.declared.pattern.BasicGraphPattern.{BasicGraphPattern};
 ghost use Rattle.sparql_algebra.specs.Algebra.{element, graph, translation};
 ghost use Rattle.sparql_algebra.specs.Solutions.{solutions};
-ghost use Rattle.sparql_solve.specs.Sides.{HoldsJust, HoldsOnly, lone_joined};
+ghost use Rattle.sparql_solve.specs.Sides.{HoldsJust, HoldsOnly, RemovesJust, lone_joined};
 ghost use Rattle.sparql_solve.specs.Members.{element_solutions};
 ghost use Rattle.sparql_solve.specs.Under.{IsLookUpOf, is_joined, is_removed};
 
@@ -69,6 +69,18 @@ fn lone_basic(pattern: &Pattern) -> Option<&BasicGraphPattern>
     };
     match member {
         Member::Basic(basic) => Some(basic),
+        _ => None,
+    }
+}
+
+/// The basic graph pattern that is all that MINUS holds.
+pub(crate) fn removed_basic(member: &Member) -> Option<&BasicGraphPattern>
+    ensures just { IfSome (option_copied result) (λ basic. RemovesJust member.now basic) }
+    ensures all { (basic : BasicGraphPattern) → RemovesJust member.now basic →
+        option_copied result ≡ Some basic }
+{
+    match member {
+        Member::Minus(pattern) => lone_basic(pattern),
         _ => None,
     }
 }

@@ -4,6 +4,7 @@ ghost use Rattle.std.specs.Prelude.{◌≡◌, ◌++◌, ◌≤◌, All, IfOk, O
 ghost use Rattle.std.specs.List.{AllByRecursion, flat_map, list_any};
 ghost use Rattle.sparql_algebra.specs.Bags.{SameBag};
 ghost use Rattle.sparql_algebra.specs.Solutions.{minuses, shares};
+ghost use Rattle.sparql_algebra.specs.Under.{agreeing};
 ghost use Rattle.sparql_solve.specs.Keys.{binds};
 ghost use Rattle.sparql_solve.specs.Parts.{both_bind, left_in, meets, meets_in};
 
@@ -132,6 +133,34 @@ pub(crate) fn minus(alloc: Global, left: &[Row], right: &[Row]) -> Result<Vec<Ro
     for group in &groups {
         let parts = met_parts(alloc, group, others.as_slice())?;
         append_left(alloc, group, parts.as_slice(), &mut out)?;
+    }
+    Ok(out)
+}
+
+// Whether the row is compatible with one of these rows and has a variable in common with it.
+fn meets_row(row: &Row, others: &[Row]) -> bool
+    ensures { result ≡ list_any (meets row.now) others.now }
+{
+    others
+        .iter()
+        .any(|other| row.is_compatible(other) && row.shares(other))
+}
+
+/// Minus, by comparing the rows of both sides; of that what is compatible with the row above.
+pub(crate) fn unmet_rows(
+    alloc: Global,
+    rows: &[Row],
+    others: &[Row],
+    under: &Row,
+) -> Result<Vec<Row>, NoMemory>
+    ensures { IfOk result (λ out. out.items ≡ agreeing (minuses rows.now others.now) under.now) }
+{
+    let mut out = Vec::new(alloc);
+    for row in rows {
+        if meets_row(row, others) || !under.is_compatible(row) {
+            continue;
+        }
+        out.push(row.copy(alloc)?)?;
     }
     Ok(out)
 }
