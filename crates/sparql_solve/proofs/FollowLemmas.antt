@@ -34,6 +34,7 @@ use Rattle.sparql_solve.specs.declared.look_ups.Graphs.{Graphs}
 use Rattle.sparql_solve.specs.declared.look_ups.Graphs.TheVariants.{One}
 use Rattle.sparql_solve.specs.declared.look_ups.LookUp.{LookUp}
 use Rattle.sparql_solve.specs.declared.place.Places.{Places}
+use Rattle.sparql_solve.specs.declared.sides.Made.{Made}
 use Rattle.sparql_solve.specs.Matching.{has_column, is_place_at, place_by, place_of, places_of}
 use Rattle.sparql_solve.specs.Sides.{look_up_in, tried, found}
 use Rattle.sparql_solve.specs.Members.{AreSolutions, element_solutions}
@@ -45,7 +46,7 @@ use Rattle.sparql_solve.proofs.SharedLemmas.{met_is, replicate_none, below_none,
 
 -- ---- lengths
 
-wide_from : (vs : Variables) (x : Mapping) → is_wide vs x ≡ true → length x ≡ length vs
+pub wide_from : (vs : Variables) (x : Mapping) → is_wide vs x ≡ true → length x ≡ length vs
 wide_from vs x h = eqb-true (length x) (length vs) h
 
 wide_to : (vs : Variables) (x : Mapping) → length x ≡ length vs → is_wide vs x ≡ true
@@ -149,23 +150,28 @@ module _ (vs : Variables) (s : State) where
       ap (sum_by f) e ∙ ap (λ b. sum_by f (cond b (empty_mapping vs ∷ []) [])) (sym (compatible_turn a (empty_mapping vs) ∙ compatible_empty (length vs) a))
       ∙ sym (SameBag-filter (compatible a) (basic_solutions vs (d.quads g) (record { triples = []; hidden = 0 })) (empty_mapping vs ∷ []) (empty_solutions vs (d.quads g)) f)
 
-  pub basic_follows : (g own : GraphName) (graphs : Graphs) (b : BasicGraphPattern) (patterns : List Places) (l : LookUp) (a : Mapping) (rows given out : List Mapping) (flags used : List Bool) →
-      graphs ≡ One own → own ≡ g → l ≡ look_up_in vs graphs b → AreSolutions s rows (λ d. found vs d l a) → patterns ≡ l.places →
-      flags ≡ flags_where (λ at. list_any (has_column at) patterns) (length vs) → given ≡ rows → used ≡ flags → out ≡ map (masked used) given →
+  -- the columns of a basic graph pattern
+  pub own_are : (graphs : Graphs) (b : BasicGraphPattern) (patterns : List Places) (l : LookUp) (flags : List Bool) → l ≡ look_up_in vs graphs b → patterns ≡ l.places →
+      flags ≡ flags_where (λ at. list_any (has_column at) patterns) (length vs) → flags ≡ flags_where (occurs vs b.triples) (length vs)
+  own_are graphs b patterns l flags el et ec =
+      ec ∙ ap (λ (ps : List Places). flags_where (λ at. list_any (has_column at) ps) (length vs)) (et ∙ (λ i. (el i).places))
+      ∙ flags_same (λ at. list_any (has_column at) (map (places_of vs) b.triples)) (occurs vs b.triples) (λ at. places_occur vs at b.triples) (length vs)
+
+  pub basic_follows : (g own : GraphName) (graphs : Graphs) (b : BasicGraphPattern) (patterns : List Places) (l : LookUp) (a : Mapping) (out : List Mapping) (flags used : List Bool) →
+      graphs ≡ One own → own ≡ g → l ≡ look_up_in vs graphs b → patterns ≡ l.places →
+      flags ≡ flags_where (λ at. list_any (has_column at) patterns) (length vs) → used ≡ flags → AreSolutions s out (λ d. map (masked used) (found vs d l a)) →
       AreUnder vs s a out (λ d. solutions vs d g (basic b))
-  basic_follows g own graphs b patterns l a rows given out flags used eg eo el h et ec ei eu e ea d k f =
+  basic_follows g own graphs b patterns l a out flags used eg eo el et ec eu h ea d k f =
       let S : List Mapping = basic_solutions vs (d.quads g) b in
       let C : List Bool = flags_where (occurs vs b.triples) (length vs) in
-      let is : used ≡ C = eu ∙ ec
-      ∙ ap (λ (ps : List Places). flags_where (λ at. list_any (has_column at) ps) (length vs)) (et ∙ (λ i. (el i).places))
-      ∙ flags_same (λ at. list_any (has_column at) (map (places_of vs) b.triples)) (occurs vs b.triples) (λ at. places_occur vs at b.triples) (length vs) in
-      let bag : SameBag rows (merges S a) = λ h2.
-      h d k h2 ∙ basic_look_up vs s g (m.Basic b) b graphs own l refl eg eo el d k a ea h2
+      let is : used ≡ C = eu ∙ own_are graphs b patterns l flags el et ec in
+      let bag : SameBag (found vs d l a) (merges S a) = λ h2.
+      basic_look_up vs s g (m.Basic b) b graphs own l refl eg eo el d k a ea h2
       ∙ ap (λ (x : Element). sum_by h2 (merges (element_solutions vs d g x) a)) (element-Basic b) in
       let wide : list_all (has_length (length vs)) (merges S a) ≡ true =
       merges_length (length vs) S a (solutions_length vs d g (basic b)) (length_to (length vs) a ea) in
-      ap (sum_by f) (e ∙ ap (λ (us : List Bool). map (masked us) given) is ∙ ap (map (masked C)) ei)
-      ∙ SameBag-map (masked C) rows (merges S a) bag f
+      h d k f ∙ ap (λ (us : List Bool). sum_by f (map (masked us) (found vs d l a))) is
+      ∙ SameBag-map (masked C) (found vs d l a) (merges S a) bag f
       ∙ sum_by-map f (masked C) (merges S a)
       ∙ sum_where (has_length (length vs)) (λ r. f (masked C r)) (λ r. f (cut (occurs vs b.triples) r))
       (λ r w. ap f (masked_cut (occurs vs b.triples) (length vs) r (length_from (length vs) r w))) (merges S a) wide
@@ -447,14 +453,14 @@ module _ (vs : Variables) (s : State) where
 
   -- ---- the cycle's steps
 
-  pub looked_up_follows : (g : GraphName) (a : Mapping) (k : Element) (rows one two before out : List Mapping) (n : ℕ) (o : Option LookUp) (l : LookUp) → one ≡ rows → two ≡ rows →
-      o ≡ Some l → IfSome o (λ u. IsLookUpOf vs s u (λ d. element_solutions vs d g k)) → IfSome o (λ _. is_removed k ≡ false) → AreSolutions s before (λ d. flat_map (made_by vs d l a k) (take n one)) →
-      (AreMade vs s g a k (take n two) before → AreMade vs s g a k two out) → AreMade vs s g a k rows out
-  looked_up_follows g a k rows one two before out n o l e1 e2 eo io so h r =
-      let is : IsLookUpOf vs s l (λ d. element_solutions vs d g k) = subst (λ (u : Option LookUp). IfSome u (λ v. IsLookUpOf vs s v (λ d. element_solutions vs d g k))) eo io in
-      let stays : is_removed k ≡ false = subst (λ (u : Option LookUp). IfSome u (λ _. is_removed k ≡ false)) eo so in
-      subst (λ (xs : List Mapping). AreMade vs s g a k xs out) e2
-      (r (subst (λ (xs : List Mapping). AreMade vs s g a k (take n xs) before) (e1 ∙ sym e2) (made_looked_up g a k (take n one) before l stays is h)))
+  pub direct_follows : (g : GraphName) (a : Mapping) (k : Element) (rows sorted given out : List Mapping) (o : Option Made) (m : Made) → IsPermutation rows sorted →
+      given ≡ sorted → o ≡ Some m → IfSome o (λ x. AreMade vs s g a k (take x.done sorted) x.rows.items) →
+      (AreMade vs s g a k (take m.done given) m.rows.items → AreMade vs s g a k given out) → AreMade vs s g a k rows out
+  direct_follows g a k rows sorted given out o m p e eo h r =
+      made_gathered g a k rows sorted out p
+      (subst (λ (xs : List Mapping). AreMade vs s g a k xs out) e
+      (r (subst (λ (xs : List Mapping). AreMade vs s g a k (take m.done xs) m.rows.items) (sym e)
+      (subst (λ (x : Option Made). IfSome x (λ y. AreMade vs s g a k (take y.done sorted) y.rows.items)) eo h))))
 
   pub gathered_follow : (g : GraphName) (a : Mapping) (k : Element) (rows sorted one two before out : List Mapping) (n : ℕ) → IsPermutation rows sorted → one ≡ sorted → two ≡ sorted →
       AreMade vs s g a k (take n one) before → (AreMade vs s g a k (take n two) before → AreMade vs s g a k two out) → AreMade vs s g a k rows out

@@ -13,6 +13,7 @@ pub mod NamedLemmas
 pub mod MemberLemmas
 pub mod SharedLemmas
 pub mod FollowLemmas
+pub mod TakenLemmas
 pub mod DistinctLemmas
 pub mod ResultLemmas
 pub mod KeyLemmas

@@ -161,7 +161,7 @@ just_is p b h =
     ∙ ap (λ (ms : List Member). group_of (map element ms)) h.member ∙ ap (extended empty_pattern) (element-Basic b)
 
 module _ (vs : Variables) (d : Listing) (p : Pattern) (b : BasicGraphPattern) (h : HoldsJust p b) where
-  just_bag : (g : GraphName) → SameBag (basic_solutions vs (d.quads g) b) (solutions vs d g (translation p))
+  pub just_bag : (g : GraphName) → SameBag (basic_solutions vs (d.quads g) b) (solutions vs d g (translation p))
   just_bag g f = sym (unit_bag vs d g (basic b) f) ∙ ap (λ A. sum_by f (solutions vs d g A)) (sym (just_is p b h))
 
 -- ---- look-ups

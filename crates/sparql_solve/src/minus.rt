@@ -4,7 +4,6 @@ ghost use Rattle.std.specs.Prelude.{◌≡◌, ◌++◌, ◌≤◌, All, IfOk, O
 ghost use Rattle.std.specs.List.{AllByRecursion, flat_map, list_any};
 ghost use Rattle.sparql_algebra.specs.Bags.{SameBag};
 ghost use Rattle.sparql_algebra.specs.Solutions.{minuses, shares};
-ghost use Rattle.sparql_algebra.specs.Under.{agreeing};
 ghost use Rattle.sparql_solve.specs.Keys.{binds};
 ghost use Rattle.sparql_solve.specs.Parts.{both_bind, left_in, meets, meets_in};
 
@@ -81,13 +80,17 @@ fn met_parts<'r>(
     Ok(parts)
 }
 
-// Whether the row is compatible with one of these and has a variable in common with it.
+// Whether the row is compatible with another one and has a variable in common with it.
+fn meets(row: &Row, other: &Row) -> bool
+    ensures { result ≡ meets row.now other.now }
+{
+    row.is_compatible(other) && row.shares(other)
+}
+
 fn meets_one(row: &Row, others: &[&Row]) -> bool
     ensures { result ≡ list_any (meets row.now) (map (λ r. r.now) others.now) }
 {
-    others
-        .iter()
-        .any(|other| row.is_compatible(other) && row.shares(other))
+    others.iter().any(|other| meets(row, other))
 }
 
 fn meets_in(row: &Row, part: &Part) -> bool
@@ -137,27 +140,23 @@ pub(crate) fn minus(alloc: Global, left: &[Row], right: &[Row]) -> Result<Vec<Ro
     Ok(out)
 }
 
-// Whether the row is compatible with one of these rows and has a variable in common with it.
 fn meets_row(row: &Row, others: &[Row]) -> bool
     ensures { result ≡ list_any (meets row.now) others.now }
 {
-    others
-        .iter()
-        .any(|other| row.is_compatible(other) && row.shares(other))
+    others.iter().any(|other| meets(row, other))
 }
 
-/// Minus, by comparing the rows of both sides; of that what is compatible with the row above.
+/// Minus, by comparing each row with each of the others.
 pub(crate) fn unmet_rows(
     alloc: Global,
     rows: &[Row],
     others: &[Row],
-    under: &Row,
 ) -> Result<Vec<Row>, NoMemory>
-    ensures { IfOk result (λ out. out.items ≡ agreeing (minuses rows.now others.now) under.now) }
+    ensures { IfOk result (λ out. out.items ≡ minuses rows.now others.now) }
 {
     let mut out = Vec::new(alloc);
     for row in rows {
-        if meets_row(row, others) || !under.is_compatible(row) {
+        if meets_row(row, others) {
             continue;
         }
         out.push(row.copy(alloc)?)?;

@@ -9,7 +9,7 @@ use crate::look_ups::{Graphs, LookUp, look_up_in};
 use crate::minus::unmet_rows;
 use crate::rows::Row;
 use crate::sharing::{gather, is_slow, served_len};
-use crate::sides::Made;
+use crate::sides::{Made, compatible_rows};
 use rdf_dataset::Source;
 use rdf_terms::{GraphName, NoMemory, Text};
 use sparql_trees::BasicGraphPattern;
@@ -37,12 +37,14 @@ fn first_left<S: Source>(
 {
     let columns = rows[0].masked(alloc, own)?;
     if columns.is_unbound() {
-        let rows = unmet_rows(alloc, &rows[..1], &Vec::new(alloc), under)?;
+        let left = unmet_rows(alloc, &rows[..1], &Vec::new(alloc))?;
+        let rows = compatible_rows(alloc, under, left)?;
         return Ok(Made { rows, done: 1 });
     }
     let done = served_len(&columns, rows, own);
     let found = own_rows(alloc, variables, source, look_up, own, &columns)?;
-    let rows = unmet_rows(alloc, &rows[..done], &found, under)?;
+    let left = unmet_rows(alloc, &rows[..done], &found)?;
+    let rows = compatible_rows(alloc, under, left)?;
     Ok(Made { rows, done })
 }
 
