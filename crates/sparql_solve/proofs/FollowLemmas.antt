@@ -453,6 +453,14 @@ module _ (vs : Variables) (s : State) where
 
   -- ---- the cycle's steps
 
+  pub directly_made : (g : GraphName) (a : Mapping) (k : Element) (rows given out : List Mapping) (n : ℕ) (o : Option LookUp) (l : LookUp) → given ≡ rows → o ≡ Some l →
+      IfSome o (λ u. IsLookUpOf vs s u (λ d. element_solutions vs d g k)) → IfSome o (λ _. is_removed k ≡ false) →
+      AreSolutions s out (λ d. flat_map (made_by vs d l a k) (take n given)) → AreMade vs s g a k (take n rows) out
+  directly_made g a k rows given out n o l e eo io so h =
+      let is : IsLookUpOf vs s l (λ d. element_solutions vs d g k) = subst (λ (u : Option LookUp). IfSome u (λ v. IsLookUpOf vs s v (λ d. element_solutions vs d g k))) eo io in
+      let stays : is_removed k ≡ false = subst (λ (u : Option LookUp). IfSome u (λ _. is_removed k ≡ false)) eo so in
+      subst (λ (xs : List Mapping). AreMade vs s g a k (take n xs) out) e (made_looked_up g a k (take n given) out l stays is h)
+
   pub direct_follows : (g : GraphName) (a : Mapping) (k : Element) (rows sorted given out : List Mapping) (o : Option Made) (m : Made) → IsPermutation rows sorted →
       given ≡ sorted → o ≡ Some m → IfSome o (λ x. AreMade vs s g a k (take x.done sorted) x.rows.items) →
       (AreMade vs s g a k (take m.done given) m.rows.items → AreMade vs s g a k given out) → AreMade vs s g a k rows out

@@ -1,6 +1,6 @@
 //! The evaluator: a group's members from left to right, each found under the rows so far (SPARQL
 //! 1.1 Query, section 18.6). Every function answers what is compatible with the row above it.
-ghost use Rattle.std.specs.Prelude.{◌≡◌, ◌&&◌, false, ◌∷◌, [], IfNone, IfOk, IfSome, IsPermutation, None, OnOk, cond, length, map, replicate, take, ◌≤◌};
+ghost use Rattle.std.specs.Prelude.{◌≡◌, ◌&&◌, false, ◌∷◌, [], IfOk, IfSome, IsPermutation, None, OnOk, cond, length, map, replicate, take, ◌≤◌};
 ghost use Rattle.std.specs.List.{flat_map, list_any};
 ghost use Rattle.rdf_terms.specs.declared.quad.GraphName.TheVariants.{Named};
 ghost use Rattle.rdf_terms.specs.declared.quad.GraphName.{GraphName};
@@ -115,7 +115,6 @@ fn made_directly<S: Source>(
     ensures made { IfOk result (λ found. IfSome found (λ m.
         AreMade variables.now (S.contents source.now) graph.now under.now (element member.now)
         (take m.done rows.new.items) m.rows.items)) }
-    ensures none { IfOk result (λ found. IfNone found (rows.new.items ≡ rows.old.items)) }
 {
     if let Some(basic) = removed_basic(member) {
         let made = rows_taken(
