@@ -117,9 +117,7 @@ fn made_directly<S: Source>(
         (take m.done rows.new.items) m.rows.items)) }
 {
     if let Some(basic) = removed_basic(member) {
-        let made = rows_taken(
-            alloc, variables, graph, source, looked, rows, basic, under,
-        )?;
+        let made = rows_taken(alloc, variables, graph, source, looked, rows, basic, under)?;
         return Ok(Some(made));
     }
     let Some(look_up) = direct_look_up(alloc, variables, graph, source, member, under)? else {

@@ -147,11 +147,7 @@ fn meets_row(row: &Row, others: &[Row]) -> bool
 }
 
 /// Minus, by comparing each row with each of the others.
-pub(crate) fn unmet_rows(
-    alloc: Global,
-    rows: &[Row],
-    others: &[Row],
-) -> Result<Vec<Row>, NoMemory>
+pub(crate) fn unmet_rows(alloc: Global, rows: &[Row], others: &[Row]) -> Result<Vec<Row>, NoMemory>
     ensures { IfOk result (λ out. out.items ≡ minuses rows.now others.now) }
 {
     let mut out = Vec::new(alloc);
