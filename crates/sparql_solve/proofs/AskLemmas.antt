@@ -247,7 +247,7 @@ module _ (vs : Variables) where
       let le : length vs ≤ length m = leb-true (length vs) (length m) h in
       le-leb (length vs) (length k) (omega (arith, le, e))
 
-  matches_columns : (quads : List QuadParts) (p : Places) (m : Mapping) → has_columns vs m ≡ true → list_all (has_columns vs) (matches_of quads p m) ≡ true
+  pub matches_columns : (quads : List QuadParts) (p : Places) (m : Mapping) → has_columns vs m ≡ true → list_all (has_columns vs) (matches_of quads p m) ≡ true
   matches_columns [] p m h = refl
   matches_columns (q ∷ quads) p m h = by_case (matched p m q) (matched_keeps p m q) (matches_columns quads p m h)
     where
@@ -304,7 +304,7 @@ module _ (vs : Variables) (s : State) (g : GraphName) (a : Mapping) (own : Graph
   pub grows_all : (d : Listing) (ps : List Places) (rows : List Mapping) → list_all (has_columns vs) rows ≡ true → Grows vs d g a own ms F ps ps rows rows
   grows_all d ps rows w = record { wide = w; same = refl }
 
-  grown_same : (d : Listing) (ps qs : List Places) (xs ys : List Mapping) → SameBag (matching (d.quads own) ps xs) (matching (d.quads own) qs ys) →
+  pub grown_same : (d : Listing) (ps qs : List Places) (xs ys : List Mapping) → SameBag (matching (d.quads own) ps xs) (matching (d.quads own) qs ys) →
       is_some_solution (grows_to vs d g a own ms F ps xs) ≡ is_some_solution (grows_to vs d g a own ms F qs ys)
   grown_same d ps qs xs ys h =
       followed_same vs d g a (map element ms) F (cut_under vs a (matching (d.quads own) ps xs)) (cut_under vs a (matching (d.quads own) qs ys))

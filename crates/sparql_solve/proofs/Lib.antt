@@ -20,5 +20,6 @@ pub mod KeyLemmas
 pub mod PartLemmas
 pub mod MinusLemmas
 pub mod AskLemmas
+pub mod AskQuadLemmas
 pub mod AskGroupLemmas
 pub mod ApartLemmas

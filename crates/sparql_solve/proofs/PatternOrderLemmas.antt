@@ -255,19 +255,23 @@ stands_at xs i x lt here =
     ∙ ap (λ (l : List (Bor Places)). take i xs ++ l)
     (drop_more xs i x lt ∙ ap (λ (y : Bor Places). y ∷ drop (i + 1) xs) (sym here) ∙ ap (λ n. x ∷ drop n xs) next)
 
-pub one_looked_up : (s : State) (g : GraphName) (ps : List Places) (rest after : List (Bor Places)) (i : ℕ) (x : Bor Places) (rows found start : List Mapping) →
-    i < length rest → x ≡ get_or rest i x → after ≡ remove rest i →
-    ((d : Listing) → Lists s d → SameBag (matching (d.quads g) (asked rest) rows) (matching (d.quads g) ps start)) →
-    AreSolutions s found (λ d. stepped (d.quads g) rows x.now) →
-    (d : Listing) → Lists s d → SameBag (matching (d.quads g) (asked after) found) (matching (d.quads g) ps start)
-one_looked_up s g ps rest after i x rows found start lt here e h r d l f =
+-- one of the triple patterns before the others
+pub one_before : (quads : List QuadParts) (rest after : List (Bor Places)) (i : ℕ) (x : Bor Places) (rows found : List Mapping) → i < length rest → x ≡ get_or rest i x →
+    after ≡ remove rest i → SameBag found (stepped quads rows x.now) → SameBag (matching quads (asked after) found) (matching quads (asked rest) rows)
+one_before quads rest after i x rows found lt here e r f =
     let front : List Places = asked (take i rest) in
     let back : List Places = asked (drop (suc i) rest) in
     let whole : asked rest ≡ front ++ x.now ∷ back =
     ap asked (stands_at rest i x lt here) ∙ map-append (λ (y : Bor Places). y.now) (take i rest) (x ∷ drop (suc i) rest) in
     let others : asked after ≡ front ++ back = ap asked e ∙ map-append (λ (y : Bor Places). y.now) (take i rest) (drop (suc i) rest) in
-    ap (λ (qs : List Places). sum_by f (matching (d.quads g) qs found)) others
-    ∙ SameBag-matching (d.quads g) (front ++ back) found (stepped (d.quads g) rows x.now) (r d l) f
-    ∙ sym (taken_first (d.quads g) front back x.now rows f)
-    ∙ ap (λ (qs : List Places). sum_by f (matching (d.quads g) qs rows)) (sym whole)
-    ∙ h d l f
+    ap (λ (qs : List Places). sum_by f (matching quads qs found)) others
+    ∙ SameBag-matching quads (front ++ back) found (stepped quads rows x.now) r f
+    ∙ sym (taken_first quads front back x.now rows f)
+    ∙ ap (λ (qs : List Places). sum_by f (matching quads qs rows)) (sym whole)
+
+pub one_looked_up : (s : State) (g : GraphName) (ps : List Places) (rest after : List (Bor Places)) (i : ℕ) (x : Bor Places) (rows found start : List Mapping) →
+    i < length rest → x ≡ get_or rest i x → after ≡ remove rest i →
+    ((d : Listing) → Lists s d → SameBag (matching (d.quads g) (asked rest) rows) (matching (d.quads g) ps start)) →
+    AreSolutions s found (λ d. stepped (d.quads g) rows x.now) →
+    (d : Listing) → Lists s d → SameBag (matching (d.quads g) (asked after) found) (matching (d.quads g) ps start)
+one_looked_up s g ps rest after i x rows found start lt here e h r d l f = one_before (d.quads g) rest after i x rows found lt here e (r d l) f ∙ h d l f

@@ -1,26 +1,30 @@
 //! Whether members of a group make some solution of rows (SPARQL 1.1 Query, section 16.3). The
 //! first rows are followed through all that comes behind before others are, then twice as many, and
-//! so on: a solution takes what the rows before it take, and a member is found for few chunks.
-ghost use Rattle.std.specs.Prelude.{◌≡◌, ◌++◌, ◌<◌, ◌||◌, IfNone, IfOk, IfSome, IsTrue, length, map, true};
+//! so on: a solution takes what the rows before it take, and a member is found for few chunks. Of a
+//! lone row's quads rows are made chunk by chunk.
+ghost use Rattle.std.specs.Prelude.{◌≡◌, ◌++◌, ◌∷◌, ◌<◌, ◌≤◌, ◌||◌, [], IfNone, IfOk, IfSome, IsTrue, length, map, true};
+ghost use Rattle.std.specs.Option.{option_copied};
 ghost use Rattle.std.specs.List.{flat_map, list_all};
 ghost use Rattle.sparql_algebra.specs.Algebra.{element};
 ghost use Rattle.sparql_algebra.specs.Listing.{Listing, Lists};
 ghost use Rattle.sparql_algebra.specs.Results.{is_some_solution};
 ghost use Rattle.sparql_solve.specs.Ask.{cut_under, followed, has_columns, looked_up_under};
 ghost use Rattle.sparql_solve.specs.LookUps.{widened};
-ghost use Rattle.sparql_solve.specs.Matching.{matching};
+ghost use Rattle.sparql_solve.specs.Matching.{has_held, matches_of, matching};
 ghost use Rattle.sparql_solve.specs.Under.{is_wide};
 
 use crate::evaluator::rows_after;
 use crate::filters::some_satisfies;
 use crate::look_ups::{Graphs, LookUp};
-use crate::matching::{all_patterns, copied, cut_rows, next_pattern, step};
+use crate::matching::{
+    all_patterns, copied, copies_matched, cut_rows, next_pattern, quads_under, step,
+};
 use crate::members::{is_joined, look_up_of_joined};
 use crate::place::Places;
 use crate::rows::Row;
 use crate::sides::compatible_rows;
 use rdf_dataset::Source;
-use rdf_terms::{GraphName, NoMemory, Text, Vocabulary};
+use rdf_terms::{GraphName, NoMemory, Quad, Text, Vocabulary};
 use sparql_trees::{Expression, Member};
 use std::alloc::Global;
 use std::cell::Cell;
@@ -37,6 +41,34 @@ pub(crate) fn first_rooms(alloc: Global) -> Result<Vec<Cell<usize>>, NoMemory> {
         rooms.push(Cell::new(1))?;
     }
     Ok(rooms)
+}
+
+// The only row, where not all that comes of it has to be followed at once.
+fn lone_row<'r>(rows: &'r [Row], rooms: &[Cell<usize>]) -> Option<&'r Row>
+    ensures lone { IfSome (option_copied result) (λ row. rows.now ≡ row ∷ []) }
+    ensures room { IfSome result (λ _. 0 < length rooms.now) }
+{
+    if rooms.is_empty() {
+        return None;
+    }
+    match rows {
+        [row] => Some(row),
+        _ => None,
+    }
+}
+
+// How many of so many are the first: as many as have room, which is twice as large then.
+fn first_len(len: usize, room: &Cell<usize>) -> usize
+    requires { 0 < len }
+    ensures some { 0 < result }
+    ensures within { result ≤ len }
+{
+    let many = room.get().max(1);
+    if len <= many {
+        return len;
+    }
+    room.set(many.saturating_mul(2));
+    many
 }
 
 // Takes away the first rows where not all of them have room, which is twice as large then.
@@ -229,6 +261,12 @@ fn some_matched<S: Source>(
         let Some(places) = rest.remove(next) else {
             unreachable!()
         };
+        if let Some(row) = lone_row(&rows, rooms) {
+            return some_of_lone(
+                alloc, variables, vocabulary, graph, source, looked, own, row, places, &rest,
+                members, filters, rooms, under,
+            );
+        }
         rows = step(alloc, own, source, places, rows)?;
         if some_of_first_matched(
             alloc, variables, vocabulary, graph, source, looked, own, &mut rows, &rest, members,
@@ -285,6 +323,87 @@ fn some_of_first_matched<S: Source>(
         )? {
             return Ok(true);
         }
+    }
+    Ok(false)
+}
+
+// Whether the members make one of which the filters are true of what grows from a row, a triple
+// pattern being looked up first and these behind it.
+#[cycle(ask)]
+fn some_of_lone<S: Source>(
+    alloc: Global,
+    variables: &[Text],
+    vocabulary: &Vocabulary,
+    graph: &GraphName,
+    source: &S,
+    looked: &Cell<u64>,
+    own: &GraphName,
+    row: &Row,
+    places: &Places,
+    patterns: &VecDeque<&Places>,
+    members: &[Member],
+    filters: &[Expression],
+    rooms: &[Cell<usize>],
+    under: &Row,
+) -> Result<bool, NoMemory>
+    requires { 0 < length rooms.now }
+    ensures { IfOk result (λ answer. (d : Listing) → Lists (S.contents source.now) d →
+        length under.now ≡ length variables.now → has_columns variables.now row.now ≡ true →
+        answer ≡ is_some_solution (followed variables.now d graph.now under.now
+        (map element members.now) filters.now (cut_under variables.now under.now
+        (matching (d.quads own.now) (map (λ r. r.now) patterns.now.items)
+        (matches_of (d.quads own.now) places.now row.now))))) }
+{
+    let mut quads = Vec::new(alloc);
+    quads_under(own, source, places, row, &mut quads)?;
+    some_of_quads(
+        alloc, variables, vocabulary, graph, source, looked, own, row, places, &quads, patterns,
+        members, filters, rooms, under,
+    )
+}
+
+// Whether the members make one of which the filters are true of what grows from a row by these quads,
+// which were looked up under it, and by the triple patterns behind them.
+#[cycle(ask)]
+fn some_of_quads<S: Source>(
+    alloc: Global,
+    variables: &[Text],
+    vocabulary: &Vocabulary,
+    graph: &GraphName,
+    source: &S,
+    looked: &Cell<u64>,
+    own: &GraphName,
+    row: &Row,
+    places: &Places,
+    quads: &[Quad],
+    patterns: &VecDeque<&Places>,
+    members: &[Member],
+    filters: &[Expression],
+    rooms: &[Cell<usize>],
+    under: &Row,
+) -> Result<bool, NoMemory>
+    requires room { 0 < length rooms.now }
+    requires held { IsTrue (list_all (has_held places.now row.now) quads.now) }
+    ensures { IfOk result (λ answer. (d : Listing) → Lists (S.contents source.now) d →
+        length under.now ≡ length variables.now → has_columns variables.now row.now ≡ true →
+        answer ≡ is_some_solution (followed variables.now d graph.now under.now
+        (map element members.now) filters.now (cut_under variables.now under.now
+        (matching (d.quads own.now) (map (λ r. r.now) patterns.now.items)
+        (matches_of quads.now places.now row.now))))) }
+{
+    let mut done = 0;
+    while done < quads.len() {
+        let rest = &quads[done..];
+        let len = first_len(rest.len(), &rooms[0]);
+        let first = copies_matched(alloc, row, places, &rest[..len])?;
+        let patterns = copied(alloc, patterns)?;
+        if some_matched(
+            alloc, variables, vocabulary, graph, source, looked, own, first, patterns, members,
+            filters, &rooms[1..], under,
+        )? {
+            return Ok(true);
+        }
+        done += len;
     }
     Ok(false)
 }

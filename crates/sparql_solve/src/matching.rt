@@ -56,6 +56,21 @@ fn append_copies(
     Ok(())
 }
 
+/// The rows that triples make of copies of a row under which they were looked up.
+pub(crate) fn copies_matched(
+    alloc: Global,
+    row: &Row,
+    places: &Places,
+    quads: &[Quad],
+) -> Result<Vec<Row>, NoMemory>
+    requires { IsTrue (list_all (has_held places.now row.now) quads.now) }
+    ensures { IfOk result (λ out. out.items ≡ matches_of quads.now places.now row.now) }
+{
+    let mut out = Vec::new(alloc);
+    append_copies(alloc, row, places, quads, &mut out)?;
+    Ok(out)
+}
+
 // Appends the rows that the triples make of a row under which they were looked up: the last one of
 // the row itself.
 fn append_matches(
@@ -88,8 +103,8 @@ fn asks_same(row: &Row, other: &Row, places: &Places) -> bool
         && row.holds_same(other, &places.object)
 }
 
-// The quads of the graph that have the terms which the row has at the places.
-fn quads_under<S: Source>(
+/// The quads of the graph that have the terms which the row has at the places.
+pub(crate) fn quads_under<S: Source>(
     graph: &GraphName,
     source: &S,
     places: &Places,

@@ -148,3 +148,18 @@ some_of_first_matched-loop-first-preserved g t c =
           (λ ps. is_some_solution (grows_to vs d c.args.graph.now c.args.under.now c.args.own.now c.args.members.now c.args.filters.now ps first))
           c.in_ok-patterns.ensures (c.in_ok-some_matched.ensures d l ea (ask.first_all (has_columns vs) rows first rest parted (c.loop-first.invariant.wide w)))) c.if-branch.false;
     }
+
+pub some_matched-returns-in-Some : goal.some_matched-returns-in-Some
+some_matched-returns-in-Some g t c = ?
+
+pub some_of_lone-returns : goal.some_of_lone-returns
+some_of_lone-returns g t c = ?
+
+pub some_of_quads-returns-then-branch : goal.some_of_quads-returns-then-branch
+some_of_quads-returns-then-branch g t c = ?
+
+pub some_of_quads-loop-done-preserved : goal.some_of_quads-loop-done-preserved
+some_of_quads-loop-done-preserved g t c = ?
+
+pub some_of_quads-returns : goal.some_of_quads-returns
+some_of_quads-returns g t c = ?

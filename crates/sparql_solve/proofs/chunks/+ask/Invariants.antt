@@ -1,9 +1,10 @@
-use Rattle.std.proofs.Common.{◌≡◌, ◌+◌, ◌*◌, true, length, map, drop}
+use Rattle.std.proofs.Common.{◌≡◌, ◌≤◌, ◌+◌, ◌-◌, ◌*◌, true, length, map, drop}
 use Rattle.std.specs.List.{list_all}
 use Rattle.sparql_algebra.specs.Algebra.{element}
 use Rattle.sparql_algebra.specs.Listing.{Listing, Lists}
 use Rattle.sparql_algebra.specs.Results.{is_some_solution}
 use Rattle.sparql_solve.specs.Ask.{followed, has_columns}
+use Rattle.sparql_solve.specs.Matching.{matches_of}
 use Rattle.sparql_solve.specs.Under.{is_wide}
 use Rattle.sparql_solve.proofs.AskLemmas.{Asks, Grows, grows_to}
 use Rattle.sparql_solve.proofs.PatternOrderLemmas.{asked}
@@ -58,3 +59,20 @@ invariant-some_of_first_matched-loop-first g l = record {
 
 abbrev pub decreases-some_of_first_matched-loop-first : goal.decreases-some_of_first_matched-loop-first
 decreases-some_of_first_matched-loop-first g l = length l.rows.items
+
+abbrev pub decreases-some_of_lone : goal.decreases-some_of_lone
+decreases-some_of_lone g l = 5 * length l.rooms.now + 1
+
+abbrev pub decreases-some_of_quads : goal.decreases-some_of_quads
+decreases-some_of_quads g l = 5 * length l.rooms.now
+
+abbrev pub invariant-some_of_quads-loop-done : goal.invariant-some_of_quads-loop-done
+invariant-some_of_quads-loop-done g l = record {
+  within : l.done ≤ length l.quads;
+  same : (d : Listing) → Lists (g.S.Source.contents l.source) d → length l.under ≡ length l.variables → has_columns l.variables l.row ≡ true →
+      is_some_solution (grows_to l.variables d l.graph l.under l.own l.members l.filters (asked l.patterns.items) (matches_of (drop l.done l.quads) l.places l.row))
+      ≡ is_some_solution (grows_to l.variables d l.graph l.under l.own l.members l.filters (asked l.patterns.items) (matches_of l.quads l.places l.row));
+}
+
+abbrev pub decreases-some_of_quads-loop-done : goal.decreases-some_of_quads-loop-done
+decreases-some_of_quads-loop-done g l = length l.quads - l.done
