@@ -17,7 +17,7 @@ use crate::evaluator::rows_after;
 use crate::filters::some_satisfies;
 use crate::look_ups::{Graphs, LookUp};
 use crate::matching::{
-    all_patterns, copied, copies_matched, cut_rows, next_pattern, quads_under, step,
+    all_patterns, copied, copies_matched, cut_rows, next_pattern, quads_of, step,
 };
 use crate::members::{is_joined, look_up_of_joined};
 use crate::place::Places;
@@ -354,8 +354,7 @@ fn some_of_lone<S: Source>(
         (matching (d.quads own.now) (map (λ r. r.now) patterns.now.items)
         (matches_of (d.quads own.now) places.now row.now))))) }
 {
-    let mut quads = Vec::new(alloc);
-    quads_under(own, source, places, row, &mut quads)?;
+    let quads = quads_of(alloc, own, source, places, row)?;
     some_of_quads(
         alloc, variables, vocabulary, graph, source, looked, own, row, places, &quads, patterns,
         members, filters, rooms, under,

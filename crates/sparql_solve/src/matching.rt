@@ -103,8 +103,8 @@ fn asks_same(row: &Row, other: &Row, places: &Places) -> bool
         && row.holds_same(other, &places.object)
 }
 
-/// The quads of the graph that have the terms which the row has at the places.
-pub(crate) fn quads_under<S: Source>(
+// The quads of the graph that have the terms which the row has at the places.
+fn quads_under<S: Source>(
     graph: &GraphName,
     source: &S,
     places: &Places,
@@ -123,6 +123,25 @@ pub(crate) fn quads_under<S: Source>(
         quads,
     )?;
     Ok(())
+}
+
+/// The quads of the graph that are looked up under the row: those that have the terms which it has
+/// at the places.
+pub(crate) fn quads_of<S: Source>(
+    alloc: Global,
+    graph: &GraphName,
+    source: &S,
+    places: &Places,
+    row: &Row,
+) -> Result<Vec<Quad>, NoMemory>
+    ensures listed { IfOk result (λ quads. ListsOnce (quads_under (S.contents source.now) graph.now
+        places.now row.now) quads.items) }
+    ensures held { IfOk result (λ quads.
+        IsTrue (list_all (has_held places.now row.now) quads.items)) }
+{
+    let mut quads = Vec::new(alloc);
+    quads_under(graph, source, places, row, &mut quads)?;
+    Ok(quads)
 }
 
 /// The rows that one triple pattern makes of these, by look-ups of its triples. Rows that ask the

@@ -1,12 +1,14 @@
-use Rattle.std.proofs.Common.{◌≡◌, ◌<◌, ◌++◌, ◌+◌, ◌-◌, refl, sym, ◌∙◌, map, take, drop, length, arith}
+use Rattle.std.proofs.Common.{◌≡◌, ◌<◌, ◌≤◌, ◌++◌, ◌+◌, ◌-◌, refl, sym, ◌∙◌, map, take, drop, length, arith, ap}
 use Rattle.std.proofs.lemmas.Bool.{eqb-true}
 use Rattle.std.proofs.lemmas.List.{take_all, length-drop}
 use Rattle.std.proofs.lemmas.Result.{IfOk-weaker}
+use Rattle.std.specs.List.{list_all}
 use Rattle.sparql_algebra.specs.Algebra.{element}
 use Rattle.sparql_algebra.specs.Results.{is_some_solution}
 use Rattle.sparql_solve.specs.Ask.{followed, has_columns}
 use Rattle.sparql_solve.specs.Under.{is_wide}
 use Rattle.sparql_solve.proofs.AskLemmas as ask
+use Rattle.sparql_solve.proofs.AskQuadLemmas as quad
 use Rattle.sparql_solve.proofs.AskLemmas.{grows_to}
 use Rattle.sparql_solve.proofs.PatternOrderLemmas.{asked}
 use Rattle.sparql_solve.proofs.chunks.+ask.Goals as goal
@@ -149,17 +151,85 @@ some_of_first_matched-loop-first-preserved g t c =
           c.in_ok-patterns.ensures (c.in_ok-some_matched.ensures d l ea (ask.first_all (has_columns vs) rows first rest parted (c.loop-first.invariant.wide w)))) c.if-branch.false;
     }
 
-pub some_matched-returns-in-Some : goal.some_matched-returns-in-Some
-some_matched-returns-in-Some g t c = ?
+pub some_matched-returns-in-Some-lone_row : goal.some_matched-returns-in-Some-lone_row
+some_matched-returns-in-Some-lone_row g t c =
+    IfOk-weaker c.some_of_lone.result _ _
+    (λ answer h d l ea w. quad.lone_grown c.args.variables.now (g.S.Source.contents c.args.source.now) c.args.graph.now c.args.under.now c.args.own.now
+    c.args.members.now c.args.filters.now (asked c.args.patterns.items) c.loop-rest.rest.items c.remove.new.self.items c.next_pattern-next.result
+    c.in-Some.places (c.next_pattern-next.ensures (omega (arith, c.in-Some.ensures.len, c.loop-rest.rest.ok.0))) c.in-Some.ensures.value
+    c.in-Some.ensures.items c.args.start.items c.loop-rest.rows.items c.in-Some-lone_row.row.now c.deref-in-loop-rest.result.now answer d
+    c.deref-in-loop-rest.ensures.value c.in-Some-lone_row.ensures.lone (c.loop-rest.invariant d l ea w) (h d l ea))
+    c.some_of_lone.ensures
 
 pub some_of_lone-returns : goal.some_of_lone-returns
-some_of_lone-returns g t c = ?
+some_of_lone-returns g t c =
+    IfOk-weaker c.some_of_quads.result _ _
+    (λ answer h d l ea w. quad.lone_some c.args.variables.now (g.S.Source.contents c.args.source.now) c.args.graph.now c.args.under.now c.args.own.now
+    c.args.members.now c.args.filters.now c.args.places.now c.args.row.now (asked c.args.patterns.now.items) c.in_ok-quads.quads.items
+    c.deref.result.now answer d l c.in_ok-quads.ensures.listed c.deref.ensures.value (h d l ea w))
+    c.some_of_quads.ensures
+
+pub some_of_quads-copies_matched-requires : goal.some_of_quads-copies_matched-requires
+some_of_quads-copies_matched-requires g t c =
+    let quads = c.args.quads.now in
+    let done = c.loop-done.done in
+    quad.part_held c.args.places.now c.args.row.now quads (take (length quads - done) (drop done quads)) done c.first_len-len.result
+    (take_all (length quads - done) (drop done quads) (omega (arith, length-drop done quads))) c.requires.held
 
 pub some_of_quads-returns-then-branch : goal.some_of_quads-returns-then-branch
-some_of_quads-returns-then-branch g t c = ?
+some_of_quads-returns-then-branch g t c d l ea w =
+    let vs = c.args.variables.now in
+    let p = c.args.places.now in
+    let m = c.args.row.now in
+    let quads = c.args.quads.now in
+    let done = c.loop-done.done in
+    let len = c.first_len-len.result in
+    let rest = take (length quads - done) (drop done quads) in
+    let first = c.in_ok-first.first.items in
+    quad.first_quads
+    (grows_to vs d c.args.graph.now c.args.under.now c.args.own.now c.args.members.now c.args.filters.now (asked c.args.patterns.now.items))
+    (ask.grown_parts vs d c.args.graph.now c.args.under.now c.args.own.now c.args.members.now c.args.filters.now (asked c.args.patterns.now.items))
+    p m quads rest done len _ (take_all (length quads - done) (drop done quads) (omega (arith, length-drop done quads)))
+    (c.loop-done.invariant.same d l ea w) first c.in_ok-some_matched.field-0 c.in_ok-first.ensures
+    (ask.same_patterns c.in_ok-patterns.patterns.items c.args.patterns.now.items c.in_ok-some_matched.field-0
+    (λ ps. is_some_solution (grows_to vs d c.args.graph.now c.args.under.now c.args.own.now c.args.members.now c.args.filters.now ps first))
+    c.in_ok-patterns.ensures
+    (c.in_ok-some_matched.ensures d l ea (ap (list_all (has_columns vs)) c.in_ok-first.ensures ∙ ask.matches_columns vs (take len rest) p m w)))
+    c.if-branch.true
 
 pub some_of_quads-loop-done-preserved : goal.some_of_quads-loop-done-preserved
-some_of_quads-loop-done-preserved g t c = ?
+some_of_quads-loop-done-preserved g t c =
+    let vs = c.args.variables.now in
+    let p = c.args.places.now in
+    let m = c.args.row.now in
+    let quads = c.args.quads.now in
+    let done = c.loop-done.done in
+    let len = c.first_len-len.result in
+    let rest = take (length quads - done) (drop done quads) in
+    let first = c.in_ok-first.first.items in
+    let long : length (drop done quads) ≡ length quads - done = length-drop done quads in
+    let whole : rest ≡ drop done quads = take_all (length quads - done) (drop done quads) (omega (arith, long)) in
+    let same : length rest ≡ length (drop done quads) = ap length whole in
+    let less : done < length quads = c.loop-done-test.true in
+    let within : len ≤ length rest = c.first_len-len.ensures.within in
+    record {
+      within = omega (arith, same, long, less, within);
+      same = λ d l ea w.
+          quad.rest_quads
+          (grows_to vs d c.args.graph.now c.args.under.now c.args.own.now c.args.members.now c.args.filters.now (asked c.args.patterns.now.items))
+          (ask.grown_parts vs d c.args.graph.now c.args.under.now c.args.own.now c.args.members.now c.args.filters.now (asked c.args.patterns.now.items))
+          p m quads rest done len _ whole (c.loop-done.invariant.same d l ea w) first c.in_ok-some_matched.field-0 c.in_ok-first.ensures
+          (ask.same_patterns c.in_ok-patterns.patterns.items c.args.patterns.now.items c.in_ok-some_matched.field-0
+          (λ ps. is_some_solution (grows_to vs d c.args.graph.now c.args.under.now c.args.own.now c.args.members.now c.args.filters.now ps first))
+          c.in_ok-patterns.ensures
+          (c.in_ok-some_matched.ensures d l ea (ap (list_all (has_columns vs)) c.in_ok-first.ensures ∙ ask.matches_columns vs (take len rest) p m w)))
+          c.if-branch.false;
+    }
 
 pub some_of_quads-returns : goal.some_of_quads-returns
-some_of_quads-returns g t c = ?
+some_of_quads-returns g t c d l ea w =
+    quad.no_quads
+    (grows_to c.args.variables.now d c.args.graph.now c.args.under.now c.args.own.now c.args.members.now c.args.filters.now (asked c.args.patterns.now.items))
+    (ask.grown_parts c.args.variables.now d c.args.graph.now c.args.under.now c.args.own.now c.args.members.now c.args.filters.now
+    (asked c.args.patterns.now.items))
+    c.args.places.now c.args.row.now c.args.quads.now c.loop-done.done _ c.loop-done-test.false (c.loop-done.invariant.same d l ea w)
