@@ -161,6 +161,26 @@ fn rows_share_what_is_found_for_them(rt: HostRuntime) {
     }
 }
 
+#[test]
+fn minus_is_looked_up_under_the_rows_before_it(rt: HostRuntime) {
+    for (group, wanted) in [
+        ("{ e:a e:p ?o MINUS { ?o e:q ?x } }", (0, 2, 2)),
+        ("{ e:a e:p ?o MINUS { ?o e:none ?x } }", (1, 2, 1)),
+        ("{ ?s e:p ?o MINUS { ?o e:q ?x } }", (0, 3, 5)),
+        ("{ ?s e:p ?o MINUS { ?o e:q 1 } }", (1, 3, 4)),
+        ("{ ?s e:p ?o MINUS { ?a e:q ?x } }", (3, 1, 3)),
+        (
+            "{ ?s e:p ?o OPTIONAL { ?o e:none ?z } MINUS { ?z e:q ?x } }",
+            (3, 4, 3),
+        ),
+    ] {
+        assert!(rt;
+            cost_over(rt.alloc(), SHARED, group) == Some(wanted),
+            "{group}"
+        );
+    }
+}
+
 // A hundred quads in the default graph, and as many graphs of one quad.
 fn many_graphs(alloc: Global) -> Option<String> {
     let mut data = String::new(alloc);

@@ -394,11 +394,22 @@ fn some_of_quads<S: Source>(
     while done < quads.len() {
         let rest = &quads[done..];
         let len = first_len(rest.len(), &rooms[0]);
-        let first = copies_matched(alloc, row, places, &rest[..len])?;
+        let rows = copies_matched(alloc, row, places, &rest[..len])?;
         let patterns = copied(alloc, patterns)?;
         if some_matched(
-            alloc, variables, vocabulary, graph, source, looked, own, first, patterns, members,
-            filters, &rooms[1..], under,
+            alloc,
+            variables,
+            vocabulary,
+            graph,
+            source,
+            looked,
+            own,
+            rows,
+            patterns,
+            members,
+            filters,
+            &rooms[1..],
+            under,
         )? {
             return Ok(true);
         }

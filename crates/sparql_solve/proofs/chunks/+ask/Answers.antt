@@ -185,16 +185,16 @@ some_of_quads-returns-then-branch g t c d l ea w =
     let done = c.loop-done.done in
     let len = c.first_len-len.result in
     let rest = take (length quads - done) (drop done quads) in
-    let first = c.in_ok-first.first.items in
+    let first = c.in_ok-rows.rows.items in
     quad.first_quads
     (grows_to vs d c.args.graph.now c.args.under.now c.args.own.now c.args.members.now c.args.filters.now (asked c.args.patterns.now.items))
     (ask.grown_parts vs d c.args.graph.now c.args.under.now c.args.own.now c.args.members.now c.args.filters.now (asked c.args.patterns.now.items))
     p m quads rest done len _ (take_all (length quads - done) (drop done quads) (omega (arith, length-drop done quads)))
-    (c.loop-done.invariant.same d l ea w) first c.in_ok-some_matched.field-0 c.in_ok-first.ensures
+    (c.loop-done.invariant.same d l ea w) first c.in_ok-some_matched.field-0 c.in_ok-rows.ensures
     (ask.same_patterns c.in_ok-patterns.patterns.items c.args.patterns.now.items c.in_ok-some_matched.field-0
     (λ ps. is_some_solution (grows_to vs d c.args.graph.now c.args.under.now c.args.own.now c.args.members.now c.args.filters.now ps first))
     c.in_ok-patterns.ensures
-    (c.in_ok-some_matched.ensures d l ea (ap (list_all (has_columns vs)) c.in_ok-first.ensures ∙ ask.matches_columns vs (take len rest) p m w)))
+    (c.in_ok-some_matched.ensures d l ea (ap (list_all (has_columns vs)) c.in_ok-rows.ensures ∙ ask.matches_columns vs (take len rest) p m w)))
     c.if-branch.true
 
 pub some_of_quads-loop-done-preserved : goal.some_of_quads-loop-done-preserved
@@ -206,7 +206,7 @@ some_of_quads-loop-done-preserved g t c =
     let done = c.loop-done.done in
     let len = c.first_len-len.result in
     let rest = take (length quads - done) (drop done quads) in
-    let first = c.in_ok-first.first.items in
+    let first = c.in_ok-rows.rows.items in
     let long : length (drop done quads) ≡ length quads - done = length-drop done quads in
     let whole : rest ≡ drop done quads = take_all (length quads - done) (drop done quads) (omega (arith, long)) in
     let same : length rest ≡ length (drop done quads) = ap length whole in
@@ -218,11 +218,11 @@ some_of_quads-loop-done-preserved g t c =
           quad.rest_quads
           (grows_to vs d c.args.graph.now c.args.under.now c.args.own.now c.args.members.now c.args.filters.now (asked c.args.patterns.now.items))
           (ask.grown_parts vs d c.args.graph.now c.args.under.now c.args.own.now c.args.members.now c.args.filters.now (asked c.args.patterns.now.items))
-          p m quads rest done len _ whole (c.loop-done.invariant.same d l ea w) first c.in_ok-some_matched.field-0 c.in_ok-first.ensures
+          p m quads rest done len _ whole (c.loop-done.invariant.same d l ea w) first c.in_ok-some_matched.field-0 c.in_ok-rows.ensures
           (ask.same_patterns c.in_ok-patterns.patterns.items c.args.patterns.now.items c.in_ok-some_matched.field-0
           (λ ps. is_some_solution (grows_to vs d c.args.graph.now c.args.under.now c.args.own.now c.args.members.now c.args.filters.now ps first))
           c.in_ok-patterns.ensures
-          (c.in_ok-some_matched.ensures d l ea (ap (list_all (has_columns vs)) c.in_ok-first.ensures ∙ ask.matches_columns vs (take len rest) p m w)))
+          (c.in_ok-some_matched.ensures d l ea (ap (list_all (has_columns vs)) c.in_ok-rows.ensures ∙ ask.matches_columns vs (take len rest) p m w)))
           c.if-branch.false;
     }
 
