@@ -1,7 +1,6 @@
 -- GRAPH with a variable, of which members at the end are found apart: those that don't see the active graph.
-use Rattle.std.proofs.Common.{◌≡◌, ℕ, ◌+◌, ◌-◌, ◌<◌, ◌≤◌, Bool, true, false, not, ◌&&◌, List, [], ◌∷◌, ◌++◌, map, filter, Option, Some, None, refl, sym, ap, ◌∙◌, subst, length, take, drop, get_or, arith, nat_eq}
+use Rattle.std.proofs.Common.{◌≡◌, ℕ, ◌+◌, ◌<◌, ◌≤◌, Bool, true, false, not, ◌&&◌, List, [], ◌∷◌, ◌++◌, map, filter, refl, sym, ap, ◌∙◌, subst, length, take, drop, get_or, arith}
 use Rattle.std.specs.List.{flat_map, list_all, fold, sum_by}
-use Rattle.std.proofs.lemmas.Bool.{eqb-true}
 use Rattle.std.proofs.lemmas.Grind.{flat_map-append}
 use Rattle.std.proofs.lemmas.List.{drop_more, drop_all, map-append, take_all, take-append-drop}
 use Rattle.rdf_terms.specs.declared.term.Term.{Term}

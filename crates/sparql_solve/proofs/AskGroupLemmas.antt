@@ -1,5 +1,5 @@
 -- Whether groups have a solution, from what their parts say.
-use Rattle.std.proofs.Common.{◌≡◌, ℕ, ◌+◌, ◌<◌, ◌≤◌, Bool, true, false, not, cond, ◌&&◌, ◌||◌, List, [], ◌∷◌, ◌++◌, map, filter, Option, Some, None, refl, sym, ap, ◌∙◌, subst, length, take, drop, replicate, get_or, arith, nat_eq, append-nil}
+use Rattle.std.proofs.Common.{◌≡◌, ℕ, ◌+◌, ◌<◌, ◌≤◌, Bool, true, false, not, cond, ◌&&◌, ◌||◌, List, [], ◌∷◌, map, filter, Option, None, refl, sym, ap, ◌∙◌, subst, length, drop, replicate, get_or, arith, nat_eq}
 use Rattle.std.specs.List.{flat_map, list_all, list_any, fold, sum_by}
 use Rattle.std.proofs.lemmas.Bool.{eqb-true, eq-eqb}
 use Rattle.std.proofs.lemmas.List.{drop_more, drop_all, length-replicate}
@@ -23,7 +23,7 @@ use Rattle.sparql_algebra.specs.Under.{agreeing, names_left, under}
 use Rattle.sparql_algebra.proofs.CallerLemmas.{some_same, SameBag-refl, SameBag-filter, SameBag-flat_map, SameBag-joins, filter_always, filter_under, variable_under, all_under_nothing, translation-is, element-Union, element-Graph, empty_joins, empty_solutions, single_length, solutions_length, length_from}
 use Rattle.sparql_solve.specs.Ask.{SaysWhether, followed}
 use Rattle.sparql_solve.specs.Sides.{HoldsOnly}
-use Rattle.sparql_solve.specs.Under.{all_made, is_wide, made, under_name, AreUnder}
+use Rattle.sparql_solve.specs.Under.{all_made, is_wide, under_name, AreUnder}
 use Rattle.sparql_solve.proofs.AskLemmas.{some_append, all_made_bag}
 use Rattle.sparql_solve.proofs.FollowLemmas as follow
 use Rattle.sparql_solve.proofs.ResultLemmas.{some_is}

@@ -1,10 +1,10 @@
 -- Whether rows have a solution, from some of them before the others.
-use Rattle.std.proofs.Common.{◌≡◌, ℕ, zero, suc, ◌+◌, ◌<◌, ◌≤◌, Bool, true, false, not, cond, ◌&&◌, ◌||◌, List, [], ◌∷◌, ◌++◌, map, filter, Option, Some, None, IfSome, refl, sym, ap, ◌∙◌, subst, length, take, drop, replicate, get_or, arith, nat_eq, append-nil, append_assoc, length-append, Bor}
+use Rattle.std.proofs.Common.{◌≡◌, ℕ, ◌+◌, ◌<◌, ◌≤◌, Bool, true, false, cond, ◌&&◌, ◌||◌, List, [], ◌∷◌, ◌++◌, map, filter, Option, Some, None, IfSome, refl, sym, ap, ◌∙◌, subst, length, take, drop, replicate, get_or, arith, length-append, Bor}
 use Rattle.std.specs.Prelude.{slice_get, option_and_then}
-use Rattle.std.specs.List.{flat_map, list_all, filter_map, cons_option, remove}
+use Rattle.std.specs.List.{flat_map, list_all, cons_option, remove}
 use Rattle.std.proofs.lemmas.Bool.{eqb-true, eq-eqb, le-leb, leb-true}
 use Rattle.std.proofs.lemmas.Grind.{flat_map-append}
-use Rattle.std.proofs.lemmas.List.{drop_more, drop_all, map-append, length-replicate, length-set, length-take-le}
+use Rattle.std.proofs.lemmas.List.{drop_more, drop_all, map-append, length-set, length-take-le}
 use Rattle.std.proofs.lemmas.List.Elements.{filter-append}
 use Rattle.std.proofs.lemmas.List.Folds.{list_all-append}
 use Rattle.rdf_terms.specs.Quad.{QuadParts}
@@ -31,7 +31,7 @@ use Rattle.sparql_solve.specs.Ask.{cut_under, followed, has_columns, looked_up_u
 use Rattle.sparql_solve.specs.LookUps.{widened}
 use Rattle.sparql_solve.specs.Matching.{assigned, assigned_at, matched, matches_of, stepped, matching}
 use Rattle.sparql_solve.specs.Members.{AreSolutions, element_solutions}
-use Rattle.sparql_solve.specs.Sides.{found, found_in, found_among}
+use Rattle.sparql_solve.specs.Sides.{found_in, found_among}
 use Rattle.sparql_solve.specs.Under.{is_joined, is_wide, kept, made, AreMade, IsLookUpOf, where_none, all_made}
 use Rattle.sparql_solve.proofs.PatternOrderLemmas.{asked, one_looked_up}
 use Rattle.sparql_solve.proofs.SideLemmas.{same_all, all_give}

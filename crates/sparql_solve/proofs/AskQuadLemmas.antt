@@ -1,5 +1,5 @@
 -- Whether a row's quads lead to a solution, from some of them before the others.
-use Rattle.std.proofs.Common.{◌≡◌, ℕ, ◌+◌, ◌<◌, ◌≤◌, Bool, true, false, ◌&&◌, List, [], ◌∷◌, ◌++◌, map, refl, sym, ap, ◌∙◌, length, take, drop, get_or, arith, append-nil, length-append, Bor}
+use Rattle.std.proofs.Common.{◌≡◌, ℕ, ◌+◌, ◌<◌, ◌≤◌, Bool, true, false, List, [], ◌∷◌, ◌++◌, refl, sym, ap, ◌∙◌, length, take, drop, get_or, arith, append-nil, length-append, Bor}
 use Rattle.std.specs.List.{list_all, remove, sum_by}
 use Rattle.std.proofs.lemmas.List.{drop-drop, drop_all, take-append-drop}
 use Rattle.std.proofs.lemmas.List.Elements.{filter_map-append}
@@ -16,8 +16,8 @@ use Rattle.sparql_algebra.specs.Results.{is_some_solution}
 use Rattle.sparql_algebra.proofs.CallerLemmas.{and_left, and_right}
 use Rattle.sparql_solve.specs.declared.place.Places.{Places}
 use Rattle.sparql_solve.specs.Ask.{has_columns}
-use Rattle.sparql_solve.specs.Matching.{has_held, matched, matches_of, matching, quads_under, stepped}
-use Rattle.sparql_solve.proofs.AskLemmas.{Grows, InParts, grown_parts, grown_same, grows_to, some_first, some_rest}
+use Rattle.sparql_solve.specs.Matching.{has_held, matched, matches_of, quads_under, stepped}
+use Rattle.sparql_solve.proofs.AskLemmas.{Grows, InParts, grown_same, grows_to, some_first, some_rest}
 use Rattle.sparql_solve.proofs.LookUpLemmas.{SameBag-matching, look_up_gives}
 use Rattle.sparql_solve.proofs.PatternOrderLemmas.{asked, one_before}
 

@@ -1,15 +1,14 @@
 -- Where no MINUS stands in a pattern, the names outside MINUS are all names.
-use Rattle.std.proofs.Common.{◌≡◌, ℕ, ◌+◌, ◌<◌, ◌≤◌, Bool, true, false, List, [], ◌∷◌, ◌++◌, map, sym, ap, ◌∙◌, length, drop, get_or}
+use Rattle.std.proofs.Common.{◌≡◌, ℕ, ◌+◌, ◌<◌, ◌≤◌, Bool, true, false, List, ◌∷◌, ◌++◌, map, sym, ap, ◌∙◌, length, drop, get_or}
 use Rattle.std.specs.List.{flat_map}
 use Rattle.std.proofs.lemmas.List.{drop_all, drop_more}
-use Rattle.sparql_trees.specs.Visible.{Names, joined, member_names, name_names, names_of_member, names_of_pattern, names_where, triple_names}
+use Rattle.sparql_trees.specs.Visible.{Names, joined, member_names, names_of_member, names_of_pattern, names_where, triple_names}
 use Rattle.sparql_trees.specs.declared.pattern.BasicGraphPattern.{BasicGraphPattern}
 use Rattle.sparql_trees.specs.declared.pattern.Member.{Member}
 use Rattle.sparql_trees.specs.declared.pattern.Member.TheFolds.{fold-roll-Member, fold-roll-Pattern}
 use Rattle.sparql_trees.specs.declared.pattern.Member.TheOpen.{Member-F}
 use Rattle.sparql_trees.specs.declared.pattern.Member.TheVariants as m
 use Rattle.sparql_trees.specs.declared.pattern.Pattern.{Pattern}
-use Rattle.sparql_trees.specs.declared.pattern.VarOrIri.{VarOrIri}
 
 module _ {X : Type 0} (f g : X → Names) (xs : List X) where
   abbrev Same : List X → Type 0

@@ -1,5 +1,5 @@
 -- What MINUS of a basic graph pattern makes of rows.
-use Rattle.std.proofs.Common.{◌≡◌, ℕ, zero, suc, ◌<◌, Bool, true, false, cond, ◌&&◌, ◌||◌, List, [], ◌∷◌, ◌++◌, ◌+◌, map, filter, Option, Some, None, is_none, refl, sym, ap, ◌∙◌, subst, length, take, drop, get_or, append-nil, arith}
+use Rattle.std.proofs.Common.{◌≡◌, ℕ, zero, suc, ◌<◌, Bool, true, false, cond, ◌||◌, List, [], ◌∷◌, ◌++◌, ◌+◌, map, filter, Option, Some, None, is_none, refl, sym, ap, ◌∙◌, subst, length, take, drop, get_or, append-nil, arith}
 use Rattle.std.specs.List.{flat_map, sum_by, list_all, list_any}
 use Rattle.std.proofs.lemmas.List.{length-replicate}
 use Rattle.rdf_terms.specs.declared.term.Term.{Term}
@@ -10,7 +10,7 @@ use Rattle.sparql_trees.specs.declared.pattern.Member.{Member}
 use Rattle.sparql_values.specs.Mapping.{Variables, Mapping, compatible, empty_mapping}
 use Rattle.sparql_algebra.specs.Algebra.{basic, Element, removed, element, translation}
 use Rattle.sparql_algebra.specs.Bags.{SameBag}
-use Rattle.sparql_algebra.specs.Listing.{Listing, Lists}
+use Rattle.sparql_algebra.specs.Listing.{Listing}
 use Rattle.sparql_algebra.specs.Solutions.{both_have, minuses, merges, occurs, shares, solutions}
 use Rattle.sparql_algebra.specs.Under.{agreeing, cut}
 use Rattle.sparql_algebra.proofs.CallerLemmas.{all_under_nothing, basic_under, and_left, and_right, element-Minus, filter_flat_map, SameBag-refl, SameBag-filter, SameBag-flat_map, SameBag-merges}

@@ -3,8 +3,8 @@ use Rattle.std.specs.List.{flat_map, list_all}
 use Rattle.sparql_algebra.specs.Algebra.{element, group_of, translation, filtered}
 use Rattle.sparql_algebra.specs.Solutions.{solutions}
 use Rattle.sparql_algebra.specs.Under.{under}
-use Rattle.sparql_solve.specs.Members.{AreMoreSolutions, element_solutions}
-use Rattle.sparql_solve.specs.Under.{AreMade, AreUnder, under_name, asked, is_wide}
+use Rattle.sparql_solve.specs.Members.{AreMoreSolutions}
+use Rattle.sparql_solve.specs.Under.{AreMade, AreUnder, under_name, is_wide}
 use Rattle.rdf_terms.specs.declared.quad.GraphName.TheVariants.{Default}
 use Rattle.sparql_algebra.specs.Listing.{Listing, Lists}
 use Rattle.sparql_solve.proofs.ApartLemmas.{Follows}

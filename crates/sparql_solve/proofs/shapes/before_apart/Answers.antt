@@ -1,6 +1,4 @@
-use Rattle.std.proofs.Common.{◌≡◌, ◌-◌, ◌≤◌, ap, ◌∙◌, true, length, drop, arith}
-use Rattle.std.specs.List.{list_all}
-use Rattle.std.proofs.lemmas.List.{drop_all}
+use Rattle.std.proofs.Common.{◌-◌, length, arith}
 use Rattle.sparql_algebra.specs.Algebra.{element}
 use Rattle.sparql_solve.specs.Under.{is_apart}
 use Rattle.sparql_solve.proofs.ApartLemmas.{apart_more, apart_none}

@@ -1,4 +1,3 @@
-use Rattle.std.proofs.Common.{refl}
 use Rattle.std.proofs.lemmas.Result.{IfOk-weaker}
 use Rattle.sparql_solve.proofs.TakenLemmas.{all_taken}
 use Rattle.sparql_solve.proofs.taken.rows_taken.Goals as goal
