@@ -325,10 +325,11 @@ impl Keeper {
         let counter = self.dataset.next_blank();
         let net = composed(self.alloc, &self.entries, place, self.cursor, counter)?;
         self.dataset.revert(&net)?;
+        let counts = back_counts_of(&net);
         let size = size_between(&self.entries, place, self.cursor);
         self.cursor = place;
         self.gather(size);
-        Ok(back_counts_of(&net))
+        Ok(counts)
     }
 
     /// Makes the state now the base, and forgets requests and marks. It takes no memory.

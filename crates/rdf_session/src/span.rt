@@ -1,5 +1,5 @@
 //! What changed since the base, held so that it needn't be composed anew of all entries.
-ghost use Rattle.std.specs.Prelude.{◌≡◌, ◌≤◌, ◌∷◌, IfOk, length, slice_index_or};
+ghost use Rattle.std.specs.Prelude.{◌≡◌, ◌≤◌, [], ◌∷◌, ◌++◌, IfOk, OnOk, length, slice_index_or};
 ghost use Rattle.rdf_dataset.specs.State.{State, net_between};
 ghost use Rattle.rdf_session.specs.Inside.Kept.{AreNets, states_after};
 ghost use Rattle.rdf_session.specs.Inside.Spans.{IsSpan, no_span};
@@ -124,9 +124,10 @@ impl Span {
             return;
         };
         self.nets.clear();
-        self.place = 0;
-        if self.nets.push(net).is_ok() {
+        if let Ok(()) = put_last(&mut self.nets, net) {
             self.place = to;
+        } else {
+            self.empty();
         }
     }
 
@@ -147,11 +148,11 @@ impl Span {
             self.empty();
             return;
         };
-        if self.nets.push(net).is_err() {
+        if let Ok(()) = put_last(&mut self.nets, net) {
+            self.place = to;
+        } else {
             self.empty();
-            return;
         }
-        self.place = to;
     }
 
     // Drops the nets.
@@ -161,4 +162,12 @@ impl Span {
         self.nets.clear();
         self.place = 0;
     }
+}
+
+// Puts a net behind the others.
+fn put_last(nets: &mut Vec<Net>, net: Net) -> Result<(), NoMemory>
+    ensures { OnOk result (nets.new.items ≡ nets.old.items ++ net ∷ []) }
+{
+    nets.push(net)?;
+    Ok(())
 }
