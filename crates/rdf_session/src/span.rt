@@ -90,8 +90,8 @@ impl Span {
         earlier.joined(later)
     }
 
-    /// Notes that so much more was done, and answers whether that has grown to half of the first net, so that what was done pays for one net of
-    /// all. A first entry alone is as good as a net.
+    /// Notes that so much more was done, and answers whether that has grown to half of the first net, so that it pays
+    /// for one net of all. A first entry alone is as good as a net.
     pub fn is_due(&mut self, work: usize, entries: &VecDeque<Net>, cursor: usize) -> bool
         ensures { self.new ≡ self.old }
     {

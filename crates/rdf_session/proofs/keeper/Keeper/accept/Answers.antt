@@ -26,8 +26,8 @@ invariant_of-self-2 c =
     c.forget_oldest.ensures.span ∙ ap (λ m. cond (is_past depth m) no_span c.leave.new.self) j in
     let b = begins_here _ _ _ _ _ c.self.inside.marks c.self.invariant.0 _ c.self.view_is c.args.net c.requires in
     let held =
-    left_held _ c.self.inside.entries.items _ k c.before.result c.self.inside.span c.leave.new.self c.in_ok-reserve.ensures.items c.leave.ensures.span c.self.invariant.0.nets
-    (c.before.ensures ∙ ap (λ (x : Change). x.before) b.2 ∙ ap (λ (x : State). x.next) c.self.invariant.0.current) c.self.invariant.2 in (
+    left_held _ c.self.inside.entries.items _ k c.before-2.result c.self.inside.span c.leave.new.self c.in_ok-reserve.ensures.items c.leave.ensures.span c.self.invariant.0.nets
+    (c.before-2.ensures ∙ ap (λ (x : Change). x.before) b.2 ∙ ap (λ (x : State). x.next) c.self.invariant.0.current) c.self.invariant.2 in (
       (accepted_any _ _ _ _ _ c.self.inside.marks c.self.invariant.0 _ c.self.view_is c.commit.new.self c.counts_of-counts.result _ _ _ _ (is_past depth (k + 1)) c.requires c.in_ok-commit.ensures.ok refl pn pj pm c.counts_of-counts.ensures.added c.counts_of-counts.ensures.removed).0,
       left_bounded _ _ _ _ _ c.self.inside.marks c.self.invariant.0 _ c.self.view_is _ _ (is_past depth (k + 1)) c.self.invariant.1 refl pn,
       span_left _ _ _ _ _ c.self.inside.marks c.self.invariant.0 _ c.self.view_is c.commit.new.self c.args.net _ _ (is_past depth (k + 1)) c.leave.new.self _ c.requires c.in_ok-commit.ensures.ok refl pn pj held c.leave.ensures.place ps,
