@@ -11,8 +11,12 @@ use std::alloc::Global;
 use std::collections::VecDeque;
 use std::marker::Model;
 
+// What is always left to be composed: small histories are not taken in.
+const LEAST: usize = 64;
+
 /// Nets from the base of a history to one of its places, one behind another. The first has all that was changed up to
-/// some place, and those behind it are at most half as large.
+/// some place; those behind it, and the entries between the place and the state now, are no more than half of it and a
+/// little more.
 #[derive(Drop)]
 pub struct Span {
     nets: Vec<Net>,
@@ -90,8 +94,8 @@ impl Span {
         earlier.joined(later)
     }
 
-    /// Notes that so much more was done, and answers whether that has grown to half of the first net, so that it pays
-    /// for one net of all. A first entry alone is as good as a net.
+    /// Notes that so much more was done, and answers whether that has grown to half of the first net and a little
+    /// more, so that it pays for one net of all. A first entry alone is as good as a net.
     pub fn is_due(&mut self, work: usize, entries: &VecDeque<Net>, cursor: usize) -> bool
         ensures { self.new ≡ self.old }
     {
@@ -108,7 +112,7 @@ impl Span {
             Some(net) => size_of(net),
             None => 0,
         };
-        !self.stopped && self.work >= held / 2
+        !self.stopped && self.work >= held / 2 + LEAST
     }
 
     /// Makes one net of all up to a place, whose counter it is. Where memory is wanting it holds what it held, or none.
