@@ -1,5 +1,5 @@
 -- Where memory isn't wanting, a query has one reply, but for a line that is the reader's own choice.
-use Rattle.std.proofs.Common.{◌≡◌, ◌≢◌, ◌⊎◌, inl, inr, ℕ, Bool, true, false, List, length, Option, Result, Ok, Err, refl, sym, ap, ◌∙◌, subst}
+use Rattle.std.proofs.Common.{◌≡◌, ◌≢◌, ◌⊎◌, inl, inr, ℕ, Bool, true, false, List, length, Result, Ok, Err, refl, sym, ap, ◌∙◌, subst}
 use Rattle.rdf_dataset.specs.State.{State}
 use Rattle.sparql_values.specs.Mapping.{Mapping}
 use Rattle.sparql_algebra.specs.Results.{IsSelection, HasSolution}
@@ -13,7 +13,7 @@ use Rattle.sparql_trees.specs.declared.query.Query.{Query}
 use Rattle.sparql_trees.specs.declared.query.Query.TheVariants as form
 use Rattle.sparql_trees.specs.declared.query.Select.{Select}
 use Rattle.rdf_session.specs.OneQueryReply.{DifferInFreeLine, OneQueryReply}
-use Rattle.rdf_session.specs.Query.{AnswersQuery, IsAnswered, IsOfRows, IsOfTruth, MayRefuseQuery, Replies}
+use Rattle.rdf_session.specs.Query.{AnswersQuery, IsAnswered, IsOfRows, IsOfTruth, MayRefuseQuery}
 use Rattle.rdf_session.specs.Session.{Session, now}
 use Rattle.rdf_session.specs.declared.fault.KeeperFault.{KeeperFault}
 use Rattle.rdf_session.specs.declared.fault.KeeperFault.TheVariants.{NoMemory, Syntax}

@@ -1,7 +1,7 @@
 -- What is held of the changes since the base, at another place and behind more entries.
-use Rattle.std.proofs.Common.{◌≡◌, ℕ, zero, suc, ◌-◌, ◌<◌, ◌≤◌, List, [], ◌∷◌, ◌++◌, length, take, get_or, refl, sym, ap, ◌∙◌, subst, arith}
+use Rattle.std.proofs.Common.{◌≡◌, ℕ, suc, ◌-◌, ◌<◌, ◌≤◌, List, [], ◌∷◌, ◌++◌, length, get_or, refl, sym, ap, ◌∙◌, subst, arith}
 use Rattle.rdf_dataset.specs.Chains.{Leads}
-use Rattle.rdf_dataset.specs.State.{State, Change, applied, net_between}
+use Rattle.rdf_dataset.specs.State.{State, Change, net_between}
 use Rattle.rdf_session.specs.History.{Marks}
 use Rattle.rdf_session.specs.Inside.Kept.{AreNets, IsKept, base_of}
 use Rattle.rdf_session.specs.Inside.Spans.{Span, IsSpan}
