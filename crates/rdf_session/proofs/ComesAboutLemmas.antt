@@ -1,11 +1,10 @@
 -- What the promise speaks of comes about.
-use Rattle.std.proofs.Common.{◌≡◌, ◌+◌, ◌-◌, ◌<◌, cond, false, [], refl, sym, ap, arith}
+use Rattle.std.proofs.Common.{◌≡◌, ◌+◌, ◌-◌, cond, [], refl, sym, ap, arith}
 use Rattle.rdf_dataset.specs.State.{State}
 use Rattle.rdf_session.proofs.ForgettingLemmas.{accepted_above, accepted_is, one_within}
 use Rattle.rdf_session.proofs.HeadlineLemmas.{made_by}
 use Rattle.rdf_session.proofs.MarkLemmas.{place_marked}
 use Rattle.rdf_session.specs.ComesAbout.{MayBeAccepted, EachCommandRuns, each_command}
-use Rattle.rdf_session.specs.Depth.{is_past}
 use Rattle.rdf_session.specs.Request.{Load, Makes, loaded}
 use Rattle.rdf_session.specs.Session.{Session, accepted, at_place, counts_between, forgetting, fresh, grown, now, with_depth, with_mark}
 use Rattle.rdf_session.specs.Standing.{Run}

@@ -4,6 +4,7 @@ use Rattle.std.specs.FinMap as map
 use mathlib.Core.Bool.{Bool, true≢false, true, false}
 use Rattle.std.specs.FinSet as set
 use Rattle.std.specs.List.{AllByRecursion}
+use Rattle.rdf_dataset.specs.Chains.{Leads}
 use Rattle.rdf_dataset.specs.State.{State, Change, IsSound, Begins, Ends, net_between, applied, turned}
 use Rattle.rdf_session.proofs.BehindLemmas.{lie_behind}
 use Rattle.rdf_session.proofs.ForgettingLemmas.{any_default, fewer_within, length_behind, length_pushed, within_depth}
@@ -14,6 +15,7 @@ use Rattle.rdf_session.specs.Depth.{is_past}
 use Rattle.rdf_session.specs.History.{LieIn, Marks, is_too_long, marks_behind, marks_upto, place_of}
 use Rattle.rdf_session.specs.Session.{Session, Transition, Undo, Redo, Rollback, Changed, Refused, all_states, counts_between, now, accepted, forgetting, grown}
 use Rattle.rdf_session.specs.Inside.Kept.{Settings, before_all, states_after, AreNets, session_from, base_of, IsBounded, IsKept}
+use Rattle.rdf_session.specs.Inside.Spans.{Span, IsSpan, no_span}
 use Rattle.rdf_session.specs.Session.{nets_between}
 use Rattle.rdf_session.specs.declared.fault.Counts.{Counts}
 use Rattle.rdf_session.specs.Faults.{no_memory}
@@ -74,6 +76,13 @@ extended base (n ∷ ns) (suc k) d e after c h o m =
 
 pub length-extended : (ns : List Change) (k : ℕ) (e : Change) → k ≤ length ns → length (take k ns ++ e ∷ []) ≡ k + 1
 length-extended ns k e h = simp (length-append, length-take) (omega (arith, h))
+
+-- the places up to where entries are cut off
+at_cut : (base : State) (ns : List Change) (k p : ℕ) (e : Change) (d : State) → p ≤ k → k ≤ length ns → at base ns p d ≡ at base (take k ns ++ e ∷ []) p d
+at_cut base ns k zero e d h l = refl
+at_cut base [] k (suc p) e d h l = absurd (omega (arith, h, l))
+at_cut base (n ∷ ns) zero (suc p) e d h l = absurd (omega (arith, h))
+at_cut base (n ∷ ns) (suc k) (suc p) e d h l = at_cut (applied n base) ns k p e d (omega (arith, h)) (omega (arith, l))
 
 -- without the first entry
 kept_behind : (base s : State) (ns : List Change) (k : ℕ) (marks : Marks) → 0 < k → IsKept base s ns k marks → IsKept (at base ns 1 base) s (drop 1 ns) (k - 1) (marks_behind 1 marks)
@@ -274,6 +283,20 @@ module _ (given : Settings) (base s : State) (ns : List Change) (k : ℕ) (marks
       let counted : counts ≡ counts_between (now o) h.0 =
       same_counts counts s h.0 (a ∙ ap (λ (y : Change). set.len y.added) h.2) (r ∙ ap (λ (y : Change). set.len y.removed) h.2) ∙ ap (λ y. counts_between y h.0) now_is in
       rw (pn, pj, pm) (there, λ after n. subst (λ x. (session_from given (base_of t (entries_left long e) (cursor_left long)) (entries_left long e) (cursor_left long) (marks_left long) ≡ accepted x o) × (counts ≡ counts_between (now o) x)) (one_end (now o) h.0 after e b.2 n) (seen, counted))
+
+  span_cut : (e : Change) (span : Span) (long : Bool) → IsSpan base ns span → span.place ≤ k → IsSpan (base_left long e) (entries_left long e) (cond long no_span span)
+  span_cut e span true held h = record { within = omega arith; leads = refl }
+  span_cut e span false held h = record {
+    within = rw (length-extended ns k e c.within) (omega (arith, h));
+    leads = subst (Leads base span.nets) (at_cut base ns k span.place e base h c.within) held.leads;
+  }
+
+  -- what is held since the base, up to a place that stays
+  pub span_left : (t : State) (e : Change) (ns' : List Change) (j : ℕ) (long : Bool) (span span' : Span) → Begins e (now o) → ((end : State) → e ≡ net_between s end → t ≡ end) → is_past given.depth (k + 1) ≡ long → ns' ≡ entries_left long e → j ≡ cursor_left long → IsSpan base ns span → span.place ≤ k → span' ≡ cond long no_span span → IsSpan (base_of t ns' j) ns' span'
+  span_left t e ns' j long span span' b ends is_long pn pj held h ps =
+      let n = begins_here e b in
+      let st = left_kept t n.0 e n.1 n.2 (ends n.0 n.2) long is_long in
+      rw (pn, pj, ps) (subst (λ x. IsSpan x (entries_left long e) (cond long no_span span)) (sym (base_of-kept _ _ _ _ _ st.0)) (span_cut e span long held h))
 
 pub entries_are : (base : State) (ns : List Change) → AreNets base ns → ns ≡ nets_between base (states_after base ns)
 entries_are base [] c = refl

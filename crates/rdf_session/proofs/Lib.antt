@@ -24,6 +24,7 @@ mod PlaceLemmas
 mod QueryLemmas
 mod RefusalLemmas
 mod SavedLemmas
+mod SpanLemmas
 mod StandingLemmas
 mod UndoRedoLemmas
 mod UpdateLemmas

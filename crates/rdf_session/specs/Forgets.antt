@@ -1,5 +1,5 @@
 -- What an accepted request leaves of a history, and what its depth forgets of it.
-use Rattle.std.specs.Prelude.{◌≡◌, ◌≢◌, ℕ, ◌+◌, ◌≤◌, ◌↔◌, List, [], ◌∷◌, ◌++◌, length, take, Option, Some}
+use Rattle.std.specs.Prelude.{◌≡◌, ◌≢◌, ℕ, ◌+◌, ◌≤◌, ◌↔◌, List, [], ◌∷◌, ◌++◌, length, take, Some}
 use Rattle.rdf_dataset.specs.State.{State}
 use Rattle.rdf_session.specs.GivesBack.{IsWholeSession}
 use Rattle.rdf_session.specs.History.{place_of}

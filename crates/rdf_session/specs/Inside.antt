@@ -2,5 +2,6 @@
 pub mod Kept
 pub mod Marks
 pub mod Saving
+pub mod Spans
 pub mod Staging
 pub mod ReaderLaws

@@ -1,5 +1,5 @@
 -- A query has one reply.
-use Rattle.std.specs.Prelude.{◌≡◌, ◌≢◌, ◌⊎◌, ℕ, true, List, Result, Ok, Err}
+use Rattle.std.specs.Prelude.{◌≡◌, ◌≢◌, ◌⊎◌, ℕ, true, List, Result, Err}
 use Rattle.sparql_results.specs.declared.format.ResultsFormat.{ResultsFormat}
 use Rattle.sparql_syntax.specs.UpdateLaws.{has_free_line}
 use Rattle.rdf_session.specs.OneReply.{SameButLine}

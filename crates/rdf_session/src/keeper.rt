@@ -1,5 +1,5 @@
 //! The keeper: a dataset with its history.
-ghost use Rattle.std.specs.Prelude.{◌≡◌, ℕ, List, ◌+◌, ◌≤◌, ◌-◌, ◌∷◌, ◌++◌, Some, Result, Ok, Err, IfOk, IfErr, OnErr, OnOk, MatchResult, cond, drop, length, slice_index_or};
+ghost use Rattle.std.specs.Prelude.{◌≡◌, ℕ, List, ◌+◌, ◌≤◌, ◌-◌, ◌++◌, Some, Result, Ok, Err, IfOk, IfErr, OnErr, OnOk, MatchResult, cond, drop, length};
 ghost use Rattle.std.specs.FinSet as set;
 ghost use Rattle.std.specs.List.{AllByRecursion, concat};
 ghost use Rattle.rdf_dataset.specs.State.{Begins, empty_state, IsSound, State, net_between};
@@ -7,7 +7,7 @@ ghost use Rattle.rdf_session.specs.Depth.{greatest_depth, is_past};
 ghost use Rattle.rdf_session.specs.Documents.{IsDocument};
 ghost use Rattle.rdf_session.specs.GivesBack.{IsWholeSession};
 ghost use Rattle.rdf_session.specs.History.{marks_behind, nothing};
-ghost use Rattle.rdf_session.specs.Inside.Kept.{AreNets, states_after};
+ghost use Rattle.rdf_session.specs.Inside.Spans.{no_span};
 ghost use Rattle.rdf_session.specs.Inside.Staging.{TellsFault};
 ghost use Rattle.rdf_session.specs.Session.{nets_between};
 ghost use Rattle.rdf_dataset.specs.Sorted.{ListsSorted};
@@ -18,6 +18,7 @@ ghost use Rattle.rdf_session.specs.Saved.{IsTextOf, Restores};
 ghost use Rattle.rdf_session.specs.Session.{Commit, Do, Done, Mark, Redo, Rollback, Session, Transition, Undo, accepted, all_states, counts_between, fresh, now, reply_of, reply_of_mark, with_depth};
 ghost use Rattle.rdf_session.specs.Faults.{no_memory};
 
+use crate::between::{composed, size_between, size_of};
 use crate::fault::{Counts, KeeperFault};
 use crate::format::Format;
 use crate::lines::write_lines;
@@ -25,6 +26,7 @@ use crate::load::{read, stage};
 use crate::marks::Marks;
 use crate::query::{Answer, evaluate, read_text};
 use crate::saved::{restored, restored_text, save};
+use crate::span::Span;
 use crate::update::{read_request, stage_request};
 use rdf_dataset::{Dataset, Net, Source};
 use rdf_lines::StateFault;
@@ -45,6 +47,8 @@ pub struct Keeper {
     entries: VecDeque<Net>,
     cursor: usize,
     marks: Marks,
+    // what changed since the base, for whoever asks
+    span: Span,
     // made by the first request or query that wants it
     vocabulary: OnceCell<Vocabulary>,
     alloc: Global,
@@ -53,6 +57,7 @@ pub struct Keeper {
 impl Model for Keeper {
     ghost use Rattle.rdf_session.specs.Session.{Session, session_code};
     ghost use Rattle.rdf_session.specs.Inside.Kept.{IsBounded, IsKept, base_of, session_from};
+    ghost use Rattle.rdf_session.specs.Inside.Spans.{IsSpan};
 
     ghost Value = { Session };
 
@@ -63,7 +68,8 @@ impl Model for Keeper {
 
     ghost invariant = { λ k. IsKept
         (base_of k.dataset k.entries.items k.cursor) k.dataset k.entries.items k.cursor k.marks
-        × IsBounded k.depth k.entries.items };
+        × IsBounded k.depth k.entries.items
+        × IsSpan (base_of k.dataset k.entries.items k.cursor) k.entries.items k.span };
 }
 
 impl Keeper {
@@ -87,6 +93,7 @@ impl Keeper {
             entries: VecDeque::new(alloc),
             cursor: 0,
             marks: Marks::new(alloc),
+            span: Span::new(alloc),
             vocabulary: OnceCell::new(),
             alloc,
         }
@@ -232,6 +239,9 @@ impl Keeper {
         self.entries.reserve(1)?;
         self.dataset.commit(&net)?;
         let counts = counts_of(&net);
+        let size = size_of(&net);
+        self.span
+            .leave(self.alloc, &self.entries, self.cursor, net.before());
         self.entries.truncate(self.cursor);
         self.entries.push_back_reserved(net);
         self.marks.keep_through(self.cursor);
@@ -241,11 +251,25 @@ impl Keeper {
             &mut self.entries,
             &mut self.marks,
             &mut self.cursor,
+            &mut self.span,
         );
+        self.gather(size);
         Ok(counts)
     }
 
-    /// Goes back before the last standing request: quads, names and counter are as they were. It takes no
+    // Takes what was done into the net since the base, once that pays. Nothing that is seen changes, and where memory is
+    // wanting nothing is refused.
+    fn gather(&mut self, size: usize)
+        ensures { self.new ≡ self.old }
+    {
+        if self.span.is_due(size, &self.entries, self.cursor) {
+            let counter = self.dataset.next_blank();
+            self.span
+                .gather(self.alloc, &self.entries, self.cursor, counter);
+        }
+    }
+
+    /// Goes back before the last standing request: quads, names and counter are as they were. It needs no
     /// memory where the request removed no quad and no name.
     ///
     /// # Errors
@@ -259,11 +283,13 @@ impl Keeper {
         let entry = &self.entries[self.cursor - 1];
         self.dataset.revert(entry)?;
         let counts = back_counts_of(entry);
+        let size = size_of(entry);
         self.cursor -= 1;
+        self.gather(size);
         Ok(counts)
     }
 
-    /// Goes on to the state after the request that was undone last, which isn't run again. It takes no
+    /// Goes on to the state after the request that was undone last, which isn't run again. It needs no
     /// memory where the request added no quad and no name.
     ///
     /// # Errors
@@ -277,7 +303,9 @@ impl Keeper {
         let entry = &self.entries[self.cursor];
         self.dataset.commit(entry)?;
         let counts = counts_of(entry);
+        let size = size_of(entry);
         self.cursor += 1;
+        self.gather(size);
         Ok(counts)
     }
 
@@ -305,16 +333,14 @@ impl Keeper {
         if place > self.cursor {
             return Err(KeeperFault::MarkAhead);
         }
-        let net = composed(
-            self.alloc,
-            &self.entries,
-            place,
-            self.cursor,
-            self.dataset.next_blank(),
-        )?;
+        let counter = self.dataset.next_blank();
+        let net = composed(self.alloc, &self.entries, place, self.cursor, counter)?;
         self.dataset.revert(&net)?;
+        let counts = back_counts_of(&net);
+        let size = size_between(&self.entries, place, self.cursor);
         self.cursor = place;
-        Ok(back_counts_of(&net))
+        self.gather(size);
+        Ok(counts)
     }
 
     /// Makes the state now the base, and forgets requests and marks. It takes no memory.
@@ -323,6 +349,7 @@ impl Keeper {
     {
         self.entries.clear();
         self.marks.clear();
+        self.span.clear();
         self.cursor = 0;
     }
 
@@ -341,7 +368,8 @@ impl Keeper {
         ensures { IfOk result (λ net. net ≡ net_between self.now.base (now self.now)) }
     {
         let counter = self.dataset.next_blank();
-        composed(self.alloc, &self.entries, 0, self.cursor, counter)
+        self.span
+            .net_to(self.alloc, &self.entries, self.cursor, counter)
     }
 
     /// Appends the lines of the quads now, sorted, as canonical N-Quads (RDF 1.1 N-Quads, section 2), and
@@ -421,12 +449,14 @@ fn forget_oldest(
     entries: &mut VecDeque<Net>,
     marks: &mut Marks,
     cursor: &mut usize,
+    span: &mut Span,
 )
     ensures entries { entries.new.items ≡
         cond (is_past depth cursor.old) (drop 1 entries.old.items) entries.old.items }
     ensures marks { marks.new ≡
         cond (is_past depth cursor.old) (marks_behind 1 marks.old) marks.old }
     ensures cursor { cursor.new ≡ cond (is_past depth cursor.old) (cursor.old - 1) cursor.old }
+    ensures span { span.new ≡ cond (is_past depth cursor.old) no_span span.old }
 {
     let Some(depth) = depth else {
         return;
@@ -434,36 +464,7 @@ fn forget_oldest(
     if *cursor > depth {
         entries.pop_front();
         marks.fall();
+        span.stop();
         *cursor -= 1;
     }
-}
-
-// The net from one place of a chain of nets to another; the counter is that of the last place.
-fn composed(
-    alloc: Global,
-    entries: &VecDeque<Net>,
-    from: usize,
-    to: usize,
-    counter: u64,
-) -> Result<Net, NoMemoryFault>
-    requires order { from ≤ to }
-    requires within { to ≤ length entries.now.items }
-    ensures { IfOk result (λ net. (base : State) → AreNets base entries.now.items →
-        counter ≡ (slice_index_or (base ∷ states_after base entries.now.items) to base).next →
-        net ≡ net_between
-        (slice_index_or (base ∷ states_after base entries.now.items) from base)
-        (slice_index_or (base ∷ states_after base entries.now.items) to base)) }
-{
-    // the ring holds them in two runs
-    let (front, back) = entries.as_slices();
-    let seam = front.len();
-    if to <= seam {
-        return Net::of_chain(alloc, &front[from..to], counter);
-    }
-    if from >= seam {
-        return Net::of_chain(alloc, &back[from - seam..to - seam], counter);
-    }
-    let earlier = Net::of_chain(alloc, &front[from..], back[0].before())?;
-    let later = Net::of_chain(alloc, &back[..to - seam], counter)?;
-    earlier.joined(later)
 }

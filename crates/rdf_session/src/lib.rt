@@ -5,6 +5,7 @@
 //! reads no script, and is for one thread.
 #![tactic(auto)]
 
+mod between;
 mod fault;
 mod format;
 mod keeper;
@@ -16,6 +17,7 @@ mod places;
 mod query;
 mod saved;
 mod shared_quads;
+mod span;
 mod update;
 
 pub use fault::{Counts, KeeperFault};

@@ -1,6 +1,7 @@
 use Rattle.std.proofs.Common.{◌≡◌, ◌≢◌, ℕ, ◌<◌, ◌≤◌, refl, sym, ◌∙◌, subst, arith, length}
 use Rattle.std.proofs.lemmas.Result.{err_from_is_err_and}
-use Rattle.rdf_session.specs.Session.{Session}
+use Rattle.rdf_session.specs.Session.{Session, Transition, Redo, Changed}
+use Rattle.rdf_session.proofs.SpanLemmas.{span_at}
 use Rattle.rdf_session.proofs.KeptLemmas.{redo_begins, redo_transition, redo_refused, kept, length-states_after}
 use Rattle.rdf_session.proofs.keeper.Keeper.redo.Goals as goal
 
@@ -23,8 +24,10 @@ returns-in_err-commit c =
 
 pub invariant_of-self-2 : goal.invariant_of-self-2
 invariant_of-self-2 c =
-    (kept _ _ _ _ _ (redo_transition _ _ _ _ _ c.self.inside.marks c.self.invariant.0 _ c.self.view_is c.commit.new.self c.counts_of-counts.result _ (below _ _ _ _ c.self.invariant.0.within c.len.ensures c.self.inside.entries.ok.0 c.if-self-len.false) c.index-entry.ensures c.in_ok-commit.ensures.ok c.counts_of-counts.ensures.added c.counts_of-counts.ensures.removed).0, c.self.invariant.1)
+    let there = (redo_transition _ _ _ _ _ c.self.inside.marks c.self.invariant.0 _ c.self.view_is c.commit.new.self c.counts_of-counts.result _ (below _ _ _ _ c.self.invariant.0.within c.len.ensures c.self.inside.entries.ok.0 c.if-self-len.false) c.index-entry.ensures c.in_ok-commit.ensures.ok c.counts_of-counts.ensures.added c.counts_of-counts.ensures.removed).0 in
+    (kept _ _ _ _ _ there, c.self.invariant.1, span_at _ _ _ _ _ _ there c.self.invariant.2)
 
 pub returns : goal.returns
 returns c =
+    subst (λ (x : Session). Transition c.args.self.now Redo (Changed c.counts_of-counts.result) x) (sym c.gather.ensures)
     (redo_transition _ _ _ _ _ c.self.inside.marks c.self.invariant.0 _ c.self.view_is c.commit.new.self c.counts_of-counts.result _ (below _ _ _ _ c.self.invariant.0.within c.len.ensures c.self.inside.entries.ok.0 c.if-self-len.false) c.index-entry.ensures c.in_ok-commit.ensures.ok c.counts_of-counts.ensures.added c.counts_of-counts.ensures.removed).1

@@ -1,7 +1,7 @@
 use Rattle.std.proofs.Common.{◌∙◌, arith}
 use Rattle.std.proofs.lemmas.Result.{IfOk-weaker}
 use Rattle.rdf_session.proofs.ChainLemmas.{composed_in_back, composed_in_front, composed_over}
-use Rattle.rdf_session.proofs.keeper.composed.Goals as goal
+use Rattle.rdf_session.proofs.between.composed.Goals as goal
 
 pub returns-then-to-seam : goal.returns-then-to-seam
 returns-then-to-seam c =
