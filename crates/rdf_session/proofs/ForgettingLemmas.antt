@@ -180,9 +180,9 @@ accepted_whole after s w =
 
 -- ---- a mark stays at its state
 
--- where the name is, there is the state
+-- where the name is up to the cursor, there is the state
 abbrev pub Holds : List ℕ → State → Session → Type 0
-Holds name there s = (place : ℕ) → place_of name s.states ≡ Some place → state_at s place ≡ there
+Holds name there s = (place : ℕ) → place_of name s.states ≡ Some place → place ≤ s.states.cursor → state_at s place ≡ there
 
 pub holds_accepted : (name : List ℕ) (there after : State) (s : Session) → IsPlaced s → Holds name there s → Holds name there (accepted after s)
 holds_accepted name there after s w h = by_depth (Holds name there) after s (λ _. grown_holds) (λ _. forgetting_holds)
@@ -197,12 +197,12 @@ holds_accepted name there after s w h = by_depth (Holds name there) after s (λ 
     n = length_pushed s.states.items k after w
 
     grown_holds : Holds name there g
-    grown_holds place e =
+    grown_holds place e _ =
         let is = upto_kept _ k place (sym (get_upto s.states.marks k name) ∙ e) in
-        stands s.base s.states.items k place s.base after is.1 w ∙ h place is.0
+        stands s.base s.states.items k place s.base after is.1 w ∙ h place is.0 is.1
 
     forgetting_holds : Holds name there (forgetting g)
-    forgetting_holds place e =
+    forgetting_holds place e _ =
         let was = behind_was 1 place _ (sym (get_behind g.states.marks 1 name) ∙ e) in
         let is = upto_kept _ k (place + 1) (sym (get_upto s.states.marks k name) ∙ was) in
-        forgetting_at g place (omega (arith, n, is.1)) ∙ ap (state_at g) (sym (add-one place)) ∙ grown_holds (place + 1) was
+        forgetting_at g place (omega (arith, n, is.1)) ∙ ap (state_at g) (sym (add-one place)) ∙ grown_holds (place + 1) was (omega (arith, is.1))

@@ -1,13 +1,13 @@
 -- What undo, redo and rollback give back.
-use Rattle.std.proofs.Common.{◌≡◌, ◌≢◌, ℕ, ◌+◌, ◌-◌, ◌<◌, ◌≤◌, true, false, List, [], ◌∷◌, length, Option, Some, None, refl, sym, ap, ◌∙◌, subst, arith}
+use Rattle.std.proofs.Common.{◌≡◌, ℕ, ◌+◌, ◌-◌, ◌<◌, ◌≤◌, List, [], ◌∷◌, length, Option, Some, None, refl, sym, ap, ◌∙◌, subst, arith}
 use Rattle.rdf_dataset.specs.State.{State}
 use Rattle.rdf_session.proofs.BehindLemmas.{one_place}
 use Rattle.rdf_session.proofs.BetweenLemmas.{quiet_accepted, quiet_run}
 use Rattle.rdf_session.proofs.ForgettingLemmas.{Holds, accepted_is, accepted_whole, holds_accepted, none_within, now_accepted}
-use Rattle.rdf_session.proofs.MarkLemmas.{lie_marked, lie_nowhere, one_name, place_marked, place_nowhere, place_other, same}
+use Rattle.rdf_session.proofs.MarkLemmas.{lie_marked, lie_nowhere, place_marked}
 use Rattle.rdf_session.specs.Between.{Quietly}
 use Rattle.rdf_session.specs.Depth.{IsDepth}
-use Rattle.rdf_session.specs.GivesBack.{IsPlaced, IsWholeSession, LeaveMark, RunsAreWhole, UndoGivesBack, RedoGivesAgain, RollbackGivesBack}
+use Rattle.rdf_session.specs.GivesBack.{IsPlaced, IsWholeSession, Accepts, RunsAreWhole, UndoGivesBack, RedoGivesAgain, RollbackGivesBack}
 use Rattle.rdf_session.specs.Request.{Request}
 use Rattle.rdf_session.specs.History.{Marks}
 use Rattle.rdf_session.specs.Standing.{Run}
@@ -94,68 +94,18 @@ redo_gives_again old mid later back after new request c d e w st quiet un calm r
 placed_accepted : (after : State) (s : Session) → IsPlaced s → IsPlaced (accepted after s)
 placed_accepted after s w = omega (arith, (accepted_is after s w).cursor)
 
-placed : (old new : Session) (c : Command) (r : Reply) → IsPlaced old → Transition old c r new → IsPlaced new
-placed old new c (Refused fault) w st = subst IsPlaced (sym st.1) w
-placed old new (Do request) (Changed counts) w st = subst IsPlaced (sym st.2) (placed_accepted st.0 old w)
-placed old new (Do request) Done w st = absurd st
-placed old new Undo (Changed counts) w st = subst IsPlaced (sym st.1) (omega (arith, w))
-placed old new Undo Done w st = absurd st
-placed old new Redo (Changed counts) w st = subst IsPlaced (sym st.1) (omega (arith, st.0))
-placed old new Redo Done w st = absurd st
-placed old new (Mark name) (Changed counts) w st = absurd st
-placed old new (Mark name) Done w st = subst IsPlaced (sym st) w
-placed old new (Rollback name) (Changed counts) w st = subst IsPlaced (sym st.3) (omega (arith, st.2, w))
-placed old new (Rollback name) Done w st = absurd st
-placed old new Commit (Changed counts) w st = absurd st
-placed old new Commit Done w st = subst IsPlaced (sym st) (omega arith)
-
-nowhere : (place : ℕ) → None ≡ Some place → ⊥
-nowhere place e = cc
-
--- where nothing was done no name is anywhere
-holds_nowhere : (name : List ℕ) (there : State) (depth : Option ℕ) (base_iri : Option (List ℕ)) (start : State) → Holds name there (with_depth depth (fresh base_iri start))
-holds_nowhere name there depth base_iri start place e = absurd (nowhere place (sym (place_nowhere name) ∙ e))
-
--- another name leaves it where it is
-holds_other : (name other : List ℕ) (there : State) (s : Session) → same name other ≡ false → Holds name there s → Holds name there (with_mark other s)
-holds_other name other there s e h place p = h place (sym (place_other other name s.states.marks s.states.cursor e) ∙ p)
-
-abbrev mark_event : List ℕ → Command × Reply
-mark_event name = (Mark name, Done)
-
-holds_beside : (name other : List ℕ) (there : State) (s : Session) → mark_event other ≢ mark_event name → Holds name there s → Holds name there (with_mark other s)
-holds_beside name other there s apart h =
-    elim (same name other) as (λ b. same name other ≡ b → Holds name there (with_mark other s)) [
-      | true ↦ λ e. absurd (apart (ap mark_event (sym (one_name name other e))))
-      | false ↦ λ e. holds_other name other there s e h
-    ] refl
-
-holds_behind : (name : List ℕ) (there : State) (old new : Session) (c : Command) (r : Reply) → IsPlaced old → (c, r) ≢ mark_event name → Holds name there old → Transition old c r new → Holds name there new
-holds_behind name there old new c (Refused fault) w apart h st = subst (Holds name there) (sym st.1) h
-holds_behind name there old new (Do request) (Changed counts) w apart h st = subst (Holds name there) (sym st.2) (holds_accepted name there st.0 old w h)
-holds_behind name there old new (Do request) Done w apart h st = absurd st
-holds_behind name there old new Undo (Changed counts) w apart h st = subst (Holds name there) (sym st.1) h
-holds_behind name there old new Undo Done w apart h st = absurd st
-holds_behind name there old new Redo (Changed counts) w apart h st = subst (Holds name there) (sym st.1) h
-holds_behind name there old new Redo Done w apart h st = absurd st
-holds_behind name there old new (Mark other) (Changed counts) w apart h st = absurd st
-holds_behind name there old new (Mark other) Done w apart h st = subst (Holds name there) (sym st) (holds_beside name other there old apart h)
-holds_behind name there old new (Rollback other) (Changed counts) w apart h st = subst (Holds name there) (sym st.3) h
-holds_behind name there old new (Rollback other) Done w apart h st = absurd st
-holds_behind name there old new Commit (Changed counts) w apart h st = absurd st
-holds_behind name there old new Commit Done w apart h st = subst (Holds name there) (sym st) (holds_nowhere name there old.depth old.base_iri (now old))
-
-holds_all : (name : List ℕ) (there : State) (events : List (Command × Reply)) (old new : Session) → IsPlaced old → Holds name there old → Run old events new → LeaveMark name events → Holds name there new
-holds_all name there [] old new w h run left = subst (Holds name there) (sym run) h
-holds_all name there (event ∷ events) old new w h run left =
-    holds_all name there events run.0 new (placed old run.0 event.0 event.1 w run.1) (holds_behind name there old run.0 event.0 event.1 w left.0 h run.1) run.2 left.1
+holds_all : (name : List ℕ) (there : State) (requests : List Request) (old new : Session) → IsPlaced old → Holds name there old → Accepts old requests new → Holds name there new
+holds_all name there [] old new w h a = subst (Holds name there) (sym a) h
+holds_all name there (request ∷ requests) old new w h a =
+    holds_all name there requests a.0 new (subst IsPlaced (sym a.2.2) (placed_accepted a.2.0 old w))
+    (subst (Holds name there) (sym a.2.2) (holds_accepted name there a.2.0 old w h)) a.3
 
 -- a name that is put at the cursor is at the state now
 holds_marked : (name : List ℕ) (s : Session) → Holds name (now s) (with_mark name s)
-holds_marked name s place e = ap (state_at s) (one_place place s.states.cursor (sym e ∙ place_marked name s.states.marks s.states.cursor))
+holds_marked name s place e _ = ap (state_at s) (one_place place s.states.cursor (sym e ∙ place_marked name s.states.marks s.states.cursor))
 
 pub rollback_gives_back : RollbackGivesBack
-rollback_gives_back old marked mid new name events c w mark run left back =
-    let h = holds_all name (now old) events marked mid (subst IsPlaced (sym mark) w) (subst (Holds name (now old)) (sym mark) (holds_marked name old)) run left in
-    let gives : now new ≡ now old = ap now back.3 ∙ h back.0 back.1 in
+rollback_gives_back old marked mid new name requests c w mark more back =
+    let h = holds_all name (now old) requests marked mid (subst IsPlaced (sym mark) w) (subst (Holds name (now old)) (sym mark) (holds_marked name old)) more in
+    let gives : now new ≡ now old = ap now back.3 ∙ h back.0 back.1 back.2 in
     (gives, back.4 ∙ ap (counts_between (now mid)) gives)

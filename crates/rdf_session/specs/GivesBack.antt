@@ -1,5 +1,5 @@
 -- What undo, redo and rollback give back, and what refusals leave.
-use Rattle.std.specs.Prelude.{◌≡◌, ◌≢◌, ℕ, ◌≤◌, List, [], ◌∷◌, length, Option}
+use Rattle.std.specs.Prelude.{◌≡◌, ℕ, ◌≤◌, List, [], ◌∷◌, length, Option}
 use Rattle.rdf_dataset.specs.State.{State}
 use Rattle.rdf_session.specs.Between.{Quietly}
 use Rattle.rdf_session.specs.Depth.{IsDepth, IsWithin}
@@ -40,16 +40,15 @@ RedoGivesAgain = (old mid later back after new : Session) (request : Request) (c
     → Transition old (Do request) (Changed c) mid → Quietly mid later → Transition later Undo (Changed d) back → Quietly back after
     → Transition after Redo (Changed e) new → (new ≡ with_marks after.states.marks mid) × (e ≡ c)
 
--- none of these commands put the mark
-abbrev pub LeaveMark : List ℕ → List (Command × Reply) → Type 0
-LeaveMark name [] = Unit {0}
-LeaveMark name (event ∷ events) = (event ≢ (Mark name, Done)) × LeaveMark name events
+-- the session after these requests, all accepted
+abbrev pub Accepts : Session → List Request → Session → Type 0
+Accepts old [] new = new ≡ old
+Accepts old (request ∷ requests) new = (mid : Session) × (c : Counts) × Transition old (Do request) (Changed c) mid × Accepts mid requests new
 
--- A rollback to a mark gives back the state at which it was put last, quads, graph names and counter, whatever commands came between with whatever
--- replies: requests, undos, redos, other marks, rollbacks and refusals.
+-- A rollback to a mark that was put where the session stood gives back that state, whatever requests were accepted since.
 abbrev pub RollbackGivesBack : Type 0
-RollbackGivesBack = (old marked mid new : Session) (name : List ℕ) (events : List (Command × Reply)) (c : Counts) → IsPlaced old
-    → Transition old (Mark name) Done marked → Run marked events mid → LeaveMark name events → Transition mid (Rollback name) (Changed c) new
+RollbackGivesBack = (old marked mid new : Session) (name : List ℕ) (requests : List Request) (c : Counts) → IsPlaced old
+    → Transition old (Mark name) Done marked → Accepts marked requests mid → Transition mid (Rollback name) (Changed c) new
     → (now new ≡ now old) × (c ≡ counts_between (now mid) (now old))
 
 -- A refused command leaves the session as it was, all of it.

@@ -75,8 +75,8 @@ pub fn standing_requests()
 /// the cursor lies there: the next undo behind an accepted request gives back the state before it,
 /// in quads, graph names and counter, with the counts turned; the next redo behind that gives the
 /// session again that the request had left, its history too, with the same counts. Marks and
-/// refusals may come between. A rollback to a mark gives back the state at which it was put last,
-/// whatever requests, undos, redos, other marks, rollbacks and refusals came between. Anywhere in a history an undo and a redo
+/// refusals may come between. A rollback to a mark that was put where the session stood gives back
+/// that state, whatever requests were accepted since. Anywhere in a history an undo and a redo
 /// behind it, or the other way, leave the session as it was. So does a refusal.
 pub fn undo_gives_back()
     ensures whole { RunsAreWhole }
