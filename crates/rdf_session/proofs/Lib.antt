@@ -23,6 +23,7 @@ mod OneResultLemmas
 mod PlaceLemmas
 mod QueryLemmas
 mod RefusalLemmas
+mod RollsBackLemmas
 mod SavedLemmas
 mod SpanLemmas
 mod StandingLemmas

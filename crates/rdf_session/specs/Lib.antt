@@ -17,6 +17,7 @@ pub mod OneResult
 pub mod QuadLines
 pub mod Query
 pub mod Request
+pub mod RollsBack
 pub mod Saved
 pub mod Session
 pub mod Standing

@@ -18,6 +18,7 @@ ghost use Rattle.rdf_session.specs.LoadLaws.{LoadInserts, LoadIsRefusedAlike};
 ghost use Rattle.rdf_session.specs.OneQueryReply.{OneQueryReply};
 ghost use Rattle.rdf_session.specs.OneReply.{OneReply};
 ghost use Rattle.rdf_session.specs.OneResult.{SomeResult, OneResult, ResultOrRefusal};
+ghost use Rattle.rdf_session.specs.RollsBack.{RollbackGivesBackItsMark, RollbackIsTaken};
 ghost use Rattle.rdf_session.specs.Saved.{CommandsGoOnAlike, RestoredIsAsCommitted, RestoredIsSavedAlike, SavedComesBack};
 ghost use Rattle.rdf_session.specs.UndoRedo.{UndoThenRedo, RedoThenUndo};
 
@@ -86,6 +87,15 @@ pub fn undo_gives_back()
     ensures redo_undo { RedoThenUndo }
     ensures rollback { RollbackGivesBack }
     ensures refused { RefusalsLeave }
+{}
+
+/// A rollback to a mark gives back the state at which the mark was put, in quads, graph names and
+/// counter, whatever commands with whatever replies came between: requests, refusals, undos, redos,
+/// rollbacks, commits, and marks of other names. Without a depth, where only requests and refusals
+/// came between, it is refused only where memory is wanting.
+pub fn a_rollback_gives_back_its_mark()
+    ensures state { RollbackGivesBackItsMark }
+    ensures taken { RollbackIsTaken }
 {}
 
 /// An accepted request leaves the states up to the cursor with the new one behind them, and each mark
