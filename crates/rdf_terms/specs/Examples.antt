@@ -11,7 +11,6 @@ use Rattle.rdf_terms.specs.Quoted.{IsIriRef, IsQuoted}
 use Rattle.rdf_terms.specs.Reading.{escape_at, iri_at, quoted_at}
 use Rattle.rdf_terms.specs.ReadingLaws.{StandsAt}
 use Rattle.rdf_terms.specs.Reference.{IsBase}
-use Rattle.rdf_terms.specs.Resolution.{Means}
 use Rattle.rdf_terms.specs.Rewriting.{step_input, step_output}
 use Rattle.rdf_terms.specs.Term.{is_term}
 use Rattle.rdf_terms.specs.TermText.{term_text}
@@ -106,24 +105,6 @@ ReferenceExamples =
     × IsBase (codes "urn:example:animal:ferret:nose") (codes "urn") (record { authority = None; path = codes "example:animal:ferret:nose"; query = None; fragment = None })
     × IsBase (codes "http://www.ics.uci.edu/pub/ietf/uri/#Related") (codes "http")
     (record { authority = Some (codes "www.ics.uci.edu"); path = codes "/pub/ietf/uri/"; query = None; fragment = Some (codes "Related") })
-
--- the base of RFC 3986, section 5.4
-abbrev pub MeansThere : List ℕ → List ℕ → Type 0
-MeansThere reference text = Means (Some (codes "http://a/b/c/d;p?q")) reference text
-
--- RFC 3986, section 5.4.1 (normal examples)
-abbrev pub NormalExamples : Type 0
-NormalExamples =
-    MeansThere (codes "g:h") (codes "g:h") × MeansThere (codes "g") (codes "http://a/b/c/g") × MeansThere (codes "/g") (codes "http://a/g")
-    × MeansThere (codes "//g") (codes "http://g") × MeansThere (codes "?y") (codes "http://a/b/c/d;p?y") × MeansThere (codes "#s") (codes "http://a/b/c/d;p?q#s")
-    × MeansThere (codes "g;x?y#s") (codes "http://a/b/c/g;x?y#s") × MeansThere [] (codes "http://a/b/c/d;p?q") × MeansThere (codes "..") (codes "http://a/b/")
-    × MeansThere (codes "../../g") (codes "http://a/g")
-
--- RFC 3986, section 5.4.2 (abnormal examples; `http:g` by a strict parser)
-abbrev pub AbnormalExamples : Type 0
-AbnormalExamples =
-    MeansThere (codes "../../../../g") (codes "http://a/g") × MeansThere (codes "/./g") (codes "http://a/g") × MeansThere (codes "..g") (codes "http://a/b/c/..g")
-    × MeansThere (codes "g;x=1/../y") (codes "http://a/b/c/y") × MeansThere (codes "g?y/../x") (codes "http://a/b/c/g?y/../x") × MeansThere (codes "http:g") (codes "http:g")
 
 -- the steps 2E, 2B and 2C of RFC 3986, section 5.2.4, on its first example
 abbrev pub RewritingExamples : Type 0

@@ -23,6 +23,7 @@ pub mod Reading
 pub mod ReadingLaws
 pub mod Reference
 pub mod Resolution
+pub mod ResolutionExamples
 pub mod ResolutionLaws
 pub mod Rewriting
 pub mod Runs

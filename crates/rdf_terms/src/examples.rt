@@ -1,10 +1,10 @@
 //! Examples of the public standards.
-ghost use Rattle.rdf_terms.specs.Examples.{CharacterExamples, ShortEscapeExamples, CutExamples, DotExamples, EscapeExamples, IriExamples, LiteralExamples, TermExamples, QuadExamples, ReadingExamples, QuotedExamples, ReferenceExamples, NormalExamples, AbnormalExamples, RewritingExamples, TermTextExamples};
+ghost use Rattle.rdf_terms.specs.Examples.{CharacterExamples, ShortEscapeExamples, CutExamples, DotExamples, EscapeExamples, IriExamples, LiteralExamples, TermExamples, QuadExamples, ReadingExamples, QuotedExamples, ReferenceExamples, RewritingExamples, TermTextExamples};
 
 /// The standards' own examples come out as they say: characters and escapes (Turtle 1.1, sections
-/// 6.4 and 6.5), IRIs, components, dot segments and resolution (RFC 3986, sections 1.1.2, 3, 5.2.4
-/// and 5.4), language tags and quads (Turtle 1.1, section 2.5; RDF 1.1 Concepts, section 3.1), and
-/// the text of terms (RDF 1.1 N-Triples, section 4).
+/// 6.4 and 6.5), IRIs, components and dot segments (RFC 3986, sections 1.1.2, 3 and 5.2.4), language
+/// tags and quads (Turtle 1.1, section 2.5; RDF 1.1 Concepts, section 3.1), and the text of terms
+/// (RDF 1.1 N-Triples, section 4). Those of resolution are [`crate::reference_examples_hold`]'s.
 pub fn the_standards_examples_hold()
     ensures characters { CharacterExamples }
     ensures short_escapes { ShortEscapeExamples }
@@ -18,8 +18,6 @@ pub fn the_standards_examples_hold()
     ensures reading { ReadingExamples }
     ensures quoted { QuotedExamples }
     ensures references { ReferenceExamples }
-    ensures normal { NormalExamples }
-    ensures abnormal { AbnormalExamples }
     ensures rewriting { RewritingExamples }
     ensures term_texts { TermTextExamples }
 {}

@@ -53,7 +53,7 @@ pub use quoted::{iris_are_read, strings_are_read};
 pub use resolution::resolve;
 pub use resolution_laws::{
     components_are_unique, dots_are_removed, dots_before_slashes, one_reference_meaning,
-    segments_are_the_path,
+    reference_examples_hold, segments_are_the_path,
 };
 pub use table::{TermId, TermTable, terms_are_held_once};
 pub use tag::tags_are_read;

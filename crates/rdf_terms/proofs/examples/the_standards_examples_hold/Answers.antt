@@ -1,15 +1,13 @@
-use Rattle.std.proofs.Common.{◌≡◌, Bool, true, false, ◌&&◌, IsTrue, [], ◌∷◌, ◌++◌, codes, refl, ap, inl, inr, rules, arith, Some}
+use Rattle.std.proofs.Common.{◌≡◌, Bool, true, false, ◌&&◌, IsTrue, [], ◌∷◌, ◌++◌, codes, refl, ap, inl, inr, rules, arith}
 use Rattle.std.specs.Str.{is_utf8}
 use Rattle.std.proofs.lemmas.Bool.{and_from, and_right}
 use Rattle.std.proofs.lemmas.Fmt.{decimal_digit}
 use Rattle.rdf_terms.specs.Characters.{is_pn_chars_base, is_pn_chars_u, is_pn_chars, short_escape}
-use Rattle.rdf_terms.specs.Dots.{without_dots}
 use Rattle.rdf_terms.specs.Reading.{hex_at, hex4_at, scalar_only, numeric_at, escape_at, allowed_only, expect, iri_character_at, string_character_at, up_to, iri_body_at, iri_at, quoted_body_at, quoted_at}
-use Rattle.rdf_terms.specs.Rewriting.{resolved, step_input, step_output}
+use Rattle.rdf_terms.specs.Rewriting.{step_input, step_output}
 use Rattle.rdf_terms.proofs.CutLemmas.{before_lacks_mark}
 use Rattle.rdf_terms.proofs.QuotedLemmas.{iri_sound, quoted_sound}
 use Rattle.rdf_terms.proofs.ReferenceLemmas.{components_there}
-use Rattle.rdf_terms.proofs.ResolutionLemmas.{means_itself, means_resolved}
 use lib.Utf8.{encode}
 use Rattle.rdf_terms.specs.Examples.{example_uri, plain_text, tagged_text}
 use Rattle.rdf_terms.specs.Iri.{is_iri}
@@ -95,32 +93,6 @@ returns-clause-references c = (
   (codes "//example.com:8042/over/there?name=ferret#nose", refl, before_lacks_mark 58 example_uri, components_there (codes "//example.com:8042/over/there?name=ferret#nose")),
   (codes "example:animal:ferret:nose", refl, before_lacks_mark 58 (codes "urn:example:animal:ferret:nose"), components_there (codes "example:animal:ferret:nose")),
   (codes "//www.ics.uci.edu/pub/ietf/uri/#Related", refl, before_lacks_mark 58 (codes "http://www.ics.uci.edu/pub/ietf/uri/#Related"), components_there (codes "//www.ics.uci.edu/pub/ietf/uri/#Related")),
-)
-
-pub returns-clause-normal : goal.returns-clause-normal
-unfolding resolved without_dots
-returns-clause-normal c = (
-  means_itself (Some (codes "http://a/b/c/d;p?q")) (codes "g:h") (codes "g:h") refl refl,
-  means_resolved (codes "http://a/b/c/d;p?q") (codes "g") (codes "http://a/b/c/g") refl refl refl,
-  means_resolved (codes "http://a/b/c/d;p?q") (codes "/g") (codes "http://a/g") refl refl refl,
-  means_resolved (codes "http://a/b/c/d;p?q") (codes "//g") (codes "http://g") refl refl refl,
-  means_resolved (codes "http://a/b/c/d;p?q") (codes "?y") (codes "http://a/b/c/d;p?y") refl refl refl,
-  means_resolved (codes "http://a/b/c/d;p?q") (codes "#s") (codes "http://a/b/c/d;p?q#s") refl refl refl,
-  means_resolved (codes "http://a/b/c/d;p?q") (codes "g;x?y#s") (codes "http://a/b/c/g;x?y#s") refl refl refl,
-  means_resolved (codes "http://a/b/c/d;p?q") [] (codes "http://a/b/c/d;p?q") refl refl refl,
-  means_resolved (codes "http://a/b/c/d;p?q") (codes "..") (codes "http://a/b/") refl refl refl,
-  means_resolved (codes "http://a/b/c/d;p?q") (codes "../../g") (codes "http://a/g") refl refl refl,
-)
-
-pub returns-clause-abnormal : goal.returns-clause-abnormal
-unfolding resolved without_dots
-returns-clause-abnormal c = (
-  means_resolved (codes "http://a/b/c/d;p?q") (codes "../../../../g") (codes "http://a/g") refl refl refl,
-  means_resolved (codes "http://a/b/c/d;p?q") (codes "/./g") (codes "http://a/g") refl refl refl,
-  means_resolved (codes "http://a/b/c/d;p?q") (codes "..g") (codes "http://a/b/c/..g") refl refl refl,
-  means_resolved (codes "http://a/b/c/d;p?q") (codes "g;x=1/../y") (codes "http://a/b/c/y") refl refl refl,
-  means_resolved (codes "http://a/b/c/d;p?q") (codes "g?y/../x") (codes "http://a/b/c/g?y/../x") refl refl refl,
-  means_itself (Some (codes "http://a/b/c/d;p?q")) (codes "http:g") (codes "http:g") refl refl,
 )
 
 pub returns-clause-rewriting : goal.returns-clause-rewriting
