@@ -36,7 +36,7 @@ minus_adds_none A B m = omega (arith, filter_law (left_by shares B) A m, no_more
     no_more true n = omega arith
     no_more false n = omega arith
 
-none_any : (p : Mapping → Bool) (xs : List Mapping) → ((x : Mapping) → 0 < times xs x → p x ≡ false) → list_any p xs ≡ false
+pub none_any : (p : Mapping → Bool) (xs : List Mapping) → ((x : Mapping) → 0 < times xs x → p x ≡ false) → list_any p xs ≡ false
 none_any p [] h = refl
 none_any p (x ∷ xs) h =
     ap (λ b. b || list_any p xs) (h x (omega (arith, times_own x xs)))
