@@ -1,14 +1,11 @@
 -- What Minus leaves.
-use Rattle.std.proofs.Common.{◌≡◌, ℕ, zero, suc, ◌<◌, ◌≤◌, Bool, true, false, cond, not, ◌&&◌, ◌||◌, List, [], ◌∷◌, ◌++◌, filter, Option, Some, None, refl, sym, ap, ◌∙◌, arith, replicate}
+use Rattle.std.proofs.Common.{◌≡◌, ℕ, zero, suc, ◌<◌, ◌≤◌, Bool, true, false, cond, not, ◌&&◌, ◌||◌, List, [], ◌∷◌, ◌++◌, Some, None, refl, sym, ap, ◌∙◌, arith, replicate}
 use Rattle.std.specs.List.{sum_by, list_any}
-use Rattle.rdf_terms.specs.declared.term.Term.{Term}
-use Rattle.sparql_values.specs.Mapping.{Mapping, same_mapping, compatible}
+use Rattle.sparql_values.specs.Mapping.{Mapping, compatible}
 use Rattle.sparql_algebra.specs.Bags.{SameBag}
 use Rattle.sparql_algebra.specs.Counts.{ListsCounted}
-use Rattle.sparql_algebra.specs.Solutions.{both_have, shares, left_by, minuses}
+use Rattle.sparql_algebra.specs.Solutions.{shares, left_by, minuses}
 use Rattle.sparql_algebra.proofs.TruthLemmas.{or_assoc}
-use Rattle.sparql_algebra.proofs.TermLemmas.{same_mapping_own}
-use Rattle.sparql_algebra.proofs.Sums.{one}
 use Rattle.sparql_algebra.proofs.BagLemmas.{any_same, SameBag-filter}
 use Rattle.sparql_algebra.proofs.FilterLemmas.{filter-cong, filter-filter}
 use Rattle.sparql_algebra.proofs.Regroup.{times, times_cons, times_own, filter_law, any_at, any_listed}

@@ -1,5 +1,5 @@
 -- The translation of groups and the operators in the standard's words (SPARQL 1.1 Query, sections 18.2.2 and 18.5).
-use Rattle.std.specs.Prelude.{◌≡◌, ℕ, ◌<◌, Bool, true, not, ◌||◌, cond, List, [], ◌∷◌, ◌++◌}
+use Rattle.std.specs.Prelude.{◌≡◌, ◌<◌, true, not, ◌||◌, cond, List, [], ◌∷◌, ◌++◌}
 use Rattle.rdf_terms.specs.declared.quad.GraphName.{GraphName}
 use Rattle.sparql_trees.specs.declared.expression.Expression.{Expression}
 use Rattle.sparql_trees.specs.declared.pattern.BasicGraphPattern.{BasicGraphPattern}
