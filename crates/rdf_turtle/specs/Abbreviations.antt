@@ -1,4 +1,4 @@
--- What the abbreviations of a document stand for (Turtle 1.1, sections 2.2, 2.4, 2.6.2 and 2.8).
+-- What the abbreviations of a document stand for (Turtle 1.1, sections 2.2 to 2.4, 2.7 and 2.8).
 use Rattle.std.specs.Prelude.{◌≡◌, ℕ, List, [], ◌∷◌, map}
 use Rattle.rdf_terms.specs.Vocabulary.{rdf_type, rdf_first, rdf_rest, rdf_nil}
 use Rattle.rdf_terms.specs.declared.term.Term.{Term}
