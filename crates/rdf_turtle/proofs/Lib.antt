@@ -1,3 +1,4 @@
+mod AbbreviationLemmas
 mod BaseDocuments
 mod BaseLeaves
 mod BaseSteps

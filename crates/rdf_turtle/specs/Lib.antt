@@ -1,3 +1,4 @@
+pub mod Abbreviations
 pub mod Bases
 pub mod Blanks
 pub mod Document

@@ -1,4 +1,5 @@
 //! What holds of each document and its tree.
+ghost use Rattle.rdf_turtle.specs.Abbreviations as short;
 ghost use Rattle.rdf_turtle.specs.FaultyNameLaws.{UnboundIsFound, LackingIsFound};
 ghost use Rattle.rdf_turtle.specs.Lexemes.{LexemesHaveForms};
 ghost use Rattle.rdf_turtle.specs.Leaves.{OneDocument, DocumentsHaveSubjects, LeavesAreLexemes};
@@ -51,4 +52,21 @@ pub fn documents_are_read_back()
 /// The lexemes of a text have the forms of its tokens.
 pub fn lexemes_have_forms()
     ensures { LexemesHaveForms }
+{}
+
+/// What abbreviations stand for: `a` is rdf:type; behind `,` subject and verb are repeated, behind
+/// `;` the subject; `[ ]` is a blank node that has what stands inside; `( )` is rdf:nil, and a list
+/// a blank node whose rdf:first is its first element and whose rdf:rest is the list of the others
+/// (Turtle 1.1, sections 2.2 to 2.4, 2.7 and 2.8). An object's own triple comes before those inside.
+pub fn abbreviations_stand_for_triples()
+    ensures object { short.ObjectIsSaid }
+    ensures a { short.AIsType }
+    ensures comma { short.CommaRepeats }
+    ensures semicolon { short.SemicolonRepeats }
+    ensures bracket { short.BracketIsFresh }
+    ensures inside { short.BracketHas }
+    ensures empty { short.EmptyIsNil }
+    ensures list { short.ListIsFresh }
+    ensures last { short.LastHas }
+    ensures cells { short.ListHas }
 {}

@@ -26,3 +26,4 @@ mod TruthLemmas
 mod UnderLemmas
 mod UniverseLemmas
 mod VariableLemmas
+mod WordLemmas

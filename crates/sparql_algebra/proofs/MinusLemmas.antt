@@ -1,14 +1,11 @@
 -- What Minus leaves.
-use Rattle.std.proofs.Common.{◌≡◌, ℕ, zero, suc, ◌<◌, ◌≤◌, Bool, true, false, cond, not, ◌&&◌, ◌||◌, List, [], ◌∷◌, ◌++◌, filter, Option, Some, None, refl, sym, ap, ◌∙◌, arith, replicate}
+use Rattle.std.proofs.Common.{◌≡◌, ℕ, zero, suc, ◌<◌, ◌≤◌, Bool, true, false, cond, not, ◌&&◌, ◌||◌, List, [], ◌∷◌, ◌++◌, Some, None, refl, sym, ap, ◌∙◌, arith, replicate}
 use Rattle.std.specs.List.{sum_by, list_any}
-use Rattle.rdf_terms.specs.declared.term.Term.{Term}
-use Rattle.sparql_values.specs.Mapping.{Mapping, same_mapping, compatible}
+use Rattle.sparql_values.specs.Mapping.{Mapping, compatible}
 use Rattle.sparql_algebra.specs.Bags.{SameBag}
 use Rattle.sparql_algebra.specs.Counts.{ListsCounted}
-use Rattle.sparql_algebra.specs.Solutions.{both_have, shares, left_by, minuses}
+use Rattle.sparql_algebra.specs.Solutions.{shares, left_by, minuses}
 use Rattle.sparql_algebra.proofs.TruthLemmas.{or_assoc}
-use Rattle.sparql_algebra.proofs.TermLemmas.{same_mapping_own}
-use Rattle.sparql_algebra.proofs.Sums.{one}
 use Rattle.sparql_algebra.proofs.BagLemmas.{any_same, SameBag-filter}
 use Rattle.sparql_algebra.proofs.FilterLemmas.{filter-cong, filter-filter}
 use Rattle.sparql_algebra.proofs.Regroup.{times, times_cons, times_own, filter_law, any_at, any_listed}
@@ -36,7 +33,7 @@ minus_adds_none A B m = omega (arith, filter_law (left_by shares B) A m, no_more
     no_more true n = omega arith
     no_more false n = omega arith
 
-none_any : (p : Mapping → Bool) (xs : List Mapping) → ((x : Mapping) → 0 < times xs x → p x ≡ false) → list_any p xs ≡ false
+pub none_any : (p : Mapping → Bool) (xs : List Mapping) → ((x : Mapping) → 0 < times xs x → p x ≡ false) → list_any p xs ≡ false
 none_any p [] h = refl
 none_any p (x ∷ xs) h =
     ap (λ b. b || list_any p xs) (h x (omega (arith, times_own x xs)))

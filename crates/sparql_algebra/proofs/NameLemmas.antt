@@ -12,7 +12,6 @@ use Rattle.rdf_terms.specs.Order.{text_cmp}
 use Rattle.rdf_terms.specs.OrderLaws.{text_cmp-IsAntisymmetric}
 use Rattle.sparql_trees.specs.Visible.{Names, joined, member_names, name_names, names_in, names_of_member, names_of_pattern, place_names, triple_names}
 use Rattle.sparql_trees.specs.declared.expression.Expression.{Expression}
-use Rattle.sparql_trees.specs.declared.pattern.BasicGraphPattern.{BasicGraphPattern}
 use Rattle.sparql_trees.specs.declared.pattern.Member.{Member}
 use Rattle.sparql_trees.specs.declared.pattern.Member.TheFolds.{fold-roll-Member, fold-roll-Pattern, map-Member, map-Pattern, ind-Pattern}
 use Rattle.sparql_trees.specs.declared.pattern.Member.TheOpen.{Member-F, Pattern-F}

@@ -1,6 +1,6 @@
 -- Solutions bind visible variables alone, so nothing is lost where only these are shown.
-use Rattle.std.proofs.Common.{◌≡◌, ℕ, zero, suc, ◌+◌, ◌<◌, Bool, true, false, cond, ◌&&◌, ◌||◌, List, [], ◌∷◌, map, length, take, Option, Some, None, is_some, refl, sym, ap, ◌∙◌, subst, arith}
-use Rattle.std.specs.List.{AllByRecursion, count_by, flat_map, list_all, list_any, sum_by}
+use Rattle.std.proofs.Common.{◌≡◌, ℕ, zero, suc, ◌<◌, Bool, true, false, cond, ◌||◌, List, [], ◌∷◌, map, length, Option, Some, None, is_some, refl, sym, ap, ◌∙◌, subst, arith}
+use Rattle.std.specs.List.{AllByRecursion, flat_map, list_all, sum_by}
 use Rattle.std.specs.List.Sorted.{IsStrictlySortedBy}
 use Rattle.std.specs.Cmp.Lexicographic.{nat_list_cmp_total}
 use Rattle.std.specs.Option.{option_map}
@@ -10,14 +10,10 @@ use Rattle.std.proofs.lemmas.List.Sums.{sum_by-cons}
 use Rattle.std.proofs.lemmas.Map.Keys.{sorted_head, sorted_tail}
 use Rattle.rdf_terms.specs.Order.{text_cmp}
 use Rattle.rdf_terms.specs.declared.term.Term.{Term}
-use Rattle.rdf_terms.specs.declared.quad.GraphName.{GraphName}
-use Rattle.sparql_trees.specs.Visible.{all_names_in, named, names_in, triple_names, visible}
-use Rattle.sparql_trees.specs.declared.pattern.BasicGraphPattern.{BasicGraphPattern}
-use Rattle.sparql_trees.specs.declared.pattern.Pattern.{Pattern}
+use Rattle.sparql_trees.specs.Visible.{named, triple_names, visible}
 use Rattle.sparql_values.specs.Mapping.{Variables, Mapping, same_mapping, column, value_at, value_in, value_of}
 use Rattle.sparql_algebra.specs.Algebra.{basic, translation}
 use Rattle.sparql_algebra.specs.Laws.{is_among, BindsOnly, VisibleAreBound, ShownCountsSame, NothingLeftOut, TriplesBindTheirOwn}
-use Rattle.sparql_algebra.specs.Listing.{Listing}
 use Rattle.sparql_algebra.specs.Results.{projected}
 use Rattle.sparql_algebra.specs.Solutions.{occurs, same_bool, binds_exactly, basic_solutions, solutions}
 use Rattle.sparql_algebra.specs.Under.{sees}

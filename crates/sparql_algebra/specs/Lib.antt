@@ -11,3 +11,4 @@ pub mod Results
 pub mod Solutions
 pub mod Sorted
 pub mod Under
+pub mod Words

@@ -8,6 +8,7 @@
 mod examples;
 mod laws;
 mod under;
+mod words;
 
 pub use examples::the_standards_examples_hold;
 pub use laws::{
@@ -18,3 +19,4 @@ pub use laws::{
 pub use under::{
     joined_under_the_left, operators_under_a_mapping, patterns_see_their_own, sides_found_alone,
 };
+pub use words::{groups_are_translated, mappings_are_kept};

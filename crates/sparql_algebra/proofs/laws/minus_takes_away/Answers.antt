@@ -1,8 +1,8 @@
-use Rattle.std.proofs.Common.{length, ap, not, cond, ◌∙◌}
-use Rattle.sparql_algebra.specs.Solutions.{basic_solutions, shares, left_by, solutions}
+use Rattle.std.proofs.Common.{length, ap}
+use Rattle.sparql_algebra.specs.Solutions.{basic_solutions, solutions}
 use Rattle.std.specs.List.{count_by}
-use Rattle.std.proofs.Common.{List, [], ◌∷◌}
-use Rattle.sparql_values.specs.Mapping.{Mapping, same_mapping, empty_mapping}
+use Rattle.std.proofs.Common.{List, []}
+use Rattle.sparql_values.specs.Mapping.{Mapping, same_mapping}
 use Rattle.sparql_algebra.proofs.JoinLemmas.{empty_solutions}
 use Rattle.sparql_algebra.proofs.MinusLemmas.{minus_adds_none, nothing_shared, shared_is_taken, empty_takes_none, minuses_append}
 use Rattle.sparql_algebra.proofs.laws.minus_takes_away.Goals as goal
