@@ -57,7 +57,8 @@ pub fn lexemes_have_forms()
 /// What abbreviations stand for: `a` is rdf:type; behind `,` subject and verb are repeated, behind
 /// `;` the subject; `[ ]` is a blank node that has what stands inside; `( )` is rdf:nil, and a list
 /// a blank node whose rdf:first is its first element and whose rdf:rest is the list of the others
-/// (Turtle 1.1, sections 2.2 to 2.4, 2.7 and 2.8). An object's own triple comes before those inside.
+/// (Turtle 1.1, sections 2.2 to 2.4, 2.7 and 2.8). An object's own triple comes before those inside
+/// the object.
 pub fn abbreviations_stand_for_triples()
     ensures object { short.ObjectIsSaid }
     ensures a { short.AIsType }
