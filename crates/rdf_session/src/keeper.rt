@@ -257,12 +257,14 @@ impl Keeper {
         Ok(counts)
     }
 
-    // Takes what was done into the net since the base, once that pays. Nothing that is seen changes, and where memory is
-    // wanting nothing is refused.
+    // Takes what was done into the net since the base, once that pays; at the base nothing has changed, and nothing is held.
+    // Nothing that is seen changes, and where memory is wanting nothing is refused.
     fn gather(&mut self, size: usize)
         ensures { self.new ≡ self.old }
     {
-        if self.span.is_due(size, &self.entries, self.cursor) {
+        if self.cursor == 0 {
+            self.span.clear();
+        } else if self.span.is_due(size, &self.entries, self.cursor) {
             let counter = self.dataset.next_blank();
             self.span
                 .gather(self.alloc, &self.entries, self.cursor, counter);
