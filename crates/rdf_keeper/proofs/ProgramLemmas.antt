@@ -2,9 +2,9 @@
 use Rattle.std.proofs.Common.{◌≡◌, ◌∙◌, refl, sym, ap, subst, ℕ, List, [], ◌∷◌, ◌++◌, append-nil, Option, None}
 use Rattle.std.specs.Prelude.{Result, Ok, Err, IfOk, MatchResult}
 use Rattle.std.specs.Io.KnownBytes.{Appends}
-use Rattle.rdf_keeper.specs.Inside.Streams.{WritesTo}
+use Rattle.rdf_streams.specs.Streams.{WritesTo}
 use Rattle.rdf_keeper.specs.Inside.Outcomes.{status_of, error_line}
-use Rattle.rdf_keeper.specs.declared.streams.writing.WriteFault.{WriteFault}
+use Rattle.rdf_streams.specs.declared.streams.writing.WriteFault.{WriteFault}
 use Rattle.rdf_keeper.specs.declared.program.outcome.Outcome.{Outcome}
 use Rattle.rdf_keeper.specs.declared.program.outcome.Outcome.TheVariants.{Done, SomeRefused, BadDocument, BadWords, BadBase, BadData, NotState, ReadFailed, WriteFailed, NoMemory, ParserNoMemory}
 use Rattle.rdf_session.specs.History.{nothing}
@@ -12,7 +12,7 @@ use Rattle.rdf_session.specs.Session.{Session, with_depth}
 use Rattle.rdf_keeper.specs.Inside.Starts.{BeginsWith, RefusesData}
 use Rattle.rdf_keeper.specs.declared.program.words.StartFormat.{StartFormat}
 use Rattle.rdf_keeper.specs.declared.program.words.StartFormat.TheVariants.{Document, State}
-use Rattle.rdf_keeper.proofs.StreamLemmas.{Appends-chain}
+use Rattle.rdf_streams.proofs.StreamLemmas.{Appends-chain}
 
 pub as_far : (before after : Option (List ℕ)) (text want : List ℕ) (r : Result (Unit {0}) WriteFault) → text ≡ want → WritesTo before text r after → (front more : List ℕ) × (want ≡ front ++ more) × Appends before after front
 as_far before after text want (Ok u) e w = (text, [], sym e ∙ sym (append-nil text), w)

@@ -1,14 +1,14 @@
 -- How the program ends: its exit status, and its line on standard error.
 use Rattle.std.specs.Prelude.{ℕ, List, [], ◌++◌, codes, Option, None, Some, Result, Ok, Err}
 use Rattle.rdf_keeper.specs.Script.Answers.{place_text}
-use Rattle.rdf_keeper.specs.Conversion.Faults.{document_fault_line, document_fault_name}
+use Rattle.rdf_streams.specs.Conversion.Faults.{document_fault_line, document_fault_name}
 use Rattle.rdf_lines.specs.FaultName.{state_fault_name}
 use Rattle.rdf_lines.specs.declared.state_text.fault.StateFault.TheVariants as StateFault
 use Rattle.rdf_session.specs.Faults.{line_of, name_of}
-use Rattle.rdf_keeper.specs.declared.conversion.fault.DocumentFault.{DocumentFault}
+use Rattle.rdf_streams.specs.declared.conversion.fault.DocumentFault.{DocumentFault}
 use Rattle.rdf_session.specs.declared.fault.KeeperFault.{KeeperFault}
-use Rattle.rdf_keeper.specs.declared.conversion.fault.ConvertFault.{ConvertFault}
-use Rattle.rdf_keeper.specs.declared.conversion.fault.ConvertFault.TheVariants as fault
+use Rattle.rdf_streams.specs.declared.conversion.fault.ConvertFault.{ConvertFault}
+use Rattle.rdf_streams.specs.declared.conversion.fault.ConvertFault.TheVariants as fault
 use Rattle.rdf_keeper.specs.declared.program.outcome.Outcome.{Outcome}
 use Rattle.rdf_keeper.specs.declared.program.outcome.Outcome.TheVariants.{Done, SomeRefused, BadDocument, BadWords, BadBase, BadData, NotState, ReadFailed, WriteFailed, NoMemory, ParserNoMemory}
 

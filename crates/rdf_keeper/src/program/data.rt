@@ -11,9 +11,9 @@ ghost use Rattle.rdf_session.specs.Session.{Session, fresh, with_depth};
 
 use crate::program::outcome::Outcome;
 use crate::program::words::StartFormat;
-use crate::streams::reading::{Ending, read_all};
 use rdf_lines::StateFault;
 use rdf_session::{Format, Keeper, KeeperFault};
+use rdf_streams::{Ending, read_all};
 use rdf_terms::Iri;
 use std::alloc::Global;
 use std::fs;

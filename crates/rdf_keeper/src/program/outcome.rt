@@ -1,17 +1,16 @@
 //! How the program ends.
 ghost use Rattle.std.specs.Prelude.{◌≡◌, ◌++◌, ◌≤◌, length, ℕ, List};
 ghost use Rattle.std.specs.Io.KnownBytes.{Appends};
-ghost use Rattle.rdf_keeper.specs.Conversion.Faults.{document_fault_name};
+ghost use Rattle.rdf_streams.specs.Conversion.Faults.{document_fault_name};
 ghost use Rattle.rdf_lines.specs.FaultName.{state_fault_name};
 ghost use Rattle.rdf_session.specs.Faults.{name_of};
 ghost use Rattle.rdf_keeper.specs.Inside.Outcomes.{status_of, error_line, outcome_of, refused_data, refused_document, refused_line, refused_state};
 
-use crate::conversion::{ConvertFault, DocumentFault};
 use crate::short_line::{append, append_place};
-use crate::streams::writing::write_whole;
 use arrayvec::ArrayVec;
 use rdf_lines::StateFault;
 use rdf_session::KeeperFault;
+use rdf_streams::{ConvertFault, DocumentFault, write_whole};
 use rdf_terms::NoMemory;
 use std::io::Write;
 

@@ -1,0 +1,3 @@
+pub mod ConversionLemmas
+pub mod DeviceLemmas
+pub mod StreamLemmas
