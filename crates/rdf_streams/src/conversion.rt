@@ -13,6 +13,7 @@ mod turtle;
 use crate::conversion::lines::convert_lines;
 use crate::conversion::turtle::convert_turtle;
 pub use fault::{ConvertFault, DocumentFault};
+pub(crate) use fault::{fault_of, turtle_fault};
 use rdf_lines::LineFormat;
 use rdf_session::Format;
 use rdf_terms::Iri;

@@ -1,10 +1,11 @@
-//! Why a conversion ends before the end of its document.
+//! Why a conversion or a check ends before the end of its document.
 ghost use Rattle.std.specs.Prelude.{◌≡◌};
 ghost use Rattle.rdf_streams.specs.Conversion.Faults.{convert_fault_name, document_fault_line, document_fault_name};
+ghost use Rattle.rdf_streams.specs.Inside.Held.{fault_of_kind, turtle_fault};
 
-use rdf_lines::LineFault;
+use rdf_lines::{FaultKind, LineFault};
 use rdf_terms::NoMemory;
-use rdf_turtle::TurtleFault;
+use rdf_turtle::{TurtleFault, TurtleFaultKind};
 use thiserror::Error;
 
 /// The fault of a document, by its format.
@@ -40,7 +41,7 @@ impl DocumentFault {
     }
 }
 
-/// Why a conversion ended before the end of its document.
+/// Why a conversion or a check ended before the end of its document.
 #[derive(Clone, Copy, Debug, PartialEq, Eq, Error)]
 pub enum ConvertFault {
     /// The document is faulty. Of one of lines the statements before the faulty line are written, of one of Turtle
@@ -70,5 +71,33 @@ impl ConvertFault {
             ConvertFault::Write => "Write",
             ConvertFault::NoMemory(refused) => refused.name(),
         }
+    }
+}
+
+/// The fault that a line's is.
+pub(crate) fn fault_of(fault: LineFault) -> ConvertFault
+    ensures { result ≡ fault_of_kind fault fault.kind }
+{
+    match fault.kind {
+        FaultKind::Read => ConvertFault::Read,
+        FaultKind::NoMemory(refused) => ConvertFault::NoMemory(refused),
+        FaultKind::NotUtf8 | FaultKind::Syntax | FaultKind::Relative | FaultKind::Failed => {
+            ConvertFault::Document(DocumentFault::Line(fault))
+        }
+    }
+}
+
+/// The fault that one of Turtle is.
+pub(crate) fn turtle_fault(fault: TurtleFault) -> ConvertFault
+    ensures { result ≡ turtle_fault fault fault.kind }
+{
+    match fault.kind {
+        TurtleFaultKind::NoMemory(refused) => ConvertFault::NoMemory(refused),
+        TurtleFaultKind::NotUtf8
+        | TurtleFaultKind::Token
+        | TurtleFaultKind::TooDeep
+        | TurtleFaultKind::Syntax
+        | TurtleFaultKind::UnknownPrefix
+        | TurtleFaultKind::Relative => ConvertFault::Document(DocumentFault::Turtle(fault)),
     }
 }

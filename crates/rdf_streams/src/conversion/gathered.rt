@@ -1,23 +1,10 @@
 //! The lines of a piece of a document, gathered until they are written.
 ghost use Rattle.std.specs.Prelude.{◌≡◌, ◌+◌, ◌<◌, ◌^◌, List, length, MatchResult};
 ghost use Rattle.rdf_streams.specs.Inside.Gathered.{Ends, GoesOn, Grows, Stops};
-ghost use Rattle.rdf_streams.specs.Inside.Held.{fault_of_kind};
 ghost use Rattle.rdf_terms.specs.declared.quad.Quad.{Quad};
 
-use crate::conversion::fault::{ConvertFault, DocumentFault};
-use rdf_lines::{FaultKind, FedLines, LineFault, what_is_fed_comes_first, write_quad};
-
-fn fault_of(fault: LineFault) -> ConvertFault
-    ensures { result ≡ fault_of_kind fault fault.kind }
-{
-    match fault.kind {
-        FaultKind::Read => ConvertFault::Read,
-        FaultKind::NoMemory(refused) => ConvertFault::NoMemory(refused),
-        FaultKind::NotUtf8 | FaultKind::Syntax | FaultKind::Relative | FaultKind::Failed => {
-            ConvertFault::Document(DocumentFault::Line(fault))
-        }
-    }
-}
+use crate::conversion::fault::{ConvertFault, fault_of};
+use rdf_lines::{FedLines, what_is_fed_comes_first, write_quad};
 
 /// Feeds the reader a piece, and gathers the lines of the statements whose line ends come with it. At a fault those before it
 /// are gathered.

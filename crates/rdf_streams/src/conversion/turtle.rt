@@ -3,30 +3,15 @@ ghost use Rattle.std.specs.Prelude.{◌≡◌, ℕ, List, Some};
 ghost use Rattle.std.specs.Option.{option_copied};
 ghost use Rattle.std.specs.Io.KnownBytes.{Appends};
 ghost use Rattle.rdf_streams.specs.Conversion.Converts.{ConvertsTurtle};
-ghost use Rattle.rdf_streams.specs.Inside.Held.{turtle_fault};
 
-use crate::conversion::fault::{ConvertFault, DocumentFault};
+use crate::conversion::fault::{ConvertFault, turtle_fault};
 use crate::conversion::held::finish;
 use crate::conversion::triple_lines::TripleLines;
 use crate::streams::{Ending, read_all};
 use rdf_terms::Iri;
-use rdf_turtle::{TurtleFault, TurtleFaultKind, read_turtle_into};
+use rdf_turtle::read_turtle_into;
 use std::alloc::Global;
 use std::io::{Read, Write};
-
-fn turtle_fault(fault: TurtleFault) -> ConvertFault
-    ensures { result ≡ turtle_fault fault fault.kind }
-{
-    match fault.kind {
-        TurtleFaultKind::NoMemory(refused) => ConvertFault::NoMemory(refused),
-        TurtleFaultKind::NotUtf8
-        | TurtleFaultKind::Token
-        | TurtleFaultKind::TooDeep
-        | TurtleFaultKind::Syntax
-        | TurtleFaultKind::UnknownPrefix
-        | TurtleFaultKind::Relative => ConvertFault::Document(DocumentFault::Turtle(fault)),
-    }
-}
 
 /// Converts a document of Turtle.
 pub(crate) fn convert_turtle<R: Read, W: Write>(
