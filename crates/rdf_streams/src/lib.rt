@@ -4,11 +4,11 @@
 //! `rdf_keeper` calls it and hands it on, so hosts name that crate. It opens no file, and loads nothing into a session.
 #![tactic(auto)]
 
-mod check;
+mod checking;
 mod conversion;
 mod streams;
 
-pub use check::check;
+pub use checking::check;
 pub use conversion::{ConvertFault, DocumentFault, convert};
 pub use streams::{
     Device, Ending, Lent, LentWriter, READ_CALLS, WriteFault, read_all, write_on, write_whole,

@@ -24,7 +24,7 @@ use Rattle.rdf_streams.proofs.DeviceLemmas.Pairs.{LentStep, lent_bytes, lent_end
 use Rattle.rdf_streams.proofs.DeviceLemmas.Written.{writes_go_on, wrote_calls, wrote_end, wrote_given, wrote_taken, wrote_to_fault}
 
 -- the lines that were wholly read are a document
-whole_document : (read : List ℕ) (quads : List Quad) (f : Fed) → HasBeenFed read quads f → IsDocument f.format (whole_lines read) quads None
+pub whole_document : (read : List ℕ) (quads : List Quad) (f : Fed) → HasBeenFed read quads f → IsDocument f.format (whole_lines read) quads None
 whole_document read quads f (front, holds, (statements, reads, number, labels, is)) =
     (statements, subst (λ ls. ReadsAll f.format 1 ls statements None) (sym (lines_of_whole false read front f.line f.behind_return holds)) reads, is)
 

@@ -18,7 +18,7 @@ use Rattle.rdf_streams.specs.Conversion.Faults.{no_memory}
 
 -- ---- a whole text
 
-consumed : (after : Option (List ℕ)) (text read : List ℕ) → Consumes (Some text) after read → IsAtEnd after → read ≡ text
+pub consumed : (after : Option (List ℕ)) (text read : List ℕ) → Consumes (Some text) after read → IsAtEnd after → read ≡ text
 consumed None text read c e = absurd c
 consumed (Some left) text read c e = sym (c ∙ ap (λ t. read ++ t) e ∙ append-nil read)
 

@@ -2,7 +2,7 @@
 ghost use Rattle.std.specs.Prelude.{◌≡◌, ℕ, List, Some};
 ghost use Rattle.rdf_streams.specs.Checks.{ChecksLines};
 
-use crate::check::counted::{count_last, count_piece};
+use crate::checking::counted::{count_last, count_piece};
 use crate::conversion::ConvertFault;
 use crate::streams::READ_CALLS;
 use rdf_lines::{FedLines, LineFormat};

@@ -7,8 +7,8 @@ mod counted;
 mod lines;
 mod turtle;
 
-use crate::check::lines::check_lines;
-use crate::check::turtle::check_turtle;
+use crate::checking::lines::check_lines;
+use crate::checking::turtle::check_turtle;
 use crate::conversion::ConvertFault;
 use rdf_lines::LineFormat;
 use rdf_session::Format;
