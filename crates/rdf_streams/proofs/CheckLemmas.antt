@@ -6,15 +6,10 @@ use Rattle.rdf_lines.specs.Document.{IsDocument}
 use Rattle.rdf_lines.specs.Fed.{Fed, HasBeenFed}
 use Rattle.rdf_lines.specs.declared.format.LineFormat.{LineFormat}
 use Rattle.rdf_terms.specs.declared.quad.Quad.{Quad}
-use Rattle.rdf_turtle.specs.Document as turtle
-use Rattle.rdf_turtle.specs.declared.fault.TurtleFault.{TurtleFault}
-use Rattle.rdf_turtle.specs.declared.fault.TurtleFaultKind.{TurtleFaultKind}
-use Rattle.rdf_turtle.specs.declared.fault.TurtleFaultKind.TheVariants as kind
-use Rattle.rdf_streams.specs.Checks.{ChecksLines, ChecksTurtle}
+use Rattle.rdf_streams.specs.Checks.{ChecksLines}
 use Rattle.rdf_streams.specs.Conversion.Converts.{whole_lines}
 use Rattle.rdf_streams.specs.Inside.Counted.{CountEnds, CountStops, CountsOn}
 use Rattle.rdf_streams.specs.Inside.Gathered.{StopsIn}
-use Rattle.rdf_streams.specs.Inside.Held.{turtle_fault}
 use Rattle.rdf_streams.specs.declared.conversion.fault.ConvertFault.{ConvertFault}
 use Rattle.rdf_streams.specs.declared.conversion.fault.ConvertFault.TheVariants.{Document, Read, Write, NoMemory}
 use Rattle.rdf_streams.specs.declared.conversion.fault.DocumentFault.TheVariants.{Line as InLine, Turtle as InTurtle}
@@ -31,6 +26,10 @@ consumes_kept None b c read p q = tt
 consumes_kept (Some x) None c read p q = absurd p
 consumes_kept (Some x) (Some y) None read p q = absurd q
 consumes_kept (Some x) (Some y) (Some z) read p q = p ∙ ap (λ l. read ++ l) (sym q)
+
+pub keeps_same : (a : Option (List ℕ)) → Keeps a a
+keeps_same None = tt
+keeps_same (Some xs) = refl
 
 -- ---- one statement more
 
@@ -103,6 +102,7 @@ module _ (before now : Option (List ℕ)) (format : LineFormat) (n : ℕ) (docum
     where
       all : r.read ≡ text
       all = consumed left text r.read (subst (λ b. Consumes b left r.read) e (subst (Consumes before left) (append-nil r.read) (Consumes-chain before now left r.read [] r.consumes c))) end
+
       by : (a : Result ℕ ConvertFault) → CountEnds document count a → ChecksLines format text left a
       by (Ok now) (more, ends, is) = (
         r.quads ++ more,
@@ -121,17 +121,3 @@ module _ (before now : Option (List ℕ)) (format : LineFormat) (n : ℕ) (docum
     subst (λ b. Consumes b left r.read) e (consumes_kept before now left r.read r.consumes k),
     subst (λ f. IsDocument f (whole_lines r.read) r.quads None) r.in_format (whole_document r.read r.quads document r.fed),
   )
-
--- ---- Turtle
-
-pub faulty_turtle : (base : Option (List ℕ)) (text : List ℕ) (f : TurtleFault) (fault : ConvertFault) → fault ≡ turtle_fault f f.kind → turtle.TellsFault base text f f.kind → ChecksTurtle base text (Err fault)
-faulty_turtle base text f fault is h = subst (λ (x : ConvertFault). ChecksTurtle base text (Err x)) (sym is) (by f.kind h)
-  where
-    by : (k : TurtleFaultKind) → turtle.TellsFault base text f k → ChecksTurtle base text (Err (turtle_fault f k))
-    by (kind.NoMemory _) h = tt
-    by kind.NotUtf8 h = h
-    by kind.Token h = h
-    by kind.TooDeep h = h
-    by kind.Syntax h = h
-    by kind.UnknownPrefix h = h
-    by kind.Relative h = h

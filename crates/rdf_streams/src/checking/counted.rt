@@ -45,7 +45,10 @@ pub(crate) fn count_last(document: FedLines, count: u64) -> Result<u64, ConvertF
     what_is_fed_comes_first();
     match document.end() {
         Ok(None) => Ok(count),
-        Ok(Some(_)) => Ok(count + 1),
+        Ok(Some(quad)) => {
+            drop(quad);
+            Ok(count + 1)
+        }
         Err(fault) => Err(fault_of(fault)),
     }
 }

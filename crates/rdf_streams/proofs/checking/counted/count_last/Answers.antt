@@ -10,8 +10,8 @@ returns-in-Ok-None c = ([], ends_open c.what_is_fed_comes_first.ensures c.args.d
 
 pub returns-in-Ok-Some : goal.returns-in-Ok-Some
 returns-in-Ok-Some c =
-    let q = c.in-Ok-Some.field-0 in
+    let q = c.in-Ok-Some.quad in
     (q ∷ [], ends_on c.what_is_fed_comes_first.ensures c.args.document q (subst (λ (a : Option Quad). fed.Ends c.args.document (Ok a)) c.in-Ok-Some.field-0-is c.in-Ok-Some.ensures), omega arith)
 
-pub returns-in-Err : goal.returns-in-Err
-returns-in-Err c = ends_faulty c.what_is_fed_comes_first.ensures c.args.document c.in-Err.fault _ c.fault_of.ensures c.in-Err.ensures
+pub returns : goal.returns
+returns c = ends_faulty c.what_is_fed_comes_first.ensures c.args.document c.in-Err.fault _ c.fault_of.ensures c.in-Err.ensures
