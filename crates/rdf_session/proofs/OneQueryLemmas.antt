@@ -3,7 +3,8 @@ use Rattle.std.proofs.Common.{◌≡◌, ◌≢◌, ◌⊎◌, inl, inr, ℕ, Bo
 use Rattle.rdf_dataset.specs.State.{State}
 use Rattle.sparql_values.specs.Mapping.{Mapping}
 use Rattle.sparql_algebra.specs.Results.{IsSelection, HasSolution}
-use Rattle.sparql_results.specs.ResultsText.{boolean_text, selection_text}
+use Rattle.sparql_results.specs.Formats.{selection_in, truth_in}
+use Rattle.sparql_results.specs.declared.format.ResultsFormat.{ResultsFormat}
 use Rattle.sparql_syntax.specs.Query as query
 use Rattle.sparql_syntax.specs.QueryLaws as query_laws
 use Rattle.sparql_syntax.specs.UpdateLaws.{has_free_line, SameFault}
@@ -13,7 +14,7 @@ use Rattle.sparql_trees.specs.declared.query.Query.{Query}
 use Rattle.sparql_trees.specs.declared.query.Query.TheVariants as form
 use Rattle.sparql_trees.specs.declared.query.Select.{Select}
 use Rattle.rdf_session.specs.OneQueryReply.{DifferInFreeLine, OneQueryReply}
-use Rattle.rdf_session.specs.Query.{AnswersQuery, IsAnswered, IsOfRows, IsOfTruth, MayRefuseQuery, Replies}
+use Rattle.rdf_session.specs.Query.{AnswersQuery, IsAnswered, IsOfRows, IsOfTruth, MayRefuseQuery}
 use Rattle.rdf_session.specs.Session.{Session, now}
 use Rattle.rdf_session.specs.declared.fault.KeeperFault.{KeeperFault}
 use Rattle.rdf_session.specs.declared.fault.KeeperFault.TheVariants.{NoMemory, Syntax}
@@ -56,31 +57,31 @@ in_query x y same true e = inr (record {
 in_query x y same false e = inl (λ i. Err (Syntax (record { line = same.1 e i; kind = same.0 i })))
 
 module _ (laws : Laws) where
-  same_rows : (q : Select) (s : State) (a b : Answer) → IsOfRows q s a → IsOfRows q s b → a ≡ b
-  same_rows q s a b x y =
+  same_rows : (format : ResultsFormat) (q : Select) (s : State) (a b : Answer) → IsOfRows format q s a → IsOfRows format q s b → a ≡ b
+  same_rows format q s a b x y =
       let rows : x.rows ≡ y.rows = laws.selection q s x.rows y.rows x.selection y.selection in
-      let text : a.payload ≡ b.payload = x.text ∙ ap (selection_text q.columns) rows ∙ sym y.text in
+      let text : a.payload ≡ b.payload = x.text ∙ ap (selection_in format q.columns) rows ∙ sym y.text in
       let count : a.rows ≡ b.rows = x.count ∙ ap (λ (l : List Mapping). length l) rows ∙ sym y.count in
       λ i. record { payload = text i; rows = count i }
 
-  same_truth : (pattern : Pattern) (s : State) (a b : Answer) → IsOfTruth pattern s a → IsOfTruth pattern s b → a ≡ b
-  same_truth pattern s a b x y =
+  same_truth : (format : ResultsFormat) (pattern : Pattern) (s : State) (a b : Answer) → IsOfTruth format pattern s a → IsOfTruth format pattern s b → a ≡ b
+  same_truth format pattern s a b x y =
       let truth : x.truth ≡ y.truth = laws.answer pattern s x.truth y.truth x.solution y.solution in
-      let text : a.payload ≡ b.payload = x.text ∙ ap boolean_text truth ∙ sym y.text in
+      let text : a.payload ≡ b.payload = x.text ∙ ap (truth_in format) truth ∙ sym y.text in
       let count : a.rows ≡ b.rows = x.count ∙ sym y.count in
       λ i. record { payload = text i; rows = count i }
 
-  same_answer : (q : Query) (s : State) (a b : Answer) → AnswersQuery q s a → AnswersQuery q s b → a ≡ b
-  same_answer (form.Select q) s a b x y = same_rows q s a b x y
-  same_answer (form.Ask pattern) s a b x y = same_truth pattern s a b x y
+  same_answer : (format : ResultsFormat) (q : Query) (s : State) (a b : Answer) → AnswersQuery format q s a → AnswersQuery format q s b → a ≡ b
+  same_answer format (form.Select q) s a b x y = same_rows format q s a b x y
+  same_answer format (form.Ask pattern) s a b x y = same_truth format pattern s a b x y
 
-  one_answer : (s : Session) (text : List ℕ) (a b : Answer) → IsAnswered s text a → IsAnswered s text b → a ≡ b
-  one_answer s text a b x y =
+  one_answer : (format : ResultsFormat) (s : Session) (text : List ℕ) (a b : Answer) → IsAnswered format s text a → IsAnswered format s text b → a ≡ b
+  one_answer format s text a b x y =
       let asked = laws.query s.base_iri text y.0 x.0 y.1 x.1 in
-      same_answer x.0 (now s) a b x.2 (subst (λ (q : Query). AnswersQuery q (now s) b) asked y.2)
+      same_answer format x.0 (now s) a b x.2 (subst (λ (q : Query). AnswersQuery format q (now s) b) asked y.2)
 
-  never : {A : Type 0} (s : Session) (text : List ℕ) (a : Answer) (f : KeeperFault) → IsAnswered s text a → NoQuery s text f → A
-  never s text a f x y = absurd (laws.never_both s.base_iri text x.0 y.0 x.1 y.1)
+  never : {A : Type 0} (format : ResultsFormat) (s : Session) (text : List ℕ) (a : Answer) (f : KeeperFault) → IsAnswered format s text a → NoQuery s text f → A
+  never format s text a f x y = absurd (laws.never_both s.base_iri text x.0 y.0 x.1 y.1)
 
   one_fault : (s : Session) (text : List ℕ) (f g : KeeperFault) → NoQuery s text f → NoQuery s text g → Same (Err f) (Err g)
   one_fault s text f g x y =
@@ -88,7 +89,7 @@ module _ (laws : Laws) where
       (in_query x.0 y.0 (laws.fault s.base_iri text x.0 y.0 x.1 y.1) (has_free_line x.0.kind) refl))
 
   pub one_query_reply : OneQueryReply
-  one_query_reply s text (Ok a) (Ok b) x n y m = inl (ap Ok (one_answer s text a b x y))
-  one_query_reply s text (Ok a) (Err g) x n y m = never s text a g x (no_query s text g y m)
-  one_query_reply s text (Err f) (Ok b) x n y m = never s text b f y (no_query s text f x n)
-  one_query_reply s text (Err f) (Err g) x n y m = one_fault s text f g (no_query s text f x n) (no_query s text g y m)
+  one_query_reply format s text (Ok a) (Ok b) x n y m = inl (ap Ok (one_answer format s text a b x y))
+  one_query_reply format s text (Ok a) (Err g) x n y m = never format s text a g x (no_query s text g y m)
+  one_query_reply format s text (Err f) (Ok b) x n y m = never format s text b f y (no_query s text f x n)
+  one_query_reply format s text (Err f) (Err g) x n y m = one_fault s text f g (no_query s text f x n) (no_query s text g y m)

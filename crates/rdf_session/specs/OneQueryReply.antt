@@ -1,8 +1,9 @@
 -- A query has one reply.
 use Rattle.std.specs.Prelude.{◌≡◌, ◌≢◌, ◌⊎◌, ℕ, true, List, Result, Ok, Err}
+use Rattle.sparql_results.specs.declared.format.ResultsFormat.{ResultsFormat}
 use Rattle.sparql_syntax.specs.UpdateLaws.{has_free_line}
 use Rattle.rdf_session.specs.OneReply.{SameButLine}
-use Rattle.rdf_session.specs.Query.{Replies}
+use Rattle.rdf_session.specs.Query.{RepliesIn}
 use Rattle.rdf_session.specs.Session.{Session}
 use Rattle.rdf_session.specs.declared.fault.KeeperFault.{KeeperFault}
 use Rattle.rdf_session.specs.declared.fault.KeeperFault.TheVariants.{Syntax}
@@ -24,8 +25,8 @@ pub record DifferInFreeLine (reply other : Result Answer KeeperFault) : Type 0 w
   pub free_too : IsFreeFault another
   pub same : SameButLine fault another
 
--- Where memory isn't wanting, a query has one reply, but for such a line.
+-- Where memory isn't wanting, a query has one reply in each format, but for such a line.
 abbrev pub OneQueryReply : Type 0
-OneQueryReply = (s : Session) (text : List ℕ) (reply other : Result Answer KeeperFault)
-    → Replies s text reply → reply ≢ Err no_memory → Replies s text other → other ≢ Err no_memory
+OneQueryReply = (format : ResultsFormat) (s : Session) (text : List ℕ) (reply other : Result Answer KeeperFault)
+    → RepliesIn format s text reply → reply ≢ Err no_memory → RepliesIn format s text other → other ≢ Err no_memory
     → (reply ≡ other) ⊎ DifferInFreeLine reply other

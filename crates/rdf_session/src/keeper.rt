@@ -12,7 +12,7 @@ ghost use Rattle.rdf_session.specs.Inside.Staging.{TellsFault};
 ghost use Rattle.rdf_session.specs.Session.{nets_between};
 ghost use Rattle.rdf_dataset.specs.Sorted.{ListsSorted};
 ghost use Rattle.rdf_session.specs.QuadLines.{ListsQuads};
-ghost use Rattle.rdf_session.specs.Query.{Replies};
+ghost use Rattle.rdf_session.specs.Query.{Replies, RepliesIn};
 ghost use Rattle.rdf_session.specs.Request.{Load, Update};
 ghost use Rattle.rdf_session.specs.Saved.{IsTextOf, Restores};
 ghost use Rattle.rdf_session.specs.Session.{Commit, Do, Done, Mark, Redo, Rollback, Session, Transition, Undo, accepted, all_states, counts_between, fresh, now, reply_of, reply_of_mark, with_depth};
@@ -29,6 +29,7 @@ use crate::update::{read_request, stage_request};
 use rdf_dataset::{Dataset, Net, Source};
 use rdf_lines::StateFault;
 use rdf_terms::{Iri, NoMemory as NoMemoryFault, Quad, Term, Vocabulary};
+use sparql_results::ResultsFormat;
 use std::alloc::Global;
 use std::cell::OnceCell;
 use std::collections::VecDeque;
@@ -196,9 +197,19 @@ impl Keeper {
     pub fn query(&self, text: &[u8]) -> Result<Answer, KeeperFault>
         ensures { Replies self.now text.now result }
     {
+        self.query_in(ResultsFormat::Tsv, text)
+    }
+
+    /// What a query answers of the state now, as [`Keeper::query`] does, its results in a format.
+    ///
+    /// # Errors
+    /// `Syntax` where the text is no query; `NoMemory`.
+    pub fn query_in(&self, format: ResultsFormat, text: &[u8]) -> Result<Answer, KeeperFault>
+        ensures { RepliesIn format self.now text.now result }
+    {
         let vocabulary = self.vocabulary()?;
         let query = read_text(self.alloc, vocabulary, text, self.base_iri.as_ref())?;
-        Ok(evaluate(self.alloc, vocabulary, &query, &self.dataset)?)
+        Ok(evaluate(self.alloc, vocabulary, format, &query, &self.dataset)?)
     }
 
     // The vocabulary that is lent to whatever reads or evaluates.

@@ -26,3 +26,4 @@ pub use law::{
     standing_requests, the_headline, undo_gives_back,
 };
 pub use query::Answer;
+pub use sparql_results::ResultsFormat;

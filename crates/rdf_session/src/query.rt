@@ -1,7 +1,7 @@
 //! Queries: what is answered of the dataset.
 ghost use Rattle.std.specs.Prelude.{◌≡◌, ◌++◌, IfOk, MatchResult, OnOk};
 ghost use Rattle.std.specs.Option.{option_copied};
-ghost use Rattle.sparql_results.specs.ResultsText.{selection_text};
+ghost use Rattle.sparql_results.specs.Formats.{rows_in, selection_in};
 ghost use Rattle.sparql_syntax.specs.Query.{IsQuery};
 ghost use Rattle.rdf_session.specs.Inside.Staging.{TellsQueryFault};
 ghost use Rattle.rdf_session.specs.Query.{AnswersQuery, IsOfRows, IsOfTruth};
@@ -11,7 +11,7 @@ use crate::update::syntax_refusal;
 use rdf_dataset::Dataset;
 use rdf_terms::{Iri, Items, NoMemory, Text, Vocabulary};
 use sparql_eval::{Row, ask_with, select_with};
-use sparql_results::{boolean_text, write_header, write_row};
+use sparql_results::{ResultsFormat, selections_have_parts};
 use sparql_syntax::read_query_with;
 use sparql_trees::{Pattern, Query, Select};
 use std::alloc::Global;
@@ -19,7 +19,7 @@ use std::alloc::Global;
 /// What a query answers.
 #[derive(Debug, Drop)]
 pub struct Answer {
-    /// The text of its results (SPARQL 1.1 Query Results CSV and TSV Formats, section 4), or of its truth.
+    /// The text of its results in the format that was asked for, or of its truth.
     pub payload: Items<u8>,
     /// How many rows there are; one for ASK.
     pub rows: u64,
@@ -42,34 +42,58 @@ pub(crate) fn read_text(
     }
 }
 
-// Appends the header and the rows. A refusal may leave some of them.
+// Appends the rows. A refusal may leave some of them.
 fn append_rows(
     alloc: Global,
+    format: ResultsFormat,
     columns: &[Text],
     rows: &[Row],
     out: &mut Vec<u8>,
 ) -> Result<(), NoMemory>
-    ensures { OnOk result (out.new.items ≡ out.old.items ++ selection_text columns.now rows.now) }
+    ensures { OnOk result (out.new.items ≡ out.old.items ++ rows_in format columns.now rows.now) }
 {
-    write_header(alloc, columns, out)?;
-    for row in rows {
-        write_row(alloc, row.values(), out)?;
+    let Some((first, others)) = rows.split_first() else {
+        return Ok(());
+    };
+    format.write_row(alloc, true, columns, first.values(), out)?;
+    for row in others {
+        format.write_row(alloc, false, columns, row.values(), out)?;
     }
+    Ok(())
+}
+
+// Appends a selection. A refusal may leave a part of it.
+fn append_selection(
+    alloc: Global,
+    format: ResultsFormat,
+    columns: &[Text],
+    rows: &[Row],
+    out: &mut Vec<u8>,
+) -> Result<(), NoMemory>
+    ensures { OnOk result (out.new.items
+        ≡ out.old.items ++ selection_in format columns.now rows.now) }
+{
+    selections_have_parts();
+    format.write_header(alloc, columns, out)?;
+    append_rows(alloc, format, columns, rows, out)?;
+    out.extend_from_slice(format.end_text().as_bytes())?;
     Ok(())
 }
 
 fn selection(
     alloc: Global,
     vocabulary: &Vocabulary,
+    format: ResultsFormat,
     query: &Select,
     dataset: &Dataset,
 ) -> Result<Answer, NoMemory>
-    ensures { IfOk result (λ answer. IsOfRows query.now dataset.now answer) }
+    ensures { IfOk result (λ answer. IsOfRows format query.now dataset.now answer) }
 {
     let rows = select_with(alloc, vocabulary, query, dataset)?;
     let mut payload = Vec::new(alloc);
-    append_rows(
+    append_selection(
         alloc,
+        format,
         query.columns.as_slice(),
         rows.as_slice(),
         &mut payload,
@@ -83,12 +107,13 @@ fn selection(
 fn truth(
     alloc: Global,
     vocabulary: &Vocabulary,
+    format: ResultsFormat,
     pattern: &Pattern,
     dataset: &Dataset,
 ) -> Result<Answer, NoMemory>
-    ensures { IfOk result (λ answer. IsOfTruth pattern.now dataset.now answer) }
+    ensures { IfOk result (λ answer. IsOfTruth format pattern.now dataset.now answer) }
 {
-    let text = boolean_text(ask_with(alloc, vocabulary, pattern, dataset)?);
+    let text = format.truth_text(ask_with(alloc, vocabulary, pattern, dataset)?);
     let payload = Vec::from_slice(alloc, text.as_bytes())?;
     Ok(Answer {
         payload: Items::from_vec(payload),
@@ -96,17 +121,18 @@ fn truth(
     })
 }
 
-/// The answer of the dataset.
+/// The answer of the dataset in a format.
 pub(crate) fn evaluate(
     alloc: Global,
     vocabulary: &Vocabulary,
+    format: ResultsFormat,
     query: &Query,
     dataset: &Dataset,
 ) -> Result<Answer, NoMemory>
-    ensures { IfOk result (λ answer. AnswersQuery query.now dataset.now answer) }
+    ensures { IfOk result (λ answer. AnswersQuery format query.now dataset.now answer) }
 {
     match query {
-        Query::Select(query) => selection(alloc, vocabulary, query, dataset),
-        Query::Ask(pattern) => truth(alloc, vocabulary, pattern, dataset),
+        Query::Select(query) => selection(alloc, vocabulary, format, query, dataset),
+        Query::Ask(pattern) => truth(alloc, vocabulary, format, pattern, dataset),
     }
 }

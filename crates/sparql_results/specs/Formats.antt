@@ -3,8 +3,8 @@ use Rattle.std.specs.Prelude.{◌≡◌, ℕ, Bool, true, false, List, [], ◌�
 use Rattle.std.specs.List.{flat_map}
 use Rattle.rdf_terms.specs.declared.term.Term.{Term}
 use Rattle.sparql_results.specs.CsvText.{csv_header, csv_row, csv_selection}
-use Rattle.sparql_results.specs.JsonText.{json_end, json_header, json_row, json_selection}
-use Rattle.sparql_results.specs.ResultsText.{header_text, row_text, selection_text}
+use Rattle.sparql_results.specs.JsonText.{json_boolean, json_end, json_header, json_row, json_selection}
+use Rattle.sparql_results.specs.ResultsText.{boolean_text, header_text, row_text, selection_text}
 use Rattle.sparql_results.specs.declared.format.ResultsFormat.{ResultsFormat}
 use Rattle.sparql_results.specs.declared.format.ResultsFormat.TheVariants.{Csv, Json, Tsv}
 
@@ -14,7 +14,13 @@ selection_in Tsv columns rows = selection_text columns rows
 selection_in Csv columns rows = csv_selection columns rows
 selection_in Json columns rows = json_selection columns rows
 
--- ---- its parts: what stands before the rows, a row, and what stands behind them
+-- what ASK prints; the formats of values have no text of a truth, so its word stands alone there
+abbrev pub truth_in : ResultsFormat → Bool → List ℕ
+truth_in Tsv truth = boolean_text truth
+truth_in Csv truth = boolean_text truth
+truth_in Json truth = json_boolean truth
+
+-- ---- its parts of a selection: what stands before the rows, a row, and what stands behind them
 
 abbrev pub header_in : ResultsFormat → List (List ℕ) → List ℕ
 header_in Tsv columns = header_text columns

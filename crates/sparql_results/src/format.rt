@@ -1,15 +1,16 @@
-//! The formats of a selection.
+//! The formats of a query's results.
 ghost use Rattle.std.specs.Prelude.{◌≡◌, ◌++◌, OnOk, OnErr};
-ghost use Rattle.sparql_results.specs.Formats.{end_in, header_in, row_in, SelectionsHaveParts};
+ghost use Rattle.sparql_results.specs.Formats.{end_in, header_in, row_in, truth_in, SelectionsHaveParts};
 
+use crate::boolean::boolean_text;
 use crate::csv::{write_csv_header, write_csv_row};
 use crate::header::write_header;
-use crate::json::{json_end_text, write_json_header, write_json_row};
+use crate::json::{json_boolean_text, json_end_text, write_json_header, write_json_row};
 use crate::row::write_row;
 use rdf_terms::{NoMemory, Term, Text};
 use std::alloc::Global;
 
-/// A format of the results of SELECT. A selection is its header, its rows one after another, and its end.
+/// A format of a query's results. A selection is its header, its rows one after another, and its end.
 #[derive(Clone, Copy, PartialEq, Eq, Debug)]
 pub enum ResultsFormat {
     /// Tab-separated values: terms in canonical N-Triples.
@@ -71,6 +72,16 @@ impl ResultsFormat {
         match self {
             ResultsFormat::Tsv | ResultsFormat::Csv => "",
             ResultsFormat::Json => json_end_text(),
+        }
+    }
+
+    /// What ASK prints. Neither format of values has a text of a truth: its word stands alone there.
+    pub fn truth_text(self, answer: bool) -> &'static str
+        ensures { result.now ≡ truth_in self answer }
+    {
+        match self {
+            ResultsFormat::Tsv | ResultsFormat::Csv => boolean_text(answer),
+            ResultsFormat::Json => json_boolean_text(answer),
         }
     }
 }
