@@ -1,5 +1,5 @@
-use Rattle.std.proofs.Common.{subst, [], ◌∷◌, Option, Some, None, refl, arith}
-use Rattle.std.specs.Prelude.{Ok, Err}
+use Rattle.std.proofs.Common.{subst, [], ◌∷◌, Option, Some, None, arith}
+use Rattle.std.specs.Prelude.{Ok}
 use Rattle.rdf_lines.specs.Fed as fed
 use Rattle.rdf_terms.specs.declared.quad.Quad.{Quad}
 use Rattle.rdf_streams.proofs.ConversionLemmas.Gathered.{ends_faulty, ends_on, ends_open}
@@ -13,5 +13,5 @@ returns-in-Ok-Some c =
     let q = c.in-Ok-Some.quad in
     (q ∷ [], ends_on c.what_is_fed_comes_first.ensures c.args.document q (subst (λ (a : Option Quad). fed.Ends c.args.document (Ok a)) c.in-Ok-Some.field-0-is c.in-Ok-Some.ensures), omega arith)
 
-pub returns : goal.returns
-returns c = ends_faulty c.what_is_fed_comes_first.ensures c.args.document c.in-Err.fault _ c.fault_of.ensures c.in-Err.ensures
+pub returns-in-Err : goal.returns-in-Err
+returns-in-Err c = ends_faulty c.what_is_fed_comes_first.ensures c.args.document c.in-Err.fault _ c.fault_of.ensures c.in-Err.ensures
