@@ -1,7 +1,7 @@
 -- What is gathered of a piece of a document of lines.
 use Rattle.std.proofs.Common.{◌≡◌, ◌∙◌, ap, refl, sym, subst, ℕ, ◌+◌, ◌≤◌, arith, List, [], ◌∷◌, ◌++◌, length, append_assoc, append-nil, length-append, Option, Some, None}
 use Rattle.std.specs.Prelude.{Ok, Err}
-use Rattle.rdf_lines.specs.Document.{IsDocument, ReadsFront}
+use Rattle.rdf_lines.specs.Document.{IsDocument}
 use Rattle.rdf_lines.specs.Fed as fed
 use Rattle.rdf_lines.specs.Fed.{Faults, Fed, FedBegins, HasBeenFed, StopsFed, Takes, and_then}
 use Rattle.rdf_lines.specs.QuadText.{quad_text}

@@ -1,15 +1,15 @@
 -- Conversions of lines over a device: logs that grow by their calls.
-use Rattle.std.proofs.Common.{◌≡◌, ◌≢◌, ◌⊎◌, ◌≤◌, ◌<◌, ℕ, ◌+◌, ◌*◌, Bool, true, false, ◌||◌, List, [], ◌∷◌, ◌++◌, length, Option, Some, None, refl, sym, ap, ◌∙◌, subst, append-nil, append_assoc, arith, inl, inr}
+use Rattle.std.proofs.Common.{◌≡◌, ◌≢◌, ◌≤◌, ℕ, ◌+◌, ◌*◌, Bool, true, false, ◌||◌, List, [], ◌∷◌, ◌++◌, length, Option, Some, None, refl, sym, ap, ◌∙◌, subst, append-nil, append_assoc, arith, inl, inr}
 use Rattle.std.specs.Prelude.{MatchResult, Result, Ok, Err}
-use Rattle.std.specs.Io.KnownBytes.{Appends, Consumes, IsAtEnd}
-use Rattle.rdf_lines.specs.Document.{HasSaid, IsDocument, ReadsAll}
+use Rattle.std.specs.Io.KnownBytes.{Consumes, IsAtEnd}
+use Rattle.rdf_lines.specs.Document.{IsDocument, ReadsAll}
 use Rattle.rdf_lines.specs.Fed.{Fed, FedBegins, HasBeenFed}
 use Rattle.rdf_lines.specs.declared.format.LineFormat.{LineFormat}
 use Rattle.rdf_lines.specs.declared.fault.LineFault.{LineFault}
 use Rattle.rdf_terms.specs.declared.quad.Quad.{Quad}
 use Rattle.rdf_streams.specs.Conversion.Converts.{ConvertsLines, lines_of, whole_lines}
 use Rattle.rdf_streams.specs.Conversion.Orders.{AreWritten, EndsAs, LinesConverted}
-use Rattle.rdf_streams.specs.Devices.{EndsWith, Event, Gave, IsOrderly, Leads, MayCome, ReadFault, Took, WriteFault, given, has_end, has_failed, is_end, read_calls, taken}
+use Rattle.rdf_streams.specs.Devices.{Event, Gave, IsOrderly, Leads, ReadFault, given, has_end, has_failed, is_end, read_calls, taken}
 use Rattle.rdf_streams.specs.Inside.Gathered.{Begins, Ends, GoesOn, Grows, Stops, StopsIn}
 use Rattle.rdf_streams.specs.Streams.{Wrote}
 use Rattle.rdf_streams.specs.declared.conversion.fault.ConvertFault.{ConvertFault}
@@ -18,7 +18,7 @@ use Rattle.rdf_streams.specs.declared.conversion.fault.DocumentFault.TheVariants
 use Rattle.rdf_streams.specs.declared.streams.device.Lent.{Lent}
 use Rattle.rdf_streams.proofs.ConversionLemmas.Converts.{lines_of-append, more_left}
 use Rattle.rdf_streams.proofs.ConversionLemmas.WholeLines.{lines_of_whole}
-use Rattle.rdf_streams.proofs.DeviceLemmas.Logs.{calls-append, end-append, failed-append, given-append, or_false, some_given, taken-append, true_false}
+use Rattle.rdf_streams.proofs.DeviceLemmas.Logs.{calls-append, end-append, failed-append, given-append, or_false, some_given, taken-append}
 use Rattle.rdf_streams.proofs.DeviceLemmas.Orderly.{ended_at, none_behind_end, orderly-append, orderly_one, wrote_fits}
 use Rattle.rdf_streams.proofs.DeviceLemmas.Pairs.{LentStep, lent_bytes, lent_end}
 use Rattle.rdf_streams.proofs.DeviceLemmas.Written.{writes_go_on, wrote_calls, wrote_end, wrote_given, wrote_taken, wrote_to_fault}

@@ -1,6 +1,6 @@
 -- Logs whose calls come in order.
-use Rattle.std.proofs.Common.{◌≡◌, ◌⊎◌, ◌≤◌, ℕ, ◌+◌, Bool, true, false, ◌||◌, List, [], ◌∷◌, ◌++◌, length, refl, sym, ap, ◌∙◌, subst, append-nil, append_assoc, arith, inl, inr}
-use Rattle.rdf_streams.specs.Devices.{Event, Gave, IsOrderly, IsOrderlyBehind, MayBe, MayCome, ReadFault, Took, WriteFault, given, has_end, has_failed, is_end, is_failure, read_calls, taken}
+use Rattle.std.proofs.Common.{◌≡◌, ◌⊎◌, ℕ, ◌+◌, Bool, true, false, ◌||◌, List, [], ◌∷◌, ◌++◌, refl, sym, ap, ◌∙◌, subst, append-nil, append_assoc, arith, inl, inr}
+use Rattle.rdf_streams.specs.Devices.{Event, Gave, IsOrderly, IsOrderlyBehind, MayBe, MayCome, ReadFault, Took, WriteFault, given, has_end, has_failed, is_failure, read_calls}
 use Rattle.rdf_streams.specs.Streams.{AreWrites, Wrote}
 use Rattle.rdf_streams.proofs.DeviceLemmas.Logs.{end-append, failed-append, or_false, true_false}
 use Rattle.rdf_streams.proofs.DeviceLemmas.Written.{writes_go_on}

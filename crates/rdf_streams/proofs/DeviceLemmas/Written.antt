@@ -3,7 +3,7 @@ use Rattle.std.proofs.Common.{◌≡◌, ◌≢◌, ◌⊎◌, ℕ, ◌+◌, Boo
 use Rattle.std.proofs.lemmas.List.Folds.{concat-append}
 use Rattle.std.specs.List.{concat}
 use Rattle.std.specs.Prelude.{Result, Ok, Err, is_err}
-use Rattle.rdf_streams.specs.Devices.{EndsWith, Event, Gave, ReadFault, Took, WriteFault, Leads, given, taken, has_end, has_failed, read_calls}
+use Rattle.rdf_streams.specs.Devices.{EndsWith, Event, Gave, ReadFault, Took, WriteFault, given, taken, has_end, has_failed, read_calls}
 use Rattle.rdf_streams.specs.Streams.{AreWrites, Writes, WritesOn, Wrote}
 use Rattle.rdf_streams.specs.declared.streams.writing.WriteFault.{WriteFault as Refusal}
 use Rattle.rdf_streams.proofs.DeviceLemmas.Logs.{Leads-append, Leads-one, calls-append, end-append, given-append, or_false, taken-append}

@@ -1,5 +1,5 @@
 -- In which order a document of lines is read, and the lines of its statements are written.
-use Rattle.std.specs.Prelude.{◌≡◌, ◌⊎◌, ℕ, true, false, List, [], ◌++◌, Some, None, Result, Ok, Err}
+use Rattle.std.specs.Prelude.{◌≡◌, ◌⊎◌, ℕ, true, false, List, [], ◌++◌, Some, None, Result, Err}
 use Rattle.rdf_streams.specs.Conversion.Converts.{ConvertsLines, lines_of, whole_lines}
 use Rattle.rdf_streams.specs.Devices.{EndsWith, Event, IsOrderly, ReadFault, Took, WriteFault, given, has_end, has_failed, read_calls, taken}
 use Rattle.rdf_streams.specs.declared.conversion.fault.ConvertFault.{ConvertFault}

@@ -1,4 +1,4 @@
-use Rattle.std.proofs.Common.{subst, [], ◌∷◌, Option, Some, None, arith}
+use Rattle.std.proofs.Common.{subst, [], ◌∷◌, Option, arith}
 use Rattle.std.specs.Prelude.{Ok}
 use Rattle.rdf_lines.specs.Fed as fed
 use Rattle.rdf_terms.specs.declared.quad.Quad.{Quad}

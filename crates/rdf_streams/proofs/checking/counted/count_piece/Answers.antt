@@ -1,4 +1,4 @@
-use Rattle.std.proofs.Common.{◌≡◌, ◌≤◌, ◌+◌, subst, arith, length, [], ◌∷◌, ◌++◌, Option, Some, None, sym, refl}
+use Rattle.std.proofs.Common.{subst, arith, length, [], ◌∷◌, ◌++◌, Option, Some, refl}
 use Rattle.rdf_lines.specs.Fed.{Takes}
 use Rattle.rdf_terms.specs.declared.quad.Quad.{Quad}
 use Rattle.rdf_streams.proofs.CheckLemmas.{one_counted, still_fits}

@@ -1,4 +1,4 @@
-use Rattle.std.proofs.Common.{rules, ◌≡◌, ℕ, List, [], subst, take, length, length-take, arith, ◌<◌, ◌≤◌}
+use Rattle.std.proofs.Common.{rules, subst, take, length-take, arith}
 use Rattle.std.specs.Io.KnownBytes.{Consumes, IsAtEnd}
 use Rattle.rdf_streams.proofs.CheckLemmas.{counted_first, counts_further, ends_here, fails_here, keeps_same, stops_here}
 use Rattle.rdf_streams.proofs.checking.lines.check_lines.Goals as goal

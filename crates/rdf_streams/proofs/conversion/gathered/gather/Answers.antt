@@ -1,4 +1,4 @@
-use Rattle.std.proofs.Common.{subst, [], ◌∷◌, ◌++◌, Option, Some, None, sym, refl}
+use Rattle.std.proofs.Common.{subst, [], ◌∷◌, ◌++◌, Option, Some, sym, refl}
 use Rattle.rdf_lines.specs.Fed.{Takes}
 use Rattle.rdf_terms.specs.declared.quad.Quad.{Quad}
 use Rattle.rdf_streams.specs.Inside.Gathered.{Grows}

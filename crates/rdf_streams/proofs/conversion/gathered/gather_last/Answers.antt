@@ -1,5 +1,5 @@
-use Rattle.std.proofs.Common.{subst, [], ◌∷◌, Option, Some, None, sym}
-use Rattle.std.specs.Prelude.{Ok, Err}
+use Rattle.std.proofs.Common.{subst, [], ◌∷◌, Option, sym}
+use Rattle.std.specs.Prelude.{Ok}
 use Rattle.rdf_lines.specs.Fed as fed
 use Rattle.rdf_terms.specs.declared.quad.Quad.{Quad}
 use Rattle.rdf_streams.specs.Inside.Gathered.{Grows}

@@ -1,5 +1,4 @@
-use Rattle.std.proofs.Common.{◌≡◌, ◌∙◌, ◌++◌, ◌∷◌, [], take, length, length-take, subst, sym, refl, arith, false, ℕ, List, Result}
-use Rattle.std.specs.Prelude.{Ok, Err}
+use Rattle.std.proofs.Common.{◌∙◌, ◌++◌, ◌∷◌, [], take, length-take, subst, sym, refl, arith, false, ℕ, List}
 use Rattle.rdf_streams.specs.Devices.{Gave, ReadFault}
 use Rattle.rdf_streams.specs.Inside.Gathered.{Grows}
 use Rattle.rdf_streams.specs.Streams.{Writes}
