@@ -6,7 +6,7 @@ use Rattle.rdf_streams.specs.Streams.{WritesTo}
 use Rattle.rdf_keeper.specs.Inside.Outcomes.{status_of, error_line}
 use Rattle.rdf_streams.specs.declared.streams.writing.WriteFault.{WriteFault}
 use Rattle.rdf_keeper.specs.declared.program.outcome.Outcome.{Outcome}
-use Rattle.rdf_keeper.specs.declared.program.outcome.Outcome.TheVariants.{Done, SomeRefused, BadDocument, BadWords, BadBase, BadData, NotState, ReadFailed, WriteFailed, NoMemory, ParserNoMemory}
+use Rattle.rdf_keeper.specs.declared.program.outcome.Outcome.TheVariants.{Done, SomeRefused, BadDocument, BadText, BadWords, BadBase, BadData, NotState, ReadFailed, WriteFailed, NoMemory, ParserNoMemory}
 use Rattle.rdf_session.specs.History.{nothing}
 use Rattle.rdf_session.specs.Session.{Session, with_depth}
 use Rattle.rdf_keeper.specs.Inside.Starts.{BeginsWith, RefusesData}
@@ -22,6 +22,7 @@ no_line : (o : Outcome) → status_of o ≡ 0 → error_line o ≡ []
 no_line Done e = refl
 no_line SomeRefused e = refl
 no_line (BadDocument at) e = cc
+no_line (BadText fault) e = cc
 no_line BadWords e = refl
 no_line BadBase e = cc
 no_line (BadData fault) e = cc

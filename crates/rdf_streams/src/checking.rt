@@ -1,6 +1,7 @@
 //! How many statements documents have, or their faults: those of lines are counted while they are read, those of Turtle once they
 //! are read.
 ghost use Rattle.std.specs.Prelude.{◌≡◌, ℕ, List, Some};
+ghost use Rattle.std.specs.Option.{option_copied};
 ghost use Rattle.rdf_streams.specs.Checks.{Checks};
 
 mod counted;
@@ -27,15 +28,15 @@ use std::io::Read;
 pub fn check<R: Read>(
     alloc: Global,
     format: Format,
-    base: Option<Iri>,
+    base: Option<&Iri>,
     reader: &mut R,
 ) -> Result<u64, ConvertFault>
     ensures { (text : List ℕ) → R.remaining reader.old ≡ Some text →
-        Checks format base text (R.remaining reader.new) result }
+        Checks format (option_copied base.entry) text (R.remaining reader.new) result }
 {
     match format {
         Format::NQuads => check_lines(alloc, LineFormat::NQuads, reader),
         Format::NTriples => check_lines(alloc, LineFormat::NTriples, reader),
-        Format::Turtle => check_turtle(alloc, base.as_ref(), reader),
+        Format::Turtle => check_turtle(alloc, base, reader),
     }
 }
