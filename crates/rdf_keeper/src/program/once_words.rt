@@ -263,7 +263,7 @@ fn data_words<'a>(alloc: Global, matches: &ArgMatches<'a>) -> Result<DataWords<'
 
 // How often files of data are standard input.
 fn inputs_of(data: &DataWords<'_>) -> usize {
-    let mut count = 0;
+    let mut count = 0usize;
     if let Some(first) = &data.first {
         if first.path == INPUT {
             count = 1;

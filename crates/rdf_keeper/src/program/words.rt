@@ -18,7 +18,7 @@ use clap::error::ErrorKind;
 use clap::{Arg, ArgAction, ArgMatches, Command, Error};
 use rdf_session::Format;
 use rdf_terms::NoMemory;
-use std::alloc::{AllocError, Global};
+use std::alloc::{AllocError, AllocFailed, Global};
 
 /// What the data are that a session begins with.
 #[derive(Clone, Copy, Debug, PartialEq, Eq)]
@@ -76,6 +76,12 @@ pub(crate) enum WordsFault {
 
 impl From<AllocError> for WordsFault {
     fn from(e: AllocError) -> WordsFault {
+        WordsFault::NoMemory(NoMemory::from(e))
+    }
+}
+
+impl<T: Drop> From<AllocFailed<T>> for WordsFault {
+    fn from(e: AllocFailed<T>) -> WordsFault {
         WordsFault::NoMemory(NoMemory::from(e))
     }
 }
