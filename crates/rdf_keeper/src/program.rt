@@ -18,6 +18,7 @@ mod help;
 mod once;
 mod once_words;
 mod outcome;
+mod several;
 mod words;
 
 use crate::program::check::check_words;

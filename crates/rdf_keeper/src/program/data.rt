@@ -1,8 +1,7 @@
 //! The session that a run begins with.
-ghost use Rattle.std.specs.Prelude.{◌≡◌, ◌≢◌, ℕ, List, Option, None, Some, MatchResult, MatchOption, IfOk, IfErr, map, ◌∷◌, []};
+ghost use Rattle.std.specs.Prelude.{◌≡◌, ◌≢◌, ℕ, List, Option, None, Some, MatchResult, MatchOption, IfOk, IfErr};
 ghost use Rattle.std.specs.Option.{option_copied};
 ghost use Rattle.rdf_dataset.specs.State.{empty_state};
-ghost use Rattle.rdf_keeper.specs.Inside.Once.{LoadsAll};
 ghost use Rattle.rdf_keeper.specs.Inside.Outcomes.{status_of};
 ghost use Rattle.rdf_keeper.specs.Inside.Starts.{BeginsWith, RefusesData};
 ghost use Rattle.rdf_keeper.specs.declared.program.outcome.Outcome.TheVariants.{BadWords};
@@ -11,7 +10,7 @@ ghost use Rattle.rdf_session.specs.Depth.{IsDepth, greatest_depth};
 ghost use Rattle.rdf_session.specs.History.{nothing};
 ghost use Rattle.rdf_session.specs.Session.{Session, fresh, with_depth};
 
-use crate::program::once_words::{DataWords, DocumentWord, INPUT};
+use crate::program::once_words::INPUT;
 use crate::program::outcome::Outcome;
 use crate::program::words::StartFormat;
 use rdf_lines::StateFault;
@@ -85,8 +84,8 @@ fn restored(alloc: Global, base: Option<Iri>, text: Vec<u8>) -> Result<Keeper, O
     }
 }
 
-// A session without history over the data of a text.
-fn over_data(
+/// A session without history over the data of a text.
+pub(crate) fn over_data(
     alloc: Global,
     base: Option<Iri>,
     format: StartFormat,
@@ -162,60 +161,4 @@ pub(crate) fn begun<T: Files>(
             over_data(alloc, base, format, text)
         }
     }
-}
-
-// The session with what a document loads as part of its start.
-fn further(mut keeper: Keeper, format: Format, text: Vec<u8>) -> Result<Keeper, Outcome>
-    ensures { IfOk result (λ new. LoadsAll (format ∷ []) (text.items ∷ []) keeper new) }
-{
-    match keeper.load_text(format, text) {
-        Ok(_) => {
-            keeper.commit();
-            Ok(keeper)
-        }
-        Err(KeeperFault::NoMemory(refused)) => Err(Outcome::NoMemory(refused)),
-        Err(fault) => Err(Outcome::BadData(fault)),
-    }
-}
-
-// The session with what further documents load, one behind another, as part of its start.
-fn all_further<T: Files, R: Read>(
-    rt: &T,
-    alloc: Global,
-    keeper: Keeper,
-    words: &[DocumentWord<'_>],
-    reader: &mut R,
-) -> Result<Keeper, Outcome>
-    ensures { IfOk result (λ new. (texts : List (List ℕ)) ×
-        LoadsAll (map (λ w. w.format) words.now) texts keeper new) }
-{
-    let mut now = keeper;
-    for word in words {
-        let text = text_named(rt, alloc, word.path, reader)?;
-        now = further(now, word.format, text)?;
-    }
-    Ok(now)
-}
-
-/// A session without history over the data of files, one behind another.
-pub(crate) fn begun_with_all<T: Files, R: Read>(
-    rt: &T,
-    alloc: Global,
-    base: Option<Iri>,
-    words: &DataWords<'_>,
-    reader: &mut R,
-) -> Result<Keeper, Outcome>
-    ensures { IfOk result (λ keeper. (start : Session) × (texts : List (List ℕ))
-        × MatchOption words.now.first (start ≡ fresh base (empty_state 0))
-        (λ word. (text : List ℕ) × BeginsWith word.format base text start)
-        × LoadsAll (map (λ w. w.format) words.now.further.items) texts start keeper) }
-{
-    let start = match &words.first {
-        None => Keeper::new(alloc, base),
-        Some(word) => {
-            let text = text_named(rt, alloc, word.path, reader)?;
-            over_data(alloc, base, word.format, text)?
-        }
-    };
-    all_further(rt, alloc, start, words.further.as_slice(), reader)
 }

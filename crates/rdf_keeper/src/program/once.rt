@@ -11,9 +11,10 @@ ghost use Rattle.rdf_session.specs.declared.fault.KeeperFault.{KeeperFault};
 ghost use Rattle.rdf_session.specs.declared.query.Answer.{Answer};
 
 use crate::program::base_of;
-use crate::program::data::{begun_with_all, text_named};
+use crate::program::data::text_named;
 use crate::program::once_words::{DataWords, QueryWords, UpdateWords};
 use crate::program::outcome::Outcome;
+use crate::program::several::begun_with_all;
 use crate::script::answer::append_topic;
 use crate::script::command::Topic;
 use rdf_session::{Keeper, KeeperFault, ResultsFormat};
