@@ -6,6 +6,7 @@ use Rattle.rdf_lines.specs.QuadText.{quad_text}
 use Rattle.std.specs.List.{concat}
 use Rattle.rdf_terms.specs.OrderLaws.{term_cmp_total, term_cmp-IsAntisymmetric, quad_cmp_total, quad_cmp-IsAntisymmetric}
 use Rattle.rdf_dataset.specs.State.{net_between}
+use Rattle.sparql_results.specs.declared.format.ResultsFormat.TheVariants.{Tsv}
 use Rattle.rdf_session.specs.OneQueryReply.{DifferInFreeLine, OneQueryReply}
 use Rattle.rdf_session.specs.OneReply.{IsFull, OneReply, SameReply}
 use Rattle.rdf_session.specs.Session.{Session, Command, Reply, Refused as RefusedReply, now}
@@ -79,7 +80,7 @@ module _ (one : OneReply) (one_query : OneQueryReply) where
       same_reply c t u text other refused otherwise a.0.0 b.0.0 same.0 same.1 a.0.2 a.0.3 b.0.2 b.0.3
   one_answer (ask query) s t u text other refused otherwise a b =
       let x = a.0.1 in let y = b.0.1 in
-      let same = one_query s query x.reply y.reply x.replies (full_query x.reply text x.bytes a.1) y.replies (full_query y.reply other y.bytes b.1) in
+      let same = one_query Tsv s query x.reply y.reply x.replies (full_query x.reply text x.bytes a.1) y.replies (full_query y.reply other y.bytes b.1) in
       same_query query s t u text other refused otherwise x y same (a.0.0 ∙ sym b.0.0)
   one_answer (show topic) s t u text other refused otherwise a b =
       elim (a.0.1) [
