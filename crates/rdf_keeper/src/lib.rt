@@ -16,8 +16,8 @@ mod short_line;
 pub use examples::the_worked_examples_hold;
 pub use law::{
     a_script_has_one_output, a_script_keeps_the_promise, a_shown_state_comes_back,
-    each_call_has_its_place, pieces_are_the_script, printed_lines_are_documents,
-    refused_answers_leave, script_lines_are_the_text,
+    a_word_is_a_session_in_small, each_call_has_its_place, pieces_are_the_script,
+    printed_lines_are_documents, refused_answers_leave, script_lines_are_the_text,
 };
 pub use program::start;
 pub use rdf_lines::StateFault;
