@@ -1,6 +1,6 @@
 //! The keeper of an RDF dataset: the session with its loads, updates, undo, redo, marks, rollback
 //! and commit, scripts of these, and the whole program `rdfkeep` over its words. It hands on sessions and
-//! the conversion of documents.
+//! the conversion and the check of documents.
 //!
 //! The program calls it, and each host that wants a session (`crates/library_example` is one). It
 //! saves nothing by itself: a host writes and reads the state text where it wants. It is for one
@@ -25,5 +25,5 @@ pub use rdf_session::{
     Answer, Counts, Format, Keeper, KeeperFault, a_load_is_insert_data, a_saved_state_comes_back,
     one_reply, standing_requests, the_headline, undo_gives_back,
 };
-pub use rdf_streams::{ConvertFault, Device, DocumentFault, convert};
+pub use rdf_streams::{ConvertFault, Device, DocumentFault, check, convert};
 pub use script::{Feed, Settings, Status, run, run_on, run_within};
