@@ -1,5 +1,5 @@
 -- What is written of an ending, and how a session begins.
-use Rattle.std.proofs.Common.{◌≡◌, ◌∙◌, refl, sym, ap, subst, ℕ, List, [], ◌∷◌, ◌++◌, append-nil, Option, None}
+use Rattle.std.proofs.Common.{◌≡◌, ◌≢◌, append_assoc, ◌∙◌, refl, sym, ap, subst, ℕ, List, [], ◌∷◌, ◌++◌, append-nil, Option, None}
 use Rattle.std.specs.Prelude.{Result, Ok, Err, IfOk, MatchResult}
 use Rattle.std.specs.Io.KnownBytes.{Appends}
 use Rattle.rdf_streams.specs.Streams.{WritesTo}
@@ -40,6 +40,22 @@ pub stays_quiet : (before mid after : Option (List ℕ)) (o : Outcome) → statu
 stays_quiet before mid after o zero so_far (front, more, parts, wrote) =
     let none = first_nil front more (sym (no_line o zero) ∙ parts) in
     Appends-chain before mid after [] [] so_far (subst (Appends mid after) none wrote)
+
+-- ---- a line in two parts
+
+abbrev pub CutShort : Option (List ℕ) → List ℕ → Option (List ℕ) → Type 0
+CutShort before text after = (front more : List ℕ) × (text ≡ front ++ more) × (more ≢ []) × Appends before after front
+
+not_empty : (xs ys : List ℕ) → xs ≢ [] → xs ++ ys ≢ []
+not_empty [] ys h e = h refl
+not_empty (x ∷ xs) ys h e = cc
+
+pub first_cut : (before after : Option (List ℕ)) (xs ys : List ℕ) (e : WriteFault) → WritesTo before xs (Err e) after → CutShort before (xs ++ ys) after
+first_cut before after xs ys e (front, more, parts, some, wrote) = (front, more ++ ys, ap (λ t. t ++ ys) parts ∙ append_assoc front more ys, not_empty more ys some, wrote)
+
+pub second_cut : (before mid after : Option (List ℕ)) (xs ys : List ℕ) (e : WriteFault) → Appends before mid xs → WritesTo mid ys (Err e) after → CutShort before (xs ++ ys) after
+second_cut before mid after xs ys e first (front, more, parts, some, wrote) =
+    (xs ++ front, more, ap (λ t. xs ++ t) parts ∙ sym (append_assoc xs front more), some, Appends-chain before mid after xs front first wrote)
 
 -- ---- how a session begins
 
