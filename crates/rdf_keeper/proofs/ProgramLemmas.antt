@@ -1,6 +1,6 @@
 -- What is written of an ending, and how a session begins.
-use Rattle.std.proofs.Common.{◌≡◌, ◌≢◌, append_assoc, ◌∙◌, refl, sym, ap, subst, ℕ, List, [], ◌∷◌, ◌++◌, append-nil, Option, None}
-use Rattle.std.specs.Prelude.{Result, Ok, Err, IfOk, MatchResult}
+use Rattle.std.proofs.Common.{◌≡◌, ◌≢◌, append_assoc, ◌∙◌, refl, sym, ap, subst, ℕ, true, false, List, [], ◌∷◌, ◌++◌, append-nil, Option, None}
+use Rattle.std.specs.Prelude.{Result, Ok, Err, IfOk, MatchResult, is_err}
 use Rattle.std.specs.Io.KnownBytes.{Appends}
 use Rattle.rdf_streams.specs.Streams.{WritesTo}
 use Rattle.rdf_keeper.specs.Inside.Outcomes.{status_of, error_line}
@@ -50,12 +50,16 @@ not_empty : (xs ys : List ℕ) → xs ≢ [] → xs ++ ys ≢ []
 not_empty [] ys h e = h refl
 not_empty (x ∷ xs) ys h e = cc
 
-pub first_cut : (before after : Option (List ℕ)) (xs ys : List ℕ) (e : WriteFault) → WritesTo before xs (Err e) after → CutShort before (xs ++ ys) after
-first_cut before after xs ys e (front, more, parts, some, wrote) = (front, more ++ ys, ap (λ t. t ++ ys) parts ∙ append_assoc front more ys, not_empty more ys some, wrote)
+-- the first part isn't written whole
+pub first_cut : (before after : Option (List ℕ)) (text xs ys : List ℕ) (r : Result (Unit {0}) WriteFault) → text ≡ xs → is_err r ≡ true → WritesTo before text r after → CutShort before (xs ++ ys) after
+first_cut before after text xs ys (Ok u) is e w = cc
+first_cut before after text xs ys (Err f) is e (front, more, parts, some, wrote) = (front, more ++ ys, ap (λ t. t ++ ys) (sym is ∙ parts) ∙ append_assoc front more ys, not_empty more ys some, wrote)
 
-pub second_cut : (before mid after : Option (List ℕ)) (xs ys : List ℕ) (e : WriteFault) → Appends before mid xs → WritesTo mid ys (Err e) after → CutShort before (xs ++ ys) after
-second_cut before mid after xs ys e first (front, more, parts, some, wrote) =
-    (xs ++ front, more, ap (λ t. xs ++ t) parts ∙ sym (append_assoc xs front more), some, Appends-chain before mid after xs front first wrote)
+-- or the second
+pub second_cut : (before mid after : Option (List ℕ)) (text xs ys : List ℕ) (r : Result (Unit {0}) WriteFault) → text ≡ xs → is_err r ≡ false → WritesTo before text r mid → CutShort mid ys after → CutShort before (xs ++ ys) after
+second_cut before mid after text xs ys (Err f) is e w cut = cc
+second_cut before mid after text xs ys (Ok u) is e w (front, more, parts, some, wrote) =
+    (xs ++ front, more, ap (λ t. xs ++ t) parts ∙ sym (append_assoc xs front more), some, Appends-chain before mid after xs front (subst (Appends before mid) is w) wrote)
 
 -- ---- how a session begins
 

@@ -50,9 +50,8 @@ fn write_line<W: Write>(name: &str, line: &[u8], writer: &mut W) -> Result<(), O
     ensures { WritesLine (W.contents writer.old) (name.now ++ line.now) result
         (W.contents writer.new) }
 {
-    match write_whole(writer, name.as_bytes()) {
-        Ok(()) => {}
-        Err(_) => return Err(Outcome::WriteFailed),
+    if write_whole(writer, name.as_bytes()).is_err() {
+        return Err(Outcome::WriteFailed);
     }
     match write_whole(writer, line) {
         Ok(()) => Ok(()),
