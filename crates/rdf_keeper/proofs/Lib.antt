@@ -1,2 +1,3 @@
 pub mod ProgramLemmas
 pub mod ScriptLemmas
+pub mod SeveralLemmas

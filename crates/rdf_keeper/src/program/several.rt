@@ -42,7 +42,8 @@ fn all_further<T: Files, R: Read>(
     let mut now = keeper;
     for word in words {
         let text = text_named(rt, alloc, word.path, reader)?;
-        now = further(now, word.format, text)?;
+        let next = further(now, word.format, text)?;
+        now = next;
     }
     Ok(now)
 }

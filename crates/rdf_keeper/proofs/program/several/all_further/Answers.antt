@@ -1,0 +1,18 @@
+use Rattle.std.proofs.Common.{◌≡◌, arith, refl, sym, subst, [], ◌∷◌, drop, map, rules}
+use Rattle.std.proofs.Math.ListN.{drop_of_length-le}
+use Rattle.rdf_keeper.specs.Inside.Once.{LoadsAll}
+use Rattle.rdf_keeper.proofs.SeveralLemmas.{loads_next}
+use Rattle.rdf_keeper.proofs.program.several.all_further.Goals as goal
+
+pub loop-word-init : goal.loop-word-init
+loop-word-init g c more end loads = (more, loads)
+
+pub loop-word-preserved : goal.loop-word-preserved
+loop-word-preserved g c more end loads =
+    c.loop-word.invariant (c.in_ok-text.text.items ∷ more) end
+    (loads_next (λ w. w.format) c.args.words.now c.loop-word.word-index c.word-item.result c.in_ok-text.text.items more c.loop-word.now c.in_ok-next.next end c.loop-word-test.true c.word-item.is c.in_ok-next.ensures loads)
+
+pub returns : goal.returns
+returns g c =
+    c.loop-word.invariant [] c.loop-word.now
+    (subst (λ ws. LoadsAll (map (λ w. w.format) ws) [] c.loop-word.now c.loop-word.now) (sym (drop_of_length-le c.args.words.now (omega (arith, c.loop-word-test.false)))) refl)
