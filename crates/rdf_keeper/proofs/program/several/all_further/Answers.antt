@@ -1,5 +1,5 @@
-use Rattle.std.proofs.Common.{◌≡◌, arith, refl, sym, subst, [], ◌∷◌, drop, map, rules}
-use Rattle.std.proofs.Math.ListN.{drop_of_length-le}
+use Rattle.std.proofs.Common.{◌≡◌, refl, sym, subst, [], ◌∷◌, drop, map}
+use Rattle.std.proofs.lemmas.List.{drop_all}
 use Rattle.rdf_keeper.specs.Inside.Once.{LoadsAll}
 use Rattle.rdf_keeper.proofs.SeveralLemmas.{loads_next}
 use Rattle.rdf_keeper.proofs.program.several.all_further.Goals as goal
@@ -15,4 +15,4 @@ loop-word-preserved g c more end loads =
 pub returns : goal.returns
 returns g c =
     c.loop-word.invariant [] c.loop-word.now
-    (subst (λ ws. LoadsAll (map (λ w. w.format) ws) [] c.loop-word.now c.loop-word.now) (sym (drop_of_length-le c.args.words.now (omega (arith, c.loop-word-test.false)))) refl)
+    (subst (λ ws. LoadsAll (map (λ w. w.format) ws) [] c.loop-word.now c.loop-word.now) (sym (drop_all c.loop-word.word-index c.args.words.now c.loop-word-test.false)) refl)
