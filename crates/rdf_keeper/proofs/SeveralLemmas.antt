@@ -11,8 +11,7 @@ loads_on : (formats : List Format) (format : Format) (text : List ℕ) (more : L
 loads_on formats format text more old mid new (counts, loaded, end, load, commit, same) rest = (counts, loaded, end, load, commit, subst (λ s. LoadsAll formats more s new) same rest)
 
 -- the item at a place, and then those behind it
-pub loads_next : {W : Type 0} (format : W → Format) (words : List W) (i : ℕ) (word : W) (text : List ℕ) (more : List (List ℕ)) (old mid new : Session) → i < length words → word ≡ get_or words i word
-    → LoadsAll (format word ∷ []) (text ∷ []) old mid → LoadsAll (map format (drop (i + 1) words)) more mid new → LoadsAll (map format (drop i words)) (text ∷ more) old new
-loads_next format words i word text more old mid new h is one rest =
-    let parts = ap (map format) (drop_more words i word h) ∙ ap (λ w. format w ∷ map format (drop (i + 1) words)) (sym is) in
-    subst (λ fs. LoadsAll fs (text ∷ more) old new) (sym parts) (loads_on (map format (drop (i + 1) words)) (format word) text more old mid new one rest)
+pub loads_at : {W : Type 0} (format : W → Format) (words : List W) (i : ℕ) (d : W) (text : List ℕ) (more : List (List ℕ)) (old mid new : Session) → i < length words
+    → LoadsAll (format (get_or words i d) ∷ []) (text ∷ []) old mid → LoadsAll (map format (drop (i + 1) words)) more mid new → LoadsAll (map format (drop i words)) (text ∷ more) old new
+loads_at format words i d text more old mid new h one rest =
+    subst (λ fs. LoadsAll fs (text ∷ more) old new) (sym (ap (map format) (drop_more words i d h))) (loads_on (map format (drop (i + 1) words)) (format (get_or words i d)) text more old mid new one rest)

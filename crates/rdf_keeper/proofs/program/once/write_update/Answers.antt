@@ -18,6 +18,5 @@ returns g c = (
   Err c.in-Err.fault,
   c.update.new.self,
   subst (λ r. Transition c.args.keeper (Do (Update c.args.text.now)) (reply_of r) c.update.new.self) c.in-Err.is c.update.ensures,
-  c.refusal.ensures,
-  Appends-none _,
+  (c.refusal.ensures, Appends-none _),
 )
