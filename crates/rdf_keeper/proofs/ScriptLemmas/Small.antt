@@ -30,10 +30,10 @@ inside body acc (line ∷ lines) all =
     ∙ inside body (acc ++ line) lines all.1 ∙ ap (λ t. body_asks body t ∷ []) (append_assoc acc line (concat lines))
 
 query_opens : IsEnded (codes "%query\n")
-query_opens = (codes "%query", refl, (λ e. cc, (λ e. cc, (λ e. cc, (λ e. cc, (λ e. cc, (λ e. cc, tt)))))))
+query_opens = (codes "%query", refl, ((λ e. cc), ((λ e. cc), ((λ e. cc), ((λ e. cc), ((λ e. cc), ((λ e. cc), tt)))))))
 
 update_opens : IsEnded (codes "%update\n")
-update_opens = (codes "%update", refl, (λ e. cc, (λ e. cc, (λ e. cc, (λ e. cc, (λ e. cc, (λ e. cc, (λ e. cc, tt))))))))
+update_opens = (codes "%update", refl, ((λ e. cc), ((λ e. cc), ((λ e. cc), ((λ e. cc), ((λ e. cc), ((λ e. cc), ((λ e. cc), tt))))))))
 
 script_lines : (opener : List ℕ) (lines : List (List ℕ)) → IsEnded opener → AreBodyLines lines → raw_lines (body_script opener lines) ≡ opener ∷ (lines ++ codes "%end\n" ∷ [])
 script_lines opener lines ended all = cut_front opener (concat lines ++ codes "%end\n") ended ∙ ap (λ ls. opener ∷ ls) (body_cut lines (codes "%end\n") all)
