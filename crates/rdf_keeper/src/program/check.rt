@@ -1,9 +1,9 @@
 //! Documents that are checked.
-ghost use Rattle.std.specs.Prelude.{◌≡◌, ◌≢◌, ◌++◌, [], List, ℕ, Result, IfErr};
+ghost use Rattle.std.specs.Prelude.{◌≡◌, ◌≢◌, ◌++◌, [], List, ℕ, Result, IfErr, Err};
 ghost use Rattle.std.specs.Option.{option_copied};
 ghost use Rattle.std.specs.Io.KnownBytes.{Appends};
 ghost use Rattle.rdf_streams.specs.Checks.{Checks};
-ghost use Rattle.rdf_keeper.specs.Inside.Once.{WritesCheck, WritesLine, counted_line, faulty_line};
+ghost use Rattle.rdf_keeper.specs.Inside.Once.{Tells, WritesCheck, WritesLine, counted_line, faulty_line};
 ghost use Rattle.rdf_keeper.specs.Inside.Outcomes.{status_of};
 ghost use Rattle.rdf_streams.specs.declared.conversion.fault.ConvertFault.{ConvertFault};
 
@@ -59,6 +59,48 @@ fn write_line<W: Write>(name: &str, line: &[u8], writer: &mut W) -> Result<(), O
     }
 }
 
+// Writes the line of a file, and answers whether its document is sound.
+fn tell<W: Write>(name: &str, line: &[u8], sound: bool, writer: &mut W) -> Result<bool, Outcome>
+    ensures told { IfErr result (λ outcome. status_of outcome ≢ 2) }
+    ensures written { Tells (W.contents writer.old) (name.now ++ line.now) sound result
+        (W.contents writer.new) }
+{
+    match write_line(name, line, writer) {
+        Ok(()) => Ok(sound),
+        Err(outcome) => Err(outcome),
+    }
+}
+
+// Writes the line of a document that isn't sound, or nothing where it was not read.
+fn tell_fault<W: Write>(name: &str, fault: ConvertFault, writer: &mut W) -> Result<bool, Outcome>
+    ensures told { IfErr result (λ outcome. status_of outcome ≢ 2) }
+    ensures written { WritesCheck name.now (W.contents writer.old) (Err fault) result
+        (W.contents writer.new) }
+{
+    match fault {
+        ConvertFault::Document(at) => tell(name, faulty_line(at).as_slice(), false, writer),
+        ConvertFault::Read => Err(Outcome::ReadFailed),
+        ConvertFault::Write => Err(Outcome::WriteFailed),
+        ConvertFault::NoMemory(refused) => Err(Outcome::NoMemory(refused)),
+    }
+}
+
+// Writes what a check answered.
+fn tell_answer<W: Write>(
+    name: &str,
+    answer: Result<u64, ConvertFault>,
+    writer: &mut W,
+) -> Result<bool, Outcome>
+    ensures told { IfErr result (λ outcome. status_of outcome ≢ 2) }
+    ensures written { WritesCheck name.now (W.contents writer.old) answer result
+        (W.contents writer.new) }
+{
+    match answer {
+        Ok(count) => tell(name, counted_line(count).as_slice(), true, writer),
+        Err(fault) => tell_fault(name, fault, writer),
+    }
+}
+
 // Checks the document of a reader, writes its line, and answers whether it is sound.
 fn check_one<R: Read, W: Write>(
     alloc: Global,
@@ -74,19 +116,8 @@ fn check_one<R: Read, W: Write>(
         × Checks format (option_copied base.entry) text (R.remaining reader.new) answer
         × WritesCheck name.now (W.contents writer.old) answer result (W.contents writer.new) }
 {
-    match check(alloc, format, base, reader) {
-        Ok(count) => {
-            write_line(name, counted_line(count).as_slice(), writer)?;
-            Ok(true)
-        }
-        Err(ConvertFault::Document(fault)) => {
-            write_line(name, faulty_line(fault).as_slice(), writer)?;
-            Ok(false)
-        }
-        Err(ConvertFault::Read) => Err(Outcome::ReadFailed),
-        Err(ConvertFault::Write) => Err(Outcome::WriteFailed),
-        Err(ConvertFault::NoMemory(refused)) => Err(Outcome::NoMemory(refused)),
-    }
+    let answer = check(alloc, format, base, reader);
+    tell_answer(name, answer, writer)
 }
 
 // Checks a file, or standard input.

@@ -6,8 +6,9 @@ ghost use Rattle.rdf_keeper.specs.Inside.Starts.{BeginsWith};
 ghost use Rattle.rdf_session.specs.Session.{Session, fresh};
 
 use crate::program::data::{over_data, text_named};
-use crate::program::once_words::{DataWords, DocumentWord};
+use crate::program::once_words::{DataWords, DocumentWord, StartWord};
 use crate::program::outcome::Outcome;
+use crate::program::words::StartFormat;
 use rdf_session::{Format, Keeper, KeeperFault};
 use rdf_terms::Iri;
 use std::alloc::Global;
@@ -48,6 +49,39 @@ fn all_further<T: Files, R: Read>(
     Ok(now)
 }
 
+// A session without history over the data of the first file, or over none.
+fn begun_first<T: Files, R: Read>(
+    rt: &T,
+    alloc: Global,
+    base: Option<Iri>,
+    first: Option<StartWord<'_>>,
+    reader: &mut R,
+) -> Result<Keeper, Outcome>
+    ensures { IfOk result (λ keeper. MatchOption first.entry
+        (keeper ≡ fresh base (empty_state 0))
+        (λ word. (text : List ℕ) × BeginsWith word.format base text keeper)) }
+{
+    match first {
+        None => Ok(Keeper::new(alloc, base)),
+        Some(word) => {
+            let text = text_named(rt, alloc, word.path, reader)?;
+            begun_over(alloc, base, word.format, text)
+        }
+    }
+}
+
+// A session without history over the data of a text.
+fn begun_over(
+    alloc: Global,
+    base: Option<Iri>,
+    format: StartFormat,
+    text: Vec<u8>,
+) -> Result<Keeper, Outcome>
+    ensures { IfOk result (λ keeper. (held : List ℕ) × BeginsWith format base held keeper) }
+{
+    over_data(alloc, base, format, text)
+}
+
 /// A session without history over the data of files, one behind another.
 pub(crate) fn begun_with_all<T: Files, R: Read>(
     rt: &T,
@@ -61,12 +95,6 @@ pub(crate) fn begun_with_all<T: Files, R: Read>(
         (λ word. (text : List ℕ) × BeginsWith word.format base text start)
         × LoadsAll (map (λ w. w.format) words.now.further.items) texts start keeper) }
 {
-    let start = match &words.first {
-        None => Keeper::new(alloc, base),
-        Some(word) => {
-            let text = text_named(rt, alloc, word.path, reader)?;
-            over_data(alloc, base, word.format, text)?
-        }
-    };
+    let start = begun_first(rt, alloc, base, words.first, reader)?;
     all_further(rt, alloc, start, words.further.as_slice(), reader)
 }
