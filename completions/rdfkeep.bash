@@ -1,7 +1,7 @@
 # Completions of rdfkeep for bash; `make install` puts them where bash-completion looks.
 
 _rdfkeep() {
-    local commands='run convert' formats='nquads ntriples turtle'
+    local commands='run convert query update check' formats='nquads ntriples turtle'
     local word=${COMP_WORDS[COMP_CWORD]} before=${COMP_WORDS[COMP_CWORD - 1]} words=
     # bash takes `--format=turtle` for three words
     if [[ $word == '=' ]]; then
@@ -19,6 +19,8 @@ _rdfkeep() {
         case $before in
             --format) words="$formats state" ;;
             --from) words=$formats ;;
+            --results) words='tsv csv json' ;;
+            --to) words='nquads state' ;;
             --base | --depth) return ;;
             --data) compopt -o default 2> /dev/null; return ;;
             *)
@@ -28,7 +30,9 @@ _rdfkeep() {
                 fi
                 case ${COMP_WORDS[1]} in
                     run) words='--base --data --depth --format --stop' ;;
-                    convert) words='--base --from' ;;
+                    convert | check) words='--base --from' ;;
+                    query) words='--base --data --format --results' ;;
+                    update) words='--base --changes --data --format --to' ;;
                     *) return ;;
                 esac
                 words+=' --help --version'

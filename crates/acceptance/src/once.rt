@@ -2,7 +2,7 @@
 //! up at once, neither tried again nor passed over.
 use crate::streams::{ANSWERED, ANSWERS, CONVERTED, CONVERTED_UP_TO, LINES, SCRIPT, due};
 use one_byte::{Ending, OnceFailing, OneByteReader, OneByteWriter};
-use rdf_keeper::{ConvertFault, Format, Keeper, Settings, Status, convert, run};
+use rdf_keeper::{ConvertFault, Format, Keeper, Settings, Status, check, convert, run};
 use rdf_terms::Iri;
 use std::alloc::Global;
 use std::test::Fail;
@@ -91,6 +91,39 @@ fn reads_of_lines(rt: HostRuntime) {
         for failure in READ_FAILURES {
             assert!(rt;
                 conversion_read(rt.alloc(), read, failure) == Some(true),
+                "{read}"
+            );
+        }
+    }
+}
+
+// Whether a check that fails to read once tells it, and reads no more.
+fn check_read(
+    alloc: Global,
+    format: Format,
+    bytes: &'static [u8],
+    read: usize,
+    failure: Ending,
+) -> bool {
+    let mut reader = reader(bytes, read, failure);
+    let answer = check(alloc, format, None, &mut reader);
+    answer == Err(ConvertFault::Read) && is_last(&reader, read)
+}
+
+#[test]
+fn reads_of_checks(rt: HostRuntime) {
+    for read in 0..=LINES.len() {
+        for failure in READ_FAILURES {
+            assert!(rt;
+                check_read(rt.alloc(), Format::NQuads, LINES, read, failure),
+                "{read}"
+            );
+        }
+    }
+    for read in 0..=TURTLE.len() {
+        for failure in READ_FAILURES {
+            assert!(rt;
+                check_read(rt.alloc(), Format::Turtle, TURTLE, read, failure),
                 "{read}"
             );
         }

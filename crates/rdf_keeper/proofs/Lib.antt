@@ -1,5 +1,3 @@
-pub mod ConversionLemmas
-pub mod DeviceLemmas
 pub mod ProgramLemmas
 pub mod ScriptLemmas
-pub mod StreamLemmas
+pub mod SeveralLemmas

@@ -1,18 +1,18 @@
 -- What is written of an ending, and how a session begins.
-use Rattle.std.proofs.Common.{◌≡◌, ◌∙◌, refl, sym, ap, subst, ℕ, List, [], ◌∷◌, ◌++◌, append-nil, Option, None}
-use Rattle.std.specs.Prelude.{Result, Ok, Err, IfOk, MatchResult}
+use Rattle.std.proofs.Common.{◌≡◌, ◌≢◌, append_assoc, ◌∙◌, refl, sym, ap, subst, ℕ, true, false, List, [], ◌∷◌, ◌++◌, append-nil, Option, None}
+use Rattle.std.specs.Prelude.{Result, Ok, Err, IfOk, MatchResult, is_err}
 use Rattle.std.specs.Io.KnownBytes.{Appends}
-use Rattle.rdf_keeper.specs.Inside.Streams.{WritesTo}
+use Rattle.rdf_streams.specs.Streams.{WritesTo}
 use Rattle.rdf_keeper.specs.Inside.Outcomes.{status_of, error_line}
-use Rattle.rdf_keeper.specs.declared.streams.writing.WriteFault.{WriteFault}
+use Rattle.rdf_streams.specs.declared.streams.writing.WriteFault.{WriteFault}
 use Rattle.rdf_keeper.specs.declared.program.outcome.Outcome.{Outcome}
-use Rattle.rdf_keeper.specs.declared.program.outcome.Outcome.TheVariants.{Done, SomeRefused, BadDocument, BadWords, BadBase, BadData, NotState, ReadFailed, WriteFailed, NoMemory, ParserNoMemory}
+use Rattle.rdf_keeper.specs.declared.program.outcome.Outcome.TheVariants.{Done, SomeRefused, BadDocument, BadText, BadWords, BadBase, BadData, NotState, ReadFailed, WriteFailed, NoMemory, ParserNoMemory}
 use Rattle.rdf_session.specs.History.{nothing}
 use Rattle.rdf_session.specs.Session.{Session, with_depth}
 use Rattle.rdf_keeper.specs.Inside.Starts.{BeginsWith, RefusesData}
 use Rattle.rdf_keeper.specs.declared.program.words.StartFormat.{StartFormat}
 use Rattle.rdf_keeper.specs.declared.program.words.StartFormat.TheVariants.{Document, State}
-use Rattle.rdf_keeper.proofs.StreamLemmas.{Appends-chain}
+use Rattle.rdf_streams.proofs.StreamLemmas.{Appends-chain}
 
 pub as_far : (before after : Option (List ℕ)) (text want : List ℕ) (r : Result (Unit {0}) WriteFault) → text ≡ want → WritesTo before text r after → (front more : List ℕ) × (want ≡ front ++ more) × Appends before after front
 as_far before after text want (Ok u) e w = (text, [], sym e ∙ sym (append-nil text), w)
@@ -22,6 +22,7 @@ no_line : (o : Outcome) → status_of o ≡ 0 → error_line o ≡ []
 no_line Done e = refl
 no_line SomeRefused e = refl
 no_line (BadDocument at) e = cc
+no_line (BadText fault) e = cc
 no_line BadWords e = refl
 no_line BadBase e = cc
 no_line (BadData fault) e = cc
@@ -39,6 +40,26 @@ pub stays_quiet : (before mid after : Option (List ℕ)) (o : Outcome) → statu
 stays_quiet before mid after o zero so_far (front, more, parts, wrote) =
     let none = first_nil front more (sym (no_line o zero) ∙ parts) in
     Appends-chain before mid after [] [] so_far (subst (Appends mid after) none wrote)
+
+-- ---- a line in two parts
+
+abbrev pub CutShort : Option (List ℕ) → List ℕ → Option (List ℕ) → Type 0
+CutShort before text after = (front more : List ℕ) × (text ≡ front ++ more) × (more ≢ []) × Appends before after front
+
+not_empty : (xs ys : List ℕ) → xs ≢ [] → xs ++ ys ≢ []
+not_empty [] ys h e = h refl
+not_empty (x ∷ xs) ys h e = cc
+
+-- the first part isn't written whole
+pub first_cut : (before after : Option (List ℕ)) (text xs ys : List ℕ) (r : Result (Unit {0}) WriteFault) → text ≡ xs → is_err r ≡ true → WritesTo before text r after → CutShort before (xs ++ ys) after
+first_cut before after text xs ys (Ok u) is e w = cc
+first_cut before after text xs ys (Err f) is e (front, more, parts, some, wrote) = (front, more ++ ys, ap (λ t. t ++ ys) (sym is ∙ parts) ∙ append_assoc front more ys, not_empty more ys some, wrote)
+
+-- or the second
+pub second_cut : (before mid after : Option (List ℕ)) (text xs ys : List ℕ) (r : Result (Unit {0}) WriteFault) → text ≡ xs → is_err r ≡ false → WritesTo before text r mid → CutShort mid ys after → CutShort before (xs ++ ys) after
+second_cut before mid after text xs ys (Err f) is e w cut = cc
+second_cut before mid after text xs ys (Ok u) is e w (front, more, parts, some, wrote) =
+    (xs ++ front, more, ap (λ t. xs ++ t) parts ∙ sym (append_assoc xs front more), some, Appends-chain before mid after xs front (subst (Appends before mid) is w) wrote)
 
 -- ---- how a session begins
 

@@ -19,4 +19,5 @@ pub mod Promised
 pub mod Refusals
 pub mod Runs
 pub mod Saved
+pub mod Small
 pub mod Words

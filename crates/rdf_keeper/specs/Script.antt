@@ -14,4 +14,5 @@ pub mod Promised
 pub mod Refusals
 pub mod Runs
 pub mod Saved
+pub mod Small
 pub mod Statuses

@@ -7,6 +7,7 @@ ghost use Rattle.rdf_keeper.specs.Script.Printed.{LinesAreDocuments, SortedTexts
 ghost use Rattle.rdf_keeper.specs.Script.OrderLaws.{FailedReadsComeBehindAnswers, NothingComesBehindAFailure, NothingIsReadBehindARefusal, NothingIsReadBehindTheEnd, ReadsComeBehindAnswers, WritesAreAnswers};
 ghost use Rattle.rdf_keeper.specs.Script.Pieces.{PiecesAreTheText};
 ghost use Rattle.rdf_keeper.specs.Script.Saved.{RestoredShowsItsText, ScriptsGoOnAlike, ShownComesBack};
+ghost use Rattle.rdf_keeper.specs.Script.Small.{AnswersAreReplies, ChangesAreShown, QueryScriptAsks, RepliesAreAnswers, UpdateScriptActs};
 ghost use Rattle.rdf_keeper.specs.Script.OneOutput.{OneOutput, OneOutputOfBytes, OneText, OneTextOfBytes};
 
 /// A refusal, of a script's line that is no command too, leaves the session as it was.
@@ -88,3 +89,15 @@ pub fn a_shown_state_comes_back()
 {
     rdf_session::a_saved_state_comes_back();
 }
+
+/// The words `query` and `update` are sessions in small. The script of a query, `%query`, its lines and `%end`, is that one
+/// command, and so is that of an update. What answers the command without refusing it is a reply to the query, whose payload the
+/// word writes, and an answer line behind it. An accepted update, and then what the session behind it shows, answer `%update` and
+/// `%print`, `%state` or `%changes`.
+pub fn a_word_is_a_session_in_small()
+    ensures asks { QueryScriptAsks }
+    ensures acts { UpdateScriptActs }
+    ensures replies { RepliesAreAnswers }
+    ensures answers { AnswersAreReplies }
+    ensures shown { ChangesAreShown }
+{}

@@ -1,26 +1,23 @@
 //! The keeper of an RDF dataset: the session with its loads, updates, undo, redo, marks, rollback
-//! and commit, scripts of these, conversion of documents, and the whole program `rdfkeep` over its
-//! words.
+//! and commit, scripts of these, and the whole program `rdfkeep` over its words. It hands on sessions and
+//! the conversion and the check of documents.
 //!
 //! The program calls it, and each host that wants a session (`crates/library_example` is one). It
 //! saves nothing by itself: a host writes and reads the state text where it wants. It is for one
 //! thread, and has no network.
 #![tactic(auto)]
 
-mod conversion;
 mod examples;
 mod law;
 mod program;
 mod script;
 mod short_line;
-mod streams;
 
-pub use conversion::{ConvertFault, DocumentFault, convert};
 pub use examples::the_worked_examples_hold;
 pub use law::{
     a_script_has_one_output, a_script_keeps_the_promise, a_shown_state_comes_back,
-    each_call_has_its_place, pieces_are_the_script, printed_lines_are_documents,
-    refused_answers_leave, script_lines_are_the_text,
+    a_word_is_a_session_in_small, each_call_has_its_place, pieces_are_the_script,
+    printed_lines_are_documents, refused_answers_leave, script_lines_are_the_text,
 };
 pub use program::start;
 pub use rdf_lines::StateFault;
@@ -28,5 +25,5 @@ pub use rdf_session::{
     Answer, Counts, Format, Keeper, KeeperFault, a_load_is_insert_data, a_saved_state_comes_back,
     one_reply, standing_requests, the_headline, undo_gives_back,
 };
+pub use rdf_streams::{ConvertFault, Device, DocumentFault, check, convert};
 pub use script::{Feed, Settings, Status, run, run_on, run_within};
-pub use streams::Device;

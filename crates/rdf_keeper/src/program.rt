@@ -4,26 +4,31 @@ ghost use Rattle.rdf_dataset.specs.State.{empty_state};
 ghost use Rattle.std.specs.List.{concat};
 ghost use Rattle.std.specs.Option.{option_copied};
 ghost use Rattle.std.specs.Io.KnownBytes.{Appends};
-ghost use Rattle.rdf_keeper.specs.Conversion.Converts.{Converts};
+ghost use Rattle.rdf_streams.specs.Conversion.Converts.{Converts};
 ghost use Rattle.rdf_keeper.specs.Inside.Outcomes.{status_of, outcome_of};
 ghost use Rattle.rdf_keeper.specs.Inside.Starts.{BeginsWith, outcome_after};
 ghost use Rattle.rdf_keeper.specs.Script.Runs.{RunsOver};
 ghost use Rattle.rdf_keeper.specs.declared.script.status.Status.{Status};
 ghost use Rattle.rdf_session.specs.Session.{Session, fresh, with_depth};
-ghost use Rattle.rdf_keeper.specs.declared.conversion.fault.ConvertFault.{ConvertFault};
+ghost use Rattle.rdf_streams.specs.declared.conversion.fault.ConvertFault.{ConvertFault};
 
+mod check;
 mod data;
 mod help;
+mod once;
+mod once_words;
 mod outcome;
+mod several;
 mod words;
 
-use crate::conversion::convert;
+use crate::program::check::check_words;
 use crate::program::data::{begun, bounded, depth_of};
+use crate::program::once::{query_words, update_words};
 use crate::program::outcome::{Outcome, outcome_of, report};
 use crate::program::words::{Asked, ConvertWords, RunWords, WordsFault, read_words};
 use crate::script::{Settings, Status, run};
-use crate::streams::writing::write_whole;
 use rdf_session::{Format, Keeper};
+use rdf_streams::{convert, write_whole};
 use rdf_terms::{Iri, IriFault};
 use std::alloc::Global;
 use std::fs;
@@ -172,9 +177,16 @@ fn answer_words<T: Files + AllocGlobal, R: Read + Drop, W: Write, E: Write>(
     match read_words(alloc, words) {
         Ok(Asked::Run(asked)) => run_words(rt, alloc, asked, reader, writer),
         Ok(Asked::Convert(asked)) => convert_words(rt, alloc, asked, reader, writer),
+        Ok(Asked::Query(asked)) => query_words(rt, alloc, &asked, reader, writer),
+        Ok(Asked::Update(asked)) => update_words(rt, alloc, &asked, reader, writer),
+        Ok(Asked::Check(asked)) => check_words(rt, alloc, &asked, reader, writer),
         Ok(Asked::Shown(text)) => show(text.as_str(), writer),
         Err(WordsFault::Usage(text)) => {
             let _ = write_whole(errors, text.as_str().as_bytes());
+            Outcome::BadWords
+        }
+        Err(WordsFault::Misuse(text)) => {
+            let _ = write_whole(errors, text.as_bytes());
             Outcome::BadWords
         }
         Err(WordsFault::Format(_)) => Outcome::BadWords,
@@ -187,13 +199,14 @@ fn answer_words<T: Files + AllocGlobal, R: Read + Drop, W: Write, E: Write>(
 /// the exit status:
 ///
 /// - 0 where all was accepted, written or shown;
-/// - 1 where a command of the script was refused, or the document that is converted is faulty;
+/// - 1 where a command of the script, the query or the request was refused, or a document that is converted or checked is
+///   faulty;
 /// - 2 where the words are no command line of the program, the base is no IRI, or the start data are refused;
 /// - 3 where a file doesn't open, or a read or a write failed;
 /// - 4 where memory was wanting.
 ///
-/// Faults are found in this order: the words, the base, the start data (opened, read, loaded), the script (opened),
-/// and then those of the session.
+/// Faults are found in this order: the words, the base, the start data (each opened, read, loaded), the script (opened),
+/// and then those of the session; or the query or the request (opened, read, answered), and then those of writing.
 pub fn start<T: Files + AllocGlobal, R: Read + Drop, W: Write, E: Write>(
     rt: &T,
     words: &[String],

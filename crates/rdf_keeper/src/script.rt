@@ -1,6 +1,6 @@
 //! Scripts of commands, and their answers.
 
-mod answer;
+pub(crate) mod answer;
 pub(crate) mod command;
 mod feed;
 mod gathered;

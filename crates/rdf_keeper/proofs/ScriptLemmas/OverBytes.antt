@@ -4,7 +4,7 @@ use Rattle.std.specs.List.{concat}
 use Rattle.std.specs.Prelude.{Ok, Err, Option}
 use Rattle.std.specs.Io.KnownBytes.{Consumes, IsAtEnd}
 use Rattle.rdf_session.specs.Session.{Session}
-use Rattle.rdf_keeper.specs.Devices.{Event, Gave, IsOrderly, MayCome, ReadFault, Took, WriteFault, Leads, given, has_end, has_failed, is_end, is_failure, read_calls, taken}
+use Rattle.rdf_streams.specs.Devices.{Event, Gave, IsOrderly, MayCome, ReadFault, Took, WriteFault, Leads, given, has_end, has_failed, is_end, is_failure, read_calls, taken}
 use Rattle.rdf_keeper.specs.Script.Answers.{Answers}
 use Rattle.rdf_keeper.specs.Script.Commands.{commands}
 use Rattle.rdf_keeper.specs.Script.Lines.{raw_lines, upto_last_end}
@@ -12,10 +12,10 @@ use Rattle.rdf_keeper.specs.Script.Orders.{AreAnswered, Ran}
 use Rattle.rdf_keeper.specs.Script.Runs.{Answered, RunsOver, Serves, to_end}
 use Rattle.rdf_keeper.specs.declared.script.status.Status.{Status}
 use Rattle.rdf_keeper.specs.declared.script.status.Status.TheVariants.{Accepted, ReadFailed}
-use Rattle.rdf_keeper.specs.declared.streams.device.Lent.{Lent}
-use Rattle.rdf_keeper.proofs.DeviceLemmas.Logs.{end-append, given-append, true_false, true_or_false}
-use Rattle.rdf_keeper.proofs.DeviceLemmas.Orderly.{ended_at, none_behind_end, nothing_given, orderly_at}
-use Rattle.rdf_keeper.proofs.DeviceLemmas.Pairs.{LentStep, lent_end}
+use Rattle.rdf_streams.specs.declared.streams.device.Lent.{Lent}
+use Rattle.rdf_streams.proofs.DeviceLemmas.Logs.{end-append, given-append, true_false, true_or_false}
+use Rattle.rdf_streams.proofs.DeviceLemmas.Orderly.{ended_at, none_behind_end, nothing_given, orderly_at}
+use Rattle.rdf_streams.proofs.DeviceLemmas.Pairs.{LentStep, lent_end}
 use Rattle.rdf_keeper.proofs.ScriptLemmas.Ordered.{before_end, behind_end}
 
 pub reader_at_end : {R W : Type 0} (remaining : R → Option (List ℕ)) (contents : W → Option (List ℕ)) (calls : ℕ) (stop : Bool) (s : Lent R W) (log : List Event) (old : Session) (answers : List (List ℕ)) (new : Session) (status : Status) (t : Lent R W)

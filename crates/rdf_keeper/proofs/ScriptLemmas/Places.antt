@@ -4,15 +4,15 @@ use Rattle.std.specs.List.{concat}
 use Rattle.std.specs.Prelude.{Ok, Err, Result}
 use Rattle.std.proofs.lemmas.List.Folds.{concat-append}
 use Rattle.rdf_session.specs.Session.{Session}
-use Rattle.rdf_keeper.specs.Devices.{Event, Gave, IsOrderly, MayCome, ReadFault, Took, WriteFault, given, has_end, has_failed, is_end, is_failure, read_calls, taken}
+use Rattle.rdf_streams.specs.Devices.{Event, Gave, IsOrderly, MayCome, ReadFault, Took, WriteFault, given, has_end, has_failed, is_end, is_failure, read_calls, taken}
 use Rattle.rdf_keeper.specs.Script.Commands.{Asked, commands}
 use Rattle.rdf_keeper.specs.Script.Lines.{raw_lines, upto_last_end}
 use Rattle.rdf_keeper.specs.Script.OrderLaws.{FailedReadsComeBehindAnswers, NothingComesBehindAFailure, NothingIsReadBehindARefusal, NothingIsReadBehindTheEnd, ReadsComeBehindAnswers, WritesAreAnswers}
 use Rattle.rdf_keeper.specs.Script.Orders.{AreAnswered, Ran, commands_read, status_behind}
 use Rattle.rdf_keeper.specs.Script.Runs.{Answered, Course, Serves, so_far, to_end}
 use Rattle.rdf_keeper.specs.declared.script.status.Status.{Status}
-use Rattle.rdf_keeper.proofs.DeviceLemmas.Logs.{end-append, given-append, taken-append}
-use Rattle.rdf_keeper.proofs.DeviceLemmas.Orderly.{failures_in_order, no_end_in, none_behind_end, nothing_given, orderly_at}
+use Rattle.rdf_streams.proofs.DeviceLemmas.Logs.{end-append, given-append, taken-append}
+use Rattle.rdf_streams.proofs.DeviceLemmas.Orderly.{failures_in_order, no_end_in, none_behind_end, nothing_given, orderly_at}
 
 pub reads_in_order : ReadsComeBehindAnswers
 reads_in_order stop start answers before bytes after o = (let m = (orderly_at 4096 (AreAnswered stop start answers) [] before (Gave bytes) after o).0.may_be in (m.1, m.2))

@@ -4,9 +4,10 @@ use Rattle.std.specs.Prelude.{Result, Ok, Err}
 use Rattle.rdf_session.specs.Session.{Session}
 use Rattle.rdf_keeper.specs.Script.Commands.{Asked}
 use Rattle.rdf_keeper.specs.Script.Answers.{Answers}
-use Rattle.rdf_keeper.specs.Script.Runs.{Answered, Course, Serves, so_far}
+use Rattle.rdf_keeper.specs.Script.Runs.{Answered, Course, Serves, final, so_far}
+use Rattle.rdf_keeper.specs.Inside.WriteFaults.{is_write_fault}
 use Rattle.rdf_keeper.specs.declared.script.status.Status.{Status}
-use Rattle.rdf_keeper.specs.declared.script.status.Status.TheVariants.{Refused, WriteFailed}
+use Rattle.rdf_keeper.specs.declared.script.status.Status.TheVariants.{Accepted, Refused, WriteFailed}
 use Rattle.rdf_keeper.specs.Script.Statuses.{no_memory}
 
 -- ---- one command
@@ -94,3 +95,9 @@ module _ {O : Type 0} (stop : Bool) (next : Bool → O) (ended : Status → O) w
           | inr (inr x) ↦ inr (p.0, p.1, p.2, p.3, inr (inr (x.0, x.1, x.2, serves_ended (refused || p.1) cs more p.2 t x.1 st x.3)))
         ]
       ]
+
+-- ---- how the last command leaves it
+
+pub no_write_fault : (refused : Bool) → is_write_fault (final Accepted refused) ≡ false
+no_write_fault true = refl
+no_write_fault false = refl

@@ -1,16 +1,16 @@
 -- How the program ends: its exit status, and its line on standard error.
 use Rattle.std.specs.Prelude.{ℕ, List, [], ◌++◌, codes, Option, None, Some, Result, Ok, Err}
 use Rattle.rdf_keeper.specs.Script.Answers.{place_text}
-use Rattle.rdf_keeper.specs.Conversion.Faults.{document_fault_line, document_fault_name}
+use Rattle.rdf_streams.specs.Conversion.Faults.{document_fault_line, document_fault_name}
 use Rattle.rdf_lines.specs.FaultName.{state_fault_name}
 use Rattle.rdf_lines.specs.declared.state_text.fault.StateFault.TheVariants as StateFault
 use Rattle.rdf_session.specs.Faults.{line_of, name_of}
-use Rattle.rdf_keeper.specs.declared.conversion.fault.DocumentFault.{DocumentFault}
+use Rattle.rdf_streams.specs.declared.conversion.fault.DocumentFault.{DocumentFault}
 use Rattle.rdf_session.specs.declared.fault.KeeperFault.{KeeperFault}
-use Rattle.rdf_keeper.specs.declared.conversion.fault.ConvertFault.{ConvertFault}
-use Rattle.rdf_keeper.specs.declared.conversion.fault.ConvertFault.TheVariants as fault
+use Rattle.rdf_streams.specs.declared.conversion.fault.ConvertFault.{ConvertFault}
+use Rattle.rdf_streams.specs.declared.conversion.fault.ConvertFault.TheVariants as fault
 use Rattle.rdf_keeper.specs.declared.program.outcome.Outcome.{Outcome}
-use Rattle.rdf_keeper.specs.declared.program.outcome.Outcome.TheVariants.{Done, SomeRefused, BadDocument, BadWords, BadBase, BadData, NotState, ReadFailed, WriteFailed, NoMemory, ParserNoMemory}
+use Rattle.rdf_keeper.specs.declared.program.outcome.Outcome.TheVariants.{Done, SomeRefused, BadDocument, BadText, BadWords, BadBase, BadData, NotState, ReadFailed, WriteFailed, NoMemory, ParserNoMemory}
 
 -- how a conversion ends the program
 abbrev pub outcome_of : Result (Unit {0}) ConvertFault → Outcome
@@ -24,6 +24,7 @@ abbrev pub status_of : Outcome → ℕ
 status_of Done = 0
 status_of SomeRefused = 1
 status_of (BadDocument at) = 1
+status_of (BadText fault) = 1
 status_of BadWords = 2
 status_of BadBase = 2
 status_of (BadData fault) = 2
@@ -37,7 +38,7 @@ status_of ParserNoMemory = 4
 abbrev pub refused_line : List ℕ → Option ℕ → List ℕ
 refused_line name place = codes "rdfkeep: refused: " ++ name ++ place_text place ++ codes "\n"
 
--- that of a document, and those of the data that a session begins with
+-- that of a document, and those of a query, a request and the data that a session begins with
 abbrev pub refused_document : DocumentFault → List ℕ
 refused_document at = refused_line (document_fault_name at) (Some (document_fault_line at))
 
@@ -52,6 +53,7 @@ abbrev pub error_line : Outcome → List ℕ
 error_line Done = []
 error_line SomeRefused = []
 error_line (BadDocument at) = refused_document at
+error_line (BadText fault) = refused_data fault
 error_line BadWords = []
 error_line BadBase = codes "rdfkeep: bad base\n"
 error_line (BadData fault) = refused_data fault

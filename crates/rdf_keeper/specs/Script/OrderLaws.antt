@@ -2,7 +2,7 @@
 use Rattle.std.specs.Prelude.{◌≡◌, ◌≤◌, ℕ, Bool, true, false, List, [], ◌∷◌, ◌++◌, length, Ok}
 use Rattle.std.specs.List.{concat}
 use Rattle.rdf_session.specs.Session.{Session}
-use Rattle.rdf_keeper.specs.Devices.{Event, Gave, IsOrderly, ReadFault, Took, is_failure, read_calls, taken}
+use Rattle.rdf_streams.specs.Devices.{Event, Gave, IsOrderly, ReadFault, Took, is_failure, read_calls, taken}
 use Rattle.rdf_keeper.specs.Script.Orders.{AreAnswered, Ran, commands_read}
 use Rattle.rdf_keeper.specs.Script.Runs.{Answered, piece_size}
 use Rattle.rdf_keeper.specs.declared.script.status.Status.{Status}

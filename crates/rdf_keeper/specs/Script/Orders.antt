@@ -3,7 +3,7 @@ use Rattle.std.specs.Prelude.{◌≡◌, ◌⊎◌, ◌≤◌, ℕ, Bool, true, 
 use Rattle.std.specs.List.{concat}
 use Rattle.std.specs.Io.KnownBytes.{Appends, Consumes, IsAtEnd}
 use Rattle.rdf_session.specs.Session.{Session}
-use Rattle.rdf_keeper.specs.Devices.{EndsWith, Event, IsOrderly, ReadFault, Took, WriteFault, given, has_end, has_failed, read_calls, taken}
+use Rattle.rdf_streams.specs.Devices.{EndsWith, Event, IsOrderly, ReadFault, Took, WriteFault, given, has_end, has_failed, read_calls, taken}
 use Rattle.rdf_keeper.specs.Script.Answers.{Answers}
 use Rattle.rdf_keeper.specs.Script.Commands.{Asked, commands}
 use Rattle.rdf_keeper.specs.Script.Lines.{raw_lines, upto_last_end}

@@ -1,7 +1,8 @@
 //! The session that a run begins with.
-ghost use Rattle.std.specs.Prelude.{◌≡◌, ℕ, List, Option, None, Some, MatchResult, MatchOption, IfOk, IfErr};
+ghost use Rattle.std.specs.Prelude.{◌≡◌, ◌≢◌, ℕ, List, Option, None, Some, MatchResult, MatchOption, IfOk, IfErr};
 ghost use Rattle.std.specs.Option.{option_copied};
 ghost use Rattle.rdf_dataset.specs.State.{empty_state};
+ghost use Rattle.rdf_keeper.specs.Inside.Outcomes.{status_of};
 ghost use Rattle.rdf_keeper.specs.Inside.Starts.{BeginsWith, RefusesData};
 ghost use Rattle.rdf_keeper.specs.declared.program.outcome.Outcome.TheVariants.{BadWords};
 ghost use Rattle.rdf_keeper.specs.declared.program.words.StartFormat.TheVariants.{Document, State};
@@ -9,14 +10,16 @@ ghost use Rattle.rdf_session.specs.Depth.{IsDepth, greatest_depth};
 ghost use Rattle.rdf_session.specs.History.{nothing};
 ghost use Rattle.rdf_session.specs.Session.{Session, fresh, with_depth};
 
+use crate::program::once_words::INPUT;
 use crate::program::outcome::Outcome;
 use crate::program::words::StartFormat;
-use crate::streams::reading::{Ending, read_all};
 use rdf_lines::StateFault;
 use rdf_session::{Format, Keeper, KeeperFault};
+use rdf_streams::{Ending, read_all};
 use rdf_terms::Iri;
 use std::alloc::Global;
 use std::fs;
+use std::io::Read;
 use std::rt::Files;
 
 // The greatest depth of a history.
@@ -81,8 +84,8 @@ fn restored(alloc: Global, base: Option<Iri>, text: Vec<u8>) -> Result<Keeper, O
     }
 }
 
-// A session without history over the data of a text.
-fn over_data(
+/// A session without history over the data of a text.
+pub(crate) fn over_data(
     alloc: Global,
     base: Option<Iri>,
     format: StartFormat,
@@ -98,17 +101,43 @@ fn over_data(
     }
 }
 
-// The bytes of a file.
-fn text_of<T: Files>(rt: &T, alloc: Global, path: &str) -> Result<Vec<u8>, Outcome> {
-    let Ok(mut file) = fs::open(rt, path) else {
-        return Err(Outcome::ReadFailed);
-    };
+// All that a reader has left.
+fn all_of<R: Read>(alloc: Global, reader: &mut R) -> Result<Vec<u8>, Outcome>
+    ensures whole { IfOk result (λ held. (text : List ℕ) →
+        R.remaining reader.old ≡ Some text → held.items ≡ text) }
+    ensures told { IfErr result (λ outcome. status_of outcome ≢ 2) }
+{
     let mut text = Vec::new(alloc);
-    match read_all(&mut file, &mut text) {
+    match read_all(reader, &mut text) {
         Ending::AtEnd => Ok(text),
         Ending::Failed => Err(Outcome::ReadFailed),
         Ending::NoMemory(refused) => Err(Outcome::NoMemory(refused)),
     }
+}
+
+/// The bytes of a file.
+pub(crate) fn text_of<T: Files>(rt: &T, alloc: Global, path: &str) -> Result<Vec<u8>, Outcome>
+    ensures { IfErr result (λ outcome. status_of outcome ≢ 2) }
+{
+    match fs::open(rt, path) {
+        Ok(mut file) => all_of(alloc, &mut file),
+        Err(_) => Err(Outcome::ReadFailed),
+    }
+}
+
+/// The bytes of a file, or of standard input, which is called `-`.
+pub(crate) fn text_named<T: Files, R: Read>(
+    rt: &T,
+    alloc: Global,
+    path: &str,
+    reader: &mut R,
+) -> Result<Vec<u8>, Outcome>
+    ensures { IfErr result (λ outcome. status_of outcome ≢ 2) }
+{
+    if path == INPUT {
+        return all_of(alloc, reader);
+    }
+    text_of(rt, alloc, path)
 }
 
 /// A session without history over the data of a file, or over none.

@@ -77,3 +77,56 @@ Examples:
 
 Exit status: 0 the whole document was written, 1 the document is faulty, 2 the words or the base
 are wrong, 3 reading or writing failed, 4 memory was wanting.";
+
+/// What `query` does, in one line.
+pub(crate) const QUERY_ABOUT: &str = "Answers one query of data";
+
+/// What `query` reads and writes, and how it ends.
+pub(crate) const QUERY_EXAMPLE: &str = "\
+The data are loaded as `run` loads them, each FILE as a document of its own: blank nodes of
+two files are never the same. A state text stands first. Without --data the dataset is empty.
+
+Written are the header and the rows, or true or false, in SPARQL's format of that name, and
+nothing else. A query that is refused writes nothing.
+
+Examples:
+  rdfkeep query --data people.nq names.rq
+  rdfkeep query --data a.nq --data b.ttl --format turtle --results json names.rq
+
+Exit status: 0 the query was answered, 1 it was refused, 2 the words, the base or the data are
+wrong, 3 reading or writing failed, 4 memory was wanting.";
+
+/// What `update` does, in one line.
+pub(crate) const UPDATE_ABOUT: &str =
+    "Applies one request to data, and writes the dataset behind it";
+
+/// What `update` reads and writes, and how it ends.
+pub(crate) const UPDATE_EXAMPLE: &str = "\
+The data are loaded as `query` loads them. Written is the dataset behind the request as sorted
+N-Quads; with --to state its state text, which keeps empty graphs and the numbers of blank
+nodes; with --changes what the request removed and added. A request that is refused writes
+nothing.
+
+Examples:
+  rdfkeep update --data people.nq change.ru > changed.nq
+  rdfkeep update --data people.nq --changes change.ru
+
+Exit status: 0 the request was applied, 1 it was refused, 2 the words, the base or the data are
+wrong, 3 reading or writing failed, 4 memory was wanting.";
+
+/// What `check` does, in one line.
+pub(crate) const CHECK_ABOUT: &str = "Reads documents, and says of each how many statements it has";
+
+/// What `check` writes, and how it ends.
+pub(crate) const CHECK_EXAMPLE: &str = "\
+Written is a line for each FILE, its number of statements or why it is refused:
+  people.nt: 3 statements
+  other.nt: refused: Syntax line 2
+Of N-Triples and N-Quads nothing is held but labels, so they may be of any size.
+
+Examples:
+  rdfkeep check --from ntriples people.nt other.nt
+  rdfkeep check --from turtle --base http://example.org/ people.ttl
+
+Exit status: 0 each document is sound, 1 one was refused, 2 the words or the base are wrong,
+3 reading or writing failed, where no further file is read, 4 memory was wanting.";

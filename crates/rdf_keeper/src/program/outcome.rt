@@ -1,17 +1,16 @@
 //! How the program ends.
 ghost use Rattle.std.specs.Prelude.{◌≡◌, ◌++◌, ◌≤◌, length, ℕ, List};
 ghost use Rattle.std.specs.Io.KnownBytes.{Appends};
-ghost use Rattle.rdf_keeper.specs.Conversion.Faults.{document_fault_name};
+ghost use Rattle.rdf_streams.specs.Conversion.Faults.{document_fault_name};
 ghost use Rattle.rdf_lines.specs.FaultName.{state_fault_name};
 ghost use Rattle.rdf_session.specs.Faults.{name_of};
 ghost use Rattle.rdf_keeper.specs.Inside.Outcomes.{status_of, error_line, outcome_of, refused_data, refused_document, refused_line, refused_state};
 
-use crate::conversion::{ConvertFault, DocumentFault};
 use crate::short_line::{append, append_place};
-use crate::streams::writing::write_whole;
 use arrayvec::ArrayVec;
 use rdf_lines::StateFault;
 use rdf_session::KeeperFault;
+use rdf_streams::{ConvertFault, DocumentFault, write_whole};
 use rdf_terms::NoMemory;
 use std::io::Write;
 
@@ -20,10 +19,12 @@ use std::io::Write;
 pub(crate) enum Outcome {
     /// All was accepted, or shown.
     Done,
-    /// A command of the script was refused.
+    /// A command of the script was refused, or one of the documents that are checked.
     SomeRefused,
     /// The document that is converted is faulty.
     BadDocument(DocumentFault),
+    /// The query or the request is refused.
+    BadText(KeeperFault),
     /// The words are no command line of the program.
     BadWords,
     /// The base is no IRI.
@@ -60,14 +61,15 @@ fn status_of(outcome: &Outcome) -> u8
 {
     match outcome {
         Outcome::Done => 0,
-        Outcome::SomeRefused | Outcome::BadDocument(_) => 1,
+        Outcome::SomeRefused | Outcome::BadDocument(_) | Outcome::BadText(_) => 1,
         Outcome::BadWords | Outcome::BadBase | Outcome::BadData(_) | Outcome::NotState => 2,
         Outcome::ReadFailed | Outcome::WriteFailed => 3,
         Outcome::NoMemory(_) | Outcome::ParserNoMemory => 4,
     }
 }
 
-fn document_fault_name(fault: DocumentFault) -> &'static [u8]
+/// The word of a document's fault, which is short.
+pub(crate) fn document_fault_name(fault: DocumentFault) -> &'static [u8]
     ensures name { result.now ≡ document_fault_name fault }
     ensures short { length result.now ≤ 16 }
 {
@@ -136,7 +138,7 @@ fn error_line(outcome: &Outcome) -> ArrayVec<u8, 64>
         Outcome::Done | Outcome::SomeRefused | Outcome::BadWords => plain(b""),
         Outcome::BadDocument(fault) => refused_document(*fault),
         Outcome::BadBase => plain(b"rdfkeep: bad base\n"),
-        Outcome::BadData(fault) => refused_data(*fault),
+        Outcome::BadData(fault) | Outcome::BadText(fault) => refused_data(*fault),
         Outcome::NotState => refused_state(),
         Outcome::ReadFailed => plain(b"rdfkeep: read failed\n"),
         Outcome::WriteFailed => plain(b"rdfkeep: write failed\n"),

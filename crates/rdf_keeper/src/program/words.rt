@@ -8,13 +8,17 @@ ghost use Rattle.rdf_session.specs.declared.format.Format.{Format};
 use crate::program::help::{
     ABOUT, CONVERT_ABOUT, CONVERT_EXAMPLE, NAME, RUN_ABOUT, RUN_EXAMPLE, VERSION,
 };
+use crate::program::once_words::{
+    CheckWords, QueryWords, UpdateWords, check_command, check_words, query_command, query_words,
+    update_command, update_words,
+};
 use crate::script::command::format_named;
 use clap::builder::ValueParser;
 use clap::error::ErrorKind;
 use clap::{Arg, ArgAction, ArgMatches, Command, Error};
 use rdf_session::Format;
 use rdf_terms::NoMemory;
-use std::alloc::{AllocError, Global};
+use std::alloc::{AllocError, AllocFailed, Global};
 
 /// What the data are that a session begins with.
 #[derive(Clone, Copy, Debug, PartialEq, Eq)]
@@ -49,6 +53,9 @@ pub(crate) struct ConvertWords<'a> {
 pub(crate) enum Asked<'a> {
     Run(RunWords<'a>),
     Convert(ConvertWords<'a>),
+    Query(QueryWords<'a>),
+    Update(UpdateWords<'a>),
+    Check(CheckWords<'a>),
     /// A help text or the version, for standard output.
     Shown(String),
 }
@@ -58,6 +65,8 @@ pub(crate) enum Asked<'a> {
 pub(crate) enum WordsFault {
     /// They are no command line of the program. The text, for standard error, says why.
     Usage(String),
+    /// The parser lets them through, and they are none either. The text, for standard error, says why.
+    Misuse(&'static str),
     /// The parser has no format for an option that has a default or must be given.
     Format(FormatFault),
     NoMemory(NoMemory),
@@ -67,6 +76,12 @@ pub(crate) enum WordsFault {
 
 impl From<AllocError> for WordsFault {
     fn from(e: AllocError) -> WordsFault {
+        WordsFault::NoMemory(NoMemory::from(e))
+    }
+}
+
+impl<T: Drop> From<AllocFailed<T>> for WordsFault {
+    fn from(e: AllocFailed<T>) -> WordsFault {
         WordsFault::NoMemory(NoMemory::from(e))
     }
 }
@@ -110,8 +125,8 @@ fn format_words() -> &'static [&'static str]
     FORMATS.as_slice()
 }
 
-// The words that the parser lets through for start data: those that name their format.
-fn start_format_words() -> &'static [&'static str]
+/// The words that the parser lets through for start data: those that name their format.
+pub(crate) fn start_format_words() -> &'static [&'static str]
     ensures known { All (λ word. IsSome (start_format_named word.now)) result.now }
     ensures each { (format : StartFormat) →
         Any (λ word. start_format_named word ≡ Some format) (map (λ word. word.now) result.now) }
@@ -119,7 +134,8 @@ fn start_format_words() -> &'static [&'static str]
     START_FORMATS.as_slice()
 }
 
-fn base_word<'a>(alloc: Global) -> Arg<'a> {
+/// The option `--base`.
+pub(crate) fn base_word<'a>(alloc: Global) -> Arg<'a> {
     Arg::new(alloc, "base").long("base").value_name("IRI").help(
         "What relative IRIs of Turtle are resolved against; the line formats have none",
     )
@@ -173,7 +189,8 @@ fn run_command<'a>(alloc: Global) -> Result<Command<'a>, AllocError> {
         .arg(script_word(alloc))
 }
 
-fn from_word<'a>(alloc: Global) -> Arg<'a> {
+/// The option `--from`.
+pub(crate) fn from_word<'a>(alloc: Global) -> Arg<'a> {
     Arg::new(alloc, "from")
         .long("from")
         .value_name("F")
@@ -207,11 +224,14 @@ fn program<'a>(alloc: Global) -> Result<Command<'a>, AllocError> {
         .subcommand_required(true)
         .arg_required_else_help(true)
         .subcommand(run_command(alloc)?)?
-        .subcommand(convert_command(alloc)?)
+        .subcommand(convert_command(alloc)?)?
+        .subcommand(query_command(alloc)?)?
+        .subcommand(update_command(alloc)?)?
+        .subcommand(check_command(alloc)?)
 }
 
-// The format that an option's word names.
-fn format_of(word: Option<&str>) -> Result<Format, FormatFault>
+/// The format that an option's word names.
+pub(crate) fn format_of(word: Option<&str>) -> Result<Format, FormatFault>
     ensures missing { IfNone word.entry (result ≡ Err FormatFault.Missing) }
     ensures given { IfSome word.entry (λ name.
         result ≡ ok_or (format_named name.now) FormatFault.Unknown) }
@@ -220,8 +240,8 @@ fn format_of(word: Option<&str>) -> Result<Format, FormatFault>
     format_named(name.as_bytes()).ok_or(FormatFault::Unknown)
 }
 
-// The format of start data that an option's word names.
-fn start_format_of(word: Option<&str>) -> Result<StartFormat, FormatFault>
+/// The format of start data that an option's word names.
+pub(crate) fn start_format_of(word: Option<&str>) -> Result<StartFormat, FormatFault>
     ensures missing { IfNone word.entry (result ≡ Err FormatFault.Missing) }
     ensures given { IfSome word.entry (λ name.
         result ≡ ok_or (start_format_named name.now) FormatFault.Unknown) }
@@ -264,6 +284,9 @@ pub(crate) fn read_words<'a>(alloc: Global, words: &'a [String]) -> Result<Asked
         Ok(matches) => match matches.subcommand() {
             Some(("run", found)) => Ok(Asked::Run(run_words(found)?)),
             Some(("convert", found)) => Ok(Asked::Convert(convert_words(found)?)),
+            Some(("query", found)) => Ok(Asked::Query(query_words(alloc, found)?)),
+            Some(("update", found)) => Ok(Asked::Update(update_words(alloc, found)?)),
+            Some(("check", found)) => Ok(Asked::Check(check_words(alloc, found)?)),
             _ => Err(WordsFault::Usage(String::new(alloc))),
         },
         Err(error) => asked_or_shown(alloc, &error),

@@ -107,8 +107,12 @@ fn answered(alloc: Global, reply: Result<QueryAnswer, KeeperFault>) -> Answer
     }
 }
 
-// Appends the lines of what the session shows, and answers how many there are.
-fn append_topic(keeper: &Keeper, topic: Topic, out: &mut Vec<u8>) -> Result<u64, NoMemory>
+/// Appends the lines of what the session shows, and answers how many there are. A refusal may leave some of the lines.
+pub(crate) fn append_topic(
+    keeper: &Keeper,
+    topic: Topic,
+    out: &mut Vec<u8>,
+) -> Result<u64, NoMemory>
     ensures { IfOk result (λ count. (lines : List (List ℕ)) × Shows topic keeper.now lines
         × (out.new.items ≡ out.old.items ++ concat lines) × (count ≡ length lines)) }
 {

@@ -2,15 +2,14 @@
 ghost use Rattle.std.specs.Prelude.{◌≡◌, ℕ, List};
 ghost use Rattle.std.specs.List.{concat};
 ghost use Rattle.std.specs.Io.KnownBytes.{Appends};
-ghost use Rattle.rdf_keeper.specs.Devices.{Event, Leads};
+ghost use Rattle.rdf_streams.specs.Devices.{Event, Leads};
 ghost use Rattle.rdf_keeper.specs.Script.Orders.{Ran, RanOver};
 ghost use Rattle.rdf_keeper.specs.Script.Runs.{RunsOver};
 
 use crate::script::feed::{Feed, Settings};
 use crate::script::status::Status;
-use crate::streams::device::{Device, Lent};
-use crate::streams::reading::READ_CALLS;
 use rdf_session::Keeper;
+use rdf_streams::{Device, Lent, READ_CALLS};
 use std::alloc::Global;
 use std::io::{Read, Write};
 

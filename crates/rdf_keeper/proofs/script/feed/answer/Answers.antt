@@ -1,5 +1,5 @@
 use Rattle.std.proofs.Common.{◌≡◌, Bool, true, false, ◌&&◌, ◌||◌, [], ◌∷◌, ◌∙◌, refl, sym, subst}
-use Rattle.rdf_keeper.proofs.DeviceLemmas.Written.{one_answer, wrote_err, wrote_ok}
+use Rattle.rdf_streams.proofs.DeviceLemmas.Written.{one_answer, wrote_err, wrote_ok}
 use Rattle.rdf_keeper.proofs.ScriptLemmas.Runs.{breaks_off, stops, goes_on}
 use Rattle.rdf_keeper.proofs.script.feed.answer.Goals as goal
 use Rattle.rdf_keeper.proofs.script.feed.answer.Goals.{else-stop-via-then-stop+else-reply, else-stop-via-else-stop, then-refused, else-refused}

@@ -1,8 +1,9 @@
 use Rattle.std.proofs.Common.{◌∷◌, [], ◌∙◌, sym, ap, subst}
 use Rattle.std.specs.List.{concat}
 use Rattle.rdf_keeper.specs.Inside.Asks.{asked_of}
-use Rattle.rdf_keeper.specs.Inside.Streams.{Writes, is_write_fault}
-use Rattle.rdf_keeper.proofs.DeviceLemmas.Written.{no_write_fault}
+use Rattle.rdf_streams.specs.Streams.{Writes}
+use Rattle.rdf_keeper.specs.Inside.WriteFaults.{is_write_fault}
+use Rattle.rdf_keeper.proofs.ScriptLemmas.Runs.{no_write_fault}
 use Rattle.rdf_keeper.proofs.ScriptLemmas.Feeds.{last_missed, last_reached}
 use Rattle.rdf_keeper.proofs.script.feed.answer_last.Goals as goal
 

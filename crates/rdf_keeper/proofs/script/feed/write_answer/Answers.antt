@@ -1,5 +1,5 @@
 use Rattle.std.proofs.lemmas.Result.{err_from_is_err_and}
-use Rattle.rdf_keeper.proofs.DeviceLemmas.Written.{first_fails, then_writes}
+use Rattle.rdf_streams.proofs.DeviceLemmas.Written.{first_fails, then_writes}
 use Rattle.rdf_keeper.proofs.script.feed.write_answer.Goals as goal
 
 pub returns-in_err-write_on : goal.returns-in_err-write_on

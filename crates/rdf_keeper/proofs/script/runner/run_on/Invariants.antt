@@ -1,5 +1,5 @@
 use Rattle.std.proofs.Common.{List, ℕ}
-use Rattle.rdf_keeper.specs.Devices.{Event, Leads}
+use Rattle.rdf_streams.specs.Devices.{Event, Leads}
 use Rattle.rdf_keeper.proofs.ScriptLemmas.Ordered.{Ready}
 use Rattle.rdf_keeper.proofs.script.runner.run_on.Given as goal
 

@@ -1,5 +1,5 @@
 use Rattle.std.proofs.Common.{rules}
-use Rattle.rdf_keeper.proofs.DeviceLemmas.Pairs.{lent_bytes, lent_names}
+use Rattle.rdf_streams.proofs.DeviceLemmas.Pairs.{lent_bytes, lent_names}
 use Rattle.rdf_keeper.proofs.ScriptLemmas.OverBytes.{reader_at_end}
 use Rattle.rdf_keeper.proofs.script.runner.run_within.Goals as goal
 

@@ -1,7 +1,7 @@
 use Rattle.std.proofs.Common.{rules}
 use Rattle.std.specs.List.{concat}
-use Rattle.rdf_keeper.specs.Inside.Streams.{is_write_fault}
-use Rattle.rdf_keeper.proofs.DeviceLemmas.Pairs.{writer_writes}
+use Rattle.rdf_keeper.specs.Inside.WriteFaults.{is_write_fault}
+use Rattle.rdf_streams.proofs.DeviceLemmas.Pairs.{writer_writes}
 use Rattle.rdf_keeper.proofs.script.feed.Feed.end.Goals as goal
 
 pub returns : goal.returns

@@ -1,7 +1,9 @@
 use Rattle.std.proofs.Common.{[], refl, inl, sym, ap, subst, ◌∙◌}
 use Rattle.rdf_keeper.specs.Inside.Says.{asked_at_end}
-use Rattle.rdf_keeper.specs.Inside.Streams.{Writes, is_write_fault}
-use Rattle.rdf_keeper.proofs.DeviceLemmas.Written.{no_write_fault, writes_nothing}
+use Rattle.rdf_streams.specs.Streams.{Writes}
+use Rattle.rdf_keeper.specs.Inside.WriteFaults.{is_write_fault}
+use Rattle.rdf_streams.proofs.DeviceLemmas.Written.{writes_nothing}
+use Rattle.rdf_keeper.proofs.ScriptLemmas.Runs.{no_write_fault}
 use Rattle.rdf_keeper.proofs.ScriptLemmas.Feeds.{end_served, last_reached}
 use Rattle.rdf_keeper.proofs.ScriptLemmas.Pieces.{last_asked, loads_text}
 use Rattle.rdf_keeper.proofs.script.feed.Feed.end_on.Goals as goal

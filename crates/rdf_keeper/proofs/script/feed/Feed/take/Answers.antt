@@ -1,7 +1,7 @@
 use Rattle.std.proofs.Common.{rules}
 use Rattle.std.specs.List.{concat}
-use Rattle.rdf_keeper.specs.Inside.Streams.{fails_to_write}
-use Rattle.rdf_keeper.proofs.DeviceLemmas.Pairs.{writer_writes}
+use Rattle.rdf_keeper.specs.Inside.WriteFaults.{fails_to_write}
+use Rattle.rdf_streams.proofs.DeviceLemmas.Pairs.{writer_writes}
 use Rattle.rdf_keeper.proofs.script.feed.Feed.take.Goals as goal
 
 pub returns : goal.returns

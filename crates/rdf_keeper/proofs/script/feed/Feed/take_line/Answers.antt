@@ -2,7 +2,7 @@ use Rattle.std.proofs.Common.{ap, refl, inl, subst, ◌∙◌, [], List}
 use Rattle.std.specs.Prelude.{Ok, Err}
 use Rattle.rdf_keeper.specs.Script.Commands.{Asked}
 use Rattle.rdf_keeper.specs.Script.Runs.{Answered}
-use Rattle.rdf_keeper.proofs.DeviceLemmas.Written.{untouched, writes_nothing}
+use Rattle.rdf_streams.proofs.DeviceLemmas.Written.{untouched, writes_nothing}
 use Rattle.rdf_keeper.proofs.ScriptLemmas.Pieces.{loads_text}
 use Rattle.rdf_keeper.proofs.ScriptLemmas.Feeds.{line_ends, line_goes_on}
 use Rattle.rdf_keeper.proofs.ScriptLemmas.Runs.{no_room}

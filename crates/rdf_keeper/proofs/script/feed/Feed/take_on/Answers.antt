@@ -1,8 +1,8 @@
 use Rattle.std.proofs.Common.{◌++◌, [], ap, sym, refl, subst, ◌∙◌, append_assoc, false}
 use Rattle.rdf_keeper.specs.Script.Pieces.{EndsWithin, GoesOn}
-use Rattle.rdf_keeper.specs.Inside.Streams.{is_write_fault}
+use Rattle.rdf_keeper.specs.Inside.WriteFaults.{is_write_fault}
 use Rattle.rdf_keeper.specs.declared.script.status.Status.TheVariants.{NoMemory}
-use Rattle.rdf_keeper.proofs.DeviceLemmas.Written.{answers_on, writes_nothing}
+use Rattle.rdf_streams.proofs.DeviceLemmas.Written.{answers_on, writes_nothing}
 use Rattle.rdf_keeper.proofs.ScriptLemmas.Feeds.{ends_further, goes_further, goes_nowhere}
 use Rattle.rdf_keeper.proofs.script.feed.Feed.take_on.Goals as goal
 

@@ -1,6 +1,6 @@
 use Rattle.std.proofs.Common.{◌≡◌, ◌++◌, ℕ, List, length, false}
 use Rattle.std.specs.List.{concat}
-use Rattle.rdf_keeper.specs.Inside.Streams.{Writes}
+use Rattle.rdf_streams.specs.Streams.{Writes}
 use Rattle.rdf_keeper.specs.Script.Pieces.{GoesOn}
 use Rattle.rdf_keeper.proofs.script.feed.Feed.take_on.Given as goal
 

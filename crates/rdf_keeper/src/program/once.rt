@@ -1,0 +1,146 @@
+//! One query, and one request, of data.
+ghost use Rattle.std.specs.Prelude.{◌≡◌, ◌≢◌, [], Result, Ok};
+ghost use Rattle.std.specs.Io.KnownBytes.{Appends};
+ghost use Rattle.rdf_keeper.specs.Inside.Once.{WritesOut, WritesReply, WritesShown, refusal};
+ghost use Rattle.rdf_keeper.specs.Inside.Outcomes.{status_of};
+ghost use Rattle.rdf_session.specs.Query.{RepliesIn};
+ghost use Rattle.rdf_session.specs.Request.{Update};
+ghost use Rattle.rdf_session.specs.Session.{Do, Session, Transition, reply_of};
+ghost use Rattle.rdf_session.specs.declared.fault.Counts.{Counts};
+ghost use Rattle.rdf_session.specs.declared.fault.KeeperFault.{KeeperFault};
+ghost use Rattle.rdf_session.specs.declared.query.Answer.{Answer};
+
+use crate::program::base_of;
+use crate::program::data::text_named;
+use crate::program::once_words::{DataWords, QueryWords, UpdateWords};
+use crate::program::outcome::Outcome;
+use crate::program::several::begun_with_all;
+use crate::script::answer::append_topic;
+use crate::script::command::Topic;
+use rdf_session::{Keeper, KeeperFault, ResultsFormat};
+use rdf_streams::write_whole;
+use std::alloc::Global;
+use std::io::{Read, Write};
+use std::rt::Files;
+
+// How a refused query or request ends the program.
+fn refusal(fault: KeeperFault) -> Outcome
+    ensures { result ≡ refusal fault }
+{
+    match fault {
+        KeeperFault::NoMemory(refused) => Outcome::NoMemory(refused),
+        fault => Outcome::BadText(fault),
+    }
+}
+
+// Writes a text.
+fn write_out<W: Write>(text: &[u8], writer: &mut W) -> Outcome
+    ensures written { WritesOut (W.contents writer.old) text.now result (W.contents writer.new) }
+    ensures told { status_of result ≢ 2 }
+{
+    match write_whole(writer, text) {
+        Ok(()) => Outcome::Done,
+        Err(_) => Outcome::WriteFailed,
+    }
+}
+
+// Writes what a query answers, and nothing where it is refused.
+fn write_reply<W: Write>(
+    keeper: &Keeper,
+    format: ResultsFormat,
+    text: &[u8],
+    writer: &mut W,
+) -> Outcome
+    ensures { (reply : Result Answer KeeperFault) × RepliesIn format keeper.now text.now reply
+        × WritesReply (W.contents writer.old) reply result (W.contents writer.new) }
+{
+    match keeper.query_in(format, text) {
+        Ok(answer) => write_out(answer.payload.as_slice(), writer),
+        Err(fault) => refusal(fault),
+    }
+}
+
+// Writes what a session shows.
+fn write_topic<W: Write>(alloc: Global, keeper: &Keeper, topic: Topic, writer: &mut W) -> Outcome
+    ensures { (counts : Counts) →
+        WritesShown topic keeper.now (W.contents writer.old) (Ok counts) result
+        (W.contents writer.new) }
+{
+    let mut payload = Vec::new(alloc);
+    match append_topic(keeper, topic, &mut payload) {
+        Ok(_) => write_out(payload.as_slice(), writer),
+        Err(refused) => Outcome::NoMemory(refused),
+    }
+}
+
+// Applies a request, and writes what the session behind it shows, and nothing where it is refused.
+fn write_update<W: Write>(
+    alloc: Global,
+    mut keeper: Keeper,
+    topic: Topic,
+    text: &[u8],
+    writer: &mut W,
+) -> Outcome
+    ensures { (reply : Result Counts KeeperFault) × (end : Session)
+        × Transition keeper (Do (Update text.now)) (reply_of reply) end
+        × WritesShown topic end (W.contents writer.old) reply result (W.contents writer.new) }
+{
+    match keeper.update(text) {
+        Ok(_) => write_topic(alloc, &keeper, topic, writer),
+        Err(fault) => refusal(fault),
+    }
+}
+
+// The session that words begin with.
+fn session_with<T: Files, R: Read>(
+    rt: &T,
+    alloc: Global,
+    base: Option<&str>,
+    data: &DataWords<'_>,
+    reader: &mut R,
+) -> Result<Keeper, Outcome> {
+    let base = base_of(alloc, base)?;
+    begun_with_all(rt, alloc, base, data, reader)
+}
+
+/// Answers a query.
+pub(crate) fn query_words<T: Files, R: Read + Drop, W: Write>(
+    rt: &T,
+    alloc: Global,
+    words: &QueryWords<'_>,
+    mut reader: R,
+    writer: &mut W,
+) -> Outcome
+    ensures { status_of result ≡ 2 →
+        Appends (W.contents writer.old) (W.contents writer.new) [] }
+{
+    let keeper = match session_with(rt, alloc, words.base, &words.data, &mut reader) {
+        Ok(keeper) => keeper,
+        Err(outcome) => return outcome,
+    };
+    match text_named(rt, alloc, words.query, &mut reader) {
+        Ok(text) => write_reply(&keeper, words.results, text.as_slice(), writer),
+        Err(outcome) => outcome,
+    }
+}
+
+/// Applies a request.
+pub(crate) fn update_words<T: Files, R: Read + Drop, W: Write>(
+    rt: &T,
+    alloc: Global,
+    words: &UpdateWords<'_>,
+    mut reader: R,
+    writer: &mut W,
+) -> Outcome
+    ensures { status_of result ≡ 2 →
+        Appends (W.contents writer.old) (W.contents writer.new) [] }
+{
+    let keeper = match session_with(rt, alloc, words.base, &words.data, &mut reader) {
+        Ok(keeper) => keeper,
+        Err(outcome) => return outcome,
+    };
+    match text_named(rt, alloc, words.request, &mut reader) {
+        Ok(text) => write_update(alloc, keeper, words.shown, text.as_slice(), writer),
+        Err(outcome) => outcome,
+    }
+}

@@ -1,0 +1,142 @@
+-- Lines of triples say these triples.
+use Rattle.std.proofs.Common.{◌≡◌, ◌∙◌, inl, inr, ap, refl, sym, subst, arith, true≢false, ℕ, ◌+◌, ◌<◌, ◌≤◌, ◌^◌, true, false, List, [], ◌∷◌, ◌++◌, codes, drop, length, length-append, append_assoc, map, Some, None, Ok, Err}
+use Rattle.std.specs.Prelude.{IsTrue, Result, OnOk, OnErr}
+use Rattle.std.specs.List.{AllByRecursion}
+use Rattle.std.specs.Str.{all_ascii_digits}
+use Rattle.std.specs.Str.Parse.{digits_value}
+use Rattle.std.proofs.lemmas.Bool.{ltb-true}
+use Rattle.std.proofs.lemmas.Fmt.{digits_value-decimal}
+use Rattle.std.proofs.lemmas.Str.Parse.{IsNumeralModel, numerals_by_value, tells_all_ascii_digits}
+use Rattle.rdf_terms.specs.Iri.{is_iri}
+use Rattle.rdf_terms.specs.Quad.{QuadParts, is_quad}
+use Rattle.rdf_terms.specs.Term.{is_term, is_literal_term, is_iri_term}
+use Rattle.rdf_terms.specs.declared.term.Term.{Term}
+use Rattle.rdf_terms.specs.declared.term.Term.TheVariants as term
+use Rattle.rdf_terms.proofs.CallerLemmas.{quad_tests}
+use Rattle.rdf_lines.specs.Document.{ReadsAll}
+use Rattle.rdf_lines.specs.QuadText.{quad_text}
+use Rattle.rdf_lines.specs.RoundTrip.{label_of, node_of, predicate_of, object_of, statement_of}
+use Rattle.rdf_lines.specs.declared.format.LineFormat.TheVariants.{NQuads}
+use Rattle.rdf_lines.specs.declared.statement.Statement.{Statement}
+use Rattle.rdf_lines.proofs.CallerLemmas.{one_answer, some_answer, reads_all}
+use Rattle.rdf_turtle.specs.ParserState.{triple}
+use Rattle.rdf_turtle.specs.WrittenLaws.{IsDefaultQuad}
+use Rattle.rdf_streams.specs.Conversion.Converts.{lines_of}
+use Rattle.rdf_streams.specs.Inside.TripleLines.{term_of, object_term, triple_said, before, statements_in, triples_in, AreLinesOfTriples}
+use Rattle.rdf_streams.proofs.ConversionLemmas.Converts.{lines_of-push}
+
+-- ---- the statements of lines
+
+reads_statements : (n : ℕ) (ls : List (List ℕ)) (ss : List Statement) → ReadsAll NQuads n ls ss None → statements_in ls ≡ ss
+reads_statements n [] ss h = sym h.0
+reads_statements n (l ∷ ls) ss (inl (says, more)) =
+    ap (λ a. before a (statements_in ls)) (one_answer NQuads l (some_answer NQuads l).0 (Ok None) (some_answer NQuads l).1 says) ∙ reads_statements (n + 1) ls ss more
+reads_statements n (l ∷ ls) ss (inr (inl (s, others, says, e, more))) =
+    ap (λ a. before a (statements_in ls)) (one_answer NQuads l (some_answer NQuads l).0 (Ok (Some s)) (some_answer NQuads l).1 says)
+    ∙ ap (λ (t : List Statement). s ∷ t) (reads_statements (n + 1) ls others more) ∙ sym e
+reads_statements n (l ∷ ls) ss (inr (inr (kind, says, e, fault))) = absurd cc
+
+-- ---- the triple of a statement
+
+own : IsNumeralModel (λ ds. all_ascii_digits ds ≡ true) (digits_value 10)
+own = numerals_by_value _ tells_all_ascii_digits
+
+label_back : (n : ℕ) → n < 2 ^ 64 → digits_value 10 (drop 1 (label_of n)) ≡ n
+label_back n h = digits_value-decimal own n h
+
+node_back : (t : Term) → is_literal_term t ≡ false → is_term t ≡ true → term_of (node_of t) ≡ t
+node_back (term.Blank n) k h = ap (λ (i : ℕ). term.Blank i) (label_back n (ltb-true n 18446744073709551616 h))
+node_back (term.Iri iri) k h = refl
+node_back (term.Literal l) k h = absurd (true≢false k)
+
+predicate_back : (t : Term) → is_iri_term t ≡ true → term.Iri (predicate_of t) ≡ t
+predicate_back (term.Iri iri) k = refl
+predicate_back (term.Blank n) k = absurd (true≢false (sym k))
+predicate_back (term.Literal l) k = absurd (true≢false (sym k))
+
+object_back : (t : Term) → is_term t ≡ true → object_term (object_of t) ≡ t
+object_back (term.Blank n) h = node_back (term.Blank n) refl h
+object_back (term.Iri iri) h = refl
+object_back (term.Literal l) h = refl
+
+triple_back : (q : QuadParts) → IsDefaultQuad q → triple_said (statement_of q) ≡ q
+triple_back q h =
+    let t = quad_tests q h.0 in
+    λ i. record {
+      graph = sym h.1 i;
+      subject = node_back q.subject t.subject_kind t.subject i;
+      predicate = predicate_back q.predicate t.predicate_kind i;
+      object = object_back q.object t.object i;
+    }
+
+all_back : (quads : List QuadParts) → AllByRecursion IsDefaultQuad quads → map triple_said (map statement_of quads) ≡ quads
+all_back [] h = refl
+all_back (q ∷ quads) h = λ i. triple_back q h.0 i ∷ all_back quads h.1 i
+
+-- ---- the triples of a text
+
+well_formed : (quads : List QuadParts) → AllByRecursion IsDefaultQuad quads → AllByRecursion (λ q. is_quad q ≡ true) quads
+well_formed [] h = tt
+well_formed (q ∷ quads) h = (h.0.0, well_formed quads h.1)
+
+triples_back : (quads : List QuadParts) → AllByRecursion IsDefaultQuad quads → triples_in (lines_of quads) ≡ quads
+unfolding triples_in
+triples_back quads h = ap (map triple_said) (reads_statements 1 _ (map statement_of quads) (reads_all 1 quads (well_formed quads h))) ∙ all_back quads h
+
+lines_are : (quads : List QuadParts) (text : List ℕ) → AllByRecursion IsDefaultQuad quads → text ≡ lines_of quads → (triples_in text ≡ quads) × AreLinesOfTriples text
+lines_are quads text h is =
+    let back : triples_in text ≡ quads = ap triples_in is ∙ triples_back quads h in (
+      back,
+      record { are = is ∙ ap lines_of (sym back); well_formed = subst (AllByRecursion IsDefaultQuad) (sym back) h },
+    )
+
+pub no_lines : (text : List ℕ) → text ≡ [] → (triples_in text ≡ []) × AreLinesOfTriples text
+no_lines text is = lines_are [] text tt is
+
+all_with : (quads : List QuadParts) (q : QuadParts) → AllByRecursion IsDefaultQuad quads → IsDefaultQuad q → AllByRecursion IsDefaultQuad (quads ++ q ∷ [])
+all_with [] q h k = (k, tt)
+all_with (p ∷ quads) q h k = (h.0, all_with quads q h.1 k)
+
+-- one line more
+pub line_behind : (text more : List ℕ) (q : QuadParts) → AreLinesOfTriples text → IsDefaultQuad q → more ≡ text ++ quad_text q
+    → (triples_in more ≡ triples_in text ++ q ∷ []) × AreLinesOfTriples more
+line_behind text more q lines h is =
+    let quads = triples_in text in
+    lines_are (quads ++ q ∷ []) more (all_with quads q lines.well_formed h) (is ∙ ap (λ (t : List ℕ). t ++ quad_text q) lines.are ∙ sym (lines_of-push quads q))
+
+-- a triple that is taken
+pub triple_is_one : (subject object : Term) (predicate : List ℕ) → is_literal_term subject ≡ false → IsTrue (is_term subject) → IsTrue (is_iri predicate) → IsTrue (is_term object)
+    → IsDefaultQuad (triple subject predicate object)
+triple_is_one subject object predicate kind s p o = (rw (kind, s, p, o) refl, refl)
+
+module _ {E : Type 0} (text more : List ℕ) (q : QuadParts) (lines : AreLinesOfTriples text) (h : IsDefaultQuad q) where
+  pub lines_on : (r : Result (Unit {0}) E) → OnOk r (more ≡ text ++ quad_text q) → OnErr r (more ≡ text) → AreLinesOfTriples more
+  lines_on (Ok u) ok err = (line_behind text more q lines h ok).1
+  lines_on (Err e) ok err = subst AreLinesOfTriples (sym err) lines
+
+  pub triples_on : (r : Result (Unit {0}) E) (taken : List QuadParts) → triples_in text ≡ taken → OnOk r (more ≡ text ++ quad_text q) → OnOk r (triples_in more ≡ taken ++ q ∷ [])
+  triples_on (Ok u) taken is ok = (line_behind text more q lines h ok).0 ∙ ap (λ (t : List QuadParts). t ++ q ∷ []) is
+  triples_on (Err e) taken is ok = tt
+
+-- a line by its pieces
+pub written : (old a b c d e f s p o : List ℕ) → a ≡ old ++ s → b ≡ a ++ 32 ∷ 60 ∷ [] → c ≡ b ++ p → d ≡ c ++ 62 ∷ 32 ∷ [] → e ≡ d ++ o → f ≡ e ++ 32 ∷ 46 ∷ 10 ∷ []
+    → f ≡ old ++ (s ++ codes " " ++ (codes "<" ++ p ++ codes ">") ++ codes " " ++ o ++ codes " " ++ [] ++ codes ".\n")
+written old a b c d e f s p o h1 h2 h3 h4 h5 h6 =
+    let all : f ≡ (((((old ++ s) ++ 32 ∷ 60 ∷ []) ++ p) ++ 62 ∷ 32 ∷ []) ++ o) ++ 32 ∷ 46 ∷ 10 ∷ [] = cc in
+    all ∙ simp append_assoc
+
+-- no more of them than bytes
+some_bytes : (front : List ℕ) → 1 ≤ length (front ++ codes ".\n")
+some_bytes front = let n : length (front ++ codes ".\n") ≡ length front + 2 = length-append front (codes ".\n") in omega (arith, n)
+
+line_is_long : (q : QuadParts) → 1 ≤ length (quad_text q)
+line_is_long q = some_bytes _
+
+lines_are_long : (quads : List QuadParts) → length quads ≤ length (lines_of quads)
+lines_are_long [] = omega arith
+lines_are_long (q ∷ quads) =
+    let n : length (quad_text q ++ lines_of quads) ≡ length (quad_text q) + length (lines_of quads) = length-append (quad_text q) (lines_of quads) in
+    omega (arith, n, line_is_long q, lines_are_long quads)
+
+pub few_triples : (text : List ℕ) → AreLinesOfTriples text → length (triples_in text) ≤ length text
+few_triples text lines = subst (λ (t : List ℕ). length (triples_in text) ≤ length t) (sym lines.are) (lines_are_long (triples_in text))

@@ -1,0 +1,4 @@
+pub mod CheckLemmas
+pub mod ConversionLemmas
+pub mod DeviceLemmas
+pub mod StreamLemmas

@@ -1,0 +1,5 @@
+pub mod Checks
+pub mod Conversion
+pub mod Devices
+pub mod Inside
+pub mod Streams
