@@ -22,8 +22,9 @@ pub use law::{
 pub use program::start;
 pub use rdf_lines::StateFault;
 pub use rdf_session::{
-    Answer, Counts, Format, Keeper, KeeperFault, a_load_is_insert_data, a_saved_state_comes_back,
-    one_reply, standing_requests, the_headline, undo_gives_back,
+    Answer, Counts, Format, Keeper, KeeperFault, a_load_is_insert_data,
+    a_rollback_gives_back_its_mark, a_saved_state_comes_back, one_reply, standing_requests,
+    the_headline, undo_gives_back,
 };
 pub use rdf_streams::{ConvertFault, Device, DocumentFault, check, convert};
 pub use script::{Feed, Settings, Status, run, run_on, run_within};
