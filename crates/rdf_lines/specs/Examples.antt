@@ -1,9 +1,14 @@
--- Characters of labels over ASCII, and lines as the standards' own texts have them (RDF 1.1 N-Triples, sections 2 and 7; RDF 1.1 N-Quads, sections 2
--- and 4).
-use Rattle.std.specs.Prelude.{◌≡◌, ℕ, Bool, List, codes, filter, Option, Some, None}
+-- Characters of labels over ASCII, lines as the standards' own texts have them, and what is written (RDF 1.1 N-Triples, sections 2, 4 and 7; RDF 1.1
+-- N-Quads, sections 2 and 4).
+use Rattle.std.specs.Prelude.{◌≡◌, ℕ, Bool, List, [], ◌∷◌, codes, filter, Option, Some, None}
 use Rattle.std.specs.List.{range_with_len}
 use Rattle.rdf_terms.specs.Literal.{tagged, xsd_string}
 use Rattle.rdf_terms.specs.Vocabulary.{xsd_integer}
+use Rattle.rdf_terms.specs.declared.quad.GraphName.{GraphName}
+use Rattle.rdf_terms.specs.declared.quad.GraphName.TheVariants.{Default, Named}
+use Rattle.rdf_terms.specs.declared.quad.Quad.{Quad}
+use Rattle.rdf_terms.specs.declared.term.Term.{Term}
+use Rattle.rdf_terms.specs.declared.term.Term.TheVariants as term
 use Rattle.rdf_lines.specs.declared.format.LineFormat.{LineFormat}
 use Rattle.rdf_lines.specs.declared.format.LineFormat.TheVariants.{NTriples, NQuads}
 use Rattle.rdf_lines.specs.declared.statement.Node.{Node}
@@ -12,6 +17,8 @@ use Rattle.rdf_lines.specs.declared.statement.Object.{Object}
 use Rattle.rdf_lines.specs.declared.statement.Object.TheVariants as object
 use Rattle.rdf_lines.specs.declared.statement.Statement.{Statement}
 use Rattle.rdf_lines.specs.Grammar.{Holds, is_label_part, is_label_start, is_white, typed}
+use Rattle.rdf_lines.specs.QuadText.{quad_text}
+use Rattle.rdf_lines.specs.StateText.{state_text}
 
 -- the characters of ASCII that a class has, in order
 abbrev pub ascii : (ℕ → Bool) → List ℕ
@@ -67,3 +74,22 @@ pub record LineTable : Type 0 where
   pub no_graph : Holds NQuads (codes "_:a <http://p> \"x\" .") (says a p (text (codes "x")) None)
   pub triples_alone : HoldsNothing NTriples (codes "_:a <http://p> \"x\" <http://g> .")
   pub no_literal : HoldsNothing NQuads (codes "_:a <http://p> \"x\" \"g\" .")
+
+-- ---- what is written
+
+abbrev pub g : Term
+g = term.Iri (codes "http://g")
+
+-- `<http://s> <http://p> "x" .`, in the default graph or in one that has a name
+abbrev pub example : GraphName → Quad
+example graph =
+    record { graph = graph; subject = term.Iri (codes "http://s"); predicate = term.Iri (codes "http://p"); object = term.Literal (typed (codes "x") xsd_string) }
+
+pub record WrittenTable : Type 0 where
+  -- one space between two parts, and before the dot (N-Triples, section 4)
+  pub triple : quad_text (example Default) ≡ codes "<http://s> <http://p> \"x\" .\n"
+  pub quad : quad_text (example (Named g)) ≡ codes "<http://s> <http://p> \"x\" <http://g> .\n"
+  -- the state text, a line for its version, the counter, each name and each quad
+  pub state :
+      state_text 5 (g ∷ []) (example Default ∷ example (Named g) ∷ [])
+      ≡ codes "#% rdfkeep state 2\n#% next 5\n#% graph <http://g>\n<http://s> <http://p> \"x\" .\n<http://s> <http://p> \"x\" <http://g> .\n"

@@ -1,4 +1,6 @@
-use Rattle.std.proofs.Common.{List, ℕ, codes, refl, Option, Some, None}
+use Rattle.std.proofs.Common.{List, [], ◌∷◌, ◌++◌, ℕ, codes, refl, ap, arith, Option, Some, None}
+use Rattle.std.proofs.lemmas.Fmt.{decimal_digit}
+use Rattle.std.specs.List.{flat_map}
 use lib.Utf8.{encode}
 use Rattle.rdf_terms.specs.Characters.{is_pn_chars_base, is_pn_chars_u, is_pn_chars, short_escape}
 use Rattle.rdf_terms.specs.Dotted.{dotted, dotted_at}
@@ -7,15 +9,18 @@ use Rattle.rdf_terms.specs.Reading.{allowed_only, escape_at, expect, hex4_at, he
 use Rattle.rdf_terms.specs.Skips.{one_of, skip, some_of}
 use Rattle.rdf_terms.specs.Tags.{begins_group, skip_groups, tag_end_at}
 use Rattle.rdf_terms.specs.Vocabulary.{xsd_integer}
+use Rattle.rdf_terms.specs.declared.quad.GraphName.TheVariants.{Default, Named}
 use Rattle.rdf_lines.specs.declared.format.LineFormat.TheVariants.{NTriples, NQuads}
 use Rattle.rdf_lines.specs.declared.written.WrittenNode.{WrittenNode}
 use Rattle.rdf_lines.specs.declared.written.WrittenNode.TheVariants as written
 use Rattle.rdf_lines.specs.declared.written.WrittenObject.{WrittenObject}
 use Rattle.rdf_lines.specs.declared.written.WrittenObject.TheVariants as written_object
 use Rattle.rdf_lines.specs.declared.written.WrittenStatement.{WrittenStatement}
-use Rattle.rdf_lines.specs.Examples.{p}
+use Rattle.rdf_lines.specs.Examples.{example, g, p}
 use Rattle.rdf_lines.specs.Grammar.{is_label_part, is_label_start, typed}
+use Rattle.rdf_lines.specs.QuadText.{quad_text}
 use Rattle.rdf_lines.specs.Reading.{begins_node, first_is, graph_at, is_empty_or_comment, is_end, label_at, label_end_at, literal_at, name_at, node_at, object_at, statement_at, stops_at, suffix_at, tag_at, tagged_at, tagged_literal, typed_at}
+use Rattle.rdf_lines.specs.StateText.{name_line}
 use Rattle.rdf_lines.proofs.LineLemmas.{line_sound, no_reading}
 use Rattle.rdf_lines.proofs.examples.the_standards_lines_are_read.Goals as goal
 
@@ -47,4 +52,13 @@ returns-clause-lines c = record {
   no_graph = line_sound NQuads (codes "_:a <http://p> \"x\" .") (wrote (written.Label (codes "a")) p (written_object.Literal (typed (codes "x") xsd_string)) None) refl;
   triples_alone = no_reading NTriples (codes "_:a <http://p> \"x\" <http://g> .") refl;
   no_literal = no_reading NQuads (codes "_:a <http://p> \"x\" \"g\" .") refl;
+}
+
+-- the counter has one digit
+pub returns-clause-written : goal.returns-clause-written
+returns-clause-written c = record {
+  triple = refl;
+  quad = refl;
+  state = ap (λ (digits : List ℕ). codes "#% rdfkeep state 2\n" ++ (codes "#% next " ++ (digits
+      ++ (codes "\n" ++ (flat_map name_line (g ∷ []) ++ flat_map quad_text (example Default ∷ example (Named g) ∷ [])))))) (decimal_digit 5 (omega arith));
 }
