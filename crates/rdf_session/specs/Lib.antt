@@ -2,7 +2,6 @@ pub mod Between
 pub mod BlankCount
 pub mod ComesAbout
 pub mod Commits
-pub mod CountsLaws
 pub mod Depth
 pub mod Documents
 pub mod Faults

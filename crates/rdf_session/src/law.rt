@@ -10,7 +10,6 @@ ghost use Rattle.rdf_session.specs.Standing.{Run, Follows, requests_of, MakesAll
 ghost use Rattle.rdf_session.specs.BlankCount.{LimitIsTheCount, LoadTakesTheCount, LoadWantsTheCount};
 ghost use Rattle.rdf_session.specs.ComesAbout.{MayBeAccepted, EachCommandRuns};
 ghost use Rattle.rdf_session.specs.Commits.{CommitKeepsTheState, BaseIsTheFirst, BaseIsTheLastCommitted};
-ghost use Rattle.rdf_session.specs.CountsLaws.{CountsAreOfQuads};
 ghost use Rattle.rdf_session.specs.Forgets.{RequestsLeaveTheLast};
 ghost use Rattle.rdf_session.specs.GivesBack.{RunsAreWhole, UndoGivesBack, RedoGivesAgain, RollbackGivesBack, RefusalsLeave};
 ghost use Rattle.rdf_session.specs.Headline.{Headline};
@@ -104,12 +103,6 @@ pub fn a_rollback_gives_back_its_mark()
 /// the marks there.
 pub fn a_depth_forgets_the_oldest()
     ensures { RequestsLeaveTheLast }
-{}
-
-/// The counts of a reply are of the quads that the state behind the command alone has, and of those
-/// that the state before it alone has.
-pub fn counts_are_of_quads()
-    ensures { CountsAreOfQuads }
 {}
 
 /// Where no reply is that memory is wanting, a command has one reply, but for a line of a fault
