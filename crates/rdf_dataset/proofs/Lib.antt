@@ -1,5 +1,6 @@
 pub mod CallerLemmas
 mod ChainLemmas
+mod ChangeLawLemmas
 mod ExchangeLemmas
 mod InsertionLemmas
 mod LoadingLemmas

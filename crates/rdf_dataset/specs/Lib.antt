@@ -1,3 +1,4 @@
+pub mod ChangeLaws
 pub mod Chains
 pub mod Exchange
 pub mod Insertion

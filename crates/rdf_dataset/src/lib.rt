@@ -10,6 +10,7 @@ mod dataset;
 mod edits;
 mod exchange;
 mod insertion;
+mod law;
 mod loading;
 mod net;
 mod quad_edits;
@@ -18,6 +19,7 @@ mod staged;
 mod unread;
 
 pub use dataset::Dataset;
+pub use law::{changes_are_exact, look_ups_match};
 pub use net::Net;
 pub use source::{Source, sources_are_sound};
 pub use staged::Staged;

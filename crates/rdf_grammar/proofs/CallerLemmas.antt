@@ -11,6 +11,7 @@ pub use Rattle.rdf_grammar.proofs.Nests.{Below, after, behind_keeps, enclosed, l
 unfoldable pub use Rattle.rdf_grammar.proofs.Nests.{Keeps}
 pub use Rattle.rdf_grammar.proofs.ProductionNests.{binding_keeps, iri_keeps, literal_keeps}
 pub use Rattle.rdf_grammar.proofs.Productions.{binding_decides, iri_begins, iri_decides, iri_strict, literal_begins, literal_decides, literal_strict}
+pub use Rattle.rdf_grammar.proofs.PrologueIris.{resolved_is}
 pub use Rattle.rdf_grammar.proofs.PrologueKeys.{declares_key}
 pub use Rattle.rdf_grammar.proofs.Repeats.{Going, Grown, deeper, fails_first, fails_on, fails_then, going_done, going_fails, going_on, going_starts, grown_on, grown_starts, no_more, none_pushed, one_fails, one_pushed, one_reads}
 pub use Rattle.rdf_grammar.proofs.ScopePrefixes.{prefixes_are_replaced}

@@ -5,6 +5,7 @@ pub mod Kept
 pub mod Keys
 pub mod Lexemes
 pub mod Literals
+pub mod MeaningLaws
 pub mod Nesting
 pub mod Numbering
 pub mod NumberingLaws

@@ -1,10 +1,12 @@
 //! What holds of productions and of prologues.
+ghost use Rattle.rdf_grammar.specs.MeaningLaws.{BaseTable, LiteralTable, NameTable};
 ghost use Rattle.rdf_grammar.specs.NumberingLaws.{OneLabelIsOneNode};
 ghost use Rattle.rdf_grammar.specs.ProductionLaws.{IrisAreRead, LiteralsAreRead, BindingsAreRead};
 ghost use Rattle.rdf_grammar.specs.PrologueLaws.{PrefixesAreReplaced};
 ghost use Rattle.rdf_grammar.specs.References.{ReferencesAreResolved};
 
 use crate::word::Words;
+use rdf_tokens::{iris_have_values, locals_have_values, pnames_have_parts, texts_have_values};
 
 /// What is read of the productions that Turtle and SPARQL share is what they derive (Turtle 1.1,
 /// section 6.5; SPARQL 1.1 Query, section 19.8).
@@ -31,4 +33,31 @@ pub fn prefixes_are_replaced()
 /// numbered by their places two have one number just where one label writes both.
 pub fn one_label_is_one_node()
     ensures { OneLabelIsOneNode }
+{}
+
+/// What names stand for, from their tokens on: a reference for what it means against the base in force
+/// (RFC 3986, section 5.2), a prefixed name for what its prefix does and, behind it, its local part
+/// without the backslashes of its escapes (Turtle 1.1, sections 2.4 and 6.4; SPARQL 1.1 Query, section
+/// 4.1.1).
+pub fn names_have_iris<T: Words>()
+    ensures { NameTable T.word }
+{
+    iris_have_values();
+    locals_have_values();
+    pnames_have_parts();
+}
+
+/// What literals stand for, from their tokens on: a string for an xsd:string, or with its tag or its
+/// datatype; a number for its characters as an xsd:integer, xsd:decimal or xsd:double; a truth value
+/// for an xsd:boolean (Turtle 1.1, section 2.5; SPARQL 1.1 Query, section 4.1.2).
+pub fn literals_stand_for_themselves<T: Words>()
+    ensures { LiteralTable T.word }
+{
+    texts_have_values();
+}
+
+/// A declared base is in force from there on, and touches no prefix; a declared prefix touches no base
+/// (Turtle 1.1, sections 2.4 and 6.5; SPARQL 1.1 Query, section 4.1.1).
+pub fn bases_are_moved()
+    ensures { BaseTable }
 {}

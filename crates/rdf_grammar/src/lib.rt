@@ -32,7 +32,8 @@ pub use depth::{MAX_OPEN, too_deep};
 pub use fault::GrammarFault;
 pub use key::Key;
 pub use laws::{
-    one_label_is_one_node, prefixes_are_replaced, productions_are_read, references_are_resolved,
+    bases_are_moved, literals_stand_for_themselves, names_have_iris, one_label_is_one_node,
+    prefixes_are_replaced, productions_are_read, references_are_resolved,
 };
 pub use lexeme::Lexeme;
 pub use lexeme_list::{lexemes, lexemes_have_forms};

@@ -1,5 +1,6 @@
 pub mod Blanks
 pub mod Document
+pub mod Examples
 pub mod FaultName
 pub mod Fed
 pub mod Grammar

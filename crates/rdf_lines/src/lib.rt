@@ -7,6 +7,7 @@
 #![tactic(auto)]
 
 mod cut;
+mod examples;
 mod fault;
 mod fed;
 mod format;
@@ -28,6 +29,7 @@ mod suffixes;
 mod write;
 mod written;
 
+pub use examples::the_standards_lines_are_read;
 pub use fault::{FaultKind, LineFault};
 pub use fed::{FedLines, what_is_fed_comes_first};
 pub use format::LineFormat;

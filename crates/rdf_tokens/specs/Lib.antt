@@ -1,4 +1,5 @@
 pub mod Characters
+pub mod Examples
 pub mod Faults
 pub mod Forms
 pub mod Inside

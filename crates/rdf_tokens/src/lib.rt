@@ -7,6 +7,7 @@
 
 mod character;
 mod dotted;
+mod examples;
 mod fault;
 mod gap;
 mod line;
@@ -21,6 +22,7 @@ mod tokenizer;
 mod value;
 mod walk;
 
+pub use examples::the_standards_tokens_are_read;
 pub use fault::TokenFault;
 pub use line::{line_at, line_ends_are_counted};
 pub use reader::{Next, TokenReader};

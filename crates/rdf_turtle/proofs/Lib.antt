@@ -4,6 +4,7 @@ mod BaseLeaves
 mod BaseSteps
 mod BaseTrees
 pub mod CallerLemmas
+mod DirectiveLemmas
 mod DocumentCases
 mod DocumentLemmas
 mod FaultyNameLemmas

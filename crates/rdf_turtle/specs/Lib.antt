@@ -1,6 +1,7 @@
 pub mod Abbreviations
 pub mod Bases
 pub mod Blanks
+pub mod Directives
 pub mod Document
 pub mod DocumentLaws
 pub mod FaultName

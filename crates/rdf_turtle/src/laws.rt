@@ -1,5 +1,6 @@
 //! What holds of each document and its tree.
 ghost use Rattle.rdf_turtle.specs.Abbreviations as short;
+ghost use Rattle.rdf_turtle.specs.Directives.{BaseIsMoved, PrefixIsDeclared, SectionExamples};
 ghost use Rattle.rdf_turtle.specs.FaultyNameLaws.{UnboundIsFound, LackingIsFound};
 ghost use Rattle.rdf_turtle.specs.Lexemes.{LexemesHaveForms};
 ghost use Rattle.rdf_turtle.specs.Leaves.{OneDocument, DocumentsHaveSubjects, LeavesAreLexemes};
@@ -70,4 +71,13 @@ pub fn abbreviations_stand_for_triples()
     ensures list { short.ListIsFresh }
     ensures last { short.LastHas }
     ensures cells { short.ListHas }
+{}
+
+/// What directives put in force: a base is resolved against the base before it, a prefix against the
+/// base where it is declared; so the names of the standard's example have the IRIs that it gives
+/// (Turtle 1.1, sections 2.4 and 6.3).
+pub fn directives_are_in_force()
+    ensures base { BaseIsMoved }
+    ensures prefix { PrefixIsDeclared }
+    ensures examples { SectionExamples }
 {}

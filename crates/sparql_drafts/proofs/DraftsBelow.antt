@@ -1,5 +1,5 @@
--- The blank nodes that data says are those that were numbered.
-use Rattle.std.proofs.Common.{◌≡◌, ◌∙◌, ◌⊎◌, ◌≤◌, ◌<◌, ap, refl, sym, subst, inl, inr, ℕ, Bool, true, false, ◌||◌, if◌then◌else◌, List, [], ◌∷◌, map, length, Option, Some, None, Contains, arith}
+-- The blank nodes that data says are those that were numbered, and they come in order.
+use Rattle.std.proofs.Common.{◌≡◌, ◌∙◌, ◌⊎◌, ◌≤◌, ◌<◌, ap, refl, sym, subst, inl, inr, ℕ, Bool, true, false, ◌||◌, if◌then◌else◌, List, [], ◌∷◌, ◌++◌, map, length, Option, Some, None, Contains, arith}
 use Rattle.std.proofs.lemmas.Option.{same_Some}
 use Rattle.std.proofs.lemmas.List.Elements.{Contains-append_left, Contains-append_right}
 use Rattle.std.specs.List.{flat_map, AllByRecursion}
@@ -25,7 +25,7 @@ use Rattle.sparql_grammar.specs.declared.tree.VarOrIri as written
 use Rattle.sparql_grammar.specs.declared.tree.VarOrIri.TheVariants as n
 use Rattle.sparql_grammar.specs.declared.tree.Verb.{Verb}
 use Rattle.sparql_grammar.specs.declared.tree.Verb.TheVariants as v
-use Rattle.sparql_drafts.specs.Blanks.{place_blanks, pattern_blanks, IsNumbered, DataAreNumbered, PatternsAreNumbered}
+use Rattle.sparql_drafts.specs.Blanks.{place_blanks, pattern_blanks, AreInOrder, IsNumbered, DataAreNumbered, DataComeInOrder, PatternsAreNumbered, PatternsComeInOrder}
 use Rattle.sparql_drafts.specs.Drafts.{IsPlaceBelow, ArePatternsBelow}
 use Rattle.sparql_drafts.specs.declared.draft.QuadPattern.{QuadPattern}
 use Rattle.sparql_drafts.specs.declared.draft.Quads.{Quads}
@@ -35,7 +35,7 @@ use Rattle.sparql_drafts.specs.declared.draft.VarOrTerm.{VarOrTerm}
 use Rattle.sparql_drafts.specs.declared.draft.VarOrTerm.TheVariants as x
 use Rattle.sparql_drafts.specs.Drafting.{Drafting, Does, start, quads, told, fresh, in_default, in_graph, says}
 use Rattle.sparql_drafts.specs.Meaning.{Meaning, Says, iri, verb, var_or_iri, literal, object, objects, first, rest, nil, next_cell, behind, list_term, list_inside, node_of, property_of, meaning, property, subject_with, triples, graph, block, quads_in, pattern_in}
-use Rattle.sparql_drafts.proofs.BlankSteps.{then_parts, node, Numbered, IsBelow, Said, wider, also, below_on, says_numbered, TermKeeps, fresh_keeps, labelled_keeps, Stays, stays_keeps}
+use Rattle.sparql_drafts.proofs.BlankSteps.{then_parts, node, nothing, nothing_at, variable_apart, Numbered, IsAt, IsBelow, Said, also, beside, only_last, below_on, says_numbered, TermKeeps, fresh_keeps, labelled_keeps, Stays, stays_keeps}
 
 -- ---- leaves
 
@@ -74,9 +74,6 @@ apart a b e h = λ k z. h k (e ∙ z)
 iri_apart : (a : List ℕ) (k : ℕ) → x.Term (t.Iri a) ≡ node k → ⊥
 iri_apart a k e = cc
 
-variable_apart : (a : List ℕ) (k : ℕ) → x.Variable a ≡ node k → ⊥
-variable_apart a k e = cc
-
 literal_apart : (a : LiteralParts) (k : ℕ) → x.Term (t.Literal a) ≡ node k → ⊥
 literal_apart a k e = cc
 
@@ -106,114 +103,125 @@ literal_stays w s u b e =
 
 -- ---- nodes and properties
 
--- patterns are said; nothing is left pending that wasn't
-abbrev Keeps : Does (Unit {0}) → Drafting → Type 0
-Keeps f s = (pending : List VarOrTerm) (u : Drafting) → Numbered pending s → f s ≡ Some (tt, u) → Numbered pending u × (s.numbering.next ≤ u.numbering.next)
+-- what is numbered after a step, when these were before
+record Kept (pending : VarOrTerm) (s u : Drafting) : Type 0 where
+  numbered : Numbered pending u
+  grows : s.numbering.next ≤ u.numbering.next
 
+-- patterns are said, about this subject first; nothing is left pending that wasn't
 abbrev InsideKeeps : (VarOrTerm → Does (Unit {0})) → Type 0
-InsideKeeps f = (a : VarOrTerm) (s : Drafting) → IsBelow a s → Keeps (f a) s
+InsideKeeps f = (subject pending : VarOrTerm) (s u : Drafting) → IsBelow subject s → IsAt pending subject → Numbered pending s → f subject s ≡ Some (tt, u) → Kept pending s u
 
 -- and the subject stands in one
 abbrev Uses : (VarOrTerm → Does (Unit {0})) → Type 0
-Uses f = (a : VarOrTerm) (pending : List VarOrTerm) (s u : Drafting) → IsBelow a s → Numbered (a ∷ pending) s → f a s ≡ Some (tt, u) → Numbered pending u × (s.numbering.next ≤ u.numbering.next)
+Uses f = (subject pending : VarOrTerm) (s u : Drafting) → IsBelow subject s → IsAt pending subject → Numbered pending s → f subject s ≡ Some (tt, u) → Kept nothing s u
 
 record Good (m : Meaning) : Type 0 where
   term : TermKeeps m.term
   inside : InsideKeeps m.inside
 
+kept_also : (pending : VarOrTerm) (s u : Drafting) → Kept nothing s u → Kept pending s u
+kept_also pending s u k = record { numbered = also pending u k.numbered; grows = k.grows }
+
+kept_then : (a b : VarOrTerm) (s v u : Drafting) → Kept a s v → Kept b v u → Kept b s u
+kept_then a b s v u k r =
+    let first : s.numbering.next ≤ v.numbering.next = k.grows in
+    let rest : v.numbering.next ≤ u.numbering.next = r.grows in
+    record { numbered = r.numbered; grows = omega (arith, first, rest) }
+
+kept_same : (pending : VarOrTerm) (s u : Drafting) → Numbered pending s → ◌≡◌ {A = Outcome Drafting (Unit {0})} (Some (tt, s)) (Some (tt, u)) → Kept pending s u
+kept_same pending s u held e =
+    let same : s ≡ u = ap (λ p. p.1) (same_Some _ _ e) in
+    let next : s.numbering.next ≡ u.numbering.next = ap (λ (z : Drafting). z.numbering.next) same in
+    record { numbered = subst (Numbered pending) same held; grows = omega (arith, next) }
+
 nothing_keeps : InsideKeeps (λ _ s. Some (tt, s))
-nothing_keeps a s b pending u h e =
-    let same : s ≡ u = ap (λ p. p.1) (same_Some _ _ e) in (subst (Numbered pending) same h, (let z : s.numbering.next ≡ u.numbering.next = ap (λ (y : Drafting). y.numbering.next) same in omega (arith, z)))
+nothing_keeps subject pending s u b at held e = kept_same pending s u held e
 
 uses_keeps : (f : VarOrTerm → Does (Unit {0})) → Uses f → InsideKeeps f
-uses_keeps f h a s b pending u numbered e = h a pending s u b (also a pending s numbered) e
+uses_keeps f h subject pending s u b at held e = kept_also pending s u (h subject pending s u b at held e)
 
--- one step, then another
-then_keeps : (f g : VarOrTerm → Does (Unit {0})) → InsideKeeps f → InsideKeeps g → InsideKeeps (λ a s. and_then (f a s) (λ _. g a))
-then_keeps f g hf hg a s b pending u numbered e =
-    let p = then_parts (f a s) _ (tt, u) e in
-    let one = hf a s b pending p.1 numbered p.2 in
-    let more = hg a p.1 (below_on a s p.1 one.1 b) pending u one.0 p.3 in
-    (more.0, (let y : s.numbering.next ≤ p.1.numbering.next = one.1 in let z : p.1.numbering.next ≤ u.numbering.next = more.1 in omega (arith, y, z)))
-
-then_uses : (f g : VarOrTerm → Does (Unit {0})) → Uses f → InsideKeeps g → Uses (λ a s. and_then (f a s) (λ _. g a))
-then_uses f g hf hg a pending s u b numbered e =
-    let p = then_parts (f a s) _ (tt, u) e in
-    let one = hf a pending s p.1 b numbered p.2 in
-    let more = hg a p.1 (below_on a s p.1 one.1 b) pending u one.0 p.3 in
-    (more.0, (let y : s.numbering.next ≤ p.1.numbering.next = one.1 in let z : p.1.numbering.next ≤ u.numbering.next = more.1 in omega (arith, y, z)))
-
-object_uses : (predicate : VarOrIri) (m : Meaning) → Good m → Uses (λ a. object a predicate m)
+object_uses : (predicate : VarOrIri) (m : Meaning) → Good m → Uses (λ subject. object subject predicate m)
 unfolding object
-object_uses predicate m g a pending s u b numbered e =
+object_uses predicate m g subject pending s u b at held e =
     let p = then_parts (m.term s) _ (tt, u) e in
-    let o = g.term (a ∷ pending) s p.1 p.0 numbered p.2 in
-    let q = then_parts (says a predicate p.0 p.1) _ (tt, u) p.3 in
-    let said = says_numbered a p.0 predicate pending p.1 q.1 o.0 (below_on a s p.1 o.1 b) o.2 q.2 in
-    let far : p.1.numbering.next ≤ q.1.numbering.next = omega (arith, said.1) in
-    let r = g.inside p.0 q.1 (below_on p.0 p.1 q.1 far o.2) pending u said.0 q.3 in
-    (r.0, (let y : s.numbering.next ≤ p.1.numbering.next = o.1 in let z : q.1.numbering.next ≤ u.numbering.next = r.1 in omega (arith, y, far, z)))
+    let o = g.term pending s p.1 p.0 held p.2 in
+    let q = then_parts (says subject predicate p.0 p.1) _ (tt, u) p.3 in
+    let said = says_numbered subject p.0 predicate pending p.1 at o.0 (below_on subject s p.1 o.1 b) o.2 q.1 q.2 in
+    let l : p.1.numbering.next ≤ q.1.numbering.next = (let same : q.1.numbering.next ≡ p.1.numbering.next = said.1 in omega (arith, same)) in
+    let grown : s.numbering.next ≤ q.1.numbering.next = (let a : s.numbering.next ≤ p.1.numbering.next = o.1 in omega (arith, a, l)) in
+    kept_then nothing nothing s q.1 u (record { numbered = said.0; grows = grown }) (g.inside p.0 nothing q.1 u (below_on p.0 p.1 q.1 l o.2) (nothing_at p.0) said.0 q.3)
 
-objects_keep : (predicate : VarOrIri) (ms : List Meaning) → AllByRecursion Good ms → InsideKeeps (λ a. each (object a predicate) ms)
-objects_keep predicate [] all = nothing_keeps
-objects_keep predicate (m ∷ ms) all =
-    then_keeps (λ a. object a predicate m) (λ a. each (object a predicate) ms) (uses_keeps (λ a. object a predicate m) (object_uses predicate m all.0)) (objects_keep predicate ms all.1)
+-- one step that uses the subject, and others behind it
+then_keeps : (f g : VarOrTerm → Does (Unit {0})) → Uses f → InsideKeeps g → (subject pending : VarOrTerm) (s u : Drafting) → IsBelow subject s → IsAt pending subject → Numbered pending s
+    → and_then (f subject s) (λ _. g subject) ≡ Some (tt, u) → Kept nothing s u
+then_keeps f g h k subject pending s u b at held e =
+    let p = then_parts (f subject s) (λ _. g subject) (tt, u) e in
+    let first = h subject pending s p.1 b at held p.2 in
+    kept_then nothing nothing s p.1 u first (k subject nothing p.1 u (below_on subject s p.1 first.grows b) (nothing_at subject) first.numbered p.3)
 
-objects_use : (predicate : VarOrIri) (ms : List Meaning) → AllByRecursion Good ms → Uses (λ a. objects a predicate ms)
-objects_use predicate [] all = λ a pending s u b numbered e. absurd (cc e)
-objects_use predicate (m ∷ ms) all = then_uses (λ a. object a predicate m) (λ a. each (object a predicate) ms) (object_uses predicate m all.0) (objects_keep predicate ms all.1)
+objects_keep : (predicate : VarOrIri) (ms : List Meaning) → AllByRecursion Good ms → InsideKeeps (λ subject. each (object subject predicate) ms)
+objects_keep predicate [] all subject pending s u b at held e = kept_same pending s u held e
+objects_keep predicate (m ∷ ms) all subject pending s u b at held e =
+    kept_also pending s u (then_keeps (λ y. object y predicate m) (λ y. each (object y predicate) ms) (object_uses predicate m all.0) (objects_keep predicate ms all.1) subject pending s u b at held e)
 
-property_uses : (word : Verb) (ms : List Meaning) → AllByRecursion Good ms → Uses (λ a s. and_then (verb word s) (λ predicate. objects a predicate ms))
-property_uses word ms all a pending s u b numbered e =
+objects_use : (predicate : VarOrIri) (ms : List Meaning) → AllByRecursion Good ms → Uses (λ subject. objects subject predicate ms)
+objects_use predicate [] all subject pending s u b at held e = absurd (cc e)
+objects_use predicate (m ∷ ms) all subject pending s u b at held e =
+    then_keeps (λ y. object y predicate m) (λ y. each (object y predicate) ms) (object_uses predicate m all.0) (objects_keep predicate ms all.1) subject pending s u b at held e
+
+property_uses : (word : Verb) (ms : List Meaning) → AllByRecursion Good ms → Uses (λ subject s. and_then (verb word s) (λ predicate. objects subject predicate ms))
+property_uses word ms all subject pending s u b at held e =
     let p = then_parts (verb word s) _ (tt, u) e in
     let same : p.1 ≡ s = sym (verb_same word s p.1 p.0 p.2) in
-    let h : objects a p.0 ms s ≡ Some (tt, u) = subst (λ (z : Drafting). objects a p.0 ms z ≡ Some (tt, u)) same p.3 in
-    objects_use p.0 ms all a pending s u b numbered h
+    let h : objects subject p.0 ms s ≡ Some (tt, u) = subst (λ (z : Drafting). objects subject p.0 ms z ≡ Some (tt, u)) same p.3 in
+    objects_use p.0 ms all subject pending s u b at held h
 
-properties_keep : (ps : List Says) → AllByRecursion Uses ps → InsideKeeps (λ a. each (λ p. p a) ps)
-properties_keep [] all = nothing_keeps
-properties_keep (f ∷ ps) all = then_keeps f (λ a. each (λ p. p a) ps) (uses_keeps f all.0) (properties_keep ps all.1)
+properties_keep : (ps : List Says) → AllByRecursion Uses ps → InsideKeeps (λ subject. each (λ p. p subject) ps)
+properties_keep [] all subject pending s u b at held e = kept_same pending s u held e
+properties_keep (f ∷ ps) all subject pending s u b at held e =
+    kept_also pending s u (then_keeps f (λ y. each (λ p. p y) ps) all.0 (properties_keep ps all.1) subject pending s u b at held e)
 
-properties_use : (f : Says) (ps : List Says) → AllByRecursion Uses (f ∷ ps) → Uses (λ a. each (λ p. p a) (f ∷ ps))
-properties_use f ps all = then_uses f (λ a. each (λ p. p a) ps) all.0 (properties_keep ps all.1)
+properties_use : (f : Says) (ps : List Says) → AllByRecursion Uses (f ∷ ps) → Uses (λ subject. each (λ p. p subject) (f ∷ ps))
+properties_use f ps all subject pending s u b at held e = then_keeps f (λ y. each (λ p. p y) ps) all.0 (properties_keep ps all.1) subject pending s u b at held e
 
 -- ---- lists
 
-next_cell_keeps : (m : Meaning) → Good m → (a next : VarOrTerm) (pending : List VarOrTerm) (s u : Drafting) → IsBelow a s → Numbered pending s → next_cell a m s ≡ Some (next, u)
-    → Numbered pending u × (s.numbering.next ≤ u.numbering.next) × IsBelow next u
-next_cell_keeps m good a next pending s u b numbered e =
+next_cell_keeps : (m : Meaning) → Good m → (subject next pending : VarOrTerm) (s u : Drafting) → IsBelow subject s → IsAt pending subject → Numbered pending s → next_cell subject m s ≡ Some (next, u)
+    → Kept nothing s u × IsBelow next u
+next_cell_keeps m good subject next pending s u b at held e =
     let p = then_parts (fresh s) _ (next, u) e in
-    let new = fresh_keeps pending s p.1 p.0 numbered p.2 in
-    let q = then_parts (says a rest p.0 p.1) _ (next, u) p.3 in
-    let open_ones = wider (p.0 ∷ pending) (p.0 ∷ a ∷ pending) p.1 (λ k z. elim z [ inl here ↦ inl here | inr there ↦ inr (inr there) ]) new.0 in
-    let said = says_numbered a p.0 rest pending p.1 q.1 open_ones (below_on a s p.1 new.1 b) new.2 q.2 in
-    let near : p.1.numbering.next ≤ q.1.numbering.next = omega (arith, said.1) in
+    let new = fresh_keeps pending s p.1 p.0 held p.2 in
+    let q = then_parts (says subject rest p.0 p.1) _ (next, u) p.3 in
+    let said = says_numbered subject p.0 rest pending p.1 at new.0 (below_on subject s p.1 new.1 b) new.2 q.1 q.2 in
+    let near : p.1.numbering.next ≤ q.1.numbering.next = (let same : q.1.numbering.next ≡ p.1.numbering.next = said.1 in omega (arith, same)) in
+    let grown : s.numbering.next ≤ q.1.numbering.next = (let y : s.numbering.next ≤ p.1.numbering.next = new.1 in omega (arith, y, near)) in
     let r = then_parts (object p.0 first m q.1) _ (next, u) q.3 in
-    let one = uses_keeps (λ y. object y first m) (object_uses first m good) p.0 q.1 (below_on p.0 p.1 q.1 near new.2) pending r.1 said.0 r.2 in
-    let far : p.1.numbering.next ≤ r.1.numbering.next = (let y : q.1.numbering.next ≤ r.1.numbering.next = one.1 in omega (arith, near, y)) in
+    let one = object_uses first m good p.0 nothing q.1 r.1 (below_on p.0 p.1 q.1 near new.2) (nothing_at p.0) said.0 r.2 in
+    let far : p.1.numbering.next ≤ r.1.numbering.next = (let y : q.1.numbering.next ≤ r.1.numbering.next = one.grows in omega (arith, near, y)) in
     let is_next : p.0 ≡ next = ap (λ z. z.0) (same_Some _ _ r.3) in
     let is_u : r.1 ≡ u = ap (λ z. z.1) (same_Some _ _ r.3) in (
-      subst (Numbered pending) is_u one.0,
-      (let y : s.numbering.next ≤ p.1.numbering.next = new.1 in let z : r.1.numbering.next ≡ u.numbering.next = ap (λ (v : Drafting). v.numbering.next) is_u in omega (arith, y, far, z)),
-      subst (λ (v : VarOrTerm). IsBelow v u) is_next (subst (IsBelow p.0) is_u (below_on p.0 p.1 r.1 far new.2)),
+      subst (λ (z : Drafting). Kept nothing s z) is_u (kept_then nothing nothing s q.1 r.1 (record { numbered = said.0; grows = grown }) one),
+      subst (λ (z : VarOrTerm). IsBelow z u) is_next (subst (IsBelow p.0) is_u (below_on p.0 p.1 r.1 far new.2)),
     )
 
-behind_keeps : (ms : List Meaning) → AllByRecursion Good ms → InsideKeeps (λ a. behind a ms)
-behind_keeps [] all a s b pending u numbered e =
-    let r = says_numbered a nil rest pending s u (also nil (a ∷ pending) s (also a pending s numbered)) b (λ k z. absurd (iri_apart rdf_nil k z)) e in
-    (r.0, (let y : u.numbering.next ≡ s.numbering.next = r.1 in omega (arith, y)))
-behind_keeps (m ∷ ms) all a s b pending u numbered e =
-    let p = then_parts (next_cell a m s) _ (tt, u) e in
-    let one = next_cell_keeps m all.0 a p.0 pending s p.1 b numbered p.2 in
-    let more = behind_keeps ms all.1 p.0 p.1 one.2 pending u one.0 p.3 in
-    (more.0, (let y : s.numbering.next ≤ p.1.numbering.next = one.1 in let z : p.1.numbering.next ≤ u.numbering.next = more.1 in omega (arith, y, z)))
+behind_keeps : (ms : List Meaning) → AllByRecursion Good ms → InsideKeeps (λ subject. behind subject ms)
+behind_keeps [] all subject pending s u b at held e =
+    let r = says_numbered subject nil rest pending s at (beside nil pending s held) b (λ k z. absurd (iri_apart rdf_nil k z)) u e in
+    let same : u.numbering.next ≡ s.numbering.next = r.1 in
+    kept_also pending s u (record { numbered = r.0; grows = omega (arith, same) })
+behind_keeps (m ∷ ms) all subject pending s u b at held e =
+    let p = then_parts (next_cell subject m s) _ (tt, u) e in
+    let one = next_cell_keeps m all.0 subject p.0 pending s p.1 b at held p.2 in
+    kept_also pending s u (kept_then nothing nothing s p.1 u one.0 (behind_keeps ms all.1 p.0 nothing p.1 u one.1 (nothing_at p.0) one.0.numbered p.3))
 
 list_term_keeps : (ms : List Meaning) → TermKeeps (list_term ms)
 list_term_keeps [] = stays_keeps _ (pure_stays nil (iri_apart rdf_nil))
 list_term_keeps (m ∷ ms) = fresh_keeps
 
 list_uses : (m : Meaning) (ms : List Meaning) → AllByRecursion Good (m ∷ ms) → Uses (list_inside (m ∷ ms))
-list_uses m ms all = then_uses (λ a. object a first m) (λ a. behind a ms) (object_uses first m all.0) (behind_keeps ms all.1)
+list_uses m ms all subject pending s u b at held e =
+    then_keeps (λ y. object y first m) (λ y. behind y ms) (object_uses first m all.0) (behind_keeps ms all.1) subject pending s u b at held e
 
 list_keeps : (ms : List Meaning) → AllByRecursion Good ms → InsideKeeps (list_inside ms)
 list_keeps [] all = nothing_keeps
@@ -307,10 +315,10 @@ all_good (p ∷ ps) = (properties_good p, all_good ps)
 -- ---- data
 
 abbrev Closed : Does (Unit {0}) → Type 0
-Closed f = (s u : Drafting) → Numbered [] s → f s ≡ Some (tt, u) → Numbered [] u
+Closed f = (s u : Drafting) → Numbered nothing s → f s ≡ Some (tt, u) → Numbered nothing u
 
 each_closed : (fs : List (Does (Unit {0}))) → AllByRecursion Closed fs → Closed (each (λ f. f) fs)
-each_closed [] all s u h e = subst (Numbered []) (ap (λ p. p.1) (same_Some _ _ e)) h
+each_closed [] all s u h e = subst (Numbered nothing) (ap (λ p. p.1) (same_Some _ _ e)) h
 each_closed (f ∷ fs) all s u h e =
     let p = then_parts (f s) _ (tt, u) e in
     each_closed fs all.1 p.1 u (all.0 s p.1 h p.2) p.3
@@ -319,17 +327,17 @@ each_closed (f ∷ fs) all s u h e =
 subject_closed : (d : Node) (ps : List Property) → (stands_alone d ≡ true) ⊎ (is_filled ps ≡ true) → Closed (subject_with d ps)
 subject_closed d ps (inl alone) s u h e =
     let p = then_parts ((meaning d).term s) _ (tt, u) e in
-    let o = (nodes_good d).good.term [] s p.1 p.0 h p.2 in
+    let o = (nodes_good d).good.term nothing s p.1 p.0 h p.2 in
     let q = then_parts ((meaning d).inside p.0 p.1) _ (tt, u) p.3 in
-    let r = (nodes_good d).alone alone p.0 [] p.1 q.1 o.2 o.0 q.2 in
-    (properties_keep (map property ps) (all_good ps) p.0 q.1 (below_on p.0 p.1 q.1 r.1 o.2) [] u r.0 q.3).0
+    let r = (nodes_good d).alone alone p.0 p.0 p.1 q.1 o.2 (λ k z. z) (only_last p.0 p.1 o.0) q.2 in
+    (properties_keep (map property ps) (all_good ps) p.0 nothing q.1 u (below_on p.0 p.1 q.1 r.grows o.2) (nothing_at p.0) r.numbered q.3).numbered
 subject_closed d [] (inr none) s u h e = absurd (cc none)
 subject_closed d (w ∷ ws) (inr there) s u h e =
     let p = then_parts ((meaning d).term s) _ (tt, u) e in
-    let o = (nodes_good d).good.term [] s p.1 p.0 h p.2 in
+    let o = (nodes_good d).good.term nothing s p.1 p.0 h p.2 in
     let q = then_parts ((meaning d).inside p.0 p.1) _ (tt, u) p.3 in
-    let r = (nodes_good d).good.inside p.0 p.1 o.2 (p.0 ∷ []) q.1 o.0 q.2 in
-    (properties_use _ _ (all_good (w ∷ ws)) p.0 [] q.1 u (below_on p.0 p.1 q.1 r.1 o.2) r.0 q.3).0
+    let r = (nodes_good d).good.inside p.0 p.0 p.1 q.1 o.2 (λ k z. z) (only_last p.0 p.1 o.0) q.2 in
+    (properties_use _ _ (all_good (w ∷ ws)) p.0 p.0 q.1 u (below_on p.0 p.1 q.1 r.grows o.2) (λ k z. z) r.numbered q.3).numbered
 
 either : (a b : Bool) → (a || b) ≡ true → (a ≡ true) ⊎ (b ≡ true)
 either true b e = inl refl
@@ -344,11 +352,12 @@ triples_closed ts = by (stands_alone ts.subject || is_filled ts.properties) refl
     by true h = subject_closed ts.subject ts.properties (either (stands_alone ts.subject) (is_filled ts.properties) h)
     by false h = λ s u numbered e. absurd (cc e)
 
-same_numbers : (s u : Drafting) → Numbered [] s → s.numbering ≡ u.numbering → s.patterns ≡ u.patterns → Numbered [] u
+same_numbers : (s u : Drafting) → Numbered nothing s → s.numbering ≡ u.numbering → s.patterns ≡ u.patterns → Numbered nothing u
 same_numbers s u h numbering patterns = record {
   covered = λ k l. elim (h.covered k (subst (λ z. k < z.next) (sym numbering) l)) [ inl y ↦ inl (subst (λ (z : List QuadPattern). Said z k) patterns y) | inr y ↦ inr y ];
   below = λ k y. subst (λ z. k < z.next) numbering (h.below k (subst (λ (z : List QuadPattern). Said z k) (sym patterns) y));
   labels = subst (λ z. AllByRecursion (λ e. e.1 < z.next) z.labels) numbering h.labels;
+  order = subst AreInOrder patterns h.order;
 }
 
 default_closed : Closed in_default
@@ -363,7 +372,7 @@ graph_closed : (name : Option written.VarOrIri) → Closed (graph name)
 graph_closed None s u h e = default_closed s u h e
 graph_closed (Some name) s u h e =
     let p = then_parts (var_or_iri name s) _ (tt, u) e in
-    graph_is_closed p.0 p.1 u (subst (Numbered []) (var_or_iri_same name s p.1 p.0 p.2) h) p.3
+    graph_is_closed p.0 p.1 u (subst (Numbered nothing) (var_or_iri_same name s p.1 p.0 p.2) h) p.3
 
 all_triples : (ts : List Triples) → AllByRecursion Closed (map triples ts)
 all_triples [] = tt
@@ -378,30 +387,48 @@ all_blocks : (bs : List Block) → AllByRecursion Closed (map block bs)
 all_blocks [] = tt
 all_blocks (b ∷ bs) = (block_closed b, all_blocks bs)
 
-start_numbered : (p : Prologue) → Numbered [] (start p)
+none_stands : {A : Type 0} (front back : List ℕ) (number : ℕ) → [] ≡ front ++ number ∷ back → A
+none_stands [] back number e = absurd (cc e)
+none_stands (k ∷ front) back number e = absurd (cc e)
+
+start_numbered : (p : Prologue) → Numbered nothing (start p)
 start_numbered p = record {
   covered = λ k l. absurd (let z : k < 0 = l in omega (arith, z));
   below = λ k h. absurd (let z : h.0 < 0 = h.1 in omega (arith, z));
   labels = tt;
+  order = λ front back number smaller e l. none_stands front back number e;
 }
 
-numbered_quads : (s : Drafting) → Numbered [] s → IsNumbered (quads s)
-numbered_quads s h = λ k. ((λ l. elim (h.covered k l) [ inl said ↦ said | inr none ↦ absurd none ]), (λ said. h.below k said))
+numbered_quads : (s : Drafting) → Numbered nothing s → IsNumbered (quads s)
+numbered_quads s h = λ k. ((λ l. elim (h.covered k l) [ inl said ↦ said | inr none ↦ absurd (variable_apart [] k none) ]), (λ said. h.below k said))
 
-all_numbered : (fs : List (Does (Unit {0}))) (p : Prologue) (q : Quads) → AllByRecursion Closed fs → option_map (λ z. quads z.1) (each (λ f. f) fs (start p)) ≡ Some q → IsNumbered q
-all_numbered fs p q closed e = by (each (λ f. f) fs (start p)) refl e
+-- what holds of each state that is numbered holds of what is said in the end
+said_in_the_end : (P : Quads → Type 0) → ((s : Drafting) → Numbered nothing s → P (quads s)) → (fs : List (Does (Unit {0}))) (p : Prologue) (q : Quads) → AllByRecursion Closed fs
+    → option_map (λ z. quads z.1) (each (λ f. f) fs (start p)) ≡ Some q → P q
+said_in_the_end P holds fs p q closed e = by (each (λ f. f) fs (start p)) refl e
   where
-    by : (r : Outcome Drafting (Unit {0})) → each (λ f. f) fs (start p) ≡ r → option_map (λ z. quads z.1) r ≡ Some q → IsNumbered q
+    by : (r : Outcome Drafting (Unit {0})) → each (λ f. f) fs (start p) ≡ r → option_map (λ z. quads z.1) r ≡ Some q → P q
     by None d e = absurd (cc e)
-    by (Some z) d e = subst IsNumbered (same_Some _ _ e) (numbered_quads z.1 (each_closed fs closed (start p) z.1 (start_numbered p) d))
+    by (Some z) d e = subst P (same_Some _ _ e) (holds z.1 (each_closed fs closed (start p) z.1 (start_numbered p) d))
+
+abbrev IsOrdered : Quads → Type 0
+IsOrdered q = AreInOrder q.patterns
 
 pub data_numbered : DataAreNumbered
 unfolding quads_in
-data_numbered bs p q e = all_numbered (map block bs) p q (all_blocks bs) e
+data_numbered bs p q e = said_in_the_end IsNumbered numbered_quads (map block bs) p q (all_blocks bs) e
 
 pub pattern_numbered : PatternsAreNumbered
 unfolding pattern_in
-pattern_numbered ts p q e = all_numbered (map triples ts) p q (all_triples ts) e
+pattern_numbered ts p q e = said_in_the_end IsNumbered numbered_quads (map triples ts) p q (all_triples ts) e
+
+pub data_in_order : DataComeInOrder
+unfolding quads_in
+data_in_order bs p q e = said_in_the_end IsOrdered (λ s h. h.order) (map block bs) p q (all_blocks bs) e
+
+pub pattern_in_order : PatternsComeInOrder
+unfolding pattern_in
+pattern_in_order ts p q e = said_in_the_end IsOrdered (λ s h. h.order) (map triples ts) p q (all_triples ts) e
 
 -- ---- below their count
 

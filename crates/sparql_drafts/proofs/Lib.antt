@@ -1,3 +1,4 @@
+mod AbbreviationLemmas
 mod BlankSteps
 pub mod CallerLemmas
 mod DraftsBelow

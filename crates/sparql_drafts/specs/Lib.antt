@@ -1,3 +1,4 @@
+pub mod Abbreviations
 pub mod Blanks
 pub mod Drafts
 pub mod Known

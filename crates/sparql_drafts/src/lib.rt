@@ -16,5 +16,8 @@ pub use known::{
     declare_prefix, unknown_all_triples, unknown_blocks, unknown_literal, unknown_name,
     unknown_var_or_iri,
 };
-pub use laws::blank_numbers_are_below;
+pub use laws::{
+    abbreviations_stand_for_triples, blank_numbers_are_below, declarations_are_in_force,
+    nodes_stand_for_terms,
+};
 pub use scope::Scope;

@@ -1,4 +1,5 @@
 pub mod CsvText
+pub mod Examples
 pub mod FormLaws
 pub mod Formats
 pub mod JsonReading

@@ -1,4 +1,5 @@
 //! What the texts of results tell.
+ghost use Rattle.sparql_results.specs.Examples.{CsvTable, JsonTable, TsvTable};
 ghost use Rattle.sparql_results.specs.FormLaws.{CsvTellsStrings, JsonTellsRows};
 ghost use Rattle.sparql_results.specs.JsonReading.{JsonTextsAreRead, JsonTextsAreReadOnce};
 ghost use Rattle.sparql_results.specs.RowLaws.{RowsDiffer};
@@ -24,4 +25,13 @@ pub fn json_tells_rows()
 pub fn json_texts_are_read()
     ensures read { JsonTextsAreRead }
     ensures once { JsonTextsAreReadOnce }
+{}
+
+/// The standards' own examples of results are written as they have them: those of TSV and CSV row by row, and those of JSON, with
+/// the canonical texts of terms and without white space (SPARQL 1.1 Query Results CSV and TSV Formats, sections 3 and 4; SPARQL 1.1
+/// Query Results JSON Format, sections 2 and 3).
+pub fn the_standards_results_are_written()
+    ensures tsv { TsvTable }
+    ensures csv { CsvTable }
+    ensures json { JsonTable }
 {}

@@ -21,5 +21,8 @@ pub use csv::{write_csv_header, write_csv_row};
 pub use format::{ResultsFormat, selections_have_parts};
 pub use header::write_header;
 pub use json::{json_boolean_text, json_end_text, write_json_header, write_json_row};
-pub use law::{csv_tells_strings, json_tells_rows, json_texts_are_read, rows_differ};
+pub use law::{
+    csv_tells_strings, json_tells_rows, json_texts_are_read, rows_differ,
+    the_standards_results_are_written,
+};
 pub use row::write_row;

@@ -1,2 +1,3 @@
+mod InScopeLemmas
 pub mod VisibleLemmas
 mod VisibleOrder

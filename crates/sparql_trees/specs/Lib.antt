@@ -1,4 +1,5 @@
 pub mod Data
+pub mod InScope
 pub mod Quads
 pub mod Visible
 pub mod VisibleLaws

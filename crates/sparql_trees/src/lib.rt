@@ -21,4 +21,6 @@ pub use operation::{GraphOrDefault, GraphRefAll, Operation, Request};
 pub use pattern::{BasicGraphPattern, Member, Pattern, TriplePattern, VarOrIri, VarOrTerm};
 pub use query::{Query, Select};
 pub use template::{Modify, QuadPattern, Template};
-pub use visible::{named_variables, one_list_of_visible_variables, visible_variables};
+pub use visible::{
+    forms_bring_into_scope, named_variables, one_list_of_visible_variables, visible_variables,
+};

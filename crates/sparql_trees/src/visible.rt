@@ -1,6 +1,7 @@
 //! The variables that a pattern shows, and those that it names (SPARQL 1.1 Query, section 18.2.1).
 ghost use Rattle.std.specs.Prelude.{◌≡◌, [], ◌∷◌, IfOk, OnOk, map};
 ghost use Rattle.std.specs.List.{flat_map};
+ghost use Rattle.sparql_trees.specs.InScope.{MinusNames, MinusShowsNone, ScopeTable};
 ghost use Rattle.sparql_trees.specs.Visible as spec;
 ghost use Rattle.sparql_trees.specs.VisibleLaws.{NamedAreSorted, OneVisible, VisibleAreSorted};
 
@@ -153,4 +154,15 @@ pub fn one_list_of_visible_variables()
     ensures sorted { VisibleAreSorted }
     ensures one { OneVisible }
     ensures named { NamedAreSorted }
+{}
+
+/// Which variables each form of a pattern brings into scope (the table of section 18.2.1): triples
+/// those that occur in them, a group those of its members, UNION those of its groups, OPTIONAL those
+/// of its group, GRAPH those of its group and its name, MINUS and FILTER none. So it is of those that
+/// a pattern names, but that those of MINUS's group are among them.
+pub fn forms_bring_into_scope()
+    ensures visible { ScopeTable spec.visible }
+    ensures named { ScopeTable spec.named }
+    ensures minus { MinusShowsNone }
+    ensures named_in_minus { MinusNames }
 {}

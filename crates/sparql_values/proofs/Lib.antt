@@ -1,7 +1,9 @@
 pub mod CallerLemmas
 mod FoldLemmas
 mod FormLemmas
+mod FormTableLemmas
 mod LawLemmas
+mod MappingLemmas
 mod NumberLemmas
 mod OperandLemmas
 mod ResultLemmas

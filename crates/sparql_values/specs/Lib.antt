@@ -1,5 +1,6 @@
 pub mod Laws
 pub mod Mapping
+pub mod MappingLaws
 pub mod Operands
 pub mod Scopes
 pub mod Tables

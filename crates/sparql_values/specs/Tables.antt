@@ -1,19 +1,21 @@
 -- The standard's tables, kind by kind of terms (SPARQL 1.1 Query, sections 17.1 to 17.4).
-use Rattle.std.specs.Prelude.{◌≡◌, ◌≢◌, ◌⊎◌, ℕ, ◌-◌, ◌^◌, ◌+◌, ℤ, pos, ◌+ℤ◌, ◌-ℤ◌, ◌*ℤ◌, neg_ℤ, int_lt, Bool, true, false, List, [], ◌∷◌, codes, Some, None}
+use Rattle.std.specs.Prelude.{◌≡◌, ◌≢◌, ◌⊎◌, ◌++◌, ℕ, ◌-◌, ◌^◌, ◌+◌, ℤ, pos, ◌+ℤ◌, ◌-ℤ◌, ◌*ℤ◌, neg_ℤ, int_lt, Bool, true, false, List, [], ◌∷◌, codes, Some, None}
 use Rattle.std.specs.Ordering.{int_eq}
 use Rattle.rdf_terms.specs.Integers.{integer_of, is_integer_form, fits_128_bits, written_integer}
 use Rattle.rdf_terms.specs.Literal.{LiteralParts, xsd_string}
 use Rattle.rdf_terms.specs.Vocabulary.{xsd_boolean, xsd_integer}
 use Rattle.rdf_terms.specs.declared.term.Term.{Term}
 use Rattle.rdf_terms.specs.declared.term.Term.TheVariants as t
+use Rattle.sparql_trees.specs.declared.expression.Comparison.{Comparison}
 use Rattle.sparql_trees.specs.declared.expression.Comparison.TheVariants.{Less, Greater, LessOrEqual, GreaterOrEqual}
 use Rattle.sparql_trees.specs.declared.expression.Expression.{Expression}
 use Rattle.sparql_trees.specs.declared.expression.Expression.TheVariants as e
+use Rattle.sparql_trees.specs.declared.expression.Function.{Function}
 use Rattle.sparql_trees.specs.declared.expression.Function.TheVariants.{IsIri, IsBlank, IsLiteral, Str, Lang, Datatype}
 use Rattle.sparql_trees.specs.declared.expression.Sign.{Sign}
 use Rattle.sparql_trees.specs.declared.expression.Sign.TheVariants.{Plus, Minus}
 use Rattle.sparql_values.specs.Mapping.{same_term}
-use Rattle.sparql_values.specs.Values.{Bindings, Value, number, boolean, text, opaque, resource, boolean_term, called, compared, effective, either, equal, has_datatype, integer_term, is_before, is_satisfied, is_written_false, is_written_true, less, number_in, operand, same_text, value}
+use Rattle.sparql_values.specs.Values.{Bindings, Value, number, boolean, text, opaque, resource, boolean_term, both, called, compared, effective, either, equal, has_datatype, integer_term, is_before, is_satisfied, is_written_false, is_written_true, less, negated, number_in, operand, same_text, truth, value}
 
 -- a literal without a tag
 abbrev pub literal : List ℕ → List ℕ → Term
@@ -178,3 +180,24 @@ pub record NumberTable (bindings : Bindings) : Type 0 where
   pub minus_past : (x : Expression) (n : ℤ) → number_in (value bindings x) ≡ Some n → fits_128_bits (neg_ℤ n) ≡ false →
       value bindings (e.Signed Minus x) ≡ None
   pub sign_without_number : (x : Expression) (sign : Sign) → number_in (value bindings x) ≡ None → value bindings (e.Signed sign x) ≡ None
+
+-- What each form of an expression makes of its parts: the operators of section 17.2 over effective boolean values, comparisons and functions over
+-- terms, and an error where a part is one
+pub record FormTable (bindings : Bindings) : Type 0 where
+  pub disjunction_of_one : (x : Expression) → truth (value bindings (e.Or (x ∷ []))) ≡ truth (value bindings x)
+  pub disjunction : (xs : List Expression) (x : Expression) →
+      truth (value bindings (e.Or (xs ++ x ∷ []))) ≡ either (truth (value bindings (e.Or xs))) (truth (value bindings x))
+  pub conjunction_of_one : (x : Expression) → truth (value bindings (e.And (x ∷ []))) ≡ truth (value bindings x)
+  pub conjunction : (xs : List Expression) (x : Expression) →
+      truth (value bindings (e.And (xs ++ x ∷ []))) ≡ both (truth (value bindings (e.And xs))) (truth (value bindings x))
+  pub negation : (x : Expression) → truth (value bindings (e.Not x)) ≡ negated (truth (value bindings x))
+  pub comparison : (c : Comparison) (x y : Expression) (s u : Term) → value bindings x ≡ Some s → value bindings y ≡ Some u →
+      truth (value bindings (e.Compare c x y)) ≡ compared c s u
+  pub comparison_with_error : (c : Comparison) (x y : Expression) → (value bindings x ≡ None) ⊎ (value bindings y ≡ None) → value bindings (e.Compare c x y) ≡ None
+  -- section 17.4.1.8
+  pub same_term_is : (x y : Expression) (s : Term) → value bindings x ≡ Some s → value bindings y ≡ Some s → value bindings (e.SameTerm x y) ≡ yes
+  pub same_term_is_not : (x y : Expression) (s u : Term) → value bindings x ≡ Some s → value bindings y ≡ Some u → s ≢ u → value bindings (e.SameTerm x y) ≡ no
+  pub same_term_with_error : (x y : Expression) → (value bindings x ≡ None) ⊎ (value bindings y ≡ None) → value bindings (e.SameTerm x y) ≡ None
+  pub call : (f : Function) (x : Expression) (s : Term) → value bindings x ≡ Some s → value bindings (e.Call f x) ≡ called f s
+  pub call_of_error : (f : Function) (x : Expression) → value bindings x ≡ None → value bindings (e.Call f x) ≡ None
+  pub constant : (s : Term) → value bindings (e.Term s) ≡ Some s

@@ -1,6 +1,7 @@
 //! What holds of the values of expressions.
 ghost use Rattle.sparql_values.specs.Laws.{EqualIsSymmetric, EqualToItself, LessOneWay, LogicTable, NotEqualNegates, NotTable, ProductsComeBack, SignedComeBack, SumsComeBack, TruthsComeBack};
-ghost use Rattle.sparql_values.specs.Tables.{BoundTable, EffectiveTable, EqualTable, FilterTable, FunctionTable, KindTable, LessTable, NoOrderTurned, NumberTable, OneOfThree, OrderTable, VariableTable};
+ghost use Rattle.sparql_values.specs.MappingLaws.{CompatibleLaws, MergeLaws, SameIsOne, SingleBinds};
+ghost use Rattle.sparql_values.specs.Tables.{BoundTable, EffectiveTable, EqualTable, FilterTable, FormTable, FunctionTable, KindTable, LessTable, NoOrderTurned, NumberTable, OneOfThree, OrderTable, VariableTable};
 ghost use Rattle.sparql_values.specs.Values.{Bindings};
 
 /// `||`, `&&` and `!` have the tables of section 17.2.
@@ -46,10 +47,22 @@ pub fn term_tables_hold()
 {}
 
 /// FILTER keeps what is true, neither false nor an error; an unbound variable is an error anywhere but
-/// in BOUND; arithmetic within 128 bits is that of whole numbers, past them an error (sections 17.2,
-/// 17.3 and 17.4.1.1).
+/// in BOUND; arithmetic within 128 bits is that of whole numbers, past them an error; `||` and `&&` go
+/// over the truths of their sides, a comparison, sameTerm and a function over terms, and an error in a
+/// part of these is one of the whole (sections 17.2, 17.3, 17.4.1.1 and 17.4.1.8).
 pub fn expression_tables_hold()
     ensures filters { (bindings : Bindings) → FilterTable bindings }
     ensures variables { (bindings : Bindings) → VariableTable bindings }
     ensures numbers { (bindings : Bindings) → NumberTable bindings }
+    ensures forms { (bindings : Bindings) → FormTable bindings }
+{}
+
+/// Two mappings are compatible where they have the same term at each variable that both bind; their
+/// merge is then their union, whichever comes first, and binds what one of them does. The mapping that
+/// binds nothing is compatible with each and adds nothing (sections 18.1.3 and 18.3).
+pub fn mappings_are_merged()
+    ensures same { SameIsOne }
+    ensures compatible { CompatibleLaws }
+    ensures merge { MergeLaws }
+    ensures single { SingleBinds }
 {}

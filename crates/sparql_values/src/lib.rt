@@ -17,6 +17,6 @@ mod value;
 pub use evaluator::is_satisfied;
 pub use laws::{
     comparison_tables_hold, comparisons_keep_their_laws, expression_tables_hold, logic_tables_hold,
-    results_are_read_back, term_tables_hold,
+    mappings_are_merged, results_are_read_back, term_tables_hold,
 };
 pub use mapping::column;
