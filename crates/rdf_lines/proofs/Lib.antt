@@ -19,6 +19,7 @@ mod ReaderLemmas
 mod RenamedLemmas
 mod RoundTripLemmas
 mod SharedLemmas
+mod SliceLemmas
 mod SortLemmas
 mod SoundLemmas
 mod StateCheckLemmas
@@ -28,8 +29,11 @@ mod StateSetLemmas
 mod StateWriteLemmas
 mod StatementSteps
 mod CallLemmas
+mod CanonicalLemmas
+mod SuffixSlices
 mod SuffixSteps
 mod TermLemmas
+mod WrittenFedLemmas
 mod WrittenLabelLemmas
 mod WrittenLineLemmas
 mod WrittenPartLemmas

@@ -69,6 +69,28 @@ abbrev pub Ends : Fed → Answer → Type 0
 Ends old (Ok quad) = (read : List ℕ) (quads : List Quad) → HasBeenFed read quads old → IsDocument old.format read (and_then quads quad) None
 Ends old (Err fault) = (read : List ℕ) (quads : List Quad) → HasBeenFed read quads old → StopsFed old.format read quads fault fault.kind
 
+-- All of a piece was taken, whose lines say these quads.
+pub record TakesAll (old : Fed) (piece : List ℕ) (more : List Quad) (new : Fed) : Type 0 where
+  pub format : new.format ≡ old.format
+  pub number : new.number ≤ old.number + length piece
+  pub fed : (read : List ℕ) (quads : List Quad) → HasBeenFed read quads old → HasBeenFed (read ++ piece) (quads ++ more) new
+
+-- the document of a text has these quads first
+abbrev pub BeginsWith : LineFormat → List ℕ → List Quad → Type 0
+BeginsWith format text quads = (others : List Quad) × (ending : Option LineFault) × IsDocument format text (quads ++ others) ending
+
+-- The piece has a fault behind these quads, however the text goes on.
+abbrev pub FaultsBehind : Fed → List ℕ → List Quad → LineFault → Type 0
+FaultsBehind old piece more fault =
+    (read : List ℕ) (quads : List Quad) (beyond : List ℕ) → HasBeenFed read quads old
+    → StopsFed old.format (read ++ (piece ++ beyond)) (quads ++ more) fault fault.kind × BeginsWith old.format (read ++ (piece ++ beyond)) (quads ++ more)
+
+-- The text has ended: its last line says these quads, or has a fault behind them.
+abbrev pub EndsBehind : Fed → List Quad → Result (Unit {0}) LineFault → Type 0
+EndsBehind old more (Ok u) = (read : List ℕ) (quads : List Quad) → HasBeenFed read quads old → IsDocument old.format read (quads ++ more) None
+EndsBehind old more (Err fault) =
+    (read : List ℕ) (quads : List Quad) → HasBeenFed read quads old → StopsFed old.format read (quads ++ more) fault fault.kind × BeginsWith old.format read (quads ++ more)
+
 -- However the text goes on, its document has these quads first.
 abbrev pub FedBegins : Type 0
 FedBegins = (read : List ℕ) (quads : List Quad) (f : Fed) (beyond : List ℕ) → HasBeenFed read quads f

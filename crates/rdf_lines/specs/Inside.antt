@@ -1,1 +1,2 @@
 pub mod StateListing
+pub mod Slices

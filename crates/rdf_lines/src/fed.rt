@@ -5,6 +5,8 @@ ghost use Rattle.rdf_lines.specs.FaultName.{no_memory};
 ghost use Rattle.rdf_lines.specs.Pieces.{HasNoLine};
 ghost use Rattle.rdf_lines.specs.Reader.{ReadsLine};
 
+mod writing;
+
 use crate::cut::{feed_len, whole_line};
 use crate::fault::{FaultKind, LineFault};
 use crate::format::LineFormat;

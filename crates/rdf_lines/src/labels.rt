@@ -32,8 +32,8 @@ impl Labels {
         }
     }
 
-    // The label's number.
-    fn number(&mut self, label: Text) -> Result<u64, NoMemory>
+    /// The label's number.
+    pub(crate) fn number(&mut self, label: Text) -> Result<u64, NoMemory>
         ensures { IfOk result (λ n. (self.new ≡ noted self.old label)
             × (n ≡ number_of self.new label)) }
     {

@@ -6,6 +6,8 @@
 //! isn't needed.
 #![tactic(auto)]
 
+mod canonical;
+mod copied;
 mod cut;
 mod examples;
 mod fault;
@@ -22,6 +24,7 @@ mod progress;
 mod reader;
 mod round_trip;
 mod shared;
+mod slices;
 mod state;
 mod state_text;
 mod statement;

@@ -1,13 +1,16 @@
 //! A whole line.
-ghost use Rattle.std.specs.Prelude.{◌≡◌, IfOk};
+ghost use Rattle.std.specs.Prelude.{◌≡◌, IfOk, IfSome, Ok, Some};
 ghost use Rattle.rdf_lines.specs.Reading as reading;
-ghost use Rattle.rdf_lines.specs.Line.{LineTells, OneAnswer, SomeAnswer, StatementsAreSound};
+ghost use Rattle.rdf_lines.specs.Inside.Slices.{AreSlices};
+ghost use Rattle.rdf_lines.specs.declared.statement.Statement.{Statement};
+ghost use Rattle.rdf_lines.specs.Line.{LineSays, LineTells, OneAnswer, SomeAnswer, StatementsAreSound};
 
 use crate::fault::FaultKind;
 use crate::format::LineFormat;
 use crate::literal::object;
 use crate::name::{first_is, skip_white};
 use crate::node::node;
+use crate::slices::{StatementSlices, statement_slices};
 use crate::statement::Statement;
 use crate::suffixes::Suffixes;
 use crate::written::{WrittenNode, WrittenObject, WrittenStatement};
@@ -15,7 +18,7 @@ use rdf_terms::{Cursor, IriReference, NoMemory};
 use std::alloc::Global;
 use std::str;
 
-fn may_name_graph(format: LineFormat) -> bool
+pub(crate) fn may_name_graph(format: LineFormat) -> bool
     ensures { result ≡ reading.may_name_graph format }
 {
     match format {
@@ -25,7 +28,7 @@ fn may_name_graph(format: LineFormat) -> bool
 }
 
 #[tactic(auto, unfolding(crate::specs::Reading::begins_node))]
-fn begins_node(at: &Cursor<'_>) -> bool
+pub(crate) fn begins_node(at: &Cursor<'_>) -> bool
     ensures { result ≡ reading.begins_node at.now }
 {
     first_is(at, '<') || first_is(at, '_')
@@ -62,7 +65,7 @@ fn is_end(at: &Cursor<'_>) -> bool
 
 /// Whether a dot stands here, and the end of the line behind it.
 #[tactic(auto, unfolding(crate::specs::Reading::stops_at))]
-fn stops(at: &Cursor<'_>) -> bool
+pub(crate) fn stops(at: &Cursor<'_>) -> bool
     ensures { result ≡ reading.stops_at at.now }
 {
     let mut rest = at.fork();
@@ -133,6 +136,22 @@ fn statement(
         object,
         graph,
     }))
+}
+
+/// The statement of a line, given without its line end, as it stands there: where its IRIs and literals are written as
+/// canonical form writes them. `None` tells nothing of the line.
+pub(crate) fn line_slices<'a>(format: LineFormat, line: &'a [u8]) -> Option<StatementSlices<'a>>
+    ensures { IfSome result (λ slices. (s : Statement) × LineSays format line.now (Ok (Some s))
+        × AreSlices slices s) }
+{
+    let Ok(text) = str::from_utf8(line) else {
+        return None;
+    };
+    let start = Cursor::new(text);
+    if is_end(&start) {
+        return None;
+    }
+    statement_slices(format, &start)
 }
 
 /// What a line says, given without its line end: nothing, or one statement. The literal's tag is in lower case, and a

@@ -1,5 +1,5 @@
 //! Gaps, and the labels of blank nodes.
-ghost use Rattle.std.specs.Prelude.{◌≡◌, IfOk};
+ghost use Rattle.std.specs.Prelude.{◌≡◌, IfOk, MatchOption, Some, None};
 ghost use Rattle.rdf_lines.specs.Grammar as grammar;
 ghost use Rattle.rdf_terms.specs.Dotted.{dotted_at};
 ghost use Rattle.rdf_terms.specs.Skips.{one_of};
@@ -62,23 +62,27 @@ fn label_end<'a>(at: &Cursor<'a>) -> Option<Cursor<'a>>
     }
 }
 
-/// BLANK_NODE_LABEL: a label without its `_:`, and the place behind it.
+/// BLANK_NODE_LABEL: a label without its `_:`, as it stands in the line; and the place behind it.
 #[tactic(auto, unfolding(crate::specs::Reading::label_at, crate::specs::Reading::name_at))]
+pub fn label_slice<'a>(at: &Cursor<'a>) -> Option<(&'a str, Cursor<'a>)>
+    ensures { MatchOption result (label_at at.now ≡ None) (λ r. label_at at.now
+        ≡ Some (r.0.now, r.1)) }
+{
+    let colon = at.expect('_')?;
+    let name = colon.expect(':')?;
+    let rest = label_end(&name)?;
+    Some((name.text_up_to(&rest), rest))
+}
+
+/// The same, with the label's text.
 pub fn blank_node_label<'a>(
     alloc: Global,
     at: &Cursor<'a>,
 ) -> Result<Option<(Text, Cursor<'a>)>, NoMemory>
     ensures { IfOk result (λ r. r ≡ label_at at.now) }
 {
-    let Some(colon) = at.expect('_') else {
+    let Some((label, rest)) = label_slice(at) else {
         return Ok(None);
     };
-    let Some(name) = colon.expect(':') else {
-        return Ok(None);
-    };
-    let Some(rest) = label_end(&name) else {
-        return Ok(None);
-    };
-    let label = Text::new(alloc, name.text_up_to(&rest))?;
-    Ok(Some((label, rest)))
+    Ok(Some((Text::new(alloc, label)?, rest)))
 }

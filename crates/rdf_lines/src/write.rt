@@ -33,8 +33,8 @@ fn append_quad(quad: &Quad, out: &mut Vec<u8>) -> Result<(), NoMemory>
     Ok(())
 }
 
-// The term, and a space.
-fn append_term(term: &Term, out: &mut Vec<u8>) -> Result<(), NoMemory>
+/// Appends the term, and a space.
+pub(crate) fn append_term(term: &Term, out: &mut Vec<u8>) -> Result<(), NoMemory>
     ensures ok { OnOk result (out.new.items ≡ out.old.items ++ (term_text term.now ++ codes " ")) }
     ensures kept { take (length out.old.items) out.new.items ≡ out.old.items }
 {
