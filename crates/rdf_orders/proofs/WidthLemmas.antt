@@ -14,7 +14,9 @@ use Rattle.std.specs.BTreeSet.{BTreeSet, contains, Updates, IsFromIterResult}
 use Rattle.rdf_orders.specs.declared.order.Order.{Order}
 use Rattle.rdf_orders.specs.declared.order.Order.TheVariants.{Spo, Pos, Osp}
 use Rattle.rdf_orders.specs.Quads.{key_in, key_cmp, quad_of}
-use Rattle.rdf_orders.specs.Inside.Widths.{IsNarrow, floor_key, GainsOne, LosesOne}
+use Rattle.rdf_orders.specs.declared.key_tree.Nodes.{Nodes}
+use Rattle.rdf_orders.specs.declared.key_tree.Nodes.TheVariants.{Narrow}
+use Rattle.rdf_orders.specs.Inside.Widths.{IsNarrow, floor_key, tree_in, FitTheirWidth, GainsOne, LosesOne}
 use Rattle.rdf_orders.proofs.AheadLemmas.{held_where, held_each}
 use Rattle.rdf_orders.proofs.TestLemmas.{both, is_either, or_of_cond, and_of_cond, cases}
 use Rattle.rdf_orders.proofs.TreeLemmas.{same_key}
@@ -118,6 +120,10 @@ filter_each p q (k ∷ ks) a same = λ i. cond (same k a.0 i) (k ∷ filter_each
 abbrev HasNarrow : BTreeSet (List ℕ) → Type 0
 HasNarrow tree = (k : List ℕ) → contains key_cmp tree k ≡ true → IsNarrow k
 
+-- a tree whose nodes are narrow is seen with narrow keys
+pub narrow_view : (nodes : Nodes) (seen tree : BTreeSet (List ℕ)) → FitTheirWidth nodes → tree_in nodes ≡ seen → nodes ≡ Narrow tree → HasNarrow seen
+narrow_view nodes seen tree fit view is = subst HasNarrow (ap tree_in (sym is) ∙ view) (subst FitTheirWidth is fit)
+
 pub each_narrow : (tree : BTreeSet (List ℕ)) → HasNarrow tree → AllByRecursion IsNarrow tree.keys
 each_narrow tree narrow = held_each IsNarrow tree.keys narrow
 
@@ -166,8 +172,8 @@ gained_wide old copy new key same u k = gained copy new key key refl u k ∙ ap 
 
 narrow_arranged : (order : Order) (k : List ℕ) → IsNarrow k → IsNarrow (key_in order (quad_of k))
 narrow_arranged Spo (a ∷ b ∷ c ∷ d ∷ []) n = n
-narrow_arranged Pos (a ∷ b ∷ c ∷ d ∷ []) n = record { four = refl; fits = (n.fits.0, n.fits.1.1.0, n.fits.1.1.1.0, n.fits.1.0, tt) }
-narrow_arranged Osp (a ∷ b ∷ c ∷ d ∷ []) n = record { four = refl; fits = (n.fits.0, n.fits.1.1.1.0, n.fits.1.0, n.fits.1.1.0, tt) }
+narrow_arranged Pos (a ∷ b ∷ c ∷ d ∷ []) n = record { four = refl; fits = (n.fits.0, (n.fits.1.1.0, (n.fits.1.1.1.0, (n.fits.1.0, tt)))) }
+narrow_arranged Osp (a ∷ b ∷ c ∷ d ∷ []) n = record { four = refl; fits = (n.fits.0, (n.fits.1.1.1.0, (n.fits.1.0, (n.fits.1.1.0, tt)))) }
 narrow_arranged order [] n = let four = n.four in absurd (omega arith)
 narrow_arranged order (a ∷ []) n = let four = n.four in absurd (omega arith)
 narrow_arranged order (a ∷ b ∷ []) n = let four = n.four in absurd (omega arith)
@@ -185,7 +191,7 @@ floors_same : (order : Order) (ks : List (List ℕ)) → AllByRecursion IsNarrow
 floors_same order [] a = refl
 floors_same order (k ∷ ks) a = λ i. floor_narrow (arranged order k) (narrow_arranged order k a.0) i ∷ floors_same order ks a.1 i
 
-all_joined : (xs ys : List (List ℕ)) → AllByRecursion IsNarrow xs → AllByRecursion IsNarrow ys → AllByRecursion IsNarrow (xs ++ ys)
+pub all_joined : (xs ys : List (List ℕ)) → AllByRecursion IsNarrow xs → AllByRecursion IsNarrow ys → AllByRecursion IsNarrow (xs ++ ys)
 all_joined [] ys a b = b
 all_joined (x ∷ xs) ys a b = (a.0, all_joined xs ys a.1 b)
 
@@ -204,7 +210,3 @@ module _ (order : Order) (spo tree : BTreeSet (List ℕ)) (quads : List (List �
 pub built_alone : (order : Order) (spo tree : BTreeSet (List ℕ)) → IsFromIterResult key_cmp (map (arranged order) (spo.keys ++ [])) tree
     → (k : List ℕ) → contains key_cmp tree k ≡ list_any (eq_by_cmp key_cmp k) (map (arranged order) spo.keys)
 built_alone order spo tree built k = built.0 k ∙ ap (λ ks. list_any (eq_by_cmp key_cmp k) (map (arranged order) ks)) (append-nil spo.keys)
-
--- a key is narrow by its numbers
-pub narrow_by_four : (k : List ℕ) (a b c d : ℕ) → k ≡ a ∷ b ∷ c ∷ d ∷ [] → a < 2 ^ 32 → b < 2 ^ 32 → c < 2 ^ 32 → d < 2 ^ 32 → IsNarrow k
-narrow_by_four k a b c d e fa fb fc fd = subst IsNarrow (sym e) (record { four = refl; fits = (fa, fb, fc, fd, tt) })

@@ -31,8 +31,8 @@ pub(crate) fn find_graph(table: &TermTable, graph: &GraphName) -> Option<u64>
     match graph {
         GraphName::Default => Some(DEFAULT),
         GraphName::Named(name) => {
-            let name = find_term(table, name)?;
-            Some(name + 1)
+            let number = find_term(table, name)?;
+            Some(number + 1)
         }
     }
 }
@@ -85,9 +85,9 @@ pub(crate) fn number_graph(table: &mut TermTable, graph: &GraphName) -> Result<u
     let GraphName::Named(name) = graph else {
         return Ok(DEFAULT);
     };
-    let name = number_term(table, name)?;
+    let number = number_term(table, name)?;
     terms_are_held_once(table);
-    Ok(name + 1)
+    Ok(number + 1)
 }
 
 // The number of a graph, which is that of another one where the two are equal.
