@@ -7,8 +7,7 @@ use Rattle.std.specs.declared.cmp.Ordering.TheVariants.{Less, Equal, Greater}
 use Rattle.std.specs.declared.ops.Bound.{Bound}
 use Rattle.std.specs.declared.ops.Bound.TheVariants.{Included, Excluded, Unbounded}
 use Rattle.std.specs.Ordering.{nat_cmp, ordering_then, is_eq, is_lt, is_le, eq_by_cmp, MatchOrdering}
-use Rattle.std.specs.Cmp.{ranks, both_ways, Equal-is}
-use Rattle.std.specs.BTreeMap.{is_at}
+use Rattle.std.specs.Cmp.{ranks}
 use Rattle.std.specs.BTreeMap.Range.{range_contains}
 use Rattle.std.specs.BTreeSet.{BTreeSet, contains, Updates, IsFromIterResult}
 use Rattle.rdf_orders.specs.declared.order.Order.{Order}
@@ -18,7 +17,7 @@ use Rattle.rdf_orders.specs.declared.key_tree.Nodes.{Nodes}
 use Rattle.rdf_orders.specs.declared.key_tree.Nodes.TheVariants.{Narrow}
 use Rattle.rdf_orders.specs.Inside.Widths.{IsNarrow, floor_key, tree_in, FitTheirWidth, GainsOne, LosesOne}
 use Rattle.rdf_orders.proofs.AheadLemmas.{held_where, held_each}
-use Rattle.rdf_orders.proofs.TestLemmas.{both, is_either, or_of_cond, and_of_cond, cases}
+use Rattle.rdf_orders.proofs.TestLemmas.{is_either, or_of_cond, and_of_cond, cases}
 use Rattle.rdf_orders.proofs.TreeLemmas.{same_key}
 
 abbrev Fits : List ℕ → Type 0
