@@ -1,8 +1,7 @@
 -- Numbers of terms and quads in a table that grows.
-use Rattle.std.proofs.Common.{◌≡◌, ℕ, zero, suc, ◌+◌, ◌<◌, ◌^◌, true, false, cond, List, [], ◌∷◌, ◌++◌, length, refl, sym, ap, subst, ◌∙◌, arith, add-one}
+use Rattle.std.proofs.Common.{◌≡◌, ℕ, zero, suc, ◌+◌, true, false, cond, List, [], ◌∷◌, ◌++◌, refl, sym, ap, subst, ◌∙◌, add-one}
 use Rattle.std.specs.Prelude.{Option, None, Some, unwrap_or, IsTrue}
 use mathlib.Core.Bool.{true≢false}
-use Rattle.std.proofs.lemmas.Option.{slice_get_within}
 use Rattle.std.specs.Ordering.{eq_by_cmp}
 use Rattle.rdf_terms.specs.declared.term.Term.{Term}
 use Rattle.rdf_terms.specs.declared.term.Term.TheVariants.{Blank}
@@ -51,17 +50,6 @@ grown_with table x = elim (is_held table x) as (λ b. IsGrown table (cond b tabl
 
 -- ---- graphs
 
--- a number of a table leaves room for one more
-pub room : (table : List Term) (id : ℕ) (t : Term) → length table < 2 ^ 63 → IsIdOf table id t → id + 1 < 2 ^ 64
-room table id t few e = let within = slice_get_within table id t e in omega arith
-
-pub named_number : (table : List Term) (id : ℕ) (g : GraphName) (t : Term) → g ≡ Named t → IsIdOf table id t → IsGraphNumber table (id + 1) g
-named_number table id g t e is = rw (e, add-one id) is
-
-pub unnamed : (table : List Term) (g : GraphName) (t : Term) → g ≡ Named t → ((id : ℕ) → ¬ IsIdOf table id t) → (id : ℕ) → ¬ IsGraphNumber table id g
-unnamed table g t e none zero is = subst (IsGraphNumber table 0) e is
-unnamed table g t e none (suc id) is = none id (subst (IsGraphNumber table (suc id)) e is)
-
 pub graph_grown : (old new : List Term) → IsGrown old new → (id : ℕ) (g : GraphName) → IsGraphNumber old id g → IsGraphNumber new id g
 graph_grown old new grown zero Default e = tt
 graph_grown old new grown zero (Named t) e = absurd e
@@ -87,9 +75,6 @@ graph_once table once (suc i) (suc j) Default e f = absurd e
 graph_once table once (suc i) (suc j) (Named t) e f = ap suc (once i j t e f)
 
 -- a number that isn't 0 is that of a graph with a name
-pub name_kept : (table : List Term) (number id : ℕ) → number ≡ id + 1 → IsGraphNumber table number (graph_at table number) → IsIdOf table id (term_at table id)
-name_kept table number id e is = subst (λ n. IsGraphNumber table n (graph_at table n)) (e ∙ add-one id) is
-
 pub name_is : (table : List Term) (number id : ℕ) → number ≡ id + 1 → Named (term_at table id) ≡ graph_at table number
 name_is table number id e = sym (ap (graph_at table) (e ∙ add-one id))
 

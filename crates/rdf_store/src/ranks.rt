@@ -124,11 +124,7 @@ impl<'t> Ranks<'t> {
     }
 
     // The graphs' names, the subjects and the predicates of the quads that have the keys, in order.
-    fn of_fronts(
-        alloc: Global,
-        table: &'t TermTable,
-        keys: &KeyTree,
-    ) -> Result<Ranks<'t>, NoMemory>
+    fn of_fronts(alloc: Global, table: &'t TermTable, keys: &KeyTree) -> Result<Ranks<'t>, NoMemory>
         requires { All (λ key. HasTerms table.now (quad_of key)) keys.now.keys }
         ensures { IfOk result (λ ranks. AreRanked table.now ranks.terms.items) }
     {
@@ -320,11 +316,7 @@ fn quads_by_rank(
 }
 
 // The quads that have these keys in `Spo`, in order: their terms are compared as often as they are.
-fn quads_by_term(
-    alloc: Global,
-    table: &TermTable,
-    keys: &KeyTree,
-) -> Result<Vec<Quad>, NoMemory>
+fn quads_by_term(alloc: Global, table: &TermTable, keys: &KeyTree) -> Result<Vec<Quad>, NoMemory>
     requires { All (λ key. HasTerms table.now (quad_of key)) keys.now.keys }
     ensures same { IfOk result (λ quads.
         IsPermutation (map (parts_of table.now) keys.now.keys) quads.items) }
