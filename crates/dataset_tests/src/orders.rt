@@ -1,5 +1,5 @@
 //! Look-ups in three orders.
-use rdf_orders::{Key, Order, QuadSets, Walk, look_up};
+use rdf_orders::{Order, Orders, QuadSets, Walk, look_up};
 use rdf_terms::NoMemory;
 use std::alloc::Global;
 
@@ -37,5 +37,61 @@ fn other_bound_places(rt: HostRuntime) -> Result<(), NoMemory> {
     );
     assert!(rt; out.as_slice() == [[0, 1, 2, 3], [0, 1, 2, 4], [0, 5, 2, 3]].as_slice());
     assert_eq!(rt; sets.matches(alloc, 1, None, None, None, &mut out)?, 0);
+    Ok(())
+}
+
+// A number that doesn't fit 32 bits, and is 1 if it is cut.
+const PAST: u64 = (1 << 32) + 1;
+
+#[test]
+fn a_number_past_32_bits(rt: HostRuntime) -> Result<(), NoMemory> {
+    let alloc = rt.alloc();
+    let mut sets = three(alloc)?;
+    let mut out = Vec::new(alloc);
+    assert_eq!(rt;
+        sets.matches(alloc, 0, Some(PAST), None, None, &mut out)?,
+        0
+    );
+    assert!(rt; !sets.contains(&[0, PAST, 2, 3]) && !sets.remove(&[0, PAST, 2, 3]));
+    assert!(rt; sets.insert(&[0, PAST, 2, 3])?);
+    assert_eq!(rt;
+        sets.matches(alloc, 0, None, Some(2), Some(3), &mut out)?,
+        3
+    );
+    assert!(rt; out.as_slice() == [[0, 1, 2, 3], [0, 5, 2, 3], [0, PAST, 2, 3]].as_slice());
+    assert!(rt; sets.remove(&[0, 1, 2, 3]) && !sets.remove(&[0, 1, 2, 3]));
+    assert!(rt; sets.contains(&[0, PAST, 2, 3]) && sets.contains(&[0, 5, 2, 3]));
+    Ok(())
+}
+
+#[test]
+fn keys_ahead_of_a_number_past_32_bits(rt: HostRuntime) -> Result<(), NoMemory> {
+    let alloc = rt.alloc();
+    let sets = three(alloc)?;
+    let mut walk = Walk::over(&sets);
+    let next = walk.next_in(Order::Spo, &[0], Some(&[0, 1, PAST, 0]));
+    assert!(rt; next == Some([0, 5, 2, 3]));
+    assert!(rt;
+        walk.next_in(Order::Spo, &[0], Some(&[0, PAST, 0, 0]))
+            .is_none()
+    );
+    assert!(rt; walk.next_in(Order::Spo, &[0], Some(&[0, 1, 2, 2])) == Some([0, 1, 2, 3]));
+    Ok(())
+}
+
+#[test]
+fn a_list_with_a_number_past_32_bits(rt: HostRuntime) -> Result<(), NoMemory> {
+    let alloc = rt.alloc();
+    let mut sets = three(alloc)?;
+    let list = vec![in alloc; [0, 6, 2, PAST], [0, 6, 2, 3], [0, 1, 7, 3]]?;
+    sets.insert_list(list, &[])?;
+    let mut out = Vec::new(alloc);
+    assert_eq!(rt; sets.matches(alloc, 0, Some(6), None, None, &mut out)?, 2);
+    assert_eq!(rt;
+        sets.matches(alloc, 0, Some(1), None, Some(3), &mut out)?,
+        2
+    );
+    let found = [[0, 6, 2, 3], [0, 6, 2, PAST], [0, 1, 2, 3], [0, 1, 7, 3]];
+    assert!(rt; out.as_slice() == found.as_slice());
     Ok(())
 }

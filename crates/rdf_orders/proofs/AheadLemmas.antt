@@ -33,7 +33,7 @@ tied : (k : List ℕ) → eq_by_cmp key_cmp k k ≡ true
 tied k = ap is_eq (tied_itself key_cmp_total k)
 
 -- what holds of each key of a list holds of one that is found there
-held_where : (P : List ℕ → Type 0) (k : List ℕ) (ks : List (List ℕ)) → AllByRecursion P ks → finds k ks ≡ true → P k
+pub held_where : (P : List ℕ → Type 0) (k : List ℕ) (ks : List (List ℕ)) → AllByRecursion P ks → finds k ks ≡ true → P k
 held_where P k [] a e = absurd (true≢false (sym e))
 held_where P k (x ∷ ks) a e = elim (is_either (eq_by_cmp key_cmp k x) (finds k ks) e) [
   | inl it ↦ subst P (sym (same_key k x it)) a.0
@@ -41,7 +41,7 @@ held_where P k (x ∷ ks) a e = elim (is_either (eq_by_cmp key_cmp k x) (finds k
 ]
 
 -- and what holds of each that is found holds of each
-held_each : (P : List ℕ → Type 0) (ks : List (List ℕ)) → ((k : List ℕ) → finds k ks ≡ true → P k) → AllByRecursion P ks
+pub held_each : (P : List ℕ → Type 0) (ks : List (List ℕ)) → ((k : List ℕ) → finds k ks ≡ true → P k) → AllByRecursion P ks
 held_each P [] h = tt
 held_each P (k ∷ ks) h = (h k (either_first _ _ (tied k)), held_each P ks (λ x e. h x (either_second (eq_by_cmp key_cmp x k) _ e)))
 

@@ -7,3 +7,4 @@ mod NextLemmas
 mod SetLemmas
 mod TestLemmas
 mod TreeLemmas
+mod WidthLemmas

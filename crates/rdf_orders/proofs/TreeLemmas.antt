@@ -7,7 +7,7 @@ use borrow.Author.Tests.{eqb-true}
 use Rattle.std.proofs.lemmas.List.{map-append}
 use Rattle.std.specs.Bool.{OnFalse}
 use Rattle.std.specs.BTreeMap.{is_at}
-use Rattle.std.specs.BTreeSet.{BTreeSet, contains, Updates}
+use Rattle.std.specs.BTreeSet.{BTreeSet, contains}
 use Rattle.std.specs.List.{AllByRecursion, list_any}
 use Rattle.std.specs.List.Sorted.{IsStrictlySortedBy}
 use Rattle.std.specs.Ordering.{is_eq, eq_by_cmp}
@@ -19,11 +19,12 @@ use Rattle.rdf_orders.specs.declared.order.Order.TheVariants.{Spo, Pos, Osp}
 use Rattle.rdf_orders.specs.declared.trees.Trees.{Trees}
 use Rattle.rdf_orders.specs.Quads.{IdQuad, IdQuads, key_in, quad_at, quad_of, quads_of, key_cmp, id_quad_cmp}
 use Rattle.rdf_orders.specs.Inside.Mirror.{is_key_of, has_key, quads_in, Mirrors, AreBuiltOn, GainsSome, LosesKey}
+use Rattle.rdf_orders.specs.Inside.Widths.{GainsOne, LosesOne}
 use Rattle.rdf_orders.specs.Contents.{ListsKeys}
 use Rattle.rdf_terms.specs.Lists.{ListsSorted}
 use Rattle.rdf_orders.proofs.KeyLemmas.{key_cmp_total, id_quad_cmp_total, id_quad_cmp-IsAntisymmetric, quad_at-key_in, same_from_eq, eq_from_same}
 use Rattle.rdf_orders.proofs.SetLemmas.{joined, lists_sorted, tie_turned}
-use Rattle.rdf_orders.proofs.TestLemmas.{both, first_of_both, second_of_both, is_either, either_first, either_second, false_of_absurd, not_both, and_false, spread, or_of_cond, and_of_cond}
+use Rattle.rdf_orders.proofs.TestLemmas.{both, first_of_both, second_of_both, is_either, either_first, either_second, false_of_absurd, not_both, and_false, spread}
 
 -- ---- keys and quads
 
@@ -176,11 +177,11 @@ mirrors_nothing trees spo pos osp = record { keys = λ order k. has_none order k
     has_none Osp k = ap (list_any (is_at (key_cmp k))) osp
 
 -- a tree that a key came into, or went out of
-pub gains_key : (old new : BTreeSet (List ℕ)) (key x : List ℕ) → key ≡ x → Updates key_cmp old new key true → (k : List ℕ) → contains key_cmp new k ≡ (is_eq (key_cmp x k) || contains key_cmp old k)
-gains_key old new key x is u k = u.0 k ∙ or_of_cond (is_eq (key_cmp key k)) (contains key_cmp old k) ∙ ap (λ y. is_eq (key_cmp y k) || contains key_cmp old k) is
+pub gains_key : (old new : BTreeSet (List ℕ)) (key x : List ℕ) → key ≡ x → GainsOne old new key → (k : List ℕ) → contains key_cmp new k ≡ (is_eq (key_cmp x k) || contains key_cmp old k)
+gains_key old new key x is u k = u k ∙ ap (λ y. is_eq (key_cmp y k) || contains key_cmp old k) is
 
-pub loses_key : (old new : BTreeSet (List ℕ)) (key x : List ℕ) → key ≡ x → Updates key_cmp old new key false → (k : List ℕ) → contains key_cmp new k ≡ (not (is_eq (key_cmp x k)) && contains key_cmp old k)
-loses_key old new key x is u k = u.0 k ∙ and_of_cond (is_eq (key_cmp key k)) (contains key_cmp old k) ∙ ap (λ y. not (is_eq (key_cmp y k)) && contains key_cmp old k) is
+pub loses_key : (old new : BTreeSet (List ℕ)) (key x : List ℕ) → key ≡ x → LosesOne old new key → (k : List ℕ) → contains key_cmp new k ≡ (not (is_eq (key_cmp x k)) && contains key_cmp old k)
+loses_key old new key x is u k = u k ∙ ap (λ y. not (is_eq (key_cmp y k)) && contains key_cmp old k) is
 
 module _ (old new : Trees) (q : IdQuad) where
   -- trees that gained the quad's key in each order

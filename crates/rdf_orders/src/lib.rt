@@ -6,8 +6,11 @@
 //! caller's.
 #![tactic(auto)]
 
+mod key_iters;
+mod key_tree;
 mod laws;
 mod look_ups;
+mod narrow;
 mod next;
 mod order;
 mod orders;
@@ -15,6 +18,8 @@ mod quad_sets;
 mod trees;
 mod walk;
 
+pub use key_iters::KeyIter;
+pub use key_tree::KeyTree;
 pub use laws::matching_quads_stand_together;
 pub use look_ups::look_up;
 pub use order::{Key, Order};

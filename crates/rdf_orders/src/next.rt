@@ -6,9 +6,9 @@ ghost use Rattle.rdf_orders.specs.Runs.{BeginsWith};
 ghost use Rattle.rdf_orders.specs.Inside.Ahead.{AreKeysAhead};
 ghost use Rattle.rdf_orders.specs.Inside.Starts.{StartsRun};
 
+use crate::key_iters::KeyRange;
 use crate::order::{Key, Order};
 use crate::quad_sets::QuadSets;
-use std::collections::btree_set::Range;
 use std::ops::Bound;
 
 // The least key that begins with the prefix.
@@ -43,11 +43,11 @@ impl QuadSets {
         order: Order,
         prefix: &[u64],
         after: Option<&Key>,
-    ) -> Range<'_, Key>
+    ) -> KeyRange<'_>
         requires { length prefix.now ≤ 4 }
         ensures { AreKeysAhead self.now.quads order prefix.now (option_copied after.entry) result }
     {
         let start = start_of(prefix, after);
-        self.trees.of(order).range((start, Bound::Unbounded))
+        self.trees.of(order).range_from(start)
     }
 }

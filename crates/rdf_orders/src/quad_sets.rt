@@ -5,6 +5,7 @@ ghost use Rattle.rdf_orders.specs.Quads.{quad_of, quads_of};
 ghost use Rattle.rdf_orders.specs.Contents.{ids_of, IsDisjoint, ListsKeys, ListsIds, empty_contents, with_quad, without_quad, with_name, without_name, with_all, without_all};
 ghost use Rattle.rdf_orders.specs.Inside.Gains.{GainsSomeOf};
 
+use crate::key_tree::KeyTree;
 use crate::order::Key;
 use crate::trees::Trees;
 use rdf_terms::NoMemory;
@@ -48,7 +49,7 @@ impl QuadSets {
     }
 
     /// The quads, each once, by their keys in `Spo` and in that order.
-    pub fn keys(&self) -> &BTreeSet<Key>
+    pub fn keys(&self) -> &KeyTree
         ensures { ListsKeys self.now.quads result.now.keys }
     {
         self.trees.rising()

@@ -1,44 +1,22 @@
 //! A set of quads in three search trees, one for each order.
-ghost use Rattle.std.specs.Prelude.{◌≡◌, ◌++◌, map, not, IfOk, OnOk, OnErr};
+ghost use Rattle.std.specs.Prelude.{◌≡◌, not, IfOk, OnOk, OnErr};
 ghost use Rattle.std.specs.FinSet as set;
-ghost use Rattle.std.specs.BTreeSet.{IsFromIterResult, IsOrdered};
+ghost use Rattle.std.specs.BTreeSet.{IsOrdered};
 ghost use Rattle.rdf_orders.specs.declared.order.Order.TheVariants.{Spo};
 ghost use Rattle.rdf_orders.specs.Quads.{IdQuads, key_cmp, key_in, quad_of, quads_of};
 ghost use Rattle.rdf_orders.specs.Inside.Mirror.{tree_of, has_key, Mirrors, AreBuiltOn, GainsBehind, GainsSome, LosesKey};
 
+use crate::key_tree::KeyTree;
 use crate::order::{Key, Order};
 use rdf_terms::NoMemory;
 use std::alloc::Global;
-use std::collections::BTreeSet;
 
 /// The keys of the quads in each order. While one comes in, they may have come apart.
 #[derive(Drop)]
 pub(crate) struct Trees {
-    pub(crate) spo: BTreeSet<Key>,
-    pub(crate) pos: BTreeSet<Key>,
-    pub(crate) osp: BTreeSet<Key>,
-}
-
-// The first tree with the keys of these quads beside its own.
-fn joined(alloc: Global, spo: &BTreeSet<Key>, quads: &[Key]) -> Result<BTreeSet<Key>, NoMemory>
-    ensures { IfOk result (λ tree. IsFromIterResult key_cmp
-        (map (λ x. key_in Spo (quad_of x)) (spo.now.keys ++ quads.now)) tree) }
-{
-    let key_of = |quad: &Key|
-        ensures { result ≡ key_in Spo (quad_of quad.now) }
-    { Order::Spo.arrange(quad) };
-    Ok(spo.iter().chain(quads).map(key_of).collect(alloc)?)
-}
-
-// The tree of an order with the keys of the quads of the first tree.
-fn arranged(alloc: Global, order: Order, spo: &BTreeSet<Key>) -> Result<BTreeSet<Key>, NoMemory>
-    ensures { IfOk result (λ tree. IsFromIterResult key_cmp
-        (map (λ x. key_in order (quad_of x)) spo.now.keys) tree) }
-{
-    let key_of = move |quad: &Key|
-        ensures { result ≡ key_in order (quad_of quad.now) }
-    { order.arrange(quad) };
-    Ok(spo.iter().map(key_of).collect(alloc)?)
+    pub(crate) spo: KeyTree,
+    pub(crate) pos: KeyTree,
+    pub(crate) osp: KeyTree,
 }
 
 impl Trees {
@@ -47,18 +25,18 @@ impl Trees {
         ensures { Mirrors result set.empty }
     {
         Trees {
-            spo: BTreeSet::new(alloc),
-            pos: BTreeSet::new(alloc),
-            osp: BTreeSet::new(alloc),
+            spo: KeyTree::new(alloc),
+            pos: KeyTree::new(alloc),
+            osp: KeyTree::new(alloc),
         }
     }
 
     // The first tree, and those of the other two orders, each built at once.
-    fn of_first(alloc: Global, spo: BTreeSet<Key>) -> Result<Trees, NoMemory>
+    fn of_first(alloc: Global, spo: KeyTree) -> Result<Trees, NoMemory>
         ensures { IfOk result (AreBuiltOn spo) }
     {
-        let pos = arranged(alloc, Order::Pos, &spo)?;
-        let osp = arranged(alloc, Order::Osp, &spo)?;
+        let pos = KeyTree::built(alloc, Order::Pos, &spo, &[])?;
+        let osp = KeyTree::built(alloc, Order::Osp, &spo, &[])?;
         Ok(Trees { spo, pos, osp })
     }
 
@@ -68,7 +46,7 @@ impl Trees {
         ensures { IfOk result (λ trees. (old : IdQuads) → Mirrors self.now old →
             Mirrors trees (set.union old (quads_of quads.now))) }
     {
-        let spo = joined(alloc, &self.spo, quads)?;
+        let spo = KeyTree::built(alloc, Order::Spo, &self.spo, quads)?;
         Trees::of_first(alloc, spo)
     }
 
@@ -78,7 +56,7 @@ impl Trees {
         ensures { IfOk result (λ trees. (old : IdQuads) → Mirrors self.now old →
             Mirrors trees (set.union old (quads_of quads.items))) }
     {
-        let spo = joined(alloc, &self.spo, quads.as_slice())?;
+        let spo = KeyTree::built(alloc, Order::Spo, &self.spo, quads.as_slice())?;
         drop(quads);
         Trees::of_first(alloc, spo)
     }
@@ -89,7 +67,7 @@ impl Trees {
     }
 
     /// The keys in an order.
-    pub(crate) fn of(&self, order: Order) -> &BTreeSet<Key>
+    pub(crate) fn of(&self, order: Order) -> &KeyTree
         ensures { result.now ≡ tree_of order self.now }
     {
         match order {
@@ -100,7 +78,7 @@ impl Trees {
     }
 
     /// The keys in `Spo`, which rise, as those of each tree do.
-    pub(crate) fn rising(&self) -> &BTreeSet<Key>
+    pub(crate) fn rising(&self) -> &KeyTree
         ensures is { result.now ≡ self.now.spo }
         ensures rises { IsOrdered key_cmp result.now }
     {
@@ -127,7 +105,7 @@ impl Trees {
         ensures err { OnErr result ((quads : IdQuads) → Mirrors self.old quads →
             Mirrors self.new quads) }
     {
-        if !self.spo.insert(*quad)? {
+        if !self.spo.insert(quad)? {
             return Ok(false);
         }
         if let Err(refused) = self.insert_behind(quad) {
@@ -142,8 +120,8 @@ impl Trees {
         ensures ok { OnOk result (GainsBehind self.old self.new (quad_of quad.now)) }
         ensures err { OnErr result (GainsSome self.old self.new (quad_of quad.now)) }
     {
-        self.pos.insert(Order::Pos.arrange(quad))?;
-        self.osp.insert(Order::Osp.arrange(quad))?;
+        self.pos.insert(&Order::Pos.arrange(quad))?;
+        self.osp.insert(&Order::Osp.arrange(quad))?;
         Ok(())
     }
 

@@ -5,13 +5,13 @@ ghost use Rattle.rdf_orders.specs.Quads.{matches};
 ghost use Rattle.rdf_orders.specs.Runs.{AppendsKeysOnce, BeginsWith};
 ghost use Rattle.rdf_orders.specs.Inside.Ahead.{AreKeysAhead};
 
+use crate::key_iters::KeyRange;
 use crate::look_ups::look_up;
 use crate::order::{Key, Order};
 use crate::orders::Orders;
 use crate::quad_sets::QuadSets;
 use rdf_terms::NoMemory;
 use std::alloc::Global;
-use std::collections::btree_set::Range;
 use std::marker::Model;
 
 /// The key that was answered last, and those behind it in its order.
@@ -19,7 +19,7 @@ use std::marker::Model;
 pub(crate) struct Place<'a> {
     pub(crate) order: Order,
     pub(crate) key: Key,
-    pub(crate) behind: Range<'a, Key>,
+    pub(crate) behind: KeyRange<'a>,
 }
 
 impl<'a> Place<'a> {
@@ -81,7 +81,7 @@ impl<'a> Walk<'a> {
     }
 
     // The keys ahead: those behind the place, where the run goes on there.
-    fn keys_ahead(&mut self, order: Order, prefix: &[u64], after: Option<&Key>) -> Range<'a, Key>
+    fn keys_ahead(&mut self, order: Order, prefix: &[u64], after: Option<&Key>) -> KeyRange<'a>
         requires { length prefix.now ≤ 4 }
         ensures ahead { AreKeysAhead self.old.quads order prefix.now
             (option_copied after.entry) result }
@@ -106,7 +106,7 @@ impl<'a> Orders for Walk<'a> {
             return None;
         }
         let mut behind = self.keys_ahead(order, prefix, after);
-        let key = *behind.next()?;
+        let key = behind.next()?;
         if !key.starts_with(prefix) {
             return None;
         }

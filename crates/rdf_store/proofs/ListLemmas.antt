@@ -1,7 +1,11 @@
 -- Lists whose members belong together.
-use Rattle.std.proofs.Common.{◌≡◌, ℕ, ◌+◌, ◌<◌, List, [], ◌∷◌, ◌++◌, map, take, get_or, length, refl, sym, ap, subst, ◌∙◌, true, inl, inr}
+use Rattle.std.proofs.Common.{◌≡◌, ℕ, ◌+◌, ◌<◌, List, [], ◌∷◌, ◌++◌, map, map-id, take, get_or, length, refl, sym, ap, subst, ◌∙◌, true, inl, inr}
 use mathlib.Core.Bool.{true≢false}
+use Rattle.std.specs.Prelude.{Option, None}
+use Rattle.std.specs.Iterator.{Yields}
+use Rattle.std.specs.Map.Iter.{TakesFirst}
 use Rattle.std.proofs.lemmas.List.{take_more}
+use Rattle.std.proofs.lemmas.Map.Iter.{iter_end}
 use Rattle.std.specs.declared.cmp.Ordering.{Ordering}
 use Rattle.std.specs.Ordering.{eq_by_cmp}
 use Rattle.std.specs.Cmp.{IsTotalOrder}
@@ -56,3 +60,7 @@ pub matched_next : {A B : Type 0} (P Q : A → B → Type 0) → ((x : A) (y : B
 matched_next P Q f xs xs' ys i x y m q e lt is =
     subst (λ zs. Matched Q zs (take (i + 1) ys)) (sym e)
     (subst (Matched Q (xs ++ x ∷ [])) (sym (take_next ys i y lt is)) (matched_push Q xs (take i ys) x y (matched_to P Q f xs (take i ys) m) q))
+
+-- a `for` over what gives a list by value has taken all of it at its end
+pub all_given : {X : Type 0} (all xs s t u : List X) (r : Option X) → s ≡ all → Yields (TakesFirst (λ (x : X). x)) s xs t → r ≡ None → TakesFirst (λ (x : X). x) t r u → xs ≡ all
+all_given all xs s t u r start y none step = sym (map-id xs) ∙ (iter_end (λ x. x) all xs s t u r start y none step).0

@@ -1,9 +1,7 @@
 -- Numbers of terms and quads in a table that grows.
-use Rattle.std.proofs.Common.{◌≡◌, ◌≢◌, ℕ, zero, suc, ◌<◌, ◌^◌, true, false, cond, List, [], ◌∷◌, ◌++◌, length, sym, ap, subst, ◌∙◌, arith}
+use Rattle.std.proofs.Common.{◌≡◌, ℕ, zero, suc, ◌+◌, true, false, cond, List, [], ◌∷◌, ◌++◌, refl, sym, ap, subst, ◌∙◌, add-one}
 use Rattle.std.specs.Prelude.{Option, None, Some, unwrap_or, IsTrue}
 use mathlib.Core.Bool.{true≢false}
-use Rattle.std.proofs.lemmas.Bool.{ne_eqb}
-use Rattle.std.proofs.lemmas.Option.{slice_get_within}
 use Rattle.std.specs.Ordering.{eq_by_cmp}
 use Rattle.rdf_terms.specs.declared.term.Term.{Term}
 use Rattle.rdf_terms.specs.declared.term.Term.TheVariants.{Blank}
@@ -15,7 +13,7 @@ use Rattle.rdf_terms.specs.OrderLaws.{term_cmp_total, term_cmp-IsAntisymmetric}
 use Rattle.rdf_terms.specs.Table.{IsIdOf, AreHeldOnce, is_held, with_term}
 use Rattle.rdf_orders.specs.Quads.{IdQuad}
 use Rattle.rdf_orders.proofs.CallerLemmas.{first_of_both, either_first, either_second}
-use Rattle.rdf_store.specs.Inside.Numbers.{default_number, IsGraphNumber, AreNumbersOf, IsGrown, HasTerms, term_at, graph_at, parts_at}
+use Rattle.rdf_store.specs.Inside.Numbers.{IsGraphNumber, AreNumbersOf, IsGrown, HasTerms, term_at, graph_at, parts_at}
 use Rattle.rdf_store.proofs.ImageLemmas.{eq_of_same}
 
 -- ---- held terms
@@ -52,23 +50,33 @@ grown_with table x = elim (is_held table x) as (λ b. IsGrown table (cond b tabl
 
 -- ---- graphs
 
-pub not_default : (table : List Term) (id : ℕ) (t : Term) → length table < 2 ^ 63 → IsIdOf table id t → id ≢ default_number
-not_default table id t few e is = let within = slice_get_within table id t e in absurd (omega arith)
-
 pub graph_grown : (old new : List Term) → IsGrown old new → (id : ℕ) (g : GraphName) → IsGraphNumber old id g → IsGraphNumber new id g
-graph_grown old new grown id Default e = e
-graph_grown old new grown id (Named t) e = (e.0, grown.keeps id t e.1)
+graph_grown old new grown zero Default e = tt
+graph_grown old new grown zero (Named t) e = absurd e
+graph_grown old new grown (suc id) Default e = absurd e
+graph_grown old new grown (suc id) (Named t) e = grown.keeps id t e
 
 pub term_is : (table : List Term) (id : ℕ) (t : Term) → IsIdOf table id t → term_at table id ≡ t
 term_is table id t e = ap (λ o. unwrap_or o (Blank 0)) e
 
 pub graph_is : (table : List Term) (id : ℕ) (g : GraphName) → IsGraphNumber table id g → graph_at table id ≡ g
-graph_is table id Default e = ap (graph_at table) e
-graph_is table id (Named t) e = ap (λ b. cond b Default (Named (term_at table id))) (ne_eqb id default_number e.0) ∙ ap Named (term_is table id t e.1)
+graph_is table zero Default e = refl
+graph_is table zero (Named t) e = absurd e
+graph_is table (suc id) Default e = absurd e
+graph_is table (suc id) (Named t) e = ap Named (term_is table id t e)
 
 pub graph_once : (table : List Term) → AreHeldOnce table → (i j : ℕ) (g : GraphName) → IsGraphNumber table i g → IsGraphNumber table j g → i ≡ j
-graph_once table once i j Default e f = e ∙ sym f
-graph_once table once i j (Named t) e f = once i j t e.1 f.1
+graph_once table once zero zero g e f = refl
+graph_once table once zero (suc j) Default e f = absurd f
+graph_once table once zero (suc j) (Named t) e f = absurd e
+graph_once table once (suc i) zero Default e f = absurd e
+graph_once table once (suc i) zero (Named t) e f = absurd f
+graph_once table once (suc i) (suc j) Default e f = absurd e
+graph_once table once (suc i) (suc j) (Named t) e f = ap suc (once i j t e f)
+
+-- a number that isn't 0 is that of a graph with a name
+pub name_is : (table : List Term) (number id : ℕ) → number ≡ id + 1 → Named (term_at table id) ≡ graph_at table number
+name_is table number id e = sym (ap (graph_at table) (e ∙ add-one id))
 
 -- ---- quads
 

@@ -1,7 +1,7 @@
 -- Quads that are sorted by the ranks of their terms are in order.
-use Rattle.std.proofs.Common.{◌≡◌, ℕ, zero, suc, ◌+◌, ◌<◌, ◌≤◌, Bool, true, false, List, [], ◌∷◌, ◌++◌, map, length, get_or, refl, sym, ap, subst, ◌∙◌, arith, inl, inr}
+use Rattle.std.proofs.Common.{◌≡◌, ℕ, zero, suc, ◌+◌, ◌<◌, ◌≤◌, List, [], ◌∷◌, ◌++◌, map, length, get_or, refl, sym, ap, subst, ◌∙◌, arith, inl, inr}
 use mathlib.Core.Bool.{true≢false}
-use Rattle.std.specs.Prelude.{All, IsSorted, IsPermutation, IsTrue, Some, None, unwrap_or, slice_get}
+use Rattle.std.specs.Prelude.{All, IsSorted, IsPermutation, Some, None, unwrap_or}
 use Rattle.std.specs.declared.cmp.Ordering.{Ordering}
 use Rattle.std.specs.declared.cmp.Ordering.TheVariants.{Less, Equal, Greater}
 use Rattle.std.specs.Ordering.{nat_cmp, ordering_then, ordering_reverse, is_lt, is_eq, eq_by_cmp}
@@ -15,12 +15,12 @@ use Rattle.std.proofs.lemmas.List.{map-append}
 use Rattle.std.proofs.lemmas.List.Elements.{All-push}
 use Rattle.std.proofs.lemmas.List.Filters.{All-dedup}
 use Rattle.std.proofs.lemmas.List.Kept.{IsStrictlySortedBy-dedup}
-use Rattle.std.proofs.lemmas.List.Sorted.{All-permutation, IsPermutation-map}
+use Rattle.std.proofs.lemmas.List.Sorted.{All-permutation}
 use Rattle.std.proofs.lemmas.Map.Keys.{Less-from_sorted, sorted_from_all_adjacent}
 use Rattle.std.proofs.lemmas.Option.{slice_get-map, slice_get_within, unwrap_or-slice_get, get_or_from_slice_get}
 use Rattle.rdf_terms.specs.declared.term.Term.{Term}
 use Rattle.rdf_terms.specs.declared.term.Term.TheVariants.{Blank}
-use Rattle.rdf_terms.specs.declared.quad.GraphName.TheVariants.{Default, Named}
+use Rattle.rdf_terms.specs.declared.quad.GraphName.TheVariants.{Named}
 use Rattle.rdf_terms.specs.Quad.{QuadParts}
 use Rattle.rdf_terms.specs.Order.{term_cmp, graph_cmp, quad_cmp}
 use Rattle.rdf_terms.specs.OrderLaws.{term_order, term_cmp_total, term_cmp-IsAntisymmetric}
@@ -32,16 +32,15 @@ use Rattle.rdf_store.specs.contracts.ranks.NumberedOrd.TheImpl.Laws as laws_of_n
 use Rattle.rdf_store.specs.contracts.ranks.NumberedPartialEq.TheImpl as eq_of_numbered
 use Rattle.rdf_store.specs.contracts.ranks.RankedOrd.TheImpl as of_ranked
 use Rattle.std.specs.List.Retain.{IsFiltered, DiffersFromLast}
-use Rattle.std.proofs.Common.{◌≢◌, cond, add-one}
-use Rattle.std.proofs.lemmas.Bool.{ne_eqb}
+use Rattle.std.proofs.Common.{cond, add-one}
 use Rattle.std.proofs.lemmas.List.Filters.{dedup_is}
 use Rattle.std.specs.Prelude.{Option, option_map}
 use Rattle.rdf_terms.specs.Quad.{has_right_kinds}
 use Rattle.rdf_orders.proofs.CallerLemmas.{first_of_both}
 use Rattle.rdf_terms.specs.declared.quad.GraphName.{GraphName}
-use Rattle.rdf_store.proofs.NumberLemmas.{term_is}
-use Rattle.rdf_store.specs.Inside.Numbers.{default_number, graph_at, term_at}
-use Rattle.rdf_store.specs.Inside.Ranks.{AreNumbered, AreRanked, HasRanks, StandsAt, graph_ranked, parts_ranked, terms_in}
+use Rattle.rdf_store.proofs.NumberLemmas.{term_is, name_is}
+use Rattle.rdf_store.specs.Inside.Numbers.{graph_at, term_at}
+use Rattle.rdf_store.specs.Inside.Ranks.{AreNumbered, AreRanked, HasRanks, StandsAt, parts_ranked, terms_in}
 
 -- ---- the derived orders
 
@@ -98,14 +97,13 @@ stands_is table terms place number numbered (n, at, same) =
     ap (λ o. unwrap_or o (Blank 0)) (slice_get-map (λ (m : Numbered). m.term.now) terms place ∙ ap (option_map (λ (m : Numbered). m.term.now)) at)
     ∙ sym (term_is table number n.term.now (subst (λ k. IsIdOf table k n.term.now) same id))
 
-pub graph_stands_is : (table : List Term) (terms : List Numbered) (place number : ℕ) → AreNumbered table terms → StandsAt terms place number → number ≢ default_number
-    → graph_ranked (terms_in terms) (place + 1) ≡ graph_at table number
-graph_stands_is table terms place number numbered stands named =
-    ap (graph_ranked (terms_in terms)) (add-one place) ∙ ap Named (stands_is table terms place number numbered stands)
-    ∙ sym (ap (λ b. cond b Default (Named (term_at table number))) (ne_eqb number default_number named))
+pub graph_stands_is : (table : List Term) (terms : List Numbered) (place number id : ℕ) → number ≡ id + 1 → AreNumbered table terms → StandsAt terms place id
+    → graph_at (terms_in terms) (place + 1) ≡ graph_at table number
+graph_stands_is table terms place number id e numbered stands =
+    ap (graph_at (terms_in terms)) (add-one place) ∙ ap Named (stands_is table terms place id numbered stands) ∙ name_is table number id e
 
 -- what is made of the places of a ranked quad
-pub made_ranked : (ranks : List Term) (r : Ranked) (g : GraphName) (s p o : Term) (q : Option QuadParts) → HasRanks ranks r → g ≡ graph_ranked ranks r.graph
+pub made_ranked : (ranks : List Term) (r : Ranked) (g : GraphName) (s p o : Term) (q : Option QuadParts) → HasRanks ranks r → g ≡ graph_at ranks r.graph
     → s ≡ term_at ranks r.subject → p ≡ term_at ranks r.predicate → o ≡ r.object.now
     → q ≡ cond (has_right_kinds (record { graph = g; subject = s; predicate = p; object = o })) (Some (record { graph = g; subject = s; predicate = p; object = o })) None
     → q ≡ Some (parts_ranked ranks r)
@@ -124,11 +122,10 @@ made_ranked ranks r g s p o q has eg es ep eo e =
 pub all_more : {A : Type 0} (P : A → Type 0) (xs ys : List A) (x : A) → ys ≡ xs ++ x ∷ [] → All P xs → P x → All P ys
 all_more P xs ys x e all one = subst (All P) (sym e) (All-push P xs x all one)
 
-pub mapped_more : {A B C D : Type 0} (f : A → C) (g : B → C) (h : D → B) (xs ys : List A) (zs : List D) (x : A) (z : D) → ys ≡ xs ++ x ∷ [] → map f xs ≡ map g (map h zs) → f x ≡ g (h z)
-    → map f ys ≡ map g (map h (zs ++ z ∷ []))
-mapped_more f g h xs ys zs x z e before one =
-    ap (map f) e ∙ map-append f xs (x ∷ []) ∙ (λ i. before i ++ one i ∷ [])
-    ∙ sym (ap (map g) (map-append h zs (z ∷ [])) ∙ map-append g (map h zs) (h z ∷ []))
+pub mapped_more : {A B C : Type 0} (f : A → C) (g : B → C) (xs ys : List A) (zs : List B) (x : A) (z : B) → ys ≡ xs ++ x ∷ [] → map f xs ≡ map g zs → f x ≡ g z
+    → map f ys ≡ map g (zs ++ z ∷ [])
+mapped_more f g xs ys zs x z e before one =
+    ap (map f) e ∙ map-append f xs (x ∷ []) ∙ (λ i. before i ++ one i ∷ []) ∙ sym (map-append g zs (z ∷ []))
 
 -- ---- ranks are ordered as the terms are
 
@@ -148,7 +145,7 @@ module _ (ranks : List Term) (rises : IsStrictlySortedBy term_cmp ranks) where
     ]
   ]
 
-  graph_order : (i j : ℕ) → i ≤ length ranks → j ≤ length ranks → nat_cmp i j ≡ graph_cmp (graph_ranked ranks i) (graph_ranked ranks j)
+  graph_order : (i j : ℕ) → i ≤ length ranks → j ≤ length ranks → nat_cmp i j ≡ graph_cmp (graph_at ranks i) (graph_at ranks j)
   graph_order zero zero hi hj = sym (nat_cmp_is 0 0 Equal refl)
   graph_order zero (suc j) hi hj = sym (nat_cmp_is 0 (suc j) Less (omega arith))
   graph_order (suc i) zero hi hj = sym (nat_cmp_is (suc i) 0 Greater (omega arith))

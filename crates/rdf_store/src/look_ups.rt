@@ -11,7 +11,7 @@ use crate::numbers::quad_from;
 use crate::pattern::{Pattern, pattern_of};
 use crate::ranks::quads_in_order;
 use crate::store::Store;
-use rdf_orders::Key;
+use rdf_orders::{Key, KeyTree};
 use rdf_terms::{
     GraphName, NoMemory, Quad, Term, TermId, TermTable, or_truncate, terms_are_held_once,
 };
@@ -62,7 +62,7 @@ fn append_all(table: &TermTable, keys: &[Key], out: &mut Vec<Quad>) -> Result<()
 /// Appends the quads that have the keys in `Spo` of a tree, or changes nothing.
 pub(crate) fn append_tree(
     table: &TermTable,
-    keys: &BTreeSet<Key>,
+    keys: &KeyTree,
     out: &mut Vec<Quad>,
 ) -> Result<(), NoMemory>
     requires { All (λ key. HasTerms table.now (quad_of key)) keys.now.keys }
@@ -71,8 +71,8 @@ pub(crate) fn append_tree(
     ensures err { OnErr result (out.new.items ≡ out.old.items) }
 {
     let before = out.len();
-    for key in keys {
-        or_truncate(append_quad(table, key, out), out, before)?;
+    for key in keys.iter() {
+        or_truncate(append_quad(table, &key, out), out, before)?;
     }
     Ok(())
 }

@@ -8,8 +8,8 @@ use rdf_orders::Key;
 use rdf_terms::{GraphName, NoMemory, Quad, Term, TermId, TermTable, terms_are_held_once};
 use std::alloc::Global;
 
-/// The default graph's number. No table holds so many terms.
-pub(crate) const DEFAULT: u64 = u64::MAX;
+/// The default graph's number. That of a graph with a name is one more than its name's.
+pub(crate) const DEFAULT: u64 = 0;
 
 /// The number of a term, where the table holds it.
 pub(crate) fn find_term(table: &TermTable, term: &Term) -> Option<u64>
@@ -30,7 +30,10 @@ pub(crate) fn find_graph(table: &TermTable, graph: &GraphName) -> Option<u64>
     terms_are_held_once(table);
     match graph {
         GraphName::Default => Some(DEFAULT),
-        GraphName::Named(name) => find_term(table, name),
+        GraphName::Named(name) => {
+            let number = find_term(table, name)?;
+            Some(number + 1)
+        }
     }
 }
 
@@ -84,7 +87,7 @@ pub(crate) fn number_graph(table: &mut TermTable, graph: &GraphName) -> Result<u
     };
     let number = number_term(table, name)?;
     terms_are_held_once(table);
-    Ok(number)
+    Ok(number + 1)
 }
 
 // The number of a graph, which is that of another one where the two are equal.
@@ -204,11 +207,10 @@ fn graph_of(table: &TermTable, number: u64) -> Result<GraphName, NoMemory>
     requires { IsGraphNumber table.now number (graph_at table.now number) }
     ensures { IfOk result (λ graph. graph ≡ graph_at table.now number) }
 {
-    if number == DEFAULT {
-        return Ok(GraphName::Default);
+    match number.checked_sub(1) {
+        Some(name) => Ok(GraphName::Named(term_of(table, name)?)),
+        None => Ok(GraphName::Default),
     }
-    let name = table.term(TermId(number)).copy()?;
-    Ok(GraphName::Named(name))
 }
 
 // The term that has a number.

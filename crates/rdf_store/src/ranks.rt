@@ -7,14 +7,12 @@ ghost use Rattle.rdf_terms.specs.Order.{quad_cmp, term_cmp};
 ghost use Rattle.rdf_terms.specs.Table.{IsIdOf, AreHeldOnce};
 ghost use Rattle.rdf_orders.specs.Quads.{quad_of};
 ghost use Rattle.rdf_store.specs.Inside.Numbers.{IsGraphNumber, HasTerms, graph_at, parts_of, term_at};
-ghost use Rattle.rdf_store.specs.Inside.Ranks.{AreNumbered, AreRanked, HasRanks, StandsAt, graph_ranked, parts_ranked, terms_in};
+ghost use Rattle.rdf_store.specs.Inside.Ranks.{AreNumbered, AreRanked, HasRanks, StandsAt, parts_ranked, terms_in};
 
 use crate::look_ups::append_tree;
-use crate::numbers::DEFAULT;
-use rdf_orders::Key;
+use rdf_orders::{Key, KeyTree};
 use rdf_terms::{GraphName, NoMemory, Quad, Term, TermId, TermTable, terms_are_held_once};
 use std::alloc::Global;
-use std::collections::BTreeSet;
 
 /// A term, and its number in a table.
 #[derive(PartialEq, Eq, PartialOrd, Ord, Drop)]
@@ -108,8 +106,8 @@ impl<'t> Ranks<'t> {
         requires numbered { AreNumbered table.now self.old.terms.items }
         ensures { AreNumbered table.now self.new.terms.items }
     {
-        if key[0] != DEFAULT {
-            self.add(table, key[0])?;
+        if let Some(name) = key[0].checked_sub(1) {
+            self.add(table, name)?;
         }
         self.add(table, key[1])?;
         self.add(table, key[2])
@@ -126,17 +124,13 @@ impl<'t> Ranks<'t> {
     }
 
     // The graphs' names, the subjects and the predicates of the quads that have the keys, in order.
-    fn of_fronts(
-        alloc: Global,
-        table: &'t TermTable,
-        keys: &BTreeSet<Key>,
-    ) -> Result<Ranks<'t>, NoMemory>
+    fn of_fronts(alloc: Global, table: &'t TermTable, keys: &KeyTree) -> Result<Ranks<'t>, NoMemory>
         requires { All (λ key. HasTerms table.now (quad_of key)) keys.now.keys }
         ensures { IfOk result (λ ranks. AreRanked table.now ranks.terms.items) }
     {
         let mut ranks = Ranks::new(alloc);
-        for key in keys {
-            ranks.add_front(table, key)?;
+        for key in keys.iter() {
+            ranks.add_front(table, &key)?;
         }
         terms_are_held_once(table);
         ranks.sort();
@@ -149,12 +143,12 @@ impl<'t> Ranks<'t> {
         requires numbered { AreNumbered table.now self.now.terms.items }
         ensures within { IfSome result (λ rank. rank ≤ length (terms_in self.now.terms.items)) }
         ensures is { IfSome result (λ rank.
-            graph_ranked (terms_in self.now.terms.items) rank ≡ graph_at table.now number) }
+            graph_at (terms_in self.now.terms.items) rank ≡ graph_at table.now number) }
     {
-        if number == DEFAULT {
+        let Some(name) = number.checked_sub(1) else {
             return Some(0);
-        }
-        let place = self.place(number)?;
+        };
+        let place = self.place(name)?;
         Some(place + 1)
     }
 
@@ -193,7 +187,7 @@ impl<'t> Ranks<'t> {
         &self,
         alloc: Global,
         table: &'t TermTable,
-        keys: &BTreeSet<Key>,
+        keys: &KeyTree,
     ) -> Result<Option<Vec<Ranked<'t>>>, NoMemory>
         requires terms { All (λ key. HasTerms table.now (quad_of key)) keys.now.keys }
         requires numbered { AreNumbered table.now self.now.terms.items }
@@ -204,8 +198,8 @@ impl<'t> Ranks<'t> {
             ≡ map (parts_of table.now) keys.now.keys)) }
     {
         let mut all = Vec::with_capacity(alloc, keys.len())?;
-        for key in keys {
-            let Some(ranked) = self.ranked(table, key) else {
+        for key in keys.iter() {
+            let Some(ranked) = self.ranked(table, &key) else {
                 return Ok(None);
             };
             all.push(ranked)?;
@@ -217,7 +211,7 @@ impl<'t> Ranks<'t> {
     fn graph(&self, rank: usize) -> Result<GraphName, NoMemory>
         requires { rank ≤ length (terms_in self.now.terms.items) }
         ensures { IfOk result (λ graph.
-            graph ≡ graph_ranked (terms_in self.now.terms.items) rank) }
+            graph ≡ graph_at (terms_in self.now.terms.items) rank) }
     {
         match rank.checked_sub(1) {
             Some(name) => Ok(GraphName::Named(self.term(name)?)),
@@ -293,7 +287,7 @@ impl<'t> Ranks<'t> {
 // Whether the graph's name, the subject and the predicate have numbers below a bound.
 fn is_below(key: &Key, bound: u64) -> bool {
     let [graph, subject, predicate, _] = *key;
-    (graph == DEFAULT || graph < bound) && subject < bound && predicate < bound
+    graph <= bound && subject < bound && predicate < bound
 }
 
 // The quads that have these keys in `Spo`, in order by the ranks of their terms. There are none
@@ -301,7 +295,7 @@ fn is_below(key: &Key, bound: u64) -> bool {
 fn quads_by_rank(
     alloc: Global,
     table: &TermTable,
-    keys: &BTreeSet<Key>,
+    keys: &KeyTree,
 ) -> Result<Option<Vec<Quad>>, NoMemory>
     requires { All (λ key. HasTerms table.now (quad_of key)) keys.now.keys }
     ensures same { IfOk result (λ found. IfSome found (λ quads.
@@ -310,7 +304,7 @@ fn quads_by_rank(
         IsSorted quad_cmp quads.items)) }
 {
     let bound = keys.len().saturating_mul(4) as u64;
-    if !keys.iter().all(|key| is_below(key, bound)) {
+    if !keys.iter().all(|key| is_below(&key, bound)) {
         return Ok(None);
     }
     let ranks = Ranks::of_fronts(alloc, table, keys)?;
@@ -322,11 +316,7 @@ fn quads_by_rank(
 }
 
 // The quads that have these keys in `Spo`, in order: their terms are compared as often as they are.
-fn quads_by_term(
-    alloc: Global,
-    table: &TermTable,
-    keys: &BTreeSet<Key>,
-) -> Result<Vec<Quad>, NoMemory>
+fn quads_by_term(alloc: Global, table: &TermTable, keys: &KeyTree) -> Result<Vec<Quad>, NoMemory>
     requires { All (λ key. HasTerms table.now (quad_of key)) keys.now.keys }
     ensures same { IfOk result (λ quads.
         IsPermutation (map (parts_of table.now) keys.now.keys) quads.items) }
@@ -342,7 +332,7 @@ fn quads_by_term(
 pub(crate) fn quads_in_order(
     alloc: Global,
     table: &TermTable,
-    keys: &BTreeSet<Key>,
+    keys: &KeyTree,
 ) -> Result<Vec<Quad>, NoMemory>
     requires { All (λ key. HasTerms table.now (quad_of key)) keys.now.keys }
     ensures same { IfOk result (λ quads.

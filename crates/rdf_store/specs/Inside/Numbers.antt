@@ -1,5 +1,5 @@
 -- The numbers of terms, graphs and quads in a table, and what is kept of quads and names by their numbers.
-use Rattle.std.specs.Prelude.{◌≡◌, ◌≢◌, ℕ, ◌==◌, List, [], ◌∷◌, map, ⊤, Option, IsTrue, slice_get, unwrap_or, if◌then◌else◌}
+use Rattle.std.specs.Prelude.{◌≡◌, ℕ, zero, suc, ◌==◌, List, [], ◌∷◌, map, ⊤, Option, IsTrue, slice_get, unwrap_or}
 use Rattle.std.specs.declared.cmp.Ordering.{Ordering}
 use Rattle.std.specs.Ordering.{eq_by_cmp}
 use Rattle.std.specs.FinSet as set
@@ -17,13 +17,12 @@ use Rattle.rdf_store.specs.Stored.{Stored, fits_place}
 
 -- ---- numbers
 
--- the default graph's number, which no term has
-abbrev pub default_number : ℕ
-default_number = 18446744073709551615
-
+-- the default graph's number is 0, and that of a graph with a name is one more than its name's
 abbrev pub IsGraphNumber : List Term → ℕ → GraphName → Type 0
-IsGraphNumber table id Default = id ≡ default_number
-IsGraphNumber table id (Named name) = (id ≢ default_number) × IsIdOf table id name
+IsGraphNumber table zero Default = ⊤
+IsGraphNumber table zero (Named name) = ⊥
+IsGraphNumber table (suc id) Default = ⊥
+IsGraphNumber table (suc id) (Named name) = IsIdOf table id name
 
 -- the numbers of a quad's graph and terms
 pub record AreNumbersOf (table : List Term) (k : IdQuad) (q : QuadParts) : Type 0 where
@@ -64,7 +63,8 @@ abbrev pub term_at : List Term → ℕ → Term
 term_at table id = unwrap_or (slice_get table id) (Blank 0)
 
 abbrev pub graph_at : List Term → ℕ → GraphName
-graph_at table id = if id == default_number then Default else Named (term_at table id)
+graph_at table zero = Default
+graph_at table (suc id) = Named (term_at table id)
 
 abbrev pub parts_at : List Term → IdQuad → QuadParts
 parts_at table k = record {

@@ -1,13 +1,11 @@
 -- Quads by the ranks of their terms. Terms that are sorted are a table too: the rank of one is its number there.
-use Rattle.std.specs.Prelude.{◌≡◌, ◌<◌, ◌≤◌, ℕ, zero, suc, List, All, map, length, slice_get, Some, IsTrue}
+use Rattle.std.specs.Prelude.{◌≡◌, ◌<◌, ◌≤◌, ℕ, List, All, map, length, slice_get, Some, IsTrue}
 use Rattle.std.specs.List.Sorted.{IsStrictlySortedBy}
 use Rattle.rdf_terms.specs.declared.term.Term.{Term}
-use Rattle.rdf_terms.specs.declared.quad.GraphName.{GraphName}
-use Rattle.rdf_terms.specs.declared.quad.GraphName.TheVariants.{Default, Named}
 use Rattle.rdf_terms.specs.Quad.{QuadParts, is_quad}
 use Rattle.rdf_terms.specs.Order.{term_cmp}
 use Rattle.rdf_terms.specs.Table.{IsIdOf}
-use Rattle.rdf_store.specs.Inside.Numbers.{term_at}
+use Rattle.rdf_store.specs.Inside.Numbers.{graph_at, term_at}
 use Rattle.rdf_store.specs.declared.ranks.Numbered.{Numbered}
 use Rattle.rdf_store.specs.declared.ranks.Ranked.{Ranked}
 
@@ -29,13 +27,9 @@ pub record AreRanked (table : List Term) (terms : List Numbered) : Type 0 where
 
 -- ---- what ranks stand for
 
-abbrev pub graph_ranked : List Term → ℕ → GraphName
-graph_ranked ranks zero = Default
-graph_ranked ranks (suc rank) = Named (term_at ranks rank)
-
 abbrev pub parts_ranked : List Term → Ranked → QuadParts
 parts_ranked ranks r = record {
-  graph = graph_ranked ranks r.graph;
+  graph = graph_at ranks r.graph;
   subject = term_at ranks r.subject;
   predicate = term_at ranks r.predicate;
   object = r.object.now;

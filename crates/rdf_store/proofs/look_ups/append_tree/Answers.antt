@@ -1,20 +1,19 @@
-use Rattle.std.proofs.Common.{arith, ◌≡◌, ◌∙◌, ap, rules, map, ◌++◌}
+use Rattle.std.proofs.Common.{arith, ◌∙◌, ap, map, ◌++◌}
 use Rattle.std.proofs.lemmas.Grind.{common_steps}
-use Rattle.std.proofs.lemmas.Map.Iter.{iter_end}
 use Rattle.std.proofs.lemmas.Map.Views.{All-turn}
-use Rattle.std.specs.Map.Iter.{deref}
 use Rattle.rdf_orders.specs.Quads.{quad_of}
 use Rattle.rdf_store.specs.Inside.Numbers.{HasTerms, parts_of}
+use Rattle.rdf_store.proofs.ListLemmas.{all_given}
 use Rattle.rdf_store.proofs.look_ups.append_tree.Goals as goal
 
 pub append_quad-requires : goal.append_quad-requires
 append_quad-requires c =
-    All-turn deref (λ key. HasTerms c.args.table.now (quad_of key)) _ _ _ _ _ _ _ c.requires c.into_iter-key-iterator.ensures.into_iter_gives.0 c.loop-key.yielded_by c.in-Some.is c.next.ensures.steps
+    All-turn (λ k. k) (λ key. HasTerms c.args.table.now (quad_of key)) _ _ _ _ _ _ _ c.requires (c.into_iter-key-iterator.ensures.into_iter_gives ∙ c.iter-key-items.ensures) c.loop-key.yielded_by c.in-Some.is c.next.ensures.steps
 
 pub returns-clause-ok : goal.returns-clause-ok
 returns-clause-ok c =
-    let e : map deref c.loop-key.yielded ≡ c.args.keys.now.keys = search (rules, iter_end) in
-    c.loop-key.invariant ∙ ap (λ ks. c.args.out.now.items ++ map (parts_of c.args.table.now) ks) e
+    c.loop-key.invariant ∙ ap (λ ks. c.args.out.now.items ++ map (parts_of c.args.table.now) ks)
+    (all_given _ _ _ _ _ _ (c.into_iter-key-iterator.ensures.into_iter_gives ∙ c.iter-key-items.ensures) c.loop-key.yielded_by c.in-None.is c.next.ensures.steps)
 
 pub loop-key-preserved : goal.loop-key-preserved
 loop-key-preserved c = grind (arith, common_steps)

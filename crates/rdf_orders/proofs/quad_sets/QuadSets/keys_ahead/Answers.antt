@@ -9,5 +9,5 @@ returns c = record {
   start = c.start_of-start.result;
   starts = c.start_of-start.ensures;
   from = keys_from _ _ c.start_of-start.result c.of.result.now (mirror_at _ _ _ _ _ c.of.ensures c.self.invariant (ap (λ (v : Contents). v.quads) c.self.view_is))
-      c.range.ensures.ordered c.range.result (c.range.ensures.between tt);
+      c.range_from.ensures.ordered c.range_from.result c.range_from.ensures.between;
 }
