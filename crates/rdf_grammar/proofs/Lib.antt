@@ -21,4 +21,5 @@ mod ScopeReferences
 mod ScopeTexts
 mod Terminals
 mod TextLemmas
+mod WalkLemmas
 mod WordLemmas

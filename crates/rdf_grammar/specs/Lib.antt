@@ -18,4 +18,5 @@ pub mod Readings
 pub mod References
 pub mod Steps
 pub mod Terminals
+pub mod Walks
 pub mod Words

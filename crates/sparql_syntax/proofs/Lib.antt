@@ -13,6 +13,7 @@ mod RuleLawLemmas
 mod RuleLemmas
 mod SayLemmas
 mod SharedLabels
+mod SurveyLemmas
 mod TellLemmas
 mod UpdateCases
 mod UpdateLemmas
