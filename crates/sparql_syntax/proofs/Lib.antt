@@ -1,4 +1,5 @@
 pub mod AnswerLemmas
+mod AtOnceLemmas
 pub mod DraftsNumbered
 mod FailLemmas
 pub mod LabelLemmas

@@ -1,5 +1,5 @@
 //! Queries, from bytes to trees.
-ghost use Rattle.std.specs.Prelude.{◌≡◌, Ok, Some, MatchResult};
+ghost use Rattle.std.specs.Prelude.{◌≡◌, Ok, Some, MatchResult, IfOk, IfSome};
 ghost use Rattle.std.specs.Option.{option_copied};
 ghost use Rattle.std.specs.Str.{IsUtf8};
 ghost use Rattle.sparql_syntax.specs.Query as spec;
@@ -9,10 +9,11 @@ ghost use Rattle.sparql_syntax.specs.Survey.{IsReadable};
 
 use crate::fault::{SyntaxFault, SyntaxFaultKind};
 use crate::labels::first_repeated;
-use crate::survey::survey;
+use crate::survey::{opens_few, survey};
 use crate::text::{fault_at, name_fault, stop_fault};
 use indexmap::IndexSet;
-use rdf_terms::{Iri, Vocabulary};
+use rdf_grammar::GrammarFault;
+use rdf_terms::{Iri, NoMemory, Vocabulary};
 use sparql_grammar::{Query as Tree, parse_query};
 use sparql_queries::{Said, said_by};
 use sparql_terminals::Parser;
@@ -31,11 +32,30 @@ fn tree_of<'a>(alloc: Global, text: &'a str) -> Result<Tree<'a>, SyntaxFault>
     }
 }
 
-// The tree of a text. Nothing of it is held but the tree.
+// The tree of a text that has one and can't be too deep, in one walk over it.
+fn tree_at_once<'a>(alloc: Global, text: &'a str) -> Result<Option<Tree<'a>>, NoMemory>
+    ensures { IfOk result (λ found. IfSome found (λ tree. HasTree text.now tree)) }
+{
+    if !opens_few(text.as_bytes()) {
+        return Ok(None);
+    }
+    let mut parser = Parser::over(alloc, text);
+    match parse_query(&mut parser) {
+        Ok(tree) => Ok(Some(tree)),
+        Err(GrammarFault::Syntax) => Ok(None),
+        Err(GrammarFault::NoMemory(refused)) => Err(refused),
+    }
+}
+
+// The tree of a text. Nothing of it is held but the tree, and only where it may have none is it looked over
+// and read once more: a fault of its tokens goes before.
 #[tactic(auto, using(crate::proofs::QueryLemmas::early_told))]
 fn read_tree<'a>(alloc: Global, text: &'a str) -> Result<Tree<'a>, SyntaxFault>
     ensures { MatchResult result (λ tree. HasTree text.now tree) (λ fault. IsTold text.now fault) }
 {
+    if let Some(tree) = tree_at_once(alloc, text)? {
+        return Ok(tree);
+    }
     survey(text)?;
     tree_of(alloc, text)
 }

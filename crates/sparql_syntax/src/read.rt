@@ -1,5 +1,5 @@
 //! Updates, from bytes to requests.
-ghost use Rattle.std.specs.Prelude.{◌≡◌, ℕ, List, Ok, MatchResult};
+ghost use Rattle.std.specs.Prelude.{◌≡◌, ℕ, List, Ok, MatchResult, IfOk, IfSome};
 ghost use Rattle.std.specs.List.{AllByRecursion};
 ghost use Rattle.std.specs.Option.{option_copied};
 ghost use Rattle.std.specs.Str.{IsUtf8};
@@ -14,9 +14,10 @@ use crate::fault::{SyntaxFault, SyntaxFaultKind};
 use crate::operation::drafts_of;
 use crate::request::operations_of;
 use crate::rules::{Broken, first_broken};
-use crate::survey::survey;
+use crate::survey::{opens_few, survey};
 use crate::text::{fault_at, name_fault, stop_fault};
-use rdf_terms::{Iri, Items, Vocabulary};
+use rdf_grammar::GrammarFault;
+use rdf_terms::{Iri, Items, NoMemory, Vocabulary};
 use sparql_grammar::{Part, parse_update};
 use sparql_terminals::Parser;
 use sparql_trees::Request;
@@ -34,11 +35,30 @@ fn tree_of<'a>(alloc: Global, text: &'a str) -> Result<Items<Part<'a>>, SyntaxFa
     }
 }
 
-// The tree of a text. Nothing of it is held but the tree.
+// The tree of a text that has one and can't be too deep, in one walk over it.
+fn tree_at_once<'a>(alloc: Global, text: &'a str) -> Result<Option<Items<Part<'a>>>, NoMemory>
+    ensures { IfOk result (λ found. IfSome found (λ tree. HasTree text.now tree)) }
+{
+    if !opens_few(text.as_bytes()) {
+        return Ok(None);
+    }
+    let mut parser = Parser::over(alloc, text);
+    match parse_update(&mut parser) {
+        Ok(tree) => Ok(Some(tree)),
+        Err(GrammarFault::Syntax) => Ok(None),
+        Err(GrammarFault::NoMemory(refused)) => Err(refused),
+    }
+}
+
+// The tree of a text. Nothing of it is held but the tree, and only where it may have none is it looked over
+// and read once more: a fault of its tokens goes before.
 #[tactic(auto, using(crate::proofs::ReadLemmas::early_told))]
 fn read_tree<'a>(alloc: Global, text: &'a str) -> Result<Items<Part<'a>>, SyntaxFault>
     ensures { MatchResult result (λ tree. HasTree text.now tree) (λ fault. IsTold text.now fault) }
 {
+    if let Some(tree) = tree_at_once(alloc, text)? {
+        return Ok(tree);
+    }
     survey(text)?;
     tree_of(alloc, text)
 }

@@ -1,15 +1,26 @@
 //! A look over the tokens of a text, which holds none of them: whether all of it has tokens, whether the
 //! profile has each word, and how many brackets are open at once.
-ghost use Rattle.std.specs.Prelude.{◌≡◌, MatchResult};
+ghost use Rattle.std.specs.Prelude.{◌≡◌, ◌<◌, ◌≤◌, MatchBool, MatchResult};
+ghost use Rattle.std.specs.List.{count_by};
+ghost use Rattle.sparql_terminals.specs.Openers.{is_opener};
 ghost use Rattle.sparql_syntax.specs.Phases.{TellsEarly};
 ghost use Rattle.sparql_syntax.specs.Survey as spec;
 ghost use Rattle.sparql_syntax.specs.Survey.{IsReadable};
 
 use crate::fault::{SyntaxFault, SyntaxFaultKind};
 use crate::text::fault_at;
-use rdf_grammar::{Depth, Terminal as Told, deeper};
+use rdf_grammar::{Depth, MAX_OPEN, Terminal as Told, deeper};
 use rdf_tokens::{Found, Kind, Slice, TokenWalk};
 use sparql_terminals::{Terminal, is_left_out};
+
+/// Whether at most 100 of the bytes are `(`, `[` or `{`: so many brackets can't be too many at once.
+pub(crate) fn opens_few(bytes: &[u8]) -> bool
+    ensures { MatchBool result
+        (count_by is_opener bytes.now ≤ 100)
+        (100 < count_by is_opener bytes.now) }
+{
+    bytes.iter().filter(|byte| matches!(**byte, b'(' | b'[' | b'{')).count() <= MAX_OPEN
+}
 
 // Where the first word starts that the profile leaves out, behind one token more.
 fn first_left_out(
