@@ -1,5 +1,5 @@
 -- What a look over the tokens of a text comes to is what the text says.
-use Rattle.std.proofs.Common.{◌≡◌, cond, ℕ, suc, Bool, true, false, List, [], ◌∷◌, Some, None, Ok, refl, sym, ap, ◌∙◌, inl, inr}
+use Rattle.std.proofs.Common.{◌≡◌, cond, ℕ, suc, Bool, true, false, List, [], ◌∷◌, Option, Some, None, Ok, refl, sym, ap, ◌∙◌, inl, inr}
 use Rattle.std.proofs.lemmas.Bool.{cases_Bool}
 use Rattle.std.specs.List.{slice_get}
 use Rattle.std.specs.Str.{chars, IsUtf8}
@@ -42,6 +42,10 @@ out_there text t kind slice k s out = left_out_is text t slice s (ap (λ (x : Ki
 
 kept_there : (text : List ℕ) (t : Token) (kind : Kind) (slice : List ℕ) → kind ≡ t.kind → Stands text t.start t.stop slice → is_left_out kind slice ≡ false → ¬ (IsOutside text t)
 kept_there text t kind slice k s kept = kept_is text t slice s (ap (λ (x : Kind). is_left_out x slice) (sym k) ∙ kept)
+
+pub not_some : (o : Option ℕ) → ((start : ℕ) → o ≡ Some start → ⊥) → o ≡ None
+not_some None h = refl
+not_some (Some start) h = absurd (h start refl)
 
 inside_found : (text : List ℕ) (tokens : List Token) (all : List Found) → AreFound text tokens all → left_out_behind None all ≡ None → AreInside text tokens
 inside_found text [] [] h e = tt

@@ -1,5 +1,5 @@
 -- What a look over the tokens of a text tells before its grammar is asked.
-use Rattle.std.specs.Prelude.{◌≡◌, ◌-◌, ◌×◌, ℕ, if◌then◌else◌, List, [], ◌∷◌, length, Option, Some, None, Ok}
+use Rattle.std.specs.Prelude.{◌≡◌, ◌-◌, ℕ, if◌then◌else◌, List, [], ◌∷◌, length, Option, Some, None, Ok}
 use Rattle.std.specs.Str.{chars}
 use Rattle.rdf_grammar.specs.Walks.{start_of}
 use Rattle.rdf_tokens.specs.declared.token.Kind.{Kind}
