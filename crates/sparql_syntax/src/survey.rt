@@ -19,7 +19,11 @@ pub(crate) fn opens_few(bytes: &[u8]) -> bool
         (count_by is_opener bytes.now ≤ 100)
         (100 < count_by is_opener bytes.now) }
 {
-    bytes.iter().filter(|byte| matches!(**byte, b'(' | b'[' | b'{')).count() <= MAX_OPEN
+    bytes
+        .iter()
+        .filter(|byte| matches!(**byte, b'(' | b'[' | b'{'))
+        .count()
+        <= MAX_OPEN
 }
 
 // Where the first word starts that the profile leaves out, behind one token more.

@@ -28,12 +28,7 @@ fn place_of(alloc: Global, text: &str, left: usize) -> usize
 }
 
 /// The fault of a text whose parser stopped with so many lexemes left.
-pub(crate) fn stop_fault(
-    alloc: Global,
-    text: &str,
-    fault: GrammarFault,
-    left: usize,
-) -> SyntaxFault
+pub(crate) fn stop_fault(alloc: Global, text: &str, fault: GrammarFault, left: usize) -> SyntaxFault
     ensures { spec.IsStopFault text.now fault left result }
 {
     match fault {

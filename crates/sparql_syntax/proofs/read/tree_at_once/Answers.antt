@@ -1,4 +1,4 @@
-use Rattle.std.proofs.Common.{rules, ◌≤◌, ap, subst, ◌≡◌}
+use Rattle.std.proofs.Common.{rules, ◌≤◌}
 use Rattle.std.specs.List.{count_by}
 use Rattle.sparql_grammar.proofs.CallerLemmas.{requests_useful}
 use Rattle.sparql_terminals.specs.Openers.{is_opener}
