@@ -17,4 +17,5 @@ pub use Rattle.rdf_grammar.proofs.Repeats.{Going, Grown, deeper, fails_first, fa
 pub use Rattle.rdf_grammar.proofs.ScopePrefixes.{prefixes_are_replaced}
 pub use Rattle.rdf_grammar.proofs.ScopeTexts.{bytes_of}
 pub use Rattle.rdf_grammar.proofs.Terminals.{after_terminal, any_the, grown_behind, grown_fails_behind, looked, maybe_fails, maybe_reads, seen_more, seen_terminal, starts_with, terminal_seen, the_decides, the_terminal, unseen, value_decides, value_terminal, word_complete, word_sound, word_strict}
+pub use Rattle.rdf_grammar.proofs.WalkLemmas.{all_found, are_lexemes, deep_found, fault_said, never_deep, number_starts, tokens_said}
 pub use Rattle.rdf_grammar.proofs.TextLemmas.{deep_at, got, no_other, one_front, one_lexemes, one_opener, same_lengths, shallow_or_deep, some_lexemes, stops_somewhere}

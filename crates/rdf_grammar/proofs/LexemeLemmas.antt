@@ -23,11 +23,3 @@ module _ {T : Type 0} (terminal : Kind → List ℕ → T) where
 
   pub lexemes_have_forms : LexemesHaveForms terminal
   lexemes_have_forms text from rest tokens lexemes h l = have_forms text tokens lexemes (runs_have_forms text from tokens rest h) l
-
-  -- as the loop goes
-  pub lexemes_push : (text : List ℕ) (tokens : List Token) (lexemes : Lexemes T) (token : Token) (lexeme : Lexeme T)
-      → AreLexemes terminal text tokens lexemes → IsLexeme terminal text token lexeme → AreLexemes terminal text (tokens ++ token ∷ []) (lexemes ++ lexeme ∷ [])
-  lexemes_push text [] [] token lexeme h l = (l, tt)
-  lexemes_push text [] (x ∷ xs) token lexeme h l = absurd h
-  lexemes_push text (t ∷ ts) [] token lexeme h l = absurd h
-  lexemes_push text (t ∷ ts) (x ∷ xs) token lexeme h l = (h.0, lexemes_push text ts xs token lexeme h.1 l)

@@ -22,4 +22,5 @@ mod ScopeReferences
 mod ScopeTexts
 mod Terminals
 mod TextLemmas
+mod WalkLemmas
 mod WordLemmas

@@ -19,4 +19,5 @@ pub mod Readings
 pub mod References
 pub mod Steps
 pub mod Terminals
+pub mod Walks
 pub mod Words

@@ -1,18 +1,27 @@
 //! How many brackets are open.
-ghost use Rattle.std.specs.Prelude.{◌≡◌, ◌<◌, MatchOption};
-ghost use Rattle.rdf_grammar.specs.Nesting as spec;
-ghost use Rattle.rdf_grammar.specs.Nesting.{IsTooDeep, IsTooDeepAt};
+ghost use Rattle.std.specs.Prelude.{◌≡◌, ◌≤◌};
+ghost use Rattle.rdf_grammar.specs.Nesting.{behind_bracket};
+ghost use Rattle.rdf_grammar.specs.Walks as spec;
+ghost use Rattle.rdf_grammar.specs.Walks.{IsLow};
 
 use crate::bracket::Bracket;
-use crate::lexeme::Lexeme;
 use crate::terminal::Terminal;
 
 /// How many brackets may be open at once.
 pub const MAX_OPEN: usize = 100;
 
+/// How many brackets are open behind some tokens of a text.
+#[derive(Clone, Copy, Debug, PartialEq, Eq)]
+pub enum Depth {
+    /// So many, and behind none of them more than 100.
+    Open(usize),
+    /// More than 100 were, first behind the token that starts at this byte.
+    TooDeep(usize),
+}
+
 fn open_behind(count: usize, bracket: Bracket) -> usize
-    requires { count < 101 }
-    ensures { result ≡ spec.behind_bracket count bracket }
+    requires { count ≤ 100 }
+    ensures { result ≡ behind_bracket count bracket }
 {
     match bracket {
         Bracket::Opens => count + 1,
@@ -21,19 +30,22 @@ fn open_behind(count: usize, bracket: Bracket) -> usize
     }
 }
 
-/// The place of the first lexeme behind which more than 100 brackets are open, if there is one. A
-/// bracket that closes where none is open changes nothing.
-pub fn too_deep<T: Terminal>(lexemes: &[Lexeme<'_, T>]) -> Option<usize>
-    ensures { MatchOption result
-        (¬ (IsTooDeep T.bracket lexemes.now))
-        (λ place. IsTooDeepAt T.bracket lexemes.now place) }
+/// The depth behind one token more, which starts at that byte. A bracket that closes where none is
+/// open changes nothing.
+pub fn deeper<T: Terminal>(depth: Depth, start: usize, terminal: T) -> Depth
+    requires { IsLow depth }
+    ensures depth { result ≡ spec.deeper T.bracket depth start terminal }
+    ensures low { IsLow result }
 {
-    let mut count = 0;
-    for (place, lexeme) in lexemes.iter().enumerate() {
-        count = open_behind(count, lexeme.terminal.bracket());
-        if count > MAX_OPEN {
-            return Some(place);
+    match depth {
+        Depth::Open(before) => {
+            let count = open_behind(before, terminal.bracket());
+            if count > MAX_OPEN {
+                Depth::TooDeep(start)
+            } else {
+                Depth::Open(count)
+            }
         }
+        Depth::TooDeep(first) => Depth::TooDeep(first),
     }
-    None
 }

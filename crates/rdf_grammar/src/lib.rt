@@ -22,13 +22,14 @@ mod places;
 mod production;
 mod prologue;
 mod rest;
+mod start;
 mod tags;
 mod terminal;
 mod tree;
 mod word;
 
 pub use bracket::Bracket;
-pub use depth::{MAX_OPEN, too_deep};
+pub use depth::{Depth, MAX_OPEN, deeper};
 pub use fault::GrammarFault;
 pub use key::Key;
 pub use laws::{
@@ -36,11 +37,12 @@ pub use laws::{
     prefixes_are_replaced, productions_are_read, references_are_resolved,
 };
 pub use lexeme::Lexeme;
-pub use lexeme_list::{lexemes, lexemes_have_forms};
+pub use lexeme_list::lexemes_have_forms;
 pub use numbering::Numbering;
 pub use parser::Parser;
 pub use production::{binding, iri, literal};
 pub use prologue::{Prologue, PrologueFault};
+pub use start::start_of;
 pub use terminal::Terminal;
 pub use tree::{Literal, Name};
 pub use word::{Word, Words};

@@ -14,8 +14,8 @@ use crate::faulty_name::{first_lacking, first_unbound};
 use crate::lexeme::Parser;
 use crate::sink::TripleSink;
 use crate::straight::triples_of;
-use crate::survey::{start_of, survey};
-use rdf_grammar::MAX_OPEN;
+use crate::survey::survey;
+use rdf_grammar::{MAX_OPEN, start_of};
 use rdf_terms::{Iri, NoMemory, Quad};
 use std::alloc::Global;
 

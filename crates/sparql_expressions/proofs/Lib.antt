@@ -3,6 +3,7 @@ pub mod Choices
 pub mod ExpressionNests
 pub mod ExpressionProper
 pub mod ExpressionTrees
+pub mod ExpressionUses
 pub mod Expressions
 pub mod ExpressionsRead
 pub mod Follow

@@ -4,6 +4,7 @@ mod GrammarNests
 mod GrammarNodes
 mod GrammarProper
 mod GrammarTriples
+mod GrammarUses
 mod GroupElements
 mod GroupNests
 mod GroupProductions

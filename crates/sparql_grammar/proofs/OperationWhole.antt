@@ -1,9 +1,9 @@
 -- All of the lexemes.
 use Rattle.std.proofs.Common.{◌≡◌, ℕ, suc, ◌<◌, ◌≤◌, true, List, [], take, length, Option, Some, None, refl, ap, sym, ◌∙◌, arith, inl, inr, ◌⊎◌}
-use Rattle.std.specs.Prelude.{MatchOption}
+use Rattle.std.specs.Prelude.{Result, Ok, Err, IfErr, IfOk, OnOk}
 use Rattle.rdf_grammar.specs.declared.fault.GrammarFault.{GrammarFault}
 use Rattle.rdf_grammar.specs.declared.fault.GrammarFault.TheVariants.{Syntax, NoMemory}
-use Rattle.rdf_grammar.specs.Readings.{Fails}
+use Rattle.rdf_grammar.specs.Readings.{Fails, Reads}
 use Rattle.rdf_grammar.specs.Terminals.{next_terminal}
 use Rattle.rdf_grammar.proofs.CallerLemmas.{some_pair, never_more}
 use Rattle.sparql_terminals.specs.declared.terminal.Terminal.{Terminal}
@@ -15,12 +15,12 @@ use Rattle.sparql_grammar.specs.Grammar.{Nodes_at, TriplesTemplate}
 use Rattle.sparql_grammar.specs.GroupGrammar.{GroupAt}
 use Rattle.sparql_grammar.specs.GroupReading.{group_at}
 use Rattle.sparql_terminals.specs.Lexemes.{Lexemes, Reading, Derives}
-use Rattle.sparql_grammar.specs.Nesting.{open_after, IsTooDeep, IsTooDeepAt}
+use Rattle.sparql_grammar.specs.Nesting.{open_after, IsTooDeep}
 use Rattle.sparql_grammar.specs.OperationGrammar.{IsRequest, Update1}
 use Rattle.sparql_grammar.specs.OperationReading.{request}
 use Rattle.sparql_grammar.specs.Reading.{node, triples_template}
 use Rattle.sparql_grammar.specs.RequestLaws.{OneRequest}
-use Rattle.sparql_grammar.specs.Stops.{Explains, kind_of}
+use Rattle.sparql_grammar.specs.Stops.{Explains}
 use Rattle.sparql_terminals.specs.Terminals.{bracket}
 use Rattle.sparql_grammar.proofs.GrammarTriples.{triples_decides, triples_begin, closes_template}
 use Rattle.sparql_grammar.proofs.GroupWhole.{group_at_rule}
@@ -95,10 +95,10 @@ request_at ts parts d = request_read_at (length ts) ts parts (λ n. let h = neve
 pub request_unique : OneRequest
 request_unique ts one other d e = (some_pair one other [] [] (sym (request_at ts one d) ∙ request_at ts other e)).0
 
--- why a request is not read, where brackets don't nest too deep
-pub stop_explained : (ts : Lexemes) (fault : GrammarFault) (place : ℕ) → (IsTooDeep ts → ⊥) → Fails (request 99 ts) fault → Explains ts (kind_of fault) place
-stop_explained ts Syntax place shallow fails = λ parts is. let read = request_read ts parts shallow is in absurd (cc)
-stop_explained ts (NoMemory refusal) place shallow fails = tt
+-- why a request is not read
+pub stop_explained : (ts : Lexemes) (fault : GrammarFault) → Fails (request 99 ts) fault → Explains ts fault
+stop_explained ts Syntax fails = λ shallow parts is. let read = request_read ts parts shallow is in absurd (cc)
+stop_explained ts (NoMemory refusal) fails = tt
 
 pub found_alone : (ts : Lexemes) (parts : List Part) (us : Lexemes) → request 99 ts ≡ Some (parts, us) → us ≡ [] → IsRequest ts parts
 found_alone ts parts us h e = request_sound 98 ts parts (h ∙ ap (λ l. Some (parts, l)) e)
@@ -106,6 +106,16 @@ found_alone ts parts us h e = request_sound 98 ts parts (h ∙ ap (λ l. Some (p
 pub found_only : (ts : Lexemes) (parts : List Part) (us : Lexemes) → request 99 ts ≡ Some (parts, us) → us ≡ [] → (other : List Part) → IsRequest ts other → parts ≡ other
 found_only ts parts us h e other is = request_unique ts parts other (found_alone ts parts us h e) is
 
-pub shallow : (ts : Lexemes) (r : Option ℕ) → MatchOption r (IsTooDeep ts → ⊥) (λ place. IsTooDeepAt ts place) → ((place : ℕ) → r ≡ Some place → ⊥) → IsTooDeep ts → ⊥
-shallow ts None h none = h
-shallow ts (Some place) h none = absurd (none place refl)
+-- ---- what is answered
+
+pub answer_found : (ts us : Lexemes) (r : Result (List Part) GrammarFault) → Reads (request 99 ts) r us → OnOk r (us ≡ []) → IfOk r (λ parts. IsRequest ts parts)
+answer_found ts us (Ok parts) h e = found_alone ts parts us h e
+answer_found ts us (Err fault) h e = tt
+
+pub answer_only : (ts us : Lexemes) (r : Result (List Part) GrammarFault) → Reads (request 99 ts) r us → OnOk r (us ≡ []) → (parts : List Part) → IsRequest ts parts → IfOk r (λ found. found ≡ parts)
+answer_only ts us (Ok parts) h e = found_only ts parts us h e
+answer_only ts us (Err fault) h e = λ parts is. tt
+
+pub answer_explained : (ts us : Lexemes) (r : Result (List Part) GrammarFault) → Reads (request 99 ts) r us → IfErr r (λ fault. Explains ts fault)
+answer_explained ts us (Ok parts) h = tt
+answer_explained ts us (Err fault) h = stop_explained ts fault h

@@ -1,8 +1,9 @@
 -- All of the lexemes are a query.
 use Rattle.std.proofs.Common.{◌≡◌, ℕ, suc, ◌≤◌, [], ◌∷◌, take, length, Some, refl, ap, sym, ◌∙◌, arith}
+use Rattle.std.specs.Prelude.{Result, Ok, Err, IfErr, IfOk, OnOk}
 use Rattle.rdf_grammar.specs.declared.fault.GrammarFault.{GrammarFault}
 use Rattle.rdf_grammar.specs.declared.fault.GrammarFault.TheVariants.{Syntax, NoMemory}
-use Rattle.rdf_grammar.specs.Readings.{Fails}
+use Rattle.rdf_grammar.specs.Readings.{Fails, Reads}
 use Rattle.rdf_grammar.specs.Derivations as grammar
 use Rattle.rdf_grammar.specs.Derivations.{Star}
 use Rattle.rdf_grammar.proofs.CallerLemmas.{some_pair, never_more, Keeps, then_keeps, pure_keeps, or_keeps, the_keeps, value_keeps, map_keeps, behind_keeps, word_keeps, star_keeps, one_keeps}
@@ -20,7 +21,7 @@ use Rattle.sparql_grammar.specs.QueryGrammar.{IsQuery}
 use Rattle.sparql_grammar.specs.QueryLaws.{OneQuery}
 use Rattle.sparql_grammar.specs.QueryReading as read
 use Rattle.sparql_grammar.specs.QueryReading.{whole_query}
-use Rattle.sparql_grammar.specs.Stops.{ExplainsQuery, kind_of}
+use Rattle.sparql_grammar.specs.Stops.{ExplainsQuery}
 use Rattle.sparql_terminals.specs.Terminals.{bracket}
 use Rattle.sparql_grammar.proofs.GrammarNests.{perhaps_keeps}
 use Rattle.sparql_grammar.proofs.GroupNests.{group_at_keeps}
@@ -85,13 +86,27 @@ query_at ts query d = query_read_at (length ts) ts query (λ n. let h = never_mo
 pub query_unique : OneQuery
 query_unique ts one other d e = (some_pair one other [] [] (sym (query_at ts one d) ∙ query_at ts other e)).0
 
--- why a query is not read, where brackets don't nest too deep
-pub query_stop_explained : (ts : Lexemes) (fault : GrammarFault) (place : ℕ) → (IsTooDeep ts → ⊥) → Fails (whole_query ts) fault → ExplainsQuery ts (kind_of fault) place
-query_stop_explained ts Syntax place shallow fails = λ query is. let read = query_read ts query shallow is in absurd (cc)
-query_stop_explained ts (NoMemory refusal) place shallow fails = tt
+-- why a query is not read
+pub query_stop_explained : (ts : Lexemes) (fault : GrammarFault) → Fails (whole_query ts) fault → ExplainsQuery ts fault
+query_stop_explained ts Syntax fails = λ shallow query is. let read = query_read ts query shallow is in absurd (cc)
+query_stop_explained ts (NoMemory refusal) fails = tt
 
 pub query_found : (ts : Lexemes) (query : Query) (us : Lexemes) → whole_query ts ≡ Some (query, us) → us ≡ [] → IsQuery ts query
 query_found ts query us h e = query_sound 99 ts query (h ∙ ap (λ l. Some (query, l)) e)
 
 pub query_only : (ts : Lexemes) (query : Query) (us : Lexemes) → whole_query ts ≡ Some (query, us) → us ≡ [] → (other : Query) → IsQuery ts other → query ≡ other
 query_only ts query us h e other is = query_unique ts query other (query_found ts query us h e) is
+
+-- ---- what is answered
+
+pub query_answer_found : (ts us : Lexemes) (r : Result Query GrammarFault) → Reads (whole_query ts) r us → OnOk r (us ≡ []) → IfOk r (λ query. IsQuery ts query)
+query_answer_found ts us (Ok query) h e = query_found ts query us h e
+query_answer_found ts us (Err fault) h e = tt
+
+pub query_answer_only : (ts us : Lexemes) (r : Result Query GrammarFault) → Reads (whole_query ts) r us → OnOk r (us ≡ []) → (query : Query) → IsQuery ts query → IfOk r (λ found. found ≡ query)
+query_answer_only ts us (Ok query) h e = query_only ts query us h e
+query_answer_only ts us (Err fault) h e = λ query is. tt
+
+pub query_answer_explained : (ts us : Lexemes) (r : Result Query GrammarFault) → Reads (whole_query ts) r us → IfErr r (λ fault. ExplainsQuery ts fault)
+query_answer_explained ts us (Ok query) h = tt
+query_answer_explained ts us (Err fault) h = query_stop_explained ts fault h

@@ -12,7 +12,6 @@ mod laws;
 mod operations;
 mod prologue;
 mod query;
-mod stop;
 mod tree;
 mod update;
 
@@ -21,7 +20,6 @@ pub use laws::{
     requests_are_proper,
 };
 pub use query::parse_query;
-pub use stop::{Stop, StopKind};
 pub use tree::{
     Block, Columns, Declaration, Expression, GraphOrDefault, GraphRefAll, Group, Literal, Member,
     Modify, Name, Node, Operation, Part, Property, Query, QueryForm, Triples, VarOrIri, Verb,

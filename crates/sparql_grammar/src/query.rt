@@ -1,24 +1,20 @@
 //! Queries, from lexemes to their trees (SPARQL 1.1 Query, section 19.8).
 
-ghost use Rattle.std.specs.Prelude.{◌≡◌, ◌≤◌, ◌<◌, length, [], OnOk, IfOk, IfErr, IsErrAnd};
+ghost use Rattle.std.specs.Prelude.{◌≡◌, ◌<◌, length, [], OnOk, IfOk, IfErr};
 ghost use Rattle.rdf_grammar.specs.Readings.{Reads};
 ghost use Rattle.sparql_grammar.specs.QueryReading as spec;
 ghost use Rattle.sparql_grammar.specs.GroupReading.{whole_group};
 ghost use Rattle.sparql_grammar.specs.QueryGrammar.{IsQuery};
-ghost use Rattle.sparql_grammar.specs.Nesting.{IsTooDeep};
 ghost use Rattle.sparql_grammar.specs.Stops.{ExplainsQuery};
-ghost use Rattle.sparql_grammar.specs.declared.stop.StopKind.TheVariants.{TooDeep};
 ghost use Rattle.sparql_grammar.specs.declared.tree.Query.{Query as Tree};
 
 use crate::group::group;
 use crate::prologue::prologue;
-use crate::stop::{Stop, StopKind};
 use crate::tree::{Columns, Group, Query, QueryForm};
-use rdf_grammar::{GrammarFault, MAX_OPEN, too_deep};
+use rdf_grammar::{GrammarFault, MAX_OPEN};
 use rdf_terms::Items;
 use rdf_tokens::Slice;
-use sparql_terminals::{Lexeme, Parser, Terminal};
-use std::alloc::Global;
+use sparql_terminals::{Parser, Terminal};
 
 #[tactic(auto, unfolding(crate::specs::QueryReading::variables))]
 fn variables<'a>(parser: &mut Parser<'_, 'a>) -> Result<Items<Slice<'a>>, GrammarFault>
@@ -115,30 +111,16 @@ fn query<'a>(parser: &mut Parser<'_, 'a>) -> Result<Query<'a>, GrammarFault>
 /// members in the order of the text.
 ///
 /// # Errors
-/// `TooDeep` where more than 100 brackets are open at once, at the first lexeme behind which they
-/// are; `Syntax` where the lexemes are no query; `NoMemory` where memory is wanting.
-pub fn parse_query<'a>(alloc: Global, lexemes: &[Lexeme<'a>]) -> Result<Query<'a>, Stop>
+/// `Syntax` where the lexemes are no query, or open more than 100 brackets at once: the next lexeme is
+/// then the first with which none can begin, and none is left where only more of them could make one.
+/// `NoMemory` where memory is wanting.
+pub fn parse_query<'a>(parser: &mut Parser<'_, 'a>) -> Result<Query<'a>, GrammarFault>
     // What is read is derived from the lexemes, and nothing else is.
-    ensures found { IfOk result (λ query. IsQuery lexemes.now query) }
+    ensures found { IfOk result (λ query. IsQuery parser.old query) }
     ensures only { (query : Tree) →
-        IsQuery lexemes.now query → IfOk result (λ found. found ≡ query) }
+        IsQuery parser.old query → IfOk result (λ found. found ≡ query) }
 
-    ensures too_deep { IsTooDeep lexemes.now → IsErrAnd result (λ stop. stop.kind ≡ TooDeep) }
-    ensures fault { IfErr result (λ stop. ExplainsQuery lexemes.now stop.kind stop.place) }
-    ensures place { IfErr result (λ stop. stop.place ≤ length lexemes.now) }
+    ensures fault { IfErr result (λ fault. ExplainsQuery parser.old fault) }
 {
-    if let Some(place) = too_deep(lexemes) {
-        return Err(Stop {
-            kind: StopKind::TooDeep,
-            place,
-        });
-    }
-    let mut parser = Parser::new(alloc, lexemes);
-    match query(&mut parser) {
-        Ok(query) => Ok(query),
-        Err(fault) => Err(Stop {
-            kind: StopKind::from(fault),
-            place: lexemes.len().saturating_sub(parser.left()),
-        }),
-    }
+    query(parser)
 }

@@ -1,4 +1,5 @@
 pub mod AnswerLemmas
+mod AtOnceLemmas
 pub mod DraftsNumbered
 mod FailLemmas
 pub mod LabelLemmas
@@ -13,6 +14,7 @@ mod RuleLawLemmas
 mod RuleLemmas
 mod SayLemmas
 mod SharedLabels
+mod SurveyLemmas
 mod TellLemmas
 mod UpdateCases
 mod UpdateLemmas

@@ -1,16 +1,13 @@
 -- The first word that the profile leaves out.
-use Rattle.std.proofs.Common.{◌≡◌, ◌≢◌, ◌<◌, ◌⊎◌, inl, inr, ◌∷◌, [], ℕ, zero, suc, Bool, true, false, List, Some, take, refl, sym, subst, arith}
-use Rattle.std.specs.Prelude.{MatchBool}
+use Rattle.std.proofs.Common.{◌≡◌, ◌<◌, ◌⊎◌, inl, inr, ◌∷◌, [], ℕ, zero, suc, List, Some, take, refl, sym, subst, arith}
+use Rattle.std.proofs.lemmas.Bool.{cases_Bool}
 use Rattle.std.specs.List.{AllByRecursion, slice_get}
-use Rattle.std.specs.Str.{encode_utf8_all}
 use Rattle.rdf_grammar.proofs.CallerLemmas.{no_other}
-use Rattle.rdf_tokens.specs.declared.token.Kind.{Kind}
-use Rattle.rdf_tokens.specs.declared.token.Kind.TheVariants as kind
 use Rattle.rdf_tokens.specs.declared.token.Token.{Token}
 use Rattle.rdf_tokens.specs.Tokens.{HasItsForm}
 use Rattle.rdf_tokens.proofs.CallerLemmas.{token_stands}
-use Rattle.sparql_terminals.proofs.CallerLemmas.{word_tells}
-use Rattle.sparql_terminals.specs.Profile.{is_outside, IsOutside, AreInside, IsFirstOutside}
+use Rattle.sparql_terminals.proofs.CallerLemmas.{kept_is, left_out_is}
+use Rattle.sparql_terminals.specs.Profile.{is_left_out, IsOutside, AreInside, IsFirstOutside}
 
 -- a token before the place is within the profile
 before_place : (text : List ℕ) (tokens : List Token) (token : Token) (m n : ℕ) → m < n → AreInside text (take n tokens) → slice_get tokens m ≡ Some token → ¬ (IsOutside text token)
@@ -35,18 +32,10 @@ one_outside text tokens m n h k = no_other m n (not_before text tokens m n h k) 
 
 -- ---- each token is within the profile, or not
 
-is_word_kind : (k : Kind) → (k ≡ kind.Word) ⊎ (k ≢ kind.Word)
-is_word_kind kind.Word = inl refl
-is_word_kind _ = inr (λ e. cc)
-
-told : {A : Type 0} (b : Bool) → MatchBool b A (A → ⊥) → A ⊎ (A → ⊥)
-told true h = inl h
-told false h = inr h
-
 outside_or_not : (text : List ℕ) (token : Token) → HasItsForm text token → IsOutside text token ⊎ ¬ (IsOutside text token)
-outside_or_not text token h = elim (is_word_kind token.kind) [
-  | inr other ↦ inr (λ out. other out.0)
-  | inl word ↦ told (is_outside (encode_utf8_all h.1)) (word_tells text token h.1 (is_outside (encode_utf8_all h.1)) word (token_stands text token h) refl)
+outside_or_not text token h = elim (cases_Bool (is_left_out token.kind h.1)) [
+  | inl out ↦ inl (left_out_is text token h.1 (token_stands text token h) out)
+  | inr kept ↦ inr (kept_is text token h.1 (token_stands text token h) kept)
 ]
 
 abbrev OutsideOrNot : List ℕ → List Token → Type 0

@@ -79,7 +79,7 @@ some_left : (l : Lexeme) (ls : Lexemes) → ◌≡◌ {A = Lexemes} (l ∷ ls) [
 some_left l ls e = cc
 
 by_reading : (lexemes : Lexemes) → ¬ (IsTooDeep lexemes) → (o : Outcome written.Query) → whole_query lexemes ≡ o → QueryOrNot lexemes
-by_reading lexemes shallow None e = inr (query_stop_explained lexemes Syntax 0 shallow e)
+by_reading lexemes shallow None e = inr (query_stop_explained lexemes Syntax e shallow)
 by_reading lexemes shallow (Some (tree, [])) e = inl (tree, query_found lexemes tree [] e refl)
 by_reading lexemes shallow (Some (tree, l ∷ ls)) e = absurd (some_left l ls (nothing_left lexemes tree (l ∷ ls) e))
 

@@ -1,41 +1,43 @@
 -- What a reader of queries answers is what the text says.
-use Rattle.std.proofs.Common.{◌≡◌, ◌∙◌, inl, inr, ℕ, true, false, List, Option, Some, None, Result, Ok, Err, IsTrue, MatchResult, refl}
+use Rattle.std.proofs.Common.{◌≡◌, ◌∙◌, inl, inr, ℕ, true, false, List, Option, Some, None, Result, Ok, Err, IsTrue, MatchResult, refl, subst}
 use Rattle.std.specs.Str.{chars}
+use Rattle.rdf_grammar.specs.declared.fault.GrammarFault.{GrammarFault}
 use Rattle.rdf_grammar.specs.declared.prologue.PrologueFault.{PrologueFault}
 use Rattle.rdf_grammar.specs.declared.prologue.PrologueFault.TheVariants as name
-use Rattle.rdf_tokens.specs.declared.token.Token.{Token}
 use Rattle.rdf_tokens.specs.Lines.{line_of}
 use Rattle.sparql_grammar.specs.declared.tree.Query as written
+use Rattle.rdf_grammar.specs.Lexemes.{AreReadOf}
 use Rattle.sparql_terminals.specs.Lexemes.{Lexemes}
-use Rattle.sparql_grammar.specs.Nesting.{IsTooDeep}
+use Rattle.sparql_terminals.specs.Terminals.{terminal_by}
 use Rattle.sparql_grammar.specs.QueryGrammar as grammar
-use Rattle.sparql_terminals.specs.Profile.{AreInside}
 use Rattle.sparql_grammar.specs.Proper.{proper_query}
 use Rattle.sparql_grammar.specs.Stops.{ExplainsQuery}
 use Rattle.sparql_grammar.proofs.CallerLemmas.{queries_proper}
-use Rattle.sparql_grammar.specs.declared.stop.StopKind.{StopKind}
-use Rattle.sparql_grammar.specs.declared.stop.StopKind.TheVariants as stop
 use Rattle.sparql_queries.specs.Groups.{Labels}
 use Rattle.sparql_queries.specs.Known.{known_query}
 use Rattle.sparql_queries.specs.Queries.{query_in, IsFaultOf}
 use Rattle.sparql_syntax.specs.declared.fault.SyntaxFault.{SyntaxFault}
 use Rattle.sparql_syntax.specs.declared.fault.SyntaxFaultKind.TheVariants as fault
-use Rattle.sparql_syntax.specs.Phases.{HasTokens, TellsEarly}
+use Rattle.sparql_syntax.specs.Phases.{TellsEarly}
+use Rattle.sparql_syntax.specs.Survey.{IsReadable}
 use Rattle.sparql_syntax.specs.Query.{HasTree, IsQuery, TellsFault, meaning, ruled}
 use Rattle.sparql_syntax.specs.QueryTold.{IsTold, IsRuleFault}
-use Rattle.sparql_syntax.specs.Told.{stop_fault, name_fault}
+use Rattle.sparql_syntax.specs.Told.{IsStopFault, name_fault}
 use Rattle.sparql_trees.specs.declared.query.Query.{Query}
 use Rattle.sparql_syntax.proofs.QueryCases.{tree_kind}
 use Rattle.sparql_syntax.proofs.TellLemmas as language
-use Rattle.sparql_syntax.proofs.TellLemmas.{IsAt}
 
 pub early_told : (text : List ℕ) (f : SyntaxFault) → TellsEarly text f f.kind → IsTold text f
 early_told text f h = language.early_told grammar.IsQuery meaning text f h
 
 -- the parser's fault is the text's
-pub stop_told : (text : List ℕ) (tokens : List Token) (lexemes : Lexemes) (k : StopKind) (place start : ℕ) (f : SyntaxFault) → HasTokens text tokens lexemes → AreInside (chars text) tokens
-    → (IsTooDeep lexemes → k ≡ stop.TooDeep) → ExplainsQuery lexemes k place → IsAt tokens place start → f ≡ stop_fault text k start → IsTold text f
-stop_told = language.stop_told grammar.IsQuery meaning ExplainsQuery (λ ls place h. h) (λ ls place h. h)
+pub stop_told : (text : List ℕ) (ls : Lexemes) (k : GrammarFault) (left : ℕ) (f : SyntaxFault) → IsReadable text → AreReadOf terminal_by (chars text) ls → ExplainsQuery ls k → IsStopFault text k left f → IsTold text f
+stop_told = language.stop_told grammar.IsQuery meaning ExplainsQuery (λ ls h. h)
+
+-- and its tree
+pub tree_read : (text : List ℕ) (ls : Lexemes) (tree : written.Query) → IsReadable text → AreReadOf terminal_by (chars text) ls → grammar.IsQuery ls tree → HasTree text tree
+tree_read text ls tree r read is =
+    record { tokens = r.tokens; lexemes = r.lexemes; list = r.list; inside = r.inside; shallow = r.shallow; reads = subst (λ (x : Lexemes). grammar.IsQuery x tree) (language.read_lexemes text ls r read) is }
 
 pub tree_proper : (text : List ℕ) (tree : written.Query) → HasTree text tree → IsTrue (proper_query tree)
 tree_proper text tree h =

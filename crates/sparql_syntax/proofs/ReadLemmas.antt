@@ -1,33 +1,31 @@
 -- What a reader answers is what the text says.
-use Rattle.std.proofs.Common.{◌≡◌, inl, inr, ℕ, List, Option, Result, Ok, Err, IsTrue, MatchResult, map, refl, ap, ◌∙◌}
+use Rattle.std.proofs.Common.{◌≡◌, inl, inr, ℕ, List, Option, Result, Ok, Err, IsTrue, MatchResult, map, refl, ap, subst, ◌∙◌}
 use Rattle.std.specs.List.{list_all}
 use Rattle.std.specs.Str.{chars}
+use Rattle.rdf_grammar.specs.declared.fault.GrammarFault.{GrammarFault}
 use Rattle.rdf_grammar.specs.declared.prologue.PrologueFault.{PrologueFault}
 use Rattle.rdf_grammar.specs.declared.prologue.PrologueFault.TheVariants as name
-use Rattle.rdf_tokens.specs.declared.token.Token.{Token}
 use Rattle.rdf_tokens.specs.Lines.{line_of}
 use Rattle.sparql_grammar.specs.declared.tree.Part.{Part}
+use Rattle.rdf_grammar.specs.Lexemes.{AreReadOf}
 use Rattle.sparql_terminals.specs.Lexemes.{Lexemes}
-use Rattle.sparql_grammar.specs.Nesting.{IsTooDeep}
+use Rattle.sparql_terminals.specs.Terminals.{terminal_by}
 use Rattle.sparql_grammar.specs.OperationGrammar.{IsRequest}
-use Rattle.sparql_terminals.specs.Profile.{AreInside}
 use Rattle.sparql_grammar.specs.Proper.{holds, proper_part}
 use Rattle.sparql_grammar.specs.Stops.{Explains}
 use Rattle.sparql_grammar.proofs.CallerLemmas.{requests_proper}
 use Rattle.sparql_syntax.specs.declared.draft.Draft.{Draft}
 use Rattle.sparql_syntax.specs.declared.fault.SyntaxFault.{SyntaxFault}
 use Rattle.sparql_syntax.specs.declared.fault.SyntaxFaultKind.TheVariants as fault
-use Rattle.sparql_grammar.specs.declared.stop.StopKind.{StopKind}
-use Rattle.sparql_grammar.specs.declared.stop.StopKind.TheVariants as stop
-use Rattle.sparql_syntax.specs.Phases.{HasTokens, TellsEarly}
+use Rattle.sparql_syntax.specs.Phases.{TellsEarly}
+use Rattle.sparql_syntax.specs.Survey.{IsReadable}
 use Rattle.sparql_syntax.specs.Rules.{judged}
 use Rattle.sparql_syntax.specs.Kept.{IsFaultOf}
 use Rattle.sparql_syntax.specs.Meaning.{answer}
-use Rattle.sparql_syntax.specs.Told.{IsTold, IsRuleFault, stop_fault, name_fault}
+use Rattle.sparql_syntax.specs.Told.{IsTold, IsRuleFault, IsStopFault, name_fault}
 use Rattle.sparql_syntax.specs.Update.{HasTree, IsUpdate, TellsFault, meaning, ruled}
 use Rattle.sparql_trees.specs.declared.operation.Request.{Request}
 use Rattle.sparql_syntax.proofs.TellLemmas as language
-use Rattle.sparql_syntax.proofs.TellLemmas.{IsAt}
 use Rattle.sparql_syntax.proofs.UpdateCases.{tree_kind}
 
 -- ---- whatever the base is
@@ -36,9 +34,13 @@ pub early_told : (text : List ℕ) (f : SyntaxFault) → TellsEarly text f f.kin
 early_told text f h = language.early_told IsRequest meaning text f h
 
 -- the parser's fault is the text's
-pub stop_told : (text : List ℕ) (tokens : List Token) (lexemes : Lexemes) (k : StopKind) (place start : ℕ) (f : SyntaxFault) → HasTokens text tokens lexemes → AreInside (chars text) tokens
-    → (IsTooDeep lexemes → k ≡ stop.TooDeep) → Explains lexemes k place → IsAt tokens place start → f ≡ stop_fault text k start → IsTold text f
-stop_told = language.stop_told IsRequest meaning Explains (λ ls place h. h) (λ ls place h. h)
+pub stop_told : (text : List ℕ) (ls : Lexemes) (k : GrammarFault) (left : ℕ) (f : SyntaxFault) → IsReadable text → AreReadOf terminal_by (chars text) ls → Explains ls k → IsStopFault text k left f → IsTold text f
+stop_told = language.stop_told IsRequest meaning Explains (λ ls h. h)
+
+-- and its tree
+pub tree_read : (text : List ℕ) (ls : Lexemes) (tree : List Part) → IsReadable text → AreReadOf terminal_by (chars text) ls → IsRequest ls tree → HasTree text tree
+tree_read text ls tree r read is =
+    record { tokens = r.tokens; lexemes = r.lexemes; list = r.list; inside = r.inside; shallow = r.shallow; reads = subst (λ (x : Lexemes). IsRequest x tree) (language.read_lexemes text ls r read) is }
 
 -- ---- the tree of a text
 

@@ -29,7 +29,7 @@ more_left : (a b : List Part) (l : Lexeme) (ls : Lexemes) → ◌≡◌ {A = Out
 more_left a b l ls e = let none : l ∷ ls ≡ [] = (some_pair a b (l ∷ ls) [] e).1 in cc
 
 by_reading : (lexemes : Lexemes) → ¬ (IsTooDeep lexemes) → (o : Outcome (List Part)) → request 99 lexemes ≡ o → RequestOrNot lexemes
-by_reading lexemes shallow None e = inr (stop_explained lexemes Syntax 0 shallow e)
+by_reading lexemes shallow None e = inr (stop_explained lexemes Syntax e shallow)
 by_reading lexemes shallow (Some (tree, [])) e = inl (tree, found_alone lexemes tree [] e refl)
 by_reading lexemes shallow (Some (tree, l ∷ ls)) e = inr (λ other is. more_left tree other l ls (sym e ∙ request_read lexemes other shallow is))
 

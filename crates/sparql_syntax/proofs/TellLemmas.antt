@@ -1,13 +1,17 @@
 -- What a reader answers before a tree stands is what the text says.
-use Rattle.std.proofs.Common.{◌≡◌, ◌<◌, ℕ, List, Option, Some, Result, Ok, Err, refl, sym, ap, subst}
+use Rattle.std.proofs.Common.{◌≡◌, ◌∙◌, ◌-◌, ℕ, List, length, Option, Some, Result, Ok, Err, refl, sym, ap, subst}
 use Rattle.std.specs.List.{slice_get}
 use Rattle.std.specs.Str.{chars, IsUtf8}
-use Rattle.rdf_grammar.proofs.CallerLemmas.{got, same_lengths, some_lexemes}
+use Rattle.rdf_grammar.specs.declared.fault.GrammarFault.{GrammarFault}
+use Rattle.rdf_grammar.specs.declared.fault.GrammarFault.TheVariants as grammar
+use Rattle.rdf_grammar.specs.Lexemes.{AreLexemes, AreReadOf}
+use Rattle.rdf_grammar.specs.Walks.{StartsAt, start_of}
+use Rattle.rdf_grammar.proofs.CallerLemmas.{one_lexemes, same_lengths}
 use Rattle.rdf_terms.specs.declared.fault.NoMemory.{NoMemory}
 use Rattle.rdf_tokens.specs.declared.token.Token.{Token}
 use Rattle.rdf_tokens.specs.Lines.{line_of}
 use Rattle.rdf_tokens.specs.Tokens.{Tokenizes}
-use Rattle.rdf_tokens.proofs.CallerLemmas.{tokens_have_forms}
+use Rattle.rdf_tokens.proofs.CallerLemmas.{one_token_list}
 use Rattle.sparql_terminals.specs.Lexemes.{Lexeme, Lexemes}
 use Rattle.sparql_grammar.specs.Nesting.{IsTooDeep, IsTooDeepAt}
 use Rattle.sparql_terminals.specs.Profile.{AreInside, IsFirstOutside}
@@ -15,11 +19,10 @@ use Rattle.sparql_terminals.specs.Terminals.{terminal_by}
 use Rattle.sparql_syntax.specs.declared.fault.SyntaxFault.{SyntaxFault}
 use Rattle.sparql_syntax.specs.declared.fault.SyntaxFaultKind.{SyntaxFaultKind}
 use Rattle.sparql_syntax.specs.declared.fault.SyntaxFaultKind.TheVariants as fault
-use Rattle.sparql_grammar.specs.declared.stop.StopKind.{StopKind}
-use Rattle.sparql_grammar.specs.declared.stop.StopKind.TheVariants as stop
 use Rattle.sparql_syntax.specs.Phases as phases
 use Rattle.sparql_syntax.specs.Phases.{HasTokens, StopsEarly, TellsEarly}
-use Rattle.sparql_syntax.specs.Told.{fault_at, wants_memory, stop_fault}
+use Rattle.sparql_syntax.specs.Survey.{IsReadable, IsStop}
+use Rattle.sparql_syntax.specs.Told.{fault_at, wants_memory, IsStopFault}
 
 -- ---- in every language
 
@@ -31,23 +34,41 @@ early_of : (text : List ℕ) (f : SyntaxFault) (k : SyntaxFaultKind) (line : ℕ
 early_of text f k line e h =
     subst (λ (x : SyntaxFault). TellsEarly text x x.kind) (sym e) (early_at text (record { line = line; kind = k }) k h h)
 
-abbrev pub IsAt : List Token → ℕ → ℕ → Type 0
-IsAt tokens place start = (token : Token) → slice_get tokens place ≡ Some token → start ≡ token.start
-
 pub no_token : (text : List ℕ) (start : ℕ) (f : SyntaxFault) → IsUtf8 text → Tokenizes (chars text) (Err start) → f ≡ fault_at text fault.Token start → TellsEarly text f f.kind
 no_token text start f utf8 says e = early_of text f fault.Token (line_of text start) e (utf8, (start, says, refl))
 
-pub out_of_profile : (text : List ℕ) (tokens : List Token) (place start : ℕ) (f : SyntaxFault) → IsUtf8 text → Tokenizes (chars text) (Ok tokens) → IsFirstOutside (chars text) tokens place
-    → IsAt tokens place start → f ≡ fault_at text fault.NotInProfile start → TellsEarly text f f.kind
-out_of_profile text tokens place start f utf8 says out at e =
-    let slices = some_lexemes terminal_by (chars text) tokens (tokens_have_forms (chars text) tokens says) in
-    let held : HasTokens text tokens slices.0 = record { utf8 = utf8; list = says; slices = slices.1 } in
-    early_of text f fault.NotInProfile (line_of text start) e (tokens, slices.0, out.0.0, place, held, out, out.0.1, ap (line_of text) (at out.0.0 out.0.1))
+pub out_of_profile : (text : List ℕ) (tokens : List Token) (lexemes : Lexemes) (word : Token) (place : ℕ) (f : SyntaxFault) → HasTokens text tokens lexemes → IsFirstOutside (chars text) tokens place
+    → slice_get tokens place ≡ Some word → f ≡ fault_at text fault.NotInProfile word.start → TellsEarly text f f.kind
+out_of_profile text tokens lexemes word place f held out at e =
+    early_of text f fault.NotInProfile (line_of text word.start) e (tokens, lexemes, word, place, held, out, at, refl)
+
+pub too_deep : (text : List ℕ) (tokens : List Token) (lexemes : Lexemes) (opener : Token) (place : ℕ) (f : SyntaxFault) → HasTokens text tokens lexemes → AreInside (chars text) tokens
+    → IsTooDeepAt lexemes place → slice_get tokens place ≡ Some opener → f ≡ fault_at text fault.TooDeep opener.start → TellsEarly text f f.kind
+too_deep text tokens lexemes opener place f held inside deep at e =
+    early_of text f fault.TooDeep (line_of text opener.start) e (tokens, lexemes, opener, place, held, inside, deep, at, refl)
+
+-- ---- lexemes that are read of a text
+
+ok_same : {A E : Type 0} (a b : A) → ◌≡◌ {A = Result A E} (Ok a) (Ok b) → a ≡ b
+ok_same a b e = cc
+
+ok_err : {A E : Type 0} {P : Type 0} (a : A) (b : E) → ◌≡◌ {A = Result A E} (Ok a) (Err b) → P
+ok_err a b e = absurd (cc)
+
+listed : (text : List ℕ) (tokens : List Token) (ts : Lexemes) → Tokenizes text (Ok tokens) → AreReadOf terminal_by text ts → AreLexemes terminal_by text tokens ts
+listed text tokens ts list (Ok us, says, are) =
+    subst (λ (x : List Token). AreLexemes terminal_by text x ts) (ok_same us tokens (one_token_list text (Ok us) (Ok tokens) says list)) are
+listed text tokens ts list (Err place, says, are) = ok_err tokens place (one_token_list text (Ok tokens) (Err place) list says)
+
+pub read_lexemes : (text : List ℕ) (ts : Lexemes) (r : IsReadable text) → AreReadOf terminal_by (chars text) ts → ts ≡ r.lexemes
+read_lexemes text ts r read = one_lexemes terminal_by (chars text) r.tokens ts r.lexemes (listed (chars text) r.tokens ts r.list.list read) r.list.slices
+
+-- where a parser of them stands
+pub stop_at : (text : List ℕ) (ts : Lexemes) (left number place : ℕ) → AreReadOf terminal_by (chars text) ts → number ≡ length ts - left → StartsAt text number place → IsStop text left place
+stop_at text ts left number place read e at tokens list =
+    at tokens list ∙ ap (start_of text tokens) (e ∙ ap (λ (n : ℕ). n - left) (same_lengths terminal_by (chars text) tokens ts (listed (chars text) tokens ts list read)))
 
 -- ---- in one language
-
-other_stop : ◌≡◌ {A = StopKind} stop.Syntax stop.TooDeep → ⊥
-other_stop e = cc
 
 module _ {Tree Said : Type 0} (Derives : List Lexeme → Tree → Type 0) (meaning : Option (List ℕ) → Tree → Result Said SyntaxFaultKind) where
   abbrev pub Tells : Option (List ℕ) → List ℕ → SyntaxFault → Type 0
@@ -82,13 +103,10 @@ module _ {Tree Said : Type 0} (Derives : List Lexeme → Tree → Type 0) (meani
   early_told text f h base = early_tells base text f f.kind h
 
   -- the parser's fault is the text's
-  module _ (Why : Lexemes → StopKind → ℕ → Type 0) (deep_at_place : (ls : Lexemes) (place : ℕ) → Why ls stop.TooDeep place → IsTooDeepAt ls place)
-      (no_tree : (ls : Lexemes) (place : ℕ) → Why ls stop.Syntax place → (tree : Tree) → ¬ (Derives ls tree)) where
-    pub stop_told : (text : List ℕ) (tokens : List Token) (lexemes : Lexemes) (k : StopKind) (place start : ℕ) (f : SyntaxFault) → HasTokens text tokens lexemes → AreInside (chars text) tokens
-        → (IsTooDeep lexemes → k ≡ stop.TooDeep) → Why lexemes k place → IsAt tokens place start → f ≡ stop_fault text k start → (base : Option (List ℕ)) → Tells base text f
-    stop_told text tokens lexemes stop.TooDeep place start f held inside deep why at e base =
-        let found = got tokens place (subst (λ (n : ℕ). place < n) (same_lengths terminal_by (chars text) tokens lexemes held.slices) (deep_at_place lexemes place why).within) in
-        told_at base text f fault.TooDeep (line_of text start) e (tokens, lexemes, found.0, place, held, inside, deep_at_place lexemes place why, found.1, ap (line_of text) (at found.0 found.1))
-    stop_told text tokens lexemes stop.Syntax place start f held inside deep why at e base =
-        told_at base text f fault.Syntax (line_of text start) e (tokens, lexemes, held, inside, λ d. other_stop (deep d), no_tree lexemes place why)
-    stop_told text tokens lexemes (stop.NoMemory refused) place start f held inside deep why at e base = memory_told base text f refused e
+  module _ (Why : Lexemes → GrammarFault → Type 0) (no_tree : (ls : Lexemes) → Why ls grammar.Syntax → ¬ (IsTooDeep ls) → (tree : Tree) → ¬ (Derives ls tree)) where
+    pub stop_told : (text : List ℕ) (ls : Lexemes) (k : GrammarFault) (left : ℕ) (f : SyntaxFault) → IsReadable text → AreReadOf terminal_by (chars text) ls → Why ls k → IsStopFault text k left f
+        → (base : Option (List ℕ)) → Tells base text f
+    stop_told text ls grammar.Syntax left f r read why e base =
+        let none = no_tree r.lexemes (subst (λ (x : Lexemes). Why x grammar.Syntax) (read_lexemes text ls r read) why) r.shallow in
+        told_at base text f fault.Syntax (line_of text e.0) e.2 (r.tokens, r.lexemes, r.list, r.inside, r.shallow, none)
+    stop_told text ls (grammar.NoMemory refused) left f r read why e base = memory_told base text f refused e

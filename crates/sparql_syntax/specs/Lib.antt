@@ -12,6 +12,7 @@ pub mod QueryLaws
 pub mod QueryTold
 pub mod RuleLaws
 pub mod Rules
+pub mod Survey
 pub mod Told
 pub mod Update
 pub mod UpdateLaws

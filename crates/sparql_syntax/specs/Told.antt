@@ -1,14 +1,15 @@
 -- The faults that are told of a text, by what its parts answer.
 use Rattle.std.specs.Prelude.{◌≡◌, ◌⊎◌, ℕ, List, Option, Result, Err}
+use Rattle.rdf_grammar.specs.declared.fault.GrammarFault.{GrammarFault}
+use Rattle.rdf_grammar.specs.declared.fault.GrammarFault.TheVariants as grammar
 use Rattle.rdf_grammar.specs.declared.prologue.PrologueFault.{PrologueFault}
 use Rattle.rdf_grammar.specs.declared.prologue.PrologueFault.TheVariants as name
 use Rattle.rdf_terms.specs.declared.fault.NoMemory.{NoMemory}
 use Rattle.rdf_tokens.specs.Lines.{line_of}
-use Rattle.sparql_grammar.specs.declared.stop.StopKind.{StopKind}
-use Rattle.sparql_grammar.specs.declared.stop.StopKind.TheVariants as stop
 use Rattle.sparql_syntax.specs.declared.fault.SyntaxFault.{SyntaxFault}
 use Rattle.sparql_syntax.specs.declared.fault.SyntaxFaultKind.{SyntaxFaultKind}
 use Rattle.sparql_syntax.specs.declared.fault.SyntaxFaultKind.TheVariants as kind
+use Rattle.sparql_syntax.specs.Survey.{IsStop}
 use Rattle.sparql_syntax.specs.Update.{TellsFault}
 use Rattle.sparql_trees.specs.declared.operation.Operation.{Operation}
 
@@ -22,11 +23,10 @@ fault_at text kind start = record { line = line_of text start; kind = kind }
 abbrev pub wants_memory : NoMemory → SyntaxFault
 wants_memory refused = record { line = 0; kind = kind.NoMemory refused }
 
--- the fault of a text whose parser stopped at the token that starts at this byte
-abbrev pub stop_fault : List ℕ → StopKind → ℕ → SyntaxFault
-stop_fault text stop.TooDeep start = fault_at text kind.TooDeep start
-stop_fault text stop.Syntax start = fault_at text kind.Syntax start
-stop_fault text (stop.NoMemory refused) start = wants_memory refused
+-- the fault of a text whose parser stopped with so many lexemes left
+abbrev pub IsStopFault : List ℕ → GrammarFault → ℕ → SyntaxFault → Type 0
+IsStopFault text grammar.Syntax left f = (start : ℕ) × IsStop text left start × (f ≡ fault_at text kind.Syntax start)
+IsStopFault text (grammar.NoMemory refused) left f = f ≡ wants_memory refused
 
 -- the fault of a text for that of a name
 abbrev pub name_fault : List ℕ → PrologueFault → SyntaxFault

@@ -15,6 +15,7 @@ mod query;
 mod read;
 mod request;
 mod rules;
+mod survey;
 mod text;
 
 pub use fault::{SyntaxFault, SyntaxFaultKind};

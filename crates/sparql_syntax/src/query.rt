@@ -1,51 +1,63 @@
 //! Queries, from bytes to trees.
-ghost use Rattle.std.specs.Prelude.{◌≡◌, Ok, Some, MatchResult};
+ghost use Rattle.std.specs.Prelude.{◌≡◌, Ok, Some, MatchResult, IfOk, IfSome};
 ghost use Rattle.std.specs.Option.{option_copied};
-ghost use Rattle.std.specs.Str.{chars, IsUtf8};
-ghost use Rattle.rdf_tokens.specs.Tokens.{Tokenizes};
-ghost use Rattle.sparql_terminals.specs.Profile.{AreInside};
+ghost use Rattle.std.specs.Str.{IsUtf8};
 ghost use Rattle.sparql_syntax.specs.Query as spec;
 ghost use Rattle.sparql_syntax.specs.Query.{HasTree, IsQuery, TellsFault};
 ghost use Rattle.sparql_syntax.specs.QueryTold.{IsRuleFault, IsTold};
+ghost use Rattle.sparql_syntax.specs.Survey.{IsReadable};
 
 use crate::fault::{SyntaxFault, SyntaxFaultKind};
 use crate::labels::first_repeated;
-use crate::text::{check_profile, fault_at, name_fault, start_of, stop_fault, tokens_of};
+use crate::survey::{opens_few, survey};
+use crate::text::{fault_at, name_fault, stop_fault};
 use indexmap::IndexSet;
-use rdf_grammar::lexemes;
-use rdf_terms::{Iri, Vocabulary};
-use rdf_tokens::Token;
-use sparql_grammar::{Query as Tree, Stop, parse_query};
+use rdf_grammar::GrammarFault;
+use rdf_terms::{Iri, NoMemory, Vocabulary};
+use sparql_grammar::{Query as Tree, parse_query};
 use sparql_queries::{Said, said_by};
+use sparql_terminals::Parser;
 use sparql_trees::Query;
 use std::alloc::Global;
 
-// The tree of a text with these tokens.
-fn tree_of<'a>(alloc: Global, text: &'a str, tokens: &[Token]) -> Result<Tree<'a>, SyntaxFault>
-    requires utf8 { IsUtf8 text.now }
-    requires list { Tokenizes (chars text.now) (Ok tokens.now) }
-    requires inside { AreInside (chars text.now) tokens.now }
+// The tree of a text that was looked over.
+fn tree_of<'a>(alloc: Global, text: &'a str) -> Result<Tree<'a>, SyntaxFault>
+    requires { IsReadable text.now }
     ensures { MatchResult result (λ tree. HasTree text.now tree) (λ fault. IsTold text.now fault) }
 {
-    let lexemes = lexemes(alloc, text, tokens)?;
-    match parse_query(alloc, lexemes.as_slice()) {
+    let mut parser = Parser::over(alloc, text);
+    match parse_query(&mut parser) {
         Ok(tree) => Ok(tree),
-        Err(Stop { kind, place }) => {
-            let start = start_of(text, tokens, place);
-            Err(stop_fault(text.as_bytes(), kind, start))
-        }
+        Err(fault) => Err(stop_fault(alloc, text, fault, parser.left())),
     }
 }
 
-// The tree of a text. Its tokens are let go when the tree stands.
+// The tree of a text that has one and can't be too deep, in one walk over it.
+fn tree_at_once<'a>(alloc: Global, text: &'a str) -> Result<Option<Tree<'a>>, NoMemory>
+    ensures { IfOk result (λ found. IfSome found (λ tree. HasTree text.now tree)) }
+{
+    if !opens_few(text.as_bytes()) {
+        return Ok(None);
+    }
+    let mut parser = Parser::over(alloc, text);
+    match parse_query(&mut parser) {
+        Ok(tree) => Ok(Some(tree)),
+        Err(GrammarFault::Syntax) => Ok(None),
+        Err(GrammarFault::NoMemory(refused)) => Err(refused),
+    }
+}
+
+// The tree of a text. Nothing of it is held but the tree, and only where it may have none is it looked over
+// and read once more: a fault of its tokens goes before.
 #[tactic(auto, using(crate::proofs::QueryLemmas::early_told))]
 fn read_tree<'a>(alloc: Global, text: &'a str) -> Result<Tree<'a>, SyntaxFault>
-    requires { IsUtf8 text.now }
     ensures { MatchResult result (λ tree. HasTree text.now tree) (λ fault. IsTold text.now fault) }
 {
-    let tokens = tokens_of(alloc, text)?;
-    check_profile(text, tokens.as_slice())?;
-    tree_of(alloc, text, tokens.as_slice())
+    if let Some(tree) = tree_at_once(alloc, text)? {
+        return Ok(tree);
+    }
+    survey(text)?;
+    tree_of(alloc, text)
 }
 
 // The query that was said, where it keeps to the rule on labels.

@@ -1,12 +1,11 @@
 //! Updates, from bytes to requests.
-ghost use Rattle.std.specs.Prelude.{◌≡◌, ℕ, List, Ok, MatchResult};
+ghost use Rattle.std.specs.Prelude.{◌≡◌, ℕ, List, Ok, MatchResult, IfOk, IfSome};
 ghost use Rattle.std.specs.List.{AllByRecursion};
 ghost use Rattle.std.specs.Option.{option_copied};
-ghost use Rattle.std.specs.Str.{chars, IsUtf8};
-ghost use Rattle.rdf_tokens.specs.Tokens.{Tokenizes};
-ghost use Rattle.sparql_terminals.specs.Profile.{AreInside};
+ghost use Rattle.std.specs.Str.{IsUtf8};
 ghost use Rattle.sparql_syntax.specs.Drafts.{IsDraftBelow};
 ghost use Rattle.sparql_syntax.specs.Rules.{judged};
+ghost use Rattle.sparql_syntax.specs.Survey.{IsReadable};
 ghost use Rattle.sparql_syntax.specs.Told.{IsRuleFault, IsTold};
 ghost use Rattle.sparql_syntax.specs.Update.{HasTree, IsUpdate, TellsFault};
 
@@ -15,44 +14,53 @@ use crate::fault::{SyntaxFault, SyntaxFaultKind};
 use crate::operation::drafts_of;
 use crate::request::operations_of;
 use crate::rules::{Broken, first_broken};
-use crate::text::{check_profile, fault_at, name_fault, start_of, stop_fault, tokens_of};
-use rdf_grammar::lexemes;
-use rdf_terms::{Iri, Items, Vocabulary};
-use rdf_tokens::Token;
-use sparql_grammar::{Part, Stop, parse_update};
+use crate::survey::{opens_few, survey};
+use crate::text::{fault_at, name_fault, stop_fault};
+use rdf_grammar::GrammarFault;
+use rdf_terms::{Iri, Items, NoMemory, Vocabulary};
+use sparql_grammar::{Part, parse_update};
+use sparql_terminals::Parser;
 use sparql_trees::Request;
 use std::alloc::Global;
 
-// The tree of a text with these tokens.
-fn tree_of<'a>(
-    alloc: Global,
-    text: &'a str,
-    tokens: &[Token],
-) -> Result<Items<Part<'a>>, SyntaxFault>
-    requires utf8 { IsUtf8 text.now }
-    requires list { Tokenizes (chars text.now) (Ok tokens.now) }
-    requires inside { AreInside (chars text.now) tokens.now }
+// The tree of a text that was looked over.
+fn tree_of<'a>(alloc: Global, text: &'a str) -> Result<Items<Part<'a>>, SyntaxFault>
+    requires { IsReadable text.now }
     ensures { MatchResult result (λ tree. HasTree text.now tree) (λ fault. IsTold text.now fault) }
 {
-    let lexemes = lexemes(alloc, text, tokens)?;
-    match parse_update(alloc, lexemes.as_slice()) {
+    let mut parser = Parser::over(alloc, text);
+    match parse_update(&mut parser) {
         Ok(tree) => Ok(tree),
-        Err(Stop { kind, place }) => {
-            let start = start_of(text, tokens, place);
-            Err(stop_fault(text.as_bytes(), kind, start))
-        }
+        Err(fault) => Err(stop_fault(alloc, text, fault, parser.left())),
     }
 }
 
-// The tree of a text. Its tokens are let go when the tree stands.
+// The tree of a text that has one and can't be too deep, in one walk over it.
+fn tree_at_once<'a>(alloc: Global, text: &'a str) -> Result<Option<Items<Part<'a>>>, NoMemory>
+    ensures { IfOk result (λ found. IfSome found (λ tree. HasTree text.now tree)) }
+{
+    if !opens_few(text.as_bytes()) {
+        return Ok(None);
+    }
+    let mut parser = Parser::over(alloc, text);
+    match parse_update(&mut parser) {
+        Ok(tree) => Ok(Some(tree)),
+        Err(GrammarFault::Syntax) => Ok(None),
+        Err(GrammarFault::NoMemory(refused)) => Err(refused),
+    }
+}
+
+// The tree of a text. Nothing of it is held but the tree, and only where it may have none is it looked over
+// and read once more: a fault of its tokens goes before.
 #[tactic(auto, using(crate::proofs::ReadLemmas::early_told))]
 fn read_tree<'a>(alloc: Global, text: &'a str) -> Result<Items<Part<'a>>, SyntaxFault>
-    requires { IsUtf8 text.now }
     ensures { MatchResult result (λ tree. HasTree text.now tree) (λ fault. IsTold text.now fault) }
 {
-    let tokens = tokens_of(alloc, text)?;
-    check_profile(text, tokens.as_slice())?;
-    tree_of(alloc, text, tokens.as_slice())
+    if let Some(tree) = tree_at_once(alloc, text)? {
+        return Ok(tree);
+    }
+    survey(text)?;
+    tree_of(alloc, text)
 }
 
 // The request that drafts are, where they keep to the static rules.

@@ -1,8 +1,11 @@
 pub mod CallerLemmas
 mod FormedSlices
-mod Yields
 mod GrammarWords
 mod Keywords
+mod OpenerBytes
 mod ProfileTokens
 mod Shifts
+mod UsefulWords
+mod Uses
 mod WordYields
+mod Yields

@@ -1,7 +1,8 @@
 -- The words of SPARQL that this profile leaves out.
-use Rattle.std.specs.Prelude.{◌≡◌, ℕ, Bool, true, List, [], ◌∷◌, Some, codes, take}
+use Rattle.std.specs.Prelude.{◌≡◌, ℕ, Bool, true, false, List, [], ◌∷◌, Some, codes, take}
 use Rattle.std.specs.List.{AllByRecursion, list_any, slice_get}
 use Rattle.std.specs.Str.{encode_utf8_all}
+use Rattle.rdf_tokens.specs.declared.token.Kind.{Kind}
 use Rattle.rdf_tokens.specs.declared.token.Kind.TheVariants.{Word}
 use Rattle.rdf_tokens.specs.declared.token.Token.{Token}
 use Rattle.rdf_tokens.specs.Tokens.{Stands}
@@ -23,6 +24,11 @@ outside_words =
 -- whether UTF-8 is one of them, in any case
 abbrev pub is_outside : List ℕ → Bool
 is_outside text = list_any (λ word. is_word word text) outside_words
+
+-- whether a token of that form, by its slice, is one of them
+abbrev pub is_left_out : Kind → List ℕ → Bool
+is_left_out Word slice = is_outside (encode_utf8_all slice)
+is_left_out _ slice = false
 
 -- the token is a word, and one of them
 abbrev pub IsOutside : List ℕ → Token → Type 0

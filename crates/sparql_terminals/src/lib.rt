@@ -12,5 +12,5 @@ mod terminal;
 
 pub use laws::lexemes_have_forms;
 pub use lexeme::{Lexeme, Parser};
-pub use outside::first_outside;
+pub use outside::is_left_out;
 pub use terminal::Terminal;

@@ -1,57 +1,22 @@
 -- What is looked for on a walk over the tokens of a text.
-use Rattle.std.specs.Prelude.{◌≤◌, ℕ, zero, suc, Bool, if◌then◌else◌, List, [], ◌∷◌, Option, Some, None, nat_lt}
-use Rattle.rdf_grammar.specs.Nesting.{max_open}
+use Rattle.std.specs.Prelude.{ℕ, Bool, if◌then◌else◌, List, [], ◌∷◌}
 use Rattle.rdf_tokens.specs.declared.token.Token.{Token}
 use Rattle.rdf_tokens.specs.declared.walk.Found.{Found}
 use Rattle.rdf_tokens.specs.declared.walk.Found.TheVariants.{Token as Read, NoToken}
-use Rattle.rdf_turtle.specs.declared.survey.Depth.{Depth}
-use Rattle.rdf_turtle.specs.declared.survey.Depth.TheVariants.{Open, TooDeep}
-use Rattle.rdf_turtle.specs.declared.terminal.Terminal.{Terminal}
 use Rattle.rdf_turtle.specs.Document.{HasTokens}
 use Rattle.rdf_turtle.specs.FaultyNames.{taken, declares_behind, is_unbound, bound_behind, moves_behind, is_lacking, base_behind}
 use Rattle.rdf_turtle.specs.Leaves.{takes_tag}
 use Rattle.rdf_turtle.specs.Lexemes.{Lexemes}
-use Rattle.rdf_turtle.specs.Nesting.{open_behind, IsTooDeep}
+use Rattle.rdf_turtle.specs.Nesting.{IsTooDeep}
 use Rattle.rdf_turtle.specs.Terminals.{terminal_of}
 
 -- the text has tokens, and at most 100 brackets are open at once
 abbrev pub IsShallow : List ℕ → Type 0
 IsShallow text = (tokens : List Token) × (lexemes : Lexemes) × HasTokens text tokens lexemes × ¬ (IsTooDeep lexemes)
 
--- ---- tokens and brackets
-
--- the first place where no token begins
-abbrev pub first_fault : List Found → Option ℕ
-first_fault [] = None
-first_fault (NoToken start ∷ all) = Some start
-first_fault (Read start kind slice ∷ all) = first_fault all
-
--- at most 100 are open
-abbrev pub IsLow : Depth → Type 0
-IsLow (Open count) = count ≤ max_open
-IsLow (TooDeep start) = Unit {0}
-
--- behind one token more
-abbrev pub deeper : Depth → ℕ → Terminal → Depth
-deeper (Open count) start k = if nat_lt max_open (open_behind count k) then TooDeep start else Open (open_behind count k)
-deeper (TooDeep first) start k = TooDeep first
-
--- behind all that is found
-abbrev pub depth_behind : Depth → List Found → Depth
-depth_behind depth [] = depth
-depth_behind depth (NoToken start ∷ all) = depth
-depth_behind depth (Read start kind slice ∷ all) = depth_behind (deeper depth start (terminal_of kind slice)) all
-
 -- ---- where tokens start, in a text of so many bytes
 
 module _ (size : ℕ) where
-  -- behind so many
-  abbrev pub start_behind : ℕ → List Found → ℕ
-  start_behind n [] = size
-  start_behind n (NoToken start ∷ all) = size
-  start_behind zero (Read start kind slice ∷ all) = start
-  start_behind (suc n) (Read start kind slice ∷ all) = start_behind n all
-
   -- of the first name with a prefix that isn't declared before it
   abbrev pub unbound_start : Bool → Bool → List (List ℕ) → List Found → ℕ
   unbound_start behind declares bound [] = size

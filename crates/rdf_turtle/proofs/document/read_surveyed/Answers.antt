@@ -17,7 +17,7 @@ returns-in-Ok g c = read_surveyed (option_copied c.args.base) c.args.text.now c.
 pub returns-in-Syntax : goal.returns-in-Syntax
 returns-in-Syntax g c =
     syntax_tells (option_copied c.args.base) c.args.text.now c.over-parser.result _ c.start_of-start.result c.fault_at.result c.requires c.over-parser.ensures.read (rw c.in-Syntax.is at c.in-Err.ensures)
-    c.start_of-start.ensures c.fault_at.ensures.kind (c.fault_at.ensures.line (λ same. cc) ∙ ap (λ t. line_of t c.start_of-start.result) c.as_bytes.ensures.value)
+    (λ tokens lexemes h. c.start_of-start.ensures tokens h.list) c.fault_at.ensures.kind (c.fault_at.ensures.line (λ same. cc) ∙ ap (λ t. line_of t c.start_of-start.result) c.as_bytes.ensures.value)
 
 pub returns-in_default : goal.returns-in_default
 returns-in_default g c =

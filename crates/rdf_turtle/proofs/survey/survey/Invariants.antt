@@ -1,12 +1,13 @@
 use Rattle.std.proofs.Common.{◌≡◌, length}
-use Rattle.rdf_turtle.specs.declared.survey.Depth.TheVariants.{Open}
-use Rattle.rdf_turtle.specs.Inside.Walks.{IsLow, first_fault, depth_behind}
+use Rattle.rdf_grammar.specs.declared.depth.Depth.TheVariants.{Open}
+use Rattle.rdf_grammar.specs.Walks.{IsLow, first_fault, depth_behind}
+use Rattle.rdf_turtle.specs.Terminals.{bracket, terminal_by}
 use Rattle.rdf_turtle.proofs.survey.survey.Given as goal
 
 abbrev pub invariant-loop-found : goal.invariant-loop-found
 invariant-loop-found l = record {
   fault : first_fault l.initial.walk ≡ first_fault l.walk;
-  depth : depth_behind (Open 0) l.initial.walk ≡ depth_behind l.depth l.walk;
+  depth : depth_behind terminal_by bracket (Open 0) l.initial.walk ≡ depth_behind terminal_by bracket l.depth l.walk;
   low : IsLow l.depth;
 }
 

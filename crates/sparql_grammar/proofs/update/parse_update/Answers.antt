@@ -1,18 +1,11 @@
-use Rattle.std.proofs.Common.{sym, ap, ◌∙◌}
-use Rattle.sparql_grammar.specs.OperationReading.{request}
-use Rattle.sparql_grammar.proofs.OperationWhole.{found_alone, found_only, stop_explained, shallow}
+use Rattle.sparql_grammar.proofs.OperationWhole.{answer_found, answer_only, answer_explained}
 use Rattle.sparql_grammar.proofs.update.parse_update.Goals as goal
 
-pub returns-in-Ok-clause-found : goal.returns-in-Ok-clause-found
-returns-in-Ok-clause-found c =
-    found_alone c.args.lexemes.now c.in-Ok.parts c.request.new.parser (ap (request 99) (sym c.new-parser.ensures) ∙ c.in-Ok.ensures.reads) c.in-Ok.ensures.all
+pub returns-clause-found : goal.returns-clause-found
+returns-clause-found c = answer_found _ _ c.request.result c.request.ensures.reads c.request.ensures.all
 
-pub returns-in-Ok-clause-only : goal.returns-in-Ok-clause-only
-returns-in-Ok-clause-only c =
-    found_only c.args.lexemes.now c.in-Ok.parts c.request.new.parser (ap (request 99) (sym c.new-parser.ensures) ∙ c.in-Ok.ensures.reads) c.in-Ok.ensures.all
+pub returns-clause-only : goal.returns-clause-only
+returns-clause-only c = answer_only _ _ c.request.result c.request.ensures.reads c.request.ensures.all
 
-pub returns-in-Err-clause-fault : goal.returns-in-Err-clause-fault
-returns-in-Err-clause-fault c =
-    rw c.from.ensures
-    (stop_explained c.args.lexemes.now c.in-Err.fault c.saturating_sub.result (shallow c.args.lexemes.now c.too_deep.result c.too_deep.ensures c.in_default.not-Some)
-    (rw c.new-parser.ensures at c.in-Err.ensures.reads))
+pub returns-clause-fault : goal.returns-clause-fault
+returns-clause-fault c = answer_explained _ _ c.request.result c.request.ensures.reads
