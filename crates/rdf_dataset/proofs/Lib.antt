@@ -1,5 +1,7 @@
 pub mod CallerLemmas
 mod ChainLemmas
+mod ClearingLemmas
+mod EmptiedLemmas
 mod ExchangeLemmas
 mod InsertionLemmas
 mod LoadingLemmas
