@@ -1,5 +1,5 @@
 -- Graphs that are emptied, and names that go.
-use Rattle.std.proofs.Common.{◌≡◌, ℕ, ◌+◌, ◌<◌, Bool, true, false, ◌||◌, ◌&&◌, not, List, [], ◌∷◌, ◌++◌, length, drop, get_or, Option, None, Some, refl, sym, ap, ◌∙◌, subst, IsTrue}
+use Rattle.std.proofs.Common.{◌≡◌, ℕ, ◌+◌, ◌<◌, Bool, true, false, ◌||◌, ◌&&◌, not, List, [], ◌∷◌, ◌++◌, length, drop, get_or, Option, None, Some, refl, sym, ap, ◌∙◌, subst}
 use mathlib.Core.Bool.{true≢false}
 use Rattle.std.specs.Prelude.{IfSome}
 use Rattle.std.proofs.lemmas.List.{drop_more}
@@ -14,8 +14,8 @@ use Rattle.rdf_terms.specs.declared.quad.GraphName.{GraphName}
 use Rattle.rdf_terms.specs.declared.quad.GraphName.TheVariants.{Default, Named}
 use Rattle.rdf_terms.specs.Quad.{QuadParts}
 use Rattle.rdf_terms.specs.Lists.{AppendsOnce, ListsOnce}
-use Rattle.rdf_terms.specs.Order.{graph_cmp, quad_cmp, term_cmp}
-use Rattle.rdf_terms.specs.OrderLaws.{graph_cmp_total, graph_cmp-IsAntisymmetric, quad_cmp_total, quad_cmp-IsAntisymmetric, term_cmp_total, term_cmp-IsAntisymmetric}
+use Rattle.rdf_terms.specs.Order.{graph_cmp, term_cmp}
+use Rattle.rdf_terms.specs.OrderLaws.{quad_cmp_total, quad_cmp-IsAntisymmetric, term_cmp_total, term_cmp-IsAntisymmetric}
 use Rattle.rdf_sets.proofs.CallerLemmas.{retained, tie_itself, tie_same}
 use Rattle.rdf_dataset.specs.State.{Names, Quads, State, IsEmptyGraph, IsNamed, IsSound, is_default, matches, without_graph, without_name, without_named, without_names, without_quad}
 use Rattle.rdf_dataset.specs.Staging.{Staging, staged}

@@ -11,7 +11,7 @@ use crate::source::{Source, sources_are_sound};
 use crate::staged::Staged;
 use rdf_sets::Tree;
 use rdf_store::Store;
-use rdf_terms::{GraphName, NoMemory, Quad, Term};
+use rdf_terms::{GraphName, NoMemory, Quad};
 
 impl<'a, D: Source> Staged<'a, D> {
     // Takes the quads out.

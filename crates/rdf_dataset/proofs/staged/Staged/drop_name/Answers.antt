@@ -3,7 +3,6 @@ use Rattle.rdf_dataset.specs.State.{IsEmptyGraph, applied, without_name}
 use Rattle.rdf_terms.specs.declared.quad.GraphName.TheVariants.{Named}
 use Rattle.rdf_dataset.proofs.StateLemmas.{restaged, sound_without_name}
 use Rattle.rdf_dataset.specs.Staging.{Staging, staged}
-use Rattle.rdf_dataset.specs.Inside.Emptied.{AreParts}
 use Rattle.rdf_dataset.proofs.EmptiedLemmas.{restaged_with}
 use Rattle.rdf_dataset.proofs.staged.Staged.drop_name.Goals as goal
 

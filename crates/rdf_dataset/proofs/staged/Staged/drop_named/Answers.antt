@@ -1,4 +1,4 @@
-use Rattle.std.proofs.Common.{◌∙◌, ap, sym}
+use Rattle.std.proofs.Common.{◌∙◌, ap}
 use Rattle.rdf_dataset.specs.State.{without_names}
 use Rattle.rdf_dataset.specs.Staging.{Staging, staged}
 use Rattle.rdf_dataset.proofs.ClearingLemmas.{named_gone_once, names_after_named}

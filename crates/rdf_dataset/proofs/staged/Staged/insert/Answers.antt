@@ -2,7 +2,6 @@ use Rattle.std.proofs.Common.{◌∙◌, sym, ap, subst}
 use Rattle.rdf_dataset.specs.State.{State, IsQuadBelow, IsKnownGraph, applied, with_quad}
 use Rattle.rdf_dataset.proofs.StateLemmas.{restaged, sound_with_quad, quad_there, not_false}
 use Rattle.rdf_dataset.specs.Staging.{Staging, staged}
-use Rattle.rdf_dataset.specs.Inside.Emptied.{AreParts}
 use Rattle.rdf_dataset.proofs.EmptiedLemmas.{restaged_with}
 use Rattle.rdf_dataset.proofs.staged.Staged.insert.Goals as goal
 

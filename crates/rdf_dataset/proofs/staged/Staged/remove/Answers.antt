@@ -1,8 +1,7 @@
-use Rattle.std.proofs.Common.{◌∙◌, sym, ap, subst}
+use Rattle.std.proofs.Common.{◌∙◌, ap}
 use Rattle.rdf_dataset.specs.State.{applied, without_quad}
 use Rattle.rdf_dataset.proofs.StateLemmas.{restaged, sound_without_quad}
 use Rattle.rdf_dataset.specs.Staging.{Staging, staged}
-use Rattle.rdf_dataset.specs.Inside.Emptied.{AreParts}
 use Rattle.rdf_dataset.proofs.EmptiedLemmas.{restaged_with}
 use Rattle.rdf_dataset.proofs.staged.Staged.remove.Goals as goal
 

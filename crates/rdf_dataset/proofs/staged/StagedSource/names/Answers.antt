@@ -1,4 +1,4 @@
-use Rattle.std.proofs.Common.{ap, subst, sym}
+use Rattle.std.proofs.Common.{subst}
 use Rattle.std.proofs.lemmas.Result.{on_ok_weaker}
 use Rattle.rdf_dataset.specs.Staging.{Staging}
 use Rattle.rdf_dataset.specs.Inside.Emptied.{AreNames}
