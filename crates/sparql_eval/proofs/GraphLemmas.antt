@@ -1,9 +1,8 @@
 -- Graphs that are emptied, dropped, copied and moved.
-use Rattle.std.proofs.Common.{◌≡◌, ℕ, Bool, true, false, ◌||◌, ◌&&◌, not, List, [], ◌∷◌, refl, sym, ap, ◌∙◌}
+use Rattle.std.proofs.Common.{◌≡◌, ℕ, Bool, true, false, ◌&&◌, not, List, refl, sym, ap, ◌∙◌}
 use mathlib.Core.Bool.{true≢false}
 use Rattle.std.specs.FinSet as set
-use Rattle.std.specs.FinSet.{contains, contains-difference, contains-from_list, difference, from_list, remove, retain, same_set, union}
-use Rattle.std.specs.List.{list_any}
+use Rattle.std.specs.FinSet.{contains, remove, retain, same_set, union}
 use Rattle.std.specs.Ordering.{eq_by_cmp}
 use Rattle.rdf_terms.specs.Order.{term_cmp}
 use Rattle.rdf_terms.specs.OrderLaws.{graph_cmp_total, graph_cmp-IsAntisymmetric, term_cmp_total, term_cmp-IsAntisymmetric, quad_cmp_total, quad_cmp-IsAntisymmetric}
@@ -14,7 +13,7 @@ use Rattle.rdf_terms.specs.declared.term.Term.{Term}
 use Rattle.rdf_terms.specs.declared.term.Term.TheVariants.{Iri}
 use Rattle.rdf_dataset.specs.State.{State, IsEmptyGraph, with_graph, without_named, without_names}
 use Rattle.rdf_dataset.specs.State.{without_graph as without_quads_of}
-use Rattle.sparql_eval.specs.Graphs.{is_default, is_meant, quads_in, same_graph, without_graph}
+use Rattle.sparql_eval.specs.Graphs.{is_default, quads_in, same_graph, without_graph}
 use Rattle.sparql_eval.specs.Operations.{added, cleared, copied, dropped}
 use Rattle.sparql_eval.specs.Inside.Staging.{emptied, gone, graphs_emptied, one_emptied}
 use Rattle.sparql_eval.specs.declared.graphs.Names.{Names as Kept}
