@@ -371,3 +371,56 @@ fn of_a_name(alloc: Global) -> Result<[bool; 4], NoMemory> {
 fn names(rt: HostRuntime) {
     assert!(rt; of_a_name(rt.alloc()) == Ok([true, false, true, false]));
 }
+
+// How many quads the graph has in the view, and how many names of graphs there are.
+fn counts(alloc: Global, view: &Staged<'_, Dataset>, graph_number: u64) -> Option<(usize, usize)> {
+    let mut quads = Vec::new(alloc);
+    view.matches(&graph(graph_number), None, None, None, &mut quads)
+        .ok()?;
+    let mut names = Vec::new(alloc);
+    view.names(&mut names).ok()?;
+    Some((quads.len(), names.len()))
+}
+
+// The counts once the named graphs are cleared, one is filled, they are cleared again, and dropped.
+fn named_cleared(alloc: Global, view: &mut Staged<'_, Dataset>) -> Option<[(usize, usize); 4]> {
+    view.clear_named().ok()?;
+    let cleared = counts(alloc, view, 3)?;
+    insert(alloc, view, 2, 1)?;
+    let filled = counts(alloc, view, 2)?;
+    view.clear_named().ok()?;
+    let cleared_again = counts(alloc, view, 2)?;
+    view.drop_named().ok()?;
+    let dropped = counts(alloc, view, 0)?;
+    Some([cleared, filled, cleared_again, dropped])
+}
+
+#[test]
+fn named_graphs_cleared_and_dropped(rt: HostRuntime) -> Result<(), Fail> {
+    let alloc = rt.alloc();
+    let dataset = three(alloc).ok_or("no memory")?;
+    let mut view = Staged::over(alloc, &dataset);
+    assert!(rt; named_cleared(alloc, &mut view) == Some([(0, 1), (1, 2), (0, 2), (2, 0)]));
+    Ok(())
+}
+
+// The counts once the default graph is cleared, filled, and cleared as any graph is.
+fn default_cleared(alloc: Global, view: &mut Staged<'_, Dataset>) -> Option<[(usize, usize); 3]> {
+    view.clear_default().ok()?;
+    let cleared = counts(alloc, view, 0)?;
+    insert(alloc, view, 0, 3)?;
+    let filled = counts(alloc, view, 0)?;
+    view.clear_graph(&GraphName::Default).ok()?;
+    let cleared_again = counts(alloc, view, 0)?;
+    Some([cleared, filled, cleared_again])
+}
+
+#[test]
+fn the_default_graph_cleared(rt: HostRuntime) -> Result<(), Fail> {
+    let alloc = rt.alloc();
+    let dataset = three(alloc).ok_or("no memory")?;
+    let mut view = Staged::over(alloc, &dataset);
+    assert!(rt; default_cleared(alloc, &mut view) == Some([(0, 1), (1, 1), (0, 1)]));
+    assert!(rt; counts(alloc, &view, 3) == Some((1, 1)));
+    Ok(())
+}

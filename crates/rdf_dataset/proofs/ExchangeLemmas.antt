@@ -13,7 +13,7 @@ use Rattle.rdf_dataset.specs.Exchange.{exchanged}
 use Rattle.rdf_dataset.specs.Loading.{names_with, quads_with}
 use Rattle.rdf_dataset.specs.State.{State, Change, Quads, IsSound, last_number, net_between, with_blanks}
 use Rattle.rdf_dataset.proofs.LoadingLemmas.{Sound, sound_with_all}
-use Rattle.rdf_dataset.proofs.StateLemmas.{first_of, net_of, sound_with_blanks, state}
+use Rattle.rdf_dataset.proofs.StateLemmas.{first_of, sound_with_blanks, state}
 
 -- ---- the quads
 

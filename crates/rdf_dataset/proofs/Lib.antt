@@ -1,6 +1,8 @@
 pub mod CallerLemmas
 mod ChainLemmas
 mod ChangeLawLemmas
+mod ClearingLemmas
+mod EmptiedLemmas
 mod ExchangeLemmas
 mod InsertionLemmas
 mod LoadingLemmas

@@ -5,7 +5,7 @@ use Rattle.rdf_sets.specs.Delta.{IsDelta}
 use Rattle.rdf_terms.specs.Quad.{QuadParts, is_quad}
 use Rattle.rdf_terms.specs.declared.term.Term.{Term}
 use Rattle.rdf_dataset.specs.Inside.Unread.{change_of}
-use Rattle.rdf_dataset.specs.State.{State, Change, IsSound, IsQuadBelow, applied, last_number, net_between, with_blanks, with_graph, with_quad, without_quad}
+use Rattle.rdf_dataset.specs.State.{State, Change, IsSound, IsQuadBelow, applied, last_number, with_blanks, with_graph, with_quad, without_quad}
 use Rattle.rdf_dataset.proofs.StateLemmas.{Keeps, leads_of, net_of, net_with_quad, over, restaged, sound_with_blanks, sound_with_quad, sound_without_quad}
 
 -- the change leads from s to t, and its own view says so

@@ -1,2 +1,3 @@
 pub mod Delta
+pub mod Emptied
 pub mod Unread

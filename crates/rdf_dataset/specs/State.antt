@@ -1,5 +1,5 @@
 -- The states of a dataset, and the net between two of them (RDF 1.1 Concepts, section 4).
-use Rattle.std.specs.Prelude.{◌≡◌, ℕ, ◌≤◌, ◌+◌, List, Option, None, Some, IsTrue, refl, ⊤, Bool, true, not, ◌&&◌}
+use Rattle.std.specs.Prelude.{◌≡◌, ℕ, ◌≤◌, ◌+◌, List, Option, None, Some, IsTrue, refl, ⊤, Bool, true, false, not, ◌&&◌}
 use Rattle.std.specs.Coded.{Coded, code_by, coded×, coded_ℕ}
 use Rattle.std.specs.Ordering.{eq_by_cmp}
 use Rattle.std.specs.FinSet as set
@@ -84,6 +84,24 @@ without_name s name = record { quads = s.quads; names = set.remove s.names name;
 
 abbrev pub with_blanks : State → ℕ → State
 with_blanks s count = record { quads = s.quads; names = s.names; next = s.next + count }
+
+-- ---- graphs that are emptied
+
+abbrev pub is_default : GraphName → Bool
+is_default Default = true
+is_default (Named name) = false
+
+-- without the quads of a graph; its name stays
+abbrev pub without_graph : State → GraphName → State
+without_graph s graph = record { quads = set.retain s.quads (λ q. not (eq_by_cmp graph_cmp graph q.graph)); names = s.names; next = s.next }
+
+-- without the quads of named graphs; their names stay
+abbrev pub without_named : State → State
+without_named s = record { quads = set.retain s.quads (λ q. is_default q.graph); names = s.names; next = s.next }
+
+-- without the quads of named graphs, and without their names
+abbrev pub without_names : State → State
+without_names s = record { quads = set.retain s.quads (λ q. is_default q.graph); names = set.empty; next = s.next }
 
 -- no quad has this graph
 abbrev pub IsEmptyGraph : State → GraphName → Type 0

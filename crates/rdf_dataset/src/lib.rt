@@ -6,8 +6,10 @@
 #![tactic(auto)]
 
 mod chain;
+mod clearing;
 mod dataset;
 mod edits;
+mod emptied;
 mod exchange;
 mod insertion;
 mod law;

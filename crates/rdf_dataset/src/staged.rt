@@ -7,6 +7,7 @@ ghost use Rattle.rdf_dataset.specs.State.{State, IsSound, IsTermBelow, IsQuadBel
 ghost use Rattle.rdf_dataset.specs.Staging.{Staging, staged};
 
 use crate::edits::Edits;
+use crate::emptied::Emptied;
 use crate::net::Net;
 use crate::source::Source;
 use rdf_terms::{GraphName, NoMemory, Quad, Term, term_is_one};
@@ -21,13 +22,15 @@ pub(crate) const LAST_NUMBER: u64 = 1_000_000_000_000_000_000;
 pub struct Staged<'a, D: Source> {
     under: &'a D,
     edits: Edits,
-    alloc: Global,
+    pub(crate) emptied: Emptied,
+    pub(crate) alloc: Global,
 }
 
 impl<'a, D: Source> Model for Staged<'a, D> {
     ghost use Rattle.std.specs.Prelude.{◌≡◌};
     ghost use Rattle.rdf_dataset.specs.Staging.{Staging, staging_code};
     ghost use Rattle.rdf_dataset.specs.State.{applied, net_between, IsSound};
+    ghost use Rattle.rdf_dataset.specs.Inside.Emptied.{AreParts};
 
     ghost Value = { Staging };
 
@@ -40,7 +43,8 @@ impl<'a, D: Source> Model for Staged<'a, D> {
 
     ghost invariant = { λ s. (s.edits
         ≡ net_between (D.contents s.under.now) (applied s.edits (D.contents s.under.now)))
-        × IsSound (applied s.edits (D.contents s.under.now)) };
+        × IsSound (applied s.edits (D.contents s.under.now))
+        × AreParts s.emptied (applied s.edits (D.contents s.under.now)) };
 }
 
 impl<'a, D: Source> Staged<'a, D> {
@@ -52,6 +56,7 @@ impl<'a, D: Source> Staged<'a, D> {
         Staged {
             under,
             edits,
+            emptied: Emptied::none(),
             alloc,
         }
     }
@@ -80,7 +85,10 @@ impl<'a, D: Source> Staged<'a, D> {
     {
         term_is_one(&name);
         let beneath = self.under.has_name(&name);
-        Ok(self.edits.add_name(beneath, name)?)
+        let again = name.copy()?;
+        let added = self.edits.add_name(beneath, name)?;
+        self.emptied.add_name(&again);
+        Ok(added)
     }
 
     /// Takes the name of an empty graph away, and answers whether it was there.
@@ -94,7 +102,9 @@ impl<'a, D: Source> Staged<'a, D> {
         ensures err { OnErr result (self.new ≡ self.old) }
     {
         let beneath = self.under.has_name(name);
-        Ok(self.edits.drop_name(beneath, name)?)
+        let dropped = self.edits.drop_name(beneath, name)?;
+        self.emptied.drop_name(name);
+        Ok(dropped)
     }
 
     // Whether what lies beneath has the name of the graph.
@@ -120,9 +130,9 @@ impl<'a, D: Source> Staged<'a, D> {
     {
         let beneath = self.under.contains(&quad);
         let named = self.knows(quad.graph());
-        let inserted = self.edits.insert(beneath, named, &quad);
-        drop(quad);
-        Ok(inserted?)
+        let inserted = self.edits.insert(beneath, named, &quad)?;
+        self.emptied.insert(&quad);
+        Ok(inserted)
     }
 
     /// Takes a quad out, and answers whether it was there. Its graph keeps the name.
@@ -135,7 +145,9 @@ impl<'a, D: Source> Staged<'a, D> {
         ensures err { OnErr result (self.new ≡ self.old) }
     {
         let beneath = self.under.contains(quad);
-        Ok(self.edits.remove(beneath, quad)?)
+        let removed = self.edits.remove(beneath, quad)?;
+        self.emptied.remove(quad);
+        Ok(removed)
     }
 
     /// Takes the next blank numbers, and answers the first of them, or `None` where the counter
@@ -173,6 +185,9 @@ impl<'a, D: Source> Source for Staged<'a, D> {
     }
 
     fn names(&self, out: &mut Vec<Term>) -> Result<(), NoMemory> {
+        if let Some(names) = &self.emptied.names {
+            return names.append_copies(out);
+        }
         let mut found = Vec::new(self.alloc);
         self.under.names(&mut found)?;
         self.edits.amend_names(&mut found)?;
@@ -188,6 +203,9 @@ impl<'a, D: Source> Source for Staged<'a, D> {
         object: Option<&Term>,
         out: &mut Vec<Quad>,
     ) -> Result<usize, NoMemory> {
+        if let Some(part) = self.emptied.part(graph) {
+            return part.matches(graph, subject, predicate, object, out);
+        }
         let mut found = Vec::new(self.alloc);
         let beneath = self
             .under

@@ -1,9 +1,8 @@
 -- Graphs that are emptied, dropped, copied and moved.
-use Rattle.std.proofs.Common.{◌≡◌, ℕ, Bool, true, false, ◌||◌, ◌&&◌, not, List, [], ◌∷◌, refl, sym, ap, ◌∙◌}
+use Rattle.std.proofs.Common.{◌≡◌, ℕ, Bool, true, false, ◌&&◌, not, List, refl, sym, ap, ◌∙◌}
 use mathlib.Core.Bool.{true≢false}
 use Rattle.std.specs.FinSet as set
-use Rattle.std.specs.FinSet.{contains, contains-difference, contains-from_list, difference, from_list, remove, retain, same_set, union}
-use Rattle.std.specs.List.{list_any}
+use Rattle.std.specs.FinSet.{contains, remove, retain, same_set, union}
 use Rattle.std.specs.Ordering.{eq_by_cmp}
 use Rattle.rdf_terms.specs.Order.{term_cmp}
 use Rattle.rdf_terms.specs.OrderLaws.{graph_cmp_total, graph_cmp-IsAntisymmetric, term_cmp_total, term_cmp-IsAntisymmetric, quad_cmp_total, quad_cmp-IsAntisymmetric}
@@ -12,34 +11,17 @@ use Rattle.rdf_terms.specs.declared.quad.GraphName.{GraphName}
 use Rattle.rdf_terms.specs.declared.quad.GraphName.TheVariants.{Default, Named}
 use Rattle.rdf_terms.specs.declared.term.Term.{Term}
 use Rattle.rdf_terms.specs.declared.term.Term.TheVariants.{Iri}
-use Rattle.rdf_dataset.specs.Sorted.{AppendsOnce}
-use Rattle.rdf_dataset.specs.State.{Names, State, IsEmptyGraph, IsNamed, IsSound, with_graph}
-use Rattle.sparql_eval.specs.Graphs.{is_default, is_meant, quads_in, same_graph, without_graph}
+use Rattle.rdf_dataset.specs.State.{State, IsEmptyGraph, with_graph, without_named, without_names}
+use Rattle.rdf_dataset.specs.State.{without_graph as without_quads_of}
+use Rattle.sparql_eval.specs.Graphs.{is_default, quads_in, same_graph, without_graph}
 use Rattle.sparql_eval.specs.Operations.{added, cleared, copied, dropped}
 use Rattle.sparql_eval.specs.Inside.Staging.{emptied, gone, graphs_emptied, one_emptied}
 use Rattle.sparql_eval.specs.declared.graphs.Names.{Names as Kept}
 use Rattle.sparql_eval.specs.declared.graphs.Names.TheVariants as kept
-use Rattle.sparql_eval.proofs.SetLemmas.{and_second, contains-kept, difference-more, difference-nothing, front_nothing, kept_alike, kept_all, kept_twice, tie_itself, tie_same, tie_sym}
+use Rattle.sparql_eval.proofs.SetLemmas.{and_second, contains-kept, kept_alike, kept_all, kept_none, kept_twice, tie_itself, tie_same, tie_sym}
 use Rattle.sparql_trees.specs.declared.operation.GraphRefAll.TheVariants as some
 
 -- ---- which graphs
-
--- a name is that of a graph
-abbrev pub names_it : GraphName → Term → Bool
-names_it g n = same_graph (Named n) g
-
-nothing_names_the_default : (ns : List Term) → list_any (names_it Default) ns ≡ false
-nothing_names_the_default [] = refl
-nothing_names_the_default (n ∷ ns) = nothing_names_the_default ns
-
-any_turned : (m : Term) (ns : List Term) → list_any (names_it (Named m)) ns ≡ list_any (eq_by_cmp term_cmp m) ns
-any_turned m [] = refl
-any_turned m (n ∷ ns) = λ i. tie_sym term_cmp_total term_cmp-IsAntisymmetric n m i || any_turned m ns i
-
--- all the names are listed: those of named graphs are among them
-listed : (names : Names) (ns : List Term) (g : GraphName) → from_list ns ≡ names → IsNamed names g → list_any (names_it g) ns ≡ not (is_default g)
-listed names ns Default e h = nothing_names_the_default ns
-listed names ns (Named m) e h = any_turned m ns ∙ sym (contains-from_list term_cmp_total ns m) ∙ ap (λ z. contains z m) e ∙ h
 
 pub not_same_default : (g : GraphName) → same_graph Default g ≡ is_default g
 not_same_default Default = refl
@@ -50,55 +32,17 @@ default_apart q = ap not (not_same_default q.graph)
 
 -- ---- graphs are emptied
 
--- the graphs of the names are to be emptied
-abbrev pub each_emptied : Kept → State → List Term → State
-each_emptied kept s [] = s
-each_emptied kept s (n ∷ ns) = each_emptied kept (one_emptied kept s (Named n)) ns
+twice : (b : Bool) → b ≡ not (not b)
+twice true = refl
+twice false = refl
 
-abbrev emptied_each : State → List Term → State
-emptied_each = each_emptied kept.Stay
-
-one_emptied-quads : (k : Kept) (s : State) (g : GraphName) → (one_emptied k s g).quads ≡ without_graph s.quads g
-one_emptied-quads kept.Stay s g = refl
-one_emptied-quads kept.Go s g = refl
-
-each_emptied-quads : (k : Kept) (s : State) (ns : List Term) → (each_emptied k s ns).quads ≡ retain s.quads (λ q. not (list_any (names_it q.graph) ns))
-each_emptied-quads k s [] = sym (kept_all quad_cmp_total quad_cmp-IsAntisymmetric s.quads (λ q. true) (λ q. refl))
-each_emptied-quads k s (n ∷ ns) =
-    each_emptied-quads k (one_emptied k s (Named n)) ns
-    ∙ ap (λ z. retain z (λ q. not (list_any (names_it q.graph) ns))) (one_emptied-quads k s (Named n))
-    ∙ kept_twice quad_cmp_total quad_cmp-IsAntisymmetric s.quads (λ q. not (same_graph (Named n) q.graph)) (λ q. not (list_any (names_it q.graph) ns)) (λ q. not (names_it q.graph n || list_any (names_it q.graph) ns))
-    (λ q. not_either (same_graph (Named n) q.graph) (list_any (names_it q.graph) ns))
-  where
-    not_either : (a b : Bool) → (not a && not b) ≡ not (a || b)
-    not_either true b = refl
-    not_either false b = refl
-
-emptied_each-names : (s : State) (ns : List Term) → (emptied_each s ns).names ≡ s.names
-emptied_each-names s [] = refl
-emptied_each-names s (n ∷ ns) = emptied_each-names (emptied s (Named n)) ns
-
-emptied_each-next : (s : State) (ns : List Term) → (emptied_each s ns).next ≡ s.next
-emptied_each-next s [] = refl
-emptied_each-next s (n ∷ ns) = emptied_each-next (emptied s (Named n)) ns
-
-same_state : (s t : State) → s.quads ≡ t.quads → s.names ≡ t.names → s.next ≡ t.next → s ≡ t
-same_state s t q n c = λ i. record { quads = q i; names = n i; next = c i }
-
--- where each name is listed, the quads of named graphs are those of the listed names
-quads_listed : (s : State) (ns : List Term) → IsSound s → from_list ns ≡ s.names
-    → retain s.quads (λ q. not (list_any (names_it q.graph) ns)) ≡ retain s.quads (λ q. not (is_meant some.Named q.graph))
-quads_listed s ns sound e =
-    kept_alike quad_cmp_total quad_cmp-IsAntisymmetric s.quads (λ q. not (list_any (names_it q.graph) ns)) (λ q. not (not (is_default q.graph)))
-    (λ q h. ap not (listed s.names ns q.graph e (sound.named q h)))
-
-names_found : (names : Names) (old found : List Term) → old ≡ [] → AppendsOnce names old found → from_list found ≡ names
-names_found names old found none l = ap from_list (front_nothing old found l.found none l.appended) ∙ l.each_once.all
-
-all_emptied : (s : State) (old found rest : List Term) → IsSound s → old ≡ [] → AppendsOnce s.names old found → rest ≡ found → emptied_each s rest ≡ cleared s some.Named
-all_emptied s old found rest sound none l e =
-    ap (emptied_each s) e
-    ∙ same_state (emptied_each s found) (cleared s some.Named) (each_emptied-quads kept.Stay s found ∙ quads_listed s found sound (names_found s.names old found none l)) (emptied_each-names s found) (emptied_each-next s found)
+-- the named graphs
+named_cleared : (s : State) → without_named s ≡ cleared s some.Named
+named_cleared s = λ i. record {
+  quads = kept_alike quad_cmp_total quad_cmp-IsAntisymmetric s.quads (λ q. is_default q.graph) (λ q. not (not (is_default q.graph))) (λ q h. twice (is_default q.graph)) i;
+  names = s.names;
+  next = s.next;
+}
 
 -- the default graph
 pub default_cleared : (s : State) → emptied s Default ≡ cleared s some.Default
@@ -124,33 +68,13 @@ emptied_is_empty s g q h same =
     let out = and_second (contains s.quads q) _ (sym (contains-kept quad_cmp_total quad_cmp-IsAntisymmetric s.quads (λ q. not (same_graph g q.graph)) q) ∙ h) in
     true≢false (sym out ∙ ap not (ap (same_graph g) same ∙ tie_itself graph_cmp_total graph_cmp-IsAntisymmetric g))
 
-abbrev gone_each : State → List Term → State
-gone_each = each_emptied kept.Go
-
-gone_each-names : (s : State) (ns : List Term) → (gone_each s ns).names ≡ difference s.names (from_list ns)
-gone_each-names s [] = sym (difference-nothing term_cmp_total term_cmp-IsAntisymmetric s.names)
-gone_each-names s (n ∷ ns) = gone_each-names (gone s (Named n)) ns ∙ difference-more term_cmp_total term_cmp-IsAntisymmetric s.names n ns
-
-gone_each-next : (s : State) (ns : List Term) → (gone_each s ns).next ≡ s.next
-gone_each-next s [] = refl
-gone_each-next s (n ∷ ns) = gone_each-next (gone s (Named n)) ns
-
-no_name_left : (names : Names) (ns : List Term) → from_list ns ≡ names → difference names (from_list ns) ≡ retain names (λ n. not (is_meant some.Named (Named n)))
-no_name_left names ns e = same_set term_cmp_total term_cmp-IsAntisymmetric _ _ (λ n.
-    contains-difference term_cmp_total names (from_list ns) n
-    ∙ ap (λ z. contains names n && not (contains z n)) e
-    ∙ out (contains names n)
-    ∙ sym (contains-kept term_cmp_total term_cmp-IsAntisymmetric names (λ n. false) n))
-  where
-    out : (a : Bool) → (a && not a) ≡ (a && false)
-    out true = refl
-    out false = refl
-
-all_gone : (s : State) (old found rest : List Term) → IsSound s → old ≡ [] → AppendsOnce s.names old found → rest ≡ found → gone_each s rest ≡ dropped s some.Named
-all_gone s old found rest sound none l e =
-    let all = names_found s.names old found none l in
-    ap (gone_each s) e
-    ∙ same_state (gone_each s found) (dropped s some.Named) (each_emptied-quads kept.Go s found ∙ quads_listed s found sound all) (gone_each-names s found ∙ no_name_left s.names found all) (gone_each-next s found)
+-- the named graphs
+named_dropped : (s : State) → without_names s ≡ dropped s some.Named
+named_dropped s = λ i. record {
+  quads = (named_cleared s i).quads;
+  names = sym (kept_none term_cmp_total term_cmp-IsAntisymmetric s.names (λ n. false) (λ n h. refl)) i;
+  next = s.next;
+}
 
 -- one named graph
 pub one_gone : (s : State) (n : Term) → gone s (Named n) ≡ record { quads = without_graph s.quads (Named n); names = retain s.names (λ m. not (same_graph (Named n) (Named m))); next = s.next }
@@ -189,10 +113,16 @@ all_dropped s mid e =
 
 -- ---- either way
 
--- each name is listed: all named graphs are emptied
-pub named_emptied : (k : Kept) (s : State) (old found rest : List Term) → IsSound s → old ≡ [] → AppendsOnce s.names old found → rest ≡ found → each_emptied k s rest ≡ graphs_emptied k s some.Named
-named_emptied kept.Stay = all_emptied
-named_emptied kept.Go = all_gone
+pub named_stay : (s : State) (k : Kept) → k ≡ kept.Stay → without_named s ≡ graphs_emptied k s some.Named
+named_stay s k e = named_cleared s ∙ ap (λ k. graphs_emptied k s some.Named) (sym e)
+
+pub named_go : (s : State) (k : Kept) → k ≡ kept.Go → without_names s ≡ graphs_emptied k s some.Named
+named_go s k e = named_dropped s ∙ ap (λ k. graphs_emptied k s some.Named) (sym e)
+
+-- the default graph has no name that could go
+pub default_either_way : (k : Kept) (s : State) → without_quads_of s Default ≡ one_emptied k s Default
+default_either_way kept.Stay s = refl
+default_either_way kept.Go s = refl
 
 pub graph_emptied : (k : Kept) (s : State) (iri : List ℕ) → one_emptied k s (Named (Iri iri)) ≡ graphs_emptied k s (some.Graph iri)
 graph_emptied kept.Stay s iri = refl

@@ -19,8 +19,7 @@ use Rattle.rdf_dataset.specs.State.{Names, Quads, State, IsSound, matches, with_
 use Rattle.rdf_dataset.proofs.CallerLemmas.{with_all-more, with_all-nothing}
 use Rattle.sparql_eval.specs.Graphs.{quad_in, quads_in, quads_of, same_graph}
 use Rattle.sparql_eval.specs.Operations.{added, without_all}
-use Rattle.sparql_eval.specs.Inside.Staging.{emptied}
-use Rattle.sparql_eval.proofs.SetLemmas.{and_first, and_second, and_true, any_item, contains-kept, difference-kept, difference-more, difference-nothing, each_item, front_nothing, next_of, or_false}
+use Rattle.sparql_eval.proofs.SetLemmas.{and_first, and_second, and_true, any_item, contains-kept, difference-more, difference-nothing, each_item, front_nothing, next_of, or_false}
 
 -- ---- quads go
 
@@ -59,17 +58,6 @@ coming_ends now t rest r e = sym (with_all-nothing now) ∙ ap (with_all now) (s
 -- a look-up of a graph's quads passes each of them
 pub matches_all : (g : GraphName) (q : QuadParts) → matches g None None None q ≡ same_graph g q.graph
 matches_all g q = and_true (same_graph g q.graph)
-
--- the quads that a look-up found go
-pub found_gone : (s new : State) (g : GraphName) (old found : List QuadParts) → old ≡ [] → AppendsOnce (retain s.quads (matches g None None None)) old found
-    → new ≡ without_all s found → new ≡ emptied s g
-found_gone s new g old found none l e =
-    e ∙ (λ i. record {
-      quads = difference-kept quad_cmp_total quad_cmp-IsAntisymmetric s.quads (from_list found) (matches g None None None) (λ q. same_graph g q.graph)
-          (ap from_list (front_nothing old found l.found none l.appended) ∙ l.each_once.all) (matches_all g) i;
-      names = s.names;
-      next = s.next;
-    })
 
 -- ---- triples come into another graph
 

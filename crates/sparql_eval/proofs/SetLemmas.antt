@@ -41,10 +41,6 @@ pub and_second : (a b : Bool) → (a && b) ≡ true → b ≡ true
 and_second true b h = h
 and_second false b h = absurd (true≢false (sym h))
 
-not_and_not : (a b : Bool) → (a && not (a && b)) ≡ (a && not b)
-not_and_not true b = refl
-not_and_not false b = refl
-
 but_first : (e a b : Bool) → ((not e && a) && not b) ≡ (a && not (e || b))
 but_first true true b = refl
 but_first true false b = refl
@@ -87,16 +83,6 @@ module _ {K : Type 0} {R : K → K → Ordering} (o : IsTotalOrder R) (apart : I
       ∙ (λ i. contains-remove o s k x i && not (contains-from_list o ks x i))
       ∙ but_first (eq_by_cmp R x k) (contains s x) (list_any (eq_by_cmp R x) ks)
       ∙ sym (contains-difference o s (from_list (k ∷ ks)) x ∙ ap (λ b. contains s x && not b) (contains-from_list o (k ∷ ks) x)))
-
-  -- what passes a test is taken away
-  pub difference-kept : (s t : set.FinSet R) (p r : K → Bool) → t ≡ retain s p → ((x : K) → p x ≡ r x) → difference s t ≡ retain s (λ x. not (r x))
-  difference-kept s t p r e same = same_set o apart _ _ (λ x.
-      contains-difference o s t x
-      ∙ ap (λ z. contains s x && not (contains z x)) e
-      ∙ ap (λ b. contains s x && not b) (contains-kept s p x)
-      ∙ not_and_not (contains s x) (p x)
-      ∙ ap (λ b. contains s x && not b) (same x)
-      ∙ sym (contains-kept s (λ x. not (r x)) x))
 
   -- tests that agree on the members
   pub kept_alike : (s : set.FinSet R) (p r : K → Bool) → ((x : K) → contains s x ≡ true → p x ≡ r x) → retain s p ≡ retain s r

@@ -1,5 +1,5 @@
 -- The graphs that an operation names, and their triples (SPARQL 1.1 Update, sections 3 and 4).
-use Rattle.std.specs.Prelude.{Bool, true, false, not, map}
+use Rattle.std.specs.Prelude.{Bool, true, not, map}
 use Rattle.std.specs.FinSet as set
 use Rattle.std.specs.Ordering.{eq_by_cmp}
 use Rattle.rdf_terms.specs.Order.{graph_cmp}
@@ -8,16 +8,13 @@ use Rattle.rdf_terms.specs.declared.quad.GraphName.{GraphName}
 use Rattle.rdf_terms.specs.declared.quad.GraphName.TheVariants as name
 use Rattle.rdf_terms.specs.declared.term.Term.TheVariants.{Iri}
 use Rattle.rdf_dataset.specs.State.{State, Quads, Names}
+pub use Rattle.rdf_dataset.specs.State.{is_default}
 use Rattle.sparql_trees.specs.declared.operation.GraphOrDefault.{GraphOrDefault}
 use Rattle.sparql_trees.specs.declared.operation.GraphOrDefault.TheVariants as one
 use Rattle.sparql_trees.specs.declared.operation.GraphRefAll.{GraphRefAll}
 use Rattle.sparql_trees.specs.declared.operation.GraphRefAll.TheVariants as some
 
 -- ---- which graphs
-
-abbrev pub is_default : GraphName → Bool
-is_default name.Default = true
-is_default (name.Named n) = false
 
 abbrev pub same_graph : GraphName → GraphName → Bool
 same_graph g h = eq_by_cmp graph_cmp g h

@@ -7,8 +7,8 @@ ghost use Rattle.sparql_eval.specs.Operations.{copied, onto};
 ghost use Rattle.sparql_eval.specs.Inside.Staging.{gone, graphs_emptied, one_emptied, transferred};
 ghost use Rattle.sparql_trees.specs.declared.operation.GraphRefAll.TheVariants.{Named as each_named};
 
-use crate::quads::{add_graph, empty_graph};
-use rdf_dataset::{Source, Staged, sources_are_sound};
+use crate::quads::add_graph;
+use rdf_dataset::{Source, Staged};
 use rdf_terms::{GraphName, NoMemory, Term};
 use sparql_trees::{GraphOrDefault, GraphRefAll};
 use std::alloc::Global;
@@ -32,15 +32,11 @@ fn is_same_graph(graph: &GraphName, other: &GraphName) -> bool
 }
 
 // Empties a graph and takes its name away, where it has one.
-fn drop_graph<D: Source>(
-    alloc: Global,
-    graph: &GraphName,
-    view: &mut Staged<'_, D>,
-) -> Result<(), NoMemory>
+fn drop_graph<D: Source>(graph: &GraphName, view: &mut Staged<'_, D>) -> Result<(), NoMemory>
     ensures ok { OnOk result (view.new.now ≡ gone view.old.now graph.now) }
     ensures beneath { view.new.under ≡ view.old.under }
 {
-    empty_graph(alloc, graph, view)?;
+    view.clear_graph(graph)?;
     if let GraphName::Named(name) = graph {
         view.drop_name(name)?;
     }
@@ -58,7 +54,6 @@ pub(crate) enum Names {
 
 // Empties a graph; its name stays or goes.
 fn empty_one<D: Source>(
-    alloc: Global,
     graph: &GraphName,
     names: Names,
     view: &mut Staged<'_, D>,
@@ -67,32 +62,24 @@ fn empty_one<D: Source>(
     ensures beneath { view.new.under ≡ view.old.under }
 {
     match names {
-        Names::Stay => empty_graph(alloc, graph, view),
-        Names::Go => drop_graph(alloc, graph, view),
+        Names::Stay => view.clear_graph(graph),
+        Names::Go => drop_graph(graph, view),
     }
 }
 
-// Empties each named graph.
-fn empty_named<D: Source>(
-    alloc: Global,
-    names: Names,
-    view: &mut Staged<'_, D>,
-) -> Result<(), NoMemory>
+// Empties all named graphs; their names stay or go.
+fn empty_named<D: Source>(names: Names, view: &mut Staged<'_, D>) -> Result<(), NoMemory>
     ensures ok { OnOk result (view.new.now ≡ graphs_emptied names view.old.now each_named) }
     ensures beneath { view.new.under ≡ view.old.under }
 {
-    sources_are_sound(view);
-    let mut named = Vec::new(alloc);
-    view.names(&mut named)?;
-    for name in named {
-        empty_one(alloc, &GraphName::Named(name), names, view)?;
+    match names {
+        Names::Stay => view.clear_named(),
+        Names::Go => view.drop_named(),
     }
-    Ok(())
 }
 
 /// CLEAR, where the names stay, and DROP, where they go: empties the graphs.
 pub(crate) fn empty_graphs<D: Source>(
-    alloc: Global,
     graphs: &GraphRefAll,
     names: Names,
     view: &mut Staged<'_, D>,
@@ -103,13 +90,13 @@ pub(crate) fn empty_graphs<D: Source>(
     match graphs {
         GraphRefAll::Graph(iri) => {
             let graph = GraphName::Named(Term::Iri(iri.copy()?));
-            empty_one(alloc, &graph, names, view)
+            empty_one(&graph, names, view)
         }
-        GraphRefAll::Default => empty_one(alloc, &GraphName::Default, names, view),
-        GraphRefAll::Named => empty_named(alloc, names, view),
+        GraphRefAll::Default => view.clear_default(),
+        GraphRefAll::Named => empty_named(names, view),
         GraphRefAll::All => {
-            empty_one(alloc, &GraphName::Default, names, view)?;
-            empty_named(alloc, names, view)
+            view.clear_default()?;
+            empty_named(names, view)
         }
     }
 }
@@ -127,7 +114,7 @@ fn replace_graph<D: Source>(
     ensures ok { OnOk result (view.new.now ≡ copied view.old.now from.now to.now) }
     ensures beneath { view.new.under ≡ view.old.under }
 {
-    empty_graph(alloc, to, view)?;
+    view.clear_graph(to)?;
     add_graph(alloc, from, to, view)
 }
 
@@ -163,7 +150,7 @@ pub(crate) fn transfer_graph<D: Source>(
         Transfer::Copy => replace_graph(alloc, &from, &to, view),
         Transfer::Move => {
             replace_graph(alloc, &from, &to, view)?;
-            drop_graph(alloc, &from, view)
+            drop_graph(&from, view)
         }
         Transfer::Add => add_graph(alloc, &from, &to, view),
     }

@@ -5,7 +5,6 @@ ghost use Rattle.rdf_terms.specs.Quad.{is_graph, may_name_graph};
 ghost use Rattle.rdf_dataset.specs.Insertion.{with_all};
 ghost use Rattle.sparql_eval.specs.Graphs.{quad_in};
 ghost use Rattle.sparql_eval.specs.Operations.{added, without_all};
-ghost use Rattle.sparql_eval.specs.Inside.Staging.{emptied};
 
 use rdf_dataset::{Source, Staged, sources_are_sound};
 use rdf_terms::{GraphName, NoMemory, Quad};
@@ -38,20 +37,6 @@ pub(crate) fn insert_all<D: Source>(
         view.insert(quad)?;
     }
     Ok(())
-}
-
-/// Takes the quads of a graph away. Its name stays.
-pub(crate) fn empty_graph<D: Source>(
-    alloc: Global,
-    graph: &GraphName,
-    view: &mut Staged<'_, D>,
-) -> Result<(), NoMemory>
-    ensures ok { OnOk result (view.new.now ≡ emptied view.old.now graph.now) }
-    ensures beneath { view.new.under ≡ view.old.under }
-{
-    let mut found = Vec::new(alloc);
-    view.matches(graph, None, None, None, &mut found)?;
-    remove_all(found.as_slice(), view)
 }
 
 // The same triple in another graph.

@@ -1,6 +1,5 @@
 use Rattle.std.proofs.Common.{◌+◌, ap, subst, ◌∙◌}
 use Rattle.std.specs.FinSet as set
-use Rattle.rdf_terms.specs.Order.{quad_cmp}
 use Rattle.rdf_sets.specs.Delta.{IsDelta}
 use Rattle.rdf_dataset.specs.Loading.{names_with}
 use Rattle.rdf_dataset.specs.State.{Quads}

@@ -1,4 +1,4 @@
-use Rattle.rdf_dataset.proofs.UnreadLemmas.{Outcome, nothing_changed}
+use Rattle.rdf_dataset.proofs.UnreadLemmas.{nothing_changed}
 use Rattle.rdf_dataset.proofs.unread.Unread.over.Goals as goal
 
 pub invariant_of-result : goal.invariant_of-result

@@ -1,0 +1,37 @@
+-- Parts of a view that were emptied, and what they hold now.
+use Rattle.std.specs.Prelude.{◌≡◌, Bool, not, List, Option, IfSome}
+use Rattle.std.specs.FinSet as set
+use Rattle.rdf_terms.specs.declared.term.Term.{Term}
+use Rattle.rdf_terms.specs.declared.quad.GraphName.{GraphName}
+use Rattle.rdf_terms.specs.Quad.{QuadParts}
+use Rattle.rdf_store.specs.Stored.{Stored}
+use Rattle.rdf_dataset.specs.State.{State, Quads, Names, is_default, matches}
+use Rattle.rdf_dataset.specs.declared.emptied.Emptied.{Emptied}
+
+-- a part that was emptied holds the quads that pass its test, and no others
+abbrev pub IsPart : (QuadParts → Bool) → Option Stored → Quads → Type 0
+IsPart test part quads = IfSome part (λ (s : Stored). s.quads ≡ set.retain quads test)
+
+-- the same of the names of graphs
+abbrev pub AreNames : Option (List Term) → Names → Type 0
+AreNames part names = IfSome part (λ listed. set.from_list listed ≡ names)
+
+abbrev pub in_default : QuadParts → Bool
+in_default q = is_default q.graph
+
+abbrev pub in_named : QuadParts → Bool
+in_named q = not (is_default q.graph)
+
+-- each part that was emptied holds what the state has of it
+pub record AreParts (emptied : Emptied) (s : State) : Type 0 where
+  pub in_default_graph : IsPart in_default emptied.default s.quads
+  pub in_named_graphs : IsPart in_named emptied.named s.quads
+  pub of_graphs : AreNames emptied.names s.names
+
+-- each look-up in the graph finds the same quads in both sets
+abbrev pub FindsTheSame : GraphName → Quads → Quads → Type 0
+FindsTheSame graph part quads = (s p o : Option Term) → set.retain part (matches graph s p o) ≡ set.retain quads (matches graph s p o)
+
+-- without the quads of a list
+abbrev pub less : State → List QuadParts → State
+less s quads = record { quads = set.difference s.quads (set.from_list quads); names = s.names; next = s.next }

@@ -1,0 +1,135 @@
+//! Graphs that are emptied. Where the named ones were all emptied before, only what came since is walked.
+ghost use Rattle.std.specs.Prelude.{◌≡◌, IfOk, IfSome, OnOk};
+ghost use Rattle.std.specs.FinSet as set;
+ghost use Rattle.rdf_terms.specs.declared.quad.GraphName.TheVariants.{Default};
+ghost use Rattle.rdf_terms.specs.Lists.{ListsOnce};
+ghost use Rattle.rdf_dataset.specs.State.{without_graph, without_named, without_names};
+ghost use Rattle.rdf_dataset.specs.Staging.{staged};
+ghost use Rattle.rdf_dataset.specs.Inside.Emptied.{in_named, less};
+
+use crate::source::{Source, sources_are_sound};
+use crate::staged::Staged;
+use rdf_sets::Tree;
+use rdf_store::Store;
+use rdf_terms::{GraphName, NoMemory, Quad};
+
+impl<'a, D: Source> Staged<'a, D> {
+    // Takes the quads out.
+    fn remove_each(&mut self, quads: &[Quad]) -> Result<(), NoMemory>
+        ensures ok { OnOk result (self.new ≡ staged self.old (less self.old.now quads.now)) }
+        ensures beneath { self.new.under ≡ self.old.under }
+    {
+        for quad in quads {
+            self.remove(quad)?;
+        }
+        Ok(())
+    }
+
+    // Takes the quads of each named graph out, by its name.
+    fn empty_by_name(&mut self) -> Result<(), NoMemory>
+        ensures ok { OnOk result (self.new ≡ staged self.old (without_named self.old.now)) }
+        ensures beneath { self.new.under ≡ self.old.under }
+    {
+        sources_are_sound(self);
+        let mut named = Vec::new(self.alloc);
+        self.names(&mut named)?;
+        for name in named {
+            self.clear_graph(&GraphName::Named(name))?;
+        }
+        Ok(())
+    }
+
+    // The quads of named graphs, where these were emptied before: those that came since.
+    fn quads_since(&self) -> Result<Option<Vec<Quad>>, NoMemory>
+        ensures { IfOk result (λ since. IfSome since (λ quads.
+            ListsOnce (set.retain self.now.now.quads in_named) quads.items)) }
+    {
+        let Some(part) = &self.emptied.named else {
+            return Ok(None);
+        };
+        let mut since = Vec::new(self.alloc);
+        part.append_quads(&mut since)?;
+        Ok(Some(since))
+    }
+
+    // Takes the quads of the named graphs out.
+    fn empty_named(&mut self) -> Result<(), NoMemory>
+        ensures ok { OnOk result (self.new ≡ staged self.old (without_named self.old.now)) }
+        ensures beneath { self.new.under ≡ self.old.under }
+    {
+        match self.quads_since()? {
+            Some(since) => self.remove_each(since.as_slice()),
+            None => self.empty_by_name(),
+        }
+    }
+
+    // Takes the names of graphs out, none of which has a quad.
+    fn drop_names(&mut self) -> Result<(), NoMemory>
+        requires { without_named self.old.now ≡ self.old.now }
+        ensures ok { OnOk result (self.new ≡ staged self.old (without_names self.old.now)) }
+        ensures beneath { self.new.under ≡ self.old.under }
+    {
+        let mut named = Vec::new(self.alloc);
+        self.names(&mut named)?;
+        for name in named {
+            self.drop_name(&name)?;
+        }
+        Ok(())
+    }
+
+    /// Takes the quads of a graph out. Its name stays.
+    ///
+    /// # Errors
+    /// [`NoMemory`] where memory is wanting: some of the quads have gone then.
+    pub fn clear_graph(&mut self, graph: &GraphName) -> Result<(), NoMemory>
+        ensures ok { OnOk result (self.new ≡ staged self.old (without_graph self.old.now graph.now)) }
+        ensures beneath { self.new.under ≡ self.old.under }
+    {
+        let mut found = Vec::new(self.alloc);
+        self.matches(graph, None, None, None, &mut found)?;
+        self.remove_each(found.as_slice())
+    }
+
+    /// Takes the quads of the default graph out. From then on only those that have come since are looked at there.
+    ///
+    /// # Errors
+    /// [`NoMemory`] where memory is wanting: some of the quads have gone then.
+    pub fn clear_default(&mut self) -> Result<(), NoMemory>
+        ensures ok { OnOk result (self.new
+            ≡ staged self.old (without_graph self.old.now Default)) }
+        ensures beneath { self.new.under ≡ self.old.under }
+    {
+        self.clear_graph(&GraphName::Default)?;
+        self.emptied.default = Some(Store::new(self.alloc));
+        Ok(())
+    }
+
+    /// Takes the quads of all named graphs out. Their names stay. The first time it asks for the quads of each name, and
+    /// then only for those that have come since.
+    ///
+    /// # Errors
+    /// [`NoMemory`] where memory is wanting: some of the quads have gone then.
+    pub fn clear_named(&mut self) -> Result<(), NoMemory>
+        ensures ok { OnOk result (self.new ≡ staged self.old (without_named self.old.now)) }
+        ensures beneath { self.new.under ≡ self.old.under }
+    {
+        self.empty_named()?;
+        self.emptied.named = Some(Store::new(self.alloc));
+        Ok(())
+    }
+
+    /// Takes the quads of all named graphs out, and their names. The first time it asks for each name, and then only for
+    /// what has come since.
+    ///
+    /// # Errors
+    /// [`NoMemory`] where memory is wanting: some of the quads and names have gone then.
+    pub fn drop_named(&mut self) -> Result<(), NoMemory>
+        ensures ok { OnOk result (self.new ≡ staged self.old (without_names self.old.now)) }
+        ensures beneath { self.new.under ≡ self.old.under }
+    {
+        self.clear_named()?;
+        self.drop_names()?;
+        self.emptied.names = Some(Tree::new(self.alloc));
+        Ok(())
+    }
+}

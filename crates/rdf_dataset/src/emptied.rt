@@ -1,0 +1,125 @@
+//! Parts of a view that were emptied: what they hold now is found without what lies beneath.
+ghost use Rattle.std.specs.Prelude.{Bool, Option, IsTrue, IfSome, option_copied};
+ghost use Rattle.std.specs.FinSet as set;
+ghost use Rattle.rdf_terms.specs.Order.{term_cmp};
+ghost use Rattle.rdf_terms.specs.Quad.{QuadParts};
+ghost use Rattle.rdf_dataset.specs.State.{State, Quads, Names, with_name, with_quad, without_name, without_quad};
+ghost use Rattle.rdf_dataset.specs.Inside.Emptied.{AreNames, AreParts, FindsTheSame, IsPart};
+
+use rdf_sets::Tree;
+use rdf_store::Store;
+use rdf_terms::{GraphName, Quad, Term};
+
+/// What a view holds now in the parts that were emptied since it began: the default graph, the named ones together, and
+/// the names of graphs. A part that wasn't emptied isn't here. Nor is one for whose growth memory was wanting: it is given
+/// up, which costs time and changes no answer.
+#[derive(Drop)]
+pub(crate) struct Emptied {
+    pub(crate) default: Option<Store>,
+    pub(crate) named: Option<Store>,
+    pub(crate) names: Option<Tree<Term>>,
+}
+
+// The part with the quad, which belongs there.
+fn gained(part: Option<Store>, quad: &Quad) -> Option<Store>
+    ensures { (quads : Quads) (test : QuadParts → Bool) → IsTrue (test quad.now) →
+        IsPart test part quads → IsPart test result (set.insert quads quad.now) }
+{
+    let mut store = part?;
+    match store.insert(quad) {
+        Ok(_) => Some(store),
+        Err(_) => None,
+    }
+}
+
+// The part without the quad.
+fn lost(part: Option<Store>, quad: &Quad) -> Option<Store>
+    ensures { (quads : Quads) (test : QuadParts → Bool) →
+        IsPart test part quads → IsPart test result (set.remove quads quad.now) }
+{
+    let mut store = part?;
+    store.remove(quad);
+    Some(store)
+}
+
+// The names with one more.
+fn name_gained(part: Option<Tree<Term>>, name: &Term) -> Option<Tree<Term>>
+    ensures { (names : Names) → AreNames part names → AreNames result (set.insert names name.now) }
+{
+    let mut tree = part?;
+    match name.copy() {
+        Ok(name) => match tree.insert(name) {
+            Ok(_) => Some(tree),
+            Err(_) => None,
+        },
+        Err(_) => None,
+    }
+}
+
+// The names without one.
+fn name_lost(part: Option<Tree<Term>>, name: &Term) -> Option<Tree<Term>>
+    ensures { (names : Names) → AreNames part names → AreNames result (set.remove names name.now) }
+{
+    let mut tree = part?;
+    tree.remove(name);
+    Some(tree)
+}
+
+impl Emptied {
+    /// No part was emptied.
+    pub(crate) fn none() -> Emptied
+        ensures { (s : State) → AreParts result s }
+    {
+        Emptied {
+            default: None,
+            named: None,
+            names: None,
+        }
+    }
+
+    /// A quad has come, and the name of its graph.
+    pub(crate) fn insert(&mut self, quad: &Quad)
+        ensures { (s : State) → AreParts self.old s → AreParts self.new (with_quad s quad.now) }
+    {
+        match quad.graph() {
+            GraphName::Default => self.default = gained(self.default.take(), quad),
+            GraphName::Named(name) => {
+                self.named = gained(self.named.take(), quad);
+                self.names = name_gained(self.names.take(), name);
+            }
+        }
+    }
+
+    /// A quad has gone.
+    pub(crate) fn remove(&mut self, quad: &Quad)
+        ensures { (s : State) → AreParts self.old s → AreParts self.new (without_quad s quad.now) }
+    {
+        self.default = lost(self.default.take(), quad);
+        self.named = lost(self.named.take(), quad);
+    }
+
+    /// A name has come.
+    pub(crate) fn add_name(&mut self, name: &Term)
+        ensures { (s : State) → AreParts self.old s → AreParts self.new (with_name s name.now) }
+    {
+        self.names = name_gained(self.names.take(), name);
+    }
+
+    /// A name has gone.
+    pub(crate) fn drop_name(&mut self, name: &Term)
+        ensures { (s : State) → AreParts self.old s → AreParts self.new (without_name s name.now) }
+    {
+        self.names = name_lost(self.names.take(), name);
+    }
+
+    /// The part in which the graph is found, where that part was emptied.
+    pub(crate) fn part(&self, graph: &GraphName) -> Option<&Store>
+        ensures { IfSome result (λ part. (s : State) → AreParts self.now s →
+            FindsTheSame graph.now part.now.quads s.quads) }
+    {
+        match graph {
+            GraphName::Default => self.default.as_ref(),
+            GraphName::Named(_) => self.named.as_ref(),
+        }
+    }
+}
