@@ -1,19 +1,17 @@
 -- Whether rows have a solution, from some of them before the others.
-use Rattle.std.proofs.Common.{◌≡◌, ℕ, ◌+◌, ◌<◌, ◌≤◌, Bool, true, false, cond, ◌&&◌, ◌||◌, List, [], ◌∷◌, ◌++◌, map, filter, Option, Some, None, IfSome, refl, sym, ap, ◌∙◌, subst, length, take, drop, replicate, get_or, arith, length-append, Bor}
-use Rattle.std.specs.Prelude.{slice_get, option_and_then}
+use Rattle.std.proofs.Common.{◌≡◌, ℕ, ◌+◌, ◌<◌, ◌≤◌, Bool, true, false, ◌&&◌, ◌||◌, List, [], ◌∷◌, ◌++◌, map, filter, Option, Some, None, IfSome, refl, sym, ap, ◌∙◌, subst, length, take, drop, replicate, get_or, arith, length-append, Bor}
 use Rattle.std.specs.List.{flat_map, list_all, cons_option, remove}
 use Rattle.std.proofs.lemmas.Bool.{eqb-true, eq-eqb, le-leb, leb-true}
 use Rattle.std.proofs.lemmas.Grind.{flat_map-append}
-use Rattle.std.proofs.lemmas.List.{drop_more, drop_all, map-append, length-set, length-take-le}
+use Rattle.std.proofs.lemmas.List.{drop_more, drop_all, map-append, length-take-le}
 use Rattle.std.proofs.lemmas.List.Elements.{filter-append}
 use Rattle.std.proofs.lemmas.List.Folds.{list_all-append}
 use Rattle.rdf_terms.specs.Quad.{QuadParts}
-use Rattle.rdf_terms.specs.declared.term.Term.{Term}
 use Rattle.rdf_terms.specs.declared.quad.GraphName.{GraphName}
 use Rattle.rdf_dataset.specs.State.{State}
 use Rattle.sparql_trees.specs.declared.expression.Expression.{Expression}
 use Rattle.sparql_trees.specs.declared.pattern.Member.{Member}
-use Rattle.sparql_values.specs.Mapping.{Variables, Mapping, same_term, compatible}
+use Rattle.sparql_values.specs.Mapping.{Variables, Mapping, compatible}
 use Rattle.sparql_algebra.specs.Algebra.{Algebra, Element, joined, optional, element, removed}
 use Rattle.sparql_algebra.specs.Bags.{SameBag}
 use Rattle.sparql_algebra.specs.Listing.{Listing, Lists}
@@ -24,12 +22,10 @@ use Rattle.sparql_algebra.proofs.CallerLemmas.{and_left, and_right, some_same, S
 use Rattle.sparql_solve.specs.declared.look_ups.Graphs.{Graphs}
 use Rattle.sparql_solve.specs.declared.look_ups.Graphs.TheVariants.{One}
 use Rattle.sparql_solve.specs.declared.look_ups.LookUp.{LookUp}
-use Rattle.sparql_solve.specs.declared.place.Place.{Place}
-use Rattle.sparql_solve.specs.declared.place.Place.TheVariants.{Fixed, Column, Nowhere}
 use Rattle.sparql_solve.specs.declared.place.Places.{Places}
 use Rattle.sparql_solve.specs.Ask.{cut_under, followed, has_columns, looked_up_under}
 use Rattle.sparql_solve.specs.LookUps.{widened}
-use Rattle.sparql_solve.specs.Matching.{assigned, assigned_at, matched, matches_of, stepped, matching}
+use Rattle.sparql_solve.specs.Matching.{matched, matches_of, stepped, matching}
 use Rattle.sparql_solve.specs.Members.{AreSolutions, element_solutions}
 use Rattle.sparql_solve.specs.Sides.{found_in, found_among}
 use Rattle.sparql_solve.specs.Under.{is_joined, is_wide, kept, made, AreMade, IsLookUpOf, where_none, all_made}

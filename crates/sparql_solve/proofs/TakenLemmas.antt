@@ -11,7 +11,7 @@ use Rattle.sparql_trees.specs.declared.pattern.Member.TheVariants as m
 use Rattle.sparql_values.specs.Mapping.{Variables, Mapping, compatible, empty_mapping, first_of, merge}
 use Rattle.sparql_algebra.specs.Algebra.{basic, removed, element, translation}
 use Rattle.sparql_algebra.specs.Bags.{SameBag}
-use Rattle.sparql_algebra.specs.Listing.{Listing, Lists}
+use Rattle.sparql_algebra.specs.Listing.{Listing}
 use Rattle.sparql_algebra.specs.Solutions.{both_have, merges, occurs, shares, solutions}
 use Rattle.sparql_algebra.specs.Under.{agreeing, cut}
 use Rattle.sparql_algebra.proofs.CallerLemmas.{all_filter, all_under_nothing, basic_under, and_left, and_right, element-Basic, element-Minus, filter_turn, has_length, length_from, solutions_length, SameBag-filter, SameBag-merges}
