@@ -153,6 +153,9 @@ fn rows_share_what_is_found_for_them(rt: HostRuntime) {
             (3, 5, 5),
         ),
         ("{ ?s e:p ?o { ?a e:q ?x } }", (6, 2, 5)),
+        ("{ ?s e:p ?o { { ?o e:q ?x } } }", (3, 3, 5)),
+        ("{ ?s e:p ?o OPTIONAL { ?o e:q ?x } }", (3, 3, 5)),
+        ("{ ?s e:p ?o { } ?a e:q ?x }", (6, 2, 5)),
     ] {
         assert!(rt;
             cost_over(rt.alloc(), SHARED, group) == Some(wanted),

@@ -1,19 +1,17 @@
 -- Whether rows have a solution, from some of them before the others.
-use Rattle.std.proofs.Common.{◌≡◌, ℕ, ◌+◌, ◌<◌, ◌≤◌, Bool, true, false, cond, ◌&&◌, ◌||◌, List, [], ◌∷◌, ◌++◌, map, filter, Option, Some, None, IfSome, refl, sym, ap, ◌∙◌, subst, length, take, drop, replicate, get_or, arith, length-append, Bor}
-use Rattle.std.specs.Prelude.{slice_get, option_and_then}
+use Rattle.std.proofs.Common.{◌≡◌, ℕ, ◌+◌, ◌<◌, ◌≤◌, Bool, true, false, ◌&&◌, ◌||◌, List, [], ◌∷◌, ◌++◌, map, filter, Option, Some, None, IfSome, refl, sym, ap, ◌∙◌, subst, length, take, drop, replicate, get_or, arith, length-append, Bor}
 use Rattle.std.specs.List.{flat_map, list_all, cons_option, remove}
 use Rattle.std.proofs.lemmas.Bool.{eqb-true, eq-eqb, le-leb, leb-true}
 use Rattle.std.proofs.lemmas.Grind.{flat_map-append}
-use Rattle.std.proofs.lemmas.List.{drop_more, drop_all, map-append, length-set, length-take-le}
+use Rattle.std.proofs.lemmas.List.{drop_more, drop_all, map-append, length-take-le}
 use Rattle.std.proofs.lemmas.List.Elements.{filter-append}
 use Rattle.std.proofs.lemmas.List.Folds.{list_all-append}
 use Rattle.rdf_terms.specs.Quad.{QuadParts}
-use Rattle.rdf_terms.specs.declared.term.Term.{Term}
 use Rattle.rdf_terms.specs.declared.quad.GraphName.{GraphName}
 use Rattle.rdf_dataset.specs.State.{State}
 use Rattle.sparql_trees.specs.declared.expression.Expression.{Expression}
 use Rattle.sparql_trees.specs.declared.pattern.Member.{Member}
-use Rattle.sparql_values.specs.Mapping.{Variables, Mapping, same_term, compatible}
+use Rattle.sparql_values.specs.Mapping.{Variables, Mapping, compatible}
 use Rattle.sparql_algebra.specs.Algebra.{Algebra, Element, joined, optional, element, removed}
 use Rattle.sparql_algebra.specs.Bags.{SameBag}
 use Rattle.sparql_algebra.specs.Listing.{Listing, Lists}
@@ -24,15 +22,14 @@ use Rattle.sparql_algebra.proofs.CallerLemmas.{and_left, and_right, some_same, S
 use Rattle.sparql_solve.specs.declared.look_ups.Graphs.{Graphs}
 use Rattle.sparql_solve.specs.declared.look_ups.Graphs.TheVariants.{One}
 use Rattle.sparql_solve.specs.declared.look_ups.LookUp.{LookUp}
-use Rattle.sparql_solve.specs.declared.place.Place.{Place}
-use Rattle.sparql_solve.specs.declared.place.Place.TheVariants.{Fixed, Column, Nowhere}
 use Rattle.sparql_solve.specs.declared.place.Places.{Places}
 use Rattle.sparql_solve.specs.Ask.{cut_under, followed, has_columns, looked_up_under}
 use Rattle.sparql_solve.specs.LookUps.{widened}
-use Rattle.sparql_solve.specs.Matching.{assigned, assigned_at, matched, matches_of, stepped, matching}
+use Rattle.sparql_solve.specs.Matching.{matched, matches_of, stepped, matching}
 use Rattle.sparql_solve.specs.Members.{AreSolutions, element_solutions}
 use Rattle.sparql_solve.specs.Sides.{found_in, found_among}
 use Rattle.sparql_solve.specs.Under.{is_joined, is_wide, kept, made, AreMade, IsLookUpOf, where_none, all_made}
+use Rattle.sparql_solve.proofs.LengthLemmas.{matched_keeps}
 use Rattle.sparql_solve.proofs.PatternOrderLemmas.{asked, one_looked_up}
 use Rattle.sparql_solve.proofs.SideLemmas.{same_all, all_give}
 
@@ -214,32 +211,6 @@ module _ (vs : Variables) (s : State) (g : GraphName) (a : Mapping) (F : List Ex
       ∙ ap (λ (ys : List Member). is_some_solution (followed vs d g a (map element ys) F rows)) (sym (drop_all i ms le)) ∙ h.same
 
 -- ---- triple patterns, one after another
-
-keeps_cond : (b : Bool) (m : Mapping) → IfSome (cond b (Some m) None) (λ k. length k ≡ length m)
-keeps_cond true m = refl
-keeps_cond false m = tt
-
-keeps_at : (m : Mapping) (c : ℕ) (u : Term) (o : Option (Option Term)) → IfSome (assigned_at m c u o) (λ k. length k ≡ length m)
-keeps_at m c u (Some (Some t)) = keeps_cond (same_term t u) m
-keeps_at m c u (Some None) = length-set m c (Some u)
-keeps_at m c u None = tt
-
-keeps : (m : Mapping) (x : Place) (u : Term) (n : ℕ) → length m ≡ n → IfSome (assigned m x u) (λ k. length k ≡ n)
-keeps m (Fixed t) u n e = subst (λ i. IfSome (cond (same_term t u) (Some m) None) (λ k. length k ≡ i)) e (keeps_cond (same_term t u) m)
-keeps m (Column c) u n e = subst (λ i. IfSome (assigned_at m c u (slice_get m c)) (λ k. length k ≡ i)) e (keeps_at m c u (slice_get m c))
-keeps m Nowhere u n e = tt
-
-keeps_then : (n : ℕ) (o : Option Mapping) (f : Mapping → Option Mapping) → IfSome o (λ k. length k ≡ n) →
-    ((k : Mapping) → length k ≡ n → IfSome (f k) (λ j. length j ≡ n)) → IfSome (option_and_then f o) (λ j. length j ≡ n)
-keeps_then n None f h each = tt
-keeps_then n (Some k) f h each = each k h
-
-matched_keeps : (p : Places) (m : Mapping) (q : QuadParts) → IfSome (matched p m q) (λ k. length k ≡ length m)
-matched_keeps p m q =
-    keeps_then (length m) (assigned m p.predicate q.predicate) (λ k. option_and_then (λ j. assigned j p.object q.object) (assigned k p.subject q.subject))
-    (keeps m p.predicate q.predicate (length m) refl)
-    (λ k e. keeps_then (length m) (assigned k p.subject q.subject) (λ j. assigned j p.object q.object) (keeps k p.subject q.subject (length m) e)
-    (λ j e2. keeps j p.object q.object (length m) e2))
 
 module _ (vs : Variables) where
   columns_as : (m k : Mapping) → has_columns vs m ≡ true → length k ≡ length m → has_columns vs k ≡ true

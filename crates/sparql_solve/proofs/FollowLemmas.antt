@@ -29,7 +29,7 @@ use Rattle.sparql_algebra.specs.Bags.{SameBag}
 use Rattle.sparql_algebra.specs.Listing.{Listing, Lists}
 use Rattle.sparql_algebra.specs.Solutions.{is_at, is_column, occurs, var_or_term, basic_solutions, merges, joins, shares, left_by, satisfies, solutions}
 use Rattle.sparql_algebra.specs.Under.{agreeing, cut, names_left, reads, under}
-use Rattle.sparql_algebra.proofs.CallerLemmas.{and_left, and_right, sum_by-cong, sum_by-filter, SameBag-refl, SameBag-filter, SameBag-map, SameBag-joins, SameBag-flat_map, has_length, single_length, length_from, length_to, merge_length, merges_length, solutions_length, sum_where, sum_by-map, all_under_nothing, all_filter, basic_under, same_term_is, name_once, filter_always, translation-is, element-Basic, element-Union, element-Optional, element-Graph, element-Minus, empty_solutions, compatible_empty, compatible_turn, filter_flat_map, filter_again, filter_turn, join_alone, joined_alone, left_joined_alone, minus_alone, filter_under, names_kept, variable_under}
+use Rattle.sparql_algebra.proofs.CallerLemmas.{and_left, and_right, sum_by-cong, sum_by-filter, SameBag-refl, SameBag-filter, SameBag-map, SameBag-joins, SameBag-flat_map, SameBag-merges, has_length, single_length, length_from, length_to, merge_length, merges_length, solutions_length, sum_where, sum_by-map, all_under_nothing, all_filter, basic_under, same_term_is, name_once, filter_always, translation-is, element-Basic, element-Union, element-Optional, element-Graph, element-Minus, empty_solutions, compatible_empty, compatible_turn, filter_flat_map, filter_again, filter_turn, join_alone, joined_alone, left_joined_alone, minus_alone, filter_under, names_kept, variable_under}
 use Rattle.sparql_solve.specs.declared.look_ups.Graphs.{Graphs}
 use Rattle.sparql_solve.specs.declared.look_ups.Graphs.TheVariants.{One}
 use Rattle.sparql_solve.specs.declared.look_ups.LookUp.{LookUp}
@@ -38,11 +38,11 @@ use Rattle.sparql_solve.specs.declared.sides.Made.{Made}
 use Rattle.sparql_solve.specs.Matching.{has_column, is_place_at, place_by, place_of, places_of}
 use Rattle.sparql_solve.specs.Sides.{look_up_in, tried, found}
 use Rattle.sparql_solve.specs.Members.{AreSolutions, element_solutions}
-use Rattle.sparql_solve.specs.Under.{binds_none, is_unit, is_served, below, masked, flags_where, is_joined, is_removed, is_wide, met, where_none, kept, asked, made, made_by, under_name, AreUnder, AreMade, IsLookUpOf}
+use Rattle.sparql_solve.specs.Under.{binds_none, is_unit, is_served, below, masked, flags_where, is_joined, is_removed, is_wide, met, where_none, kept, asked, made, under_name, AreUnder, AreMade, IsLookUpOf, IsLookUpFor, counting, own_columns}
 use Rattle.sparql_solve.proofs.SideLemmas.{same_all, all_give, times_once, sum_times, basic_look_up}
 use Rattle.sparql_solve.proofs.MemberLemmas.{extended_push, union_is, once_for_all}
 use Rattle.sparql_solve.proofs.MinusLemmas.{all_left}
-use Rattle.sparql_solve.proofs.SharedLemmas.{met_is, replicate_none, below_none, merges_none, below_masked, length_masked, masked_cut, shared, SameBag-kept}
+use Rattle.sparql_solve.proofs.SharedLemmas.{bound_above, merges_again, replicate_none, below_none, merges_none, below_masked, length_masked, masked_cut, shared, SameBag-kept}
 
 -- ---- lengths
 
@@ -128,6 +128,10 @@ pub more_flags : (test : ℕ → Bool) (i : ℕ) (b : Bool) (before after : List
 more_flags test i b before after h eb e =
     let next : suc i ≡ i + 1 = omega arith in
     e ∙ ap (λ (xs : List Bool). xs ++ b ∷ []) h ∙ ap (λ (c : Bool). flags_where test i ++ c ∷ []) eb ∙ flags_push test i ∙ ap (flags_where test) next
+
+pub flags_long : (test : ℕ → Bool) (n : ℕ) → length (flags_where test n) ≡ n
+flags_long test zero = refl
+flags_long test (suc n) = ap suc (flags_long (λ c. test (suc c)) n)
 
 pub flags_done : (test : ℕ → Bool) (i n : ℕ) (out : List Bool) → out ≡ flags_where test i → i ≤ n → n ≤ i → out ≡ flags_where test n
 flags_done test i n out h le ge = let e : i ≡ n = omega (arith, le, ge) in h ∙ ap (flags_where test) e
@@ -293,6 +297,100 @@ module _ (vs : Variables) (s : State) where
       (and_right (nat_eq (length key) (length y)) _ (and_right (is_wide vs y) _ q)) k found (element_solutions vs d g k)
       (h (asked_wide vs k a key ea (el ∙ ex)) d p)) f
 
+  -- ---- look-ups
+
+  pub look_up_counts : (k : Element) (l : LookUp) (F : Listing → List Mapping) → is_removed k ≡ false → IsLookUpOf vs s l F → IsLookUpFor vs s k l F
+  look_up_counts (joined A) l F e h = h
+  look_up_counts (optional E A) l F e h = h
+  look_up_counts (removed A) l F e h = cc
+
+  pub none_counts : (k : Element) (l : LookUp) (x : Mapping) (own : List Bool) (out : List Mapping) → own ≡ own_columns vs l → is_removed k ≡ true →
+      binds_none (masked own x) ≡ true → out ≡ [] → AreSolutions s out (λ d. counting vs d l k x)
+  none_counts (joined A) l x own out eo e n h = cc
+  none_counts (optional F A) l x own out eo e n h = cc
+  none_counts (removed A) l x own out eo e n h = λ d p f.
+      ap (sum_by f) h ∙ ap (λ b. sum_by f (cond b [] (found vs d l x))) (sym (ap (λ (fs : List Bool). binds_none (masked fs x)) (sym eo) ∙ n))
+
+  pub each_counts : (k : Element) (l : LookUp) (x : Mapping) (out : List Mapping) → is_removed k ≡ false → AreSolutions s out (λ d. found vs d l x) →
+      AreSolutions s out (λ d. counting vs d l k x)
+  each_counts (joined A) l x out e h = h
+  each_counts (optional F A) l x out e h = h
+  each_counts (removed A) l x out e h = cc
+
+  pub bound_counts : (k : Element) (l : LookUp) (x : Mapping) (own : List Bool) (out : List Mapping) → own ≡ own_columns vs l → binds_none (masked own x) ≡ false →
+      AreSolutions s out (λ d. found vs d l x) → AreSolutions s out (λ d. counting vs d l k x)
+  bound_counts (joined A) l x own out eo n h = h
+  bound_counts (optional F A) l x own out eo n h = h
+  bound_counts (removed A) l x own out eo n h = λ d p f.
+      h d p f ∙ ap (λ b. sum_by f (cond b [] (found vs d l x))) (sym (ap (λ (fs : List Bool). binds_none (masked fs x)) (sym eo) ∙ n))
+
+  first_alone : (rows block : List Mapping) (x : Mapping) → block ≡ take 1 rows → 0 < length rows → x ≡ get_or rows 0 x → block ≡ x ∷ []
+  first_alone [] block x eb lt e = absurd (omega (arith, lt))
+  first_alone (y ∷ rows) block x eb lt e = eb ∙ ap (λ (z : Mapping). z ∷ []) (sym e)
+
+  -- what is looked up for the first row
+  pub made_alone : (g : GraphName) (a : Mapping) (k : Element) (x : Mapping) (rows block there out : List Mapping) (l : LookUp) → block ≡ take 1 rows → 0 < length rows →
+      x ≡ get_or rows 0 x → IsLookUpFor vs s k l (λ d. element_solutions vs d g k) → AreSolutions s there (λ d. counting vs d l k x) →
+      out ≡ agreeing (kept vs k x there) a → AreMade vs s g a k block out
+  made_alone g a k x rows block there out l eb lt here is h e =
+      subst (λ (xs : List Mapping). AreMade vs s g a k xs out) (sym (first_alone rows block x eb lt here)) alone
+    where
+      alone : AreMade vs s g a k (x ∷ []) out
+      alone ea w d p f =
+          let M : List Mapping = merges (met k x (element_solutions vs d g k)) x in
+          ap (sum_by f) e
+          ∙ SameBag-filter (compatible a) (kept vs k x there) (kept vs k x M)
+          (SameBag-kept vs k x there M (λ f2. h d p f2 ∙ is d p x (wide_from vs x (and_left (is_wide vs x) _ w)) f2)) f
+          ∙ ap (sum_by f) (sym (append-nil (made vs d g a k x)))
+
+  -- what is looked up for the columns of a row counts for each row above them, merged with it
+  above_counts : (g : GraphName) (k : Element) (l : LookUp) (own : List Bool) (x key y : Mapping) (there : List Mapping) → own ≡ own_columns vs l → key ≡ masked own x →
+      (is_removed k && binds_none (masked own x)) ≡ false → IsLookUpOf vs s l (λ d. element_solutions vs d g k) → IsLookUpFor vs s k l (λ d. element_solutions vs d g k) →
+      length key ≡ length y → below key y ≡ true → length y ≡ length vs → AreSolutions s there (λ d. found vs d l key) → (d : Listing) → Lists s d →
+      SameBag (merges there y) (merges (met k y (element_solutions vs d g k)) y)
+  above_counts g k l own x key y there eo ek n gives counts ey h ew r d p f =
+      let S : List Mapping = element_solutions vs d g k in
+      SameBag-merges y there (found vs d l key) (r d p) f
+      ∙ SameBag-merges y (found vs d l key) (merges S key) (gives d p key (ey ∙ ew)) f
+      ∙ ap (sum_by f) (merges_again key y ey h S)
+      ∙ sym (gives d p y ew f)
+      ∙ ap (sum_by f) (sym (whole k n))
+      ∙ counts d p y ew f
+    where
+      flagged : binds_none (masked own x) ≡ false → binds_none (masked (own_columns vs l) y) ≡ false
+      flagged i =
+          ap (λ (fs : List Bool). binds_none (masked fs y)) (sym eo)
+          ∙ bound_above own x y (ap length (sym ek) ∙ ey) (ap (λ (w : Mapping). below w y) (sym ek) ∙ h) i
+
+      whole : (j : Element) → (is_removed j && binds_none (masked own x)) ≡ false → counting vs d l j y ≡ found vs d l y
+      whole (joined A) i = refl
+      whole (optional F A) i = refl
+      whole (removed A) i = ap (λ b. cond b [] (found vs d l y)) (flagged i)
+
+  -- with what was looked up for them
+  pub made_run : (g : GraphName) (a : Mapping) (k : Element) (l : LookUp) (own : List Bool) (key x : Mapping) (rows block there given out : List Mapping) (n : ℕ) →
+      own ≡ own_columns vs l → key ≡ masked own x → (is_removed k && binds_none (masked own x)) ≡ false → IsLookUpOf vs s l (λ d. element_solutions vs d g k) →
+      IsLookUpFor vs s k l (λ d. element_solutions vs d g k) → block ≡ take n rows → 0 < n → 0 < length rows → x ≡ get_or rows 0 x →
+      list_all (is_served key) (drop 1 block) ≡ true → AreSolutions s there (λ d. found vs d l key) → given ≡ there →
+      out ≡ flat_map (λ y. agreeing (kept vs k y (merges given y)) a) block → AreMade vs s g a k block out
+  made_run g a k l own key x rows block there given out n eo ek en gives counts eb lt m here served h eg e ea w d p f =
+      let cut : block ≡ x ∷ drop 1 block = first_apart rows block n x eb lt m here in
+      let wide : list_all (is_wide vs) (x ∷ drop 1 block) ≡ true = subst (λ (xs : List Mapping). list_all (is_wide vs) xs ≡ true) cut w in
+      let ex : length x ≡ length vs = wide_from vs x (and_left (is_wide vs x) _ wide) in
+      let el : length key ≡ length x =
+      ap length ek ∙ length_masked own x (ap length eo ∙ flags_long (λ at. list_any (has_column at) l.places) (length vs) ∙ sym ex) in
+      let first : is_served key x ≡ true =
+      ap (λ b. b && below key x) (eq-eqb (length key) (length x) el) ∙ ap (λ (y : Mapping). below y x) ek ∙ below_masked own x in
+      let all : list_all (is_served key) block ≡ true =
+      ap (list_all (is_served key)) cut ∙ ap (λ b. b && list_all (is_served key) (drop 1 block)) first ∙ served in
+      ap (sum_by f) e ∙ ap (λ (ys : List Mapping). sum_by f (flat_map (λ y. agreeing (kept vs k y (merges ys y)) a) block)) eg
+      ∙ all_give (λ y. is_wide vs y && is_served key y) (λ y. agreeing (kept vs k y (merges there y)) a) (made vs d g a k) block
+      (all_both (is_wide vs) (is_served key) block w all)
+      (λ y q. SameBag-filter (compatible a) (kept vs k y (merges there y)) (kept vs k y (merges (met k y (element_solutions vs d g k)) y))
+      (SameBag-kept vs k y (merges there y) (merges (met k y (element_solutions vs d g k)) y)
+      (above_counts g k l own x key y there eo ek en gives counts (eqb-true (length key) (length y) (and_left (nat_eq (length key) (length y)) _ (and_right (is_wide vs y) _ q)))
+      (and_right (nat_eq (length key) (length y)) _ (and_right (is_wide vs y) _ q)) (wide_from vs y (and_left (is_wide vs y) _ q)) h d p))) f
+
   -- with what was found for all rows
   pub made_beside : (g : GraphName) (a : Mapping) (k : Element) (rows : List Mapping) (nothing under_it : Mapping) (found given out : List Mapping) →
       nothing ≡ replicate (length vs + 0) None → under_it ≡ asked k a nothing → AreUnder vs s under_it found (λ d. element_solutions vs d g k) → given ≡ found →
@@ -306,20 +404,6 @@ module _ (vs : Variables) (s : State) where
       e f ∙ ap (λ (ys : List Mapping). sum_by f (flat_map (λ x. agreeing (kept vs k x (merges (met k x ys) x)) a) rows)) eg
       ∙ all_give (is_wide vs) (λ x. agreeing (kept vs k x (merges (met k x found) x)) a) (made vs d g a k) rows w
       (λ x wx. shared vs a nothing x (wide ∙ sym (wide_from vs x wx)) (below_none nothing x none) k found (element_solutions vs d g k) bag) f
-
-  pub kept_follow : (a : Mapping) (k : Element) (x : Mapping) (rows out : List Mapping) (F : Listing → List Mapping) → AreSolutions s rows F →
-      out ≡ agreeing (kept vs k x rows) a → AreSolutions s out (λ d. agreeing (kept vs k x (F d)) a)
-  kept_follow a k x rows out F h e d l f =
-      ap (sum_by f) e ∙ SameBag-filter (compatible a) (kept vs k x rows) (kept vs k x (F d)) (SameBag-kept vs k x rows (F d) (h d l)) f
-
-  pub made_looked_up : (g : GraphName) (a : Mapping) (k : Element) (rows out : List Mapping) (l : LookUp) → is_removed k ≡ false → IsLookUpOf vs s l (λ d. element_solutions vs d g k) →
-      AreSolutions s out (λ d. flat_map (made_by vs d l a k) rows) → AreMade vs s g a k rows out
-  made_looked_up g a k rows out l stays is h ea w d p f =
-      h d p f
-      ∙ all_give (is_wide vs) (made_by vs d l a k) (made vs d g a k) rows w
-      (λ x wx f2. SameBag-filter (compatible a) (kept vs k x (found vs d l x)) (kept vs k x (merges (element_solutions vs d g k) x))
-      (SameBag-kept vs k x (found vs d l x) (merges (element_solutions vs d g k) x) (is d p x (wide_from vs x wx))) f2
-      ∙ ap (λ (xs : List Mapping). sum_by f2 (agreeing (kept vs k x (merges xs x)) a)) (sym (met_is k stays x (element_solutions vs d g k)))) f
 
   -- the first member of a group
   pub made_first : (g : GraphName) (a : Mapping) (k : Element) (rows out : List Mapping) → is_unit rows ≡ true → is_joined k ≡ true →
@@ -453,22 +537,27 @@ module _ (vs : Variables) (s : State) where
 
   -- ---- the cycle's steps
 
-  pub directly_made : (g : GraphName) (a : Mapping) (k : Element) (rows given out : List Mapping) (n : ℕ) (o : Option LookUp) (l : LookUp) → given ≡ rows → o ≡ Some l →
-      IfSome o (λ u. IsLookUpOf vs s u (λ d. element_solutions vs d g k)) → IfSome o (λ _. is_removed k ≡ false) →
-      AreSolutions s out (λ d. flat_map (made_by vs d l a k) (take n given)) → AreMade vs s g a k (take n rows) out
-  directly_made g a k rows given out n o l e eo io so h =
-      let is : IsLookUpOf vs s l (λ d. element_solutions vs d g k) = subst (λ (u : Option LookUp). IfSome u (λ v. IsLookUpOf vs s v (λ d. element_solutions vs d g k))) eo io in
-      let stays : is_removed k ≡ false = subst (λ (u : Option LookUp). IfSome u (λ _. is_removed k ≡ false)) eo so in
-      subst (λ (xs : List Mapping). AreMade vs s g a k (take n xs) out) e (made_looked_up g a k (take n given) out l stays is h)
+  -- of the look-up that there is
+  pub some_of : (P : LookUp → Type 0) (o : Option LookUp) (l : LookUp) → o ≡ Some l → IfSome o P → P l
+  some_of P o l e h = subst (λ (u : Option LookUp). IfSome u P) e h
 
-  pub direct_follows : (g : GraphName) (a : Mapping) (k : Element) (rows sorted given out : List Mapping) (o : Option Made) (m : Made) → IsPermutation rows sorted →
-      given ≡ sorted → o ≡ Some m → IfSome o (λ x. AreMade vs s g a k (take x.done sorted) x.rows.items) →
-      (AreMade vs s g a k (take m.done given) m.rows.items → AreMade vs s g a k given out) → AreMade vs s g a k rows out
-  direct_follows g a k rows sorted given out o m p e eo h r =
-      made_gathered g a k rows sorted out p
-      (subst (λ (xs : List Mapping). AreMade vs s g a k xs out) e
-      (r (subst (λ (xs : List Mapping). AreMade vs s g a k (take m.done xs) m.rows.items) (sym e)
-      (subst (λ (x : Option Made). IfSome x (λ y. AreMade vs s g a k (take y.done sorted) y.rows.items)) eo h))))
+  pub direct_follows : (g : GraphName) (a : Mapping) (k : Element) (rows given out : List Mapping) (o : Option Made) (m : Made) → given ≡ rows → o ≡ Some m →
+      IfSome o (λ x. AreMade vs s g a k (take x.done given) x.rows.items) →
+      (AreMade vs s g a k (take m.done rows) m.rows.items → AreMade vs s g a k rows out) → AreMade vs s g a k rows out
+  direct_follows g a k rows given out o m e eo h r =
+      r (subst (λ (xs : List Mapping). AreMade vs s g a k (take m.done xs) m.rows.items) e
+      (subst (λ (x : Option Made). IfSome x (λ y. AreMade vs s g a k (take y.done given) y.rows.items)) eo h))
+
+  -- what was made of the first rows, and what is made of the others
+  pub others_follow : (g : GraphName) (a : Mapping) (k : Element) (rows others before more out : List Mapping) (n : ℕ) → others ≡ drop n rows → out ≡ before ++ more →
+      AreMade vs s g a k others more → AreMade vs s g a k (take n rows) before → AreMade vs s g a k rows out
+  others_follow g a k rows others before more out n er eo h r =
+      made_append g a k (take n rows) others rows before more out (sym (ap (λ (xs : List Mapping). take n rows ++ xs) er ∙ take-append-drop n rows)) eo r h
+
+  pub given_follows : (g : GraphName) (a : Mapping) (k : Element) (rows given before out : List Mapping) (n : ℕ) → given ≡ rows →
+      (AreMade vs s g a k (take n given) before → AreMade vs s g a k given out) → AreMade vs s g a k (take n rows) before → AreMade vs s g a k rows out
+  given_follows g a k rows given before out n e h r =
+      subst (λ (xs : List Mapping). AreMade vs s g a k xs out) e (h (subst (λ (xs : List Mapping). AreMade vs s g a k (take n xs) before) (sym e) r))
 
   pub gathered_follow : (g : GraphName) (a : Mapping) (k : Element) (rows sorted one two before out : List Mapping) (n : ℕ) → IsPermutation rows sorted → one ≡ sorted → two ≡ sorted →
       AreMade vs s g a k (take n one) before → (AreMade vs s g a k (take n two) before → AreMade vs s g a k two out) → AreMade vs s g a k rows out

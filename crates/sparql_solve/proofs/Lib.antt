@@ -2,6 +2,7 @@ pub mod RowLemmas
 pub mod FilterLemmas
 pub mod FitLemmas
 pub mod GrowthLemmas
+pub mod LengthLemmas
 pub mod MatchingLemmas
 pub mod LookUpLemmas
 pub mod PatternOrderLemmas
@@ -15,6 +16,7 @@ pub mod SharedLemmas
 pub mod FollowLemmas
 pub mod TakenLemmas
 pub mod DistinctLemmas
+pub mod ColumnLemmas
 pub mod ResultLemmas
 pub mod KeyLemmas
 pub mod PartLemmas

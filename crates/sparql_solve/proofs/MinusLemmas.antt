@@ -209,23 +209,6 @@ module _ (parts : List Part) (rows : Rows) (i : ℕ) (x : Bor Mapping) (b : Bool
       ∙ append_assoc out (x.now ∷ []) (flat_map (left_in parts) (rows_of (drop (i + 1) rows)))
       ∙ ap (λ c. out ++ (cond c [] (x.now ∷ []) ++ flat_map (left_in parts) (rows_of (drop (i + 1) rows)))) (sym t) ∙ next_left
 
--- each beside each
-module _ (B rows : List Mapping) (i : ℕ) (x : Mapping) (b : Bool) (out whole : List Mapping) (lt : i < length rows) (here : x ≡ get_or rows i x)
-    (eb : b ≡ list_any (meets x) B) (h : out ++ minuses (drop i rows) B ≡ whole) where
-  next_unmet : out ++ cond (not b) (x ∷ minuses (drop (i + 1) rows) B) (minuses (drop (i + 1) rows) B) ≡ whole
-  next_unmet =
-      ap (λ t. out ++ cond (not t) (x ∷ minuses (drop (i + 1) rows) B) (minuses (drop (i + 1) rows) B)) eb
-      ∙ ap (λ (ys : List Mapping). out ++ minuses ys B) (sym (drop_more rows i x lt ∙ ap (λ (y : Mapping). y ∷ drop (i + 1) rows) (sym here))) ∙ h
-
-  pub unmet_taken : b ≡ true → out ++ minuses (drop (i + 1) rows) B ≡ whole
-  unmet_taken t = ap (λ c. out ++ cond (not c) (x ∷ minuses (drop (i + 1) rows) B) (minuses (drop (i + 1) rows) B)) (sym t) ∙ next_unmet
-
-  pub unmet_kept : (copy : Mapping) (after : List Mapping) → b ≡ false → copy ≡ x → after ≡ out ++ copy ∷ [] → after ++ minuses (drop (i + 1) rows) B ≡ whole
-  unmet_kept copy after t ec ea =
-      ap (λ (xs : List Mapping). xs ++ minuses (drop (i + 1) rows) B) (ea ∙ ap (λ (m : Mapping). out ++ m ∷ []) ec)
-      ∙ append_assoc out (x ∷ []) (minuses (drop (i + 1) rows) B)
-      ∙ ap (λ c. out ++ cond (not c) (x ∷ minuses (drop (i + 1) rows) B) (minuses (drop (i + 1) rows) B)) (sym t) ∙ next_unmet
-
 -- ---- groups
 
 cond_not : (b : Bool) (x : Mapping) → cond b [] (x ∷ []) ≡ cond (not b) (x ∷ []) []

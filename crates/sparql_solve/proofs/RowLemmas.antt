@@ -1,11 +1,12 @@
 -- Rows as lists.
-use Rattle.std.proofs.Common.{◌≡◌, ℕ, ◌+◌, ◌<◌, Bool, true, false, ◌&&◌, List, [], ◌∷◌, ◌++◌, map, Option, refl, sym, ap, ◌∙◌, ◌⊎◌, inl, inr, append-nil, append_assoc, arith, length, drop, get_or, nat_eq}
+use Rattle.std.proofs.Common.{◌≡◌, ℕ, ◌+◌, ◌<◌, Bool, true, false, ◌&&◌, List, [], ◌∷◌, ◌++◌, map, Option, is_none, refl, sym, ap, ◌∙◌, ◌⊎◌, inl, inr, append-nil, append_assoc, arith, length, drop, get_or, nat_eq}
 use Rattle.std.proofs.lemmas.Bool.{eqb-false}
 use Rattle.std.proofs.lemmas.List.{drop_more, length-map}
 use Rattle.std.specs.List.{list_all, zip}
 use Rattle.rdf_terms.specs.declared.term.Term.{Term}
 use Rattle.sparql_values.specs.Mapping.{Mapping, same_mapping, same_value, value_in}
 use Rattle.sparql_algebra.proofs.CallerLemmas.{same_mapping_is}
+use Rattle.sparql_solve.specs.Under.{shown}
 
 module _ {A B : Type 0} where
   zip_none : (xs : List A) (ys : List B) → ys ≡ [] → zip xs ys ≡ []
@@ -53,3 +54,11 @@ projected_apart m columns other e = by_test (same_mapping (map (value_in m) colu
     by_test false h = refl
     by_test true h =
         absurd (eqb-false (length columns) (length other) e (sym (length-map columns (value_in m)) ∙ ap length (same_mapping_is (map (value_in m) columns) other h)))
+
+-- nothing is shown of a value
+abbrev pub nothing_shown : Option Term × Bool → Bool
+nothing_shown p = is_none (shown p)
+
+pub nothing_shown_all : (ps : List (Option Term × Bool)) → list_all nothing_shown ps ≡ list_all is_none (map shown ps)
+nothing_shown_all [] = refl
+nothing_shown_all (p ∷ ps) = ap (λ b. is_none (shown p) && b) (nothing_shown_all ps)

@@ -1,5 +1,5 @@
 -- What was found for some columns of a row serves each row that has the same there.
-use Rattle.std.proofs.Common.{◌≡◌, ℕ, zero, suc, Bool, true, false, cond, ◌&&◌, List, [], ◌∷◌, map, filter, Option, Some, None, refl, sym, ap, ◌∙◌, length, replicate, arith}
+use Rattle.std.proofs.Common.{◌≡◌, ℕ, zero, suc, Bool, true, false, cond, ◌&&◌, List, [], ◌∷◌, map, filter, Option, Some, None, is_none, refl, sym, ap, ◌∙◌, length, replicate, arith}
 use mathlib.Core.Bool.{true≢false}
 use Rattle.std.specs.List.{flat_map, sum_by, list_all}
 use Rattle.std.proofs.lemmas.List.Sums.{sum_by-cons}
@@ -153,6 +153,82 @@ module _ (a key x : Mapping) (e : length key ≡ length x) (h : below key x ≡ 
       by_test true false i j r = left_cons s (filter (compatible (merge a key)) S) false j ∙ r ∙ sym (left_cons s S false j)
       by_test false true i j r = r ∙ by_last (compatible a (merge x s)) refl j i ∙ sym (left_cons s S true j)
       by_test false false i j r = r ∙ sym (left_cons s S false j)
+
+-- ---- of what was merged with it the row takes what it takes of all
+
+agrees_again : (k x s : Option Term) → lies (k, x) ≡ true → agrees (k, s) ≡ true → agrees (x, first_of (k, s)) ≡ agrees (x, s)
+agrees_again None x s h i = refl
+agrees_again (Some t) None s h i = cc
+agrees_again (Some t) (Some u) s h i =
+    let is : t ≡ u = same_term_is t u h in
+    ap (λ (w : Term). same_term w t) (sym is) ∙ same_term_own t ∙ sym i ∙ ap (λ (w : Term). agrees (Some w, s)) is
+
+merged_again : (k x s : Option Term) → lies (k, x) ≡ true → first_of (x, first_of (k, s)) ≡ first_of (x, s)
+merged_again None x s h = refl
+merged_again (Some t) None s h = cc
+merged_again (Some t) (Some u) s h = refl
+
+compatible_again : (key x s : Mapping) → length key ≡ length x → below key x ≡ true → compatible key s ≡ true → compatible x (merge key s) ≡ compatible x s
+compatible_again [] [] s e h i = refl
+compatible_again [] (x ∷ xs) s e h i = absurd (omega arith)
+compatible_again (k ∷ key) [] s e h i = absurd (omega arith)
+compatible_again (k ∷ key) (x ∷ xs) [] e h i = refl
+compatible_again (k ∷ key) (x ∷ xs) (z ∷ s) e h i =
+    ap (λ b. b && compatible xs (merge key s)) (agrees_again k x z (and_left (lies (k, x)) _ h) (and_left (agrees (k, z)) _ i))
+    ∙ ap (λ b. agrees (x, z) && b) (compatible_again key xs s (omega arith) (and_right (lies (k, x)) _ h) (and_right (agrees (k, z)) _ i))
+
+merge_again : (key x s : Mapping) → length key ≡ length x → below key x ≡ true → merge x (merge key s) ≡ merge x s
+merge_again [] [] s e h = refl
+merge_again [] (x ∷ xs) s e h = absurd (omega arith)
+merge_again (k ∷ key) [] s e h = absurd (omega arith)
+merge_again (k ∷ key) (x ∷ xs) [] e h = refl
+merge_again (k ∷ key) (x ∷ xs) (z ∷ s) e h =
+    ap (λ (y : Option Term). y ∷ merge xs (merge key s)) (merged_again k x z (and_left (lies (k, x)) _ h))
+    ∙ ap (λ (w : Mapping). first_of (x, z) ∷ w) (merge_again key xs s (omega arith) (and_right (lies (k, x)) _ h))
+
+pub merges_again : (key x : Mapping) → length key ≡ length x → below key x ≡ true → (S : List Mapping) → merges (merges S key) x ≡ merges S x
+merges_again key x e h [] = refl
+merges_again key x e h (s ∷ S) = by_test (compatible key s) (compatible x s) refl refl (merges_again key x e h S)
+  where
+    by_test : (b c : Bool) → compatible key s ≡ b → compatible x s ≡ c → merges (merges S key) x ≡ merges S x →
+        merges (map (merge key) (cond b (s ∷ filter (compatible key) S) (filter (compatible key) S))) x
+        ≡ map (merge x) (cond c (s ∷ filter (compatible x) S) (filter (compatible x) S))
+    by_test true true i j r =
+        ap (λ d. map (merge x) (cond d (merge key s ∷ filter (compatible x) (merges S key)) (filter (compatible x) (merges S key)))) (compatible_again key x s e h i ∙ j)
+        ∙ ap (λ (w : Mapping). w ∷ merges (merges S key) x) (merge_again key x s e h) ∙ ap (λ (l : List Mapping). merge x s ∷ l) r
+    by_test true false i j r =
+        ap (λ d. map (merge x) (cond d (merge key s ∷ filter (compatible x) (merges S key)) (filter (compatible x) (merges S key)))) (compatible_again key x s e h i ∙ j) ∙ r
+    by_test false true i j r = absurd (true≢false (sym (compatible_below key x s e h j) ∙ i))
+    by_test false false i j r = r
+
+-- what lies above a row that has some of the columns has some of them
+shown_above : (x y : Option Term) (b : Bool) → lies (shown (x, b), y) ≡ true → is_none (shown (x, b)) ≡ false → is_none (shown (y, b)) ≡ false
+shown_above x y false h e = cc
+shown_above None y true h e = cc
+shown_above (Some t) None true h e = cc
+shown_above (Some t) (Some u) true h e = refl
+
+pub bound_above : (flags : List Bool) (x y : Mapping) → length (masked flags x) ≡ length y → below (masked flags x) y ≡ true → binds_none (masked flags x) ≡ false →
+    binds_none (masked flags y) ≡ false
+bound_above flags [] y e h n = cc
+bound_above [] (x ∷ xs) y e h n = cc
+bound_above (b ∷ flags) (x ∷ xs) [] e h n = absurd (omega (arith, e))
+bound_above (b ∷ flags) (x ∷ xs) (y ∷ ys) e h n = by_test (is_none (shown (x, b))) refl n (bound_above flags xs ys)
+  where
+    head : lies (shown (x, b), y) ≡ true
+    head = and_left (lies (shown (x, b), y)) _ h
+
+    by_test : (c : Bool) → is_none (shown (x, b)) ≡ c → (is_none (shown (x, b)) && binds_none (masked flags xs)) ≡ false →
+        (length (masked flags xs) ≡ length ys → below (masked flags xs) ys ≡ true → binds_none (masked flags xs) ≡ false → binds_none (masked flags ys) ≡ false) →
+        (is_none (shown (y, b)) && binds_none (masked flags ys)) ≡ false
+    by_test false i j k = ap (λ c. c && binds_none (masked flags ys)) (shown_above x y b head i)
+    by_test true i j k =
+        by_last (is_none (shown (y, b)))
+        (k (omega (arith, e)) (and_right (lies (shown (x, b), y)) _ h) (ap (λ c. c && binds_none (masked flags xs)) (sym i) ∙ j))
+      where
+        by_last : (c : Bool) → binds_none (masked flags ys) ≡ false → (c && binds_none (masked flags ys)) ≡ false
+        by_last true q = q
+        by_last false q = refl
 
 module _ (vs : Variables) (a key x : Mapping) (e : length key ≡ length x) (h : below key x ≡ true) where
   kept_below : (k : Element) (S : List Mapping) →

@@ -1,5 +1,5 @@
 -- What is looked up under a row gives its merges with the right side's solutions.
-use Rattle.std.proofs.Common.{◌≡◌, ℕ, ◌+◌, ◌*◌, ◌≤◌, zero, suc, Bool, true, false, cond, ◌&&◌, List, [], ◌∷◌, ◌++◌, map, Option, Some, None, IfSome, refl, sym, ap, ◌∙◌, length, drop, replicate, arith, append-nil}
+use Rattle.std.proofs.Common.{◌≡◌, ℕ, ◌+◌, ◌*◌, ◌≤◌, zero, suc, Bool, true, false, cond, ◌&&◌, List, [], ◌∷◌, ◌++◌, map, Option, Some, None, IfSome, refl, sym, ap, ◌∙◌, subst, length, drop, replicate, arith, append-nil}
 use Rattle.std.specs.Prelude.{slice_set}
 use Rattle.std.specs.List.{flat_map, sum_by, count_by, list_any, list_all}
 use Rattle.std.proofs.lemmas.List.{drop_all, length-replicate}
@@ -18,11 +18,11 @@ use Rattle.sparql_trees.specs.declared.pattern.Pattern.{Pattern}
 use Rattle.sparql_trees.specs.declared.pattern.VarOrIri.{VarOrIri}
 use Rattle.sparql_trees.specs.declared.pattern.VarOrIri.TheVariants as v
 use Rattle.sparql_values.specs.Mapping.{Variables, Mapping, same_term, column, value_at, value_in, value_of, set_in, single, empty_mapping, compatible, merge}
-use Rattle.sparql_algebra.specs.Algebra.{Algebra, basic, join, graph, empty_pattern, Element, joined, optional, removed, filtered, extended, element, group_of, translation}
+use Rattle.sparql_algebra.specs.Algebra.{Algebra, basic, join, graph, empty_pattern, Element, joined, optional, removed, filtered, extended, element, group_of, translation, union_of}
 use Rattle.sparql_algebra.specs.Bags.{SameBag}
 use Rattle.sparql_algebra.specs.Listing.{Listing, Lists}
 use Rattle.sparql_algebra.specs.Solutions.{basic_solutions, merges, joins, solutions}
-use Rattle.sparql_algebra.proofs.CallerLemmas.{one, sum_by-cong, sum_by-flat_map, SameBag-refl, SameBag-merges, SameBag-joins, SameBag-flat_map, has_length, length_from, length_to, merge_length, set_length, solutions_length, sum_where, sum_zero, same_term_is, name_once, names_same, translation-is, element-Basic, element-Optional, element-Graph, empty_solutions, empty_joins, joins_commute, joins_associate}
+use Rattle.sparql_algebra.proofs.CallerLemmas.{one, sum_by-cong, sum_by-flat_map, SameBag-refl, SameBag-merges, SameBag-joins, SameBag-flat_map, has_length, length_from, length_to, merge_length, set_length, solutions_length, sum_where, sum_zero, same_term_is, name_once, names_same, translation-is, element-Basic, element-Union, element-Optional, element-Graph, empty_solutions, empty_joins, joins_commute, joins_associate}
 use Rattle.sparql_solve.specs.declared.look_ups.Graphs.{Graphs}
 use Rattle.sparql_solve.specs.declared.look_ups.Graphs.TheVariants.{One, Each}
 use Rattle.sparql_solve.specs.declared.look_ups.LookUp.{LookUp}
@@ -240,6 +240,21 @@ module _ (vs : Variables) (s : State) where
       ap (λ (u : LookUp). sum_by f (found vs d u m)) (is ∙ ap (λ (gs : Graphs). look_up_in vs gs b) (eg ∙ ap One eo))
       ∙ in_bag vs s d k b (One g) g m w f
       ∙ ap (λ (x : Element). sum_by f (merges (element_solutions vs d g x) m)) (sym (ap element em ∙ element-Basic b))
+
+  -- a group alone, without UNION
+  pub group_look_up : (g : GraphName) (groups : List Pattern) (p : Pattern) (b : BasicGraphPattern) (graphs : Graphs) (own : GraphName) (l : LookUp) → groups ≡ p ∷ [] →
+      HoldsJust p b → graphs ≡ One own → own ≡ g → l ≡ look_up_in vs graphs b → IsLookUpOf vs s l (λ d. solutions vs d g (union_of (map translation groups)))
+  unfolding inner
+  group_look_up g groups p b graphs own l ep h eg eo is d k m w f =
+      ap (λ (u : LookUp). sum_by f (found vs d u m)) (is ∙ ap (λ (gs : Graphs). look_up_in vs gs b) (eg ∙ ap One eo))
+      ∙ inner_bag vs s d k b (One g) p h g m w f
+      ∙ ap (λ (ps : List Pattern). sum_by f (merges (solutions vs d g (union_of (map translation ps))) m)) (sym ep)
+
+  pub union_look_up : (g : GraphName) (member : Member) (ps given : List Pattern) (l : LookUp) → member ≡ m.Union ps → given ≡ ps →
+      IsLookUpOf vs s l (λ d. solutions vs d g (union_of (map translation given))) → IsLookUpOf vs s l (λ d. element_solutions vs d g (element member))
+  union_look_up g member ps given l em eg h =
+      subst (λ k. IsLookUpOf vs s l (λ d. element_solutions vs d g k)) (sym (ap element em ∙ element-Union ps))
+      (subst (λ (qs : List Pattern). IsLookUpOf vs s l (λ d. solutions vs d g (union_of (map translation qs)))) eg h)
 
   -- OPTIONAL's group of one member
   lone_is : (members : List Member) (x : Member) → lone_joined members ≡ Some x → members ≡ x ∷ []

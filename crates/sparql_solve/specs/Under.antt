@@ -1,22 +1,20 @@
 -- The steps of the evaluator: every member of a group is found under each row so far (SPARQL 1.1 Query, section 18.6).
-use Rattle.std.specs.Prelude.{◌≡◌, ℕ, zero, suc, Bool, true, false, ◌&&◌, List, [], ◌∷◌, length, Option, Some, None, is_none, map, filter, nat_eq, zip, not}
+use Rattle.std.specs.Prelude.{◌≡◌, ℕ, zero, suc, Bool, true, false, ◌&&◌, cond, List, [], ◌∷◌, length, Option, Some, None, is_none, map, filter, nat_eq, zip, not}
 use Rattle.std.specs.List.{flat_map, list_all, list_any, fold}
 use Rattle.rdf_terms.specs.declared.term.Term.{Term}
 use Rattle.rdf_terms.specs.declared.quad.GraphName.{GraphName}
 use Rattle.rdf_terms.specs.declared.quad.GraphName.TheVariants.{Named}
 use Rattle.rdf_dataset.specs.State.{State}
 use Rattle.sparql_values.specs.Mapping.{Variables, Mapping, same_value, single, merge}
-use Rattle.sparql_trees.specs.declared.pattern.BasicGraphPattern.{BasicGraphPattern}
-use Rattle.sparql_algebra.specs.Algebra.{Algebra, basic, Element, joined, optional, removed}
+use Rattle.sparql_algebra.specs.Algebra.{Algebra, Element, joined, optional, removed}
 use Rattle.sparql_algebra.specs.Bags.{SameBag}
 use Rattle.sparql_algebra.specs.Listing.{Listing, Lists}
 use Rattle.sparql_algebra.specs.Solutions.{merges, or_alone, shares, satisfies}
 use Rattle.sparql_algebra.specs.Under.{agreeing, under, reads}
-use Rattle.sparql_solve.specs.declared.look_ups.Graphs.TheVariants.{One}
 use Rattle.sparql_solve.specs.declared.look_ups.LookUp.{LookUp}
 use Rattle.sparql_solve.specs.Matching.{has_column}
 use Rattle.sparql_solve.specs.Members.{AreSolutions, element_solutions}
-use Rattle.sparql_solve.specs.Sides.{found, look_up_in}
+use Rattle.sparql_solve.specs.Sides.{found}
 
 -- ---- rows
 
@@ -105,14 +103,20 @@ AreUnder vs s a rows F = length a ≡ length vs → AreSolutions s rows (λ d. a
 abbrev pub IsLookUpOf : Variables → State → LookUp → (Listing → List Mapping) → Type 0
 IsLookUpOf vs s l F = (d : Listing) → Lists s d → (m : Mapping) → length m ≡ length vs → SameBag (found vs d l m) (merges (F d) m)
 
+-- for each column of the variables whether a triple pattern of the look-ups has it
+abbrev pub own_columns : Variables → LookUp → List Bool
+own_columns vs l = flags_where (λ at. list_any (has_column at) l.places) (length vs)
+
 module _ (vs : Variables) (d : Listing) where
   -- what an element makes of a mapping, of that what is compatible with the one above
   abbrev pub made : GraphName → Mapping → Element → Mapping → List Mapping
   made g a k x = agreeing (kept vs k x (merges (met k x (element_solutions vs d g k)) x)) a
 
-  -- the same by look-ups
-  abbrev pub made_by : LookUp → Mapping → Element → Mapping → List Mapping
-  made_by l a k x = agreeing (kept vs k x (found vs d l x)) a
+  -- what is looked up for a mapping and counts for it: of MINUS's nothing, where the mapping has none of the look-ups' variables
+  abbrev pub counting : LookUp → Element → Mapping → List Mapping
+  counting l (joined A) x = found vs d l x
+  counting l (optional F A) x = found vs d l x
+  counting l (removed A) x = cond (binds_none (masked (own_columns vs l) x)) [] (found vs d l x)
 
   -- the solutions in the graph of this name, under the mapping and the variable's value
   abbrev pub under_name : List ℕ → Algebra → Mapping → Term → List Mapping
@@ -131,10 +135,7 @@ abbrev pub AreMade : Variables → State → GraphName → Mapping → Element �
 AreMade vs s g a k rows out =
     length a ≡ length vs → list_all (is_wide vs) rows ≡ true → AreSolutions s out (λ d. flat_map (made vs d g a k) rows)
 
--- for each column of the variables whether a triple pattern of the look-ups has it
-abbrev pub own_columns : Variables → LookUp → List Bool
-own_columns vs l = flags_where (λ at. list_any (has_column at) l.places) (length vs)
-
--- the rows are what MINUS of the basic graph pattern that is looked up makes of these
-abbrev pub AreLeft : Variables → State → LookUp → Mapping → List Mapping → List Mapping → Type 0
-AreLeft vs s l a rows out = (g : GraphName) (b : BasicGraphPattern) → l ≡ look_up_in vs (One g) b → AreMade vs s g a (removed (basic b)) rows out
+-- for each mapping of the variables the look-ups give the merges with those of these solutions that count for it, each as often
+abbrev pub IsLookUpFor : Variables → State → Element → LookUp → (Listing → List Mapping) → Type 0
+IsLookUpFor vs s k l F =
+    (d : Listing) → Lists s d → (m : Mapping) → length m ≡ length vs → SameBag (counting vs d l k m) (merges (met k m (F d)) m)

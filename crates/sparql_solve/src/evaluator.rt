@@ -1,6 +1,6 @@
 //! The evaluator: a group's members from left to right, each found under the rows so far (SPARQL
 //! 1.1 Query, section 18.6). Every function answers what is compatible with the row above it.
-ghost use Rattle.std.specs.Prelude.{◌≡◌, ◌&&◌, false, ◌∷◌, [], IfOk, IfSome, IsPermutation, None, OnOk, cond, length, map, replicate, take, ◌≤◌};
+ghost use Rattle.std.specs.Prelude.{◌≡◌, ◌&&◌, ◌∷◌, [], IfOk, IfSome, None, cond, length, map, replicate, take, ◌≤◌};
 ghost use Rattle.std.specs.List.{flat_map, list_any};
 ghost use Rattle.rdf_terms.specs.declared.quad.GraphName.TheVariants.{Named};
 ghost use Rattle.rdf_terms.specs.declared.quad.GraphName.{GraphName};
@@ -9,19 +9,18 @@ ghost use Rattle.sparql_algebra.specs.Algebra.{element, filtered, graph, group_o
 ghost use Rattle.sparql_algebra.specs.Solutions.{solutions};
 ghost use Rattle.sparql_solve.specs.Members.{AreSolutions, element_solutions};
 ghost use Rattle.sparql_values.specs.Mapping.{same_term};
-ghost use Rattle.sparql_solve.specs.Under.{AreMade, AreUnder, IsLookUpOf, asked, is_joined, is_removed, is_unit, masked, under_name};
+ghost use Rattle.sparql_solve.specs.Under.{AreMade, AreUnder, IsLookUpFor, IsLookUpOf, asked, is_joined, is_unit, masked, under_name};
 
-use crate::basic::basic_under;
+use crate::basic::{basic_under, own_columns};
 use crate::counted::Counted;
 use crate::filters::filtered_rows;
-use crate::look_ups::{LookUp, is_named};
+use crate::look_ups::{Graphs, LookUp, is_named, look_up_in};
 use crate::members::{is_joined, is_removed, look_up_of, removed_basic};
 use crate::names::{names_under, rows_of_names};
 use crate::rows::Row;
 use crate::shapes::{before_apart, group_reads};
-use crate::sharing::{asked_columns, gather, served_len, stops};
+use crate::sharing::{asked_columns, gather, is_group, served_len, stops};
 use crate::sides::{Found, Made, asked, rows_beside, rows_looked_up, rows_served, rows_with};
-use crate::taken::rows_taken;
 use rdf_dataset::Source;
 use rdf_terms::{GraphName, NoMemory, Term, Text, Vocabulary};
 use sparql_trees::{Expression, Member, Pattern, VarOrIri};
@@ -77,8 +76,8 @@ fn is_first(rows: &[Row], member: &Member) -> bool
     is_unit(rows) && is_joined(member)
 }
 
-// The look-ups by which a member is found under rows: all that OPTIONAL has, since it is found
-// under the row alone, and those of joined members where the row above binds nothing.
+// The look-ups by which a member is found under rows: all that OPTIONAL and MINUS have, since they
+// are found under the row alone, and those of joined members where the row above binds nothing.
 fn direct_look_up<S: Source>(
     alloc: Global,
     variables: &[Text],
@@ -90,9 +89,14 @@ fn direct_look_up<S: Source>(
     ensures gives { IfOk result (λ found. IfSome found (λ look_up.
         IsLookUpOf variables.now (S.contents source.now) look_up
         (λ d. element_solutions variables.now d graph.now (element member.now)))) }
-    ensures stays { IfOk result (λ found. IfSome found (λ _.
-        is_removed (element member.now) ≡ false)) }
+    ensures counts { IfOk result (λ found. IfSome found (λ look_up.
+        IsLookUpFor variables.now (S.contents source.now) (element member.now) look_up
+        (λ d. element_solutions variables.now d graph.now (element member.now)))) }
 {
+    if let Some(basic) = removed_basic(member) {
+        let graphs = Graphs::One(graph.copy()?);
+        return Ok(Some(look_up_in(alloc, variables, graphs, basic)?));
+    }
     if is_removed(member) || is_joined(member) && !under.is_unbound() {
         return Ok(None);
     }
@@ -107,24 +111,20 @@ fn made_directly<S: Source>(
     graph: &GraphName,
     source: &S,
     looked: &Cell<u64>,
-    rows: &mut Vec<Row>,
+    rows: &[Row],
     member: &Member,
     under: &Row,
 ) -> Result<Option<Made>, NoMemory>
-    ensures gathered { OnOk result (IsPermutation rows.old.items rows.new.items) }
-    ensures made { IfOk result (λ found. IfSome found (λ m.
+    ensures { IfOk result (λ found. IfSome found (λ m.
         AreMade variables.now (S.contents source.now) graph.now under.now (element member.now)
-        (take m.done rows.new.items) m.rows.items)) }
+        (take m.done rows.now) m.rows.items)) }
 {
-    if let Some(basic) = removed_basic(member) {
-        let made = rows_taken(alloc, variables, graph, source, looked, rows, basic, under)?;
-        return Ok(Some(made));
-    }
     let Some(look_up) = direct_look_up(alloc, variables, graph, source, member, under)? else {
         return Ok(None);
     };
+    let own = own_columns(alloc, variables.len(), look_up.places.as_slice())?;
     let made = rows_looked_up(
-        alloc, variables, vocabulary, source, looked, &*rows, &look_up, member, under,
+        alloc, variables, vocabulary, graph, source, looked, rows, &look_up, &own, member, under,
     )?;
     Ok(Some(made))
 }
@@ -210,7 +210,7 @@ pub(crate) fn rows_after<S: Source>(
     graph: &GraphName,
     source: &S,
     looked: &Cell<u64>,
-    mut rows: Vec<Row>,
+    rows: Vec<Row>,
     member: &Member,
     under: &Row,
 ) -> Result<Vec<Row>, NoMemory>
@@ -218,11 +218,11 @@ pub(crate) fn rows_after<S: Source>(
         (element member.now) rows.items out.items) }
 {
     let direct = made_directly(
-        alloc, variables, vocabulary, graph, source, looked, &mut rows, member, under,
+        alloc, variables, vocabulary, graph, source, looked, &rows, member, under,
     )?;
     if let Some(made) = direct {
-        return with_the_rest(
-            alloc, variables, vocabulary, graph, source, looked, &rows, made, member, under,
+        return with_others(
+            alloc, variables, vocabulary, graph, source, looked, rows, made, member, under,
         );
     }
     if is_first(&rows, member) {
@@ -230,6 +230,62 @@ pub(crate) fn rows_after<S: Source>(
             alloc, variables, vocabulary, graph, source, looked, member, under,
         );
     }
+    rows_gathered(
+        alloc, variables, vocabulary, graph, source, looked, rows, member, under,
+    )
+}
+
+// What was made of the first rows by look-ups, and what the member makes of the others: of a group
+// for what they share, of another one by finding it once.
+#[cycle(follow)]
+fn with_others<S: Source>(
+    alloc: Global,
+    variables: &[Text],
+    vocabulary: &Vocabulary,
+    graph: &GraphName,
+    source: &S,
+    looked: &Cell<u64>,
+    mut rows: Vec<Row>,
+    made: Made,
+    member: &Member,
+    under: &Row,
+) -> Result<Vec<Row>, NoMemory>
+    ensures { IfOk result (λ out.
+        AreMade variables.now (S.contents source.now) graph.now under.now (element member.now)
+        (take made.done rows.items) made.rows.items →
+        AreMade variables.now (S.contents source.now) graph.now under.now (element member.now)
+        rows.items out.items) }
+{
+    if rows.len() <= made.done || !is_group(member) {
+        return with_the_rest(
+            alloc, variables, vocabulary, graph, source, looked, &rows, made, member, under,
+        );
+    }
+    let others = rows.split_off(made.done)?;
+    let mut more = rows_gathered(
+        alloc, variables, vocabulary, graph, source, looked, others, member, under,
+    )?;
+    let mut out = made.rows;
+    out.append(&mut more)?;
+    Ok(out)
+}
+
+// What a member makes of rows, which are put side by side where they share what is found.
+#[cycle(follow)]
+fn rows_gathered<S: Source>(
+    alloc: Global,
+    variables: &[Text],
+    vocabulary: &Vocabulary,
+    graph: &GraphName,
+    source: &S,
+    looked: &Cell<u64>,
+    mut rows: Vec<Row>,
+    member: &Member,
+    under: &Row,
+) -> Result<Vec<Row>, NoMemory>
+    ensures { IfOk result (λ out. AreMade variables.now (S.contents source.now) graph.now under.now
+        (element member.now) rows.items out.items) }
+{
     let flags = asked_columns(alloc, variables, member, rows.len())?;
     gather(&mut rows, &flags)?;
     let made = rows_followed(

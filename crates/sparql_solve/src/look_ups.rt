@@ -1,6 +1,7 @@
 //! Basic graph patterns looked up under the rows of the left side (SPARQL 1.1 Query, sections 13.3,
 //! 18.3.1 and 18.5).
-ghost use Rattle.std.specs.Prelude.{◌≡◌, IfOk};
+ghost use Rattle.std.specs.Prelude.{◌≡◌, ◌∷◌, [], IfOk, IfSome};
+ghost use Rattle.std.specs.Option.{option_copied};
 ghost use Rattle.std.specs.List.{flat_map, list_any};
 ghost use Rattle.rdf_terms.specs.declared.term.Term.{Term};
 ghost use Rattle.rdf_dataset.specs.Sorted.{ListsOnce};
@@ -11,7 +12,7 @@ ghost use Rattle.sparql_solve.specs.LookUps.{looked_up};
 ghost use Rattle.sparql_solve.specs.Sides.{found, found_in, found_under, graph_where, graphs_of, look_up_in, tried};
 ghost use Rattle.sparql_solve.specs.Members.{AreSolutions};
 
-use crate::matching::{cut_rows, matching_rows};
+use crate::matching::{cut_rows, matching_rows, rows_of_one};
 use crate::place::{Places, all_places};
 use crate::rows::{Row, copy_value};
 use rdf_dataset::Source;
@@ -100,6 +101,20 @@ pub(crate) fn look_up_in(
     })
 }
 
+// The only triple pattern, where there are no hidden variables.
+fn lone_pattern(look_up: &LookUp) -> Option<&Places>
+    ensures alone { IfSome (option_copied result) (λ p. look_up.now.places ≡ p ∷ []) }
+    ensures shown { IfSome result (λ _. look_up.now.hidden ≡ 0) }
+{
+    if look_up.hidden != 0 {
+        return None;
+    }
+    match look_up.places.as_slice() {
+        [places] => Some(places),
+        _ => None,
+    }
+}
+
 // What is found under the row in one graph.
 fn rows_in_graph<S: Source>(
     alloc: Global,
@@ -111,6 +126,9 @@ fn rows_in_graph<S: Source>(
     ensures { IfOk result (λ out. AreSolutions (S.contents source.now) out.items
         (λ d. found_in d look_up.now graph.now row.now)) }
 {
+    if let Some(places) = lone_pattern(look_up) {
+        return rows_of_one(alloc, graph, source, places, row);
+    }
     let mut start = Vec::new(alloc);
     start.push(row.widened(alloc, look_up.hidden)?)?;
     let rows = matching_rows(alloc, graph, source, look_up.places.as_slice(), start)?;

@@ -144,6 +144,21 @@ pub(crate) fn quads_of<S: Source>(
     Ok(quads)
 }
 
+/// The rows that one triple pattern makes of a row, by a look-up of its triples.
+pub(crate) fn rows_of_one<S: Source>(
+    alloc: Global,
+    graph: &GraphName,
+    source: &S,
+    places: &Places,
+    row: &Row,
+) -> Result<Vec<Row>, NoMemory>
+    ensures { IfOk result (λ out. AreSolutions (S.contents source.now) out.items
+        (λ d. matches_of (d.quads graph.now) places.now row.now)) }
+{
+    let quads = quads_of(alloc, graph, source, places, row)?;
+    copies_matched(alloc, row, places, &quads)
+}
+
 /// The rows that one triple pattern makes of these, by look-ups of its triples. Rows that ask the
 /// same one after another share a look-up.
 pub(crate) fn step<S: Source>(

@@ -1,9 +1,9 @@
 //! Members of groups: which of them are looked up, and which variables they name.
-ghost use Rattle.std.specs.Prelude.{◌≡◌, IfOk, IfSome, Some};
+ghost use Rattle.std.specs.Prelude.{◌≡◌, ◌∷◌, [], IfOk, IfSome, Some, map};
 ghost use Rattle.std.specs.Option.{option_copied};
 ghost use Rattle.rdf_terms.specs.declared.quad.GraphName.{GraphName};
 ghost use Rattle.sparql_trees.specs.declared.pattern.BasicGraphPattern.{BasicGraphPattern};
-ghost use Rattle.sparql_algebra.specs.Algebra.{element, graph, translation};
+ghost use Rattle.sparql_algebra.specs.Algebra.{element, graph, translation, union_of};
 ghost use Rattle.sparql_algebra.specs.Solutions.{solutions};
 ghost use Rattle.sparql_solve.specs.Sides.{HoldsJust, HoldsOnly, RemovesJust, lone_joined};
 ghost use Rattle.sparql_solve.specs.Members.{element_solutions};
@@ -104,7 +104,39 @@ fn look_up_of_graph<S: Source>(
     Ok(Some(look_up_in(alloc, variables, graphs, basic)?))
 }
 
-/// The look-ups of a member that is a basic graph pattern, by itself or in GRAPH.
+// The only group, where there is no UNION.
+fn lone_group(groups: &[Pattern]) -> Option<&Pattern>
+    ensures { IfSome (option_copied result) (λ group. groups.now ≡ group ∷ []) }
+{
+    match groups {
+        [group] => Some(group),
+        _ => None,
+    }
+}
+
+// The look-ups of a group that stands alone, without UNION, and holds just a basic graph pattern.
+fn look_up_of_groups<S: Source>(
+    alloc: Global,
+    variables: &[Text],
+    graph: &GraphName,
+    _source: &S,
+    groups: &[Pattern],
+) -> Result<Option<LookUp>, NoMemory>
+    ensures { IfOk result (λ found. IfSome found (λ look_up.
+        IsLookUpOf variables.now (S.contents _source.now) look_up
+        (λ d. solutions variables.now d graph.now (union_of (map translation groups.now))))) }
+{
+    let Some(group) = lone_group(groups) else {
+        return Ok(None);
+    };
+    let Some(basic) = lone_basic(group) else {
+        return Ok(None);
+    };
+    let own = Graphs::One(graph.copy()?);
+    Ok(Some(look_up_in(alloc, variables, own, basic)?))
+}
+
+/// The look-ups of a member that is a basic graph pattern, by itself, in GRAPH or in a group.
 pub(crate) fn look_up_of_joined<S: Source>(
     alloc: Global,
     variables: &[Text],
@@ -124,11 +156,15 @@ pub(crate) fn look_up_of_joined<S: Source>(
         Member::Graph(name, pattern) => {
             look_up_of_graph(alloc, variables, source, name, pattern)
         }
-        Member::Union(_) | Member::Optional(_) | Member::Minus(_) => Ok(None),
+        Member::Union(groups) => {
+            look_up_of_groups(alloc, variables, graph, source, groups.as_slice())
+        }
+        Member::Optional(_) | Member::Minus(_) => Ok(None),
     }
 }
 
-/// The look-ups of a member that is a basic graph pattern, by itself, in GRAPH, or in OPTIONAL.
+/// The look-ups of a member that is a basic graph pattern, by itself, in GRAPH, in a group, or in
+/// OPTIONAL.
 pub(crate) fn look_up_of<S: Source>(
     alloc: Global,
     variables: &[Text],

@@ -139,23 +139,3 @@ pub(crate) fn minus(alloc: Global, left: &[Row], right: &[Row]) -> Result<Vec<Ro
     }
     Ok(out)
 }
-
-fn meets_row(row: &Row, others: &[Row]) -> bool
-    ensures { result ≡ list_any (meets row.now) others.now }
-{
-    others.iter().any(|other| meets(row, other))
-}
-
-/// Minus, by comparing each row with each of the others.
-pub(crate) fn unmet_rows(alloc: Global, rows: &[Row], others: &[Row]) -> Result<Vec<Row>, NoMemory>
-    ensures { IfOk result (λ out. out.items ≡ minuses rows.now others.now) }
-{
-    let mut out = Vec::new(alloc);
-    for row in rows {
-        if meets_row(row, others) {
-            continue;
-        }
-        out.push(row.copy(alloc)?)?;
-    }
-    Ok(out)
-}

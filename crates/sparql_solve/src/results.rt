@@ -1,5 +1,6 @@
 //! The results of queries (SPARQL 1.1 Query, sections 16.1, 16.3 and 18.2.5).
-ghost use Rattle.std.specs.Prelude.{◌≡◌, ◌<◌, IfOk, IsTrue, count_by, map};
+ghost use Rattle.std.specs.Prelude.{◌≡◌, ◌<◌, IfOk, IsTrue, Some, count_by, length, map};
+ghost use Rattle.std.specs.List.{range_with_len};
 ghost use Rattle.sparql_values.specs.Mapping.{Mapping, column, same_mapping, value_in};
 ghost use Rattle.sparql_algebra.specs.Results.{HasSolution, IsSelection, Solves, times_selected};
 ghost use Rattle.sparql_algebra.specs.Sorted.{sorted_solutions};
@@ -176,6 +177,69 @@ fn projected_rows(
     Ok(out)
 }
 
+fn is_column(column: &Option<usize>, place: usize) -> bool
+    ensures { IsTrue result → column.now ≡ Some place }
+{
+    match column {
+        Some(column) => *column == place,
+        None => false,
+    }
+}
+
+// Whether these are the first columns in their order.
+fn are_in_place(columns: &[Option<usize>]) -> bool
+    ensures { IsTrue result → columns.now ≡ map Some (range_with_len 0 (length columns.now)) }
+{
+    let mut place = 0;
+    for column in columns {
+        if !is_column(column, place) {
+            return false;
+        }
+        place += 1;
+    }
+    true
+}
+
+fn is_as_long(row: &Row, columns: &[Option<usize>]) -> bool
+    ensures { IsTrue result → length row.now ≡ length columns.now }
+{
+    row.values().len() == columns.len()
+}
+
+// Whether the columns are all that each row has, in their order.
+fn are_all(columns: &[Option<usize>], rows: &[Row]) -> bool
+    ensures { IsTrue result → map (λ r. map (value_in r) columns.now) rows.now ≡ rows.now }
+{
+    if !are_in_place(columns) {
+        return false;
+    }
+    for row in rows {
+        if !is_as_long(row, columns) {
+            return false;
+        }
+    }
+    true
+}
+
+// The columns of each row, under DISTINCT in fewer rows. The rows stay as they are where the columns
+// are all of theirs.
+fn selected_rows(
+    alloc: Global,
+    rows: Vec<Row>,
+    columns: &[Option<usize>],
+    distinct: bool,
+) -> Result<Vec<Row>, NoMemory>
+    ensures { IfOk result (λ out. (m : Mapping) →
+        times_selected distinct (count_by (same_mapping m) out.items)
+        ≡ times_selected distinct (count_by (same_mapping m)
+        (map (λ r. map (value_in r) columns.now) rows.items))) }
+{
+    if !distinct && are_all(columns, &rows) {
+        return Ok(rows);
+    }
+    projected_rows(alloc, &rows, columns, distinct)
+}
+
 /// The rows of a SELECT over a dataset, whose default graph is the active one. They stand in their
 /// order: by the columns from the left, unbound first.
 ///
@@ -208,8 +272,7 @@ pub fn select_with<S: Source>(
         source,
     )?;
     let columns = columns_of(alloc, found.variables.as_slice(), query.columns.as_slice())?;
-    let rows = found.rows.as_slice();
-    let fewer = projected_rows(alloc, rows, columns.as_slice(), query.distinct)?;
+    let fewer = selected_rows(alloc, found.rows, columns.as_slice(), query.distinct)?;
     Ok(ordered(fewer, query.distinct)?)
 }
 

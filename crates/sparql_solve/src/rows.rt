@@ -1,5 +1,5 @@
 //! Rows: mappings over the columns of a pattern (SPARQL 1.1 Query, section 18.1.4).
-ghost use Rattle.std.specs.Prelude.{◌≡◌, ◌+◌, ◌<◌, length, is_some, slice_get, slice_set, Some, IfOk, IfSome, IsTrue, cond, replicate, None, take, if◌then◌else◌, nat_lt, map};
+ghost use Rattle.std.specs.Prelude.{◌≡◌, ◌+◌, ◌<◌, length, is_none, is_some, slice_get, slice_set, Some, IfOk, IfSome, IsTrue, cond, replicate, None, take, if◌then◌else◌, nat_lt, map};
 ghost use Rattle.std.specs.Option.{option_copied, option_map};
 ghost use Rattle.sparql_values.specs.Mapping.{agrees, compatible, merge, same_mapping, same_term, same_value, single, value_at, value_in};
 ghost use Rattle.sparql_algebra.specs.Order.{mapping_cmp};
@@ -63,6 +63,13 @@ fn lies(x: &Option<Term>, y: &Option<Term>) -> bool
         (Some(_), None) => false,
         (None, _) => true,
     }
+}
+
+// Whether nothing is shown of the value.
+fn is_hidden(value: &Option<Term>, is_shown: bool) -> bool
+    ensures { result ≡ is_none (shown (value.now, is_shown)) }
+{
+    !is_shown || value.is_none()
 }
 
 // The value, if it is shown.
@@ -150,6 +157,16 @@ impl Row {
         ensures { result ≡ binds_none self.now }
     {
         self.values.iter().all(|value| value.is_none())
+    }
+
+    /// Whether it binds none of the columns whose flag is up.
+    pub(crate) fn is_unbound_at(&self, flags: &[bool]) -> bool
+        ensures { result ≡ binds_none (masked flags.now self.now) }
+    {
+        self.values
+            .iter()
+            .zip(flags)
+            .all(|(value, is_shown)| is_hidden(value, *is_shown))
     }
 
     /// Whether each column is unbound or has what the other row has there.

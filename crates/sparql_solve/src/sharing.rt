@@ -12,8 +12,11 @@ use std::alloc::Global;
 use std::cmp::Ordering;
 
 // How many look-ups, quads and names a row may take on the whole before rows are followed no
-// further, and how many all that are left have to take at that pace.
+// further, or before they are looked up no further one by one, where what they share isn't sought;
+// and how many all that are left have to take at that pace.
 const A_ROW: u128 = 16;
+
+const A_ROW_ALONE: u128 = 4;
 
 const AT_LEAST: u128 = 4096;
 
@@ -111,6 +114,11 @@ fn compare_at(row: &Row, other: &Row, flags: &[bool]) -> Ordering {
     Ordering::Equal
 }
 
+/// Whether two rows have the same at the columns whose flag is up.
+pub(crate) fn is_alike(row: &Row, other: &Row, flags: &[bool]) -> bool {
+    compare_at(row, other, flags).is_eq()
+}
+
 /// Puts rows side by side that have the same at the columns whose flag is up.
 pub(crate) fn gather(rows: &mut Vec<Row>, flags: &[bool]) -> Result<(), NoMemory>
     ensures { OnOk result (IsPermutation rows.old.items rows.new.items) }
@@ -148,15 +156,41 @@ pub(crate) fn served_len(asked: &Row, rows: &[Row], flags: &[bool]) -> usize
 pub(crate) fn stops(member: &Member, looked: u64, done: usize, all: usize, made: usize) -> bool {
     match member {
         Member::Basic(_) => false,
-        _ => is_slow(looked, done, all, made),
+        _ => is_slow(A_ROW, looked, done, all, made),
     }
 }
 
-/// Whether what the first rows took is more than [`A_ROW`] for each row that there is or was made,
-/// and those that are left would take more than [`AT_LEAST`].
-pub(crate) fn is_slow(looked: u64, done: usize, all: usize, made: usize) -> bool {
+/// Whether the member is a group of its own, whose rows may share what is found where look-ups for
+/// each of them are slow.
+pub(crate) fn is_group(member: &Member) -> bool {
+    match member {
+        Member::Union(_) | Member::Minus(_) => true,
+        Member::Optional(pattern) => { matches!(pattern.members.as_slice(), [Member::Union(_)]) }
+        Member::Basic(_) | Member::Graph(_, _) => false,
+    }
+}
+
+/// Whether no further row is looked up by itself: where each of GRAPH's names may have to be tried
+/// the rows that are left may be found faster without, and those of a group together.
+pub(crate) fn stops_looking(
+    tries_names: bool,
+    member: &Member,
+    looked: u64,
+    done: usize,
+    all: usize,
+    made: usize,
+) -> bool {
+    if tries_names {
+        return is_slow(A_ROW, looked, done, all, made);
+    }
+    is_group(member) && is_slow(A_ROW_ALONE, looked, done, all, made)
+}
+
+// Whether what the first rows took is more than so many for each row that there is or was made, and
+// those that are left would take more than [`AT_LEAST`].
+fn is_slow(a_row: u128, looked: u64, done: usize, all: usize, made: usize) -> bool {
     let looked = u128::from(looked);
     let left = all.saturating_sub(done) as u128;
-    looked > A_ROW * (all as u128 + made as u128)
+    looked > a_row.saturating_mul(all as u128 + made as u128)
         && looked.saturating_mul(left) > AT_LEAST * done as u128
 }

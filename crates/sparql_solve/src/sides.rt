@@ -1,14 +1,14 @@
 //! What members make of rows: of their merges with what was looked up or found for them (SPARQL 1.1
 //! Query, section 18.5).
-ghost use Rattle.std.specs.Prelude.{◌≡◌, IfOk, map, take};
+ghost use Rattle.std.specs.Prelude.{◌≡◌, ◌&&◌, ◌<◌, ◌≤◌, false, IfOk, IsTrue, length, map, take};
 ghost use Rattle.std.specs.List.{flat_map};
 ghost use Rattle.sparql_algebra.specs.Algebra.{element};
 ghost use Rattle.sparql_algebra.specs.Bags.{SameBag};
 ghost use Rattle.sparql_algebra.specs.Solutions.{merges};
 ghost use Rattle.sparql_algebra.specs.Under.{agreeing};
 ghost use Rattle.sparql_values.specs.Mapping.{merge};
-ghost use Rattle.sparql_solve.specs.Members.{AreSolutions};
-ghost use Rattle.sparql_solve.specs.Under.{asked, kept, made_by, met, where_none};
+ghost use Rattle.sparql_solve.specs.Members.{AreSolutions, element_solutions};
+ghost use Rattle.sparql_solve.specs.Under.{AreMade, IsLookUpFor, IsLookUpOf, asked, binds_none, counting, is_removed, kept, masked, met, own_columns, where_none};
 
 use crate::filters::filtered_rows;
 use crate::joins::{join, left_join, or_alone};
@@ -16,9 +16,9 @@ use crate::look_ups::{Graphs, LookUp, found_rows};
 use crate::members::is_removed;
 use crate::minus::minus;
 use crate::rows::Row;
-use crate::sharing::is_slow;
+use crate::sharing::{is_alike, served_len, stops_looking};
 use rdf_dataset::Source;
-use rdf_terms::{NoMemory, Text, Vocabulary};
+use rdf_terms::{GraphName, NoMemory, Text, Vocabulary};
 use sparql_trees::Member;
 use std::alloc::Global;
 use std::cell::Cell;
@@ -254,38 +254,122 @@ fn tries_names(look_up: &LookUp) -> bool {
     }
 }
 
-/// What a member makes of rows by look-ups under each of them. Where GRAPH's names are tried, the
-/// rows that are left may be found faster without.
+// What is looked up for a row and counts for it: for MINUS nothing, and no look-up is made, where
+// the row has none of the pattern's variables.
+fn counting_rows<S: Source>(
+    alloc: Global,
+    variables: &[Text],
+    source: &S,
+    look_up: &LookUp,
+    own: &[bool],
+    member: &Member,
+    row: &Row,
+) -> Result<Vec<Row>, NoMemory>
+    requires { own.now ≡ own_columns variables.now look_up.now }
+    ensures { IfOk result (λ out. AreSolutions (S.contents source.now) out.items
+        (λ d. counting variables.now d look_up.now (element member.now) row.now)) }
+{
+    if is_removed(member) && row.is_unbound_at(own) {
+        return Ok(Vec::new(alloc));
+    }
+    found_rows(alloc, variables, source, look_up, row)
+}
+
+// Whether a row shares its look-up with the next one: both have the same at the look-ups' columns,
+// for MINUS not nothing alone, and none of GRAPH's names has to be tried.
+fn is_shared(row: &Row, others: &[Row], look_up: &LookUp, own: &[bool], member: &Member) -> bool
+    ensures { IsTrue result →
+        (is_removed (element member.now) && binds_none (masked own.now row.now)) ≡ false }
+{
+    let Some(next) = others.first() else {
+        return false;
+    };
+    if is_removed(member) && row.is_unbound_at(own) {
+        return false;
+    }
+    !tries_names(look_up) && is_alike(row, next, own)
+}
+
+// What a member makes of the first row by a look-up, which those behind it share that have the same
+// at the look-ups' columns.
+fn first_looked_up<S: Source>(
+    alloc: Global,
+    variables: &[Text],
+    vocabulary: &Vocabulary,
+    _graph: &GraphName,
+    source: &S,
+    rows: &[Row],
+    look_up: &LookUp,
+    own: &[bool],
+    member: &Member,
+    under: &Row,
+) -> Result<Made, NoMemory>
+    requires rows { 0 < length rows.now }
+    requires own { own.now ≡ own_columns variables.now look_up.now }
+    requires gives { IsLookUpOf variables.now (S.contents source.now) look_up.now
+        (λ d. element_solutions variables.now d _graph.now (element member.now)) }
+    requires counts { IsLookUpFor variables.now (S.contents source.now) (element member.now)
+        look_up.now (λ d. element_solutions variables.now d _graph.now (element member.now)) }
+    ensures some { IfOk result (λ m. 0 < m.done) }
+    ensures within { IfOk result (λ m. m.done ≤ length rows.now) }
+    ensures made { IfOk result (λ m. AreMade variables.now (S.contents source.now) _graph.now
+        under.now (element member.now) (take m.done rows.now) m.rows.items) }
+{
+    let row = &rows[0];
+    if !is_shared(row, &rows[1..], look_up, own, member) {
+        let found = counting_rows(alloc, variables, source, look_up, own, member, row)?;
+        let made = kept_rows(alloc, variables, vocabulary, row, found, member, under)?;
+        return Ok(Made {
+            rows: made,
+            done: 1,
+        });
+    }
+    let key = row.masked(alloc, own)?;
+    let done = served_len(&key, rows, own);
+    let found = found_rows(alloc, variables, source, look_up, &key)?;
+    let served = &rows[..done];
+    let made = rows_one_by_one(alloc, variables, vocabulary, served, &found, member, under)?;
+    Ok(Made { rows: made, done })
+}
+
+/// What a member makes of rows by look-ups under each of them, which have these columns. The rows
+/// that are left where look-ups stop may be found faster without.
 pub(crate) fn rows_looked_up<S: Source>(
     alloc: Global,
     variables: &[Text],
     vocabulary: &Vocabulary,
+    graph: &GraphName,
     source: &S,
     looked: &Cell<u64>,
     rows: &[Row],
     look_up: &LookUp,
+    own: &[bool],
     member: &Member,
     under: &Row,
 ) -> Result<Made, NoMemory>
-    ensures { IfOk result (λ m. AreSolutions (S.contents source.now) m.rows.items
-        (λ d. flat_map (made_by variables.now d look_up.now under.now (element member.now))
-        (take m.done rows.now))) }
+    requires own { own.now ≡ own_columns variables.now look_up.now }
+    requires gives { IsLookUpOf variables.now (S.contents source.now) look_up.now
+        (λ d. element_solutions variables.now d graph.now (element member.now)) }
+    requires counts { IsLookUpFor variables.now (S.contents source.now) (element member.now)
+        look_up.now (λ d. element_solutions variables.now d graph.now (element member.now)) }
+    ensures { IfOk result (λ m. AreMade variables.now (S.contents source.now) graph.now under.now
+        (element member.now) (take m.done rows.now) m.rows.items) }
 {
     let before = looked.get();
     let tries_names = tries_names(look_up);
     let mut out = Vec::new(alloc);
-    for done in 0..rows.len() {
+    let mut done = 0;
+    while done < rows.len() {
         let taken = looked.get().saturating_sub(before);
-        if tries_names && is_slow(taken, done, rows.len(), out.len()) {
+        if stops_looking(tries_names, member, taken, done, rows.len(), out.len()) {
             return Ok(Made { rows: out, done });
         }
-        let row = &rows[done];
-        let found = found_rows(alloc, variables, source, look_up, row)?;
-        let mut made = kept_rows(alloc, variables, vocabulary, row, found, member, under)?;
-        out.append(&mut made)?;
+        let rest = &rows[done..];
+        let mut made = first_looked_up(
+            alloc, variables, vocabulary, graph, source, rest, look_up, own, member, under,
+        )?;
+        out.append(&mut made.rows)?;
+        done += made.done;
     }
-    Ok(Made {
-        rows: out,
-        done: rows.len(),
-    })
+    Ok(Made { rows: out, done })
 }

@@ -45,36 +45,41 @@ first_under-returns g t c =
 
 pub rows_after-returns-in-Some : goal.rows_after-returns-in-Some
 rows_after-returns-in-Some g t c =
-    IfOk-weaker c.with_the_rest.result _ _
+    IfOk-weaker c.with_others.result _ _
     (λ out h. follow.direct_follows c.args.variables.now (g.S.Source.contents c.args.source.now) c.args.graph.now c.args.under.now
-    (element c.args.member.now) c.args.rows.items c.made_directly.new.rows.items c.deref.result.now out.items c.in_ok-direct.direct c.in-Some.made
-    c.in_ok-direct.ensures.gathered c.deref.ensures.value c.in-Some.is c.in_ok-direct.ensures.made h)
-    c.with_the_rest.ensures
+    (element c.args.member.now) c.args.rows.items c.deref.result.now out.items c.in_ok-direct.direct c.in-Some.made c.deref.ensures.value c.in-Some.is
+    c.in_ok-direct.ensures h)
+    c.with_others.ensures
 
 pub rows_after-returns-then-is_first : goal.rows_after-returns-then-is_first
 rows_after-returns-then-is_first g t c =
-    let vs = c.args.variables.now in
-    let s = g.S.Source.contents c.args.source.now in
-    let k = element c.args.member.now in
-    let rows = c.made_directly.new.rows.items in
     IfOk-weaker c.member_under.result _ _
-    (λ out h. follow.made_gathered vs s c.args.graph.now c.args.under.now k c.args.rows.items rows out.items c.in_ok-direct.ensures.gathered
-    (follow.first_follows vs s c.args.graph.now c.args.under.now k rows c.deref-2.result.now out.items c.is_first.result c.deref-2.ensures.value
-    c.is_first.ensures c.if-is_first.true h))
+    (λ out h. follow.first_follows c.args.variables.now (g.S.Source.contents c.args.source.now) c.args.graph.now c.args.under.now
+    (element c.args.member.now) c.args.rows.items c.deref-2.result.now out.items c.is_first.result c.deref-2.ensures.value c.is_first.ensures
+    c.if-is_first.true h)
     c.member_under.ensures
 
-pub rows_after-returns : goal.rows_after-returns
-rows_after-returns g t c =
-    let vs = c.args.variables.now in
-    let s = g.S.Source.contents c.args.source.now in
-    let k = element c.args.member.now in
-    let rows = c.made_directly.new.rows.items in
-    IfOk-weaker c.with_the_rest-2.result _ _
-    (λ out h. follow.made_gathered vs s c.args.graph.now c.args.under.now k c.args.rows.items rows out.items c.in_ok-direct.ensures.gathered
-    (follow.gathered_follow vs s c.args.graph.now c.args.under.now k rows c.gather.new.rows.items c.deref-4.result.now c.deref-6.result.now
-    c.in_ok-made.made.rows.items out.items c.in_ok-made.made.done c.in_ok-gather.ensures c.deref-4.ensures.value c.deref-6.ensures.value
-    c.in_ok-made.ensures h))
-    c.with_the_rest-2.ensures
+pub with_others-returns-then-len-made : goal.with_others-returns-then-len-made
+with_others-returns-then-len-made g t c =
+    IfOk-weaker c.with_the_rest.result _ _
+    (λ out h. follow.given_follows c.args.variables.now (g.S.Source.contents c.args.source.now) c.args.graph.now c.args.under.now
+    (element c.args.member.now) c.args.rows.items c.deref.result.now c.args.made.rows.items out.items c.args.made.done c.deref.ensures.value h)
+    c.with_the_rest.ensures
+
+pub with_others-returns : goal.with_others-returns
+with_others-returns g t c =
+    follow.others_follow c.args.variables.now (g.S.Source.contents c.args.source.now) c.args.graph.now c.args.under.now
+    (element c.args.member.now) c.args.rows.items c.in_ok-others.others.items c.args.made.rows.items c.in_ok-more.more.items c.append.new.self.items
+    c.args.made.done c.in_ok-others.ensures.tail c.in_ok-append.ensures.items c.in_ok-more.ensures
+
+pub rows_gathered-returns : goal.rows_gathered-returns
+rows_gathered-returns g t c =
+    IfOk-weaker c.with_the_rest.result _ _
+    (λ out h. follow.gathered_follow c.args.variables.now (g.S.Source.contents c.args.source.now) c.args.graph.now c.args.under.now
+    (element c.args.member.now) c.args.rows.items c.gather.new.rows.items c.deref-2.result.now c.deref-4.result.now
+    c.in_ok-made.made.rows.items out.items c.in_ok-made.made.done c.in_ok-gather.ensures c.deref-2.ensures.value c.deref-4.ensures.value
+    c.in_ok-made.ensures h)
+    c.with_the_rest.ensures
 
 pub rows_followed-loop-done-init : goal.rows_followed-loop-done-init
 rows_followed-loop-done-init g t c = record {

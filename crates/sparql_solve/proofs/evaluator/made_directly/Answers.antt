@@ -1,16 +1,19 @@
-use Rattle.std.proofs.Common.{take}
 use Rattle.sparql_algebra.specs.Algebra.{element}
-use Rattle.sparql_solve.proofs.FollowLemmas.{directly_made}
-use Rattle.sparql_solve.proofs.TakenLemmas.{removed_made}
+use Rattle.sparql_solve.specs.Members.{element_solutions}
+use Rattle.sparql_solve.specs.Under.{IsLookUpFor, IsLookUpOf}
+use Rattle.sparql_solve.proofs.FollowLemmas.{some_of}
 use Rattle.sparql_solve.proofs.evaluator.made_directly.Goals as goal
 
-pub returns-in-Some-clause-made : goal.returns-in-Some-clause-made
-returns-in-Some-clause-made g c =
-    removed_made c.args.variables.now (g.S.Source.contents c.args.source.now) c.args.graph.now c.args.under.now c.args.member.now c.in-Some.basic.now
-    (take c.in_ok-made.made.done c.rows_taken.new.rows.items) c.in_ok-made.made.rows.items c.in-Some.ensures.just c.in_ok-made.ensures.left
+pub rows_looked_up-requires-clause-gives : goal.rows_looked_up-requires-clause-gives
+rows_looked_up-requires-clause-gives g c =
+    some_of c.args.variables.now (g.S.Source.contents c.args.source.now)
+    (λ l. IsLookUpOf c.args.variables.now (g.S.Source.contents c.args.source.now) l
+    (λ d. element_solutions c.args.variables.now d c.args.graph.now (element c.args.member.now)))
+    c.in_ok-look_up.field-0 c.in-Some.look_up c.in-Some.is c.in_ok-look_up.ensures.gives
 
-pub returns-clause-made : goal.returns-clause-made
-returns-clause-made g c =
-    directly_made c.args.variables.now (g.S.Source.contents c.args.source.now) c.args.graph.now c.args.under.now (element c.args.member.now)
-    c.args.rows.now.items c.deref.result.now c.in_ok-made-2.made.rows.items c.in_ok-made-2.made.done c.in_ok-look_up.field-0 c.in-Some-2.look_up
-    c.deref.ensures.value c.in-Some-2.is c.in_ok-look_up.ensures.gives c.in_ok-look_up.ensures.stays c.in_ok-made-2.ensures
+pub rows_looked_up-requires-clause-counts : goal.rows_looked_up-requires-clause-counts
+rows_looked_up-requires-clause-counts g c =
+    some_of c.args.variables.now (g.S.Source.contents c.args.source.now)
+    (λ l. IsLookUpFor c.args.variables.now (g.S.Source.contents c.args.source.now) (element c.args.member.now) l
+    (λ d. element_solutions c.args.variables.now d c.args.graph.now (element c.args.member.now)))
+    c.in_ok-look_up.field-0 c.in-Some.look_up c.in-Some.is c.in_ok-look_up.ensures.counts

@@ -1,5 +1,6 @@
 use Rattle.std.proofs.Common.{length, refl}
 use Rattle.std.proofs.lemmas.Result.{IfOk-weaker}
+use Rattle.sparql_solve.proofs.LengthLemmas.{lone_gives}
 use Rattle.sparql_solve.proofs.LookUpLemmas.{in_graph_gives}
 use Rattle.sparql_solve.proofs.look_ups.rows_in_graph.Goals as goal
 
@@ -10,3 +11,10 @@ returns g c =
     c.values.result.now (length c.values.result.now) c.as_slice.result.now c.new-start.result.items c.push.new.self.items c.in_ok-rows.rows.items out.items
     c.as_slice.ensures c.in_ok-push.ensures.items c.new-start.ensures.items c.in_ok-widened.ensures c.in_ok-rows.ensures e refl c.values.ensures)
     c.cut_rows.ensures
+
+pub returns-in-Some : goal.returns-in-Some
+returns-in-Some g c =
+    IfOk-weaker c.rows_of_one.result _ _
+    (λ out h. lone_gives (g.S.Source.contents c.args.source.now) c.args.graph.now c.args.look_up.now c.args.row.now c.in-Some.places.now out.items
+    c.in-Some.ensures.alone c.in-Some.ensures.shown h)
+    c.rows_of_one.ensures

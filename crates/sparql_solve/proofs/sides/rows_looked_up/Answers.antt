@@ -1,23 +1,32 @@
-use Rattle.std.proofs.Common.{arith, length}
+use Rattle.std.proofs.Common.{◌≡◌, ◌<◌, ◌≤◌, ◌-◌, List, ap, take, drop, length, arith}
+use Rattle.std.proofs.lemmas.List.{take_all, length-drop}
+use Rattle.sparql_values.specs.Mapping.{Mapping}
 use Rattle.sparql_algebra.specs.Algebra.{element}
-use Rattle.sparql_solve.specs.Sides.{found}
-use Rattle.sparql_solve.specs.Under.{made_by}
-use Rattle.sparql_solve.proofs.FollowLemmas.{kept_follow}
-use Rattle.sparql_solve.proofs.MemberLemmas.{taken_more, taken_all}
+use Rattle.sparql_solve.proofs.FollowLemmas.{made_more, made_nothing}
 use Rattle.sparql_solve.proofs.sides.rows_looked_up.Goals as goal
+
+pub loop-done-init : goal.loop-done-init
+loop-done-init g c = record {
+  made = made_nothing c.args.variables.now (g.S.Source.contents c.args.source.now) c.args.graph.now c.args.under.now (element c.args.member.now)
+      c.new-out.result.items c.new-out.ensures.items;
+  within = omega arith;
+}
 
 pub loop-done-preserved : goal.loop-done-preserved
 loop-done-preserved g c =
-    let s = g.S.Source.contents c.args.source.now in
-    let k = element c.args.member.now in
-    taken_more s (λ d m. made_by c.args.variables.now d c.args.look_up.now c.args.under.now k m) c.args.rows.now c.loop-done.done
-    c.index-rows-done.result c.loop-done.out.items c.in_ok-made.made.items c.append.new.self.items (omega arith) c.index-rows-done.is c.loop-done.invariant
-    (kept_follow c.args.variables.now s c.args.under.now k c.index-rows-done.result c.in_ok-found.found.items c.in_ok-made.made.items
-    (λ d. found c.args.variables.now d c.args.look_up.now c.index-rows-done.result) c.in_ok-found.ensures c.in_ok-made.ensures)
-    c.in_ok-append.ensures.items
-
-pub returns : goal.returns
-returns g c =
-    taken_all (g.S.Source.contents c.args.source.now)
-    (λ d m. made_by c.args.variables.now d c.args.look_up.now c.args.under.now (element c.args.member.now) m) c.args.rows.now c.loop-done.done
-    (length c.args.rows.now) c.loop-done.out.items (omega arith) (omega arith) c.loop-done.invariant
+    let rows = c.args.rows.now in
+    let done = c.loop-done.done in
+    let len = c.in_ok-made.made.done in
+    let left : List Mapping = drop done rows in
+    let rest : List Mapping = take (length rows - done) left in
+    let long : length left ≡ length rows - done = length-drop done rows in
+    let less : done < length rows = c.loop-done-test.true in
+    let whole : rest ≡ left = take_all (length rows - done) left (omega (arith, long)) in
+    let same : length rest ≡ length left = ap length whole in
+    let within : len ≤ length rest = c.in_ok-made.ensures.within in
+    record {
+      made = made_more c.args.variables.now (g.S.Source.contents c.args.source.now) c.args.graph.now c.args.under.now (element c.args.member.now) rows (take len rest)
+          done len c.loop-done.out.items c.in_ok-made.made.rows.items c.append.new.self.items (ap (take len) whole) c.in_ok-append.ensures.items
+          c.loop-done.invariant.made c.in_ok-made.ensures.made;
+      within = omega (arith, same, long, less, within);
+    }

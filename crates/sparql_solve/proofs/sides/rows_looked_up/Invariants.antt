@@ -1,10 +1,13 @@
-use Rattle.std.proofs.Common.{take}
-use Rattle.std.specs.List.{flat_map}
+use Rattle.std.proofs.Common.{◌≤◌, ◌-◌, take, length}
 use Rattle.sparql_algebra.specs.Algebra.{element}
-use Rattle.sparql_solve.specs.Members.{AreSolutions}
-use Rattle.sparql_solve.specs.Under.{made_by}
+use Rattle.sparql_solve.specs.Under.{AreMade}
 use Rattle.sparql_solve.proofs.sides.rows_looked_up.Given as goal
 
 abbrev pub invariant-loop-done : goal.invariant-loop-done
-invariant-loop-done g l =
-    AreSolutions (g.S.Source.contents l.source) l.out.items (λ d. flat_map (made_by l.variables d l.look_up l.under (element l.member)) (take l.done l.rows))
+invariant-loop-done g l = record {
+  made : AreMade l.variables (g.S.Source.contents l.source) l.graph l.under (element l.member) (take l.done l.rows) l.out.items;
+  within : l.done ≤ length l.rows;
+}
+
+abbrev pub decreases-loop-done : goal.decreases-loop-done
+decreases-loop-done g l = length l.rows - l.done
