@@ -1,10 +1,10 @@
-"""Runs of programs with a C file of this folder before the C library, which counts requests for memory, and may refuse some."""
+"""Runs of programs with `refuse.c` before the C library, which counts requests for memory, and may refuse some."""
 import collections, re, subprocess
 
 COURSES = ("alone", "lasting")
-TOLD = re.compile(r"(\d+) (\d+)\n\Z")
-# what a run wrote, its status, and the two numbers that the C file tells, or -1: of `refuse.c` how many requests counted, and how many were refused
-Run = collections.namedtuple("Run", "output errors status counted refused")
+TOLD = re.compile(r"(\d+) (\d+) (\d+)\n\Z")
+# what a run wrote, its status, and how many requests counted, how many were refused and how many bytes were asked for, or -1 where that isn't told
+Run = collections.namedtuple("Run", "output errors status counted refused asked")
 
 
 def run(library, words, text="", folder=None, number=0, course="alone", **environment):
@@ -12,7 +12,7 @@ def run(library, words, text="", folder=None, number=0, course="alone", **enviro
     environment.update({"LD_PRELOAD": str(library), "REFUSED": str(number)}, **({"LASTING": "1"} if course == "lasting" else {}))
     ran = subprocess.run(words, input=text, env=environment, cwd=folder, capture_output=True, text=True, errors="replace", timeout=60)
     told = TOLD.search(ran.stderr)
-    return Run(ran.stdout, TOLD.sub("", ran.stderr), ran.returncode, *(map(int, told.groups()) if told else (-1, -1)))
+    return Run(ran.stdout, TOLD.sub("", ran.stderr), ran.returncode, *(map(int, told.groups()) if told else (-1, -1, -1)))
 
 
 def is_refused(course, it):

@@ -1,6 +1,6 @@
-// Preloaded into a program, refuses requests for memory: that whose number, from 1, stands in the variable REFUSED, and with LASTING
-// each later one too, until memory is back. As the program ends it writes to its standard error how many requests counted, and how
-// many were refused.
+// Preloaded into a program, counts its requests for memory, and refuses some: that whose number, from 1, stands in the variable REFUSED,
+// and with LASTING each later one too, until memory is back. As the program ends it writes to its standard error how many requests
+// counted, how many of them were refused, and how many bytes they asked for.
 //
 // A program tells by requests of two sizes that no other request has (crates/refusals/src/signs.rt has them too) from where on
 // requests count, and that memory is back, from where on none does. With ALL each counts, from the program's start on.
@@ -12,7 +12,7 @@ extern char *getenv(const char *name);
 extern unsigned long strtoul(const char *text, char **end, int base);
 extern long write(int file, const void *text, unsigned long size);
 
-static unsigned long chosen, counted, refused;
+static unsigned long chosen, counted, refused, asked;
 static int lasts, counts, is_over;
 
 __attribute__((constructor)) static void begin(void)
@@ -33,6 +33,7 @@ static int is_refused(unsigned long size)
     if (!counts)
         return 0;
     ++counted;
+    asked += size;
     if (!chosen || is_over || (lasts ? counted < chosen : counted != chosen))
         return 0;
     ++refused;
@@ -49,8 +50,9 @@ void *realloc(void *memory, unsigned long size)
     return is_refused(size) ? 0 : __libc_realloc(memory, size);
 }
 
-static unsigned long written(char *text, unsigned long place, unsigned long number)
+static unsigned long written(char *text, unsigned long place, unsigned long number, char end)
 {
+    text[--place] = end;
     do {
         text[--place] = '0' + number % 10;
         number /= 10;
@@ -60,11 +62,9 @@ static unsigned long written(char *text, unsigned long place, unsigned long numb
 
 __attribute__((destructor)) static void end(void)
 {
-    char text[48];
-    unsigned long place = sizeof text;
-    text[--place] = '\n';
-    place = written(text, place, refused);
-    text[--place] = ' ';
-    place = written(text, place, counted);
+    char text[72];
+    unsigned long place = written(text, sizeof text, asked, '\n');
+    place = written(text, place, refused, ' ');
+    place = written(text, place, counted, ' ');
     write(2, text + place, sizeof text - place);
 }

@@ -1,5 +1,5 @@
 -- A document that is read statement by statement.
-use Rattle.std.proofs.Common.{◌≡◌, ℕ, suc, ◌+◌, ◌≤◌, ◌<◌, length, arith, true, false, List, [], ◌∷◌, ◌++◌, Option, Some, None, Result, Ok, Err, IfOk, refl, sym, ap, subst, ◌∙◌, append_assoc, add-one}
+use Rattle.std.proofs.Common.{◌≡◌, ℕ, suc, ◌+◌, ◌≤◌, ◌<◌, length, arith, true, false, List, [], ◌∷◌, ◌++◌, Option, Some, None, Result, Ok, Err, IfOk, MatchResult, refl, sym, ap, subst, ◌∙◌, append_assoc, add-one}
 use Rattle.std.proofs.lemmas.List.{append-nil}
 use Rattle.std.specs.List.{AllByRecursion}
 use Rattle.rdf_terms.specs.Quad.{QuadParts}
@@ -19,7 +19,7 @@ use Rattle.rdf_turtle.specs.Inside.Reading.{node, statement, document}
 use Rattle.rdf_turtle.specs.Lexemes.{Lexemes}
 use Rattle.rdf_turtle.specs.ParserState.{ParserState, longest, start}
 use Rattle.rdf_grammar.specs.Steps.{and_then}
-use Rattle.rdf_turtle.specs.Inside.Turns.{IfNothing, Becomes, Turn, LeavesPending, Turns, TellsDocument, StopsReading, StopsWith}
+use Rattle.rdf_turtle.specs.Inside.Turns.{IfNothing, Becomes, Turn, LeavesPending, Turns, TellsPending, TellsDocument, StopsReading, StopsWith}
 use Rattle.rdf_turtle.proofs.BaseTrees.{statement_of_formed}
 use Rattle.rdf_grammar.proofs.CallerLemmas.{one_reads, one_fails, no_more, Going, going_starts, going_on, going_done, going_fails}
 use Rattle.rdf_turtle.proofs.GrammarStatements.{statement_derived}
@@ -236,6 +236,20 @@ pub unbound_answers : (depth : ℕ) (base : Option (List ℕ)) (lexemes : Lexeme
 unbound_answers depth base lexemes before behind t =
     let unknown = t.leaves in
     record { tree = t.tree; reads = t.reads; answers = rw unknown refl }
+
+-- what is told behind all is the answer
+pub told_answers : {S : Type 0} (taken : S → List QuadParts) (told : Result S TurtleFaultKind) (sink : S) (pending : Pending) (depth : ℕ)
+    (base b : Option (List ℕ)) (lexemes : Lexemes) (before behind : ParserState)
+    → MatchResult told (λ s. (pending ≡ Nothing) × (s ≡ sink)) (λ kind. TellsPending pending kind)
+    → Turns depth lexemes pending before behind → before ≡ start b → b ≡ base → taken sink ≡ behind.quads
+    → MatchResult told (λ s. TellsDocument depth lexemes base (Ok (taken s))) (λ kind. StopsWith depth lexemes base kind)
+told_answers taken (Ok s) sink pending depth base b lexemes before behind h t i e q =
+    said_answers depth base b lexemes before behind (taken s) (rw h.0 at t) i e (ap taken h.1 ∙ q)
+told_answers taken (Err kind) sink Nothing depth base b lexemes before behind h t i e q = absurd h
+told_answers taken (Err kind) sink Relative depth base b lexemes before behind h t i e q =
+    rw h (lacking_answers depth base b lexemes before behind t i e)
+told_answers taken (Err kind) sink UnknownPrefix depth base b lexemes before behind h t i e q =
+    rw h (unbound_answers depth base lexemes before behind t)
 
 -- a statement that has no meaning lacks a base where its prefixes are declared
 pub look_lacking : {E : Type 0} (r : Result Pending E) (tree : Statement) (before behind : ParserState) (declared more : List (List ℕ))

@@ -9,7 +9,7 @@ ghost use Rattle.rdf_turtle.specs.Inside.Room.{HasRoom};
 ghost use Rattle.rdf_turtle.specs.Inside.Proper.{proper_statement};
 ghost use Rattle.rdf_turtle.specs.ParserState.{ParserState, longest};
 ghost use Rattle.rdf_turtle.specs.declared.straight.Pending.TheVariants.{Nothing, Relative};
-ghost use Rattle.rdf_turtle.specs.Inside.Turns.{IfNothing, Becomes, Turn, Turns, TellsDocument, StopsReading, StopsWith};
+ghost use Rattle.rdf_turtle.specs.Inside.Turns.{IfNothing, Becomes, Turn, Turns, TellsPending, TellsDocument, StopsReading, StopsWith};
 
 use crate::fault::TurtleFaultKind;
 use crate::known::{declare, unknown_in};
@@ -142,6 +142,19 @@ fn turns<'a, S: TripleSink>(
     Ok(pending)
 }
 
+// What has taken the triples said, or the fault that is pending.
+fn told<S: TripleSink>(pending: Pending, sink: S) -> Result<S, TurtleFaultKind>
+    ensures { MatchResult result
+        (λ taken. (pending ≡ Nothing) × (taken ≡ sink))
+        (λ kind. TellsPending pending kind) }
+{
+    match pending {
+        Pending::Nothing => Ok(sink),
+        Pending::Relative => Err(TurtleFaultKind::Relative),
+        Pending::UnknownPrefix => Err(TurtleFaultKind::UnknownPrefix),
+    }
+}
+
 /// A sink with the triples of the document that the lexemes are, with so many brackets inside one another at
 /// most, or one more around nothing. Nothing of them is held but the statement that is read: its tree is let
 /// go when its triples are said.
@@ -164,9 +177,6 @@ pub(crate) fn triples_of<S: TripleSink>(
 {
     let base = copied(base)?;
     let mut scope = Scope::new(parser.alloc(), base)?;
-    match turns(parser, &mut scope, depth)? {
-        Pending::Nothing => Ok(scope.into_sink()),
-        Pending::Relative => Err(TurtleFaultKind::Relative),
-        Pending::UnknownPrefix => Err(TurtleFaultKind::UnknownPrefix),
-    }
+    let pending = turns(parser, &mut scope, depth)?;
+    told(pending, scope.into_sink())
 }

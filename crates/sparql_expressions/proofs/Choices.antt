@@ -1,5 +1,5 @@
 -- Words of one lexeme each, of which the next lexeme chooses one.
-use Rattle.std.proofs.Common.{◌≡◌, ◌<◌, true, [], ◌∷◌, length, Option, Some, None, refl, ap, ◌∙◌, arith, inl, inr}
+use Rattle.std.proofs.Common.{◌≡◌, ◌<◌, true, [], ◌∷◌, length, Option, Some, refl, ap, ◌∙◌, arith, inl, inr}
 use Rattle.rdf_grammar.specs.Steps as steps
 use Rattle.rdf_grammar.specs.Readings.{any}
 use Rattle.rdf_grammar.specs.Terminals.{next_terminal}

@@ -164,7 +164,7 @@ module _ (expression : Reading Expression) (Expression' : Derives Expression) (d
   SameTermRest = the terminal.Open >>= (λ _. Expression' >>= (λ left. the terminal.Comma >>= (λ _. RightRest left)))
 
   same_term_decides : Decides (read.same_term expression) SameTermRest always
-  unfolding read.same_term
+  unfolding read.same_term read.second_term read.same_term_of
   same_term_decides =
       seq _ _ _ _ always (the_decides same_terminal apart terminal.Open) (λ _.
       then_decides _ _ _ _ (above 5) always d

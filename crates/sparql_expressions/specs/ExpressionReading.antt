@@ -93,6 +93,12 @@ bound = do
   the terminal.Close
   pure (e.Bound variable)
 
+-- ")", behind the operands of SAMETERM
+unfoldable pub same_term_of : Expression → Expression → Reading Expression
+same_term_of left right = do
+  the terminal.Close
+  pure (e.SameTerm left right)
+
 -- expression is the rule for what stands in parentheses
 module _ (expression : Reading Expression) where
   -- BrackettedExpression = "(" Expression ")"
@@ -103,15 +109,19 @@ module _ (expression : Reading Expression) where
     the terminal.Close
     pure inner
 
+  -- "," Expression ")", behind the first operand of SAMETERM
+  unfoldable pub second_term : Expression → Reading Expression
+  second_term left = do
+    the terminal.Comma
+    right ← expression
+    same_term_of left right
+
   -- "(" Expression "," Expression ")", behind SAMETERM
   unfoldable pub same_term : Reading Expression
   same_term = do
     the terminal.Open
     left ← expression
-    the terminal.Comma
-    right ← expression
-    the terminal.Close
-    pure (e.SameTerm left right)
+    second_term left
 
   -- BuiltInCall = "BOUND" "(" Var ")" | "SAMETERM" "(" Expression "," Expression ")" | a function's word and "(" Expression ")"
   abbrev pub call_of : Option Function → Reading Expression

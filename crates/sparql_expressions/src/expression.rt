@@ -1,16 +1,17 @@
 //! Expressions (SPARQL 1.1 Query, section 19.8), a reader for each production. What stands in
 //! parentheses is a recursion, and operands between equal operators are a loop.
 
-ghost use Rattle.std.specs.Prelude.{◌≡◌, ◌≢◌, ◌≤◌, ◌<◌, [], ◌∷◌, length, OnOk, MatchResult};
+ghost use Rattle.std.specs.Prelude.{◌≡◌, ◌≢◌, ◌≤◌, ◌<◌, [], ◌∷◌, length, IfOk, OnOk, MatchResult};
 ghost use Rattle.rdf_grammar.specs.Readings.{Reads};
 ghost use Rattle.sparql_expressions.specs.ExpressionReading as spec;
 
 use crate::choice::{begins_addend, comparison, function, sign};
 use crate::tree::{Expression, Literal};
 use rdf_grammar::{GrammarFault, iri, literal};
-use rdf_terms::Items;
+use rdf_terms::{Items, NoMemory};
 use sparql_terminals::{Parser, Terminal};
 use sparql_trees::{Boxed, Sign};
+use std::alloc::Global;
 
 // The only one of these operands, or all of them where there are more.
 fn alone<'a>(operands: Items<Expression<'a>>) -> Result<Expression<'a>, Items<Expression<'a>>>
@@ -28,6 +29,17 @@ fn alone<'a>(operands: Items<Expression<'a>>) -> Result<Expression<'a>, Items<Ex
     }
 }
 
+// Two operands, each in a box of its own.
+fn boxed<'a>(
+    alloc: Global,
+    left: Expression<'a>,
+    right: Expression<'a>,
+) -> Result<(Boxed<Expression<'a>>, Boxed<Expression<'a>>), NoMemory>
+    ensures { IfOk result (λ both. both ≡ (left.entry, right.entry)) }
+{
+    Ok((Boxed::new(alloc, left)?, Boxed::new(alloc, right)?))
+}
+
 // "(" Var ")", behind BOUND
 #[tactic(auto, unfolding(crate::specs::ExpressionReading::bound))]
 fn bound<'a>(parser: &mut Parser<'_, 'a>) -> Result<Expression<'a>, GrammarFault>
@@ -38,6 +50,21 @@ fn bound<'a>(parser: &mut Parser<'_, 'a>) -> Result<Expression<'a>, GrammarFault
     let variable = parser.value(Terminal::Variable)?;
     parser.expect(Terminal::Close)?;
     Ok(Expression::Bound(variable))
+}
+
+// ")", behind the operands of SAMETERM
+#[tactic(auto, unfolding(crate::specs::ExpressionReading::same_term_of))]
+fn same_term_of<'a>(
+    parser: &mut Parser<'_, 'a>,
+    left: Expression<'a>,
+    right: Expression<'a>,
+) -> Result<Expression<'a>, GrammarFault>
+    ensures reads { Reads (spec.same_term_of left.entry right.entry parser.old) result parser.new }
+    ensures shorter { OnOk result (length parser.new < length parser.old) }
+{
+    parser.expect(Terminal::Close)?;
+    let (left, right) = boxed(parser.alloc(), left, right)?;
+    Ok(Expression::SameTerm(left, right))
 }
 
 // 132: NumericLiteralPositive, 133: NumericLiteralNegative
@@ -131,8 +158,7 @@ fn relational<'a>(parser: &mut Parser<'_, 'a>, depth: usize) -> Result<Expressio
     };
     parser.pass();
     let right = additive(parser, depth)?;
-    let left = Boxed::new(parser.alloc(), left)?;
-    let right = Boxed::new(parser.alloc(), right)?;
+    let (left, right) = boxed(parser.alloc(), left, right)?;
     Ok(Expression::Compare(operator, left, right))
 }
 
@@ -315,12 +341,24 @@ fn same_term<'a>(parser: &mut Parser<'_, 'a>, depth: usize) -> Result<Expression
 {
     parser.expect(Terminal::Open)?;
     let left = expression(parser, depth)?;
+    second_term(parser, depth, left)
+}
+
+// "," Expression ")", behind the first operand of SAMETERM
+#[cycle(expression)]
+#[tactic(auto, unfolding(crate::specs::ExpressionReading::second_term))]
+fn second_term<'a>(
+    parser: &mut Parser<'_, 'a>,
+    depth: usize,
+    left: Expression<'a>,
+) -> Result<Expression<'a>, GrammarFault>
+    ensures reads { Reads
+        (spec.second_term (spec.expression depth) left.entry parser.old) result parser.new }
+    ensures shorter { OnOk result (length parser.new < length parser.old) }
+{
     parser.expect(Terminal::Comma)?;
     let right = expression(parser, depth)?;
-    parser.expect(Terminal::Close)?;
-    let left = Boxed::new(parser.alloc(), left)?;
-    let right = Boxed::new(parser.alloc(), right)?;
-    Ok(Expression::SameTerm(left, right))
+    same_term_of(parser, left, right)
 }
 
 /// An expression in parentheses (120: BrackettedExpression).

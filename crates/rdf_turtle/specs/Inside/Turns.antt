@@ -61,6 +61,12 @@ pub record Turns (depth : ℕ) (lexemes : Lexemes) (pending : Pending) (before b
   pub reads : Document depth lexemes tree []
   pub leaves : LeavesPending pending tree before behind
 
+-- the fault that is told of what is pending behind all
+abbrev pub TellsPending : Pending → TurtleFaultKind → Type 0
+TellsPending Nothing kind = ⊥
+TellsPending Relative kind = kind ≡ fault.Relative
+TellsPending UnknownPrefix kind = kind ≡ fault.UnknownPrefix
+
 -- The lexemes are such a document, and this is answered to it.
 pub record TellsDocument (depth : ℕ) (lexemes : Lexemes) (base : Option (List ℕ)) (answer : Result (List QuadParts) TurtleFaultKind) : Type 0 where
   pub tree : List Statement

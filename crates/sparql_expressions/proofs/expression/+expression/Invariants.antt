@@ -14,6 +14,9 @@ decreases-expression l = 13 * l.depth
 abbrev pub decreases-bracketted : goal.decreases-bracketted
 decreases-bracketted l = 13 * l.depth + 1
 
+abbrev pub decreases-second_term : goal.decreases-second_term
+decreases-second_term l = 13 * l.depth + 1
+
 abbrev pub decreases-same_term : goal.decreases-same_term
 decreases-same_term l = 13 * l.depth + 2
 
