@@ -3,25 +3,15 @@ use Rattle.std.proofs.Common.{◌≡◌, ◌∙◌, ap, refl, sym, subst, ℕ, �
 use Rattle.std.specs.Prelude.{Ok, Err}
 use Rattle.rdf_lines.specs.Document.{IsDocument}
 use Rattle.rdf_lines.specs.Fed as fed
-use Rattle.rdf_lines.specs.Fed.{Faults, Fed, FedBegins, HasBeenFed, StopsFed, Takes, and_then}
-use Rattle.rdf_lines.specs.QuadText.{quad_text}
+use Rattle.rdf_lines.specs.Fed.{EndsBehind, Faults, FaultsBehind, Fed, FedBegins, HasBeenFed, StopsFed, Takes, TakesAll, and_then}
 use Rattle.rdf_lines.specs.declared.fault.FaultKind.{FaultKind}
 use Rattle.rdf_lines.specs.declared.fault.FaultKind.TheVariants as kind
 use Rattle.rdf_lines.specs.declared.fault.LineFault.{LineFault}
 use Rattle.rdf_lines.specs.declared.format.LineFormat.{LineFormat}
 use Rattle.rdf_terms.specs.declared.quad.Quad.{Quad}
-use Rattle.rdf_streams.specs.Conversion.Converts.{lines_of}
-use Rattle.rdf_streams.specs.Conversion.Faults.{no_memory}
-use Rattle.rdf_streams.specs.Inside.Gathered.{Begins, Ends, GoesOn, Grows, Stops, StopsIn}
+use Rattle.rdf_streams.specs.Inside.Gathered.{Begins, Ends, GoesOn, Stops, StopsIn}
 use Rattle.rdf_streams.specs.Inside.Held.{fault_of_kind}
 use Rattle.rdf_streams.specs.declared.conversion.fault.ConvertFault.{ConvertFault}
-use Rattle.rdf_streams.proofs.ConversionLemmas.Converts.{lines_of-push}
-
-pub grows_none : (lines : List ℕ) → Grows lines [] lines
-grows_none lines = sym (append-nil lines)
-
-pub grows_one : (old now new : List ℕ) (more : List Quad) (q : Quad) → Grows old more now → new ≡ now ++ quad_text q → Grows old (more ++ q ∷ []) new
-grows_one old now new more q g e = e ∙ ap (λ t. t ++ quad_text q) g ∙ append_assoc old (lines_of more) (quad_text q) ∙ ap (λ t. old ++ t) (sym (lines_of-push more q))
 
 -- a fault of the reader, behind these quads of a text
 of_fault : (format : LineFormat) (text : List ℕ) (quads : List Quad) (f : LineFault) (k : FaultKind) → Begins format text quads → StopsFed format text quads f k → StopsIn format text quads (fault_of_kind f k)
@@ -83,10 +73,6 @@ module _ (law : FedBegins) (old now : Fed) (piece front rest : List ℕ) (more :
       subst (λ f. Begins f (read ++ (piece ++ beyond)) (quads ++ more)) far.format
       (subst (λ t. Begins now.format t (quads ++ more)) (text_of read beyond) (law (read ++ front) (quads ++ more) now (rest ++ beyond) (far.fed read quads h)))
 
-  -- or memory for its line is wanting
-  pub no_room : Stops old piece more no_memory
-  no_room read quads beyond h = begins_so read quads beyond h
-
   -- or a line is faulty
   pub at_fault : (f : LineFault) (given : ConvertFault) → given ≡ fault_of_kind f f.kind → Faults now rest f → Stops old piece more given
   at_fault f given is faults read quads beyond h =
@@ -107,10 +93,21 @@ module _ (law : FedBegins) (old : Fed) where
   pub ends_on : (q : Quad) → fed.Ends old (Ok (Some q)) → Ends old (q ∷ []) (Ok tt)
   ends_on q e read quads h = e read quads h
 
-  pub ends_short : Ends old [] (Err no_memory)
-  ends_short read quads h = subst (λ q. Begins old.format read q) (sym (append-nil quads)) (begins_at_end read quads h)
-
   pub ends_faulty : (f : LineFault) (given : ConvertFault) → given ≡ fault_of_kind f f.kind → fed.Ends old (Err f) → Ends old [] (Err given)
   ends_faulty f given is e read quads h =
       subst (StopsIn old.format read (quads ++ [])) (sym is)
       (subst (λ q. StopsIn old.format read q (fault_of_kind f f.kind)) (sym (append-nil quads)) (of_fault old.format read quads f f.kind (begins_at_end read quads h) (e read quads h)))
+
+-- ---- what the reader writes of a piece
+
+pub goes_on : (old : Fed) (piece : List ℕ) (more : List Quad) (new : Fed) → TakesAll old piece more new → GoesOn old piece more new
+goes_on old piece more new t = record { format = t.format; number = t.number; fed = t.fed }
+
+pub stops_behind : (old : Fed) (piece : List ℕ) (more : List Quad) (f : LineFault) (given : ConvertFault) → given ≡ fault_of_kind f f.kind → FaultsBehind old piece more f → Stops old piece more given
+stops_behind old piece more f given is faults read quads beyond h =
+    let stops = faults read quads beyond h in
+    subst (StopsIn old.format (read ++ (piece ++ beyond)) (quads ++ more)) (sym is) (of_fault old.format (read ++ (piece ++ beyond)) (quads ++ more) f f.kind stops.1 stops.0)
+
+pub ends_behind : (old : Fed) (more : List Quad) (f : LineFault) (given : ConvertFault) → given ≡ fault_of_kind f f.kind → EndsBehind old more (Err f) → Ends old more (Err given)
+ends_behind old more f given is ends read quads h =
+    let stops = ends read quads h in subst (StopsIn old.format read (quads ++ more)) (sym is) (of_fault old.format read (quads ++ more) f f.kind stops.1 stops.0)
