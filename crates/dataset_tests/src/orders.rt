@@ -79,19 +79,24 @@ fn keys_ahead_of_a_number_past_32_bits(rt: HostRuntime) -> Result<(), NoMemory> 
     Ok(())
 }
 
+// Three quads that come as a list, one with a number past 32 bits.
+fn listed(alloc: Global) -> Result<QuadSets, NoMemory> {
+    let quads = vec![in alloc; [0, 6, 2, PAST], [0, 6, 2, 3], [0, 1, 7, 3]]?;
+    let mut sets = QuadSets::new(alloc);
+    sets.insert_list(quads, &[])?;
+    Ok(sets)
+}
+
 #[test]
 fn a_list_with_a_number_past_32_bits(rt: HostRuntime) -> Result<(), NoMemory> {
     let alloc = rt.alloc();
-    let mut sets = three(alloc)?;
-    let list = vec![in alloc; [0, 6, 2, PAST], [0, 6, 2, 3], [0, 1, 7, 3]]?;
-    sets.insert_list(list, &[])?;
+    let sets = listed(alloc)?;
     let mut out = Vec::new(alloc);
     assert_eq!(rt; sets.matches(alloc, 0, Some(6), None, None, &mut out)?, 2);
     assert_eq!(rt;
-        sets.matches(alloc, 0, Some(1), None, Some(3), &mut out)?,
-        2
+        sets.matches(alloc, 0, None, None, Some(PAST), &mut out)?,
+        1
     );
-    let found = [[0, 6, 2, 3], [0, 6, 2, PAST], [0, 1, 2, 3], [0, 1, 7, 3]];
-    assert!(rt; out.as_slice() == found.as_slice());
+    assert!(rt; out.as_slice() == [[0, 6, 2, 3], [0, 6, 2, PAST], [0, 6, 2, PAST]].as_slice());
     Ok(())
 }

@@ -9,6 +9,7 @@ use std::collections::btree_set::{Iter, Range};
 use std::iter::ExactSizeIterator;
 use std::marker::Model;
 
+/// The keys that are left of a tree of either width.
 #[derive(Drop)]
 pub(crate) enum AllKeys<'a> {
     Narrow(Iter<'a, NarrowKey>),
@@ -53,6 +54,7 @@ impl<'a> Iterator for KeyIter<'a> {
     }
 }
 
+/// The keys that are left of a part of a tree of either width.
 #[derive(Drop)]
 pub(crate) enum SomeKeys<'a> {
     Narrow(Range<'a, NarrowKey>),

@@ -17,6 +17,7 @@ use std::collections::BTreeSet;
 use std::marker::Model;
 use std::ops::Bound;
 
+/// A search tree of keys, of either width.
 #[derive(Drop)]
 pub(crate) enum Nodes {
     Narrow(BTreeSet<NarrowKey>),
