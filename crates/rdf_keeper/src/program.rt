@@ -122,8 +122,25 @@ fn run_words<T: Files, R: Read + Drop, W: Write, P: Write>(
     }
 }
 
-// Converts a document to its end. What it writes is the same whatever is told meanwhile.
-fn convert_all<R: Read + Drop, W: Write, P: Write>(
+// Converts a document to its end.
+fn convert_all<R: Read + Drop, W: Write>(
+    alloc: Global,
+    format: Format,
+    base: Option<Iri>,
+    mut reader: R,
+    writer: &mut W,
+) -> Outcome
+    ensures told { status_of result ≢ 2 }
+    ensures written { (text : List ℕ) → R.remaining reader ≡ Some text →
+        (out : List ℕ) × (left : Option (List ℕ)) × (answer : Result (Unit {0}) ConvertFault)
+        × Appends (W.contents writer.old) (W.contents writer.new) out
+        × Converts format base text left out answer × (result ≡ outcome_of answer) }
+{
+    outcome_of(convert(alloc, format, base, &mut reader, writer))
+}
+
+// The same, where it is told meanwhile how far the document is read: that changes nothing of it.
+fn convert_told<R: Read + Drop, W: Write, P: Write>(
     alloc: Global,
     format: Format,
     base: Option<Iri>,
@@ -137,11 +154,9 @@ fn convert_all<R: Read + Drop, W: Write, P: Write>(
         × Appends (W.contents writer.old) (W.contents writer.new) out
         × Converts format base text left out answer × (result ≡ outcome_of answer) }
 {
-    let mut watched = progress.watch(reader);
-    let answer = convert(alloc, format, base, &mut watched, writer);
-    drop(watched);
+    let outcome = convert_all(alloc, format, base, progress.watch(reader), writer);
     progress.clear();
-    outcome_of(answer)
+    outcome
 }
 
 fn convert_words<T: Files, R: Read + Drop, W: Write, P: Write>(
@@ -160,11 +175,11 @@ fn convert_words<T: Files, R: Read + Drop, W: Write, P: Write>(
         Err(outcome) => return outcome,
     };
     match words.file {
-        None => convert_all(alloc, words.from, base, reader, writer, progress),
+        None => convert_told(alloc, words.from, base, reader, writer, progress),
         Some(path) => match fs::open(rt, path) {
             Ok(file) => {
                 progress.begin(size_of(&file));
-                convert_all(alloc, words.from, base, file, writer, progress)
+                convert_told(alloc, words.from, base, file, writer, progress)
             }
             Err(_) => Outcome::ReadFailed,
         },

@@ -1,7 +1,6 @@
 use Rattle.std.proofs.Common.{◌∙◌, ap}
 use Rattle.rdf_keeper.proofs.program.check.check_one.Goals as goal
 
--- (not tried yet: the reader that is watched gives what the reader gives)
 pub returns-clause-written : goal.returns-clause-written
 returns-clause-written g c text is = (
   _,
