@@ -174,7 +174,7 @@ fn minus_is_looked_up_under_the_rows_before_it(rt: HostRuntime) {
         ("{ ?s e:p ?o MINUS { ?a e:q ?x } }", (3, 1, 3)),
         (
             "{ ?s e:p ?o OPTIONAL { ?o e:none ?z } MINUS { ?z e:q ?x } }",
-            (3, 4, 3),
+            (3, 3, 3),
         ),
     ] {
         assert!(rt;
