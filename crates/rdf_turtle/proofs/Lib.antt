@@ -21,6 +21,7 @@ mod ReadBackLemmas
 mod ScopeBlanks
 mod ScopeLoops
 mod ScopeSteps
+mod StandLemmas
 mod StraightReading
 mod SurveyLemmas
 mod TokenFaultLemmas

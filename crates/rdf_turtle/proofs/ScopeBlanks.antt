@@ -41,11 +41,11 @@ told_same {A = A} f s u a e = by (f s.prologue) e
     by None e = absurd (cc e)
     by (Some x) e = ap (λ p. p.1) (same_Some _ _ e)
 
-iri_same : (name : Name) (s u : ParserState) (a : List ℕ) → iri name s ≡ Some (a, u) → s ≡ u
+pub iri_same : (name : Name) (s u : ParserState) (a : List ℕ) → iri name s ≡ Some (a, u) → s ≡ u
 unfolding iri
 iri_same name s u a e = told_same (iri_of name) s u a e
 
-verb_same : (w : Verb) (s u : ParserState) (a : List ℕ) → verb w s ≡ Some (a, u) → s ≡ u
+pub verb_same : (w : Verb) (s u : ParserState) (a : List ℕ) → verb w s ≡ Some (a, u) → s ≡ u
 unfolding verb
 verb_same (v.Name name) s u a e = iri_same name s u a e
 verb_same v.Type s u a e = ap (λ p. p.1) (same_Some _ _ e)
@@ -65,7 +65,7 @@ name_stays name s u x e =
 literal_apart : (w : LiteralParts) (n : ℕ) → t.Literal w ≡ t.Blank n → ⊥
 literal_apart w n e = cc
 
-literal_same : (w : Literal) (s u : ParserState) (a : LiteralParts) → literal w s ≡ Some (a, u) → s ≡ u
+pub literal_same : (w : Literal) (s u : ParserState) (a : LiteralParts) → literal w s ≡ Some (a, u) → s ≡ u
 unfolding literal
 literal_same w s u a e = told_same (literal_of w) s u a e
 
