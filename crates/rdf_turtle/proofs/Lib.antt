@@ -16,6 +16,7 @@ mod GrammarShallow
 mod GrammarStatements
 mod GrammarWhole
 mod GrammarWords
+mod LeafSteps
 mod PrologueSteps
 mod ReadBackLemmas
 mod ScopeBlanks

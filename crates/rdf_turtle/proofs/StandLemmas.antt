@@ -24,7 +24,7 @@ use Rattle.rdf_turtle.specs.Meaning.{Meaning, Says, iri, verb, literal, object, 
 use Rattle.rdf_turtle.specs.ParserState.{ParserState, Does, blank, fresh, labelled, triple, says}
 use Rattle.rdf_turtle.specs.Stands.{Goes, IsSaid, StandsFor, HasObject, IsVerb, HasProperty, HasProperties, PropertiesStand, StatementsStand, BracketsStand, IsList, ListsStand}
 use Rattle.rdf_turtle.proofs.AbbreviationLemmas.{meaning-Blank, meaning-Collection, property-is}
-use Rattle.rdf_turtle.proofs.ScopeBlanks.{iri_same, literal_same, verb_same}
+use Rattle.rdf_turtle.proofs.LeafSteps.{iri_same, literal_same, verb_same}
 
 -- ---- from state to state
 
