@@ -6,6 +6,7 @@ pub mod CallerLemmas
 mod ChainLemmas
 mod ComesAboutLemmas
 mod CommitLemmas
+mod CountLemmas
 mod ForgetsLemmas
 mod ForgettingLemmas
 mod GivesBackLemmas

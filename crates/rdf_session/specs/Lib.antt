@@ -2,6 +2,7 @@ pub mod Between
 pub mod BlankCount
 pub mod ComesAbout
 pub mod Commits
+pub mod Counted
 pub mod Depth
 pub mod Documents
 pub mod Faults

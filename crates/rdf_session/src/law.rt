@@ -1,7 +1,7 @@
 //! Laws over the definitions alone: the promise of the whole, and what holds after any list of
 //! commands, that undo gives back and redo gives again, what a depth forgets, which state is the
 //! base, that a command has one reply and a request one result, that a load is INSERT DATA and
-//! takes just its blank numbers, and that a saved state comes back.
+//! takes just its blank numbers, what counts tell, and that a saved state comes back.
 ghost use Rattle.std.specs.Prelude.{◌≡◌, List, ℕ, Option, take};
 ghost use Rattle.rdf_dataset.specs.State.{State};
 ghost use Rattle.rdf_session.specs.History.{nothing};
@@ -10,6 +10,7 @@ ghost use Rattle.rdf_session.specs.Standing.{Run, Follows, requests_of, MakesAll
 ghost use Rattle.rdf_session.specs.BlankCount.{LimitIsTheCount, LoadTakesTheCount, LoadWantsTheCount};
 ghost use Rattle.rdf_session.specs.ComesAbout.{MayBeAccepted, EachCommandRuns};
 ghost use Rattle.rdf_session.specs.Commits.{CommitKeepsTheState, BaseIsTheFirst, BaseIsTheLastCommitted};
+ghost use Rattle.rdf_session.specs.Counted.{CountsAreTold};
 ghost use Rattle.rdf_session.specs.Forgets.{RequestsLeaveTheLast};
 ghost use Rattle.rdf_session.specs.GivesBack.{RunsAreWhole, UndoGivesBack, RedoGivesAgain, RollbackGivesBack, RefusalsLeave};
 ghost use Rattle.rdf_session.specs.Headline.{Headline};
@@ -97,6 +98,15 @@ pub fn a_rollback_gives_back_its_mark()
     ensures state { RollbackGivesBackItsMark }
     ensures taken { RollbackIsTaken }
 {}
+
+/// The counts of an answer tell how many quads came, and how many went: `added` is the number of those
+/// that the state has behind the command and hadn't before, `removed` that of those which it had before
+/// and hasn't behind it; at an undo and a rollback too.
+pub fn counts_are_told()
+    ensures { CountsAreTold }
+{
+    rdf_dataset::changes_are_exact();
+}
 
 /// An accepted request leaves the states up to the cursor with the new one behind them, and each mark
 /// at its state; under a depth, where these are more than it allows, but for the first of them and

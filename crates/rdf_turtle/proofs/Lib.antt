@@ -16,11 +16,13 @@ mod GrammarShallow
 mod GrammarStatements
 mod GrammarWhole
 mod GrammarWords
+mod LeafSteps
 mod PrologueSteps
 mod ReadBackLemmas
 mod ScopeBlanks
 mod ScopeLoops
 mod ScopeSteps
+mod StandLemmas
 mod StraightReading
 mod SurveyLemmas
 mod TokenFaultLemmas

@@ -12,7 +12,6 @@ use Rattle.rdf_terms.specs.declared.term.Term.TheVariants as t
 use Rattle.rdf_turtle.specs.declared.fault.TurtleFaultKind.TheVariants.{Relative, UnknownPrefix}
 use Rattle.rdf_grammar.specs.declared.tree.Name.{Name}
 use Rattle.rdf_turtle.specs.declared.tree.Verb.{Verb}
-use Rattle.rdf_turtle.specs.declared.tree.Verb.TheVariants as v
 use Rattle.rdf_grammar.specs.declared.tree.Literal.{Literal}
 use Rattle.rdf_turtle.specs.declared.tree.Node.{Node}
 use Rattle.rdf_turtle.specs.declared.tree.Node.TheOpen.{Node-F, Property-F}
@@ -25,30 +24,14 @@ use Rattle.rdf_terms.specs.Blanks.{blanks_of, AreNumberedInOrder}
 use Rattle.rdf_turtle.specs.Blanks.{BlankNumbersAreBelow, IsTriple}
 use Rattle.rdf_turtle.specs.Known.{declares_first}
 use Rattle.rdf_grammar.specs.Keys.{key_of}
-use Rattle.rdf_grammar.specs.Prologue.{Prologue, iri_of, resolved, declares, moves_base}
+use Rattle.rdf_grammar.specs.Prologue.{Prologue, resolved, declares, moves_base}
 use Rattle.rdf_grammar.specs.Steps.{Outcome, each, and_then}
 use Rattle.rdf_turtle.specs.ParserState.{ParserState, Does, start, told, declared, fresh, says}
 use Rattle.rdf_turtle.specs.Meaning.{answer, Meaning, Says, iri, verb, literal, object, objects, behind, list_term, list_inside, is_some_property, node_of, property_of, meaning, property, properties, has_properties, statement, document, triples_of}
+use Rattle.rdf_turtle.proofs.LeafSteps.{told_same, iri_same, verb_same, literal_same}
 use Rattle.rdf_turtle.proofs.ScopeSteps.{then_parts, Numbered, IsAt, IsBelow, Said, nothing, nothing_at, iri_apart, also, beside, only_last, below_on, says_numbered, TermKeeps, fresh_keeps, labelled_keeps, Stays, stays_keeps}
-use Rattle.rdf_grammar.specs.Literals.{literal_of}
 
 -- ---- leaves
-
-told_same : {A : Type 0} (f : Prologue → Option A) (s u : ParserState) (a : A) → told f s ≡ Some (a, u) → s ≡ u
-told_same {A = A} f s u a e = by (f s.prologue) e
-  where
-    by : (o : Option A) → option_map {U = A × ParserState} (λ x. (x, s)) o ≡ Some (a, u) → s ≡ u
-    by None e = absurd (cc e)
-    by (Some x) e = ap (λ p. p.1) (same_Some _ _ e)
-
-iri_same : (name : Name) (s u : ParserState) (a : List ℕ) → iri name s ≡ Some (a, u) → s ≡ u
-unfolding iri
-iri_same name s u a e = told_same (iri_of name) s u a e
-
-verb_same : (w : Verb) (s u : ParserState) (a : List ℕ) → verb w s ≡ Some (a, u) → s ≡ u
-unfolding verb
-verb_same (v.Name name) s u a e = iri_same name s u a e
-verb_same v.Type s u a e = ap (λ p. p.1) (same_Some _ _ e)
 
 -- a term that is no blank node
 apart : (x y : Term) → x ≡ y → ((n : ℕ) → x ≡ t.Blank n → ⊥) → (n : ℕ) → y ≡ t.Blank n → ⊥
@@ -64,10 +47,6 @@ name_stays name s u x e =
 
 literal_apart : (w : LiteralParts) (n : ℕ) → t.Literal w ≡ t.Blank n → ⊥
 literal_apart w n e = cc
-
-literal_same : (w : Literal) (s u : ParserState) (a : LiteralParts) → literal w s ≡ Some (a, u) → s ≡ u
-unfolding literal
-literal_same w s u a e = told_same (literal_of w) s u a e
 
 literal_stays : (w : Literal) → Stays (λ s. and_then (literal w s) (λ a u. Some (t.Literal a, u)))
 literal_stays w s u x e =

@@ -17,6 +17,7 @@ pub mod Meaning
 pub mod Nesting
 pub mod ParserState
 pub mod ReadBack
+pub mod Stands
 pub mod Terminals
 pub mod TokenFaults
 pub mod WrittenLaws

@@ -5,6 +5,7 @@ ghost use Rattle.rdf_turtle.specs.FaultyNameLaws.{UnboundIsFound, LackingIsFound
 ghost use Rattle.rdf_turtle.specs.Lexemes.{LexemesHaveForms};
 ghost use Rattle.rdf_turtle.specs.Leaves.{OneDocument, DocumentsHaveSubjects, LeavesAreLexemes};
 ghost use Rattle.rdf_turtle.specs.ReadBack.{QuadsAreWellFormed, NumbersComeInOrder, DocumentsAreReadBack};
+ghost use Rattle.rdf_turtle.specs.Stands.{BracketsStand, ListsStand, PropertiesStand, StatementsStand};
 ghost use Rattle.rdf_turtle.specs.WrittenLaws.{WrittenTriplesAreTurtle};
 
 /// No lexemes are two documents (Turtle 1.1, section 6.5): the grammar has one tree at most for
@@ -80,4 +81,17 @@ pub fn directives_are_in_force()
     ensures base { BaseIsMoved }
     ensures prefix { PrefixIsDeclared }
     ensures examples { SectionExamples }
+{}
+
+/// Where triples stand, whole and however deep nodes nest: each object of each verb is said of the
+/// subject before it, and in a statement that is the term of its first node; what stands inside
+/// `[ ]` is said of its blank node, a new one; the cells of `( )` are a chain of blank nodes up to
+/// rdf:nil, whose rdf:first are its elements in order, and whose rdf:rest is the next (Turtle 1.1,
+/// sections 2.2, 2.3, 2.7 and 2.8). Each node stands for its term between the two states, and what
+/// is inside it is said there, so that this may be asked of it again.
+pub fn triples_stand_with_their_nodes()
+    ensures verbs { PropertiesStand }
+    ensures statements { StatementsStand }
+    ensures brackets { BracketsStand }
+    ensures lists { ListsStand }
 {}

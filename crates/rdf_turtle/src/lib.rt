@@ -27,7 +27,7 @@ pub use fault::{TurtleFault, TurtleFaultKind};
 pub use laws::{
     abbreviations_stand_for_triples, directives_are_in_force, documents_are_read_back,
     documents_have_subjects, faulty_names_are_found, leaves_are_lexemes, lexemes_have_forms,
-    one_document, written_triples_are_turtle,
+    one_document, triples_stand_with_their_nodes, written_triples_are_turtle,
 };
 pub use lexeme::Lexeme;
 pub use meaning::blank_numbers_are_below;

@@ -39,14 +39,14 @@ meaning-Literal w = ap meaning (sym (n.rolls-Literal w)) ∙ fold-roll-Node Mean
 meaning-Label : (label : List ℕ) → meaning (n.Label label) ≡ node_of (Node-F.Label label)
 meaning-Label label = ap meaning (sym (n.rolls-Label label)) ∙ fold-roll-Node Meaning Says node_of property_of (Node-F.Label label)
 
-meaning-Blank : (bracket : List ℕ) (ps : List Property) → meaning (n.Blank bracket ps) ≡ node_of (Node-F.Blank bracket (map property ps))
+pub meaning-Blank : (bracket : List ℕ) (ps : List Property) → meaning (n.Blank bracket ps) ≡ node_of (Node-F.Blank bracket (map property ps))
 meaning-Blank bracket ps = ap meaning (sym (n.rolls-Blank bracket ps)) ∙ fold-roll-Node Meaning Says node_of property_of (Node-F.Blank bracket ps)
 
-meaning-Collection : (bracket : List ℕ) (xs : List Node) → meaning (n.Collection bracket xs) ≡ collection (map meaning xs)
+pub meaning-Collection : (bracket : List ℕ) (xs : List Node) → meaning (n.Collection bracket xs) ≡ collection (map meaning xs)
 meaning-Collection bracket xs =
     ap meaning (sym (n.rolls-Collection bracket xs)) ∙ fold-roll-Node Meaning Says node_of property_of (Node-F.Collection bracket xs)
 
-property-is : (w : Verb) (xs : List Node) →
+pub property-is : (w : Verb) (xs : List Node) →
     property (record { verb = w; objects = xs }) ≡ property_of (record { verb = w; objects = map meaning xs })
 property-is w xs = fold-roll-Property Meaning Says node_of property_of (record { verb = w; objects = xs })
 
@@ -93,7 +93,7 @@ module _ (cell : VarOrTerm) (m : Meaning) (ms : List Meaning) where
   cell_by None = refl
   cell_by (Some p) = said_by p.0 (says cell rest p.0 p.1)
 
-  behind-is : (s : Drafting) → behind cell (m ∷ ms) s ≡ (fresh >>= (λ next. says cell rest next >> (object next first m >> behind next ms))) s
+  pub behind-is : (s : Drafting) → behind cell (m ∷ ms) s ≡ (fresh >>= (λ next. says cell rest next >> (object next first m >> behind next ms))) s
   behind-is s = cell_by (fresh s)
 
 -- both sides with the meanings of the two lists put in

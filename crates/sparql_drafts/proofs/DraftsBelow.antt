@@ -5,13 +5,11 @@ use Rattle.std.proofs.lemmas.List.Elements.{Contains-append_left, Contains-appen
 use Rattle.std.specs.List.{flat_map, AllByRecursion}
 use Rattle.std.specs.Option.{option_map}
 use Rattle.rdf_terms.specs.Literal.{LiteralParts}
-use Rattle.rdf_terms.specs.declared.term.Term.{Term}
 use Rattle.rdf_terms.specs.declared.term.Term.TheVariants as t
 use Rattle.rdf_terms.specs.Vocabulary.{rdf_nil}
-use Rattle.rdf_grammar.specs.Prologue.{Prologue, iri_of}
+use Rattle.rdf_grammar.specs.Prologue.{Prologue}
 use Rattle.rdf_grammar.specs.Steps.{Outcome, each, and_then}
 use Rattle.rdf_grammar.specs.declared.tree.Literal.{Literal}
-use Rattle.rdf_grammar.specs.Literals.{literal_of}
 use Rattle.rdf_grammar.specs.declared.tree.Name.{Name}
 use Rattle.sparql_grammar.specs.Proper.{is_filled, stands_alone, stands_alone_of}
 use Rattle.sparql_grammar.specs.declared.tree.Block.{Block}
@@ -22,50 +20,20 @@ use Rattle.sparql_grammar.specs.declared.tree.Node.TheViews.{roll-Node, roll-Pro
 use Rattle.sparql_grammar.specs.declared.tree.Property.{Property}
 use Rattle.sparql_grammar.specs.declared.tree.Triples.{Triples}
 use Rattle.sparql_grammar.specs.declared.tree.VarOrIri as written
-use Rattle.sparql_grammar.specs.declared.tree.VarOrIri.TheVariants as n
 use Rattle.sparql_grammar.specs.declared.tree.Verb.{Verb}
-use Rattle.sparql_grammar.specs.declared.tree.Verb.TheVariants as v
 use Rattle.sparql_drafts.specs.Blanks.{place_blanks, pattern_blanks, AreInOrder, IsNumbered, DataAreNumbered, DataComeInOrder, PatternsAreNumbered, PatternsComeInOrder}
 use Rattle.sparql_drafts.specs.Drafts.{IsPlaceBelow, ArePatternsBelow}
 use Rattle.sparql_drafts.specs.declared.draft.QuadPattern.{QuadPattern}
 use Rattle.sparql_drafts.specs.declared.draft.Quads.{Quads}
 use Rattle.sparql_drafts.specs.declared.draft.VarOrIri.{VarOrIri}
-use Rattle.sparql_drafts.specs.declared.draft.VarOrIri.TheVariants as i
 use Rattle.sparql_drafts.specs.declared.draft.VarOrTerm.{VarOrTerm}
 use Rattle.sparql_drafts.specs.declared.draft.VarOrTerm.TheVariants as x
-use Rattle.sparql_drafts.specs.Drafting.{Drafting, Does, start, quads, told, fresh, in_default, in_graph, says}
+use Rattle.sparql_drafts.specs.Drafting.{Drafting, Does, start, quads, fresh, in_default, in_graph, says}
 use Rattle.sparql_drafts.specs.Meaning.{Meaning, Says, iri, verb, var_or_iri, literal, object, objects, first, rest, nil, next_cell, behind, list_term, list_inside, node_of, property_of, meaning, property, subject_with, triples, graph, block, quads_in, pattern_in}
+use Rattle.sparql_drafts.proofs.LeafSteps.{iri_same, var_or_iri_same, verb_same, literal_same}
 use Rattle.sparql_drafts.proofs.BlankSteps.{then_parts, node, nothing, nothing_at, variable_apart, Numbered, IsAt, IsBelow, Said, also, beside, only_last, below_on, says_numbered, TermKeeps, fresh_keeps, labelled_keeps, Stays, stays_keeps}
 
 -- ---- leaves
-
-told_same : {A : Type 0} (f : Prologue → Option A) (s u : Drafting) (a : A) → told f s ≡ Some (a, u) → s ≡ u
-told_same {A = A} f s u a e = by (f s.prologue) e
-  where
-    by : (o : Option A) → option_map {U = A × Drafting} (λ x. (x, s)) o ≡ Some (a, u) → s ≡ u
-    by None e = absurd (cc e)
-    by (Some x) e = ap (λ p. p.1) (same_Some _ _ e)
-
-iri_same : (name : Name) (s u : Drafting) (a : List ℕ) → iri name s ≡ Some (a, u) → s ≡ u
-unfolding iri
-iri_same name s u a e = told_same (iri_of name) s u a e
-
--- a step behind an IRI
-behind_iri_same : {A : Type 0} (name : Name) (f : List ℕ → A) (s u : Drafting) (a : A) → and_then (iri name s) (λ i z. Some (f i, z)) ≡ Some (a, u) → s ≡ u
-behind_iri_same name f s u a e =
-    let p = then_parts (iri name s) _ (a, u) e in
-    iri_same name s p.1 p.0 p.2 ∙ ap (λ q. q.1) (same_Some _ _ p.3)
-
-verb_same : (word : Verb) (s u : Drafting) (a : VarOrIri) → verb word s ≡ Some (a, u) → s ≡ u
-unfolding verb
-verb_same (v.Variable name) s u a e = ap (λ p. p.1) (same_Some _ _ e)
-verb_same (v.Name name) s u a e = behind_iri_same name (λ z. i.Iri z) s u a e
-verb_same v.Type s u a e = ap (λ p. p.1) (same_Some _ _ e)
-
-var_or_iri_same : (word : written.VarOrIri) (s u : Drafting) (a : VarOrIri) → var_or_iri word s ≡ Some (a, u) → s ≡ u
-unfolding var_or_iri
-var_or_iri_same (n.Variable name) s u a e = ap (λ p. p.1) (same_Some _ _ e)
-var_or_iri_same (n.Name name) s u a e = behind_iri_same name (λ z. i.Iri z) s u a e
 
 -- a term that is no blank node
 apart : (a b : VarOrTerm) → a ≡ b → ((k : ℕ) → a ≡ node k → ⊥) → (k : ℕ) → b ≡ node k → ⊥
@@ -88,10 +56,6 @@ name_stays name s u b e =
       iri_same name s p.1 p.0 p.2 ∙ ap (λ q. q.1) same,
       apart (x.Term (t.Iri p.0)) b (ap (λ q. q.0) same) (iri_apart p.0),
     )
-
-literal_same : (w : Literal) (s u : Drafting) (a : LiteralParts) → literal w s ≡ Some (a, u) → s ≡ u
-unfolding literal
-literal_same w s u a e = told_same (literal_of w) s u a e
 
 literal_stays : (w : Literal) → Stays (λ s. and_then (literal w s) (λ a u. Some (x.Term (t.Literal a), u)))
 literal_stays w s u b e =

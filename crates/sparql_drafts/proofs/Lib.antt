@@ -2,6 +2,8 @@ mod AbbreviationLemmas
 mod BlankSteps
 pub mod CallerLemmas
 mod DraftsBelow
+mod LeafSteps
 mod ScopeLabels
 mod ScopeLoops
 mod ScopeSteps
+mod StandLemmas

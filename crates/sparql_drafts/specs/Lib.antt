@@ -5,3 +5,4 @@ pub mod Known
 pub mod Meaning
 pub mod Room
 pub mod Drafting
+pub mod Stands

@@ -4,7 +4,6 @@ use Rattle.std.specs.Prelude.{ℕ, ◌||◌, List, [], ◌∷◌, Option, Some, 
 use Rattle.std.specs.Option.{option_map}
 use Rattle.rdf_terms.specs.Literal.{LiteralParts}
 use Rattle.rdf_terms.specs.Vocabulary.{rdf_type, rdf_first, rdf_rest, rdf_nil}
-use Rattle.rdf_terms.specs.declared.term.Term.{Term}
 use Rattle.rdf_terms.specs.declared.term.Term.TheVariants as t
 use Rattle.rdf_grammar.specs.Keys.{key_of}
 use Rattle.rdf_grammar.specs.Literals.{literal_of}

@@ -1,6 +1,7 @@
 //! What holds of each text.
 ghost use Rattle.sparql_drafts.specs.Abbreviations as short;
 ghost use Rattle.sparql_drafts.specs.Blanks.{DataAreNumbered, DataComeInOrder, PatternsAreNumbered, PatternsComeInOrder};
+ghost use Rattle.sparql_drafts.specs.Stands.{BlocksStand, BracketsStand, DataStand, ListsStand, PatternsStand, PropertiesStand, TriplesStand};
 
 /// The data of an operation, and a basic graph pattern, has blank nodes of its own, whose numbers are
 /// just those below their count, and come in order of their first places.
@@ -42,4 +43,26 @@ pub fn nodes_stand_for_terms()
 pub fn declarations_are_in_force()
     ensures base { short.BaseIsMoved }
     ensures prefix { short.PrefixIsDeclared }
+{}
+
+/// Where triples stand, whole and however deep nodes nest: each object of each verb is said of the
+/// subject before it, which is what the first node stands for; what stands inside `[ ]` is said of
+/// its blank node, a new one; the cells of `( )` are a chain of blank nodes up to rdf:nil, whose
+/// rdf:first are its elements in order, and whose rdf:rest is the next (SPARQL 1.1 Query, sections
+/// 4.1.4 and 4.2). Each node stands for its term between the two states, and what is inside it is said
+/// there, so that this may be asked of it again.
+pub fn triples_stand_with_their_nodes()
+    ensures verbs { PropertiesStand }
+    ensures triples { TriplesStand }
+    ensures brackets { BracketsStand }
+    ensures lists { ListsStand }
+{}
+
+/// The triples of `GRAPH name { .. }` stand in the graph of that name, all that is inside their nodes
+/// too, and those outside GRAPH in the default one: so in quad data and in templates, block after block
+/// (SPARQL 1.1 Update, sections 3.1.1 to 3.1.3). A basic graph pattern names no graph.
+pub fn triples_stand_in_their_graph()
+    ensures blocks { BlocksStand }
+    ensures data { DataStand }
+    ensures patterns { PatternsStand }
 {}

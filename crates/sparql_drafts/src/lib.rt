@@ -18,6 +18,6 @@ pub use known::{
 };
 pub use laws::{
     abbreviations_stand_for_triples, blank_numbers_are_below, declarations_are_in_force,
-    nodes_stand_for_terms,
+    nodes_stand_for_terms, triples_stand_in_their_graph, triples_stand_with_their_nodes,
 };
 pub use scope::Scope;

@@ -7,5 +7,6 @@ mod OtherLemmas
 mod QuadLemmas
 mod ResultLemmas
 mod SetLemmas
+mod TemplateLawLemmas
 mod TemplateLemmas
 mod UnreadLemmas

@@ -4,4 +4,5 @@ pub mod Inside
 pub mod Laws
 pub mod Nets
 pub mod Operations
+pub mod TemplateLaws
 pub mod Templates

@@ -1,5 +1,6 @@
 //! Laws over the definitions alone.
 ghost use Rattle.sparql_eval.specs.Laws.{CopyReads, DropAllEmpties, EachSolutionHasItsOwnBlankNodes, InsertAgain, InsertDataIsModify, ModifyDeletesThenInserts, MoveIsCopyThenDrop, OneAnswer, OthersStay, SilentChangesNothing};
+ghost use Rattle.sparql_eval.specs.TemplateLaws.{GraphTable, InstancesAreOfTheirTemplate};
 
 /// A request leads to one state or is refused, never both.
 pub fn one_answer()
@@ -51,4 +52,12 @@ pub fn each_solution_has_its_own_blank_nodes()
 /// INSERT DATA of quads is INSERT of these quads WHERE { }.
 pub fn insert_data_is_modify()
     ensures { InsertDataIsModify }
+{}
+
+/// The quads of a template stand where GRAPH says, those outside GRAPH in the graph of WITH, or in the
+/// default one (SPARQL 1.1 Update, section 3.1.3); and each place of an instance is what the template
+/// has there under the solution.
+pub fn templates_stand_in_their_graph()
+    ensures graphs { GraphTable }
+    ensures instances { InstancesAreOfTheirTemplate }
 {}

@@ -1,5 +1,6 @@
 pub mod CallerLemmas
 pub mod ExpressionLemmas
+mod GroupLawLemmas
 pub mod GroupLemmas
 pub mod KnownLemmas
 pub mod NameLemmas

@@ -8,12 +8,14 @@ mod basic;
 mod expression;
 mod group;
 mod known;
+mod laws;
 mod quads;
 mod query;
 mod template;
 
 pub use group::pattern_of;
 pub use known::unknown_group;
+pub use laws::{groups_are_as_written, templates_stand_in_their_graph};
 pub use quads::quads_pattern_of;
 pub use query::{Said, said_by};
 pub use template::quad_patterns;
