@@ -1,5 +1,5 @@
 -- Look-ups of one triple pattern in one graph, under one row after another.
-use Rattle.std.proofs.Common.{◌≡◌, ℕ, ◌==◌, Bool, true, false, ◌&&◌, List, [], ◌∷◌, ◌++◌, refl, sym, ap, ◌∙◌, subst, length, arith, append-nil, append_assoc}
+use Rattle.std.proofs.Common.{◌≡◌, ℕ, ◌==◌, Bool, true, false, List, [], ◌∷◌, ◌++◌, refl, sym, ap, ◌∙◌, subst, length, arith, append-nil, append_assoc}
 use Rattle.std.specs.List.{sum_by, list_all}
 use Rattle.std.proofs.lemmas.Bool.{eqb-true}
 use Rattle.rdf_terms.specs.Quad.{QuadParts}
@@ -14,7 +14,7 @@ use Rattle.sparql_solve.specs.declared.place.Places.{Places}
 use Rattle.sparql_solve.specs.Matching.{AsksSame, has_held, matches_of, quads_under}
 use Rattle.sparql_solve.specs.Members.{AreSolutions, element_solutions}
 use Rattle.sparql_solve.specs.Sides.{found, found_among}
-use Rattle.sparql_solve.specs.Steps.{AreLookedUp, Begins, IsLone, LookedUpWhere, is_passed}
+use Rattle.sparql_solve.specs.Steps.{AreLookedUp, Begins, IsLone, LookedUpWhere}
 use Rattle.sparql_solve.specs.Under.{AreMade, IsLookUpFor, binds_none, counting, is_joined, kept, masked, own_columns}
 use Rattle.sparql_solve.proofs.FitLemmas.{listed_held}
 use Rattle.sparql_solve.proofs.FollowLemmas.{bound_counts, made_alone, made_append, made_nothing, none_counts}

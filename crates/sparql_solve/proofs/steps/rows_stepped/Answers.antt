@@ -1,7 +1,6 @@
-use Rattle.std.proofs.Common.{rules, ◌≡◌, List, [], ◌∷◌, ◌++◌, refl, sym, ap, ◌∙◌, arith, length}
+use Rattle.std.proofs.Common.{rules, ◌≡◌, [], ◌∷◌, sym, ap, ◌∙◌, arith, length}
 use Rattle.std.specs.Vec.Iter.{into_iter_items, into_iter_len}
 use Rattle.sparql_algebra.specs.Algebra.{element}
-use Rattle.sparql_values.specs.Mapping.{Mapping}
 use Rattle.sparql_solve.specs.Steps.{is_passed}
 use Rattle.sparql_solve.proofs.MemberLemmas.{none_left}
 use Rattle.sparql_solve.proofs.StepLemmas as steps
