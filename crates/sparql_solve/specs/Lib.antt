@@ -5,4 +5,5 @@ pub mod Matching
 pub mod Sides
 pub mod Members
 pub mod Under
+pub mod Steps
 pub mod Ask
