@@ -55,9 +55,9 @@ def rows_of(root):
     return {head.strip(): tail.split() for head, _, tail in rows if head.strip()}
 
 
-def crates_below(root=ROOT):
+def crates_below():
     """Each crate of crates.txt by name, with those that it stands on, lowest first and itself last."""
-    uses, found = rows_of(root), {}
+    uses, found = rows_of(ROOT), {}
 
     def below(name):
         if name not in found:
