@@ -1,5 +1,8 @@
 """Runs of programs with `refuse.c` before the C library, which counts requests for memory, and may refuse some."""
-import collections, re, subprocess
+import collections, pathlib, re, shutil, subprocess, sys, tempfile
+from concurrent.futures import ThreadPoolExecutor
+
+from shared import library_of, processors, say_count
 
 COURSES = ("alone", "lasting")
 TOLD = re.compile(r"(\d+) (\d+) (\d+)\n\Z")
@@ -7,12 +10,32 @@ TOLD = re.compile(r"(\d+) (\d+) (\d+)\n\Z")
 Run = collections.namedtuple("Run", "output errors status counted refused asked")
 
 
-def run(library, words, text="", folder=None, number=0, course="alone", **environment):
-    """A run with a request refused, or with none, where the number is 0."""
-    environment.update({"LD_PRELOAD": str(library), "REFUSED": str(number)}, **({"LASTING": "1"} if course == "lasting" else {}))
-    ran = subprocess.run(words, input=text, env=environment, cwd=folder, capture_output=True, text=True, errors="replace", timeout=60)
-    told = TOLD.search(ran.stderr)
-    return Run(ran.stdout, TOLD.sub("", ran.stderr), ran.returncode, *(map(int, told.groups()) if told else (-1, -1, -1)))
+class Program:
+    """A copy of a program, since rt ci may build it anew, in a folder of its own."""
+
+    def __init__(self, path, room, environment):
+        self.path, self.room = shutil.copy2(path, room), pathlib.Path(room)
+        self.environment = {"LD_PRELOAD": str(library_of("refuse", room)), **environment}
+
+    def run(self, words=(), text="", number=0, course="alone"):
+        """A run with a request refused, or with none, where the number is 0."""
+        environment = {**self.environment, "REFUSED": str(number), **({"LASTING": "1"} if course == "lasting" else {})}
+        ran = subprocess.run([self.path, *words], input=text, env=environment, cwd=self.room, capture_output=True, text=True, errors="replace", timeout=60)
+        told = TOLD.search(ran.stderr)
+        return Run(ran.stdout, TOLD.sub("", ran.stderr), ran.returncode, *(map(int, told.groups()) if told else (-1, -1, -1)))
+
+
+class Case:
+    """What a program is asked. `wrong` says what is wrong of its runs, the untouched one and those with a refusal, by course and number."""
+
+    def __init__(self, program, name, words, text):
+        self.program, self.name, self.words, self.text = program, name, words, text
+
+    def run(self, number, course):
+        return self.program.run(self.words, self.text, number, course)
+
+    def refusals(self, untouched):
+        return [(course, number) for course in COURSES for number in range(1, untouched.counted + 1)]
 
 
 def is_refused(course, it):
@@ -20,9 +43,24 @@ def is_refused(course, it):
     return it.refused == 1 if course == "alone" else it.refused >= 1
 
 
-def report(tool, runs, faults, counts):
-    """Says each fault, and how many runs passed; returns the exit status."""
+def report(tool, cases, kind=""):
+    """Runs each case untouched and then with its refusals, side by side, says what is wrong and how many runs passed, and returns the exit status."""
+    runs, faults, counts = 0, [], []
+    with ThreadPoolExecutor(processors()) as lanes:
+        for case in cases:
+            untouched = case.run(0, "alone")
+            made = {(course, number): lanes.submit(case.run, number, course) for course, number in case.refusals(untouched)}
+            faults += [f"{kind}{case.name}: {it}" for it in case.wrong(untouched, {key: it.result() for key, it in made.items()})]
+            runs += len(made)
+            counts.append(f"{case.name} {untouched.counted}")
     for it in [*faults, f"requests refused in turn, alone and lasting: {', '.join(counts)}; {f'{len(faults)} faults' if faults else 'all survived'}"]:
         print(f"{tool}: {it}")
-    print(f"{max(0, runs - len(faults))} passed, {len(faults)} failed")
-    return int(bool(faults))
+    return say_count(max(0, runs - len(faults)), len(faults))
+
+
+def over_program(tool, judge, **environment):
+    """Runs `judge (program)` over a copy of the program that the tool's one word names, and ends with its status."""
+    if len(sys.argv) != 2:
+        sys.exit(f"usage: {tool} PROGRAM")
+    with tempfile.TemporaryDirectory(prefix=f"{tool}-") as room:
+        sys.exit(judge(Program(sys.argv[1], room, environment)))

@@ -54,21 +54,22 @@ def functions_of(crate, file, text):
 
 
 class Edit:
-    """An edit: its new lines by file and number, and the functions that it changes, or why it can't be taken."""
+    """An edit: its new lines by file and number, and the functions that it changes, or why it can't be taken. A wrong definition has new lines of specs/,
+    and the law that it has to break."""
 
     def __init__(self, path, folder):
-        self.path, self.name = path, path.name
+        self.path, self.name, self.is_definition = path, path.name, path.parent.name == "wrong-definitions"
         self.text = path.read_text(errors="replace") if path.is_file() else ""
-        self.lines, self.functions, self.clauses, self.symbols, self.why = {}, [], [], [], None
-        # a wrong definition, and the law that it has to break, in a line `law: MODULE::NAME`
-        self.is_definition = path.parent.name == "wrong-definitions"
+        # the wrong body that it is, whatever its file says beside it
+        self.turns = "\n".join(line for line in self.text.split("\n") if line and not line.startswith("#"))
         self.law = (re.findall(r"(?m)^law: (\S+)$", self.text) or [""])[0]
         # goals that the check doesn't prove either, and that need not be tried, since one is enough
         self.beside = [it for line in re.findall(r"(?m)^# also at: (.*)", self.text) for it in line.split(", ")]
-        # the wrong body that it is, whatever its file says beside it
-        self.turns = "\n".join(line for line in self.text.split("\n") if line and not line.startswith("#"))
+        self.lines, self.functions, self.clauses, self.symbols, self.why = {}, [], [], [], None
         for file, (was, text) in self.read(folder).items():
-            self.take_definition(file, was, text, folder) if self.is_definition else self.take(file, was, text, folder.name)
+            changed = [(at, *lines) for at, lines in enumerate(zip(was.split("\n"), text.split("\n"))) if lines[0] != lines[1]]
+            self.lines.update({(file, at): new for at, _, new in changed})
+            self.take_law(file, folder) if self.is_definition else self.take(file, was, changed, folder.name)
         self.why = self.why or (None if self.functions and self.lines else "it changes nothing")
         self.keys, self.alone = {(it.file, it.first) for it in self.functions}, self.is_definition or any(it.alone for it in self.functions)
         self.cycles = {it.cycle for it in self.functions if it.cycle}
@@ -87,50 +88,43 @@ class Edit:
                 file = text.strip()
             elif key == "old":
                 old = text
-            elif key == "law" and self.is_definition:
-                continue
-            elif key != "new":
-                self.why = f"no line of an edit begins so: {line[:60]}"
-            elif not (folder / file).is_file():
-                self.why = f"there is no file {file}"
-            else:
+            elif key == "new" and (folder / file).is_file():
                 was, now = texts.get(file) or [(folder / file).read_text()] * 2
                 if now.count(old) != 1:
                     self.why = self.why or f"an 'old:' text is in {file} {now.count(old)} times, and not once"
                 texts[file] = was, now.replace(old, text)
+            elif key != "law" or not self.is_definition:
+                self.why = f"there is no file {file}" if key == "new" else f"no line of an edit begins so: {line[:60]}"
         return texts
+
+    def take(self, file, was, changed, crate):
+        """Takes the changed lines of a file, each of which has to lie in a function's body."""
+        functions = functions_of(crate, file, was) if re.match(r"src/.*\.rt$", file) else []
+        for at, old, new in changed:
+            inside = next((it for it in functions if it.opens <= at <= it.last), None)
+            # on the line that opens the body only what stands behind its bracket is the body's
+            is_head = inside and at == inside.opens and ("{" not in os.path.commonprefix((old, new)) or re.search(r"\b(ensures|requires)", old))
+            if inside and inside not in self.functions:
+                self.functions.append(inside)
+                self.clauses += re.findall(r"(?m)^\s*ensures\*? (\w+) \{", "\n".join(was.split("\n")[inside.first : inside.opens + 1]))
+            if not inside or is_head:
+                self.why = self.why or f"{file}:{at + 1} is in no function's body: say the same wrong thing in a body"
+
+    def take_law(self, file, folder):
+        """Finds the law at which the new lines of a file of definitions are judged."""
+        sources = sorted((folder / "src").rglob("*.rt"))
+        functions = [it for at in sources for it in functions_of(folder.name, str(at.relative_to(folder)), at.read_text())]
+        self.functions = [it for it in functions if f"{folder.name}::{self.law}" in it.names[0]]
+        if not re.match(r"specs/.*\.antt$", file):
+            self.why = self.why or f"{file} has no definitions"
+        if len(self.functions) != 1:
+            self.why = self.why or f"no one function of the crate is its law: {self.law or 'it names none'}"
 
     def learn(self):
         """Notes in the edit's file which goals need not be tried, where it is refused at more than one."""
         if len(self.open) > 1 and not self.beside:
             shown = min(self.open, key=lambda goal: "limits" in self.open[goal])
             self.path.write_text(self.text.rstrip("\n") + f"\n# also at: {', '.join(it for it in self.open if it != shown)}\n")
-
-    def take(self, file, was, text, crate):
-        functions = functions_of(crate, file, was) if re.match(r"src/.*\.rt$", file) else []
-        for at, (a, b) in enumerate(zip(was.split("\n"), text.split("\n"))):
-            if a == b:
-                continue
-            inside = [it for it in functions if it.opens <= at <= it.last][:1]
-            # on the line that opens the body only what stands behind its bracket is the body's
-            is_head = inside and at == inside[0].opens and ("{" not in os.path.commonprefix((a, b)) or re.search(r"\b(ensures|requires)", a))
-            self.lines[file, at] = b
-            for it in inside if inside and inside[0] not in self.functions else ():
-                self.functions.append(it)
-                self.clauses += re.findall(r"(?m)^\s*ensures\*? (\w+) \{", "\n".join(was.split("\n")[it.first : it.opens + 1]))
-            if not inside or is_head:
-                self.why = self.why or f"{file}:{at + 1} is in no function's body: say the same wrong thing in a body"
-
-    def take_definition(self, file, was, text, folder):
-        """Takes the new lines of a definition, which are judged at the law that is named."""
-        if not re.match(r"specs/.*\.antt$", file):
-            self.why = self.why or f"{file} has no definitions"
-        self.lines.update({(file, at): b for at, (a, b) in enumerate(zip(was.split("\n"), text.split("\n"))) if a != b})
-        sources = sorted((folder / "src").rglob("*.rt"))
-        functions = [it for at in sources for it in functions_of(folder.name, str(at.relative_to(folder)), at.read_text())]
-        self.functions = [it for it in functions if f"{folder.name}::{self.law}" in it.names[0]]
-        if len(self.functions) != 1:
-            self.why = self.why or f"no one function of the crate is its law: {self.law or 'it names none'}"
 
     def folders(self):
         """The folders of proofs/ in which its functions' answers stand: of a cycle of calls it is one, beside those of its functions."""
@@ -142,25 +136,25 @@ class Edit:
         return self.may_be_marked and not any((folder / "proofs" / it / "Proof.antt").is_file() for it in self.folders())
 
     def write(self, folder):
-        """Makes the edit in a copy of the crate, and marks the answers of its functions. What need not be tried is answered by what antt refuses."""
+        """Makes the edit in a copy of the crate, and marks the answers of its functions."""
         for file in {file for file, _ in self.lines}:
             lines = (folder / file).read_text().split("\n")
             (folder / file).write_text("\n".join(self.lines.get((file, number), line) for number, line in enumerate(lines)))
-        for at in [folder / "proofs" / it for it in self.folders()] if self.is_marked(folder) else ():
-            at.mkdir(parents=True, exist_ok=True)
-            file = at / "Answers.antt"
-            text = file.read_text() if file.is_file() else ""
-            if MARK not in text:
-                text += MARK
-            others = [it for it in self.beside if not re.search(rf"(?m)^(pub |abbrev )*{re.escape(it)} :", text)]
-            if others:
-                module = f"Rattle.{folder.name}.proofs.{'.'.join(at.relative_to(folder / 'proofs').parts)}.Goals"
-                # (an answer file may have brought the module in, and under no second name)
-                known = re.search(rf"(?m)^use {re.escape(module)} as (\S+)$", text)
-                goals = known[1] if known else "the_others"
-                text = ("" if known else f"use {module} as {goals}\n") + text
-                text += "".join(f"\npub {it} : {goals}.{it}\n{it} = absurd {REFUSED}\n" for it in others)
-            file.write_text(text)
+        for it in self.folders() if self.is_marked(folder) else ():
+            at = folder / "proofs" / it / "Answers.antt"
+            at.parent.mkdir(parents=True, exist_ok=True)
+            text = at.read_text() if at.is_file() else ""
+            at.write_text(self.marked(text, f"Rattle.{folder.name}.proofs.{it.replace('/', '.')}.Goals"))
+
+    def marked(self, text, module):
+        """Answers to the goals of a module with the mark. What need not be tried is answered by what antt refuses."""
+        text += "" if MARK in text else MARK
+        others = [it for it in self.beside if not re.search(rf"(?m)^(pub |abbrev )*{re.escape(it)} :", text)]
+        # (an answer file may have brought the module in, and under no second name)
+        known = re.search(rf"(?m)^use {re.escape(module)} as (\S+)$", text)
+        goals = known[1] if known else "the_others"
+        use = f"use {module} as {goals}\n" if others and not known else ""
+        return use + text + "".join(f"\npub {it} : {goals}.{it}\n{it} = absurd {REFUSED}\n" for it in others)
 
 
 def without_body(lines, function):

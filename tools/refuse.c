@@ -10,7 +10,7 @@ extern void *__libc_malloc(unsigned long size);
 extern void *__libc_realloc(void *memory, unsigned long size);
 extern char *getenv(const char *name);
 extern unsigned long strtoul(const char *text, char **end, int base);
-extern long write(int file, const void *text, unsigned long size);
+extern int dprintf(int file, const char *format, ...);
 
 static unsigned long chosen, counted, refused, asked;
 static int lasts, counts, is_over;
@@ -50,21 +50,8 @@ void *realloc(void *memory, unsigned long size)
     return is_refused(size) ? 0 : __libc_realloc(memory, size);
 }
 
-static unsigned long written(char *text, unsigned long place, unsigned long number, char end)
-{
-    text[--place] = end;
-    do {
-        text[--place] = '0' + number % 10;
-        number /= 10;
-    } while (number);
-    return place;
-}
-
+// (dprintf asks for no memory)
 __attribute__((destructor)) static void end(void)
 {
-    char text[72];
-    unsigned long place = written(text, sizeof text, asked, '\n');
-    place = written(text, place, refused, ' ');
-    place = written(text, place, counted, ' ');
-    write(2, text + place, sizeof text - place);
+    dprintf(2, "%lu %lu %lu\n", counted, refused, asked);
 }

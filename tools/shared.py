@@ -1,5 +1,5 @@
 """What the tools of this folder share: the crates, copies of the repository, commands and their processor time, tasks side by side."""
-import collections, contextlib, importlib.machinery, importlib.util, math, os, pathlib, re, shutil, signal, subprocess, sys, tempfile, threading, time
+import argparse, collections, contextlib, importlib.machinery, importlib.util, math, os, pathlib, re, shutil, signal, subprocess, sys, tempfile, threading, time
 import traceback
 from concurrent.futures import FIRST_COMPLETED, ThreadPoolExecutor, wait
 
@@ -10,6 +10,25 @@ COPIES = ROOT / "out" / "copies"
 RT = os.environ.get("RT", "rt")
 # a task: the least order starts first; its memory in bytes; a call that gives a list of further tasks
 Task = collections.namedtuple("Task", "order memory call")
+# what a session answers a command: lines, of which the last says how it went
+ANSWER = re.compile(r"(?:.*\n)*?(?:ok(?: .*)?|refused: .*)\n")
+
+
+def reader(about, many=None, **options):
+    """What reads a tool's words: many of a name, as ("crates", "*"), and options, each with what argparse is told of it, or its default, or None for a flag."""
+    parser = argparse.ArgumentParser(description=about, formatter_class=argparse.RawDescriptionHelpFormatter)
+    if many:
+        parser.add_argument(many[0], nargs=many[1], metavar=many[0][:-1].upper())
+    for name, told in options.items():
+        told = {"action": "store_true"} if told is None else told if isinstance(told, dict) else {"type": type(told), "default": told}
+        parser.add_argument(f"--{name}", **told)
+    return parser
+
+
+def say_count(passed, failed, skipped=0):
+    """Says how many passed, and returns the exit status."""
+    print(f"{passed} passed, {failed} failed" + (f", {skipped} skipped" if skipped else ""))
+    return int(failed > 0)
 
 
 def cache():
@@ -36,9 +55,9 @@ def rows_of(root):
     return {head.strip(): tail.split() for head, _, tail in rows if head.strip()}
 
 
-def crates_below(root=ROOT):
+def crates_below():
     """Each crate of crates.txt by name, with those that it stands on, lowest first and itself last."""
-    uses, found = rows_of(root), {}
+    uses, found = rows_of(ROOT), {}
 
     def below(name):
         if name not in found:
@@ -69,8 +88,7 @@ def folder_for_copies():
 
 @contextlib.contextmanager
 def copy_of(root, below, own=KEPT, lower=KEPT):
-    """A copy of a crate and of those below it, over what is kept of each, for as long as it is used. `below` has the crate's name last; `own` and `lower`
-    say what is taken of all that is kept of it and of the others."""
+    """A copy of a crate, whose name `below` has last, and of those below it, for as long as it is used, over what `own` and `lower` say of what is kept."""
     with folder_for_copies() as room:
         rows, at = rows_of(root), pathlib.Path(room)
         (at / "crates.txt").write_text("".join(f"{it}: {' '.join(rows[it])}\n" for it in below))
@@ -142,8 +160,8 @@ def processes():
 
 
 def run(words, folder, hear=lambda line: None, until=math.inf):
-    """Runs a command, and returns its status, what it says, and the processor seconds of all that it ran. `hear` is told each line. What it runs stands in
-    a session of its own, which ends at the time `until`."""
+    """Runs a command in a session of its own, which ends at the time `until`, and returns its status, what it says, and the processor seconds of all that
+    it ran. `hear` is told each line."""
     streams = {"stdin": subprocess.DEVNULL, "stdout": subprocess.PIPE, "stderr": subprocess.STDOUT, "errors": "replace"}
     process, said = subprocess.Popen([str(it) for it in words], cwd=folder, start_new_session=True, **streams), []
     late = threading.Timer(min(max(0, until - time.time()), threading.TIMEOUT_MAX), os.killpg, (process.pid, signal.SIGKILL))
@@ -188,8 +206,7 @@ def need(crate, root=ROOT):
 
 
 def side_by_side(coming, lanes):
-    """Runs tasks side by side, as many as there are lanes and free memory, the least order first: those that are coming, from a call that gives some, or
-    None once there will be no more, and those that tasks return."""
+    """Runs tasks, as many as there are lanes and free memory, the least order first: those that a call gives, until it gives None, and what tasks return."""
     pool, tasks, running, more = ThreadPoolExecutor(lanes), [], {}, []
     while tasks or running or more is not None:
         more = coming() if more is not None else None

@@ -18,13 +18,10 @@ WAITS = "its goals wait for a callee's proof"
 UNCOVERED = "the borrow checker does not cover this function"
 
 
-def complaint(said):
-    found = re.findall(r".*error.*", said) or [line for line in said.split("\n") if line.strip()] or ["nothing was said"]
-    return found[0][:200]
-
-
-def lines_of_functions(said):
-    return dict(re.findall(r"(?m)^fn (\S+): (.*)", said))
+complaint = lambda said: [*re.findall(r".*error.*", said), *filter(str.strip, said.split("\n")), "nothing was said"][0][:200]
+lines_of_functions = lambda said: dict(re.findall(r"(?m)^fn (\S+): (.*)", said))
+# what is wrong in files whose names begin so
+errors_in = lambda place, said: re.findall(rf"(?m)^(?:\./)?{place}\S*: error(?:: )?(.*)", said)
 
 
 def verdicts(batch, said):
@@ -32,7 +29,7 @@ def verdicts(batch, said):
     if not re.search(r"(?m)^(only=|logic=(not-)?proved)", said):
         return {}, set()
     lines = lines_of_functions(said)
-    failures = {name: of for name, of in ((it, failure(it, lines[it], said)) for it in lines) if of}
+    failures = {it: of for it, of in ((it, failure(it, line, said)) for it, line in lines.items()) if of}
     own = {it.name: [name for name in failures if any(is_of(name, s) for s in it.symbols)] for it in batch}
     told = {it.name: verdict(it, own[it.name], lines, failures, said) for it in batch}
     others = {*failures} - {name for it in own.values() for name in it}
@@ -47,13 +44,11 @@ def verdict(edit, own, lines, failures, said):
     edit.open, errors = open_goals(edit, own, failures, said)
     if edit.is_definition:
         # a law fails by its lemmas, on which its answers depend
-        found = re.findall(r"(?m)^(?:\./)?proofs/\S+: error: (.*)", said)
-        errors = [it for it in found if not DEPENDS.search(it)] or errors
+        errors = [it for it in errors_in("proofs/", said) if not DEPENDS.search(it)] or errors
     names = {it.name for it in edit.functions}
-    unclear = [it for it in own if "could not tell" in failures[it]]
-    # (a callee of its cycle isn't covered)
-    unclear += [it for it in own if failures[it].startswith("no proof") and "did not prove" not in failures[it]]
-    if edit.is_definition and re.search(r"(?m)^(?:\./)?specs/\S+: error", said):
+    # (or a callee of its cycle isn't covered)
+    unclear = [it for it in own if "could not tell" in failures[it] or failures[it].startswith("no proof") and "did not prove" not in failures[it]]
+    if edit.is_definition and errors_in("specs/", said):
         return BAD, "the definition that it leaves is none"
     if not all(s in lines for s in edit.symbols):
         return UNTRIED, "the check has no line of this function"
@@ -82,7 +77,7 @@ def open_goals(edit, own, failures, said):
         if any(it.file == file and it.first < int(line) <= it.last + 1 for it in edit.functions):
             found.setdefault(goal, rest)
     folders = "|".join(map(re.escape, edit.folders()))
-    answers = re.findall(rf"(?m)^(?:\./)?proofs/(?:{folders})/(?:Answers|Invariants|Proof)\.antt:\d+:\d+: error: (.*)", said)
+    answers = errors_in(rf"proofs/(?:{folders})/(?:Answers|Invariants|Proof)\.antt", said)
     named = [((re.findall(r"\A`(\S+?)`: ", text) or [""])[0], text) for text in answers]
     named += [(goal, "") for it in own for goal in re.findall(r"`(\S+?)`", failures[it].partition("did not prove")[2])]
     for goal, text in named:
@@ -112,7 +107,7 @@ def failure(symbol, line, said):
     if text == "not proved" and text != line:
         # a callee isn't proved: it fails by itself only where its answers do, or its cycle's
         places = "|".join(re.escape(it.replace(".", "/")) for it in (own, f"{module}.+"))
-        return text if re.search(rf"(?m)^(\./)?proofs/({places})\w*/\w+\.antt:\d+:\d+: error", said) else ""
+        return text if errors_in(rf"proofs/(?:{places})\w*/\w+\.antt", said) else ""
     return "" if text == "no proof" else text
 
 
