@@ -76,12 +76,37 @@ fn writes_of_a_session(rt: HostRuntime) {
     }
 }
 
+const TRIPLES: &[u8] =
+    b"_:x:y <http://e/p> \"a\\u0041\"@EN . # c\n<http://e/s><http://e/p>_:x:y.\n";
+
+const TRIPLES_CONVERTED: &[u8] =
+    b"_:b0 <http://e/p> \"aA\"@en .\n<http://e/s> <http://e/p> _:b0 .\n";
+
+// How many bytes of these lines are due where so many lines are wholly read.
+const TRIPLES_UP_TO: [usize; 3] = [0, 28, 61];
+
+// A document of the format, and what it is converted to.
+fn document(format: Format) -> (&'static [u8], &'static [u8]) {
+    match format {
+        Format::NQuads => (LINES, CONVERTED),
+        Format::NTriples => (TRIPLES, TRIPLES_CONVERTED),
+        Format::Turtle => (TURTLE, TURTLE_CONVERTED),
+    }
+}
+
 // Whether a conversion of lines that fails to read once writes what is due, and reads no more.
-fn conversion_read(alloc: Global, read: usize, failure: Ending) -> Option<bool> {
-    let mut reader = reader(LINES, read, failure);
+fn conversion_read(
+    alloc: Global,
+    format: Format,
+    ends: &[usize],
+    read: usize,
+    failure: Ending,
+) -> Option<bool> {
+    let (text, converted) = document(format);
+    let mut reader = reader(text, read, failure);
     let mut output = Vec::new(alloc);
-    let answer = convert(alloc, Format::NQuads, None, &mut reader, &mut output);
-    let wanted = due(LINES, read, &CONVERTED_UP_TO, CONVERTED)?;
+    let answer = convert(alloc, format, None, &mut reader, &mut output);
+    let wanted = due(text, read, ends, converted)?;
     Some(answer == Err(ConvertFault::Read) && output.as_slice() == wanted && is_last(&reader, read))
 }
 
@@ -89,10 +114,30 @@ fn conversion_read(alloc: Global, read: usize, failure: Ending) -> Option<bool> 
 fn reads_of_lines(rt: HostRuntime) {
     for read in 0..=LINES.len() {
         for failure in READ_FAILURES {
-            assert!(rt;
-                conversion_read(rt.alloc(), read, failure) == Some(true),
-                "{read}"
+            let quads = conversion_read(
+                rt.alloc(),
+                Format::NQuads,
+                &CONVERTED_UP_TO,
+                read,
+                failure,
             );
+            assert!(rt; quads == Some(true), "{read}");
+        }
+    }
+}
+
+#[test]
+fn reads_of_triples(rt: HostRuntime) {
+    for read in 0..=TRIPLES.len() {
+        for failure in READ_FAILURES {
+            let triples = conversion_read(
+                rt.alloc(),
+                Format::NTriples,
+                &TRIPLES_UP_TO,
+                read,
+                failure,
+            );
+            assert!(rt; triples == Some(true), "{read}");
         }
     }
 }
@@ -132,14 +177,7 @@ fn reads_of_checks(rt: HostRuntime) {
 
 // Whether a conversion that fails to write once has written what came before, and writes no more.
 fn conversion_written(alloc: Global, format: Format, written: usize, failure: Ending) -> bool {
-    let mut reader = match format {
-        Format::Turtle => TURTLE,
-        _ => LINES,
-    };
-    let output = match format {
-        Format::Turtle => TURTLE_CONVERTED,
-        _ => CONVERTED,
-    };
+    let (mut reader, output) = document(format);
     let mut writer = writer(alloc, written, failure);
     let answer = convert(alloc, format, None, &mut reader, &mut writer);
     answer == Err(ConvertFault::Write)
@@ -153,6 +191,18 @@ fn writes_of_lines(rt: HostRuntime) {
         for failure in WRITE_FAILURES {
             assert!(rt;
                 conversion_written(rt.alloc(), Format::NQuads, written, failure),
+                "{written}"
+            );
+        }
+    }
+}
+
+#[test]
+fn writes_of_triples(rt: HostRuntime) {
+    for written in 0..TRIPLES_CONVERTED.len() {
+        for failure in WRITE_FAILURES {
+            assert!(rt;
+                conversion_written(rt.alloc(), Format::NTriples, written, failure),
                 "{written}"
             );
         }
