@@ -14,7 +14,6 @@ pub mod NamedLemmas
 pub mod MemberLemmas
 pub mod SharedLemmas
 pub mod FollowLemmas
-pub mod StepLemmas
 pub mod TakenLemmas
 pub mod DistinctLemmas
 pub mod ColumnLemmas

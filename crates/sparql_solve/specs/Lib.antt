@@ -5,5 +5,4 @@ pub mod Matching
 pub mod Sides
 pub mod Members
 pub mod Under
-pub mod Steps
 pub mod Ask

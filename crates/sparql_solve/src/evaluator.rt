@@ -9,20 +9,18 @@ ghost use Rattle.sparql_algebra.specs.Algebra.{element, filtered, graph, group_o
 ghost use Rattle.sparql_algebra.specs.Solutions.{solutions};
 ghost use Rattle.sparql_solve.specs.Members.{AreSolutions, element_solutions};
 ghost use Rattle.sparql_values.specs.Mapping.{same_term};
-ghost use Rattle.sparql_solve.specs.Steps.{Begins};
 ghost use Rattle.sparql_solve.specs.Under.{AreMade, AreUnder, IsLookUpFor, IsLookUpOf, asked, is_joined, is_unit, masked, under_name};
 
 use crate::basic::{basic_under, own_columns};
 use crate::counted::Counted;
 use crate::filters::filtered_rows;
-use crate::look_ups::{Graphs, LookUp, is_named, lone_pattern, look_up_in};
+use crate::look_ups::{Graphs, LookUp, is_named, look_up_in};
 use crate::members::{is_joined, is_removed, look_up_of, removed_basic};
 use crate::names::{names_under, rows_of_names};
 use crate::rows::Row;
 use crate::shapes::{before_apart, group_reads};
 use crate::sharing::{asked_columns, gather, is_group, served_len, stops};
 use crate::sides::{Found, Made, asked, rows_beside, rows_looked_up, rows_served, rows_with};
-use crate::steps::{Begun, looks_single, nothing_begun, rows_stepped};
 use rdf_dataset::Source;
 use rdf_terms::{GraphName, NoMemory, Term, Text, Vocabulary};
 use sparql_trees::{Expression, Member, Pattern, VarOrIri};
@@ -131,41 +129,6 @@ fn made_directly<S: Source>(
     Ok(Some(made))
 }
 
-// What a member makes of the first rows by look-ups of one triple pattern under each of them, where
-// the row above binds nothing and the member is found so; else all rows are left.
-fn begun_directly<S: Source>(
-    alloc: Global,
-    variables: &[Text],
-    vocabulary: &Vocabulary,
-    graph: &GraphName,
-    source: &S,
-    looked: &Cell<u64>,
-    rows: Vec<Row>,
-    member: &Member,
-    under: &Row,
-) -> Result<Begun, NoMemory>
-    ensures { IfOk result (λ b. Begins variables.now (S.contents source.now) graph.now under.now
-        (element member.now) rows.items b.rows.items b.rest.items) }
-{
-    if !looks_single(member) || !under.is_unbound() {
-        return Ok(nothing_begun(alloc, rows));
-    }
-    let Some(look_up) = direct_look_up(alloc, variables, graph, source, member, under)? else {
-        return Ok(nothing_begun(alloc, rows));
-    };
-    let Some(places) = lone_pattern(&look_up) else {
-        return Ok(nothing_begun(alloc, rows));
-    };
-    let Graphs::One(own_graph) = &look_up.graphs else {
-        return Ok(nothing_begun(alloc, rows));
-    };
-    let own = own_columns(alloc, variables.len(), look_up.places.as_slice())?;
-    rows_stepped(
-        alloc, variables, vocabulary, graph, own_graph, source, looked, rows, &look_up, places,
-        &own, member, under,
-    )
-}
-
 // A group: its members under its own filters, which are asked of its own rows.
 #[cycle(follow)]
 fn group_under<S: Source>(
@@ -254,51 +217,6 @@ pub(crate) fn rows_after<S: Source>(
     ensures { IfOk result (λ out. AreMade variables.now (S.contents source.now) graph.now under.now
         (element member.now) rows.items out.items) }
 {
-    let begun = begun_directly(
-        alloc, variables, vocabulary, graph, source, looked, rows, member, under,
-    )?;
-    if begun.rest.is_empty() {
-        return Ok(begun.rows);
-    }
-    let mut out = begun.rows;
-    let mut more = rows_behind(
-        alloc,
-        variables,
-        vocabulary,
-        graph,
-        source,
-        looked,
-        begun.rest,
-        begun.is_slow,
-        member,
-        under,
-    )?;
-    out.append(&mut more)?;
-    Ok(out)
-}
-
-// What a member makes of rows that are found otherwise, or where look-ups for each would be slow.
-#[cycle(follow)]
-fn rows_behind<S: Source>(
-    alloc: Global,
-    variables: &[Text],
-    vocabulary: &Vocabulary,
-    graph: &GraphName,
-    source: &S,
-    looked: &Cell<u64>,
-    rows: Vec<Row>,
-    is_slow: bool,
-    member: &Member,
-    under: &Row,
-) -> Result<Vec<Row>, NoMemory>
-    ensures { IfOk result (λ out. AreMade variables.now (S.contents source.now) graph.now under.now
-        (element member.now) rows.items out.items) }
-{
-    if is_slow {
-        return rows_gathered(
-            alloc, variables, vocabulary, graph, source, looked, rows, member, under,
-        );
-    }
     let direct = made_directly(
         alloc, variables, vocabulary, graph, source, looked, &rows, member, under,
     )?;

@@ -27,7 +27,6 @@ mod rows;
 mod shapes;
 mod sharing;
 mod sides;
-mod steps;
 
 pub use keys::runs_give_merges;
 pub use laws::{look_ups_are_merges, rows_are_followed};

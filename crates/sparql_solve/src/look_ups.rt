@@ -101,8 +101,8 @@ pub(crate) fn look_up_in(
     })
 }
 
-/// The only triple pattern, where there are no hidden variables.
-pub(crate) fn lone_pattern(look_up: &LookUp) -> Option<&Places>
+// The only triple pattern, where there are no hidden variables.
+fn lone_pattern(look_up: &LookUp) -> Option<&Places>
     ensures alone { IfSome (option_copied result) (λ p. look_up.now.places ≡ p ∷ []) }
     ensures shown { IfSome result (λ _. look_up.now.hidden ≡ 0) }
 {

@@ -71,9 +71,9 @@ pub(crate) fn copies_matched(
     Ok(out)
 }
 
-/// Appends the rows that the triples make of a row under which they were looked up: the last one of
-/// the row itself.
-pub(crate) fn append_matches(
+// Appends the rows that the triples make of a row under which they were looked up: the last one of
+// the row itself.
+fn append_matches(
     alloc: Global,
     mut row: Row,
     places: &Places,
@@ -94,8 +94,8 @@ pub(crate) fn append_matches(
     Ok(())
 }
 
-/// Whether the rows have the same at the places.
-pub(crate) fn asks_same(row: &Row, other: &Row, places: &Places) -> bool
+// Whether the rows have the same at the places.
+fn asks_same(row: &Row, other: &Row, places: &Places) -> bool
     ensures { IsTrue result → AsksSame places.now row.now other.now }
 {
     row.holds_same(other, &places.subject)
@@ -103,8 +103,8 @@ pub(crate) fn asks_same(row: &Row, other: &Row, places: &Places) -> bool
         && row.holds_same(other, &places.object)
 }
 
-/// The quads of the graph that have the terms which the row has at the places, in place of others.
-pub(crate) fn quads_under<S: Source>(
+// The quads of the graph that have the terms which the row has at the places.
+fn quads_under<S: Source>(
     graph: &GraphName,
     source: &S,
     places: &Places,

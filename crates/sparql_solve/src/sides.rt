@@ -92,9 +92,9 @@ fn where_none(alloc: Global, row: &Row, merged: &[Row]) -> Result<Vec<Row>, NoMe
     Ok(out)
 }
 
-/// What a member makes of a row, whose merges with what counts for it these are. The filters of
-/// OPTIONAL's own group are its condition.
-pub(crate) fn passed_rows(
+// What a member makes of a row, whose merges with what counts for it these are. The filters of
+// OPTIONAL's own group are its condition.
+fn passed_rows(
     alloc: Global,
     variables: &[Text],
     vocabulary: &Vocabulary,

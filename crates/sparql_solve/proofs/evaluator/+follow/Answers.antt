@@ -11,7 +11,6 @@ use Rattle.sparql_solve.proofs.ApartLemmas as apart
 use Rattle.sparql_solve.proofs.FollowLemmas as follow
 use Rattle.sparql_solve.proofs.SideLemmas.{done_gives}
 use Rattle.sparql_solve.proofs.MemberLemmas.{more_gives}
-use Rattle.sparql_solve.proofs.StepLemmas as step
 use Rattle.sparql_solve.proofs.evaluator.+follow.Goals as goal
 
 pub group_under-returns : goal.group_under-returns
@@ -44,29 +43,16 @@ first_under-returns g t c =
     apart.so_many c.args.variables.now (g.S.Source.contents c.args.source.now) c.args.graph.now c.args.under.now c.args.members.now c.loop-place.place
     c.args.many c.loop-place.rows.items (omega arith) c.loop-place.invariant
 
-pub rows_after-returns-then-is_empty : goal.rows_after-returns-then-is_empty
-rows_after-returns-then-is_empty g t c =
-    step.begins_all c.args.variables.now (g.S.Source.contents c.args.source.now) c.args.graph.now c.args.under.now (element c.args.member.now)
-    c.args.rows.items c.in_ok-begun.begun.rows.items c.in_ok-begun.begun.rest.items
-    (step.none_in _ c.in_ok-begun.begun.rest.items (sym c.is_empty.ensures ∙ c.if-is_empty.true) (omega (arith, c.in_ok-begun.begun.rest.ok.0)))
-    c.in_ok-begun.ensures
-
-pub rows_after-returns : goal.rows_after-returns
-rows_after-returns g t c =
-    step.begins_more c.args.variables.now (g.S.Source.contents c.args.source.now) c.args.graph.now c.args.under.now (element c.args.member.now)
-    c.args.rows.items c.in_ok-begun.begun.rows.items c.in_ok-begun.begun.rest.items c.in_ok-more.more.items c.append.new.self.items
-    c.in_ok-append.ensures.items c.in_ok-begun.ensures c.in_ok-more.ensures
-
-pub rows_behind-returns-in-Some : goal.rows_behind-returns-in-Some
-rows_behind-returns-in-Some g t c =
+pub rows_after-returns-in-Some : goal.rows_after-returns-in-Some
+rows_after-returns-in-Some g t c =
     IfOk-weaker c.with_others.result _ _
     (λ out h. follow.direct_follows c.args.variables.now (g.S.Source.contents c.args.source.now) c.args.graph.now c.args.under.now
     (element c.args.member.now) c.args.rows.items c.deref.result.now out.items c.in_ok-direct.direct c.in-Some.made c.deref.ensures.value c.in-Some.is
     c.in_ok-direct.ensures h)
     c.with_others.ensures
 
-pub rows_behind-returns-then-is_first : goal.rows_behind-returns-then-is_first
-rows_behind-returns-then-is_first g t c =
+pub rows_after-returns-then-is_first : goal.rows_after-returns-then-is_first
+rows_after-returns-then-is_first g t c =
     IfOk-weaker c.member_under.result _ _
     (λ out h. follow.first_follows c.args.variables.now (g.S.Source.contents c.args.source.now) c.args.graph.now c.args.under.now
     (element c.args.member.now) c.args.rows.items c.deref-2.result.now out.items c.is_first.result c.deref-2.ensures.value c.is_first.ensures
