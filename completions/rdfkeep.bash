@@ -29,10 +29,10 @@ _rdfkeep() {
                     return
                 fi
                 case ${COMP_WORDS[1]} in
-                    run) words='--base --data --depth --format --stop' ;;
-                    convert | check) words='--base --from' ;;
-                    query) words='--base --data --format --results' ;;
-                    update) words='--base --changes --data --format --to' ;;
+                    run) words='--base --data --depth --format --progress --stop' ;;
+                    convert | check) words='--base --from --progress' ;;
+                    query) words='--base --data --format --progress --results' ;;
+                    update) words='--base --changes --data --format --progress --to' ;;
                     *) return ;;
                 esac
                 words+=' --help --version'

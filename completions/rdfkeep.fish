@@ -26,6 +26,7 @@ complete -c rdfkeep -n 'not __rdfkeep_does help' -s V -l version -d 'Print the v
 
 complete -c rdfkeep -n "__rdfkeep_does $commands" -F
 complete -c rdfkeep -n "__rdfkeep_does $commands" -l base -x -d 'What relative references are resolved against'
+complete -c rdfkeep -n "__rdfkeep_does $commands" -l progress -d 'Show how many bytes of a document are read'
 complete -c rdfkeep -n '__rdfkeep_does run query update' -l data -r -F -d 'A file that is loaded, or restored, first'
 complete -c rdfkeep -n '__rdfkeep_does run query update' -l format -x -a "$formats state" -d 'The format of the start data'
 complete -c rdfkeep -n '__rdfkeep_does run' -l depth -x -d 'Keep the last loads and updates to take back'

@@ -3,5 +3,6 @@ pub mod Asks
 pub mod Once
 pub mod Outcomes
 pub mod Starts
+pub mod Told
 pub mod Says
 pub mod WriteFaults

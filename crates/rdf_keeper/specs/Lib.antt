@@ -1,3 +1,4 @@
 pub mod Examples
 pub mod Inside
+pub mod Progress
 pub mod Script

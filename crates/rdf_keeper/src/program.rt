@@ -1,5 +1,5 @@
 //! The whole program, over its words, its standard input, output and error.
-ghost use Rattle.std.specs.Prelude.{◌≡◌, ◌≢◌, ◌≤◌, ℕ, List, [], Option, Some, Result, IfOk, MatchOption};
+ghost use Rattle.std.specs.Prelude.{◌≡◌, ◌≢◌, ◌≤◌, ℕ, List, [], Option, Some, Result, IfOk, IsTrue, MatchOption, string_bytes};
 ghost use Rattle.rdf_dataset.specs.State.{empty_state};
 ghost use Rattle.std.specs.List.{concat};
 ghost use Rattle.std.specs.Option.{option_copied};
@@ -7,6 +7,7 @@ ghost use Rattle.std.specs.Io.KnownBytes.{Appends};
 ghost use Rattle.rdf_streams.specs.Conversion.Converts.{Converts};
 ghost use Rattle.rdf_keeper.specs.Inside.Outcomes.{status_of, outcome_of};
 ghost use Rattle.rdf_keeper.specs.Inside.Starts.{BeginsWith, outcome_after};
+ghost use Rattle.rdf_keeper.specs.Progress.{AsksProgress};
 ghost use Rattle.rdf_keeper.specs.Script.Runs.{RunsOver};
 ghost use Rattle.rdf_keeper.specs.declared.script.status.Status.{Status};
 ghost use Rattle.rdf_session.specs.Session.{Session, fresh, with_depth};
@@ -19,12 +20,14 @@ mod once;
 mod once_words;
 mod outcome;
 mod several;
+mod watch;
 mod words;
 
 use crate::program::check::check_words;
 use crate::program::data::{begun, bounded, depth_of};
 use crate::program::once::{query_words, update_words};
 use crate::program::outcome::{Outcome, outcome_of, report};
+use crate::program::watch::{Progress, silent, size_of};
 use crate::program::words::{Asked, ConvertWords, RunWords, WordsFault, read_words};
 use crate::script::{Settings, Status, run};
 use rdf_session::{Format, Keeper};
@@ -50,7 +53,12 @@ fn base_of(alloc: Global, word: Option<&str>) -> Result<Option<Iri>, Outcome>
 }
 
 // The session that the words begin with.
-fn session_of<T: Files>(rt: &T, alloc: Global, words: RunWords<'_>) -> Result<Keeper, Outcome>
+fn session_of<T: Files, P: Write>(
+    rt: &T,
+    alloc: Global,
+    words: RunWords<'_>,
+    progress: &mut Progress<P>,
+) -> Result<Keeper, Outcome>
     ensures { IfOk result (λ keeper. (base : Option (List ℕ)) × (start : Session)
         × (base ≡ option_copied words.entry.base)
         × MatchOption words.entry.data (start ≡ fresh base (empty_state 0))
@@ -59,7 +67,7 @@ fn session_of<T: Files>(rt: &T, alloc: Global, words: RunWords<'_>) -> Result<Ke
 {
     let depth = depth_of(words.depth)?;
     let base = base_of(alloc, words.base)?;
-    let keeper = begun(rt, alloc, base, words.data, words.format)?;
+    let keeper = begun(rt, alloc, base, words.data, words.format, progress)?;
     Ok(bounded(keeper, depth))
 }
 
@@ -87,17 +95,20 @@ fn run_all<R: Read + Drop, W: Write>(
     }
 }
 
-fn run_words<T: Files, R: Read + Drop, W: Write>(
+fn run_words<T: Files, R: Read + Drop, W: Write, P: Write>(
     rt: &T,
     alloc: Global,
     words: RunWords<'_>,
     reader: R,
     writer: &mut W,
+    progress: &mut Progress<P>,
 ) -> Outcome
     ensures { status_of result ≡ 2 →
         Appends (W.contents writer.old) (W.contents writer.new) [] }
 {
-    let keeper = match session_of(rt, alloc, words) {
+    let started = session_of(rt, alloc, words, progress);
+    progress.clear();
+    let keeper = match started {
         Ok(keeper) => keeper,
         Err(outcome) => return outcome,
     };
@@ -128,12 +139,33 @@ fn convert_all<R: Read + Drop, W: Write>(
     outcome_of(convert(alloc, format, base, &mut reader, writer))
 }
 
-fn convert_words<T: Files, R: Read + Drop, W: Write>(
+// The same, where it is told meanwhile how far the document is read: that changes nothing of it.
+fn convert_told<R: Read + Drop, W: Write, P: Write>(
+    alloc: Global,
+    format: Format,
+    base: Option<Iri>,
+    reader: R,
+    writer: &mut W,
+    progress: &mut Progress<P>,
+) -> Outcome
+    ensures told { status_of result ≢ 2 }
+    ensures written { (text : List ℕ) → R.remaining reader ≡ Some text →
+        (out : List ℕ) × (left : Option (List ℕ)) × (answer : Result (Unit {0}) ConvertFault)
+        × Appends (W.contents writer.old) (W.contents writer.new) out
+        × Converts format base text left out answer × (result ≡ outcome_of answer) }
+{
+    let outcome = convert_all(alloc, format, base, progress.watch(reader), writer);
+    progress.clear();
+    outcome
+}
+
+fn convert_words<T: Files, R: Read + Drop, W: Write, P: Write>(
     rt: &T,
     alloc: Global,
     words: ConvertWords<'_>,
     reader: R,
     writer: &mut W,
+    progress: &mut Progress<P>,
 ) -> Outcome
     ensures { status_of result ≡ 2 →
         Appends (W.contents writer.old) (W.contents writer.new) [] }
@@ -143,9 +175,12 @@ fn convert_words<T: Files, R: Read + Drop, W: Write>(
         Err(outcome) => return outcome,
     };
     match words.file {
-        None => convert_all(alloc, words.from, base, reader, writer),
+        None => convert_told(alloc, words.from, base, reader, writer, progress),
         Some(path) => match fs::open(rt, path) {
-            Ok(file) => convert_all(alloc, words.from, base, file, writer),
+            Ok(file) => {
+                progress.begin(size_of(&file));
+                convert_told(alloc, words.from, base, file, writer, progress)
+            }
             Err(_) => Outcome::ReadFailed,
         },
     }
@@ -160,7 +195,66 @@ fn show<W: Write>(text: &str, writer: &mut W) -> Outcome
     }
 }
 
-// Does what the words ask for.
+// Does what the words ask for, and tells how far documents are read.
+fn do_asked<T: Files + AllocGlobal, R: Read + Drop, W: Write, P: Write>(
+    rt: &T,
+    asked: Asked<'_>,
+    reader: R,
+    writer: &mut W,
+    progress: &mut Progress<P>,
+) -> Outcome
+    ensures silent { status_of result ≡ 2 →
+        Appends (W.contents writer.old) (W.contents writer.new) [] }
+{
+    let alloc = rt.alloc();
+    match asked {
+        Asked::Run(words) => run_words(rt, alloc, words, reader, writer, progress),
+        Asked::Convert(words) => convert_words(rt, alloc, words, reader, writer, progress),
+        Asked::Query(words) => query_words(rt, alloc, &words, reader, writer, progress),
+        Asked::Update(words) => update_words(rt, alloc, &words, reader, writer, progress),
+        Asked::Check(words) => check_words(rt, alloc, &words, reader, writer, progress),
+        Asked::Shown(text) => show(text.as_str(), writer),
+    }
+}
+
+// Whether `--progress` stands among the words that may be options: those behind `--` are files.
+fn has_progress_word(words: &[String]) -> bool
+    ensures { IsTrue result → AsksProgress string_bytes words.now }
+{
+    for word in words {
+        if word.as_str() == "--progress" {
+            return true;
+        }
+        if word.as_str() == "--" {
+            return false;
+        }
+    }
+    false
+}
+
+// Does what the words ask for, and tells on standard error how far documents are read where they ask for that too.
+fn answer_asked<T: Files + AllocGlobal, R: Read + Drop, W: Write, E: Write>(
+    rt: &T,
+    words: &[String],
+    asked: Asked<'_>,
+    reader: R,
+    writer: &mut W,
+    errors: &mut E,
+) -> Outcome
+    ensures silent { status_of result ≡ 2 →
+        Appends (W.contents writer.old) (W.contents writer.new) [] }
+    ensures quiet { (AsksProgress string_bytes words.now → ⊥) →
+        Appends (E.contents errors.old) (E.contents errors.new) [] }
+{
+    // (that the word is there is what the contract knows of its option)
+    if asked.has_progress() && has_progress_word(words) {
+        do_asked(rt, asked, reader, writer, &mut Progress::new(errors))
+    } else {
+        do_asked(rt, asked, reader, writer, &mut silent())
+    }
+}
+
+// Answers words, also those that ask for nothing.
 fn answer_words<T: Files + AllocGlobal, R: Read + Drop, W: Write, E: Write>(
     rt: &T,
     words: &[String],
@@ -171,16 +265,11 @@ fn answer_words<T: Files + AllocGlobal, R: Read + Drop, W: Write, E: Write>(
     ensures silent { status_of result ≡ 2 →
         Appends (W.contents writer.old) (W.contents writer.new) [] }
     ensures quiet { status_of result ≡ 0 →
+        (AsksProgress string_bytes words.now → ⊥) →
         Appends (E.contents errors.old) (E.contents errors.new) [] }
 {
-    let alloc = rt.alloc();
-    match read_words(alloc, words) {
-        Ok(Asked::Run(asked)) => run_words(rt, alloc, asked, reader, writer),
-        Ok(Asked::Convert(asked)) => convert_words(rt, alloc, asked, reader, writer),
-        Ok(Asked::Query(asked)) => query_words(rt, alloc, &asked, reader, writer),
-        Ok(Asked::Update(asked)) => update_words(rt, alloc, &asked, reader, writer),
-        Ok(Asked::Check(asked)) => check_words(rt, alloc, &asked, reader, writer),
-        Ok(Asked::Shown(text)) => show(text.as_str(), writer),
+    match read_words(rt.alloc(), words) {
+        Ok(asked) => answer_asked(rt, words, asked, reader, writer, errors),
         Err(WordsFault::Usage(text)) => {
             let _ = write_whole(errors, text.as_str().as_bytes());
             Outcome::BadWords
@@ -207,6 +296,9 @@ fn answer_words<T: Files + AllocGlobal, R: Read + Drop, W: Write, E: Write>(
 ///
 /// Faults are found in this order: the words, the base, the start data (each opened, read, loaded), the script (opened),
 /// and then those of the session; or the query or the request (opened, read, answered), and then those of writing.
+///
+/// With `--progress` standard error tells how many bytes of a document are read, while it is read, and is cleared of that before
+/// anything else is written on it. What standard output gets and the status don't depend on it.
 pub fn start<T: Files + AllocGlobal, R: Read + Drop, W: Write, E: Write>(
     rt: &T,
     words: &[String],
@@ -217,8 +309,10 @@ pub fn start<T: Files + AllocGlobal, R: Read + Drop, W: Write, E: Write>(
     ensures status { result ≤ 4 }
     // where the words, the base or the start data are wrong, nothing is written
     ensures silent { result ≡ 2 → Appends (W.contents writer.old) (W.contents writer.new) [] }
-    // where all went well, nothing is complained of
-    ensures quiet { result ≡ 0 → Appends (E.contents errors.old) (E.contents errors.new) [] }
+    // where all went well, nothing is complained of, nor told where no word asks for it
+    ensures quiet { result ≡ 0 →
+        (AsksProgress string_bytes words.now → ⊥) →
+        Appends (E.contents errors.old) (E.contents errors.new) [] }
 {
     let outcome = answer_words(rt, words, reader, writer, errors);
     report(&outcome, errors)

@@ -5,7 +5,8 @@ use rdf_keeper::{ConvertFault, Format, convert};
 use rdf_terms::Iri;
 use std::alloc::Global;
 
-const LINES: &[u8] =
+/// A document of four lines, in N-Quads.
+pub const LINES: &[u8] =
     b"<http://e/s> <http://e/p> \"a\\u0041\\\"b\"@EN-us <http://e/g> . # c\n_:x:y <http://e/p> _:z1 .\n<http://e/s><http://e/p>_:x:y.\n<http://e/s> <http://e/p> \"1\"^^<http://www.w3.org/2001/XMLSchema#string> .\n";
 
 const LINES_OUT: &[u8] =
@@ -15,7 +16,8 @@ const TRIPLES: &[u8] = b"_:x <a:p> \"\\u0041\"@EN .\n_:y <a:p> _:x .\n";
 
 const TRIPLES_OUT: &[u8] = b"_:b0 <a:p> \"A\"@en .\n_:b1 <a:p> _:b0 .\n";
 
-const TURTLE: &[u8] = b"@prefix p: <x> . <s> p:p 1. _:a <p> ( [] ), \"\\n\"@EN .";
+/// A document of five triples, in Turtle.
+pub const TURTLE: &[u8] = b"@prefix p: <x> . <s> p:p 1. _:a <p> ( [] ), \"\\n\"@EN .";
 
 const TURTLE_OUT: &[u8] =
     b"<a:s> <a:xp> \"1\"^^<http://www.w3.org/2001/XMLSchema#integer> .\n_:b0 <a:p> _:b1 .\n_:b1 <http://www.w3.org/1999/02/22-rdf-syntax-ns#first> _:b2 .\n_:b1 <http://www.w3.org/1999/02/22-rdf-syntax-ns#rest> <http://www.w3.org/1999/02/22-rdf-syntax-ns#nil> .\n_:b0 <a:p> \"\\n\"@en .\n";

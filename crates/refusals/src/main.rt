@@ -5,6 +5,7 @@
 #![tactic(auto)]
 
 mod alike;
+mod checks;
 mod command;
 mod conversions;
 mod datasets;
@@ -28,7 +29,7 @@ use std::alloc::Global;
 use std::io;
 
 // The parts that `own` has; behind them are the trials.
-const OWN: usize = 13;
+const OWN: usize = 15;
 
 fn main(rt: HostRuntime) -> io::Result<()> {
     run_parts(&rt, OWN + TRIALS.len(), line)
@@ -59,6 +60,8 @@ fn own(alloc: Global, part: usize) -> Told {
         9 => without_memory::datasets::outcome(alloc),
         10 => without_memory::sessions::outcome(alloc),
         11 => without_memory::names::outcome(alloc),
-        _ => Told::new(states::outcome(alloc)),
+        12 => Told::new(states::outcome(alloc)),
+        13 => checks::quads(alloc),
+        _ => checks::turtle(alloc),
     }
 }

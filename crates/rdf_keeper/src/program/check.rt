@@ -1,5 +1,5 @@
 //! Documents that are checked.
-ghost use Rattle.std.specs.Prelude.{◌≡◌, ◌≢◌, ◌++◌, [], List, ℕ, Result, IfErr, Err};
+ghost use Rattle.std.specs.Prelude.{◌≡◌, ◌≢◌, ◌++◌, [], List, ℕ, Some, Result, IfErr, Err};
 ghost use Rattle.std.specs.Option.{option_copied};
 ghost use Rattle.std.specs.Io.KnownBytes.{Appends};
 ghost use Rattle.rdf_streams.specs.Checks.{Checks};
@@ -10,6 +10,7 @@ ghost use Rattle.rdf_streams.specs.declared.conversion.fault.ConvertFault.{Conve
 use crate::program::base_of;
 use crate::program::once_words::{CheckWords, INPUT};
 use crate::program::outcome::{Outcome, document_fault_name};
+use crate::program::watch::{Progress, Watched, size_of};
 use crate::short_line::{append, append_place};
 use arrayvec::ArrayVec;
 use itoa::Buffer;
@@ -101,27 +102,28 @@ fn tell_answer<W: Write>(
     }
 }
 
-// Checks the document of a reader, writes its line, and answers whether it is sound.
-fn check_one<R: Read, W: Write>(
+// Checks the document of a reader, writes its line, and answers whether it is sound. What was told meanwhile is cleared before.
+fn check_one<R: Read, W: Write, P: Write>(
     alloc: Global,
     format: Format,
     base: Option<&Iri>,
     name: &str,
-    reader: &mut R,
+    reader: &mut Watched<'_, R, P>,
     writer: &mut W,
 ) -> Result<bool, Outcome>
     ensures told { IfErr result (λ outcome. status_of outcome ≢ 2) }
-    ensures written { (text : List ℕ) → R.remaining reader.old ≡ Some text →
+    ensures written { (text : List ℕ) → R.remaining reader.old.reader ≡ Some text →
         (answer : Result ℕ ConvertFault)
-        × Checks format (option_copied base.entry) text (R.remaining reader.new) answer
+        × Checks format (option_copied base.entry) text (R.remaining reader.new.reader) answer
         × WritesCheck name.now (W.contents writer.old) answer result (W.contents writer.new) }
 {
     let answer = check(alloc, format, base, reader);
+    reader.clear();
     tell_answer(name, answer, writer)
 }
 
 // Checks a file, or standard input.
-fn check_file<T: Files, R: Read, W: Write>(
+fn check_file<T: Files, R: Read, W: Write, P: Write>(
     rt: &T,
     alloc: Global,
     format: Format,
@@ -129,25 +131,33 @@ fn check_file<T: Files, R: Read, W: Write>(
     path: &str,
     reader: &mut R,
     writer: &mut W,
+    progress: &mut Progress<P>,
 ) -> Result<bool, Outcome>
     ensures { IfErr result (λ outcome. status_of outcome ≢ 2) }
 {
     if path == INPUT {
-        return check_one(alloc, format, base, path, reader, writer);
+        progress.begin(None);
+        let mut input = progress.watch(reader);
+        return check_one(alloc, format, base, path, &mut input, writer);
     }
     match fs::open(rt, path) {
-        Ok(mut file) => check_one(alloc, format, base, path, &mut file, writer),
+        Ok(file) => {
+            progress.begin(size_of(&file));
+            let mut file = progress.watch(file);
+            check_one(alloc, format, base, path, &mut file, writer)
+        }
         Err(_) => Err(Outcome::ReadFailed),
     }
 }
 
 /// Checks files, one behind another.
-pub(crate) fn check_words<T: Files, R: Read + Drop, W: Write>(
+pub(crate) fn check_words<T: Files, R: Read + Drop, W: Write, P: Write>(
     rt: &T,
     alloc: Global,
     words: &CheckWords<'_>,
     mut reader: R,
     writer: &mut W,
+    progress: &mut Progress<P>,
 ) -> Outcome
     ensures { status_of result ≡ 2 →
         Appends (W.contents writer.old) (W.contents writer.new) [] }
@@ -156,23 +166,32 @@ pub(crate) fn check_words<T: Files, R: Read + Drop, W: Write>(
         Ok(base) => base,
         Err(outcome) => return outcome,
     };
-    check_files(rt, alloc, words, base.as_ref(), &mut reader, writer)
+    check_files(
+        rt,
+        alloc,
+        words,
+        base.as_ref(),
+        &mut reader,
+        writer,
+        progress,
+    )
 }
 
 // The same, against a base.
-fn check_files<T: Files, R: Read, W: Write>(
+fn check_files<T: Files, R: Read, W: Write, P: Write>(
     rt: &T,
     alloc: Global,
     words: &CheckWords<'_>,
     base: Option<&Iri>,
     reader: &mut R,
     writer: &mut W,
+    progress: &mut Progress<P>,
 ) -> Outcome
     ensures { status_of result ≢ 2 }
 {
     let mut refused = false;
     for path in words.files.as_slice() {
-        match check_file(rt, alloc, words.from, base, path, reader, writer) {
+        match check_file(rt, alloc, words.from, base, path, reader, writer, progress) {
             Ok(true) => {}
             Ok(false) => refused = true,
             Err(outcome) => return outcome,

@@ -12,6 +12,7 @@ ghost use Rattle.rdf_session.specs.Session.{Session, fresh, with_depth};
 
 use crate::program::once_words::INPUT;
 use crate::program::outcome::Outcome;
+use crate::program::watch::{Progress, size_of};
 use crate::program::words::StartFormat;
 use rdf_lines::StateFault;
 use rdf_session::{Format, Keeper, KeeperFault};
@@ -19,7 +20,7 @@ use rdf_streams::{Ending, read_all};
 use rdf_terms::Iri;
 use std::alloc::Global;
 use std::fs;
-use std::io::Read;
+use std::io::{Read, Write};
 use std::rt::Files;
 
 // The greatest depth of a history.
@@ -116,37 +117,48 @@ fn all_of<R: Read>(alloc: Global, reader: &mut R) -> Result<Vec<u8>, Outcome>
 }
 
 /// The bytes of a file.
-pub(crate) fn text_of<T: Files>(rt: &T, alloc: Global, path: &str) -> Result<Vec<u8>, Outcome>
+pub(crate) fn text_of<T: Files, P: Write>(
+    rt: &T,
+    alloc: Global,
+    path: &str,
+    progress: &mut Progress<P>,
+) -> Result<Vec<u8>, Outcome>
     ensures { IfErr result (λ outcome. status_of outcome ≢ 2) }
 {
     match fs::open(rt, path) {
-        Ok(mut file) => all_of(alloc, &mut file),
+        Ok(file) => {
+            progress.begin(size_of(&file));
+            all_of(alloc, &mut progress.watch(file))
+        }
         Err(_) => Err(Outcome::ReadFailed),
     }
 }
 
 /// The bytes of a file, or of standard input, which is called `-`.
-pub(crate) fn text_named<T: Files, R: Read>(
+pub(crate) fn text_named<T: Files, R: Read, P: Write>(
     rt: &T,
     alloc: Global,
     path: &str,
     reader: &mut R,
+    progress: &mut Progress<P>,
 ) -> Result<Vec<u8>, Outcome>
     ensures { IfErr result (λ outcome. status_of outcome ≢ 2) }
 {
     if path == INPUT {
-        return all_of(alloc, reader);
+        progress.begin(None);
+        return all_of(alloc, &mut progress.watch(reader));
     }
-    text_of(rt, alloc, path)
+    text_of(rt, alloc, path, progress)
 }
 
 /// A session without history over the data of a file, or over none.
-pub(crate) fn begun<T: Files>(
+pub(crate) fn begun<T: Files, P: Write>(
     rt: &T,
     alloc: Global,
     base: Option<Iri>,
     path: Option<&str>,
     format: StartFormat,
+    progress: &mut Progress<P>,
 ) -> Result<Keeper, Outcome>
     ensures start { IfOk result (λ keeper. MatchOption path.entry
         (keeper ≡ fresh base (empty_state 0))
@@ -157,7 +169,7 @@ pub(crate) fn begun<T: Files>(
     match path {
         None => Ok(Keeper::new(alloc, base)),
         Some(path) => {
-            let text = text_of(rt, alloc, path)?;
+            let text = text_of(rt, alloc, path, progress)?;
             over_data(alloc, base, format, text)
         }
     }

@@ -6,8 +6,29 @@ pub(crate) const NAME: &str = "rdfkeep";
 /// The version of the program.
 pub(crate) const VERSION: &str = "0.1.0";
 
-/// What the program is for.
-pub(crate) const ABOUT: &str = "Keeps an RDF dataset, and takes back what was changed";
+/// What the program is for, and its words in groups, each with the first line of its own text.
+pub(crate) const HELP: &str = "\
+Keeps an RDF dataset, and takes back what was changed
+
+Usage: rdfkeep <COMMAND>
+
+Scripts:
+  run      Runs a script of commands on a dataset, and prints an answer to each
+
+One question, one change, one check:
+  query    Answers one query of data
+  update   Applies one request to data, and writes the dataset behind it
+  check    Reads documents, and says of each how many statements it has
+
+Conversion:
+  convert  Writes each statement of a document as a canonical line of N-Quads
+
+Help:
+  help     Print this message or the help of the given subcommand(s)
+
+Options:
+  -h, --help     Print help
+  -V, --version  Print version";
 
 /// What `run` does, in one line.
 pub(crate) const RUN_ABOUT: &str =

@@ -15,6 +15,7 @@ use crate::program::data::text_named;
 use crate::program::once_words::{DataWords, QueryWords, UpdateWords};
 use crate::program::outcome::Outcome;
 use crate::program::several::begun_with_all;
+use crate::program::watch::{Progress, silent};
 use crate::script::answer::append_topic;
 use crate::script::command::Topic;
 use rdf_session::{Keeper, KeeperFault, ResultsFormat};
@@ -92,54 +93,61 @@ fn write_update<W: Write>(
 }
 
 // The session that words begin with.
-fn session_with<T: Files, R: Read>(
+fn session_with<T: Files, R: Read, P: Write>(
     rt: &T,
     alloc: Global,
     base: Option<&str>,
     data: &DataWords<'_>,
     reader: &mut R,
+    progress: &mut Progress<P>,
 ) -> Result<Keeper, Outcome> {
     let base = base_of(alloc, base)?;
-    begun_with_all(rt, alloc, base, data, reader)
+    let started = begun_with_all(rt, alloc, base, data, reader, progress);
+    progress.clear();
+    started
 }
 
 /// Answers a query.
-pub(crate) fn query_words<T: Files, R: Read + Drop, W: Write>(
+pub(crate) fn query_words<T: Files, R: Read + Drop, W: Write, P: Write>(
     rt: &T,
     alloc: Global,
     words: &QueryWords<'_>,
     mut reader: R,
     writer: &mut W,
+    progress: &mut Progress<P>,
 ) -> Outcome
     ensures { status_of result ≡ 2 →
         Appends (W.contents writer.old) (W.contents writer.new) [] }
 {
-    let keeper = match session_with(rt, alloc, words.base, &words.data, &mut reader) {
+    let data = &words.data;
+    let keeper = match session_with(rt, alloc, words.base, data, &mut reader, progress) {
         Ok(keeper) => keeper,
         Err(outcome) => return outcome,
     };
-    match text_named(rt, alloc, words.query, &mut reader) {
+    match text_named(rt, alloc, words.query, &mut reader, &mut silent()) {
         Ok(text) => write_reply(&keeper, words.results, text.as_slice(), writer),
         Err(outcome) => outcome,
     }
 }
 
 /// Applies a request.
-pub(crate) fn update_words<T: Files, R: Read + Drop, W: Write>(
+pub(crate) fn update_words<T: Files, R: Read + Drop, W: Write, P: Write>(
     rt: &T,
     alloc: Global,
     words: &UpdateWords<'_>,
     mut reader: R,
     writer: &mut W,
+    progress: &mut Progress<P>,
 ) -> Outcome
     ensures { status_of result ≡ 2 →
         Appends (W.contents writer.old) (W.contents writer.new) [] }
 {
-    let keeper = match session_with(rt, alloc, words.base, &words.data, &mut reader) {
+    let data = &words.data;
+    let keeper = match session_with(rt, alloc, words.base, data, &mut reader, progress) {
         Ok(keeper) => keeper,
         Err(outcome) => return outcome,
     };
-    match text_named(rt, alloc, words.request, &mut reader) {
+    match text_named(rt, alloc, words.request, &mut reader, &mut silent()) {
         Ok(text) => write_update(alloc, keeper, words.shown, text.as_slice(), writer),
         Err(outcome) => outcome,
     }

@@ -4,7 +4,8 @@ use crate::program::help::{
     CHECK_ABOUT, CHECK_EXAMPLE, QUERY_ABOUT, QUERY_EXAMPLE, UPDATE_ABOUT, UPDATE_EXAMPLE,
 };
 use crate::program::words::{
-    StartFormat, WordsFault, base_word, format_of, from_word, start_format_of, start_format_words,
+    StartFormat, WordsFault, base_word, format_of, from_word, progress_word, start_format_of,
+    start_format_words,
 };
 use crate::script::command::Topic;
 use clap::{Arg, ArgAction, ArgMatches, Command};
@@ -53,29 +54,32 @@ pub(crate) struct DataWords<'a> {
     pub(crate) further: Vec<DocumentWord<'a>>,
 }
 
-/// A query of data, its base, and the format of its results.
+/// A query of data, its base, the format of its results, and whether it is told how far the data are read.
 #[derive(Debug, Drop)]
 pub(crate) struct QueryWords<'a> {
     pub(crate) base: Option<&'a str>,
     pub(crate) data: DataWords<'a>,
     pub(crate) results: ResultsFormat,
+    pub(crate) progress: bool,
     pub(crate) query: &'a str,
 }
 
-/// A request on data, its base, and what is shown of the session behind it.
+/// A request on data, its base, what is shown of the session behind it, and whether it is told how far the data are read.
 #[derive(Debug, Drop)]
 pub(crate) struct UpdateWords<'a> {
     pub(crate) base: Option<&'a str>,
     pub(crate) data: DataWords<'a>,
     pub(crate) shown: Topic,
+    pub(crate) progress: bool,
     pub(crate) request: &'a str,
 }
 
-/// A check: the format of the documents, their base, and their files.
+/// A check: the format of the documents, their base, whether it is told how far they are read, and their files.
 #[derive(Debug, Drop)]
 pub(crate) struct CheckWords<'a> {
     pub(crate) from: Format,
     pub(crate) base: Option<&'a str>,
+    pub(crate) progress: bool,
     pub(crate) files: Vec<&'a str>,
 }
 
@@ -175,6 +179,7 @@ pub(crate) fn query_command<'a>(alloc: Global) -> Result<Command<'a>, AllocError
         .arg(many_format_word(alloc))?
         .arg(base_word(alloc))?
         .arg(results_word(alloc))?
+        .arg(progress_word(alloc))?
         .arg(query_word(alloc))
 }
 
@@ -188,6 +193,7 @@ pub(crate) fn update_command<'a>(alloc: Global) -> Result<Command<'a>, AllocErro
         .arg(base_word(alloc))?
         .arg(to_word(alloc))?
         .arg(changes_word(alloc)?)?
+        .arg(progress_word(alloc))?
         .arg(request_word(alloc))
 }
 
@@ -198,6 +204,7 @@ pub(crate) fn check_command<'a>(alloc: Global) -> Result<Command<'a>, AllocError
         .after_help(CHECK_EXAMPLE)
         .arg(from_word(alloc))?
         .arg(base_word(alloc))?
+        .arg(progress_word(alloc))?
         .arg(files_word(alloc))
 }
 
@@ -298,6 +305,7 @@ pub(crate) fn query_words<'a>(
         base: matches.get_str("base"),
         data,
         results: results_of(matches.get_str("results")),
+        progress: matches.get_flag("progress"),
         query,
     })
 }
@@ -313,6 +321,7 @@ pub(crate) fn update_words<'a>(
         base: matches.get_str("base"),
         data,
         shown: shown_of(matches),
+        progress: matches.get_flag("progress"),
         request,
     })
 }
@@ -339,6 +348,7 @@ pub(crate) fn check_words<'a>(
     Ok(CheckWords {
         from: format_of(matches.get_str("from"))?,
         base: matches.get_str("base"),
+        progress: matches.get_flag("progress"),
         files,
     })
 }

@@ -8,11 +8,12 @@ ghost use Rattle.rdf_session.specs.Session.{Session, fresh};
 use crate::program::data::{over_data, text_named};
 use crate::program::once_words::{DataWords, DocumentWord, StartWord};
 use crate::program::outcome::Outcome;
+use crate::program::watch::Progress;
 use crate::program::words::StartFormat;
 use rdf_session::{Format, Keeper, KeeperFault};
 use rdf_terms::Iri;
 use std::alloc::Global;
-use std::io::Read;
+use std::io::{Read, Write};
 use std::rt::Files;
 
 // The session with what a document loads as part of its start.
@@ -30,19 +31,20 @@ fn further(mut keeper: Keeper, format: Format, text: Vec<u8>) -> Result<Keeper, 
 }
 
 // The session with what further documents load, one behind another, as part of its start.
-fn all_further<T: Files, R: Read>(
+fn all_further<T: Files, R: Read, P: Write>(
     rt: &T,
     alloc: Global,
     keeper: Keeper,
     words: &[DocumentWord<'_>],
     reader: &mut R,
+    progress: &mut Progress<P>,
 ) -> Result<Keeper, Outcome>
     ensures { IfOk result (λ new. (texts : List (List ℕ)) ×
         LoadsAll (map (λ w. w.format) words.now) texts keeper new) }
 {
     let mut now = keeper;
     for word in words {
-        let text = text_named(rt, alloc, word.path, reader)?;
+        let text = text_named(rt, alloc, word.path, reader, progress)?;
         let next = further(now, word.format, text)?;
         now = next;
     }
@@ -50,12 +52,13 @@ fn all_further<T: Files, R: Read>(
 }
 
 // A session without history over the data of the first file, or over none.
-fn begun_first<T: Files, R: Read>(
+fn begun_first<T: Files, R: Read, P: Write>(
     rt: &T,
     alloc: Global,
     base: Option<Iri>,
     first: Option<StartWord<'_>>,
     reader: &mut R,
+    progress: &mut Progress<P>,
 ) -> Result<Keeper, Outcome>
     ensures { IfOk result (λ keeper. MatchOption first.entry
         (keeper ≡ fresh base (empty_state 0))
@@ -64,7 +67,7 @@ fn begun_first<T: Files, R: Read>(
     match first {
         None => Ok(Keeper::new(alloc, base)),
         Some(word) => {
-            let text = text_named(rt, alloc, word.path, reader)?;
+            let text = text_named(rt, alloc, word.path, reader, progress)?;
             begun_over(alloc, base, word.format, text)
         }
     }
@@ -83,18 +86,19 @@ fn begun_over(
 }
 
 /// A session without history over the data of files, one behind another.
-pub(crate) fn begun_with_all<T: Files, R: Read>(
+pub(crate) fn begun_with_all<T: Files, R: Read, P: Write>(
     rt: &T,
     alloc: Global,
     base: Option<Iri>,
     words: &DataWords<'_>,
     reader: &mut R,
+    progress: &mut Progress<P>,
 ) -> Result<Keeper, Outcome>
     ensures { IfOk result (λ keeper. (start : Session) × (texts : List (List ℕ))
         × MatchOption words.now.first (start ≡ fresh base (empty_state 0))
         (λ word. (text : List ℕ) × BeginsWith word.format base text start)
         × LoadsAll (map (λ w. w.format) words.now.further.items) texts start keeper) }
 {
-    let start = begun_first(rt, alloc, base, words.first, reader)?;
-    all_further(rt, alloc, start, words.further.as_slice(), reader)
+    let start = begun_first(rt, alloc, base, words.first, reader, progress)?;
+    all_further(rt, alloc, start, words.further.as_slice(), reader, progress)
 }

@@ -6,7 +6,7 @@ ghost use Rattle.rdf_keeper.specs.declared.program.words.StartFormat.{StartForma
 ghost use Rattle.rdf_session.specs.declared.format.Format.{Format};
 
 use crate::program::help::{
-    ABOUT, CONVERT_ABOUT, CONVERT_EXAMPLE, NAME, RUN_ABOUT, RUN_EXAMPLE, VERSION,
+    CONVERT_ABOUT, CONVERT_EXAMPLE, HELP, NAME, RUN_ABOUT, RUN_EXAMPLE, VERSION,
 };
 use crate::program::once_words::{
     CheckWords, QueryWords, UpdateWords, check_command, check_words, query_command, query_words,
@@ -29,7 +29,8 @@ pub(crate) enum StartFormat {
     State,
 }
 
-/// A session: its base, how many requests it can take back, the data that it begins with, and its script.
+/// A session: its base, how many requests it can take back, the data that it begins with, whether it is told how far they are
+/// read, and its script.
 #[derive(Clone, Copy, Debug, PartialEq, Eq)]
 pub(crate) struct RunWords<'a> {
     pub(crate) base: Option<&'a str>,
@@ -37,14 +38,16 @@ pub(crate) struct RunWords<'a> {
     pub(crate) data: Option<&'a str>,
     pub(crate) format: StartFormat,
     pub(crate) stop: bool,
+    pub(crate) progress: bool,
     pub(crate) script: Option<&'a str>,
 }
 
-/// A conversion: the format that is read, its base, and the file.
+/// A conversion: the format that is read, its base, whether it is told how far it is read, and the file.
 #[derive(Clone, Copy, Debug, PartialEq, Eq)]
 pub(crate) struct ConvertWords<'a> {
     pub(crate) from: Format,
     pub(crate) base: Option<&'a str>,
+    pub(crate) progress: bool,
     pub(crate) file: Option<&'a str>,
 }
 
@@ -58,6 +61,20 @@ pub(crate) enum Asked<'a> {
     Check(CheckWords<'a>),
     /// A help text or the version, for standard output.
     Shown(String),
+}
+
+impl Asked<'_> {
+    /// Whether it is to be told how far documents are read.
+    pub(crate) fn has_progress(&self) -> bool {
+        match self {
+            Asked::Run(words) => words.progress,
+            Asked::Convert(words) => words.progress,
+            Asked::Query(words) => words.progress,
+            Asked::Update(words) => words.progress,
+            Asked::Check(words) => words.progress,
+            Asked::Shown(_) => false,
+        }
+    }
 }
 
 /// Why words ask for nothing.
@@ -141,6 +158,14 @@ pub(crate) fn base_word<'a>(alloc: Global) -> Arg<'a> {
     )
 }
 
+/// The option `--progress`.
+pub(crate) fn progress_word<'a>(alloc: Global) -> Arg<'a> {
+    Arg::new(alloc, "progress")
+        .long("progress")
+        .action(ArgAction::SetTrue)
+        .help("Show on standard error how many bytes of a document are read")
+}
+
 fn data_word<'a>(alloc: Global) -> Arg<'a> {
     Arg::new(alloc, "data").long("data").value_name("FILE").help(
         "A file that is loaded, or restored, before the script and becomes its start",
@@ -186,6 +211,7 @@ fn run_command<'a>(alloc: Global) -> Result<Command<'a>, AllocError> {
         .arg(format_word(alloc))?
         .arg(depth_word(alloc))?
         .arg(stop_word(alloc))?
+        .arg(progress_word(alloc))?
         .arg(script_word(alloc))
 }
 
@@ -211,6 +237,7 @@ fn convert_command<'a>(alloc: Global) -> Result<Command<'a>, AllocError> {
         .after_help(CONVERT_EXAMPLE)
         .arg(from_word(alloc))?
         .arg(base_word(alloc))?
+        .arg(progress_word(alloc))?
         .arg(file_word(alloc))
 }
 
@@ -219,7 +246,7 @@ fn program<'a>(alloc: Global) -> Result<Command<'a>, AllocError> {
         .bin_name(NAME)?
         .version(VERSION)
         .propagate_version(true)
-        .about(ABOUT)
+        .override_help(HELP)
         .no_binary_name(true)
         .subcommand_required(true)
         .arg_required_else_help(true)
@@ -257,6 +284,7 @@ fn run_words<'a>(matches: &ArgMatches<'a>) -> Result<RunWords<'a>, FormatFault> 
         data: matches.get_str("data"),
         format: start_format_of(matches.get_str("format"))?,
         stop: matches.get_flag("stop"),
+        progress: matches.get_flag("progress"),
         script: matches.get_str("script"),
     })
 }
@@ -265,6 +293,7 @@ fn convert_words<'a>(matches: &ArgMatches<'a>) -> Result<ConvertWords<'a>, Forma
     Ok(ConvertWords {
         from: format_of(matches.get_str("from"))?,
         base: matches.get_str("base"),
+        progress: matches.get_flag("progress"),
         file: matches.get_str("file"),
     })
 }

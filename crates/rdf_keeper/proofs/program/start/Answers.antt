@@ -3,6 +3,6 @@ use Rattle.rdf_keeper.proofs.ProgramLemmas.{stays_quiet}
 use Rattle.rdf_keeper.proofs.program.start.Goals as goal
 
 pub returns-clause-quiet : goal.returns-clause-quiet
-returns-clause-quiet g c zero =
+returns-clause-quiet g c zero unasked =
     let here = sym c.report.ensures.status ∙ zero in
-    stays_quiet (g.E.Write.contents c.args.errors.now) (g.E.Write.contents c.answer_words-outcome.new.errors) (g.E.Write.contents c.report.new.errors) c.answer_words-outcome.result here (c.answer_words-outcome.ensures.quiet here) c.report.ensures.line
+    stays_quiet (g.E.Write.contents c.args.errors.now) (g.E.Write.contents c.answer_words-outcome.new.errors) (g.E.Write.contents c.report.new.errors) c.answer_words-outcome.result here (c.answer_words-outcome.ensures.quiet here unasked) c.report.ensures.line
