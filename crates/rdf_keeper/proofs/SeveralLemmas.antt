@@ -1,5 +1,5 @@
 -- Documents that are loaded one behind another.
-use Rattle.std.proofs.Common.{◌≡◌, ◌<◌, ◌+◌, sym, ap, ◌∙◌, subst, ℕ, List, [], ◌∷◌, length, drop, map, get_or, Option}
+use Rattle.std.proofs.Common.{◌≡◌, ◌<◌, ◌+◌, sym, ap, subst, ℕ, List, [], ◌∷◌, length, drop, map, get_or, Option}
 use Rattle.std.proofs.lemmas.List.{drop_more}
 use Rattle.std.specs.Prelude.{Result, Ok, Err, IfOk, MatchOption, MatchResult}
 use Rattle.rdf_dataset.specs.State.{empty_state}

@@ -1,5 +1,5 @@
 -- How many lines a text has that ends at an LF, as a state text does.
-use Rattle.std.proofs.Common.{◌≡◌, ◌∙◌, ◌⊎◌, inl, inr, ℕ, ◌+◌, Bool, true, false, cond, List, [], ◌∷◌, ◌++◌, length, refl, sym, ap, nat_eq, suc, subst, codes, append_assoc, append-nil, length-append, take, drop, ◌-◌, ◌≤◌, arith}
+use Rattle.std.proofs.Common.{◌≡◌, ◌∙◌, ◌⊎◌, inl, inr, ℕ, List, [], ◌∷◌, ◌++◌, length, refl, sym, ap, nat_eq, suc, subst, codes, append_assoc, append-nil, length-append, take, drop, ◌-◌, ◌≤◌, arith}
 use Rattle.std.specs.List.{filter, flat_map, onto_first}
 use Rattle.std.specs.Prelude.{decimal}
 use Rattle.std.proofs.Math.Seq.{drop-append_seam}

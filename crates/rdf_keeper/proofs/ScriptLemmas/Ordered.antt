@@ -1,12 +1,11 @@
 -- Sessions over a device: logs that grow by their calls.
-use Rattle.std.proofs.Common.{◌≡◌, ◌≢◌, ◌⊎◌, ◌≤◌, ◌<◌, ℕ, ◌+◌, Bool, true, false, cond, ◌||◌, List, [], ◌∷◌, ◌++◌, length, None, refl, sym, ap, ◌∙◌, subst, append-nil, append_assoc, arith, inl, inr}
+use Rattle.std.proofs.Common.{◌≡◌, ◌≢◌, ◌≤◌, ◌<◌, ℕ, ◌+◌, Bool, true, false, cond, ◌||◌, List, [], ◌∷◌, ◌++◌, length, None, refl, sym, ap, ◌∙◌, subst, append-nil, append_assoc, arith, inl, inr}
 use Rattle.std.proofs.lemmas.List.Folds.{concat-append}
 use Rattle.std.specs.List.{concat}
-use Rattle.std.specs.Prelude.{Ok, Err, Option}
-use Rattle.std.specs.Io.KnownBytes.{Consumes, IsAtEnd}
+use Rattle.std.specs.Prelude.{Ok, Err}
 use Rattle.rdf_session.specs.Session.{Session}
-use Rattle.rdf_streams.specs.Devices.{EndsWith, Event, Gave, IsOrderly, MayCome, ReadFault, Took, WriteFault, given, has_end, has_failed, is_end, is_failure, read_calls, taken}
-use Rattle.rdf_streams.specs.Streams.{AreTaken, AreWrites, Wrote}
+use Rattle.rdf_streams.specs.Devices.{Event, Gave, IsOrderly, ReadFault, given, has_end, has_failed, is_end, read_calls, taken}
+use Rattle.rdf_streams.specs.Streams.{AreTaken, Wrote}
 use Rattle.rdf_keeper.specs.Inside.WriteFaults.{is_write_fault}
 use Rattle.rdf_keeper.specs.Script.Answers.{Answers}
 use Rattle.rdf_keeper.specs.Script.Commands.{Asked, commands}
@@ -17,7 +16,7 @@ use Rattle.rdf_keeper.specs.Script.Runs.{Answered, Course, Serves, final, so_far
 use Rattle.rdf_keeper.specs.Script.Statuses.{no_memory}
 use Rattle.rdf_keeper.specs.declared.script.status.Status.{Status}
 use Rattle.rdf_keeper.specs.declared.script.status.Status.TheVariants.{Accepted, Refused, ReadFailed, WriteFailed, NoMemory}
-use Rattle.rdf_streams.proofs.DeviceLemmas.Logs.{calls-append, end-append, failed-append, given-append, or_false, some_given, taken-append, true_false}
+use Rattle.rdf_streams.proofs.DeviceLemmas.Logs.{calls-append, end-append, failed-append, given-append, or_false, some_given, taken-append}
 use Rattle.rdf_streams.proofs.DeviceLemmas.Orderly.{orderly-append, orderly_for, orderly_one, wrote_fits}
 use Rattle.rdf_streams.proofs.DeviceLemmas.Written.{writes_go_on, wrote_calls, wrote_end, wrote_given, wrote_taken, wrote_to_fault}
 use Rattle.rdf_keeper.proofs.ScriptLemmas.Feeds.{ends_further, goes_further, goes_nowhere}

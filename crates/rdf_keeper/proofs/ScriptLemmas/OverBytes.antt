@@ -1,10 +1,9 @@
 -- What a session over a device says of the bytes of a reader.
-use Rattle.std.proofs.Common.{◌≡◌, ◌⊎◌, ◌≤◌, ◌<◌, ℕ, ◌+◌, Bool, true, false, cond, ◌||◌, List, [], ◌∷◌, ◌++◌, length, None, refl, sym, ap, ◌∙◌, subst, append-nil, append_assoc, arith, inl, inr}
-use Rattle.std.specs.List.{concat}
-use Rattle.std.specs.Prelude.{Ok, Err, Option}
+use Rattle.std.proofs.Common.{◌≡◌, ◌⊎◌, ◌≤◌, ℕ, Bool, true, false, cond, List, [], ◌∷◌, ◌++◌, length, None, refl, sym, ap, ◌∙◌, subst, append-nil, arith, inl, inr}
+use Rattle.std.specs.Prelude.{Ok, Option}
 use Rattle.std.specs.Io.KnownBytes.{Consumes, IsAtEnd}
 use Rattle.rdf_session.specs.Session.{Session}
-use Rattle.rdf_streams.specs.Devices.{Event, Gave, IsOrderly, MayCome, ReadFault, Took, WriteFault, Leads, given, has_end, has_failed, is_end, is_failure, read_calls, taken}
+use Rattle.rdf_streams.specs.Devices.{Event, Gave, IsOrderly, MayCome, ReadFault, Took, WriteFault, Leads, given, has_end, read_calls}
 use Rattle.rdf_keeper.specs.Script.Answers.{Answers}
 use Rattle.rdf_keeper.specs.Script.Commands.{commands}
 use Rattle.rdf_keeper.specs.Script.Lines.{raw_lines, upto_last_end}
@@ -13,10 +12,10 @@ use Rattle.rdf_keeper.specs.Script.Runs.{Answered, RunsOver, Serves, to_end}
 use Rattle.rdf_keeper.specs.declared.script.status.Status.{Status}
 use Rattle.rdf_keeper.specs.declared.script.status.Status.TheVariants.{Accepted, ReadFailed}
 use Rattle.rdf_streams.specs.declared.streams.device.Lent.{Lent}
-use Rattle.rdf_streams.proofs.DeviceLemmas.Logs.{end-append, given-append, true_false, true_or_false}
+use Rattle.rdf_streams.proofs.DeviceLemmas.Logs.{given-append, true_or_false}
 use Rattle.rdf_streams.proofs.DeviceLemmas.Orderly.{ended_at, none_behind_end, nothing_given, orderly_at}
 use Rattle.rdf_streams.proofs.DeviceLemmas.Pairs.{LentStep, lent_end}
-use Rattle.rdf_keeper.proofs.ScriptLemmas.Ordered.{before_end, behind_end}
+use Rattle.rdf_keeper.proofs.ScriptLemmas.Ordered.{before_end}
 
 pub reader_at_end : {R W : Type 0} (remaining : R → Option (List ℕ)) (contents : W → Option (List ℕ)) (calls : ℕ) (stop : Bool) (s : Lent R W) (log : List Event) (old : Session) (answers : List (List ℕ)) (new : Session) (status : Status) (t : Lent R W)
     → Leads (LentStep remaining contents) s log t → Ran calls stop log old answers new status → has_end log ≡ true → IsAtEnd (remaining t.reader.now)

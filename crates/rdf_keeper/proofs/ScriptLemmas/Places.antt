@@ -1,16 +1,14 @@
 -- Each call of a session, wherever it stands in its log.
-use Rattle.std.proofs.Common.{◌≡◌, ◌⊎◌, ◌≤◌, ℕ, ◌+◌, Bool, true, false, cond, ◌&&◌, ◌||◌, List, [], ◌∷◌, ◌++◌, length, None, refl, sym, ap, ◌∙◌, subst, append-nil, append_assoc, arith, inl, inr}
+use Rattle.std.proofs.Common.{◌≡◌, ◌⊎◌, ◌≤◌, ℕ, Bool, true, false, cond, ◌||◌, List, [], ◌∷◌, ◌++◌, length, None, refl, sym, ap, ◌∙◌, subst, append-nil, append_assoc, arith, inl, inr}
 use Rattle.std.specs.List.{concat}
-use Rattle.std.specs.Prelude.{Ok, Err, Result}
-use Rattle.std.proofs.lemmas.List.Folds.{concat-append}
+use Rattle.std.specs.Prelude.{Ok}
 use Rattle.rdf_session.specs.Session.{Session}
-use Rattle.rdf_streams.specs.Devices.{Event, Gave, IsOrderly, MayCome, ReadFault, Took, WriteFault, given, has_end, has_failed, is_end, is_failure, read_calls, taken}
+use Rattle.rdf_streams.specs.Devices.{Event, Gave, IsOrderly, MayCome, ReadFault, Took, WriteFault, given, has_end, read_calls, taken}
 use Rattle.rdf_keeper.specs.Script.Commands.{Asked, commands}
 use Rattle.rdf_keeper.specs.Script.Lines.{raw_lines, upto_last_end}
 use Rattle.rdf_keeper.specs.Script.OrderLaws.{FailedReadsComeBehindAnswers, NothingComesBehindAFailure, NothingIsReadBehindARefusal, NothingIsReadBehindTheEnd, ReadsComeBehindAnswers, WritesAreAnswers}
-use Rattle.rdf_keeper.specs.Script.Orders.{AreAnswered, Ran, commands_read, status_behind}
+use Rattle.rdf_keeper.specs.Script.Orders.{AreAnswered, commands_read, status_behind}
 use Rattle.rdf_keeper.specs.Script.Runs.{Answered, Course, Serves, so_far, to_end}
-use Rattle.rdf_keeper.specs.declared.script.status.Status.{Status}
 use Rattle.rdf_streams.proofs.DeviceLemmas.Logs.{end-append, given-append, taken-append}
 use Rattle.rdf_streams.proofs.DeviceLemmas.Orderly.{failures_in_order, no_end_in, none_behind_end, nothing_given, orderly_at}
 

@@ -1,12 +1,11 @@
 -- What is shown of a state, and how many lines a text has.
-use Rattle.std.proofs.Common.{◌≡◌, ◌∙◌, ℕ, ◌+◌, Bool, true, false, cond, List, [], ◌∷◌, length, refl, sym, ap, subst, nat_eq, suc}
-use Rattle.std.specs.List.{concat, onto_first}
+use Rattle.std.proofs.Common.{◌≡◌, ◌∙◌, ℕ, List, sym, ap, subst}
+use Rattle.std.specs.List.{concat}
 use Rattle.rdf_dataset.specs.State.{State as DatasetState}
 use Rattle.rdf_lines.specs.StateText.{state_text}
 use Rattle.rdf_terms.specs.OrderLaws.{term_cmp_total, term_cmp-IsAntisymmetric, quad_cmp_total, quad_cmp-IsAntisymmetric}
 use Rattle.rdf_session.specs.Saved.{IsTextOf, RestoredIsAsCommitted, RestoredIsSavedAlike, SavedComesBack}
 use Rattle.rdf_session.specs.Session.{Session, now}
-use Rattle.rdf_keeper.specs.Script.Lines.{raw_lines}
 use Rattle.rdf_keeper.specs.Script.Runs.{RunsOver}
 use Rattle.rdf_keeper.specs.Script.Saved.{RestoredShowsItsText, ScriptsGoOnAlike, ShownComesBack}
 use Rattle.rdf_keeper.specs.Script.Show.{Shows}

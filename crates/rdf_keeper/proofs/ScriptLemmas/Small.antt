@@ -1,15 +1,14 @@
 -- Scripts of one command with a body, and its answers.
-use Rattle.std.proofs.Common.{◌≡◌, ◌≢◌, ◌∙◌, refl, sym, ap, ℕ, Bool, true, false, List, [], ◌∷◌, ◌++◌, append-nil, append_assoc, Option, Some, None, inl}
+use Rattle.std.proofs.Common.{◌≡◌, ◌∙◌, refl, sym, ap, ℕ, Bool, true, false, List, [], ◌∷◌, ◌++◌, append-nil, append_assoc, Some, None, inl}
 use Rattle.std.specs.Prelude.{Result, Ok, Err, codes, if◌then◌else◌, is_err}
 use Rattle.std.specs.List.{concat}
 use Rattle.rdf_session.specs.Query.{Replies}
-use Rattle.rdf_session.specs.Request.{Update}
-use Rattle.rdf_session.specs.Session.{Session, Do, Changed}
+use Rattle.rdf_session.specs.Session.{Changed}
 use Rattle.rdf_session.specs.declared.fault.KeeperFault.{KeeperFault}
 use Rattle.rdf_session.specs.declared.query.Answer.{Answer}
-use Rattle.rdf_keeper.specs.Script.Answers.{Answers, WritesReply, count_line, query_text}
-use Rattle.rdf_keeper.specs.Script.Commands.{Asked, act, ask, body_asks, commands, is_end}
-use Rattle.rdf_keeper.specs.Script.LineLaws.{HasNoEnd, IsEnded}
+use Rattle.rdf_keeper.specs.Script.Answers.{count_line, query_text}
+use Rattle.rdf_keeper.specs.Script.Commands.{body_asks, commands}
+use Rattle.rdf_keeper.specs.Script.LineLaws.{IsEnded}
 use Rattle.rdf_keeper.specs.Script.Lines.{raw_lines}
 use Rattle.rdf_keeper.specs.Script.Small.{AnswersAreReplies, AreBodyLines, ChangesAreShown, QueryScriptAsks, RepliesAreAnswers, UpdateScriptActs, body_script}
 use Rattle.rdf_keeper.specs.declared.script.command.Body.{Body}

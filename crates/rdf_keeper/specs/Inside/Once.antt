@@ -1,10 +1,9 @@
 -- What the words query, update and check write, and how they end the program.
-use Rattle.std.specs.Prelude.{◌≡◌, ◌≢◌, ◌⊎◌, ℕ, List, [], ◌∷◌, ◌++◌, codes, decimal, Option, Result, Ok, Err, Bool, true, false}
+use Rattle.std.specs.Prelude.{◌≡◌, ◌≢◌, ℕ, List, [], ◌∷◌, ◌++◌, codes, decimal, Option, Result, Ok, Err, Bool, true, false}
 use Rattle.std.specs.List.{concat}
 use Rattle.std.specs.Io.KnownBytes.{Appends}
-use Rattle.rdf_session.specs.Query.{RepliesIn}
-use Rattle.rdf_session.specs.Request.{Load, Update}
-use Rattle.rdf_session.specs.Session.{Session, Transition, Do, Commit, Changed, Done, Refused, reply_of}
+use Rattle.rdf_session.specs.Request.{Load}
+use Rattle.rdf_session.specs.Session.{Session, Transition, Do, Commit, Changed, Done}
 use Rattle.rdf_session.specs.declared.fault.Counts.{Counts}
 use Rattle.rdf_session.specs.declared.fault.KeeperFault.{KeeperFault}
 use Rattle.rdf_session.specs.declared.fault.KeeperFault.TheVariants as keeper

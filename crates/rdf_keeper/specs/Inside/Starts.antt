@@ -1,5 +1,5 @@
 -- How a session begins, and how it ends the program.
-use Rattle.std.specs.Prelude.{◌≡◌, ℕ, List, Bool, Option, Some, if◌then◌else◌, codes, Ok}
+use Rattle.std.specs.Prelude.{ℕ, List, Option, Some, if◌then◌else◌, codes, Ok}
 use Rattle.std.specs.Option.{option_map}
 use Rattle.std.specs.Str.{bytes_eq}
 use Rattle.rdf_dataset.specs.State.{State as DatasetState, IsSound, empty_state}
@@ -8,7 +8,6 @@ use Rattle.rdf_session.specs.Saved.{IsTextOf, Restores}
 use Rattle.rdf_session.specs.Session.{Session, Transition, Do, Commit, Changed, Done, Refused, fresh}
 use Rattle.rdf_session.specs.declared.fault.Counts.{Counts}
 use Rattle.rdf_session.specs.declared.fault.KeeperFault.TheVariants as keeper
-use Rattle.rdf_session.specs.declared.format.Format.{Format}
 use Rattle.rdf_keeper.specs.Script.Commands.{format_named}
 use Rattle.rdf_keeper.specs.declared.program.words.StartFormat.{StartFormat}
 use Rattle.rdf_keeper.specs.declared.program.words.StartFormat.TheVariants.{Document, State}

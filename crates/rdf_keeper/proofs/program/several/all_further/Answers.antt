@@ -1,4 +1,4 @@
-use Rattle.std.proofs.Common.{◌≡◌, refl, sym, subst, [], ◌∷◌, drop, map}
+use Rattle.std.proofs.Common.{refl, sym, subst, [], ◌∷◌, map}
 use Rattle.std.proofs.lemmas.List.{drop_all}
 use Rattle.rdf_keeper.specs.Inside.Once.{LoadsAll}
 use Rattle.rdf_keeper.proofs.SeveralLemmas.{loads_at}

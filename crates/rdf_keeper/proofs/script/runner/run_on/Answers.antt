@@ -1,6 +1,6 @@
 use Rattle.std.proofs.Common.{◌++◌, ◌∷◌, [], take, subst, refl, arith, length-take}
 use Rattle.rdf_streams.specs.Devices.{Gave, ReadFault}
-use Rattle.rdf_streams.proofs.DeviceLemmas.Logs.{Leads-append, Leads-one, none_left, some_left}
+use Rattle.rdf_streams.proofs.DeviceLemmas.Logs.{Leads-append, Leads-one, some_left}
 use Rattle.rdf_keeper.proofs.ScriptLemmas.Ordered.{answered_on, ran_into, ran_out, ran_to_end, ran_to_fault, ready_first}
 use Rattle.rdf_keeper.proofs.script.runner.run_on.Goals as goal
 
