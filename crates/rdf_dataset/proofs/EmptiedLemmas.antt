@@ -13,12 +13,13 @@ use Rattle.rdf_terms.specs.Order.{graph_cmp, quad_cmp, term_cmp}
 use Rattle.rdf_terms.specs.OrderLaws.{graph_cmp_total, graph_cmp-IsAntisymmetric, quad_cmp_total, quad_cmp-IsAntisymmetric, term_cmp_total, term_cmp-IsAntisymmetric}
 use Rattle.std.specs.List.Sorted.{IsStrictlySortedBy}
 use Rattle.rdf_terms.specs.Lists.{AppendsOnce, ListsOnce}
-use Rattle.rdf_sets.proofs.CallerLemmas.{lists_once, retained, tie_same}
-use Rattle.rdf_store.specs.Stored.{Stored}
-use Rattle.rdf_dataset.specs.State.{State, Change, Names, Quads, IsSound, applied, is_default, matches, net_between, with_graph, with_quad, without_graph, without_named}
+use Rattle.rdf_sets.proofs.CallerLemmas.{lists_once, retained, tie_itself, tie_same}
+use Rattle.rdf_store.specs.Stored.{Stored, with_name}
+use Rattle.rdf_store.specs.Stored as stored
+use Rattle.rdf_dataset.specs.State.{State, Change, Names, Quads, IsEmptyGraph, IsSound, applied, is_default, matches, net_between, with_graph, with_quad, without_graph, without_named}
 use Rattle.rdf_dataset.proofs.StateLemmas.{net_ends}
 use Rattle.rdf_dataset.specs.declared.emptied.Emptied.{Emptied}
-use Rattle.rdf_dataset.specs.Inside.Emptied.{AreNames, AreParts, FindsTheSame, IsPart, in_default, in_named}
+use Rattle.rdf_dataset.specs.Inside.Emptied.{AreHeld, AreNames, AreParts, FindsTheSame, IsPart, in_default, in_graphs, in_named, is_among}
 
 kept : (quads : Quads) (test : QuadParts → Bool) (q : QuadParts) → contains (retain quads test) q ≡ (contains quads q && test q)
 kept quads test q = retained quad_cmp_total quad_cmp-IsAntisymmetric quads test q
@@ -89,29 +90,40 @@ finds_default g part quads e p = finds g part quads in_default (λ q t. sym (ap 
 pub finds_named : (g : GraphName) (n : Term) (part quads : Quads) → g ≡ Named n → part ≡ retain quads in_named → FindsTheSame g part quads
 finds_named g n part quads e p = finds g part quads in_named (λ q t. sym (ap (λ x. not (is_default x)) (sym e ∙ tie_same graph_cmp_total graph_cmp-IsAntisymmetric g q.graph t))) p
 
+finds_among : (g : GraphName) (part quads : Quads) (names : Names) → is_among names g ≡ true → part ≡ retain quads (in_graphs names) → FindsTheSame g part quads
+finds_among g part quads names among e = finds g part quads (in_graphs names) (λ q t. ap (is_among names) (sym (tie_same graph_cmp_total graph_cmp-IsAntisymmetric g q.graph t)) ∙ among) e
+
 -- ---- the parts of a state
 
 others_stay : (test : QuadParts → Bool) (part : Option Stored) (quads : Quads) (q : QuadParts) → test q ≡ false → IsPart test part quads → IsPart test part (insert quads q)
 others_stay test None quads q t h = tt
 others_stay test (Some s) quads q t h = part_same quads s.quads test q t h
 
+-- a quad of the default graph is in none of them
+graphs_stay : (graphs : Option Stored) (quads : Quads) (q : QuadParts) → q.graph ≡ Default → AreHeld graphs quads → AreHeld graphs (insert quads q)
+graphs_stay None quads q g h = tt
+graphs_stay (Some s) quads q g h = part_same quads s.quads (in_graphs s.names) q (ap (is_among s.names) g) h
+
 pub parts_with_default : (e : Emptied) (s : State) (q : QuadParts) (part gained : Option Stored) → q.graph ≡ Default → part ≡ e.default
     → ((quads : Quads) (test : QuadParts → Bool) → IsTrue (test q) → IsPart test part quads → IsPart test gained (insert quads q))
-    → AreParts e s → AreParts (record { default = gained; named = e.named; names = e.names }) (with_quad s q)
+    → AreParts e s → AreParts (record { default = gained; named = e.named; names = e.names; graphs = e.graphs }) (with_quad s q)
 parts_with_default e s q part gained g is comes a = record {
   in_default_graph = comes s.quads in_default (ap is_default g) (subst (λ p. IsPart in_default p s.quads) (sym is) a.in_default_graph);
   in_named_graphs = others_stay in_named e.named s.quads q (ap (λ x. not (is_default x)) g) a.in_named_graphs;
   of_graphs = subst (λ x. AreNames e.names (with_graph s.names x)) (sym g) a.of_graphs;
+  in_each_graph = graphs_stay e.graphs s.quads q g a.in_each_graph;
 }
 
-pub parts_with_named : (e : Emptied) (s : State) (q : QuadParts) (n : Term) (part gained : Option Stored) (names more : Option (List Term)) → q.graph ≡ Named n → part ≡ e.named → names ≡ e.names
+pub parts_with_named : (e : Emptied) (s : State) (q : QuadParts) (n : Term) (part gained : Option Stored) (names more : Option (List Term)) (graphs apart : Option Stored) → q.graph ≡ Named n → part ≡ e.named → names ≡ e.names → graphs ≡ e.graphs
     → ((quads : Quads) (test : QuadParts → Bool) → IsTrue (test q) → IsPart test part quads → IsPart test gained (insert quads q))
     → ((known : Names) → AreNames names known → AreNames more (insert known n))
-    → AreParts e s → AreParts (record { default = e.default; named = gained; names = more }) (with_quad s q)
-parts_with_named e s q n part gained names more g is named_is comes name_comes a = record {
+    → ((quads : Quads) → q.graph ≡ Named n → AreHeld graphs quads → AreHeld apart (insert quads q))
+    → AreParts e s → AreParts (record { default = e.default; named = gained; names = more; graphs = apart }) (with_quad s q)
+parts_with_named e s q n part gained names more graphs apart g is named_is graphs_are comes name_comes comes_apart a = record {
   in_default_graph = others_stay in_default e.default s.quads q (ap is_default g) a.in_default_graph;
   in_named_graphs = comes s.quads in_named (ap (λ x. not (is_default x)) g) (subst (λ p. IsPart in_named p s.quads) (sym is) a.in_named_graphs);
   of_graphs = subst (λ x. AreNames more (with_graph s.names x)) (sym g) (name_comes s.names (subst (λ p. AreNames p s.names) (sym named_is) a.of_graphs));
+  in_each_graph = comes_apart s.quads g (subst (λ p. AreHeld p s.quads) (sym graphs_are) a.in_each_graph);
 }
 
 -- the part in which a graph is found, where it was emptied
@@ -125,6 +137,12 @@ found_default g e (Some part) is v = λ s a. finds_default g part.now.quads s.qu
 pub found_named : (g : GraphName) (n : Term) (e : Emptied) (found : Option (Bor Stored)) → g ≡ Named n → option_copied found ≡ e.named → Found g e found
 found_named g n e None is v = tt
 found_named g n e (Some part) is v = λ s a. finds_named g n part.now.quads s.quads is (subst (λ p. IsPart in_named p s.quads) (sym v) a.in_named_graphs)
+
+pub found_apart : (g : GraphName) (n : Term) (e : Emptied) (found : Option (Bor Stored)) → g ≡ Named n → IfSome found (λ part. (s : State) → AreParts e s → FindsTheSame (Named n) part.now.quads s.quads) → Found g e found
+found_apart g n e found is h = subst (λ x. Found x e found) (sym is) h
+
+pub found_in_graphs : (n : Term) (e : Emptied) (found : Stored) → Some found ≡ e.graphs → contains found.names n ≡ true → (s : State) → AreParts e s → FindsTheSame (Named n) found.quads s.quads
+found_in_graphs n e found v among s a = finds_among (Named n) found.quads s.quads found.names among (subst (λ p. AreHeld p s.quads) (sym v) a.in_each_graph)
 
 -- ---- a staged view
 
@@ -158,23 +176,93 @@ nothing_passes quads p r e h = same _ _ (λ q.
     out true false = refl
     out false b = refl
 
-pub default_renewed : (s : State) (e : Emptied) (part : Stored) → part.quads ≡ set.empty → without_graph s Default ≡ s → AreParts e s → AreParts (record { default = Some part; named = e.named; names = e.names }) s
-default_renewed s e part none only a = record {
-  in_default_graph = none ∙ nothing_passes s.quads (λ q. not (eq_by_cmp graph_cmp Default q.graph)) in_default (ap (λ (t : State). t.quads) only) (λ q. is_it q.graph);
+-- none of the quads passes the test
+none_passes : (quads : Quads) (r : QuadParts → Bool) → ((q : QuadParts) → contains quads q ≡ true → r q ≡ false) → set.empty ≡ retain quads r
+none_passes quads r h = same _ _ (λ q. contains-empty quad_cmp q ∙ sym (kept quads r q ∙ neither (contains quads q) (r q) (h q)))
+  where
+    neither : (a b : Bool) → (a ≡ true → b ≡ false) → (a && b) ≡ false
+    neither true b h = h refl
+    neither false b h = refl
+
+-- the default graph has no quad
+pub default_renewed : (s : State) (e : Emptied) (part : Stored) → part.quads ≡ set.empty → IsEmptyGraph s Default → AreParts e s → AreParts (record { default = Some part; named = e.named; names = e.names; graphs = e.graphs }) s
+default_renewed s e part none empty a = record {
+  in_default_graph = none ∙ none_passes s.quads in_default (λ q h. another q.graph (empty q h));
   in_named_graphs = a.in_named_graphs;
   of_graphs = a.of_graphs;
+  in_each_graph = a.in_each_graph;
 }
   where
-    is_it : (g : GraphName) → is_default g ≡ not (not (eq_by_cmp graph_cmp Default g))
-    is_it Default = refl
-    is_it (Named n) = refl
+    another : (g : GraphName) → ¬ (g ≡ Default) → is_default g ≡ false
+    another Default apart = absurd (apart refl)
+    another (Named n) apart = refl
 
-pub named_renewed : (s : State) (e : Emptied) (part : Stored) → part.quads ≡ set.empty → without_named s ≡ s → AreParts e s → AreParts (record { default = e.default; named = Some part; names = e.names }) s
+-- no named graph has a quad
+pub named_renewed : (s : State) (e : Emptied) (part : Stored) → part.quads ≡ set.empty → without_named s ≡ s → AreParts e s → AreParts (record { default = e.default; named = Some part; names = e.names; graphs = e.graphs }) s
 named_renewed s e part none only a = record {
   in_default_graph = a.in_default_graph;
   in_named_graphs = none ∙ nothing_passes s.quads (λ q. is_default q.graph) in_named (ap (λ (t : State). t.quads) only) (λ q. refl);
   of_graphs = a.of_graphs;
+  in_each_graph = a.in_each_graph;
 }
 
-pub names_renewed : (s : State) (e : Emptied) (listed : List Term) → from_list listed ≡ s.names → AreParts e s → AreParts (record { default = e.default; named = e.named; names = Some listed }) s
-names_renewed s e listed is a = record { in_default_graph = a.in_default_graph; in_named_graphs = a.in_named_graphs; of_graphs = is }
+pub names_renewed : (s : State) (e : Emptied) (listed : List Term) → from_list listed ≡ s.names → AreParts e s → AreParts (record { default = e.default; named = e.named; names = Some listed; graphs = e.graphs }) s
+names_renewed s e listed is a = record { in_default_graph = a.in_default_graph; in_named_graphs = a.in_named_graphs; of_graphs = is; in_each_graph = a.in_each_graph }
+
+-- ---- graphs that were emptied one by one
+
+-- there is none
+pub none_held : (quads : Quads) → AreHeld (Some stored.empty_stored) quads
+none_held quads = none_passes quads (in_graphs set.empty) (λ q h. outside q.graph)
+  where
+    outside : (g : GraphName) → is_among set.empty g ≡ false
+    outside Default = refl
+    outside (Named n) = contains-empty term_cmp n
+
+-- a graph is one of them, or is not
+pub gained_there : (graphs : Stored) (quads : Quads) (q : QuadParts) (n : Term) (new : Stored) → q.graph ≡ Named n → contains graphs.names n ≡ true → new ≡ stored.with_quad graphs q → AreHeld (Some graphs) quads → AreHeld (Some new) (insert quads q)
+gained_there graphs quads q n new g among is h =
+    subst (λ (z : Stored). AreHeld (Some z) (insert quads q)) (sym is)
+    (part_gained quads graphs.quads _ (in_graphs graphs.names) q (ap (is_among graphs.names) g ∙ among) h refl)
+
+pub gained_elsewhere : (graphs : Stored) (quads : Quads) (q : QuadParts) (n : Term) → q.graph ≡ Named n → contains graphs.names n ≡ false → AreHeld (Some graphs) quads → AreHeld (Some graphs) (insert quads q)
+gained_elsewhere graphs quads q n g apart h = part_same quads graphs.quads (in_graphs graphs.names) q (ap (is_among graphs.names) g ∙ apart) h
+
+pub lost_there : (graphs : Stored) (quads : Quads) (q : QuadParts) (new : Stored) → new ≡ stored.without_quad graphs q → AreHeld (Some graphs) quads → AreHeld (Some new) (remove quads q)
+lost_there graphs quads q new is h =
+    subst (λ (z : Stored). AreHeld (Some z) (remove quads q)) (sym is) (part_lost quads graphs.quads _ (in_graphs graphs.names) q h refl)
+
+not_tied : (m n : Term) → ¬ (Named m ≡ Named n) → eq_by_cmp term_cmp m n ≡ false
+not_tied m n apart =
+    elim (eq_by_cmp term_cmp m n) as (λ t. eq_by_cmp term_cmp m n ≡ t → t ≡ false) [
+      | true ↦ λ t. absurd (apart (ap Named (tie_same term_cmp_total term_cmp-IsAntisymmetric m n t)))
+      | false ↦ λ _. refl
+    ] refl
+
+one_more : (names : Names) (n : Term) (g : GraphName) → ¬ (g ≡ Named n) → is_among names g ≡ is_among (insert names n) g
+one_more names n Default apart = refl
+one_more names n (Named m) apart = sym (contains-insert term_cmp_total names n m ∙ ap (λ b. b || contains names m) (not_tied m n apart))
+
+-- tests that agree on the quads
+alike : (quads : Quads) (p r : QuadParts → Bool) → ((q : QuadParts) → contains quads q ≡ true → p q ≡ r q) → retain quads p ≡ retain quads r
+alike quads p r h = same _ _ (λ q. kept quads p q ∙ where_true (contains quads q) (p q) (r q) (h q) ∙ sym (kept quads r q))
+  where
+    where_true : (a x y : Bool) → (a ≡ true → x ≡ y) → (a && x) ≡ (a && y)
+    where_true true x y h = h refl
+    where_true false x y h = refl
+
+-- a graph without quads becomes one of them
+pub graph_more : (graphs : Stored) (s : State) (n : Term) (new : Stored) → new ≡ with_name graphs n → IsEmptyGraph s (Named n) → AreHeld (Some graphs) s.quads → AreHeld (Some new) s.quads
+graph_more graphs s n new is empty h =
+    subst (λ (z : Stored). AreHeld (Some z) s.quads) (sym is)
+    (h ∙ alike s.quads (in_graphs graphs.names) (in_graphs (insert graphs.names n)) (λ q m. one_more graphs.names n q.graph (empty q m)))
+
+-- a graph that is emptied has no quad
+pub is_emptied : (s t : State) (g : GraphName) → t ≡ without_graph s g → IsEmptyGraph t g
+is_emptied s t g e q h is =
+    let left = sym (kept s.quads (λ x. not (eq_by_cmp graph_cmp g x.graph)) q) ∙ ap (λ (z : State). contains z.quads q) (sym e) ∙ h in
+    true≢false (sym (second (contains s.quads q) _ left) ∙ ap not (ap (eq_by_cmp graph_cmp g) is ∙ tie_itself graph_cmp_total graph_cmp-IsAntisymmetric g))
+  where
+    second : (a b : Bool) → (a && b) ≡ true → b ≡ true
+    second true b h = h
+    second false b h = absurd (true≢false (sym h))

@@ -1,9 +1,10 @@
-//! Graphs that are emptied. Where the named ones were all emptied before, only what came since is walked.
+//! Graphs that are emptied. Of one that was emptied of more than a few quads, and of all where the named ones were emptied
+//! together, only what came since is walked.
 ghost use Rattle.std.specs.Prelude.{◌≡◌, IfOk, IfSome, OnOk};
 ghost use Rattle.std.specs.FinSet as set;
 ghost use Rattle.rdf_terms.specs.declared.quad.GraphName.TheVariants.{Default};
 ghost use Rattle.rdf_terms.specs.Lists.{ListsOnce};
-ghost use Rattle.rdf_dataset.specs.State.{without_graph, without_named, without_names};
+ghost use Rattle.rdf_dataset.specs.State.{IsEmptyGraph, without_graph, without_named, without_names};
 ghost use Rattle.rdf_dataset.specs.Staging.{staged};
 ghost use Rattle.rdf_dataset.specs.Inside.Emptied.{in_named, less};
 
@@ -12,6 +13,9 @@ use crate::staged::Staged;
 use rdf_sets::Tree;
 use rdf_store::Store;
 use rdf_terms::{GraphName, NoMemory, Quad};
+
+// How many quads are soon walked: a graph that is emptied of no more has no part of its own.
+const FEW: usize = 100;
 
 impl<'a, D: Source> Staged<'a, D> {
     // Takes the quads out.
@@ -77,6 +81,29 @@ impl<'a, D: Source> Staged<'a, D> {
         Ok(())
     }
 
+    // Takes the quads of a graph out, and answers how many were looked at.
+    fn empty(&mut self, graph: &GraphName) -> Result<usize, NoMemory>
+        ensures ok { OnOk result (self.new
+            ≡ staged self.old (without_graph self.old.now graph.now)) }
+        ensures beneath { self.new.under ≡ self.old.under }
+    {
+        let mut found = Vec::new(self.alloc);
+        let looked = self.matches(graph, None, None, None, &mut found)?;
+        self.remove_each(found.as_slice())?;
+        Ok(looked)
+    }
+
+    // Finds what comes to a graph that has no quad in a part of its own from now on.
+    fn hold(&mut self, graph: &GraphName)
+        requires { IsEmptyGraph self.old.now graph.now }
+        ensures { self.new ≡ self.old }
+    {
+        match graph {
+            GraphName::Default => self.emptied.default = Some(Store::new(self.alloc)),
+            GraphName::Named(name) => self.emptied.hold(name),
+        }
+    }
+
     /// Takes the quads of a graph out. Its name stays.
     ///
     /// # Errors
@@ -85,9 +112,10 @@ impl<'a, D: Source> Staged<'a, D> {
         ensures ok { OnOk result (self.new ≡ staged self.old (without_graph self.old.now graph.now)) }
         ensures beneath { self.new.under ≡ self.old.under }
     {
-        let mut found = Vec::new(self.alloc);
-        self.matches(graph, None, None, None, &mut found)?;
-        self.remove_each(found.as_slice())
+        if self.empty(graph)? > FEW {
+            self.hold(graph);
+        }
+        Ok(())
     }
 
     /// Takes the quads of the default graph out. From then on only those that have come since are looked at there.
@@ -99,8 +127,8 @@ impl<'a, D: Source> Staged<'a, D> {
             ≡ staged self.old (without_graph self.old.now Default)) }
         ensures beneath { self.new.under ≡ self.old.under }
     {
-        self.clear_graph(&GraphName::Default)?;
-        self.emptied.default = Some(Store::new(self.alloc));
+        self.empty(&GraphName::Default)?;
+        self.hold(&GraphName::Default);
         Ok(())
     }
 

@@ -1,23 +1,27 @@
 //! Parts of a view that were emptied: what they hold now is found without what lies beneath.
-ghost use Rattle.std.specs.Prelude.{Bool, Option, IsTrue, IfSome, option_copied};
+ghost use Rattle.std.specs.Prelude.{◌≡◌, Bool, Option, IsTrue, IfSome, option_copied};
 ghost use Rattle.std.specs.FinSet as set;
 ghost use Rattle.rdf_terms.specs.Order.{term_cmp};
 ghost use Rattle.rdf_terms.specs.Quad.{QuadParts};
-ghost use Rattle.rdf_dataset.specs.State.{State, Quads, Names, with_name, with_quad, without_name, without_quad};
-ghost use Rattle.rdf_dataset.specs.Inside.Emptied.{AreNames, AreParts, FindsTheSame, IsPart};
+ghost use Rattle.rdf_terms.specs.declared.quad.GraphName.TheVariants.{Named as named};
+ghost use Rattle.rdf_dataset.specs.State.{State, Quads, Names, IsEmptyGraph, with_name, with_quad, without_name, without_quad};
+ghost use Rattle.rdf_dataset.specs.Inside.Emptied.{AreHeld, AreNames, AreParts, FindsTheSame, IsPart};
 
 use rdf_sets::Tree;
 use rdf_store::Store;
 use rdf_terms::{GraphName, Quad, Term};
+use std::alloc::Global;
 
-/// What a view holds now in the parts that were emptied since it began: the default graph, the named ones together, and
-/// the names of graphs. A part that wasn't emptied isn't here. Nor is one for whose growth memory was wanting: it is given
-/// up, which costs time and changes no answer.
+/// What a view holds now in the parts that were emptied since it began: the default graph, the named ones together, the
+/// names of graphs, and named graphs one by one, which one store holds with the names of those that were emptied. A part
+/// that wasn't emptied isn't here. Nor is one for whose growth memory was wanting: it is given up, which costs time and
+/// changes no answer.
 #[derive(Drop)]
 pub(crate) struct Emptied {
     pub(crate) default: Option<Store>,
     pub(crate) named: Option<Store>,
     pub(crate) names: Option<Tree<Term>>,
+    pub(crate) graphs: Option<Store>,
 }
 
 // The part with the quad, which belongs there.
@@ -32,10 +36,39 @@ fn gained(part: Option<Store>, quad: &Quad) -> Option<Store>
     }
 }
 
-// The part without the quad.
+// The graphs with the quad, where the one that it belongs to is among them.
+fn gained_apart(graphs: Option<Store>, name: &Term, quad: &Quad) -> Option<Store>
+    ensures { (quads : Quads) → quad.now.graph ≡ named name.now →
+        AreHeld graphs quads → AreHeld result (set.insert quads quad.now) }
+{
+    let mut held = graphs?;
+    if !held.has_name(name) {
+        return Some(held);
+    }
+    match held.insert(quad) {
+        Ok(_) => Some(held),
+        Err(_) => None,
+    }
+}
+
+// The graphs with one more, which has no quad.
+fn graph_gained(graphs: Option<Store>, name: &Term) -> Option<Store>
+    ensures { (s : State) → IsEmptyGraph s (named name.now) →
+        AreHeld graphs s.quads → AreHeld result s.quads }
+{
+    let mut more = graphs?;
+    match more.add_name(name) {
+        Ok(_) => Some(more),
+        Err(_) => None,
+    }
+}
+
+// The part, or the graphs, without the quad.
 fn lost(part: Option<Store>, quad: &Quad) -> Option<Store>
-    ensures { (quads : Quads) (test : QuadParts → Bool) →
+    ensures part { (quads : Quads) (test : QuadParts → Bool) →
         IsPart test part quads → IsPart test result (set.remove quads quad.now) }
+    ensures graphs { (quads : Quads) →
+        AreHeld part quads → AreHeld result (set.remove quads quad.now) }
 {
     let mut store = part?;
     store.remove(quad);
@@ -66,15 +99,24 @@ fn name_lost(part: Option<Tree<Term>>, name: &Term) -> Option<Tree<Term>>
 }
 
 impl Emptied {
-    /// No part was emptied.
-    pub(crate) fn none() -> Emptied
+    /// No part was emptied. It takes no memory.
+    pub(crate) fn none(alloc: Global) -> Emptied
         ensures { (s : State) → AreParts result s }
     {
         Emptied {
             default: None,
             named: None,
             names: None,
+            graphs: Some(Store::new(alloc)),
         }
+    }
+
+    /// A named graph has no quad: what comes there is found in its own part from now on.
+    pub(crate) fn hold(&mut self, name: &Term)
+        ensures { (s : State) → IsEmptyGraph s (named name.now) → AreParts self.old s →
+            AreParts self.new s }
+    {
+        self.graphs = graph_gained(self.graphs.take(), name);
     }
 
     /// A quad has come, and the name of its graph.
@@ -86,6 +128,7 @@ impl Emptied {
             GraphName::Named(name) => {
                 self.named = gained(self.named.take(), quad);
                 self.names = name_gained(self.names.take(), name);
+                self.graphs = gained_apart(self.graphs.take(), name, quad);
             }
         }
     }
@@ -96,6 +139,7 @@ impl Emptied {
     {
         self.default = lost(self.default.take(), quad);
         self.named = lost(self.named.take(), quad);
+        self.graphs = lost(self.graphs.take(), quad);
     }
 
     /// A name has come.
@@ -112,6 +156,19 @@ impl Emptied {
         self.names = name_lost(self.names.take(), name);
     }
 
+    // The graphs that were emptied one by one, where this is among them.
+    fn graphs_with(&self, name: &Term) -> Option<&Store>
+        ensures { IfSome result (λ part. (s : State) → AreParts self.now s →
+            FindsTheSame (named name.now) part.now.quads s.quads) }
+    {
+        let graphs = self.graphs.as_ref()?;
+        if graphs.has_name(name) {
+            Some(graphs)
+        } else {
+            None
+        }
+    }
+
     /// The part in which the graph is found, where that part was emptied.
     pub(crate) fn part(&self, graph: &GraphName) -> Option<&Store>
         ensures { IfSome result (λ part. (s : State) → AreParts self.now s →
@@ -119,7 +176,10 @@ impl Emptied {
     {
         match graph {
             GraphName::Default => self.default.as_ref(),
-            GraphName::Named(_) => self.named.as_ref(),
+            GraphName::Named(name) => match self.named.as_ref() {
+                Some(part) => Some(part),
+                None => self.graphs_with(name),
+            },
         }
     }
 }

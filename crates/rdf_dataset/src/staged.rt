@@ -56,7 +56,7 @@ impl<'a, D: Source> Staged<'a, D> {
         Staged {
             under,
             edits,
-            emptied: Emptied::none(),
+            emptied: Emptied::none(alloc),
             alloc,
         }
     }

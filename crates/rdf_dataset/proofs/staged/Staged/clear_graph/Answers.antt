@@ -1,14 +1,7 @@
-use Rattle.std.proofs.Common.{◌∙◌, ap}
-use Rattle.std.proofs.lemmas.Result.{on_ok_weaker}
-use Rattle.rdf_dataset.specs.Staging.{staged}
-use Rattle.rdf_dataset.specs.Inside.Emptied.{less}
-use Rattle.rdf_dataset.proofs.ClearingLemmas.{found_gone}
+use Rattle.std.proofs.Common.{ap}
+use Rattle.rdf_dataset.specs.Staging.{Staging}
+use Rattle.rdf_dataset.proofs.EmptiedLemmas.{is_emptied}
 use Rattle.rdf_dataset.proofs.staged.Staged.clear_graph.Goals as goal
 
-pub returns-clause-ok : goal.returns-clause-ok
-returns-clause-ok g c =
-    let s = c.args.self.now in
-    on_ok_weaker c.remove_each.result
-    (λ e. e ∙ ap (λ quads. staged s (less s.now quads)) c.as_slice.ensures.value
-    ∙ ap (staged s) (found_gone s.now c.args.graph.now c.new-found.result.items c.matches.new.out.items c.new-found.ensures.items c.in_ok-matches.ensures.found))
-    c.remove_each.ensures.ok
+pub hold-requires : goal.hold-requires
+hold-requires g c = is_emptied c.args.self.now.now _ c.args.graph.now (ap (λ (s : Staging). s.now) c.in_ok-empty.ensures.ok)
