@@ -217,14 +217,6 @@ QUERIES = {
 # what of these asks for a product, as docs/FORMATS.md states: it grows with the square of n
 STATED = {
     "chained bases",
-    "CLEAR of one graph, n times over its n quads",
-    "CLEAR of one graph and one quad, n times",
-    "CLEAR of two graphs by turns, n times",
-    "DROP and CREATE of one graph, n times",
-    "COPY of nothing to one graph, n times",
-    "COPY of nothing to the default graph, n times",
-    "ADD of a graph that was cleared, n times",
-    "patterns over a graph that was cleared, n times",
     "DELETE WHERE of all, n times over n quads",
     "requests of CLEAR NAMED, n of them over n empty graphs",
 }
