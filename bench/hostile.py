@@ -219,6 +219,13 @@ STATED = {
     "chained bases",
     "DELETE WHERE of all, n times over n quads",
     "requests of CLEAR NAMED, n of them over n empty graphs",
+    "OPTIONALs",
+    "MINUS behind MINUS",
+    "GRAPHs of n names",
+    "triple patterns of one subject",
+    "unlinked triple patterns",
+    "columns that stand in the pattern",
+    "all columns, by groups",
 }
 SESSIONS = {
     "blank lines of a script": lambda n: " \n" * n,
