@@ -142,6 +142,10 @@ UPDATES = {
     "ADD of a graph that was cleared, n times": lambda n: one_graph(n) + update("CLEAR GRAPH <a:g> ; " + "ADD <a:g> TO <a:h> ; " * n),
     "patterns over a graph that was cleared, n times": lambda n: one_graph(n) + update("CLEAR GRAPH <a:g> ; " + "INSERT { ?s <a:q> ?o } WHERE { GRAPH <a:g> { ?s ?p ?o } } ; " * n),
     "DELETE WHERE of all, n times over n quads": lambda n: chain(n) + update("DELETE WHERE { ?s ?p ?o } ; " * n),
+    "DELETE WHERE of one predicate, n times beside n other quads": lambda n: chain(n) + update("DELETE WHERE { ?s <a:p> ?o } ; " * n),
+    "DELETE WHERE of all in a named graph, n times": lambda n: one_graph(n) + update("DELETE WHERE { GRAPH <a:g> { ?s ?p ?o } } ; " * n),
+    "DELETE DATA of all, then DELETE WHERE n times": lambda n: chain(n) + update(many(n, "DELETE DATA { <a:%> <a:p> <a:x%> }", " ; ") + " ; " + "DELETE WHERE { ?s ?p ?o } ; " * n),
+    "DELETE WHERE of all and one quad by turns, n times over n quads": lambda n: chain(n) + update(many(n, "DELETE WHERE { ?s ?p ?o } ; INSERT DATA { <a:s> <a:p> % }", " ; ")),
     "COPY along n graphs": lambda n: data("GRAPH <a:g0> { <a:s> <a:p> 1 }") + update(" ; ".join(f"COPY <a:g{i}> TO <a:g{i + 1}>" for i in range(n))),
     "MOVE along n graphs": lambda n: data("GRAPH <a:g0> { <a:s> <a:p> 1 }") + update(" ; ".join(f"MOVE <a:g{i}> TO <a:g{i + 1}>" for i in range(n))),
     "ADD of n graphs to one": lambda n: graphs(n) + update(many(n, "ADD <a:g%> TO <a:g>", " ; ")),
@@ -217,8 +221,6 @@ QUERIES = {
 # what of these asks for a product, as docs/FORMATS.md states: it grows with the square of n
 STATED = {
     "chained bases",
-    "DELETE WHERE of all, n times over n quads",
-    "requests of CLEAR NAMED, n of them over n empty graphs",
     "OPTIONALs",
     "MINUS behind MINUS",
     "GRAPHs of n names",

@@ -17,10 +17,11 @@ class Program:
         self.path, self.room = shutil.copy2(path, room), pathlib.Path(room)
         self.environment = {"LD_PRELOAD": str(library_of("refuse", room)), **environment}
 
-    def run(self, words=(), text="", number=0, course="alone"):
-        """A run with a request refused, or with none, where the number is 0."""
+    def run(self, words=(), text="", number=0, course="alone", folder=None):
+        """A run with a request refused, or with none, where the number is 0, in this folder, or in its own."""
         environment = {**self.environment, "REFUSED": str(number), **({"LASTING": "1"} if course == "lasting" else {})}
-        ran = subprocess.run([self.path, *words], input=text, env=environment, cwd=self.room, capture_output=True, text=True, errors="replace", timeout=60)
+        how = {"env": environment, "cwd": folder or self.room, "capture_output": True, "text": True, "errors": "replace", "timeout": 60}
+        ran = subprocess.run([self.path, *words], input=text, **how)
         told = TOLD.search(ran.stderr)
         return Run(ran.stdout, TOLD.sub("", ran.stderr), ran.returncode, *(map(int, told.groups()) if told else (-1, -1, -1)))
 

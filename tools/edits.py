@@ -4,6 +4,8 @@ import collections, os, re
 HEAD = re.compile(r"^( *)(?:pub(?:\([^)]*\))? )?((?:(?:const|unsafe|final) )*)fn (\w+)")
 # its parameters, its trait and that one's argument, its type and that one's argument
 IMPL = re.compile(r"(?:unsafe )?impl(<[^{]*?>)? (?:(?:\w+::)*(\w+)(?:<(\w+).*?>)? for )?(?:\w+::)*(\w+)(?:<(\w+)>)?")
+# a trait, some of whose methods may have bodies
+TRAIT = re.compile(r"(?:pub(?:\([^)]*\))? )?trait (\w+)")
 # behind the answers of each edited function stands a declaration that antt refuses. So it is never proved, and the check doesn't offer answers for what
 # is left open, which would take a third of its time; each goal of the function is tried all the same, and the check says which it doesn't prove
 REFUSED = "untried"
@@ -42,9 +44,10 @@ def functions_of(crate, file, text):
         if lines[opens].endswith(";"):
             continue
         last = opens if lines[opens].endswith("}") else lines.index(f"{indent}}}", opens)
-        outer = IMPL.match(next((lines[n] for n in range(at, -1, -1) if re.match(r"\S.*\{$", lines[n])), "")) if indent else None
-        owner = f"::{owner_of(outer)}" if outer else ""
-        names = [f"{module}{owner}::{head[3]}"] if outer or not indent else []
+        around = next((lines[n] for n in range(at, -1, -1) if re.match(r"\S.*\{$", lines[n])), "") if indent else ""
+        outer, trait = IMPL.match(around), TRAIT.match(around)
+        owner = f"::{owner_of(outer)}" if outer else f"::{trait[1]}" if trait else ""
+        names = [f"{module}{owner}::{head[3]}"] if owner or not indent else []
         names += [rf"\S*{owner}::{head[3]}"] if indent else []
         cycle = re.search(r"#\[cycle\((\w+)\)\]", "\n".join(lines[first:at]))
         found.append(Function(file, first, opens, last, head[3], [names], "const" in head[2], (file, cycle[1]) if cycle else None))

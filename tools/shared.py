@@ -1,6 +1,6 @@
 """What the tools of this folder share: the crates, copies of the repository, commands and their processor time, tasks side by side."""
-import argparse, collections, contextlib, importlib.machinery, importlib.util, math, os, pathlib, re, shutil, signal, subprocess, sys, tempfile, threading, time
-import traceback
+import argparse, collections, contextlib, hashlib, importlib.machinery, importlib.util, math, os, pathlib, re, shutil, signal, subprocess, sys, tempfile
+import threading, time, traceback
 from concurrent.futures import FIRST_COMPLETED, ThreadPoolExecutor, wait
 
 ROOT = pathlib.Path(__file__).resolve().parents[1]
@@ -12,6 +12,28 @@ RT = os.environ.get("RT", "rt")
 Task = collections.namedtuple("Task", "order memory call")
 # what a session answers a command: lines, of which the last says how it went
 ANSWER = re.compile(r"(?:.*\n)*?(?:ok(?: .*)?|refused: .*)\n")
+TOOL = pathlib.Path(sys.argv[0]).name
+# what was checked: whether it holds
+TOLD = []
+
+
+count_of = lambda passed, failed, skipped: f"{passed} passed, {failed} failed" + (f", {skipped} skipped" if skipped else "")
+sum_of = lambda *told: hashlib.sha256(repr(told).encode()).hexdigest()
+
+
+def check(what, holds, *shown):
+    """Counts one more, and says what is wrong, if something is."""
+    TOLD.append(bool(holds))
+    if not holds:
+        print(f"{TOOL}: {what}", *shown, flush=True)
+
+
+def is_there(what, *programs):
+    """Whether these programs are there: else a line says what isn't checked."""
+    lost = [it for it in programs if not shutil.which(it)]
+    if lost:
+        print(f"{TOOL}: {lost[0]} isn't there, so {what} isn't checked")
+    return not lost
 
 
 def reader(about, many=None, **options):
@@ -27,8 +49,24 @@ def reader(about, many=None, **options):
 
 def say_count(passed, failed, skipped=0):
     """Says how many passed, and returns the exit status."""
-    print(f"{passed} passed, {failed} failed" + (f", {skipped} skipped" if skipped else ""))
+    print(count_of(passed, failed, skipped))
     return int(failed > 0)
+
+
+def say_told():
+    return say_count(TOLD.count(True), TOLD.count(False))
+
+
+def program_given():
+    """The program that a tool's one word names, or else ./rdfkeep."""
+    return pathlib.Path(*sys.argv[1:2] or [ROOT / "rdfkeep"]).resolve()
+
+
+def said(*words, folder=ROOT, **streams):
+    """What a command writes, and whether it ends well."""
+    streams = {"stdin": subprocess.DEVNULL, "stdout": subprocess.PIPE, "stderr": subprocess.DEVNULL, "timeout": 120, **streams}
+    ran = subprocess.run([str(it) for it in words], cwd=folder, encoding="utf-8", errors="replace", **streams)
+    return ran.stdout, ran.returncode == 0
 
 
 def cache():
@@ -47,6 +85,11 @@ def module_of(path):
     found = importlib.util.module_from_spec(importlib.util.spec_from_loader(loader.name, loader))
     loader.exec_module(found)
     return found
+
+
+def sums_of(paths, root=ROOT):
+    """A sum of each file, by its name below a folder."""
+    return {str(it.relative_to(root)): hashlib.sha256(it.read_bytes()).hexdigest() for it in sorted(paths) if it.is_file()}
 
 
 def rows_of(root):
@@ -164,6 +207,9 @@ def run(words, folder, hear=lambda line: None, until=math.inf):
     it ran. `hear` is told each line."""
     streams = {"stdin": subprocess.DEVNULL, "stdout": subprocess.PIPE, "stderr": subprocess.STDOUT, "errors": "replace"}
     process, said = subprocess.Popen([str(it) for it in words], cwd=folder, start_new_session=True, **streams), []
+    with contextlib.suppress(OSError):
+        # (Linux may give each session the same share of the processors: what is nice has to be said of the session)
+        pathlib.Path("/proc", str(process.pid), "autogroup").write_text(str(os.nice(0)))
     late = threading.Timer(min(max(0, until - time.time()), threading.TIMEOUT_MAX), os.killpg, (process.pid, signal.SIGKILL))
     try:
         late.start()
@@ -180,7 +226,7 @@ def run(words, folder, hear=lambda line: None, until=math.inf):
 def rt(*words):
     """The words of a command of rt, or of another that RT names."""
     if not shutil.which(RT):
-        sys.exit(f"{pathlib.Path(sys.argv[0]).name}: {RT} isn't found: put the Rattle toolchain's command on the path")
+        sys.exit(f"{TOOL}: {RT} isn't found: put the Rattle toolchain's command on the path")
     return [RT, *words]
 
 
@@ -232,7 +278,7 @@ def ends(main):
     except SystemExit as end:
         status, said = (1, end.code) if isinstance(end.code, str) else (end.code or 0, "")
     except KeyboardInterrupt:
-        status, said = 130, f"{pathlib.Path(sys.argv[0]).name}: interrupted"
+        status, said = 130, f"{TOOL}: interrupted"
     except BaseException:
         status, said = 1, traceback.format_exc()
     print(said, end="\n" if said else "", file=sys.stderr, flush=True)

@@ -424,3 +424,70 @@ fn the_default_graph_cleared(rt: HostRuntime) -> Result<(), Fail> {
     assert!(rt; counts(alloc, &view, 3) == Some((1, 1)));
     Ok(())
 }
+
+// How many quads of the default graph a look-up for at most so many finds, and whether these are all.
+fn some<D: Source>(alloc: Global, source: &D, most: usize) -> Option<(usize, bool)> {
+    let mut quads = Vec::new(alloc);
+    let all = source
+        .some_matches(&GraphName::Default, None, None, None, most, &mut quads)
+        .ok()?;
+    Some((quads.len(), all))
+}
+
+#[test]
+fn some_of_a_graph(rt: HostRuntime) -> Result<(), Fail> {
+    let alloc = rt.alloc();
+    let dataset = three(alloc).ok_or("no memory")?;
+    assert!(rt; some(alloc, &dataset, 0) == Some((0, false)));
+    assert!(rt; some(alloc, &dataset, 1) == Some((1, false)));
+    assert!(rt; some(alloc, &dataset, 3) == Some((2, true)));
+    let view = Staged::over(alloc, &dataset);
+    assert!(rt; some(alloc, &view, 1) == Some((2, true)));
+    Ok(())
+}
+
+// How many quads of named graphs are listed, and how many were looked at.
+fn of_named<D: Source>(alloc: Global, source: &D) -> Option<(usize, usize)> {
+    let mut quads = Vec::new(alloc);
+    let looked = source.named_quads(&mut quads).ok()?;
+    Some((quads.len(), looked))
+}
+
+#[test]
+fn quads_of_named_graphs(rt: HostRuntime) -> Result<(), Fail> {
+    let alloc = rt.alloc();
+    let dataset = three(alloc).ok_or("no memory")?;
+    assert!(rt; of_named(alloc, &dataset) == Some((1, 1)));
+    let mut view = Staged::over(alloc, &dataset);
+    assert!(rt; insert(alloc, &mut view, 2, 2) == Some(true));
+    assert!(rt; remove(alloc, &mut view, 3, 1) == Some(true));
+    assert!(rt; of_named(alloc, &view) == Some((1, 2)));
+    assert!(rt; view.clear_named().is_ok());
+    assert!(rt; of_named(alloc, &view) == Some((0, 0)));
+    Ok(())
+}
+
+// How many quads a look-up in the default graph looks at, a hundred times the last.
+fn looked_often(alloc: Global, view: &Staged<'_, Dataset>) -> Option<usize> {
+    let mut looked = 0;
+    for _ in 0..100 {
+        let mut quads = Vec::new(alloc);
+        looked = view
+            .matches(&GraphName::Default, None, None, None, &mut quads)
+            .ok()?;
+    }
+    Some(looked)
+}
+
+#[test]
+fn quads_that_went_are_soon_passed_over_no_more(rt: HostRuntime) -> Result<(), Fail> {
+    let alloc = rt.alloc();
+    let dataset = three(alloc).ok_or("no memory")?;
+    let mut view = Staged::over(alloc, &dataset);
+    assert!(rt; remove(alloc, &mut view, 0, 1) == Some(true));
+    assert!(rt; looked_often(alloc, &view) == Some(2));
+    assert!(rt; view.settle().is_ok());
+    assert!(rt; looked_often(alloc, &view) == Some(1));
+    assert!(rt; listed(alloc, &view, 1, 2) == Some((1, Some(false), Some(true))));
+    Ok(())
+}

@@ -1,5 +1,5 @@
 //! Look-ups in three orders.
-use rdf_orders::{Order, Orders, QuadSets, Walk, look_up};
+use rdf_orders::{Key, Order, Orders, QuadSets, Walk, look_up};
 use rdf_terms::NoMemory;
 use std::alloc::Global;
 
@@ -37,6 +37,32 @@ fn other_bound_places(rt: HostRuntime) -> Result<(), NoMemory> {
     );
     assert!(rt; out.as_slice() == [[0, 1, 2, 3], [0, 1, 2, 4], [0, 5, 2, 3]].as_slice());
     assert_eq!(rt; sets.matches(alloc, 1, None, None, None, &mut out)?, 0);
+    Ok(())
+}
+
+#[test]
+fn some_of_a_run(rt: HostRuntime) -> Result<(), NoMemory> {
+    let alloc = rt.alloc();
+    let sets = three(alloc)?;
+    let mut out = Vec::new(alloc);
+    assert!(rt; !sets.some_matches(alloc, 0, Some(1), None, None, 0, &mut out)?);
+    assert!(rt; !sets.some_matches(alloc, 0, Some(1), None, None, 1, &mut out)?);
+    assert!(rt; out.as_slice() == [[0, 1, 2, 3]].as_slice());
+    assert!(rt; sets.some_matches(alloc, 0, Some(5), None, None, 9, &mut out)?);
+    assert!(rt; out.as_slice() == [[0, 1, 2, 3], [0, 5, 2, 3]].as_slice());
+    Ok(())
+}
+
+#[test]
+fn keys_of_later_graphs(rt: HostRuntime) -> Result<(), NoMemory> {
+    let alloc = rt.alloc();
+    let mut sets = three(alloc)?;
+    sets.insert(&[1, 0, 0, 0])?;
+    sets.insert(&[3, 9, 9, 9])?;
+    let keys: Vec<Key> = sets.keys_from(1).collect(alloc)?;
+    assert!(rt; keys.as_slice() == [[1, 0, 0, 0], [3, 9, 9, 9]].as_slice());
+    let mut behind = sets.keys_from(4);
+    assert!(rt; behind.next().is_none());
     Ok(())
 }
 

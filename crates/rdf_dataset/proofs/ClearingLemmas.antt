@@ -17,21 +17,21 @@ use Rattle.rdf_terms.specs.Lists.{AppendsOnce, ListsOnce}
 use Rattle.rdf_terms.specs.Order.{graph_cmp, term_cmp}
 use Rattle.rdf_terms.specs.OrderLaws.{quad_cmp_total, quad_cmp-IsAntisymmetric, term_cmp_total, term_cmp-IsAntisymmetric}
 use Rattle.rdf_sets.proofs.CallerLemmas.{retained, tie_itself, tie_same}
-use Rattle.rdf_dataset.specs.State.{Names, Quads, State, IsEmptyGraph, IsNamed, IsSound, is_default, matches, without_graph, without_name, without_named, without_names, without_quad}
+use Rattle.rdf_dataset.specs.State.{Names, Quads, State, IsEmptyGraph, IsNamed, in_named, is_default, matches, without_graph, without_name, without_named, without_names, without_quad}
 use Rattle.rdf_dataset.specs.Staging.{Staging, staged}
-use Rattle.rdf_dataset.specs.Inside.Emptied.{in_named, less}
+use Rattle.rdf_dataset.specs.Inside.Emptied.{less}
 
-kept : (quads : Quads) (test : QuadParts → Bool) (q : QuadParts) → contains (retain quads test) q ≡ (contains quads q && test q)
+pub kept : (quads : Quads) (test : QuadParts → Bool) (q : QuadParts) → contains (retain quads test) q ≡ (contains quads q && test q)
 kept quads test q = retained quad_cmp_total quad_cmp-IsAntisymmetric quads test q
 
-same : (s t : Quads) → ((q : QuadParts) → contains s q ≡ contains t q) → s ≡ t
+pub same : (s t : Quads) → ((q : QuadParts) → contains s q ≡ contains t q) → s ≡ t
 same s t h = same_set quad_cmp_total quad_cmp-IsAntisymmetric s t h
 
 and_true : (a : Bool) → (a && true) ≡ a
 and_true true = refl
 and_true false = refl
 
-and_false : (a : Bool) → (a && false) ≡ false
+pub and_false : (a : Bool) → (a && false) ≡ false
 and_false true = refl
 and_false false = refl
 
@@ -48,7 +48,7 @@ in_a_row true b c = refl
 in_a_row false b c = refl
 
 -- tests that agree on the members
-kept_alike : (quads : Quads) (p r : QuadParts → Bool) → ((q : QuadParts) → contains quads q ≡ true → p q ≡ r q) → retain quads p ≡ retain quads r
+pub kept_alike : (quads : Quads) (p r : QuadParts → Bool) → ((q : QuadParts) → contains quads q ≡ true → p q ≡ r q) → retain quads p ≡ retain quads r
 kept_alike quads p r h = same _ _ (λ q. kept quads p q ∙ where_true (contains quads q) (p q) (r q) (h q) ∙ sym (kept quads r q))
 
 -- two tests, one after the other
@@ -115,7 +115,7 @@ removing_ends s now qs rest r e = sym (less-nothing now) ∙ ap (less now) (sym 
 
 -- ---- a graph is emptied
 
-front_nothing : {X : Type 0} (old new found : List X) → old ≡ [] → new ≡ old ++ found → new ≡ found
+pub front_nothing : {X : Type 0} (old new found : List X) → old ≡ [] → new ≡ old ++ found → new ≡ found
 front_nothing old new found e f = f ∙ ap (λ l. l ++ found) e
 
 -- those that a look-up found go
@@ -133,37 +133,13 @@ since_gone s since l = same_state (less s since) (without_named s) (goes s.quads
     twice true = refl
     twice false = refl
 
--- ---- each graph is emptied by its name
-
--- the graphs of these names are to be emptied
-abbrev pub each_emptied : State → List Term → State
-each_emptied s [] = s
-each_emptied s (n ∷ ns) = each_emptied (without_graph s (Named n)) ns
-
-each_emptied-quads : (s : State) (ns : List Term) → (each_emptied s ns).quads ≡ retain s.quads (λ q. not (list_any (λ n. eq_by_cmp graph_cmp (Named n) q.graph) ns))
-each_emptied-quads s [] = sym (kept_all s.quads (λ q. true) (λ q. refl))
-each_emptied-quads s (n ∷ ns) =
-    each_emptied-quads (without_graph s (Named n)) ns
-    ∙ kept_twice s.quads (λ q. not (eq_by_cmp graph_cmp (Named n) q.graph)) (λ q. not (list_any (λ m. eq_by_cmp graph_cmp (Named m) q.graph) ns)) (λ q. not (list_any (λ m. eq_by_cmp graph_cmp (Named m) q.graph) (n ∷ ns)))
-    (λ q. not_either (eq_by_cmp graph_cmp (Named n) q.graph) (list_any (λ m. eq_by_cmp graph_cmp (Named m) q.graph) ns))
-  where
-    not_either : (a b : Bool) → (not a && not b) ≡ not (a || b)
-    not_either true b = refl
-    not_either false b = refl
-
-each_emptied-names : (s : State) (ns : List Term) → (each_emptied s ns).names ≡ s.names
-each_emptied-names s [] = refl
-each_emptied-names s (n ∷ ns) = each_emptied-names (without_graph s (Named n)) ns
-
-each_emptied-next : (s : State) (ns : List Term) → (each_emptied s ns).next ≡ s.next
-each_emptied-next s [] = refl
-each_emptied-next s (n ∷ ns) = each_emptied-next (without_graph s (Named n)) ns
+-- ---- the names of graphs
 
 nothing_names_the_default : (ns : List Term) → list_any (λ n. eq_by_cmp graph_cmp (Named n) Default) ns ≡ false
 nothing_names_the_default [] = refl
 nothing_names_the_default (n ∷ ns) = nothing_names_the_default ns
 
-turned : (m n : Term) → eq_by_cmp term_cmp n m ≡ eq_by_cmp term_cmp m n
+pub turned : (m n : Term) → eq_by_cmp term_cmp n m ≡ eq_by_cmp term_cmp m n
 turned m n = both_ways _ _ (λ t. ap (λ z. eq_by_cmp term_cmp m z) (tie_same term_cmp_total term_cmp-IsAntisymmetric n m t) ∙ tie_itself term_cmp_total term_cmp-IsAntisymmetric m)
     (λ t. ap (λ z. eq_by_cmp term_cmp n z) (tie_same term_cmp_total term_cmp-IsAntisymmetric m n t) ∙ tie_itself term_cmp_total term_cmp-IsAntisymmetric n)
   where
@@ -172,22 +148,14 @@ turned m n = both_ways _ _ (λ t. ap (λ z. eq_by_cmp term_cmp m z) (tie_same te
     both_ways false true f g = g refl
     both_ways false false f g = refl
 
-any_turned : (m : Term) (ns : List Term) → list_any (λ n. eq_by_cmp graph_cmp (Named n) (Named m)) ns ≡ list_any (eq_by_cmp term_cmp m) ns
+pub any_turned : (m : Term) (ns : List Term) → list_any (λ n. eq_by_cmp graph_cmp (Named n) (Named m)) ns ≡ list_any (eq_by_cmp term_cmp m) ns
 any_turned m [] = refl
 any_turned m (n ∷ ns) = λ i. turned m n i || any_turned m ns i
 
 -- where all names are listed, those of named graphs are among them
-listed : (names : Names) (ns : List Term) (g : GraphName) → from_list ns ≡ names → IsNamed names g → not (list_any (λ n. eq_by_cmp graph_cmp (Named n) g) ns) ≡ is_default g
+pub listed : (names : Names) (ns : List Term) (g : GraphName) → from_list ns ≡ names → IsNamed names g → not (list_any (λ n. eq_by_cmp graph_cmp (Named n) g) ns) ≡ is_default g
 listed names ns Default e h = ap not (nothing_names_the_default ns)
 listed names ns (Named m) e h = ap not (any_turned m ns ∙ sym (contains-from_list term_cmp_total ns m) ∙ ap (λ z. contains z m) e ∙ h)
-
-pub named_emptied : (s : State) (old found rest : List Term) → IsSound s → old ≡ [] → AppendsOnce s.names old found → rest ≡ found → each_emptied s rest ≡ without_named s
-named_emptied s old found rest sound none l e =
-    ap (each_emptied s) e
-    ∙ same_state (each_emptied s found) (without_named s)
-    (each_emptied-quads s found
-    ∙ kept_alike s.quads _ (λ q. is_default q.graph) (λ q h. listed s.names found q.graph (ap from_list (front_nothing old found l.found none l.appended) ∙ l.each_once.all) (sound.named q h)))
-    (each_emptied-names s found) (each_emptied-next s found)
 
 -- ---- names go
 
@@ -263,12 +231,6 @@ default_gone_once s t e = ap (λ x. without_graph x Default) e ∙ twice ∙ sym
     }
 
 -- ---- turns of a loop over names
-
-pub emptying_goes_on : (now new : Staging) (t : State) (names rest : List Term) (n : Term) → names ≡ n ∷ rest → new ≡ staged now (without_graph now.now (Named n)) → each_emptied now.now names ≡ t → each_emptied new.now rest ≡ t
-emptying_goes_on now new t names rest n e f h = ap (λ (s : Staging). each_emptied s.now rest) f ∙ ap (each_emptied now.now) (sym e) ∙ h
-
-pub emptying_ends : (now t : State) (rest : List Term) → rest ≡ [] → each_emptied now rest ≡ t → now ≡ t
-emptying_ends now t rest r h = ap (each_emptied now) (sym r) ∙ h
 
 pub going_goes_on : (now new : Staging) (t : State) (names rest : List Term) (n : Term) → names ≡ n ∷ rest → new ≡ staged now (without_name now.now n) → each_gone now.now names ≡ t → each_gone new.now rest ≡ t
 going_goes_on now new t names rest n e f h = ap (λ (s : Staging). each_gone s.now rest) f ∙ ap (each_gone now.now) (sym e) ∙ h

@@ -1,10 +1,11 @@
 -- What the parts of a view that were emptied hold, and what emptying leaves.
-use Rattle.std.proofs.Common.{◌≡◌, Bool, true, false, ◌||◌, ◌&&◌, not, List, ◌++◌, Option, None, Some, refl, sym, ap, ◌∙◌, subst, IsTrue, Bor}
+use Rattle.std.proofs.Common.{◌≡◌, Bool, true, false, ◌||◌, ◌&&◌, not, List, [], ◌∷◌, ◌++◌, Option, None, Some, refl, sym, ap, ◌∙◌, subst, IsTrue, Bor}
 use mathlib.Core.Bool.{true≢false}
-use Rattle.std.specs.Prelude.{IfSome, option_copied}
+use Rattle.std.specs.Prelude.{IfOk, IfSome, Err, Ok, Result, option_copied}
+use Rattle.std.specs.Result.{result_ok}
 use Rattle.std.specs.Ordering.{eq_by_cmp}
 use Rattle.std.specs.FinSet as set
-use Rattle.std.specs.FinSet.{contains, from_list, same_set, contains-empty, contains-insert, contains-remove, insert, remove, retain}
+use Rattle.std.specs.FinSet.{contains, from_list, same_set, contains-empty, contains-from_list, contains-insert, contains-remove, contains-union, insert, len-empty, remove, retain}
 use Rattle.rdf_terms.specs.declared.term.Term.{Term}
 use Rattle.rdf_terms.specs.declared.quad.GraphName.{GraphName}
 use Rattle.rdf_terms.specs.declared.quad.GraphName.TheVariants.{Default, Named}
@@ -14,12 +15,14 @@ use Rattle.rdf_terms.specs.OrderLaws.{graph_cmp_total, graph_cmp-IsAntisymmetric
 use Rattle.std.specs.List.Sorted.{IsStrictlySortedBy}
 use Rattle.rdf_terms.specs.Lists.{AppendsOnce, ListsOnce}
 use Rattle.rdf_sets.proofs.CallerLemmas.{lists_once, retained, tie_itself, tie_same}
-use Rattle.rdf_store.specs.Stored.{Stored, with_name}
+use Rattle.rdf_orders.specs.Contents.{IsDisjoint}
+use Rattle.rdf_store.specs.Stored.{Stored}
 use Rattle.rdf_store.specs.Stored as stored
-use Rattle.rdf_dataset.specs.State.{State, Change, Names, Quads, IsEmptyGraph, IsSound, applied, is_default, matches, net_between, with_graph, with_quad, without_graph, without_named}
+use Rattle.rdf_dataset.specs.State.{State, Change, Names, Quads, IsEmptyGraph, IsSound, applied, in_named, is_default, matches, net_between, with_graph, with_quad, without_graph, without_named}
+use Rattle.rdf_dataset.proofs.ClearingLemmas.{turned}
 use Rattle.rdf_dataset.proofs.StateLemmas.{net_ends}
 use Rattle.rdf_dataset.specs.declared.emptied.Emptied.{Emptied}
-use Rattle.rdf_dataset.specs.Inside.Emptied.{AreHeld, AreNames, AreParts, FindsTheSame, IsPart, in_default, in_graphs, in_named, is_among}
+use Rattle.rdf_dataset.specs.Inside.Emptied.{AreHeld, AreNames, AreParts, FindsTheSame, IsPart, in_default, in_graphs, is_among}
 
 kept : (quads : Quads) (test : QuadParts → Bool) (q : QuadParts) → contains (retain quads test) q ≡ (contains quads q && test q)
 kept quads test q = retained quad_cmp_total quad_cmp-IsAntisymmetric quads test q
@@ -164,6 +167,14 @@ names_listed part listed old new names is known rises e = record {
   each_once = subst (λ z. ListsOnce z listed) (subst (λ p. AreNames p names) is known) (lists_once term_cmp_total term_cmp-IsAntisymmetric listed rises);
 }
 
+-- tests that agree on the quads
+alike : (quads : Quads) (p r : QuadParts → Bool) → ((q : QuadParts) → contains quads q ≡ true → p q ≡ r q) → retain quads p ≡ retain quads r
+alike quads p r h = same _ _ (λ q. kept quads p q ∙ where_true (contains quads q) (p q) (r q) (h q) ∙ sym (kept quads r q))
+  where
+    where_true : (a x y : Bool) → (a ≡ true → x ≡ y) → (a && x) ≡ (a && y)
+    where_true true x y h = h refl
+    where_true false x y h = refl
+
 -- ---- a part is emptied
 
 nothing_passes : (quads : Quads) (p r : QuadParts → Bool) → retain quads p ≡ quads → ((q : QuadParts) → r q ≡ not (p q)) → set.empty ≡ retain quads r
@@ -184,18 +195,44 @@ none_passes quads r h = same _ _ (λ q. contains-empty quad_cmp q ∙ sym (kept 
     neither true b h = h refl
     neither false b h = refl
 
--- the default graph has no quad
-pub default_renewed : (s : State) (e : Emptied) (part : Stored) → part.quads ≡ set.empty → IsEmptyGraph s Default → AreParts e s → AreParts (record { default = Some part; named = e.named; names = e.names; graphs = e.graphs }) s
-default_renewed s e part none empty a = record {
-  in_default_graph = none ∙ none_passes s.quads in_default (λ q h. another q.graph (empty q h));
+-- the quads of a graph are those that a look-up in it finds
+of_default : (g : GraphName) → (eq_by_cmp graph_cmp Default g && true) ≡ is_default g
+of_default Default = refl
+of_default (Named n) = refl
+
+-- a store that was empty has what came in
+pub part_is : (part new : Stored) (quads : List QuadParts) → part ≡ stored.empty_stored → new ≡ stored.with_all part quads [] → new.quads ≡ from_list quads
+part_is part new quads none is =
+    ap (λ (z : Stored). z.quads) is ∙ ap (λ (z : Stored). set.union z.quads (from_list quads)) none
+    ∙ same _ _ (λ q. contains-union quad_cmp_total set.empty (from_list quads) q ∙ ap (λ b. b || contains (from_list {R = quad_cmp} quads) q) (contains-empty quad_cmp q))
+
+pub no_quads_apart : (part : Stored) (quads : Quads) → part ≡ stored.empty_stored → IsDisjoint part.quads quads
+no_quads_apart part quads none q h _ = true≢false (sym h ∙ ap (λ (z : Stored). contains z.quads q) none ∙ contains-empty quad_cmp q)
+
+pub no_names_apart : (part : Stored) (names : Names) → part ≡ stored.empty_stored → IsDisjoint part.names names
+no_names_apart part names none n h _ = true≢false (sym h ∙ ap (λ (z : Stored). contains z.names n) none ∙ contains-empty term_cmp n)
+
+-- a name that was copied
+pub name_copied : {E : Type 0} (r : Result Term E) (o : Option Term) (m n : Term) → o ≡ result_ok r → o ≡ Some m → IfOk r (λ t. t ≡ n) → m ≡ n
+name_copied r o m n e is h = subst (λ z. IfSome z (λ t. t ≡ n)) (sym e ∙ is) (kept_ok r h)
+  where
+    kept_ok : {E : Type 0} (r : Result Term E) → IfOk r (λ t. t ≡ n) → IfSome (result_ok r) (λ t. t ≡ n)
+    kept_ok (Ok x) h = h
+    kept_ok (Err e) h = tt
+
+-- the default graph is found in a part of its own
+pub default_held : (s : State) (e : Emptied) (part : Option Stored) (g : GraphName) (quads : List QuadParts) → g ≡ Default → IfSome part (λ p. p.quads ≡ from_list quads)
+    → ListsOnce (retain s.quads (matches g None None None)) quads → AreParts e s → AreParts (record { default = part; named = e.named; names = e.names; graphs = e.graphs }) s
+default_held s e part g quads d is l a = record {
+  in_default_graph = found part is;
   in_named_graphs = a.in_named_graphs;
   of_graphs = a.of_graphs;
   in_each_graph = a.in_each_graph;
 }
   where
-    another : (g : GraphName) → ¬ (g ≡ Default) → is_default g ≡ false
-    another Default apart = absurd (apart refl)
-    another (Named n) apart = refl
+    found : (part : Option Stored) → IfSome part (λ p. p.quads ≡ from_list quads) → IsPart in_default part s.quads
+    found None h = tt
+    found (Some p) h = h ∙ l.all ∙ ap (λ x. retain s.quads (matches x None None None)) d ∙ alike s.quads _ in_default (λ q _. of_default q.graph)
 
 -- no named graph has a quad
 pub named_renewed : (s : State) (e : Emptied) (part : Stored) → part.quads ≡ set.empty → without_named s ≡ s → AreParts e s → AreParts (record { default = e.default; named = Some part; names = e.names; graphs = e.graphs }) s
@@ -232,30 +269,58 @@ pub lost_there : (graphs : Stored) (quads : Quads) (q : QuadParts) (new : Stored
 lost_there graphs quads q new is h =
     subst (λ (z : Stored). AreHeld (Some z) (remove quads q)) (sym is) (part_lost quads graphs.quads _ (in_graphs graphs.names) q h refl)
 
-not_tied : (m n : Term) → ¬ (Named m ≡ Named n) → eq_by_cmp term_cmp m n ≡ false
-not_tied m n apart =
-    elim (eq_by_cmp term_cmp m n) as (λ t. eq_by_cmp term_cmp m n ≡ t → t ≡ false) [
-      | true ↦ λ t. absurd (apart (ap Named (tie_same term_cmp_total term_cmp-IsAntisymmetric m n t)))
-      | false ↦ λ _. refl
-    ] refl
+-- a graph that isn't one of them becomes one
+module _ (graphs : Stored) (s : State) (n : Term) (quads : List QuadParts) (h : AreHeld (Some graphs) s.quads) (l : ListsOnce (retain s.quads (matches (Named n) None None None)) quads) where
+  among_them : (q : QuadParts) → contains graphs.quads q ≡ (contains s.quads q && is_among graphs.names q.graph)
+  among_them q = ap (λ z. contains z q) h ∙ kept s.quads (in_graphs graphs.names) q
 
-one_more : (names : Names) (n : Term) (g : GraphName) → ¬ (g ≡ Named n) → is_among names g ≡ is_among (insert names n) g
-one_more names n Default apart = refl
-one_more names n (Named m) apart = sym (contains-insert term_cmp_total names n m ∙ ap (λ b. b || contains names m) (not_tied m n apart))
+  in_this : (q : QuadParts) → contains (from_list {R = quad_cmp} quads) q ≡ (contains s.quads q && (eq_by_cmp graph_cmp (Named n) q.graph && true))
+  in_this q = ap (λ z. contains z q) l.all ∙ kept s.quads (matches (Named n) None None None) q
 
--- tests that agree on the quads
-alike : (quads : Quads) (p r : QuadParts → Bool) → ((q : QuadParts) → contains quads q ≡ true → p q ≡ r q) → retain quads p ≡ retain quads r
-alike quads p r h = same _ _ (λ q. kept quads p q ∙ where_true (contains quads q) (p q) (r q) (h q) ∙ sym (kept quads r q))
+  pub graphs_apart : contains graphs.names n ≡ false → IsDisjoint graphs.quads (from_list quads)
+  graphs_apart new q e f =
+      let same_graph = tie_same graph_cmp_total graph_cmp-IsAntisymmetric (Named n) q.graph (first_of (eq_by_cmp graph_cmp (Named n) q.graph) (second_of (contains s.quads q) _ (sym (in_this q) ∙ f))) in
+      true≢false (sym (second_of (contains s.quads q) _ (sym (among_them q) ∙ e)) ∙ ap (is_among graphs.names) (sym same_graph) ∙ new)
+    where
+      first_of : (a : Bool) → (a && true) ≡ true → a ≡ true
+      first_of true x = refl
+      first_of false x = x
+
+      second_of : (a b : Bool) → (a && b) ≡ true → b ≡ true
+      second_of true b x = x
+      second_of false b x = absurd (true≢false (sym x))
+
+  pub with_graph_held : (new : Stored) (m : Term) → m ≡ n → new ≡ stored.with_all graphs quads (m ∷ []) → AreHeld (Some new) s.quads
+  with_graph_held new m is e =
+      subst (λ (z : Stored). AreHeld (Some z) s.quads) (sym (e ∙ ap (λ x. stored.with_all graphs quads (x ∷ [])) is))
+      (same _ _ (λ q.
+      contains-union quad_cmp_total graphs.quads (from_list quads) q ∙ (λ i. among_them q i || in_this q i) ∙ one_of (contains s.quads q) q.graph
+      ∙ sym (kept s.quads (in_graphs (set.union graphs.names (from_list (n ∷ [])))) q)))
+    where
+      none_more : (c : Bool) → ((c && false) || (c && false)) ≡ (c && false)
+      none_more true = refl
+      none_more false = refl
+
+      spread : (c a b : Bool) → ((c && a) || (c && (b && true))) ≡ (c && (a || (b || false)))
+      spread true a true = refl
+      spread true true false = refl
+      spread true false false = refl
+      spread false a b = refl
+
+      one_of : (c : Bool) (g : GraphName) → ((c && is_among graphs.names g) || (c && (eq_by_cmp graph_cmp (Named n) g && true))) ≡ (c && is_among (set.union graphs.names (from_list (n ∷ []))) g)
+      one_of c Default = none_more c
+      one_of c (Named x) =
+          spread c (contains graphs.names x) (eq_by_cmp term_cmp n x)
+          ∙ ap (λ b. c && (contains graphs.names x || (b || false))) (turned x n)
+          ∙ ap (λ b. c && b) (sym (contains-union term_cmp_total graphs.names (from_list (n ∷ [])) x ∙ ap (λ b. contains graphs.names x || b) (contains-from_list term_cmp_total (n ∷ []) x)))
+
+pub name_apart : (names : Names) (n m : Term) → m ≡ n → contains names n ≡ false → IsDisjoint names (from_list (m ∷ []))
+name_apart names n m is new x h k =
+    true≢false (sym h ∙ ap (contains names) (tie_same term_cmp_total term_cmp-IsAntisymmetric x m (alone (eq_by_cmp term_cmp x m) (sym (contains-from_list term_cmp_total (m ∷ []) x) ∙ k)) ∙ is) ∙ new)
   where
-    where_true : (a x y : Bool) → (a ≡ true → x ≡ y) → (a && x) ≡ (a && y)
-    where_true true x y h = h refl
-    where_true false x y h = refl
-
--- a graph without quads becomes one of them
-pub graph_more : (graphs : Stored) (s : State) (n : Term) (new : Stored) → new ≡ with_name graphs n → IsEmptyGraph s (Named n) → AreHeld (Some graphs) s.quads → AreHeld (Some new) s.quads
-graph_more graphs s n new is empty h =
-    subst (λ (z : Stored). AreHeld (Some z) s.quads) (sym is)
-    (h ∙ alike s.quads (in_graphs graphs.names) (in_graphs (insert graphs.names n)) (λ q m. one_more graphs.names n q.graph (empty q m)))
+    alone : (a : Bool) → (a || false) ≡ true → a ≡ true
+    alone true e = refl
+    alone false e = e
 
 -- a graph that is emptied has no quad
 pub is_emptied : (s t : State) (g : GraphName) → t ≡ without_graph s g → IsEmptyGraph t g
@@ -266,3 +331,22 @@ is_emptied s t g e q h is =
     second : (a b : Bool) → (a && b) ≡ true → b ≡ true
     second true b h = h
     second false b h = absurd (true≢false (sym h))
+
+-- no quad of it is listed
+pub nothing_listed : (s : State) (g : GraphName) → IsEmptyGraph s g → ListsOnce (retain s.quads (matches g None None None)) []
+nothing_listed s g empty =
+    let none : from_list [] ≡ retain s.quads (matches g None None None) = none_passes s.quads (matches g None None None) (λ q h. not_there (eq_by_cmp graph_cmp g q.graph) (λ t. empty q h (sym (tie_same graph_cmp_total graph_cmp-IsAntisymmetric g q.graph t)))) in
+    record { all = none; once = sym (len-empty quad_cmp) ∙ ap set.len none }
+  where
+    not_there : (b : Bool) → ¬ (b ≡ true) → (b && true) ≡ false
+    not_there true h = absurd (h refl)
+    not_there false h = refl
+
+-- what a part that was emptied has of named graphs is all of it
+pub named_part : (quads part : Quads) → part ≡ retain quads in_named → retain part in_named ≡ retain quads in_named
+named_part quads part e = ap (λ z. retain z in_named) e ∙ same _ _ (λ q. kept (retain quads in_named) in_named q ∙ ap (λ b. b && in_named q) (kept quads in_named q) ∙ twice (contains quads q) (in_named q) ∙ sym (kept quads in_named q))
+  where
+    twice : (a b : Bool) → ((a && b) && b) ≡ (a && b)
+    twice true true = refl
+    twice true false = refl
+    twice false b = refl

@@ -7,6 +7,7 @@ mod ExchangeLemmas
 mod InsertionLemmas
 mod LoadingLemmas
 mod QuadEditLemmas
+mod SourceLemmas
 mod StateLemmas
 mod StoredLemmas
 mod UnreadLemmas

@@ -10,6 +10,7 @@ use Rattle.rdf_terms.specs.Term.{is_term, is_literal_term}
 use Rattle.rdf_terms.specs.Quad.{QuadParts, is_quad}
 use Rattle.rdf_terms.specs.Order.{term_cmp, graph_cmp, quad_cmp}
 use Rattle.rdf_terms.specs.Codes.{coded_term, coded_quad}
+use Rattle.rdf_terms.specs.Lists.{AppendsOnce}
 pub use Rattle.rdf_terms.specs.Below.{IsTermBelow, IsGraphBelow, IsQuadBelow}
 
 abbrev pub Quads : Type 0
@@ -166,6 +167,17 @@ fits_place (Some t) x = eq_by_cmp term_cmp t x
 -- the quad lies in the graph and has the terms of the bound places
 abbrev pub matches : GraphName → Option Term → Option Term → Option Term → QuadParts → Bool
 matches g s p o q = eq_by_cmp graph_cmp g q.graph && (fits_place s q.subject && (fits_place p q.predicate && fits_place o q.object))
+
+-- the quad lies in a named graph
+abbrev pub in_named : QuadParts → Bool
+in_named q = not (is_default q.graph)
+
+-- the list has gained some members of the set, each once, and all of them where it is said so
+pub record AppendsSome (members : Quads) (all : Bool) (old new : List QuadParts) : Type 0 where
+  pub some : Quads
+  pub within : (q : QuadParts) → IsTrue (set.contains some q) → IsTrue (set.contains members q)
+  pub appended : AppendsOnce some old new
+  pub whole : IsTrue all → some ≡ members
 
 -- known tells whether these names have that of the graph
 abbrev pub IsKnownGraph : Names → Bool → GraphName → Type 0

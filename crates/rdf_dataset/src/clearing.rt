@@ -1,14 +1,14 @@
 //! Graphs that are emptied. Of one that was emptied of more than a few quads, and of all where the named ones were emptied
 //! together, only what came since is walked.
-ghost use Rattle.std.specs.Prelude.{◌≡◌, IfOk, IfSome, OnOk};
+ghost use Rattle.std.specs.Prelude.{◌≡◌, None, OnOk};
 ghost use Rattle.std.specs.FinSet as set;
 ghost use Rattle.rdf_terms.specs.declared.quad.GraphName.TheVariants.{Default};
 ghost use Rattle.rdf_terms.specs.Lists.{ListsOnce};
-ghost use Rattle.rdf_dataset.specs.State.{IsEmptyGraph, without_graph, without_named, without_names};
+ghost use Rattle.rdf_dataset.specs.State.{matches, without_graph, without_named, without_names};
 ghost use Rattle.rdf_dataset.specs.Staging.{staged};
-ghost use Rattle.rdf_dataset.specs.Inside.Emptied.{in_named, less};
+ghost use Rattle.rdf_dataset.specs.Inside.Emptied.{less};
 
-use crate::source::{Source, sources_are_sound};
+use crate::source::Source;
 use crate::staged::Staged;
 use rdf_sets::Tree;
 use rdf_store::Store;
@@ -29,42 +29,14 @@ impl<'a, D: Source> Staged<'a, D> {
         Ok(())
     }
 
-    // Takes the quads of each named graph out, by its name.
-    fn empty_by_name(&mut self) -> Result<(), NoMemory>
-        ensures ok { OnOk result (self.new ≡ staged self.old (without_named self.old.now)) }
-        ensures beneath { self.new.under ≡ self.old.under }
-    {
-        sources_are_sound(self);
-        let mut named = Vec::new(self.alloc);
-        self.names(&mut named)?;
-        for name in named {
-            self.clear_graph(&GraphName::Named(name))?;
-        }
-        Ok(())
-    }
-
-    // The quads of named graphs, where these were emptied before: those that came since.
-    fn quads_since(&self) -> Result<Option<Vec<Quad>>, NoMemory>
-        ensures { IfOk result (λ since. IfSome since (λ quads.
-            ListsOnce (set.retain self.now.now.quads in_named) quads.items)) }
-    {
-        let Some(part) = &self.emptied.named else {
-            return Ok(None);
-        };
-        let mut since = Vec::new(self.alloc);
-        part.append_quads(&mut since)?;
-        Ok(Some(since))
-    }
-
     // Takes the quads of the named graphs out.
     fn empty_named(&mut self) -> Result<(), NoMemory>
         ensures ok { OnOk result (self.new ≡ staged self.old (without_named self.old.now)) }
         ensures beneath { self.new.under ≡ self.old.under }
     {
-        match self.quads_since()? {
-            Some(since) => self.remove_each(since.as_slice()),
-            None => self.empty_by_name(),
-        }
+        let mut found = Vec::new(self.alloc);
+        self.named_quads(&mut found)?;
+        self.remove_each(found.as_slice())
     }
 
     // Takes the names of graphs out, none of which has a quad.
@@ -93,15 +65,13 @@ impl<'a, D: Source> Staged<'a, D> {
         Ok(looked)
     }
 
-    // Finds what comes to a graph that has no quad in a part of its own from now on.
-    fn hold(&mut self, graph: &GraphName)
-        requires { IsEmptyGraph self.old.now graph.now }
+    // Finds a graph, which has these quads, in a part of its own from now on.
+    pub(crate) fn hold(&mut self, graph: &GraphName, quads: &[Quad])
+        requires { ListsOnce (set.retain self.old.now.quads (matches graph.now None None None))
+            quads.now }
         ensures { self.new ≡ self.old }
     {
-        match graph {
-            GraphName::Default => self.emptied.default = Some(Store::new(self.alloc)),
-            GraphName::Named(name) => self.emptied.hold(name),
-        }
+        self.emptied.hold(self.alloc, graph, quads);
     }
 
     /// Takes the quads of a graph out. Its name stays.
@@ -113,7 +83,7 @@ impl<'a, D: Source> Staged<'a, D> {
         ensures beneath { self.new.under ≡ self.old.under }
     {
         if self.empty(graph)? > FEW {
-            self.hold(graph);
+            self.hold(graph, &[]);
         }
         Ok(())
     }
@@ -128,12 +98,12 @@ impl<'a, D: Source> Staged<'a, D> {
         ensures beneath { self.new.under ≡ self.old.under }
     {
         self.empty(&GraphName::Default)?;
-        self.hold(&GraphName::Default);
+        self.hold(&GraphName::Default, &[]);
         Ok(())
     }
 
-    /// Takes the quads of all named graphs out. Their names stay. The first time it asks for the quads of each name, and
-    /// then only for those that have come since.
+    /// Takes the quads of all named graphs out. Their names stay. From then on only quads that have come since are looked
+    /// at there.
     ///
     /// # Errors
     /// [`NoMemory`] where memory is wanting: some of the quads have gone then.
@@ -146,8 +116,7 @@ impl<'a, D: Source> Staged<'a, D> {
         Ok(())
     }
 
-    /// Takes the quads of all named graphs out, and their names. The first time it asks for each name, and then only for
-    /// what has come since.
+    /// Takes the quads of all named graphs out, and their names. From then on only what has come since is looked at.
     ///
     /// # Errors
     /// [`NoMemory`] where memory is wanting: some of the quads and names have gone then.

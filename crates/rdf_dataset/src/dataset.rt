@@ -1,9 +1,9 @@
 //! A dataset.
-ghost use Rattle.std.specs.Prelude.{◌≡◌, ◌≤◌, ◌+◌, [], length, option_copied, IsOk, IfOk, OnOk, OnErr};
+ghost use Rattle.std.specs.Prelude.{◌≡◌, ◌≤◌, ◌+◌, [], false, length, option_copied, IsOk, IfOk, OnOk, OnErr};
 ghost use Rattle.std.specs.FinSet as set;
 ghost use Rattle.rdf_dataset.specs.Inside.Delta.{IsStateDelta};
 ghost use Rattle.rdf_terms.specs.Lists.{AppendsOnce, ListsSorted};
-ghost use Rattle.rdf_dataset.specs.State.{State, IsSound, Begins, Ends, net_between, empty_state, listed_state, last_number, matches};
+ghost use Rattle.rdf_dataset.specs.State.{State, AppendsSome, IsSound, Begins, Ends, in_named, net_between, empty_state, listed_state, last_number, matches};
 
 use crate::net::Net;
 use crate::source::{Source, sources_are_sound};
@@ -211,5 +211,38 @@ impl Source for Dataset {
         ensures err { OnErr result (out.new.items ≡ out.old.items) }
     {
         self.store.matches(graph, subject, predicate, object, out)
+    }
+
+    /// The same, of one range of quads, and the answer is just the number of the quads appended.
+    fn named_quads(&self, out: &mut Vec<Quad>) -> Result<usize, NoMemory>
+        ensures found { OnOk result (AppendsOnce (set.retain self.now.quads in_named)
+            out.old.items out.new.items) }
+        ensures looked { IfOk result
+            (λ looked. length out.new.items ≡ length out.old.items + looked) }
+        ensures err { OnErr result (out.new.items ≡ out.old.items) }
+    {
+        self.store.named_quads(out)
+    }
+
+    /// The same: never more than `most`, and no others are looked at.
+    fn some_matches(
+        &self,
+        graph: &GraphName,
+        subject: Option<&Term>,
+        predicate: Option<&Term>,
+        object: Option<&Term>,
+        most: usize,
+        out: &mut Vec<Quad>,
+    ) -> Result<bool, NoMemory>
+        ensures found { IfOk result (λ all. AppendsSome (set.retain self.now.quads
+            (matches graph.now (option_copied subject.entry) (option_copied predicate.entry)
+            (option_copied object.entry))) all out.old.items out.new.items) }
+        ensures stopped { IfOk result (λ all. all ≡ false →
+            length out.new.items ≡ length out.old.items + most) }
+        ensures few { OnOk result (length out.new.items ≤ length out.old.items + most) }
+        ensures err { OnErr result (out.new.items ≡ out.old.items) }
+    {
+        self.store
+            .some_matches(graph, subject, predicate, object, most, out)
     }
 }

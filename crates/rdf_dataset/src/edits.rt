@@ -6,7 +6,7 @@ ghost use Rattle.rdf_terms.specs.Lists.{ListsOnce};
 ghost use Rattle.rdf_terms.specs.Order.{term_cmp};
 ghost use Rattle.rdf_sets.specs.Delta.{IsDelta};
 ghost use Rattle.rdf_dataset.specs.Inside.Delta.{IsQuadDelta};
-ghost use Rattle.rdf_dataset.specs.State.{State, Names, Quads, IsKnownGraph, matches, net_between, with_quad, without_quad, with_name, without_name};
+ghost use Rattle.rdf_dataset.specs.State.{State, Names, Quads, IsKnownGraph, in_named, matches, net_between, with_quad, without_quad, with_name, without_name};
 
 use crate::net::Net;
 use crate::quad_edits::QuadEdits;
@@ -175,6 +175,18 @@ impl Edits {
             (λ looked. length found.new.items ≤ length found.old.items + looked) }
     {
         self.quads.amend(found, graph, subject, predicate, object)
+    }
+
+    /// Makes the quads of named graphs at the beginning those at the end, and answers how many more
+    /// were looked at.
+    pub(crate) fn amend_named(&self, found: &mut Vec<Quad>) -> Result<usize, NoMemory>
+        ensures ok { OnOk result ((s t : State) → self.now ≡ net_between s t →
+            ListsOnce (set.retain s.quads in_named) found.old.items →
+            ListsOnce (set.retain t.quads in_named) found.new.items) }
+        ensures looked { IfOk result
+            (λ looked. length found.new.items ≤ length found.old.items + looked) }
+    {
+        self.quads.amend_named(found)
     }
 }
 

@@ -1,10 +1,11 @@
-//! Parts of a view that were emptied: what they hold now is found without what lies beneath.
-ghost use Rattle.std.specs.Prelude.{◌≡◌, Bool, Option, IsTrue, IfSome, option_copied};
+//! Parts of a view that were emptied, or lost many of their quads: what they hold now is found without what lies beneath.
+ghost use Rattle.std.specs.Prelude.{◌≡◌, Bool, Option, None, IsTrue, IfSome, option_copied};
+ghost use Rattle.rdf_terms.specs.Lists.{ListsOnce};
 ghost use Rattle.std.specs.FinSet as set;
 ghost use Rattle.rdf_terms.specs.Order.{term_cmp};
 ghost use Rattle.rdf_terms.specs.Quad.{QuadParts};
 ghost use Rattle.rdf_terms.specs.declared.quad.GraphName.TheVariants.{Named as named};
-ghost use Rattle.rdf_dataset.specs.State.{State, Quads, Names, IsEmptyGraph, with_name, with_quad, without_name, without_quad};
+ghost use Rattle.rdf_dataset.specs.State.{State, Quads, Names, matches, with_name, with_quad, without_name, without_quad};
 ghost use Rattle.rdf_dataset.specs.Inside.Emptied.{AreHeld, AreNames, AreParts, FindsTheSame, IsPart};
 
 use rdf_sets::Tree;
@@ -12,9 +13,9 @@ use rdf_store::Store;
 use rdf_terms::{GraphName, Quad, Term};
 use std::alloc::Global;
 
-/// What a view holds now in the parts that were emptied since it began: the default graph, the named ones together, the
-/// names of graphs, and named graphs one by one, which one store holds with the names of those that were emptied. A part
-/// that wasn't emptied isn't here. Nor is one for whose growth memory was wanting: it is given up, which costs time and
+/// What a view holds now in the parts that were emptied since it began, or lost many of their quads: the default graph, the
+/// named ones together, the names of graphs, and named graphs one by one, which one store holds with the names of those
+/// that are found there. Another part isn't here. Nor is one for whose growth memory was wanting: it is given up, which costs time and
 /// changes no answer.
 #[derive(Drop)]
 pub(crate) struct Emptied {
@@ -51,14 +52,32 @@ fn gained_apart(graphs: Option<Store>, name: &Term, quad: &Quad) -> Option<Store
     }
 }
 
-// The graphs with one more, which has no quad.
-fn graph_gained(graphs: Option<Store>, name: &Term) -> Option<Store>
-    ensures { (s : State) → IsEmptyGraph s (named name.now) →
+// A part of these quads.
+fn part_of(alloc: Global, quads: &[Quad]) -> Option<Store>
+    ensures { IfSome result (λ part. part.quads ≡ set.from_list quads.now) }
+{
+    let mut part = Store::new(alloc);
+    match part.insert_all(quads, &[]) {
+        Ok(()) => Some(part),
+        Err(_) => None,
+    }
+}
+
+// The graphs with one more, which has these quads.
+fn graph_gained(graphs: Option<Store>, name: &Term, quads: &[Quad]) -> Option<Store>
+    requires { (s : State) × AreHeld graphs s.quads
+        × ListsOnce (set.retain s.quads (matches (named name.now) None None None)) quads.now }
+    ensures { (s : State) →
+        ListsOnce (set.retain s.quads (matches (named name.now) None None None)) quads.now →
         AreHeld graphs s.quads → AreHeld result s.quads }
 {
     let mut more = graphs?;
-    match more.add_name(name) {
-        Ok(_) => Some(more),
+    if more.has_name(name) {
+        return Some(more);
+    }
+    let name = name.copy().ok()?;
+    match more.insert_all(quads, &[name]) {
+        Ok(()) => Some(more),
         Err(_) => None,
     }
 }
@@ -111,12 +130,20 @@ impl Emptied {
         }
     }
 
-    /// A named graph has no quad: what comes there is found in its own part from now on.
-    pub(crate) fn hold(&mut self, name: &Term)
-        ensures { (s : State) → IsEmptyGraph s (named name.now) → AreParts self.old s →
-            AreParts self.new s }
+    /// A graph has these quads: it is found in a part of its own from now on.
+    pub(crate) fn hold(&mut self, alloc: Global, graph: &GraphName, quads: &[Quad])
+        requires { (s : State) × AreParts self.old s
+            × ListsOnce (set.retain s.quads (matches graph.now None None None)) quads.now }
+        ensures { (s : State) →
+            ListsOnce (set.retain s.quads (matches graph.now None None None)) quads.now →
+            AreParts self.old s → AreParts self.new s }
     {
-        self.graphs = graph_gained(self.graphs.take(), name);
+        match graph {
+            GraphName::Default => self.default = part_of(alloc, quads),
+            GraphName::Named(name) => {
+                self.graphs = graph_gained(self.graphs.take(), name, quads);
+            }
+        }
     }
 
     /// A quad has come, and the name of its graph.

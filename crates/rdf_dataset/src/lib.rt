@@ -15,6 +15,7 @@ mod insertion;
 mod law;
 mod loading;
 mod net;
+mod passed;
 mod quad_edits;
 mod source;
 mod staged;

@@ -4,7 +4,7 @@ ghost use Rattle.std.specs.FinSet as set;
 ghost use Rattle.rdf_terms.specs.Order.{quad_cmp};
 ghost use Rattle.rdf_dataset.specs.Inside.Delta.{IsQuadDelta};
 ghost use Rattle.rdf_terms.specs.Lists.{ListsOnce};
-ghost use Rattle.rdf_dataset.specs.State.{Quads, matches};
+ghost use Rattle.rdf_dataset.specs.State.{Quads, in_named, matches};
 
 use rdf_sets::{Delta, Sorted, Tree, in_order};
 use rdf_store::Store;
@@ -113,5 +113,19 @@ impl QuadEdits {
     {
         found.retain(|quad| !self.removed.contains(quad));
         self.added.matches(graph, subject, predicate, object, found)
+    }
+
+    /// Makes the quads of the first set's named graphs those of the second, and answers how many more
+    /// were looked at: those of them that were added.
+    pub(crate) fn amend_named(&self, found: &mut Vec<Quad>) -> Result<usize, NoMemory>
+        ensures ok { OnOk result ((s t : Quads) →
+            IsQuadDelta s t self.now.added.quads self.now.removed →
+            ListsOnce (set.retain s in_named) found.old.items →
+            ListsOnce (set.retain t in_named) found.new.items) }
+        ensures looked { IfOk result
+            (λ looked. length found.new.items ≤ length found.old.items + looked) }
+    {
+        found.retain(|quad| !self.removed.contains(quad));
+        self.added.named_quads(found)
     }
 }

@@ -9,6 +9,7 @@ ghost use Rattle.rdf_dataset.specs.Staging.{Staging, staged};
 use crate::edits::Edits;
 use crate::emptied::Emptied;
 use crate::net::Net;
+use crate::passed::Passed;
 use crate::source::Source;
 use rdf_terms::{GraphName, NoMemory, Quad, Term, term_is_one};
 use std::alloc::Global;
@@ -20,9 +21,10 @@ pub(crate) const LAST_NUMBER: u64 = 1_000_000_000_000_000_000;
 /// The contents beneath and those now.
 #[derive(Drop)]
 pub struct Staged<'a, D: Source> {
-    under: &'a D,
-    edits: Edits,
+    pub(crate) under: &'a D,
+    pub(crate) edits: Edits,
     pub(crate) emptied: Emptied,
+    pub(crate) passed: Passed,
     pub(crate) alloc: Global,
 }
 
@@ -57,6 +59,7 @@ impl<'a, D: Source> Staged<'a, D> {
             under,
             edits,
             emptied: Emptied::none(alloc),
+            passed: Passed::none(),
             alloc,
         }
     }
@@ -213,7 +216,36 @@ impl<'a, D: Source> Source for Staged<'a, D> {
         let added = self
             .edits
             .amend_quads(&mut found, graph, subject, predicate, object)?;
+        let looked = beneath.saturating_add(added);
+        self.passed.note(graph, looked.saturating_sub(found.len()));
+        out.append(&mut found)?;
+        Ok(looked)
+    }
+
+    fn named_quads(&self, out: &mut Vec<Quad>) -> Result<usize, NoMemory> {
+        if let Some(part) = &self.emptied.named {
+            return part.named_quads(out);
+        }
+        let mut found = Vec::new(self.alloc);
+        let beneath = self.under.named_quads(&mut found)?;
+        let added = self.edits.amend_named(&mut found)?;
         out.append(&mut found)?;
         Ok(beneath.saturating_add(added))
+    }
+
+    fn some_matches(
+        &self,
+        graph: &GraphName,
+        subject: Option<&Term>,
+        predicate: Option<&Term>,
+        object: Option<&Term>,
+        most: usize,
+        out: &mut Vec<Quad>,
+    ) -> Result<bool, NoMemory> {
+        if let Some(part) = self.emptied.part(graph) {
+            return part.some_matches(graph, subject, predicate, object, most, out);
+        }
+        self.matches(graph, subject, predicate, object, out)?;
+        Ok(true)
     }
 }

@@ -1,89 +1,58 @@
 -- Terms that stand in a line as canonical form writes them: what is read there is written the same.
-use Rattle.std.proofs.Common.{◌≡◌, ◌∙◌, ◌⊎◌, ap, refl, sym, subst, inl, inr, ℕ, zero, suc, ◌+◌, ◌-◌, ◌<◌, ◌≤◌, arith, Bool, true, false, cond, ◌==◌, List, [], ◌∷◌, ◌++◌, length, take, drop, get_or, append_assoc, append-nil, length-append, true≢false, Option, Some, None, is_some, ◌&&◌, ◌||◌, nat_lt}
+use Rattle.std.proofs.Common.{◌≡◌, ◌∙◌, ◌⊎◌, ap, refl, sym, inl, inr, ℕ, suc, ◌+◌, ◌-◌, ◌<◌, ◌≤◌, arith, true, false, ◌==◌, List, [], ◌∷◌, ◌++◌, length, take, drop, get_or, append_assoc, append-nil, length-append, true≢false, Option, Some, None, is_some, ◌&&◌, ◌||◌, nat_lt}
 use Rattle.std.specs.List.{flat_map, list_any, position, position_or_len}
 use Rattle.std.specs.Char.{encode_utf8}
-use Rattle.std.specs.Str.{encode_utf8_all}
-use Rattle.std.proofs.lemmas.Bool.{cases_Bool, cases_lt, cond-true, cond-false, and_from, and_parts, or_parts, or_from, eqb-true, le-ltb, lt-ltb}
+use Rattle.std.specs.Str.{NonePass, encode_utf8_all}
+use Rattle.std.proofs.lemmas.Bool.{cases_Bool, cases_lt, cond-true, cond-false, and_from, and_parts, or_parts, le-ltb, lt-ltb}
 use Rattle.std.proofs.lemmas.List.{take_all}
 use Rattle.std.proofs.lemmas.List.Concat.{flat_map-append}
-use Rattle.std.proofs.lemmas.List.Folds.{list_any-append}
 use Rattle.std.proofs.lemmas.Str.{encode_ascii, encodes-append, inside_one}
-use Rattle.memchr.specs.Find.{Nowhere, Passes, is_byte}
 use Rattle.rdf_terms.specs.Cuts.{after, before}
-use Rattle.rdf_terms.specs.Escapes.{Writes}
-use Rattle.rdf_terms.specs.Iri.{has_scheme, is_scheme}
-use Rattle.rdf_terms.specs.Quoted.{IsIriCharacter}
-use Rattle.rdf_terms.specs.Reading.{LeadsTo, between, iri_at, quoted_at}
+use Rattle.rdf_terms.specs.Iri.{has_scheme, is_forbidden, is_scheme}
+use Rattle.rdf_terms.specs.Reading.{LeadsTo, between, expect, iri_at, quoted_at}
 use Rattle.rdf_terms.specs.Runs.{IsPast, ends_run}
 use Rattle.rdf_terms.specs.TermText.{escaped}
-use Rattle.rdf_terms.proofs.CallerLemmas.{between_is, by_escape, iri_sound, numeric_begins, quoted_complete, string_body}
+use Rattle.rdf_terms.proofs.CallerLemmas.{between_is, by_escape, expect_sound, iri_complete, quoted_complete, string_body, writes_allowed}
 use Rattle.rdf_lines.specs.Inside.Slices.{ReadsIri}
 use Rattle.rdf_lines.proofs.LinePartLemmas.{differs}
-
--- ---- texts without an escape
-
-abbrev pub has_backslash : List ℕ → Bool
-has_backslash cs = list_any (λ c. c == 92) cs
-
-one_lacks : (c : ℕ) → has_backslash (encode_utf8 c) ≡ false → (c == 92) ≡ false
-one_lacks c h =
-    elim (cases_Bool (c == 92)) [
-      | inl is ↦ let low : c < 128 = let e = eqb-true c 92 is in omega (arith, e) in (or_parts (c == 92) false (sym (ap has_backslash (encode_ascii c low)) ∙ h)).0
-      | inr not ↦ not
-    ]
-
--- where no byte is a backslash, no character is
-pub all_lack : (cs : List ℕ) → has_backslash (encode_utf8_all cs) ≡ false → has_backslash cs ≡ false
-all_lack [] h = refl
-all_lack (c ∷ cs) h =
-    let parts = or_parts (has_backslash (encode_utf8 c)) (has_backslash (encode_utf8_all cs)) (sym (list_any-append (λ c. c == 92) (encode_utf8 c) (encode_utf8_all cs)) ∙ h) in
-    or_from (c == 92) (has_backslash cs) (one_lacks c parts.0) (all_lack cs parts.1)
-
--- a search that finds no byte
-pub nowhere_lacks : (bs : List ℕ) → Nowhere (Passes (is_byte 92) bs) 0 (length bs) → has_backslash bs ≡ false
-nowhere_lacks [] h = refl
-nowhere_lacks (b ∷ bs) h =
-    let here : (b == 92) ≡ false = elim (cases_Bool (b == 92)) [ inl is ↦ absurd (h 0 (omega arith) (omega arith) is) | inr not ↦ not ] in
-    or_from (b == 92) (has_backslash bs) here (nowhere_lacks bs (λ k low high. h (suc k) (omega arith) (omega (arith, high))))
-
--- the characters of an IRI that is written without escapes are those that are written
-writes_itself : (cs body : List ℕ) → Writes IsIriCharacter body cs → has_backslash body ≡ false → body ≡ cs
-writes_itself [] body w h = w
-writes_itself (c ∷ cs) body w h =
-    let parts = or_parts (has_backslash w.0) (has_backslash w.1) (sym (list_any-append (λ c. c == 92) w.0 w.1) ∙ sym (ap has_backslash w.2) ∙ h) in
-    let others : w.1 ≡ cs = writes_itself cs w.1 w.4 parts.1 in
-    elim w.3.1 [
-      | inl plain ↦ w.2 ∙ ap (λ (t : List ℕ). t ++ w.1) plain ∙ ap (λ (t : List ℕ). c ∷ t) others
-      | inr escape ↦ let b = numeric_begins w.0 c escape in absurd (true≢false (sym (ap has_backslash b.1) ∙ parts.0))
-    ]
 
 encode_around : (c d : ℕ) → c < 128 → d < 128 → (body rest : List ℕ) → encode_utf8_all (c ∷ (body ++ d ∷ rest)) ≡ c ∷ (encode_utf8_all body ++ d ∷ encode_utf8_all rest)
 encode_around c d low below body rest =
     ap (λ (t : List ℕ). t ++ encode_utf8_all (body ++ d ∷ rest)) (encode_ascii c low)
     ∙ ap (λ (t : List ℕ). c ∷ t) (encodes-append body (d ∷ rest) ∙ ap (λ (t : List ℕ). encode_utf8_all body ++ (t ++ encode_utf8_all rest)) (encode_ascii d below))
 
--- what stands over an IRI, if no byte of it is a backslash: the IRI in its angle brackets
-pub iri_over : (cs iri rest : List ℕ) → iri_at cs ≡ Some (iri, rest) → has_backslash (encode_utf8_all (between cs rest)) ≡ false
-    → (over : List ℕ) × (cs ≡ over ++ rest) × (encode_utf8_all (between cs rest) ≡ encode_utf8_all over) × (encode_utf8_all (between cs rest) ≡ 60 ∷ (iri ++ 62 ∷ []))
-iri_over cs iri rest e h =
-    let s = iri_sound cs iri rest e in
-    let f = s.2 in
-    let is : between cs rest ≡ s.0 = between_is cs rest s.0 s.1 in
-    let lacks : has_backslash s.0 ≡ false = all_lack s.0 (sym (ap (λ (t : List ℕ). has_backslash (encode_utf8_all t)) is) ∙ h) in
-    let inner : has_backslash (f.0 ++ 62 ∷ []) ≡ false = (or_parts (60 == 92) (has_backslash (f.0 ++ 62 ∷ [])) (sym (ap has_backslash f.2) ∙ lacks)).1 in
-    let body : has_backslash f.0 ≡ false = (or_parts (has_backslash f.0) (has_backslash (62 ∷ [])) (sym (list_any-append (λ c. c == 92) f.0 (62 ∷ [])) ∙ inner)).0 in
-    let same : f.0 ≡ f.1 = writes_itself f.1 f.0 f.3 body in
-    (s.0, s.1, ap encode_utf8_all is, ap encode_utf8_all (is ∙ f.2) ∙ encode_around 60 62 (omega arith) (omega arith) f.0 [] ∙ ap (λ (t : List ℕ). 60 ∷ (t ++ 62 ∷ [])) (ap encode_utf8_all same ∙ sym f.4))
+-- ---- IRIs without an escape
 
-pub reads_iri : (cs text iri rest : List ℕ) → iri_at cs ≡ Some (iri, rest) → text ≡ encode_utf8_all (between cs rest) → has_backslash text ≡ false
-    → has_scheme iri ≡ true → ReadsIri cs text rest
-reads_iri cs text iri rest e is lacks scheme =
-    let o = iri_over cs iri rest e (sym (ap has_backslash is) ∙ lacks) in
-    (iri, o.0, e, cond-true (has_scheme iri) (Some iri) None scheme, is ∙ o.3, o.1, is ∙ o.2)
+none_pass : (cs : List ℕ) → list_any is_forbidden cs ≡ false → NonePass is_forbidden cs
+none_pass [] h = tt
+none_pass (c ∷ cs) h = let parts = or_parts (is_forbidden c) (list_any is_forbidden cs) h in (parts.0, none_pass cs parts.1)
 
--- what is read over an IRI is all before the place behind it
-pub iri_leads : (cs iri rest : List ℕ) → iri_at cs ≡ Some (iri, rest) → LeadsTo cs rest
-iri_leads cs iri rest e = let s = iri_sound cs iri rest e in (s.0, s.1)
+-- characters that stand for themselves, between angle brackets
+iri_over : (cs body stop rest : List ℕ) → expect 60 cs ≡ Some body → IsPast is_forbidden body stop → expect 62 stop ≡ Some rest
+    → (over : List ℕ) × (cs ≡ (60 ∷ (over ++ 62 ∷ [])) ++ rest) × (iri_at cs ≡ Some (encode_utf8_all over, rest))
+iri_over cs body stop rest begins past ends =
+    let whole : cs ≡ (60 ∷ (past.0 ++ 62 ∷ [])) ++ rest =
+    expect_sound 60 cs body begins
+    ∙ ap (λ (t : List ℕ). 60 ∷ t) (past.1 ∙ ap (λ (t : List ℕ). past.0 ++ t) (expect_sound 62 stop rest ends) ∙ sym (append_assoc past.0 (62 ∷ []) rest)) in (
+      past.0,
+      whole,
+      ap iri_at whole ∙ iri_complete (60 ∷ (past.0 ++ 62 ∷ [])) (encode_utf8_all past.0) rest (past.0, past.0, refl, writes_allowed past.0 (none_pass past.0 past.2), refl),
+    )
+
+-- what is read over them is all before the place behind
+pub iri_leads : (cs body stop rest : List ℕ) → expect 60 cs ≡ Some body → IsPast is_forbidden body stop → expect 62 stop ≡ Some rest → LeadsTo cs rest
+iri_leads cs body stop rest begins past ends =
+    let o = iri_over cs body stop rest begins past ends in (60 ∷ (o.0 ++ 62 ∷ []), o.1)
+
+pub reads_iri : (cs body stop rest text : List ℕ) → expect 60 cs ≡ Some body → IsPast is_forbidden body stop → expect 62 stop ≡ Some rest
+    → text ≡ encode_utf8_all (between cs rest) → ((iri : List ℕ) → text ≡ 60 ∷ (iri ++ 62 ∷ []) → has_scheme iri ≡ true) → ReadsIri cs text rest
+reads_iri cs body stop rest text begins past ends is scheme =
+    let o = iri_over cs body stop rest begins past ends in
+    let slice = 60 ∷ (o.0 ++ 62 ∷ []) in
+    let iri = encode_utf8_all o.0 in
+    let bytes : text ≡ encode_utf8_all slice = is ∙ ap encode_utf8_all (between_is cs rest slice o.1) in
+    let angled : text ≡ 60 ∷ (iri ++ 62 ∷ []) = bytes ∙ encode_around 60 62 (omega arith) (omega arith) o.0 [] in
+    (iri, slice, o.2, cond-true (has_scheme iri) (Some iri) None (scheme iri angled), angled, o.1, bytes)
 
 -- ---- schemes
 

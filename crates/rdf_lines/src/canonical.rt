@@ -1,5 +1,5 @@
 //! Terms that stand in a line as canonical form writes them (RDF 1.1 N-Triples, section 4).
-ghost use Rattle.std.specs.Prelude.{◌≡◌, ◌<◌, ◌++◌, ◌∷◌, [], ℕ, true, false, codes, length, nat_eq, position, List, IfSome, IsTrue, ◌==◌, ◌||◌};
+ghost use Rattle.std.specs.Prelude.{◌≡◌, ◌<◌, ◌++◌, ◌∷◌, [], ℕ, true, codes, length, nat_eq, position, List, IfSome, IsTrue, ◌==◌, ◌||◌};
 ghost use Rattle.std.specs.Char.{is_ascii_uppercase};
 ghost use Rattle.std.specs.Cmp.Lexicographic.{pointwise};
 ghost use Rattle.std.specs.List.{flat_map, list_all, list_any};
@@ -9,18 +9,7 @@ ghost use Rattle.rdf_lines.specs.Reading as spec;
 ghost use Rattle.rdf_lines.specs.Inside.Slices.{ReadsIri, ReadsLiteral, ReadsSuffix};
 
 use crate::name::{first_is, skip_white};
-use memchr::memchr;
 use rdf_terms::Cursor;
-
-// Whether a text has no escape.
-fn has_no_escape(text: &[u8]) -> bool
-    ensures { IsTrue result → list_any (λ c. c == 92) text.now ≡ false }
-{
-    match memchr(b'\\', text) {
-        Some(_) => false,
-        None => true,
-    }
-}
 
 fn is_scheme_byte(b: u8) -> bool
     ensures { result ≡ is_scheme_byte b }
@@ -73,9 +62,11 @@ fn begins_with_scheme(text: &[u8]) -> bool
 pub fn canonical_iri<'a>(at: &Cursor<'a>) -> Option<(&'a str, Cursor<'a>)>
     ensures { IfSome result (λ r. ReadsIri at.now r.0.now r.1) }
 {
-    let rest = at.iri_end()?;
+    let body = at.expect('<')?;
+    let stop = body.past_iri_run();
+    let rest = stop.expect('>')?;
     let text = at.text_up_to(&rest);
-    if has_no_escape(text.as_bytes()) && begins_with_scheme(text.as_bytes()) {
+    if begins_with_scheme(text.as_bytes()) {
         Some((text, rest))
     } else {
         None

@@ -1,7 +1,7 @@
 //! RDF documents of lines, N-Triples and N-Quads: read from a stream in whatever pieces it comes,
 //! or from held bytes, and written.
 //!
-//! `rdf_session` calls it for loads and prints, `rdf_keeper` for conversions, and a host that reads
+//! `rdf_session` calls it for loads and prints, `rdf_streams` for conversions, and a host that reads
 //! or writes lines. It resolves no reference, keeps no set of quads, and writes no escape that
 //! isn't needed.
 #![tactic(auto)]

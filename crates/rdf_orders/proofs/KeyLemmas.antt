@@ -16,7 +16,7 @@ use Rattle.rdf_orders.specs.Quads.{IdQuad, IdQuads, key_in, key_cmp, id_quad_cmp
 use Rattle.rdf_orders.specs.Runs.{BeginsWith, IsUnbrokenRun, StandsTogether}
 
 -- a comparison that is not greater is decided by the first numbers, or goes on behind equal ones
-first_decides : (x y : ℕ) (r : Ordering) → is_gt (ordering_then (nat_cmp x y) r) ≡ false → (x < y) ⊎ ((x ≡ y) × (is_gt r ≡ false))
+pub first_decides : (x y : ℕ) (r : Ordering) → is_gt (ordering_then (nat_cmp x y) r) ≡ false → (x < y) ⊎ ((x ≡ y) × (is_gt r ≡ false))
 first_decides x y r =
     elim (nat_cmp x y) as (λ o. MatchOrdering o (x < y) (x ≡ y) (y < x) → is_gt (ordering_then o r) ≡ false → (x < y) ⊎ ((x ≡ y) × (is_gt r ≡ false))) [
       | Less ↦ λ l _. inl l

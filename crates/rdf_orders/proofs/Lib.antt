@@ -1,6 +1,7 @@
 mod AheadLemmas
 pub mod CallerLemmas
 mod ContentsLemmas
+mod FromLemmas
 mod KeyLemmas
 mod LookUpLemmas
 mod NextLemmas

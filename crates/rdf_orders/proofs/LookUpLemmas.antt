@@ -14,7 +14,7 @@ use Rattle.std.specs.FinSet.{contains-insert, contains-empty, from_list_push, sa
 use Rattle.rdf_orders.specs.declared.order.Order.{Order}
 use Rattle.rdf_orders.specs.declared.order.Order.TheVariants.{Spo}
 use Rattle.rdf_orders.specs.Quads.{IdQuad, IdQuads, key_in, key_cmp, id_quad_cmp, quad_at}
-use Rattle.rdf_orders.specs.Runs.{BeginsWith, IsNextKey, NoneAhead, AppendsKeysOnce, raised_by}
+use Rattle.rdf_orders.specs.Runs.{BeginsWith, IsNextKey, NoneAhead, AppendsKeysOnce, AppendsSomeKeys, raised_by}
 use Rattle.rdf_orders.proofs.TestLemmas.{both, first_of_both, second_of_both, is_either, either_first, either_second, cases}
 use Rattle.rdf_orders.proofs.KeyLemmas.{key_cmp_total, id_quad_cmp_total, id_quad_cmp-IsAntisymmetric, same_quad, same_from_eq, eq_from_same, contains_kept, quad_at-key_in}
 
@@ -223,6 +223,29 @@ module _ (quads : IdQuads) (order : Order) (prefix : List ℕ) (test : IdQuad �
   progress_found after now to p none =
       let members = p.members ∙ all_passed quads order prefix test just after none in
       record { found = p.found; appended = p.appended; each_once = record { all = members; once = p.once ∙ ap set.len members } }
+
+  -- what was found so far is some of it
+  pub progress_some : (after : Option (List ℕ)) (now : List (List ℕ)) (to : ℕ) → IsProgress quads test order after old now from to → AppendsSomeKeys (set.retain quads test) false old now
+  progress_some after now to p = record {
+    some = passed quads order test after;
+    within = λ q h.
+        let both_hold = sym (contains_kept quads _ q) ∙ h in
+        contains_kept quads test q ∙ both (first_of_both _ _ both_hold) (first_of_both (test q) _ (second_of_both (set.contains quads q) _ both_hold));
+    appended = record { found = p.found; appended = p.appended; each_once = record { all = p.members; once = p.once ∙ ap set.len p.members } };
+    whole = λ no. absurd (true≢false (sym no));
+  }
+
+  pub progress_all : (after : Option (List ℕ)) (now : List (List ℕ)) (to : ℕ) → IsProgress quads test order after old now from to → NoneAhead quads order prefix after → AppendsSomeKeys (set.retain quads test) true old now
+  progress_all after now to p none = record {
+    some = set.retain quads test;
+    within = λ q h. h;
+    appended = progress_found after now to p none;
+    whole = λ _. refl;
+  }
+
+-- one key more, where they weren't as many yet
+pub one_more_key : (old now new : List (List ℕ)) (key : List ℕ) (most : ℕ) → new ≡ now ++ key ∷ [] → length now - length old < most → length old ≤ length now → length new ≤ length old + most
+one_more_key old now new key most e h k = let longer = ap length e ∙ length-append now (key ∷ []) in omega arith
 
 pub progress_counted : (quads : IdQuads) (test : IdQuad → Bool) (order : Order) (after : Option (List ℕ)) (old now : List (List ℕ)) (from to to' : ℕ) → IsProgress quads test order after old now from to → to' ≡ raised_by 0 to → to' ≡ raised_by (length now - length old) from
 progress_counted quads test order after old now from to to' p e =

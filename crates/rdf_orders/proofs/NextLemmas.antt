@@ -29,7 +29,7 @@ zero_first x r e =
       | Greater ↦ λ l. absurd (omega arith)
     ] (ranks 0 x)
 
-zeros_least : (n : ℕ) (k : List ℕ) → length k ≡ n → is_gt (key_cmp (replicate n 0) k) ≡ false
+pub zeros_least : (n : ℕ) (k : List ℕ) → length k ≡ n → is_gt (key_cmp (replicate n 0) k) ≡ false
 zeros_least zero [] e = refl
 zeros_least zero (x ∷ k) e = refl
 zeros_least (suc n) [] e = absurd (omega arith)

@@ -91,7 +91,7 @@ key_in_tree trees quads m order q =
 holds_itself : (k : List ℕ) (ks : List (List ℕ)) → list_any (is_at (key_cmp k)) (k ∷ ks) ≡ true
 holds_itself k ks = either_first _ _ (ap is_eq (tied_itself key_cmp_total k))
 
-members_by_key : (ks : List (List ℕ)) → ((k : List ℕ) → list_any (is_at (key_cmp k)) ks ≡ true → length k ≡ 4) → (q : IdQuad)
+pub members_by_key : (ks : List (List ℕ)) → ((k : List ℕ) → list_any (is_at (key_cmp k)) ks ≡ true → length k ≡ 4) → (q : IdQuad)
     → list_any (eq_by_cmp id_quad_cmp q) (map (quad_at Spo) ks) ≡ list_any (is_at (key_cmp (key_in Spo q))) ks
 members_by_key [] four q = refl
 members_by_key (k ∷ ks) four q = λ i.
@@ -286,7 +286,7 @@ module _ (old : Trees) (q : IdQuad) where
 
 -- ---- lists
 
-four_in : (ks : List (List ℕ)) → ((k : List ℕ) → list_any (is_at (key_cmp k)) ks ≡ true → length k ≡ 4) → map (key_in Spo) (map quad_of ks) ≡ ks
+pub four_in : (ks : List (List ℕ)) → ((k : List ℕ) → list_any (is_at (key_cmp k)) ks ≡ true → length k ≡ 4) → map (key_in Spo) (map quad_of ks) ≡ ks
 four_in [] four = refl
 four_in (k ∷ ks) four = λ i. key_in-quad_at Spo k (four k (holds_itself k ks)) i ∷ four_in ks (λ x e. four x (either_second (is_eq (key_cmp x k)) _ e)) i
 
@@ -295,7 +295,7 @@ below_by_keys : (q : IdQuad) (qs : List IdQuad) → AllByRecursion (λ k. key_cm
 below_by_keys q [] a = tt
 below_by_keys q (x ∷ qs) a = (a.0, below_by_keys q qs a.1)
 
-rising_by_keys : (qs : List IdQuad) → IsStrictlySortedBy key_cmp (map (key_in Spo) qs) → IsStrictlySortedBy id_quad_cmp qs
+pub rising_by_keys : (qs : List IdQuad) → IsStrictlySortedBy key_cmp (map (key_in Spo) qs) → IsStrictlySortedBy id_quad_cmp qs
 unfolding IsStrictlySortedBy
 rising_by_keys [] s = tt
 rising_by_keys (q ∷ qs) s = (below_by_keys q qs s.0, rising_by_keys qs s.1)

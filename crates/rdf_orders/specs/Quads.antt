@@ -1,5 +1,5 @@
 -- Quads whose terms are numbers (RDF 1.1 Concepts, section 4), and their keys in three orders.
-use Rattle.std.specs.Prelude.{ℕ, Bool, true, ◌==◌, ◌&&◌, List, [], ◌∷◌, map, Option, None, Some, slice_index, refl}
+use Rattle.std.specs.Prelude.{ℕ, Bool, true, leb, ◌==◌, ◌&&◌, List, [], ◌∷◌, map, Option, None, Some, slice_index, refl}
 use Rattle.std.specs.declared.cmp.Ordering.{Ordering}
 use Rattle.std.specs.Ordering.{nat_cmp}
 use Rattle.std.specs.Cmp.Lexicographic.{slice_cmp}
@@ -54,6 +54,10 @@ fits_place (Some n) x = x == n
 -- the quad lies in the graph and has the numbers of the bound places
 abbrev pub matches : ℕ → Option ℕ → Option ℕ → Option ℕ → IdQuad → Bool
 matches g s p o q = (q.graph == g) && (fits_place s q.subject && (fits_place p q.predicate && fits_place o q.object))
+
+-- the quad lies in the graph with this number, or in one with a greater number
+abbrev pub is_from : ℕ → IdQuad → Bool
+is_from g q = leb g q.graph
 
 abbrev pub id_quad_code : Coded IdQuad
 id_quad_code = code_by ((ℕ × ℕ) × (ℕ × ℕ)) (coded× (coded× coded_ℕ coded_ℕ) (coded× coded_ℕ coded_ℕ)) (λ q. ((q.graph, q.subject), (q.predicate, q.object))) (λ p. record { graph = p.0.0; subject = p.0.1; predicate = p.1.0; object = p.1.1 }) (λ _. refl)

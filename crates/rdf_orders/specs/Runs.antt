@@ -42,6 +42,13 @@ pub record AppendsKeysOnce (quads : IdQuads) (old new : List (List ℕ)) : Type 
   pub appended : new ≡ old ++ map (key_in Spo) found
   pub each_once : ListsOnce quads found
 
+-- it has gained those of some of the quads, each once, and of all of them where it is said so
+pub record AppendsSomeKeys (quads : IdQuads) (all : Bool) (old new : List (List ℕ)) : Type 0 where
+  pub some : IdQuads
+  pub within : (q : IdQuad) → Has some q → Has quads q
+  pub appended : AppendsKeysOnce some old new
+  pub whole : IsTrue all → some ≡ quads
+
 -- the quads that pass the test stand together in the order: what lies between two of them is one of them
 abbrev pub IsUnbrokenRun : Order → (IdQuad → Bool) → Type 0
 IsUnbrokenRun order test = (a b c : IdQuad) → IsTrue (test a) → IsTrue (test c)

@@ -63,7 +63,7 @@ pub(crate) enum SomeKeys<'a> {
 
 /// The keys of a tree from a bound on, in their order. A contract sees those that are left.
 #[derive(Drop)]
-pub(crate) struct KeyRange<'a> {
+pub struct KeyRange<'a> {
     pub(crate) keys: SomeKeys<'a>,
 }
 

@@ -18,10 +18,10 @@ mod quad_sets;
 mod trees;
 mod walk;
 
-pub use key_iters::KeyIter;
+pub use key_iters::{KeyIter, KeyRange};
 pub use key_tree::KeyTree;
 pub use laws::matching_quads_stand_together;
-pub use look_ups::look_up;
+pub use look_ups::{look_up, look_up_some};
 pub use order::{Key, Order};
 pub use orders::Orders;
 pub use quad_sets::QuadSets;

@@ -1,18 +1,20 @@
 //! Look-ups in sets of quads, counted.
-ghost use Rattle.std.specs.Prelude.{◌≡◌, ◌≤◌, length, ◌-◌, Some, IfOk, IsTrue, OnOk, OnErr, option_copied};
+ghost use Rattle.std.specs.Prelude.{◌≡◌, ◌+◌, ◌≤◌, length, ◌-◌, false, Some, IfOk, IsTrue, OnOk, OnErr, option_copied};
 ghost use Rattle.std.specs.FinSet as set;
-ghost use Rattle.rdf_orders.specs.Quads.{matches};
-ghost use Rattle.rdf_orders.specs.Runs.{AppendsKeysOnce, BeginsWith};
+ghost use Rattle.rdf_orders.specs.Contents.{ListsKeys};
+ghost use Rattle.rdf_orders.specs.Quads.{is_from, matches};
+ghost use Rattle.rdf_orders.specs.Runs.{AppendsKeysOnce, AppendsSomeKeys, BeginsWith};
 ghost use Rattle.rdf_orders.specs.Inside.Ahead.{AreKeysAhead};
 
 use crate::key_iters::KeyRange;
-use crate::look_ups::look_up;
+use crate::look_ups::{look_up, look_up_some};
 use crate::order::{Key, Order};
 use crate::orders::Orders;
 use crate::quad_sets::QuadSets;
 use rdf_terms::NoMemory;
 use std::alloc::Global;
 use std::marker::Model;
+use std::ops::Bound;
 
 /// The key that was answered last, and those behind it in its order.
 #[derive(Drop)]
@@ -141,5 +143,42 @@ impl QuadSets {
         let mut walk = Walk::over(self);
         look_up(alloc, &mut walk, graph, subject, predicate, object, out)?;
         Ok(walk.count())
+    }
+    /// Appends some of the quads that [`matches`](QuadSets::matches) appends, each once, and answers
+    /// whether these are all; where they aren't, they are `most`. It looks at no others.
+    ///
+    /// # Errors
+    /// [`NoMemory`] where memory is wanting: nothing is appended then.
+    pub fn some_matches(
+        &self,
+        alloc: Global,
+        graph: u64,
+        subject: Option<u64>,
+        predicate: Option<u64>,
+        object: Option<u64>,
+        most: usize,
+        out: &mut Vec<Key>,
+    ) -> Result<bool, NoMemory>
+        ensures found { IfOk result (λ all. AppendsSomeKeys
+            (set.retain self.now.quads (matches graph subject predicate object))
+            all out.old.items out.new.items) }
+        ensures stopped { IfOk result (λ all. all ≡ false →
+            length out.new.items ≡ length out.old.items + most) }
+        ensures few { OnOk result (length out.new.items ≤ length out.old.items + most) }
+        ensures err { OnErr result (out.new.items ≡ out.old.items) }
+    {
+        let mut walk = Walk::over(self);
+        look_up_some(
+            alloc, &mut walk, graph, subject, predicate, object, most, out,
+        )
+    }
+
+    /// The quads of the graph with a number and of those with greater numbers, each once, by their keys
+    /// in `Spo` and in that order. No others are looked at. It takes no memory.
+    pub fn keys_from(&self, graph: u64) -> KeyRange<'_>
+        ensures { ListsKeys (set.retain self.now.quads (is_from graph)) result }
+    {
+        let start = Bound::Included([graph, 0, 0, 0]);
+        self.trees.of(Order::Spo).range_from(start)
     }
 }

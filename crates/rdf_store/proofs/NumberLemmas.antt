@@ -1,7 +1,8 @@
 -- Numbers of terms and quads in a table that grows.
-use Rattle.std.proofs.Common.{◌≡◌, ℕ, zero, suc, ◌+◌, true, false, cond, List, [], ◌∷◌, ◌++◌, refl, sym, ap, subst, ◌∙◌, add-one}
+use Rattle.std.proofs.Common.{◌≡◌, ℕ, zero, suc, ◌+◌, leb, not, arith, true, false, cond, List, [], ◌∷◌, ◌++◌, refl, sym, ap, subst, ◌∙◌, add-one}
 use Rattle.std.specs.Prelude.{Option, None, Some, unwrap_or, IsTrue}
 use mathlib.Core.Bool.{true≢false}
+use Rattle.std.proofs.lemmas.Bool.{le-leb}
 use Rattle.std.specs.Ordering.{eq_by_cmp}
 use Rattle.rdf_terms.specs.declared.term.Term.{Term}
 use Rattle.rdf_terms.specs.declared.term.Term.TheVariants.{Blank}
@@ -11,8 +12,9 @@ use Rattle.rdf_terms.specs.Quad.{QuadParts, is_quad, has_right_kinds}
 use Rattle.rdf_terms.specs.Order.{term_cmp}
 use Rattle.rdf_terms.specs.OrderLaws.{term_cmp_total, term_cmp-IsAntisymmetric}
 use Rattle.rdf_terms.specs.Table.{IsIdOf, AreHeldOnce, is_held, with_term}
-use Rattle.rdf_orders.specs.Quads.{IdQuad}
+use Rattle.rdf_orders.specs.Quads.{IdQuad, is_from}
 use Rattle.rdf_orders.proofs.CallerLemmas.{first_of_both, either_first, either_second}
+use Rattle.rdf_store.specs.Stored.{in_named, is_default}
 use Rattle.rdf_store.specs.Inside.Numbers.{IsGraphNumber, AreNumbersOf, IsGrown, HasTerms, term_at, graph_at, parts_at}
 use Rattle.rdf_store.proofs.ImageLemmas.{eq_of_same}
 
@@ -55,6 +57,16 @@ graph_grown old new grown zero Default e = tt
 graph_grown old new grown zero (Named t) e = absurd e
 graph_grown old new grown (suc id) Default e = absurd e
 graph_grown old new grown (suc id) (Named t) e = grown.keeps id t e
+
+-- the graphs with names have the numbers from 1 on
+pub named_from : (table : List Term) (id : ℕ) (g : GraphName) → IsGraphNumber table id g → leb 1 id ≡ not (is_default g)
+named_from table zero Default e = refl
+named_from table zero (Named t) e = absurd e
+named_from table (suc id) Default e = absurd e
+named_from table (suc id) (Named t) e = le-leb 1 (suc id) (omega arith)
+
+pub quad_named_from : (table : List Term) (k : IdQuad) (q : QuadParts) → AreNumbersOf table k q → is_from 1 k ≡ in_named q
+quad_named_from table k q n = named_from table k.graph q.graph n.graph
 
 pub term_is : (table : List Term) (id : ℕ) (t : Term) → IsIdOf table id t → term_at table id ≡ t
 term_is table id t e = ap (λ o. unwrap_or o (Blank 0)) e

@@ -13,17 +13,17 @@ use Rattle.rdf_terms.specs.Quad.{QuadParts}
 use Rattle.rdf_terms.specs.Order.{quad_cmp}
 use Rattle.rdf_terms.specs.Table.{IsIdOf, AreHeldOnce}
 use Rattle.rdf_orders.specs.declared.order.Order.TheVariants.{Spo}
-use Rattle.rdf_orders.specs.Quads.{IdQuad, id_quad_cmp, key_in, quad_of}
+use Rattle.rdf_orders.specs.Quads.{IdQuad, id_quad_cmp, is_from, key_in, quad_of}
 use Rattle.rdf_orders.specs.Contents.{Contents, ListsKeys, ListsIds}
-use Rattle.rdf_orders.specs.Runs.{AppendsKeysOnce}
+use Rattle.rdf_orders.specs.Runs.{AppendsKeysOnce, AppendsSomeKeys}
 use Rattle.rdf_orders.proofs.CallerLemmas.{id_quad_cmp_total, id_quad_cmp-IsAntisymmetric, contains_kept, first_of_both, either_first, either_second}
 use Rattle.rdf_terms.specs.Lists.{AppendsOnce, ListsOnce, ListsSorted}
 use Rattle.rdf_terms.specs.OrderLaws.{quad_cmp_total, quad_cmp-IsAntisymmetric}
 use Rattle.rdf_store.proofs.OrderLemmas.{listed_in_order}
-use Rattle.rdf_store.specs.Stored.{Stored}
-use Rattle.rdf_store.specs.Inside.Numbers.{AreNumbersOf, HasTerms, HaveTerms, shown, parts_at, parts_of, term_at}
+use Rattle.rdf_store.specs.Stored.{AppendsSome, Stored}
+use Rattle.rdf_store.specs.Inside.Numbers.{AreNumbersOf, HasTerms, HaveTerms, image, shown, parts_at, parts_of, term_at}
 use Rattle.rdf_store.proofs.ImageLemmas.{eq_of_same}
-use Rattle.rdf_store.proofs.StoreLemmas.{quads_listed, names_listed, kept_listed, none_kept}
+use Rattle.rdf_store.proofs.StoreLemmas.{quads_listed, names_listed, kept_listed, none_kept, passing, some_listed, some_passing}
 
 -- each item of a list is in its set
 item_in : {K : Type 0} {R : K → K → Ordering} → IsTotalOrder R → IsAntisymmetric R → (xs : List K) → All (λ x. set.contains (set.from_list {R = R} xs) x ≡ true) xs
@@ -87,7 +87,40 @@ module _ (table : List Term) (c : Contents) (s : Stored) (kept : HaveTerms table
       each_once = subst (λ (v : Stored). ListsOnce (set.retain v.quads wanted) (map (parts_at table) a.found)) is (kept_listed table c kept once test wanted same a.found a.each_once);
     }
 
+    -- the same of some of them
+    pub some_appended : (test : IdQuad → Bool) (wanted : QuadParts → Bool) → ((k : IdQuad) (q : QuadParts) → AreNumbersOf table k q → test k ≡ wanted q)
+        → (all : Bool) (start keys keys' : List (List ℕ)) (old new : List QuadParts) → start ≡ [] → AppendsSomeKeys (set.retain c.quads test) all start keys → keys' ≡ keys
+        → new ≡ old ++ map (parts_of table) keys' → AppendsSome (set.retain s.quads wanted) all old new
+    some_appended test wanted same all start keys keys' old new none a k e = record {
+      some = image (parts_at table) a.some;
+      within = λ q h. subst (λ (v : Stored). set.contains (set.retain v.quads wanted) q ≡ true) is (some_passing table c kept test wanted same a.some a.within q h);
+      appended = record {
+        found = map (parts_at table) a.appended.found;
+        appended = e ∙ ap (λ ks. old ++ ks) (ap (map (parts_of table)) (k ∙ a.appended.appended ∙ ap (λ ks. ks ++ map (key_in Spo) a.appended.found) none) ∙ parts_of_keys table a.appended.found);
+        each_once = some_listed table c kept once test a.some a.within a.appended.found a.appended.each_once;
+      };
+      whole = λ h. ap (image (parts_at table)) (a.whole h) ∙ passing table c kept test wanted same ∙ ap (λ (v : Stored). set.retain v.quads wanted) is;
+    }
+
+    -- the quads of the graphs from a number on
+    pub from_appended : (g : ℕ) (wanted : QuadParts → Bool) → ((k : IdQuad) (q : QuadParts) → AreNumbersOf table k q → is_from g k ≡ wanted q)
+        → (keys keys' : List (List ℕ)) (old new : List QuadParts) → ListsKeys (set.retain c.quads (is_from g)) keys → keys' ≡ keys
+        → new ≡ old ++ map (parts_of table) keys' → AppendsOnce (set.retain s.quads wanted) old new
+    from_appended g wanted same keys keys' old new l k e =
+        matches_appended (is_from g) wanted same [] keys keys' old new refl (record { found = l.found; appended = l.are_keys; each_once = l.sorted.lists }) k e
+
+  pub some_found_kept : (test : IdQuad → Bool) (all : Bool) (start keys keys' : List (List ℕ)) → start ≡ [] → AppendsSomeKeys (set.retain c.quads test) all start keys → keys' ≡ keys → All (λ key. HasTerms table (quad_of key)) keys'
+  some_found_kept test all start keys keys' none a e =
+      subst (All (λ key. HasTerms table (quad_of key))) (sym (e ∙ a.appended.appended ∙ ap (λ ks. ks ++ map (key_in Spo) a.appended.found) none))
+      (kept_keys a.some a.appended.found (λ k h. first_of_both _ _ (sym (contains_kept c.quads test k) ∙ a.within k h)) a.appended.each_once)
+
+  pub from_kept : (test : IdQuad → Bool) (keys keys' : List (List ℕ)) → ListsKeys (set.retain c.quads test) keys → keys' ≡ keys → All (λ key. HasTerms table (quad_of key)) keys'
+  from_kept test keys keys' l e = found_kept test [] keys keys' refl (record { found = l.found; appended = l.are_keys; each_once = l.sorted.lists }) e
+
   pub none_appended : (wanted : QuadParts → Bool) → ((k : IdQuad) (q : QuadParts) → AreNumbersOf table k q → ¬ IsTrue (wanted q)) → (old : List QuadParts) → AppendsOnce (set.retain s.quads wanted) old old
   none_appended wanted none old =
       let nothing = sym (none_kept table c kept wanted none) ∙ ap (λ (v : Stored). set.retain v.quads wanted) is in
       record { found = []; appended = sym (append-nil old); each_once = record { all = nothing; once = sym (len-empty quad_cmp) ∙ ap set.len nothing } }
+
+  pub none_of_some : (wanted : QuadParts → Bool) → ((k : IdQuad) (q : QuadParts) → AreNumbersOf table k q → ¬ IsTrue (wanted q)) → (old : List QuadParts) → AppendsSome (set.retain s.quads wanted) true old old
+  none_of_some wanted none old = record { some = set.retain s.quads wanted; within = λ q h. h; appended = none_appended wanted none old; whole = λ _. refl }

@@ -159,6 +159,31 @@ module _ (table : List Term) (c : Contents) (kept : HaveTerms table c) where
         held : (k : IdQuad) → set.contains (set.retain c.quads test) k ≡ true → set.contains c.quads k ≡ true
         held k h = first_of_both _ _ (sym (contains_kept c.quads test k) ∙ h)
 
+    -- quads listed by their numbers
+    pub some_listed : (test : IdQuad → Bool) (some : set.FinSet id_quad_cmp) → ((k : IdQuad) → set.contains some k ≡ true → set.contains (set.retain c.quads test) k ≡ true)
+        → (found : List IdQuad) → ListsOnce some found → ListsOnce {R = quad_cmp} (image (parts_at table) some) (map (parts_at table) found)
+    some_listed test some within found l =
+        image_listed id_quad_cmp_total id_quad_cmp-IsAntisymmetric quad_cmp_total quad_cmp-IsAntisymmetric (parts_at table) some found
+        (λ k h x g e. quads_apart k (kept.quads k (held k (within k h))) x (held x (within x g)) e) l
+      where
+        held : (k : IdQuad) → set.contains (set.retain c.quads test) k ≡ true → set.contains c.quads k ≡ true
+        held k h = first_of_both _ _ (sym (contains_kept c.quads test k) ∙ h)
+
+  -- those that pass a test are those whose numbers pass one
+  pub passing : (test : IdQuad → Bool) (wanted : QuadParts → Bool) → ((k : IdQuad) (q : QuadParts) → AreNumbersOf table k q → test k ≡ wanted q)
+      → image (parts_at table) (set.retain c.quads test) ≡ set.retain (shown table c).quads wanted
+  passing test wanted same = image-retain id_quad_cmp_total id_quad_cmp-IsAntisymmetric quad_cmp_total quad_cmp-IsAntisymmetric (parts_at table) c.quads test wanted (λ k h. same k (parts_at table k) (kept.quads k h))
+
+  -- what some of them stand for are some of those
+  pub some_passing : (test : IdQuad → Bool) (wanted : QuadParts → Bool) → ((k : IdQuad) (q : QuadParts) → AreNumbersOf table k q → test k ≡ wanted q)
+      → (some : set.FinSet id_quad_cmp) → ((k : IdQuad) → set.contains some k ≡ true → set.contains (set.retain c.quads test) k ≡ true)
+      → (q : QuadParts) → set.contains {R = quad_cmp} (image (parts_at table) some) q ≡ true → set.contains (set.retain (shown table c).quads wanted) q ≡ true
+  some_passing test wanted same some within q h =
+      let i = from_image id_quad_cmp_total id_quad_cmp-IsAntisymmetric quad_cmp_total quad_cmp-IsAntisymmetric (parts_at table) some q h in
+      subst (λ z. set.contains z q ≡ true) (passing test wanted same)
+      (subst (λ x. set.contains {R = quad_cmp} (image (parts_at table) (set.retain c.quads test)) x ≡ true) i.is
+      (in_image id_quad_cmp_total id_quad_cmp-IsAntisymmetric quad_cmp_total quad_cmp-IsAntisymmetric (parts_at table) (set.retain c.quads test) i.at (within i.at i.in_set)))
+
   -- nothing matches
   pub none_kept : (wanted : QuadParts → Bool) → ((k : IdQuad) (q : QuadParts) → AreNumbersOf table k q → ¬ IsTrue (wanted q)) → set.retain (shown table c).quads wanted ≡ set.empty
   none_kept wanted none = same_set quad_cmp_total quad_cmp-IsAntisymmetric _ _ (λ q. lacks q ∙ sym (contains-empty quad_cmp q))

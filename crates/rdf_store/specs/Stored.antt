@@ -1,13 +1,15 @@
 -- Quads and graph names (RDF 1.1 Concepts, section 4), what the operations leave of them, and which quads a look-up wants.
-use Rattle.std.specs.Prelude.{Bool, true, ◌&&◌, List, Option, None, Some, refl}
+use Rattle.std.specs.Prelude.{◌≡◌, Bool, true, false, not, ◌&&◌, List, Option, None, Some, IsTrue, refl}
 use Rattle.std.specs.Coded.{Coded, code_by, coded×}
 use Rattle.std.specs.Ordering.{eq_by_cmp}
 use Rattle.std.specs.FinSet as set
 use Rattle.rdf_terms.specs.declared.term.Term.{Term}
 use Rattle.rdf_terms.specs.declared.quad.GraphName.{GraphName}
+use Rattle.rdf_terms.specs.declared.quad.GraphName.TheVariants.{Default, Named}
 use Rattle.rdf_terms.specs.Quad.{QuadParts}
 use Rattle.rdf_terms.specs.Order.{term_cmp, graph_cmp, quad_cmp}
 use Rattle.rdf_terms.specs.Codes.{coded_term, coded_quad}
+use Rattle.rdf_terms.specs.Lists.{AppendsOnce}
 
 abbrev pub Quads : Type 0
 Quads = set.FinSet quad_cmp
@@ -61,3 +63,18 @@ fits_place (Some t) x = eq_by_cmp term_cmp t x
 -- the quad lies in the graph and has the terms of the bound places
 abbrev pub matches : GraphName → Option Term → Option Term → Option Term → QuadParts → Bool
 matches g s p o q = eq_by_cmp graph_cmp g q.graph && (fits_place s q.subject && (fits_place p q.predicate && fits_place o q.object))
+
+abbrev pub is_default : GraphName → Bool
+is_default Default = true
+is_default (Named name) = false
+
+-- the quad lies in a named graph
+abbrev pub in_named : QuadParts → Bool
+in_named q = not (is_default q.graph)
+
+-- the list has gained some members of the set, each once, and all of them where it is said so
+pub record AppendsSome (members : Quads) (all : Bool) (old new : List QuadParts) : Type 0 where
+  pub some : Quads
+  pub within : (q : QuadParts) → IsTrue (set.contains some q) → IsTrue (set.contains members q)
+  pub appended : AppendsOnce some old new
+  pub whole : IsTrue all → some ≡ members

@@ -1,13 +1,13 @@
 //! Lists of what a store holds.
-ghost use Rattle.std.specs.Prelude.{◌≡◌, ◌+◌, ◌++◌, ◌∷◌, [], All, length, map, option_copied, IfOk, OnOk, OnErr};
+ghost use Rattle.std.specs.Prelude.{◌≡◌, ◌≤◌, ◌+◌, ◌++◌, ◌∷◌, [], false, All, length, map, option_copied, IfOk, OnOk, OnErr};
 ghost use Rattle.std.specs.FinSet as set;
 ghost use Rattle.rdf_terms.specs.Table.{IsIdOf};
 ghost use Rattle.rdf_orders.specs.Quads.{quad_of};
 ghost use Rattle.rdf_terms.specs.Lists.{AppendsOnce, ListsSorted};
-ghost use Rattle.rdf_store.specs.Stored.{matches};
+ghost use Rattle.rdf_store.specs.Stored.{AppendsSome, in_named, matches};
 ghost use Rattle.rdf_store.specs.Inside.Numbers.{HasTerms, parts_of, term_at};
 
-use crate::numbers::quad_from;
+use crate::numbers::{FIRST_NAMED, quad_from};
 use crate::pattern::{Pattern, pattern_of};
 use crate::ranks::quads_in_order;
 use crate::store::Store;
@@ -169,5 +169,62 @@ impl Store {
             .matches(self.alloc, graph, subject, predicate, object, &mut keys)?;
         append_all(&self.table, &keys, out)?;
         Ok(looked)
+    }
+    /// Appends some of the quads that [`matches`](Store::matches) appends, each once, and answers
+    /// whether these are all; where they aren't, they are `most`. It looks at no others.
+    ///
+    /// # Errors
+    /// [`NoMemory`] where memory is wanting: nothing is appended then.
+    pub fn some_matches(
+        &self,
+        graph: &GraphName,
+        subject: Option<&Term>,
+        predicate: Option<&Term>,
+        object: Option<&Term>,
+        most: usize,
+        out: &mut Vec<Quad>,
+    ) -> Result<bool, NoMemory>
+        ensures found { IfOk result (λ all. AppendsSome (set.retain self.now.quads
+            (matches graph.now (option_copied subject.entry) (option_copied predicate.entry)
+            (option_copied object.entry))) all out.old.items out.new.items) }
+        ensures stopped { IfOk result (λ all. all ≡ false →
+            length out.new.items ≡ length out.old.items + most) }
+        ensures few { OnOk result (length out.new.items ≤ length out.old.items + most) }
+        ensures err { OnErr result (out.new.items ≡ out.old.items) }
+    {
+        terms_are_held_once(&self.table);
+        let Some(pattern) = pattern_of(&self.table, graph, subject, predicate, object) else {
+            return Ok(true);
+        };
+        let Pattern {
+            graph,
+            subject,
+            predicate,
+            object,
+        } = pattern;
+        let mut keys = Vec::new(self.alloc);
+        let all = self.sets.some_matches(
+            self.alloc, graph, subject, predicate, object, most, &mut keys,
+        )?;
+        append_all(&self.table, &keys, out)?;
+        Ok(all)
+    }
+
+    /// Appends each quad of the named graphs once, in any order, and answers how many were looked at:
+    /// just those.
+    ///
+    /// # Errors
+    /// [`NoMemory`] where memory is wanting: nothing is appended then.
+    pub fn named_quads(&self, out: &mut Vec<Quad>) -> Result<usize, NoMemory>
+        ensures found { OnOk result (AppendsOnce (set.retain self.now.quads in_named)
+            out.old.items out.new.items) }
+        ensures looked { IfOk result
+            (λ looked. length out.new.items ≡ length out.old.items + looked) }
+        ensures err { OnErr result (out.new.items ≡ out.old.items) }
+    {
+        terms_are_held_once(&self.table);
+        let keys: Vec<Key> = self.sets.keys_from(FIRST_NAMED).collect(self.alloc)?;
+        append_all(&self.table, &keys, out)?;
+        Ok(keys.len())
     }
 }

@@ -11,6 +11,9 @@ use std::alloc::Global;
 /// The default graph's number. That of a graph with a name is one more than its name's.
 pub(crate) const DEFAULT: u64 = 0;
 
+/// The least number of a graph with a name.
+pub(crate) const FIRST_NAMED: u64 = 1;
+
 /// The number of a term, where the table holds it.
 pub(crate) fn find_term(table: &TermTable, term: &Term) -> Option<u64>
     ensures found { IfSome result (λ id. IsIdOf table.now id term.now) }

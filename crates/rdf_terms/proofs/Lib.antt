@@ -21,6 +21,7 @@ mod ReferenceLemmas
 mod ResolutionLemmas
 mod RunLemmas
 mod SkipLemmas
+mod StopLemmas
 mod OneCharacterLemmas
 mod TableLemmas
 mod TagForms

@@ -80,7 +80,7 @@ impl<'a> Cursor<'a> {
     }
 
     /// The place behind the characters that stand for themselves in an IRI, which begin here.
-    pub(crate) fn past_iri_run(&self) -> Cursor<'a>
+    pub fn past_iri_run(&self) -> Cursor<'a>
         ensures over { IsPast is_forbidden self.now result }
         ensures up_to { IsStopped is_forbidden result }
     {

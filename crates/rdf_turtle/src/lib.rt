@@ -1,6 +1,6 @@
 //! Turtle: documents read triple by triple or as quads, and the tokens of a text.
 //!
-//! `rdf_session` calls it for loads, `rdf_keeper` for conversions, and a host that reads Turtle. It
+//! `rdf_session` calls it for loads, `rdf_streams` for conversions, and a host that reads Turtle. It
 //! reads a text that is held whole, since a fault anywhere refuses all of it; and it writes no
 //! Turtle.
 #![tactic(auto)]

@@ -49,6 +49,7 @@ pub(crate) fn apply_each<S: Source>(
     ensures beneath { staged.new.under ≡ staged.old.under }
 {
     for operation in operations {
+        staged.settle()?;
         act(alloc, vocabulary, operation, staged)?;
     }
     Ok(())

@@ -1,12 +1,11 @@
 -- Whether a row's quads lead to a solution, from some of them before the others.
-use Rattle.std.proofs.Common.{◌≡◌, ℕ, ◌+◌, ◌<◌, ◌≤◌, Bool, true, false, List, [], ◌∷◌, ◌++◌, refl, sym, ap, ◌∙◌, length, take, drop, get_or, arith, append-nil, length-append, Bor}
+use Rattle.std.proofs.Common.{◌≡◌, ℕ, ◌+◌, ◌<◌, ◌≤◌, Bool, true, false, List, [], ◌∷◌, ◌++◌, refl, sym, ap, ◌∙◌, length, take, drop, get_or, append-nil, Bor}
 use Rattle.std.specs.List.{list_all, remove, sum_by}
 use Rattle.std.proofs.lemmas.List.{drop-drop, drop_all, take-append-drop}
-use Rattle.std.proofs.lemmas.List.Elements.{filter_map-append}
 use Rattle.std.proofs.lemmas.List.Folds.{list_all-append}
 use Rattle.rdf_terms.specs.Quad.{QuadParts}
 use Rattle.rdf_terms.specs.declared.quad.GraphName.{GraphName}
-use Rattle.rdf_dataset.specs.State.{State}
+use Rattle.rdf_dataset.specs.State.{State, AppendsSome}
 use Rattle.rdf_dataset.specs.Sorted.{ListsOnce}
 use Rattle.sparql_trees.specs.declared.expression.Expression.{Expression}
 use Rattle.sparql_trees.specs.declared.pattern.Member.{Member}
@@ -16,15 +15,13 @@ use Rattle.sparql_algebra.specs.Results.{is_some_solution}
 use Rattle.sparql_algebra.proofs.CallerLemmas.{and_left, and_right}
 use Rattle.sparql_solve.specs.declared.place.Places.{Places}
 use Rattle.sparql_solve.specs.Ask.{has_columns}
-use Rattle.sparql_solve.specs.Matching.{has_held, matched, matches_of, quads_under, stepped}
-use Rattle.sparql_solve.proofs.AskLemmas.{Grows, InParts, grown_same, grows_to, some_first, some_rest}
+use Rattle.sparql_solve.specs.Matching.{has_held, matches_of, quads_under, stepped}
+use Rattle.sparql_solve.proofs.AskLemmas.{Grows, InParts, grown_parts, grown_same, grows_to, some_first, some_rest}
+use Rattle.sparql_solve.proofs.FewLemmas.{few_all, few_in, few_lead, none_twice, matches_parts}
 use Rattle.sparql_solve.proofs.LookUpLemmas.{SameBag-matching, look_up_gives}
 use Rattle.sparql_solve.proofs.PatternOrderLemmas.{asked, one_before}
 
 -- ---- quads in parts
-
-matches_parts : (p : Places) (m : Mapping) (xs ys : List QuadParts) → matches_of (xs ++ ys) p m ≡ matches_of xs p m ++ matches_of ys p m
-matches_parts p m xs ys = filter_map-append (matched p m) xs ys
 
 -- the first of some quads, and those behind them
 matches_cut : (p : Places) (m : Mapping) (quads : List QuadParts) (n : ℕ) → matches_of quads p m ≡ matches_of (take n quads) p m ++ matches_of (drop n quads) p m
@@ -42,12 +39,6 @@ pub part_held : (p : Places) (m : Mapping) (quads rest : List QuadParts) (done l
     list_all (has_held p m) (take len rest) ≡ true
 part_held p m quads rest done len er h =
     all_before (has_held p m) len rest (ap (list_all (has_held p m)) er ∙ all_behind (has_held p m) done quads h)
-
-none_twice : (xs : List Mapping) → xs ≡ xs ++ xs → is_some_solution xs ≡ false
-none_twice [] e = refl
-none_twice (x ∷ xs) e =
-    let n : length (x ∷ xs) ≡ length (x ∷ xs) + length (x ∷ xs) = ap length e ∙ length-append (x ∷ xs) (x ∷ xs) in
-    absurd (omega (arith, n))
 
 module _ (G : List Mapping → List Mapping) (h : InParts G) (p : Places) (m : Mapping) (quads rest : List QuadParts) (done len : ℕ) (whole : Bool) (er : rest ≡ drop done quads)
     (k : is_some_solution (G (matches_of (drop done quads) p m)) ≡ whole) where
@@ -82,6 +73,21 @@ module _ (vs : Variables) (s : State) (g : GraphName) (a : Mapping) (own : Graph
   lone_some p m ps found given answer d l h eg e =
       e ∙ grown_same vs s g a own ms F d ps ps (matches_of given p m) (matches_of (d.quads own) p m)
       (SameBag-matching (d.quads own) ps (matches_of given p m) (matches_of (d.quads own) p m) (look_up_gives s own p m found given (matches_of given p m) h eg refl d l))
+
+  -- a few of them lead to what all of the graph lead to
+  pub few_some : (p : Places) (m : Mapping) (ps : List Places) (all : Bool) (few given : List QuadParts) (answer : Bool) (d : Listing) → Lists s d →
+      AppendsSome (quads_under s own p m) all [] few → given ≡ few → answer ≡ is_some_solution (grows_to vs d g a own ms F ps (matches_of given p m)) → answer ≡ true →
+      true ≡ is_some_solution (grows_to vs d g a own ms F ps (matches_of (d.quads own) p m))
+  few_some p m ps all few given answer d l h eg e t =
+      let G : List Mapping → List Mapping = grows_to vs d g a own ms F ps in
+      sym (few_lead G (grown_parts vs d g a own ms F ps) p m few (d.quads own) (few_in s own p m all few h (d.quads own) (l.quads own))
+      (ap (λ (qs : List QuadParts). is_some_solution (G (matches_of qs p m))) (sym eg) ∙ sym e ∙ t))
+
+  -- nothing more is looked up where they are all
+  pub few_none : (p : Places) (m : Mapping) (ps : List Places) (all : Bool) (few given : List QuadParts) (answer : Bool) (d : Listing) → Lists s d →
+      AppendsSome (quads_under s own p m) all [] few → given ≡ few → answer ≡ is_some_solution (grows_to vs d g a own ms F ps (matches_of given p m)) → answer ≡ false →
+      all ≡ true → false ≡ is_some_solution (grows_to vs d g a own ms F ps (matches_of (d.quads own) p m))
+  few_none p m ps all few given answer d l h eg e t k = sym t ∙ lone_some p m ps few given answer d l (few_all s own p m all few h k) eg e
 
   -- by one of the triple patterns before the others
   pub lone_grown : (all : List Places) (rest after : List (Bor Places)) (i : ℕ) (x : Bor Places) → i < length rest → x ≡ get_or rest i x → after ≡ remove rest i →

@@ -204,25 +204,37 @@ ready_next m k l x y u v r e = by_term (held m x) r
 
 -- ---- the quads of a look-up have the terms
 
-either_last : (a b : Bool) → b ≡ true → (a || b) ≡ true
+pub either_last : (a b : Bool) → b ≡ true → (a || b) ≡ true
 either_last true b k = refl
 either_last false b k = k
 
-pub listed_held : (s : State) (g : GraphName) (p : Places) (m : Mapping) (found given : List QuadParts) → ListsOnce (quads_under s g p m) found → given ≡ found → list_all (has_held p m) given ≡ true
-listed_held s g p m found given h e = ap (list_all (has_held p m)) e ∙ each found listed
-  where
-    listed : (q : QuadParts) → list_any (eq_by_cmp quad_cmp q) found ≡ true → has_held p m q ≡ true
-    listed q k =
-        let test = matches g (held m p.subject) (held m p.predicate) (held m p.object) in
-        let held_there : set.contains (set.retain s.quads test) q ≡ true = ap (λ z. set.contains z q) (sym h.all) ∙ contains-from_list quad_cmp_total found q ∙ k in
-        and_right (eq_by_cmp graph_cmp g q.graph) _ (and_right (set.contains s.quads q) _
-        (sym (contains-retain s.quads test q (λ x i. ap test (sym (quad_cmp-IsAntisymmetric q x i)))) ∙ held_there))
+-- what holds of each that a list has, holds of all of it
+pub each_had : (h : QuadParts → Bool) (xs : List QuadParts) → ((q : QuadParts) → list_any (eq_by_cmp quad_cmp q) xs ≡ true → h q ≡ true) → list_all h xs ≡ true
+each_had h [] f = refl
+each_had h (x ∷ xs) f =
+    λ i. f x (ap (λ b. b || list_any (eq_by_cmp quad_cmp x) xs) (ap is_eq (tied_itself quad_cmp_total x))) i
+    && each_had h xs (λ q k. f q (either_last (eq_by_cmp quad_cmp q x) _ k)) i
 
-    each : (xs : List QuadParts) → ((q : QuadParts) → list_any (eq_by_cmp quad_cmp q) xs ≡ true → has_held p m q ≡ true) → list_all (has_held p m) xs ≡ true
-    each [] f = refl
-    each (x ∷ xs) f =
-        λ i. f x (ap (λ b. b || list_any (eq_by_cmp quad_cmp x) xs) (ap is_eq (tied_itself quad_cmp_total x))) i
-        && each xs (λ q k. f q (either_last (eq_by_cmp quad_cmp q x) _ k)) i
+module _ (s : State) (g : GraphName) (p : Places) (m : Mapping) (q : QuadParts) (k : set.contains (quads_under s g p m) q ≡ true) where
+  abbrev test : QuadParts → Bool
+  test = matches g (held m p.subject) (held m p.predicate) (held m p.object)
+
+  parts : (set.contains s.quads q && test q) ≡ true
+  parts = sym (contains-retain s.quads test q (λ x i. ap test (sym (quad_cmp-IsAntisymmetric q x i)))) ∙ k
+
+  pub under_there : set.contains s.quads q ≡ true
+  under_there = and_left (set.contains s.quads q) _ parts
+
+  pub under_graph : eq_by_cmp graph_cmp g q.graph ≡ true
+  under_graph = and_left (eq_by_cmp graph_cmp g q.graph) _ (and_right (set.contains s.quads q) _ parts)
+
+  pub under_held : has_held p m q ≡ true
+  under_held = and_right (eq_by_cmp graph_cmp g q.graph) _ (and_right (set.contains s.quads q) _ parts)
+
+pub listed_held : (s : State) (g : GraphName) (p : Places) (m : Mapping) (found given : List QuadParts) → ListsOnce (quads_under s g p m) found → given ≡ found → list_all (has_held p m) given ≡ true
+listed_held s g p m found given h e =
+    ap (list_all (has_held p m)) e
+    ∙ each_had (has_held p m) found (λ q k. under_held s g p m q (ap (λ z. set.contains z q) (sym h.all) ∙ contains-from_list quad_cmp_total found q ∙ k))
 
 pub held_at : (p : Places) (m : Mapping) (qs : List QuadParts) (i : ℕ) (q : QuadParts) → i < length qs → q ≡ get_or qs i q → list_all (has_held p m) qs ≡ true → has_held p m q ≡ true
 held_at p m qs i q lt here a = ap (has_held p m) here ∙ by_test (has_held p m (get_or qs i q)) refl

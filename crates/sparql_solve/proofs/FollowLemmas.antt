@@ -27,6 +27,7 @@ use Rattle.sparql_values.specs.Mapping.{Variables, Mapping, same_term, column, v
 use Rattle.sparql_algebra.specs.Algebra.{Algebra, basic, graph, Element, joined, optional, removed, empty_pattern, filtered, extended, element, group_of, translation, union_of}
 use Rattle.sparql_algebra.specs.Bags.{SameBag}
 use Rattle.sparql_algebra.specs.Listing.{Listing, Lists}
+use Rattle.sparql_algebra.specs.Results.{is_some_solution}
 use Rattle.sparql_algebra.specs.Solutions.{is_at, is_column, occurs, var_or_term, basic_solutions, merges, joins, shares, left_by, satisfies, solutions}
 use Rattle.sparql_algebra.specs.Under.{agreeing, cut, names_left, reads, under}
 use Rattle.sparql_algebra.proofs.CallerLemmas.{and_left, and_right, sum_by-cong, sum_by-filter, SameBag-refl, SameBag-filter, SameBag-map, SameBag-joins, SameBag-flat_map, SameBag-merges, has_length, single_length, length_from, length_to, merge_length, merges_length, solutions_length, sum_where, sum_by-map, all_under_nothing, all_filter, basic_under, same_term_is, name_once, filter_always, translation-is, element-Basic, element-Union, element-Optional, element-Graph, element-Minus, empty_solutions, compatible_empty, compatible_turn, filter_flat_map, filter_again, filter_turn, join_alone, joined_alone, left_joined_alone, minus_alone, filter_under, names_kept, variable_under}
@@ -38,7 +39,7 @@ use Rattle.sparql_solve.specs.declared.sides.Made.{Made}
 use Rattle.sparql_solve.specs.Matching.{has_column, is_place_at, place_by, place_of, places_of}
 use Rattle.sparql_solve.specs.Sides.{look_up_in, tried, found}
 use Rattle.sparql_solve.specs.Members.{AreSolutions, element_solutions}
-use Rattle.sparql_solve.specs.Under.{binds_none, is_unit, is_served, below, masked, flags_where, is_joined, is_removed, is_wide, met, where_none, kept, asked, made, under_name, AreUnder, AreMade, IsLookUpOf, IsLookUpFor, counting, own_columns}
+use Rattle.sparql_solve.specs.Under.{binds_none, is_unit, is_served, below, masked, flags_where, is_joined, is_removed, is_wide, met, where_none, kept, asked, made, under_name, AreUnder, AreMade, AreEnough, IsLookUpOf, IsLookUpFor, counting, own_columns}
 use Rattle.sparql_solve.proofs.SideLemmas.{same_all, all_give, times_once, sum_times, basic_look_up}
 use Rattle.sparql_solve.proofs.MemberLemmas.{extended_push, union_is, once_for_all}
 use Rattle.sparql_solve.proofs.MinusLemmas.{all_left}
@@ -330,7 +331,7 @@ module _ (vs : Variables) (s : State) where
 
   -- what is looked up for the first row
   pub made_alone : (g : GraphName) (a : Mapping) (k : Element) (x : Mapping) (rows block there out : List Mapping) (l : LookUp) → block ≡ take 1 rows → 0 < length rows →
-      x ≡ get_or rows 0 x → IsLookUpFor vs s k l (λ d. element_solutions vs d g k) → AreSolutions s there (λ d. counting vs d l k x) →
+      x ≡ get_or rows 0 x → IsLookUpFor vs s k l (λ d. element_solutions vs d g k) → AreEnough vs s k x there (λ d. counting vs d l k x) →
       out ≡ agreeing (kept vs k x there) a → AreMade vs s g a k block out
   made_alone g a k x rows block there out l eb lt here is h e =
       subst (λ (xs : List Mapping). AreMade vs s g a k xs out) (sym (first_alone rows block x eb lt here)) alone
@@ -340,7 +341,7 @@ module _ (vs : Variables) (s : State) where
           let M : List Mapping = merges (met k x (element_solutions vs d g k)) x in
           ap (sum_by f) e
           ∙ SameBag-filter (compatible a) (kept vs k x there) (kept vs k x M)
-          (SameBag-kept vs k x there M (λ f2. h d p f2 ∙ is d p x (wide_from vs x (and_left (is_wide vs x) _ w)) f2)) f
+          (λ f2. h d p f2 ∙ SameBag-kept vs k x (counting vs d l k x) M (is d p x (wide_from vs x (and_left (is_wide vs x) _ w))) f2) f
           ∙ ap (sum_by f) (sym (append-nil (made vs d g a k x)))
 
   -- what is looked up for the columns of a row counts for each row above them, merged with it
@@ -584,3 +585,34 @@ module _ (vs : Variables) (s : State) where
   first_follows g a k rows given out b eg eb t h =
       let both : (is_unit given && is_joined k) ≡ true = sym eb ∙ t in
       subst (λ (xs : List Mapping). AreMade vs s g a k xs out) eg (made_first g a k given out (and_left (is_unit given) _ both) (and_right (is_unit given) _ both) h)
+
+-- ---- as much as tells what an element makes of a mapping
+
+none_as : (x : Mapping) (A B : List Mapping) → is_some_solution A ≡ is_some_solution B → where_none x A ≡ where_none x B
+none_as x [] [] e = refl
+none_as x [] (y ∷ B) e = cc
+none_as x (y ∷ A) [] e = cc
+none_as x (y ∷ A) (z ∷ B) e = refl
+
+module _ (vs : Variables) (s : State) (x : Mapping) (l : LookUp) (out : List Mapping) where
+  pub all_are_enough : (k : Element) (b : Bool) → b ≡ is_removed k → b ≡ false → AreSolutions s out (λ d. found vs d l x) → AreEnough vs s k x out (λ d. counting vs d l k x)
+  all_are_enough (joined A) b eb e h d p = h d p
+  all_are_enough (optional F A) b eb e h d p = SameBag-kept vs (optional F A) x out (found vs d l x) (h d p)
+  all_are_enough (removed A) b eb e h d p = cc
+
+  pub none_are_enough : (k : Element) (b c : Bool) (own : List Bool) → b ≡ is_removed k → b ≡ true → own ≡ own_columns vs l → c ≡ binds_none (masked own x) → c ≡ true →
+      out ≡ [] → AreEnough vs s k x out (λ d. counting vs d l k x)
+  none_are_enough (joined A) b c own eb e eo ec t h d p = cc
+  none_are_enough (optional F A) b c own eb e eo ec t h d p = cc
+  none_are_enough (removed A) b c own eb e eo ec t h d p =
+      let unbound : binds_none (masked (own_columns vs l) x) ≡ true = ap (λ (flags : List Bool). binds_none (masked flags x)) (sym eo) ∙ sym ec ∙ t in
+      λ f. ap (λ (ms : List Mapping). sum_by f (where_none x ms)) (h ∙ sym (ap (λ (u : Bool). cond u [] (found vs d l x)) unbound))
+
+  pub some_are_enough : (k : Element) (b c : Bool) (own : List Bool) → b ≡ is_removed k → b ≡ true → own ≡ own_columns vs l → c ≡ binds_none (masked own x) → c ≡ false →
+      ((d : Listing) → Lists s d → is_some_solution out ≡ is_some_solution (found vs d l x)) → AreEnough vs s k x out (λ d. counting vs d l k x)
+  some_are_enough (joined A) b c own eb e eo ec t h d p = cc
+  some_are_enough (optional F A) b c own eb e eo ec t h d p = cc
+  some_are_enough (removed A) b c own eb e eo ec t h d p =
+      let bound : binds_none (masked (own_columns vs l) x) ≡ false = ap (λ (flags : List Bool). binds_none (masked flags x)) (sym eo) ∙ sym ec ∙ t in
+      λ f. ap (sum_by f) (none_as x out (found vs d l x) (h d p))
+      ∙ ap (λ (ms : List Mapping). sum_by f (where_none x ms)) (sym (ap (λ (u : Bool). cond u [] (found vs d l x)) bound))

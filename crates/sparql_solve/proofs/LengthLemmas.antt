@@ -7,7 +7,10 @@ use Rattle.rdf_terms.specs.Quad.{QuadParts}
 use Rattle.rdf_terms.specs.declared.term.Term.{Term}
 use Rattle.rdf_terms.specs.declared.quad.GraphName.{GraphName}
 use Rattle.rdf_dataset.specs.State.{State}
-use Rattle.sparql_values.specs.Mapping.{Mapping, same_term}
+use Rattle.sparql_values.specs.Mapping.{Variables, Mapping, same_term}
+use Rattle.sparql_algebra.specs.Listing.{Listing}
+use Rattle.sparql_solve.specs.declared.look_ups.Graphs.{Graphs}
+use Rattle.sparql_solve.specs.declared.look_ups.Graphs.TheVariants.{One}
 use Rattle.sparql_solve.specs.declared.look_ups.LookUp.{LookUp}
 use Rattle.sparql_solve.specs.declared.place.Place.{Place}
 use Rattle.sparql_solve.specs.declared.place.Place.TheVariants.{Fixed, Column, Nowhere}
@@ -15,7 +18,7 @@ use Rattle.sparql_solve.specs.declared.place.Places.{Places}
 use Rattle.sparql_solve.specs.LookUps.{widened}
 use Rattle.sparql_solve.specs.Matching.{assigned, assigned_at, matched, matches_of, matching}
 use Rattle.sparql_solve.specs.Members.{AreSolutions}
-use Rattle.sparql_solve.specs.Sides.{found_in}
+use Rattle.sparql_solve.specs.Sides.{found, found_among, found_in}
 
 keeps_cond : (b : Bool) (m : Mapping) → IfSome (cond b (Some m) None) (λ k. length k ≡ length m)
 keeps_cond true m = refl
@@ -57,6 +60,14 @@ cut_matches (q ∷ quads) p m = by_case (matched p m q) (matched_keeps p m q) (c
 lone_matches : (quads : List QuadParts) (p : Places) (m : Mapping) → map (take (length m)) (matching quads (p ∷ []) (widened 0 m ∷ [])) ≡ matches_of quads p m
 lone_matches quads p m =
     ap (map (take (length m))) (append-nil (matches_of quads p (m ++ [])) ∙ ap (matches_of quads p) (append-nil m)) ∙ cut_matches quads p m
+
+pub lone_found : (vs : Variables) (d : Listing) (g : GraphName) (l : LookUp) (m : Mapping) (p : Places) → l.graphs ≡ One g → l.places ≡ p ∷ [] → l.hidden ≡ 0 →
+    matches_of (d.quads g) p m ≡ found vs d l m
+lone_found vs d g l m p eg ep eh =
+    sym (lone_matches (d.quads g) p m)
+    ∙ ap (λ (i : ℕ). map (take (length m)) (matching (d.quads g) (p ∷ []) (widened i m ∷ []))) (sym eh)
+    ∙ ap (λ (ps : List Places). map (take (length m)) (matching (d.quads g) ps (widened l.hidden m ∷ []))) (sym ep)
+    ∙ ap (λ (gs : Graphs). found_among vs d l gs m) (sym eg)
 
 pub lone_gives : (s : State) (g : GraphName) (l : LookUp) (m : Mapping) (p : Places) (out : List Mapping) → l.places ≡ p ∷ [] → l.hidden ≡ 0 →
     AreSolutions s out (λ d. matches_of (d.quads g) p m) → AreSolutions s out (λ d. found_in d l g m)

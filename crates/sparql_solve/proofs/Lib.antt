@@ -22,6 +22,7 @@ pub mod KeyLemmas
 pub mod PartLemmas
 pub mod MinusLemmas
 pub mod AskLemmas
+pub mod FewLemmas
 pub mod AskQuadLemmas
 pub mod AskGroupLemmas
 pub mod ApartLemmas

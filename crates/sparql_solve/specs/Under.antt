@@ -99,6 +99,10 @@ asked (removed A) a x = x
 abbrev pub AreUnder : Variables → State → Mapping → List Mapping → (Listing → List Mapping) → Type 0
 AreUnder vs s a rows F = length a ≡ length vs → AreSolutions s rows (λ d. agreeing (F d) a)
 
+-- however the state is listed, an element makes the same of a mapping by these rows as by these merges
+abbrev pub AreEnough : Variables → State → Element → Mapping → List Mapping → (Listing → List Mapping) → Type 0
+AreEnough vs s k x rows F = (d : Listing) → Lists s d → SameBag (kept vs k x rows) (kept vs k x (F d))
+
 -- for each mapping of the variables the look-ups give the merges with these solutions, each as often
 abbrev pub IsLookUpOf : Variables → State → LookUp → (Listing → List Mapping) → Type 0
 IsLookUpOf vs s l F = (d : Listing) → Lists s d → (m : Mapping) → length m ≡ length vs → SameBag (found vs d l m) (merges (F d) m)

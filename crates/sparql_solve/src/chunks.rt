@@ -1,7 +1,7 @@
 //! Whether members of a group make some solution of rows (SPARQL 1.1 Query, section 16.3). The
 //! first rows are followed through all that comes behind before others are, then twice as many, and
 //! so on: a solution takes what the rows before it take, and a member is found for few chunks. Of a
-//! lone row's quads rows are made chunk by chunk.
+//! lone row's quads rows are made chunk by chunk, of a few of them before the others are looked up.
 ghost use Rattle.std.specs.Prelude.{◌≡◌, ◌++◌, ◌∷◌, ◌<◌, ◌≤◌, ◌||◌, [], IfNone, IfOk, IfSome, IsTrue, length, map, true};
 ghost use Rattle.std.specs.Option.{option_copied};
 ghost use Rattle.std.specs.List.{flat_map, list_all};
@@ -17,7 +17,7 @@ use crate::evaluator::rows_after;
 use crate::filters::some_satisfies;
 use crate::look_ups::{Graphs, LookUp};
 use crate::matching::{
-    all_patterns, copied, copies_matched, cut_rows, next_pattern, quads_of, step,
+    all_patterns, copied, copies_matched, cut_rows, few_quads_of, next_pattern, quads_of, step,
 };
 use crate::members::{is_joined, look_up_of_joined};
 use crate::place::Places;
@@ -33,6 +33,9 @@ use std::mem;
 
 // How often rows are parted again while they are followed.
 const LEVELS: usize = 64;
+
+// How many quads of a lone row are followed before all of them are looked up.
+const FEW: usize = 16;
 
 /// For each level of followed rows how many have room there, first one.
 pub(crate) fn first_rooms(alloc: Global) -> Result<Vec<Cell<usize>>, NoMemory> {
@@ -328,7 +331,7 @@ fn some_of_first_matched<S: Source>(
 }
 
 // Whether the members make one of which the filters are true of what grows from a row, a triple
-// pattern being looked up first and these behind it.
+// pattern being looked up first and these behind it: of a few of its quads, then of all.
 #[cycle(ask)]
 fn some_of_lone<S: Source>(
     alloc: Global,
@@ -354,6 +357,16 @@ fn some_of_lone<S: Source>(
         (matching (d.quads own.now) (map (λ r. r.now) patterns.now.items)
         (matches_of (d.quads own.now) places.now row.now))))) }
 {
+    let few = few_quads_of(alloc, own, source, places, row, FEW)?;
+    if some_of_quads(
+        alloc, variables, vocabulary, graph, source, looked, own, row, places, &few.quads,
+        patterns, members, filters, rooms, under,
+    )? {
+        return Ok(true);
+    }
+    if few.are_all {
+        return Ok(false);
+    }
     let quads = quads_of(alloc, own, source, places, row)?;
     some_of_quads(
         alloc, variables, vocabulary, graph, source, looked, own, row, places, &quads, patterns,

@@ -53,4 +53,21 @@ impl<'a, S: Source> Source for Counted<'a, S> {
         self.count(looked);
         Ok(looked)
     }
+
+    fn some_matches(
+        &self,
+        graph: &GraphName,
+        subject: Option<&Term>,
+        predicate: Option<&Term>,
+        object: Option<&Term>,
+        most: usize,
+        out: &mut Vec<Quad>,
+    ) -> Result<bool, NoMemory> {
+        let before = out.len();
+        let are_all = self
+            .source
+            .some_matches(graph, subject, predicate, object, most, out)?;
+        self.count(out.len().saturating_sub(before));
+        Ok(are_all)
+    }
 }

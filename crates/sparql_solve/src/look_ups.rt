@@ -8,11 +8,12 @@ ghost use Rattle.rdf_dataset.specs.Sorted.{ListsOnce};
 ghost use Rattle.sparql_values.specs.Mapping.{same_term};
 ghost use Rattle.sparql_algebra.specs.Bags.{SameBag};
 ghost use Rattle.sparql_algebra.specs.Listing.{Listing, Lists};
+ghost use Rattle.sparql_algebra.specs.Results.{is_some_solution};
 ghost use Rattle.sparql_solve.specs.LookUps.{looked_up};
 ghost use Rattle.sparql_solve.specs.Sides.{found, found_in, found_under, graph_where, graphs_of, look_up_in, tried};
 ghost use Rattle.sparql_solve.specs.Members.{AreSolutions};
 
-use crate::matching::{cut_rows, matching_rows, rows_of_one};
+use crate::matching::{cut_rows, matching_rows, rows_of_one, some_of_one};
 use crate::place::{Places, all_places};
 use crate::rows::{Row, copy_value};
 use rdf_dataset::Source;
@@ -219,4 +220,24 @@ pub(crate) fn found_rows<S: Source>(
             rows_under_names(alloc, variables, variable, &names, source, look_up, row)
         }
     }
+}
+
+/// Some of what is found under the row, one at least where there is any.
+pub(crate) fn some_found<S: Source>(
+    alloc: Global,
+    variables: &[Text],
+    source: &S,
+    look_up: &LookUp,
+    row: &Row,
+) -> Result<Vec<Row>, NoMemory>
+    ensures { IfOk result (λ out. (d : Listing) → Lists (S.contents source.now) d →
+        is_some_solution out.items
+        ≡ is_some_solution (found variables.now d look_up.now row.now)) }
+{
+    if let Graphs::One(graph) = &look_up.graphs {
+        if let Some(places) = lone_pattern(look_up) {
+            return some_of_one(alloc, graph, source, places, row);
+        }
+    }
+    found_rows(alloc, variables, source, look_up, row)
 }

@@ -1,8 +1,11 @@
 //! Basic graph patterns: the rows under which every instance lies in the graph
 //! (SPARQL 1.1 Query, section 18.3.1), by look-ups.
-ghost use Rattle.std.specs.Prelude.{◌≡◌, ◌++◌, ◌<◌, IfOk, IsTrue, None, OnOk, Some, cond, length, map, take};
+ghost use Rattle.std.specs.Prelude.{◌≡◌, ◌++◌, ◌<◌, [], IfOk, IsTrue, None, OnOk, Some, cond, length, map, take};
 ghost use Rattle.std.specs.List.{list_all};
 ghost use Rattle.rdf_dataset.specs.Sorted.{ListsOnce};
+ghost use Rattle.rdf_dataset.specs.State.{AppendsSome};
+ghost use Rattle.sparql_algebra.specs.Listing.{Listing, Lists};
+ghost use Rattle.sparql_algebra.specs.Results.{is_some_solution};
 ghost use Rattle.sparql_solve.specs.Matching.{AsksSame, has_held, matched, matches_of, stepped, matching, quads_under};
 ghost use Rattle.sparql_solve.specs.Members.{AreSolutions};
 
@@ -144,6 +147,36 @@ pub(crate) fn quads_of<S: Source>(
     Ok(quads)
 }
 
+/// Some of the quads that are looked up under a row.
+#[derive(Drop)]
+pub(crate) struct FewQuads {
+    pub(crate) quads: Vec<Quad>,
+    /// Whether these are all.
+    pub(crate) are_all: bool,
+}
+
+/// Some of the quads that [`quads_of`] answers, or all: so many are enough.
+pub(crate) fn few_quads_of<S: Source>(
+    alloc: Global,
+    graph: &GraphName,
+    source: &S,
+    places: &Places,
+    row: &Row,
+    most: usize,
+) -> Result<FewQuads, NoMemory>
+    ensures some { IfOk result (λ few. AppendsSome (quads_under (S.contents source.now) graph.now
+        places.now row.now) few.are_all [] few.quads.items) }
+    ensures held { IfOk result (λ few.
+        IsTrue (list_all (has_held places.now row.now) few.quads.items)) }
+{
+    let subject = row.held(&places.subject);
+    let predicate = row.held(&places.predicate);
+    let object = row.held(&places.object);
+    let mut quads = Vec::new(alloc);
+    let are_all = source.some_matches(graph, subject, predicate, object, most, &mut quads)?;
+    Ok(FewQuads { quads, are_all })
+}
+
 /// The rows that one triple pattern makes of a row, by a look-up of its triples.
 pub(crate) fn rows_of_one<S: Source>(
     alloc: Global,
@@ -157,6 +190,30 @@ pub(crate) fn rows_of_one<S: Source>(
 {
     let quads = quads_of(alloc, graph, source, places, row)?;
     copies_matched(alloc, row, places, &quads)
+}
+
+/// Some of the rows that one triple pattern makes of a row, one at least where there are any: a quad
+/// may be enough.
+pub(crate) fn some_of_one<S: Source>(
+    alloc: Global,
+    graph: &GraphName,
+    source: &S,
+    places: &Places,
+    row: &Row,
+) -> Result<Vec<Row>, NoMemory>
+    ensures { IfOk result (λ out. (d : Listing) → Lists (S.contents source.now) d →
+        is_some_solution out.items
+        ≡ is_some_solution (matches_of (d.quads graph.now) places.now row.now)) }
+{
+    let few = few_quads_of(alloc, graph, source, places, row, 1)?;
+    let rows = copies_matched(alloc, row, places, &few.quads)?;
+    if few.are_all {
+        return Ok(rows);
+    }
+    if rows.is_empty() {
+        return rows_of_one(alloc, graph, source, places, row);
+    }
+    Ok(rows)
 }
 
 /// The rows that one triple pattern makes of these, by look-ups of its triples. Rows that ask the

@@ -7,12 +7,12 @@ ghost use Rattle.sparql_algebra.specs.Bags.{SameBag};
 ghost use Rattle.sparql_algebra.specs.Solutions.{merges};
 ghost use Rattle.sparql_algebra.specs.Under.{agreeing};
 ghost use Rattle.sparql_values.specs.Mapping.{merge};
-ghost use Rattle.sparql_solve.specs.Members.{AreSolutions, element_solutions};
-ghost use Rattle.sparql_solve.specs.Under.{AreMade, IsLookUpFor, IsLookUpOf, asked, binds_none, counting, is_removed, kept, masked, met, own_columns, where_none};
+ghost use Rattle.sparql_solve.specs.Members.{element_solutions};
+ghost use Rattle.sparql_solve.specs.Under.{AreEnough, AreMade, IsLookUpFor, IsLookUpOf, asked, binds_none, counting, is_removed, kept, masked, met, own_columns, where_none};
 
 use crate::filters::filtered_rows;
 use crate::joins::{join, left_join, or_alone};
-use crate::look_ups::{Graphs, LookUp, found_rows};
+use crate::look_ups::{Graphs, LookUp, found_rows, some_found};
 use crate::members::is_removed;
 use crate::minus::minus;
 use crate::rows::Row;
@@ -254,8 +254,8 @@ fn tries_names(look_up: &LookUp) -> bool {
     }
 }
 
-// What is looked up for a row and counts for it: for MINUS nothing, and no look-up is made, where
-// the row has none of the pattern's variables.
+// As much of what is looked up for a row and counts for it as tells what the member makes of the row:
+// for MINUS a part, and nothing, by no look-up, where the row has none of the pattern's variables.
 fn counting_rows<S: Source>(
     alloc: Global,
     variables: &[Text],
@@ -266,13 +266,17 @@ fn counting_rows<S: Source>(
     row: &Row,
 ) -> Result<Vec<Row>, NoMemory>
     requires { own.now ≡ own_columns variables.now look_up.now }
-    ensures { IfOk result (λ out. AreSolutions (S.contents source.now) out.items
+    ensures { IfOk result (λ out. AreEnough variables.now (S.contents source.now)
+        (element member.now) row.now out.items
         (λ d. counting variables.now d look_up.now (element member.now) row.now)) }
 {
-    if is_removed(member) && row.is_unbound_at(own) {
+    if !is_removed(member) {
+        return found_rows(alloc, variables, source, look_up, row);
+    }
+    if row.is_unbound_at(own) {
         return Ok(Vec::new(alloc));
     }
-    found_rows(alloc, variables, source, look_up, row)
+    some_found(alloc, variables, source, look_up, row)
 }
 
 // Whether a row shares its look-up with the next one: both have the same at the look-ups' columns,

@@ -146,7 +146,7 @@ module _ {Tree Said : Type 0} (Derives : List Lexeme → Tree → Type 0) (meani
   reached base text fault.TooDeep line h = (h.0, h.1, h.4, h.5)
   reached base text fault.Syntax line h = (h.0, h.1, h.2, h.3, h.4)
   reached base text (fault.NoMemory refused) line h = absurd h
-  reached base text _ line h = (h.0, h.1)
+  reached base text _ line h = (h.0.0, h.0.1)
 
   no_tree : (text : List ℕ) (tokens : List Token) (lexemes : List Lexeme) → HasTokens text tokens lexemes → ((tree : Tree) → ¬ (Derives lexemes tree)) → ¬ (Read text)
   no_tree text tokens lexemes h none k =
@@ -172,7 +172,7 @@ module _ {Tree Said : Type 0} (Derives : List Lexeme → Tree → Type 0) (meani
   refused base text fault.TooDeep line late h = absurd (late (lit< tt))
   refused base text fault.Syntax line late h = absurd (late (lit< tt))
   refused base text (fault.NoMemory e) line late h = absurd h
-  refused base text _ line late h = h
+  refused base text _ line late h = h.0
 
   no_answer : (base : Option (List ℕ)) (text : List ℕ) (said : Said) (k : SyntaxFaultKind) → IsSaid base text said → ¬ (IsRefused base text k)
   no_answer base text said k h r = ok_err said k (sym h.2 ∙ same_meaning base text h.0 r.0 h.1 r.1 ∙ r.2)
@@ -213,12 +213,12 @@ module _ {Tree Said : Type 0} (Derives : List Lexeme → Tree → Type 0) (meani
   alike base text fault.TooDeep _ m n e h i = absurd (omega (arith, e))
   alike base text fault.Syntax fault.Syntax m n e h i = (refl, λ fixed. absurd (true≢false fixed))
   alike base text fault.Syntax _ m n e h i = absurd (omega (arith, e))
-  alike base text fault.UnknownPrefix k m n e h i = by_refusal base text fault.UnknownPrefix k m n h (refused base text k n (λ x. omega (arith, e, x)) i) refl
-  alike base text fault.Relative k m n e h i = by_refusal base text fault.Relative k m n h (refused base text k n (λ x. omega (arith, e, x)) i) refl
-  alike base text fault.BlankInDelete k m n e h i = by_refusal base text fault.BlankInDelete k m n h (refused base text k n (λ x. omega (arith, e, x)) i) refl
-  alike base text fault.VariableInData k m n e h i = by_refusal base text fault.VariableInData k m n h (refused base text k n (λ x. omega (arith, e, x)) i) refl
-  alike base text fault.LiteralSubject k m n e h i = by_refusal base text fault.LiteralSubject k m n h (refused base text k n (λ x. omega (arith, e, x)) i) refl
-  alike base text fault.BlankReused k m n e h i = by_refusal base text fault.BlankReused k m n h (refused base text k n (λ x. omega (arith, e, x)) i) refl
+  alike base text fault.UnknownPrefix k m n e h i = by_refusal base text fault.UnknownPrefix k m n h.0 (refused base text k n (λ x. omega (arith, e, x)) i) refl
+  alike base text fault.Relative k m n e h i = by_refusal base text fault.Relative k m n h.0 (refused base text k n (λ x. omega (arith, e, x)) i) refl
+  alike base text fault.BlankInDelete k m n e h i = by_refusal base text fault.BlankInDelete k m n h.0 (refused base text k n (λ x. omega (arith, e, x)) i) refl
+  alike base text fault.VariableInData k m n e h i = by_refusal base text fault.VariableInData k m n h.0 (refused base text k n (λ x. omega (arith, e, x)) i) refl
+  alike base text fault.LiteralSubject k m n e h i = by_refusal base text fault.LiteralSubject k m n h.0 (refused base text k n (λ x. omega (arith, e, x)) i) refl
+  alike base text fault.BlankReused k m n e h i = by_refusal base text fault.BlankReused k m n h.0 (refused base text k n (λ x. omega (arith, e, x)) i) refl
   alike base text (fault.NoMemory refused) k m n e h i = absurd h
 
   pub one_fault : (base : Option (List ℕ)) (text : List ℕ) (a b : SyntaxFault) → IsFaulty base text a → IsFaulty base text b → SameFault a b

@@ -38,16 +38,16 @@ abbrev Kind : SyntaxFaultKind → Type 0
 Kind = IsKindOfTree grammar.IsQuery meaning
 
 label_kind : (b : Bool) (query : Query) (k : SyntaxFaultKind) → ◌≡◌ {A = Result Query SyntaxFaultKind} (cond b (Err fault.BlankReused) (Ok query)) (Err k) → Kind k
-label_kind true query k e = subst Kind (err_same fault.BlankReused k e) (λ base text h line. h)
+label_kind true query k e = subst Kind (err_same fault.BlankReused k e) (λ base text h line there. (h, there))
 label_kind false query k e = absurd (ok_err query k e)
 
 ruled_kind : (o : Option (Query × Labels)) (k : SyntaxFaultKind) → ruled o ≡ Err k → Kind k
-ruled_kind None k e = subst Kind (err_same fault.Relative k e) (λ base text h line. h)
+ruled_kind None k e = subst Kind (err_same fault.Relative k e) (λ base text h line there. (h, there))
 ruled_kind (Some said) k e = label_kind (repeats_label [] said.1) said.0 k e
 
 known_kind : (b : Bool) (o : Option (Query × Labels)) (k : SyntaxFaultKind) → ◌≡◌ {A = Result Query SyntaxFaultKind} (cond b (ruled o) (Err fault.UnknownPrefix)) (Err k) → Kind k
 known_kind true o k e = ruled_kind o k e
-known_kind false o k e = subst Kind (err_same fault.UnknownPrefix k e) (λ base text h line. h)
+known_kind false o k e = subst Kind (err_same fault.UnknownPrefix k e) (λ base text h line there. (h, there))
 
 pub tree_kind : (base : Option (List ℕ)) (tree : written.Query) (k : SyntaxFaultKind) → meaning base tree ≡ Err k → Kind k
 tree_kind base tree k e = known_kind (known_query tree) (query_in base tree) k e

@@ -55,18 +55,18 @@ pub name_told : (base : Option (List ℕ)) (text : List ℕ) (tree : written.Que
     → TellsFault base text f f.kind
 name_told base text tree (name.NoMemory refused) f h is named = language.memory_told grammar.IsQuery meaning base text f refused named
 name_told base text tree (name.UnknownPrefix start) f h is named =
-    language.told_at grammar.IsQuery meaning base text f fault.UnknownPrefix (line_of text start) named (tree, h, unknown base tree is)
+    language.told_at grammar.IsQuery meaning base text f fault.UnknownPrefix (line_of text start) named ((tree, h, unknown base tree is), (start, refl))
 name_told base text tree (name.Relative start) f h is named =
-    language.told_at grammar.IsQuery meaning base text f fault.Relative (line_of text start) named (tree, h, known_means base tree None is.0 is.1)
+    language.told_at grammar.IsQuery meaning base text f fault.Relative (line_of text start) named ((tree, h, known_means base tree None is.0 is.1), (start, refl))
 
 rule_told : (base : Option (List ℕ)) (text : List ℕ) (tree : written.Query) (said : Query × Labels) (f : SyntaxFault) → HasTree text tree → meaning base tree ≡ ruled (Some said)
-    → IsRuleFault (ruled (Some said)) f → TellsFault base text f f.kind
+    → IsRuleFault text (ruled (Some said)) f → TellsFault base text f f.kind
 rule_told base text tree said f h is (inr memory) = language.memory_told grammar.IsQuery meaning base text f memory.0 memory.1
 rule_told base text tree said f h is (inl e) =
-    language.told_at grammar.IsQuery meaning base text f f.kind f.line refl (tree_kind base tree f.kind (is ∙ e) base text (tree, h, is ∙ e) f.line)
+    language.told_at grammar.IsQuery meaning base text f f.kind f.line refl (tree_kind base tree f.kind (is ∙ e.0) base text (tree, h, is ∙ e.0) f.line e.1)
 
 pub all_told : (base : Option (List ℕ)) (text : List ℕ) (tree : written.Query) (said : Query × Labels) (r : Result Query SyntaxFault) → HasTree text tree → known_query tree ≡ true
-    → query_in base tree ≡ Some said → MatchResult r (λ query. ruled (Some said) ≡ Ok query) (λ f. IsRuleFault (ruled (Some said)) f)
+    → query_in base tree ≡ Some said → MatchResult r (λ query. ruled (Some said) ≡ Ok query) (λ f. IsRuleFault text (ruled (Some said)) f)
     → MatchResult r (λ query. IsQuery base text query) (λ f. TellsFault base text f f.kind)
 all_told base text tree said (Ok query) h known is e = (tree, h, known_means base tree (Some said) known is ∙ e)
 all_told base text tree said (Err f) h known is e = rule_told base text tree said f h (known_means base tree (Some said) known is) e

@@ -53,22 +53,22 @@ tree_proper text tree h =
 pub name_told : (base : Option (List ℕ)) (text : List ℕ) (tree : List Part) (e : PrologueFault) (f : SyntaxFault) → HasTree text tree → IsFaultOf (answer base tree) e → f ≡ name_fault text e
     → TellsFault base text f f.kind
 name_told base text tree (name.NoMemory refused) f h is named = language.memory_told IsRequest meaning base text f refused named
-name_told base text tree (name.UnknownPrefix start) f h is named = language.told_at IsRequest meaning base text f fault.UnknownPrefix (line_of text start) named (tree, h, ap ruled is)
-name_told base text tree (name.Relative start) f h is named = language.told_at IsRequest meaning base text f fault.Relative (line_of text start) named (tree, h, ap ruled is)
+name_told base text tree (name.UnknownPrefix start) f h is named = language.told_at IsRequest meaning base text f fault.UnknownPrefix (line_of text start) named ((tree, h, ap ruled is), (start, refl))
+name_told base text tree (name.Relative start) f h is named = language.told_at IsRequest meaning base text f fault.Relative (line_of text start) named ((tree, h, ap ruled is), (start, refl))
 
-rule_told : (base : Option (List ℕ)) (text : List ℕ) (tree : List Part) (drafts : List Draft) (f : SyntaxFault) → HasTree text tree → answer base tree ≡ Ok drafts → IsRuleFault (judged drafts) f
+rule_told : (base : Option (List ℕ)) (text : List ℕ) (tree : List Part) (drafts : List Draft) (f : SyntaxFault) → HasTree text tree → answer base tree ≡ Ok drafts → IsRuleFault text (judged drafts) f
     → TellsFault base text f f.kind
 rule_told base text tree drafts f h is (inr memory) = language.memory_told IsRequest meaning base text f memory.0 memory.1
 rule_told base text tree drafts f h is (inl e) =
-    let none : meaning base tree ≡ Err f.kind = ap ruled is ∙ e in
-    language.told_at IsRequest meaning base text f f.kind f.line refl (tree_kind base tree f.kind none base text (tree, h, none) f.line)
+    let none : meaning base tree ≡ Err f.kind = ap ruled is ∙ e.0 in
+    language.told_at IsRequest meaning base text f f.kind f.line refl (tree_kind base tree f.kind none base text (tree, h, none) f.line e.1)
 
 update_told : (base : Option (List ℕ)) (text : List ℕ) (tree : List Part) (drafts : List Draft) (request : Request) → HasTree text tree → answer base tree ≡ Ok drafts
     → judged drafts ≡ Ok request.operations → IsUpdate base text request
 update_told base text tree drafts request h is e = (tree, h, ap ruled is ∙ e)
 
 pub all_told : (base : Option (List ℕ)) (text : List ℕ) (tree : List Part) (drafts : List Draft) (r : Result Request SyntaxFault) → HasTree text tree → answer base tree ≡ Ok drafts
-    → MatchResult r (λ request. judged drafts ≡ Ok request.operations) (λ f. IsRuleFault (judged drafts) f)
+    → MatchResult r (λ request. judged drafts ≡ Ok request.operations) (λ f. IsRuleFault text (judged drafts) f)
     → MatchResult r (λ request. IsUpdate base text request) (λ f. TellsFault base text f f.kind)
 all_told base text tree drafts (Ok request) h is e = update_told base text tree drafts request h is e
 all_told base text tree drafts (Err f) h is e = rule_told base text tree drafts f h is e

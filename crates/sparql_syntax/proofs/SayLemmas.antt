@@ -4,6 +4,7 @@ use Rattle.std.proofs.lemmas.Bool.{cases_Bool}
 use Rattle.std.proofs.lemmas.Str.{IsUtf8-from_is_utf8, is_utf8-from_IsUtf8}
 use Rattle.std.specs.Str.{chars, IsUtf8, is_utf8}
 use Rattle.rdf_grammar.proofs.CallerLemmas.{got, same_lengths, shallow_or_deep, some_lexemes, stops_somewhere}
+use Rattle.rdf_grammar.specs.Walks.{start_of}
 use Rattle.rdf_tokens.specs.declared.token.Token.{Token}
 use Rattle.rdf_tokens.specs.Lines.{line_of}
 use Rattle.rdf_tokens.specs.Tokens.{Tokenizes}
@@ -22,7 +23,7 @@ use Rattle.sparql_syntax.proofs.ProfileLemmas.{inside_or_outside}
 -- the kinds of faults that a tree may have
 abbrev pub IsKindOfTree : {Tree Said : Type 0} (Derives : List Lexeme → Tree → Type 0) (meaning : Option (List ℕ) → Tree → Result Said SyntaxFaultKind) → SyntaxFaultKind → Type 0
 IsKindOfTree Derives meaning k =
-    (base : Option (List ℕ)) (text : List ℕ) → phases.IsRefused Derives meaning base text k → (line : ℕ) → phases.FaultIs Derives meaning base text k line
+    (base : Option (List ℕ)) (text : List ℕ) → phases.IsRefused Derives meaning base text k → (line : ℕ) → phases.IsLineOf text line → phases.FaultIs Derives meaning base text k line
 
 -- a language of which each tree means something or has a fault, and lexemes that aren't too deep have a tree or none
 module _ {Tree Said : Type 0} (Derives : List Lexeme → Tree → Type 0) (meaning : Option (List ℕ) → Tree → Result Said SyntaxFaultKind)
@@ -38,7 +39,7 @@ module _ {Tree Said : Type 0} (Derives : List Lexeme → Tree → Type 0) (meani
 
   by_meaning : (base : Option (List ℕ)) (text : List ℕ) (tree : Tree) → HasTree text tree → (r : Result Said SyntaxFaultKind) → meaning base tree ≡ r → Meant base text
   by_meaning base text tree h (Ok said) e = inl (said, (tree, h, e))
-  by_meaning base text tree h (Err k) e = inr (record { line = 0; kind = k }, tree_kind base tree k e base text (tree, h, e) 0)
+  by_meaning base text tree h (Err k) e = inr (record { line = line_of text 0; kind = k }, tree_kind base tree k e base text (tree, h, e) (line_of text 0) (0, refl))
 
   by_lexemes : (base : Option (List ℕ)) (text : List ℕ) (tokens : List Token) (lexemes : Lexemes) → HasTokens text tokens lexemes → AreInside (chars text) tokens → Meant base text
   by_lexemes base text tokens lexemes h inside = elim (shallow_or_deep bracket lexemes) [
@@ -49,7 +50,7 @@ module _ {Tree Said : Type 0} (Derives : List Lexeme → Tree → Type 0) (meani
       | inl found ↦ (
           let tree : HasTree text found.0 = record { tokens = tokens; lexemes = lexemes; list = h; inside = inside; shallow = shallow; reads = found.1 } in
           by_meaning base text found.0 tree (meaning base found.0) refl)
-      | inr none ↦ inr (record { line = 0; kind = fault.Syntax }, (tokens, lexemes, h, inside, shallow, none))
+      | inr none ↦ inr (record { line = line_of text (start_of text tokens 0); kind = fault.Syntax }, (tokens, lexemes, h, inside, shallow, none, (0, refl)))
     ]
   ]
 

@@ -108,5 +108,7 @@ module _ {Tree Said : Type 0} (Derives : List Lexeme → Tree → Type 0) (meani
         → (base : Option (List ℕ)) → Tells base text f
     stop_told text ls grammar.Syntax left f r read why e base =
         let none = no_tree r.lexemes (subst (λ (x : Lexemes). Why x grammar.Syntax) (read_lexemes text ls r read) why) r.shallow in
-        told_at base text f fault.Syntax (line_of text e.0) e.2 (r.tokens, r.lexemes, r.list, r.inside, r.shallow, none)
+        let number = length r.tokens - left in
+        let line : line_of text e.0 ≡ line_of text (start_of text r.tokens number) = ap (line_of text) (e.1 r.tokens r.list.list) in
+        told_at base text f fault.Syntax (line_of text e.0) e.2 (r.tokens, r.lexemes, r.list, r.inside, r.shallow, none, (number, line))
     stop_told text ls (grammar.NoMemory refused) left f r read why e base = memory_told base text f refused e

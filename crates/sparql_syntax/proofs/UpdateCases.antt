@@ -9,6 +9,7 @@ use Rattle.sparql_syntax.specs.declared.fault.SyntaxFaultKind.{SyntaxFaultKind}
 use Rattle.sparql_syntax.specs.declared.fault.SyntaxFaultKind.TheVariants as fault
 use Rattle.sparql_syntax.specs.Rules.{judged, has_blank_in_delete, has_variable_in_data, has_literal_subject, reuses_label, operation_of}
 use Rattle.sparql_syntax.specs.Meaning.{answer}
+use Rattle.sparql_syntax.specs.Phases.{IsLineOf}
 use Rattle.sparql_syntax.specs.Update.{meaning, ruled, IsUpdate, IsRefused, FaultIs, IsFaulty}
 use Rattle.sparql_syntax.specs.UpdateLaws.{SomeMeaning}
 use Rattle.sparql_trees.specs.declared.operation.Operation.{Operation}
@@ -20,7 +21,7 @@ use Rattle.sparql_syntax.proofs.SayLemmas as language
 
 -- the kinds of faults that a tree may have
 abbrev IsKindOfTree : SyntaxFaultKind → Type 0
-IsKindOfTree k = (base : Option (List ℕ)) (text : List ℕ) → IsRefused base text k → (line : ℕ) → FaultIs base text k line
+IsKindOfTree k = (base : Option (List ℕ)) (text : List ℕ) → IsRefused base text k → (line : ℕ) → IsLineOf text line → FaultIs base text k line
 
 err_same : {A E : Type 0} (a b : E) → ◌≡◌ {A = Result A E} (Err a) (Err b) → a ≡ b
 err_same a b e = cc
@@ -32,10 +33,10 @@ rule_kind : (a b c d : Bool) (operations : List Operation) (k : SyntaxFaultKind)
     → ◌≡◌ {A = Result (List Operation) SyntaxFaultKind}
     (cond a (Err fault.BlankInDelete) (cond b (Err fault.VariableInData) (cond c (Err fault.LiteralSubject) (cond d (Err fault.BlankReused) (Ok operations))))) (Err k)
     → IsKindOfTree k
-rule_kind true b c d operations k e = subst IsKindOfTree (err_same fault.BlankInDelete k e) (λ base text h line. h)
-rule_kind false true c d operations k e = subst IsKindOfTree (err_same fault.VariableInData k e) (λ base text h line. h)
-rule_kind false false true d operations k e = subst IsKindOfTree (err_same fault.LiteralSubject k e) (λ base text h line. h)
-rule_kind false false false true operations k e = subst IsKindOfTree (err_same fault.BlankReused k e) (λ base text h line. h)
+rule_kind true b c d operations k e = subst IsKindOfTree (err_same fault.BlankInDelete k e) (λ base text h line there. (h, there))
+rule_kind false true c d operations k e = subst IsKindOfTree (err_same fault.VariableInData k e) (λ base text h line there. (h, there))
+rule_kind false false true d operations k e = subst IsKindOfTree (err_same fault.LiteralSubject k e) (λ base text h line there. (h, there))
+rule_kind false false false true operations k e = subst IsKindOfTree (err_same fault.BlankReused k e) (λ base text h line there. (h, there))
 rule_kind false false false false operations k e = absurd (ok_err operations k e)
 
 judged_kind : (drafts : List Draft) (k : SyntaxFaultKind) → judged drafts ≡ Err k → IsKindOfTree k
@@ -43,8 +44,8 @@ judged_kind drafts k e =
     rule_kind (list_any has_blank_in_delete drafts) (list_any has_variable_in_data drafts) (list_any has_literal_subject drafts) (reuses_label drafts) (map operation_of drafts) k e
 
 name_kind : (k : SyntaxFaultKind) → (k ≡ fault.UnknownPrefix) ⊎ (k ≡ fault.Relative) → IsKindOfTree k
-name_kind k (inl e) = subst IsKindOfTree (sym e) (λ base text h line. h)
-name_kind k (inr e) = subst IsKindOfTree (sym e) (λ base text h line. h)
+name_kind k (inl e) = subst IsKindOfTree (sym e) (λ base text h line there. (h, there))
+name_kind k (inr e) = subst IsKindOfTree (sym e) (λ base text h line there. (h, there))
 
 ruled_kind : (base : Option (List ℕ)) (tree : List Part) (r : Result (List Draft) SyntaxFaultKind) (k : SyntaxFaultKind) → answer base tree ≡ r → ruled r ≡ Err k → IsKindOfTree k
 ruled_kind base tree (Ok drafts) k is e = judged_kind drafts k e

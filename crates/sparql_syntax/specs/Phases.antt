@@ -3,6 +3,7 @@
 use Rattle.std.specs.Prelude.{◌≡◌, ℕ, List, Option, Some, Result, Ok, Err}
 use Rattle.std.specs.Str.{chars, IsUtf8, IsValidUpTo}
 use Rattle.std.specs.List.{slice_get}
+use Rattle.rdf_grammar.specs.Walks.{start_of}
 use Rattle.rdf_tokens.specs.declared.token.Token.{Token}
 use Rattle.rdf_tokens.specs.Lines.{line_of}
 use Rattle.rdf_tokens.specs.Tokens.{Tokenizes}
@@ -28,6 +29,10 @@ pub record HasTree {Tree : Type 0} (Derives : List Lexeme → Tree → Type 0) (
   pub inside : AreInside (chars text) tokens
   pub shallow : ¬ (IsTooDeep lexemes)
   pub reads : Derives lexemes tree
+
+-- it is the line of one of the bytes of the text, or of its end
+abbrev pub IsLineOf : List ℕ → ℕ → Type 0
+IsLineOf text line = (place : ℕ) × (line ≡ line_of text place)
 
 -- Why a text is read in no language of SPARQL, and the line of the place that shows it.
 abbrev pub StopsEarly : List ℕ → SyntaxFaultKind → ℕ → Type 0
@@ -60,22 +65,27 @@ module _ {Tree Said : Type 0} (Derives : List Lexeme → Tree → Type 0) (meani
   abbrev pub IsRefused : Option (List ℕ) → List ℕ → SyntaxFaultKind → Type 0
   IsRefused base text kind = (tree : Tree) × HasTree Derives text tree × (meaning base tree ≡ Err kind)
 
+  -- For this reason the text says nothing; the line is one of its lines.
+  abbrev pub IsRefusedAt : Option (List ℕ) → List ℕ → SyntaxFaultKind → ℕ → Type 0
+  IsRefusedAt base text kind line = IsRefused base text kind × IsLineOf text line
+
   -- Why a text says nothing, and the line of the place that shows it. The first reason that applies is the fault, and of one reason the first
   -- place.
   abbrev pub FaultIs : Option (List ℕ) → List ℕ → SyntaxFaultKind → ℕ → Type 0
-  -- the grammar has no tree for the tokens
+  -- the grammar has no tree for the tokens; the line is that of one of them, or of the end
   FaultIs base text fault.Syntax line =
       (tokens : List Token) × (lexemes : List Lexeme) × HasTokens text tokens lexemes × AreInside (chars text) tokens
       × ¬ (IsTooDeep lexemes) × ((tree : Tree) → ¬ (Derives lexemes tree))
+      × ((number : ℕ) × (line ≡ line_of text (start_of text tokens number)))
   -- a prefix is used before it is declared
-  FaultIs base text fault.UnknownPrefix line = IsRefused base text fault.UnknownPrefix
+  FaultIs base text fault.UnknownPrefix line = IsRefusedAt base text fault.UnknownPrefix line
   -- a reference without a base
-  FaultIs base text fault.Relative line = IsRefused base text fault.Relative
+  FaultIs base text fault.Relative line = IsRefusedAt base text fault.Relative line
   -- a static rule is broken
-  FaultIs base text fault.BlankInDelete line = IsRefused base text fault.BlankInDelete
-  FaultIs base text fault.VariableInData line = IsRefused base text fault.VariableInData
-  FaultIs base text fault.LiteralSubject line = IsRefused base text fault.LiteralSubject
-  FaultIs base text fault.BlankReused line = IsRefused base text fault.BlankReused
+  FaultIs base text fault.BlankInDelete line = IsRefusedAt base text fault.BlankInDelete line
+  FaultIs base text fault.VariableInData line = IsRefusedAt base text fault.VariableInData line
+  FaultIs base text fault.LiteralSubject line = IsRefusedAt base text fault.LiteralSubject line
+  FaultIs base text fault.BlankReused line = IsRefusedAt base text fault.BlankReused line
   -- the text is read in no language
   FaultIs base text kind line = StopsEarly text kind line
 

@@ -3,6 +3,7 @@ use Rattle.std.specs.Prelude.{◌≡◌, ◌⊎◌, ℕ, List, Option, Result, E
 use Rattle.rdf_terms.specs.declared.fault.NoMemory.{NoMemory}
 use Rattle.sparql_syntax.specs.declared.fault.SyntaxFault.{SyntaxFault}
 use Rattle.sparql_syntax.specs.declared.fault.SyntaxFaultKind.{SyntaxFaultKind}
+use Rattle.sparql_syntax.specs.Phases.{IsLineOf}
 use Rattle.sparql_syntax.specs.Query.{TellsFault}
 use Rattle.sparql_syntax.specs.Told.{wants_memory}
 use Rattle.sparql_trees.specs.declared.query.Query.{Query}
@@ -11,6 +12,6 @@ use Rattle.sparql_trees.specs.declared.query.Query.{Query}
 abbrev pub IsTold : List ℕ → SyntaxFault → Type 0
 IsTold text f = (base : Option (List ℕ)) → TellsFault base text f f.kind
 
--- the answer is a fault of this kind, or memory was wanting
-abbrev pub IsRuleFault : Result Query SyntaxFaultKind → SyntaxFault → Type 0
-IsRuleFault answer f = (answer ≡ Err f.kind) ⊎ ((refused : NoMemory) × (f ≡ wants_memory refused))
+-- the answer is a fault of this kind, in a line of the text, or memory was wanting
+abbrev pub IsRuleFault : List ℕ → Result Query SyntaxFaultKind → SyntaxFault → Type 0
+IsRuleFault text answer f = ((answer ≡ Err f.kind) × IsLineOf text f.line) ⊎ ((refused : NoMemory) × (f ≡ wants_memory refused))

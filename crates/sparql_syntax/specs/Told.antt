@@ -9,6 +9,7 @@ use Rattle.rdf_tokens.specs.Lines.{line_of}
 use Rattle.sparql_syntax.specs.declared.fault.SyntaxFault.{SyntaxFault}
 use Rattle.sparql_syntax.specs.declared.fault.SyntaxFaultKind.{SyntaxFaultKind}
 use Rattle.sparql_syntax.specs.declared.fault.SyntaxFaultKind.TheVariants as kind
+use Rattle.sparql_syntax.specs.Phases.{IsLineOf}
 use Rattle.sparql_syntax.specs.Survey.{IsStop}
 use Rattle.sparql_syntax.specs.Update.{TellsFault}
 use Rattle.sparql_trees.specs.declared.operation.Operation.{Operation}
@@ -34,6 +35,6 @@ name_fault text (name.UnknownPrefix start) = fault_at text kind.UnknownPrefix st
 name_fault text (name.Relative start) = fault_at text kind.Relative start
 name_fault text (name.NoMemory refused) = wants_memory refused
 
--- the answer is a fault of this kind, or memory was wanting
-abbrev pub IsRuleFault : Result (List Operation) SyntaxFaultKind → SyntaxFault → Type 0
-IsRuleFault answer f = (answer ≡ Err f.kind) ⊎ ((refused : NoMemory) × (f ≡ wants_memory refused))
+-- the answer is a fault of this kind, in a line of the text, or memory was wanting
+abbrev pub IsRuleFault : List ℕ → Result (List Operation) SyntaxFaultKind → SyntaxFault → Type 0
+IsRuleFault text answer f = ((answer ≡ Err f.kind) × IsLineOf text f.line) ⊎ ((refused : NoMemory) × (f ≡ wants_memory refused))

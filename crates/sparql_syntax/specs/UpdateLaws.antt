@@ -6,7 +6,7 @@ use Rattle.sparql_syntax.specs.declared.fault.SyntaxFaultKind.{SyntaxFaultKind}
 use Rattle.sparql_syntax.specs.declared.fault.SyntaxFaultKind.TheVariants.{NotUtf8, Token, NotInProfile, TooDeep, Syntax, UnknownPrefix, Relative, BlankInDelete, VariableInData, LiteralSubject, BlankReused, NoMemory}
 use Rattle.sparql_syntax.specs.Update.{IsUpdate, IsFaulty}
 
--- The kinds of faults whose line is the reader's own choice.
+-- The kinds of faults whose line is the reader's own choice among those of the text.
 abbrev pub has_free_line : SyntaxFaultKind → Bool
 has_free_line Syntax = true
 has_free_line UnknownPrefix = true

@@ -63,7 +63,7 @@ fn read_tree<'a>(alloc: Global, text: &'a str) -> Result<Tree<'a>, SyntaxFault>
 // The query that was said, where it keeps to the rule on labels.
 fn query_of(alloc: Global, text: &str, said: Said<'_>) -> Result<Query, SyntaxFault>
     ensures { let answer = spec.ruled (Some (said.entry.query, said.entry.labels)) in
-        MatchResult result (λ query. answer ≡ Ok query) (λ fault. IsRuleFault answer fault) }
+        MatchResult result (λ query. answer ≡ Ok query) (λ fault. IsRuleFault text.now answer fault) }
 {
     let mut known = IndexSet::new(alloc);
     if let Some(start) = first_repeated(&mut known, said.labels.as_slice())? {

@@ -68,7 +68,7 @@ fn request_of(alloc: Global, text: &str, drafts: Items<Draft<'_>>) -> Result<Req
     requires { AllByRecursion IsDraftBelow drafts }
     ensures { MatchResult result
         (λ request. judged drafts.entry ≡ Ok request.operations)
-        (λ fault. IsRuleFault (judged drafts.entry) fault) }
+        (λ fault. IsRuleFault text.now (judged drafts.entry) fault) }
 {
     if let Some(Broken { rule, start }) = first_broken(alloc, drafts.as_slice())? {
         return Err(fault_at(text.as_bytes(), rule, start));

@@ -1,12 +1,12 @@
 -- Parts of a view that were emptied, and what they hold now.
-use Rattle.std.specs.Prelude.{◌≡◌, Bool, false, not, List, Option, IfSome}
+use Rattle.std.specs.Prelude.{◌≡◌, Bool, false, List, Option, IfSome}
 use Rattle.std.specs.FinSet as set
 use Rattle.rdf_terms.specs.declared.term.Term.{Term}
 use Rattle.rdf_terms.specs.declared.quad.GraphName.{GraphName}
 use Rattle.rdf_terms.specs.declared.quad.GraphName.TheVariants.{Default, Named}
 use Rattle.rdf_terms.specs.Quad.{QuadParts}
 use Rattle.rdf_store.specs.Stored.{Stored}
-use Rattle.rdf_dataset.specs.State.{State, Quads, Names, is_default, matches}
+use Rattle.rdf_dataset.specs.State.{State, Quads, Names, in_named, is_default, matches}
 use Rattle.rdf_dataset.specs.declared.emptied.Emptied.{Emptied}
 
 -- a part that was emptied holds the quads that pass its test, and no others
@@ -19,9 +19,6 @@ AreNames part names = IfSome part (λ listed. set.from_list listed ≡ names)
 
 abbrev pub in_default : QuadParts → Bool
 in_default q = is_default q.graph
-
-abbrev pub in_named : QuadParts → Bool
-in_named q = not (is_default q.graph)
 
 -- a graph is one of those whose names these are; the default one never is
 abbrev pub is_among : Names → GraphName → Bool

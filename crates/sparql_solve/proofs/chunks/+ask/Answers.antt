@@ -163,11 +163,25 @@ some_matched-returns-in-Some-lone_row g t c =
 
 pub some_of_lone-returns : goal.some_of_lone-returns
 some_of_lone-returns g t c =
-    IfOk-weaker c.some_of_quads.result _ _
+    IfOk-weaker c.some_of_quads-2.result _ _
     (λ answer h d l ea w. quad.lone_some c.args.variables.now (g.S.Source.contents c.args.source.now) c.args.graph.now c.args.under.now c.args.own.now
     c.args.members.now c.args.filters.now c.args.places.now c.args.row.now (asked c.args.patterns.now.items) c.in_ok-quads.quads.items
-    c.deref.result.now answer d l c.in_ok-quads.ensures.listed c.deref.ensures.value (h d l ea w))
-    c.some_of_quads.ensures
+    c.deref-2.result.now answer d l c.in_ok-quads.ensures.listed c.deref-2.ensures.value (h d l ea w))
+    c.some_of_quads-2.ensures
+
+pub some_of_lone-returns-then-branch : goal.some_of_lone-returns-then-branch
+some_of_lone-returns-then-branch g t c d l ea w =
+    quad.few_some c.args.variables.now (g.S.Source.contents c.args.source.now) c.args.graph.now c.args.under.now c.args.own.now c.args.members.now
+    c.args.filters.now c.args.places.now c.args.row.now (asked c.args.patterns.now.items) c.in_ok-few.few.are_all c.in_ok-few.few.quads.items
+    c.deref.result.now c.in_ok-some_of_quads.field-0 d l c.in_ok-few.ensures.some c.deref.ensures.value
+    (c.in_ok-some_of_quads.ensures d l ea w) c.if-branch.true
+
+pub some_of_lone-returns-then-few : goal.some_of_lone-returns-then-few
+some_of_lone-returns-then-few g t c d l ea w =
+    quad.few_none c.args.variables.now (g.S.Source.contents c.args.source.now) c.args.graph.now c.args.under.now c.args.own.now c.args.members.now
+    c.args.filters.now c.args.places.now c.args.row.now (asked c.args.patterns.now.items) c.in_ok-few.few.are_all c.in_ok-few.few.quads.items
+    c.deref.result.now c.in_ok-some_of_quads.field-0 d l c.in_ok-few.ensures.some c.deref.ensures.value
+    (c.in_ok-some_of_quads.ensures d l ea w) c.if-branch.false c.if-few.true
 
 pub some_of_quads-copies_matched-requires : goal.some_of_quads-copies_matched-requires
 some_of_quads-copies_matched-requires g t c =
