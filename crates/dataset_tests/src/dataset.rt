@@ -434,13 +434,27 @@ fn some<D: Source>(alloc: Global, source: &D, most: usize) -> Option<(usize, boo
     Some((quads.len(), all))
 }
 
+// The same for at most none, one and three.
+fn some_of_each<D: Source>(alloc: Global, source: &D) -> Option<[(usize, bool); 3]> {
+    Some([
+        some(alloc, source, 0)?,
+        some(alloc, source, 1)?,
+        some(alloc, source, 3)?,
+    ])
+}
+
 #[test]
 fn some_of_a_graph(rt: HostRuntime) -> Result<(), Fail> {
     let alloc = rt.alloc();
     let dataset = three(alloc).ok_or("no memory")?;
-    assert!(rt; some(alloc, &dataset, 0) == Some((0, false)));
-    assert!(rt; some(alloc, &dataset, 1) == Some((1, false)));
-    assert!(rt; some(alloc, &dataset, 3) == Some((2, true)));
+    assert!(rt; some_of_each(alloc, &dataset) == Some([(0, false), (1, false), (2, true)]));
+    Ok(())
+}
+
+#[test]
+fn some_of_a_view_are_all(rt: HostRuntime) -> Result<(), Fail> {
+    let alloc = rt.alloc();
+    let dataset = three(alloc).ok_or("no memory")?;
     let view = Staged::over(alloc, &dataset);
     assert!(rt; some(alloc, &view, 1) == Some((2, true)));
     Ok(())
@@ -453,17 +467,22 @@ fn of_named<D: Source>(alloc: Global, source: &D) -> Option<(usize, usize)> {
     Some((quads.len(), looked))
 }
 
+// The same once one graph has a quad and another one lost its own, and once all are cleared.
+fn of_named_changed(alloc: Global, view: &mut Staged<'_, Dataset>) -> Option<[(usize, usize); 2]> {
+    insert(alloc, view, 2, 2)?;
+    remove(alloc, view, 3, 1)?;
+    let changed = of_named(alloc, view)?;
+    view.clear_named().ok()?;
+    Some([changed, of_named(alloc, view)?])
+}
+
 #[test]
 fn quads_of_named_graphs(rt: HostRuntime) -> Result<(), Fail> {
     let alloc = rt.alloc();
     let dataset = three(alloc).ok_or("no memory")?;
     assert!(rt; of_named(alloc, &dataset) == Some((1, 1)));
     let mut view = Staged::over(alloc, &dataset);
-    assert!(rt; insert(alloc, &mut view, 2, 2) == Some(true));
-    assert!(rt; remove(alloc, &mut view, 3, 1) == Some(true));
-    assert!(rt; of_named(alloc, &view) == Some((1, 2)));
-    assert!(rt; view.clear_named().is_ok());
-    assert!(rt; of_named(alloc, &view) == Some((0, 0)));
+    assert!(rt; of_named_changed(alloc, &mut view) == Some([(1, 2), (0, 0)]));
     Ok(())
 }
 
@@ -479,15 +498,20 @@ fn looked_often(alloc: Global, view: &Staged<'_, Dataset>) -> Option<usize> {
     Some(looked)
 }
 
+// The same once a quad went, and behind that once the view has settled.
+fn looked_until_settled(alloc: Global, view: &mut Staged<'_, Dataset>) -> Option<[usize; 2]> {
+    remove(alloc, view, 0, 1)?;
+    let went = looked_often(alloc, view)?;
+    view.settle().ok()?;
+    Some([went, looked_often(alloc, view)?])
+}
+
 #[test]
 fn quads_that_went_are_soon_passed_over_no_more(rt: HostRuntime) -> Result<(), Fail> {
     let alloc = rt.alloc();
     let dataset = three(alloc).ok_or("no memory")?;
     let mut view = Staged::over(alloc, &dataset);
-    assert!(rt; remove(alloc, &mut view, 0, 1) == Some(true));
-    assert!(rt; looked_often(alloc, &view) == Some(2));
-    assert!(rt; view.settle().is_ok());
-    assert!(rt; looked_often(alloc, &view) == Some(1));
+    assert!(rt; looked_until_settled(alloc, &mut view) == Some([2, 1]));
     assert!(rt; listed(alloc, &view, 1, 2) == Some((1, Some(false), Some(true))));
     Ok(())
 }
