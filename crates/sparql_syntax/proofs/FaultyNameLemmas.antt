@@ -1,14 +1,12 @@
 -- Why a name of a text has no IRI, in the words of its lexemes.
-use Rattle.std.proofs.Common.{◌≡◌, ◌<◌, ◌↔◌, ◌∙◌, ap, refl, sym, subst, ℕ, Bool, true, false, cond, List, [], map, length, Option, Some, None, Result, Ok, Err, IsTrue, ok_or, true≢false}
+use Rattle.std.proofs.Common.{◌≡◌, ◌<◌, ◌↔◌, ◌∙◌, refl, sym, subst, ℕ, Bool, true, false, cond, List, [], map, length, Option, Some, None, Result, Ok, Err, IsTrue, ok_or, true≢false}
 use Rattle.std.specs.Prelude.{is_some}
 use Rattle.std.specs.List.{list_all, list_any}
 use Rattle.std.specs.Str.{chars}
 use Rattle.rdf_grammar.specs.Holds.{holds}
 use Rattle.sparql_grammar.specs.declared.tree.Part.{Part}
 use Rattle.sparql_grammar.specs.declared.tree.Query as written
-use Rattle.sparql_grammar.specs.OperationGrammar.{IsRequest}
 use Rattle.sparql_grammar.specs.Proper.{proper_part, proper_query}
-use Rattle.sparql_grammar.specs.QueryGrammar as grammar
 use Rattle.sparql_grammar.proofs.CallerLemmas.{queries_proper, requests_proper}
 use Rattle.sparql_terminals.specs.Lexemes.{Lexemes}
 use Rattle.sparql_queries.specs.Groups.{Labels}
@@ -21,7 +19,7 @@ use Rattle.sparql_syntax.specs.FaultyNames.{first_unbound, first_lacking}
 use Rattle.sparql_syntax.specs.FaultyNameLaws.{UnknownInUpdates, RelativeInUpdates, UnknownInQueries, RelativeInQueries}
 use Rattle.sparql_syntax.specs.Known.{declares_first}
 use Rattle.sparql_syntax.specs.Labels.{repeats_label}
-use Rattle.sparql_syntax.specs.Meaning.{answer, drafts_of}
+use Rattle.sparql_syntax.specs.Meaning.{drafts_of}
 use Rattle.sparql_syntax.specs.Query as query
 use Rattle.sparql_syntax.specs.Rules.{judged, has_blank_in_delete, has_variable_in_data, has_literal_subject, reuses_label, operation_of}
 use Rattle.sparql_syntax.specs.Update as update
@@ -29,7 +27,7 @@ use Rattle.sparql_trees.specs.declared.operation.Operation.{Operation}
 use Rattle.sparql_trees.specs.declared.query.Query.{Query}
 use Rattle.sparql_syntax.proofs.NameAnswers.{drafts_there, parts_bound, query_bound, query_there}
 use Rattle.sparql_syntax.proofs.NameRequests.{query_front, request_walks}
-use Rattle.sparql_syntax.proofs.NameScans.{Ends, all_based, all_bound, ends_both, lacking_ends, short_both, unbound_ends}
+use Rattle.sparql_syntax.proofs.NameScans.{all_based, all_bound, ends_both, lacking_ends, short_both, unbound_ends}
 
 -- ---- what is answered, by whether each prefix is declared and each reference has a scheme or a base
 

@@ -1,5 +1,5 @@
 -- What is answered to requests and queries, by the names among their lexemes.
-use Rattle.std.proofs.Common.{◌≡◌, ◌∙◌, ap, refl, sym, subst, ℕ, Bool, true, false, cond, ◌&&◌, ◌||◌, not, List, [], ◌∷◌, ◌++◌, map, Option, Some, None, IsTrue, true≢false, append-nil}
+use Rattle.std.proofs.Common.{◌≡◌, ◌∙◌, ap, refl, sym, ℕ, Bool, true, false, cond, ◌&&◌, not, List, [], ◌∷◌, ◌++◌, map, Option, Some, None, true≢false, append-nil}
 use Rattle.std.proofs.lemmas.Bool.{and_parts, and_from}
 use Rattle.std.proofs.lemmas.Map.Made.{is_some-lookup}
 use Rattle.std.proofs.lemmas.Option.{same_Some}
@@ -8,7 +8,6 @@ use Rattle.std.specs.List.{list_all, list_any, flat_map}
 use Rattle.std.specs.Map.{lookup}
 use Rattle.std.specs.Option.{option_map, option_and_then}
 use Rattle.rdf_terms.specs.Iri.{has_forbidden, has_scheme}
-use Rattle.rdf_terms.specs.Rewriting as rewriting
 use Rattle.rdf_tokens.specs.Values.{iri_value}
 use Rattle.rdf_tokens.proofs.CallerLemmas.{iri_value_allowed}
 use Rattle.rdf_grammar.proofs.CallerLemmas.{declares_key}
@@ -17,11 +16,11 @@ use Rattle.rdf_grammar.specs.Keys.{key_of, same_key}
 use Rattle.rdf_grammar.specs.Prologue as prologue
 use Rattle.rdf_grammar.specs.Prologue.{Prologue, declared, declares, iri_of, knows, moves_base, prefixed, resolved}
 use Rattle.rdf_grammar.specs.References.{resolve}
-use Rattle.rdf_grammar.specs.Steps.{Outcome, Step, and_then, each}
+use Rattle.rdf_grammar.specs.Steps.{Outcome, and_then, each}
 use Rattle.rdf_grammar.specs.declared.tree.Name.{Name}
 use Rattle.rdf_grammar.specs.declared.tree.Name.TheVariants.{Full, Prefixed}
 use Rattle.sparql_terminals.specs.Lexemes.{Lexemes}
-use Rattle.sparql_grammar.specs.Proper.{proper_block, proper_blocks, proper_form, proper_graph, proper_graph_or_default, proper_graph_ref_all, proper_group, proper_group_of, proper_member, proper_member_of, proper_modify, proper_operation, proper_part, proper_query, proper_triples, proper_var_or_iri}
+use Rattle.sparql_grammar.specs.Proper.{proper_block, proper_blocks, proper_form, proper_graph, proper_group, proper_group_of, proper_member, proper_member_of, proper_operation, proper_part, proper_query, proper_triples, proper_var_or_iri}
 use Rattle.sparql_grammar.specs.QuadGroups.{members_by, quads_group}
 use Rattle.sparql_grammar.specs.GroupReading.{together}
 use Rattle.sparql_grammar.specs.declared.tree.Block.{Block}
@@ -32,7 +31,6 @@ use Rattle.sparql_grammar.specs.declared.tree.GraphOrDefault.TheVariants as one
 use Rattle.sparql_grammar.specs.declared.tree.GraphRefAll.{GraphRefAll}
 use Rattle.sparql_grammar.specs.declared.tree.GraphRefAll.TheVariants as some
 use Rattle.sparql_grammar.specs.declared.tree.Group.{Group}
-use Rattle.sparql_grammar.specs.declared.tree.Member.{Member}
 use Rattle.sparql_grammar.specs.declared.tree.Member.TheVariants as m
 use Rattle.sparql_grammar.specs.declared.tree.Operation.{Operation}
 use Rattle.sparql_grammar.specs.declared.tree.Operation.TheVariants as o
@@ -47,18 +45,18 @@ use Rattle.sparql_drafts.specs.Known as drafts
 use Rattle.sparql_drafts.specs.Meaning.{declaration, quads_in}
 use Rattle.sparql_queries.specs.Groups.{Labels, group}
 use Rattle.sparql_queries.specs.Known.{declared_by, known_form, known_query}
-use Rattle.sparql_queries.specs.Queries.{form_in, query_in, said_from, select_with}
+use Rattle.sparql_queries.specs.Queries.{form_in, query_in, select_with}
 use Rattle.sparql_trees.specs.declared.query.Query.TheVariants.{Ask as Asks}
 use Rattle.sparql_syntax.specs.Known.{declares_first, known_operation}
-use Rattle.sparql_syntax.specs.Meaning.{both, drafts_behind, drafts_of, graph_or_default, graph_ref_all, modification, modification_of, operation, part, templates, with_graph, listed}
+use Rattle.sparql_syntax.specs.Meaning.{both, drafts_behind, drafts_of, graph_or_default, graph_ref_all, modification, operation, part, templates, with_graph, listed}
 use Rattle.sparql_syntax.specs.declared.draft.Draft.{Draft}
 use Rattle.sparql_syntax.specs.FaultyNames.{lacks}
-use Rattle.sparql_syntax.proofs.NameFronts.{Adds, Ask, all_named, and_true, lists, start}
+use Rattle.sparql_syntax.proofs.NameFronts.{Ask, all_named, and_true}
 use Rattle.sparql_syntax.proofs.NameNodes.{each_triples, each_var_or_iri}
 use Rattle.sparql_syntax.proofs.NameGroups.{each_group, each_group_of, each_member, each_member_of, by-Triples, by-Graph, by-group}
-use Rattle.sparql_syntax.proofs.NameOperations.{each_block, each_blocks, each_form, each_graph_or_default, each_graph_ref_all, each_modify, each_operation, each_with, form_value, operation_value}
+use Rattle.sparql_syntax.proofs.NameOperations.{each_block, each_blocks, each_form, each_graph_or_default, each_graph_ref_all, each_operation, each_with}
 use Rattle.sparql_syntax.proofs.NameScans.{all_alike, all_based, all_both, all_bound, has_base, plain_based, plain_bound}
-use Rattle.sparql_syntax.proofs.NameRequests.{Declares, IsDeclared, IsFront, IsQueryFront, Walks, based_behind, based_declaration}
+use Rattle.sparql_syntax.proofs.NameRequests.{Declares, IsQueryFront, Walks, based_behind, based_declaration}
 use Rattle.sparql_syntax.proofs.NameMeanings.{has_iri, quads_there, some_map}
 use Rattle.sparql_syntax.proofs.NameGroupMeanings.{group_goes}
 use Rattle.sparql_syntax.proofs.NameMeanings as steps
@@ -331,8 +329,8 @@ parts_there ts (written_part.Declaration x ∷ ps) walk proper p known ds =
     let us = walk.0 in
     let later : Bool = all_based false (based_behind (is_some p.base) x) us in
     let rest : (u : Prologue) → declaration x p ≡ Some (tt, u) → is_some (drafts_behind ds ps u) ≡ later = λ u e. (
-      let behind = declaration_known p x u e in
-      parts_there us ps walk.2 proper u (ap (λ (z : List (List ℕ)). declares_first z ps) behind.0 ∙ known) ds ∙ ap (λ (b : Bool). all_based false b us) behind.1) in
+    let behind = declaration_known p x u e in
+    parts_there us ps walk.2 proper u (ap (λ (z : List (List ℕ)). declares_first z ps) behind.0 ∙ known) ds ∙ ap (λ (b : Bool). all_based false b us) behind.1) in
     behind_declaration x ps ds p (declaration x p) refl later rest ∙ ap (λ (b : Bool). b && later) (declaration_there p x) ∙ sym (walk.1.based (is_some p.base))
 parts_there ts (written_part.Operation w ∷ ps) walk proper p known ds =
     let us = walk.0 in
@@ -388,8 +386,8 @@ prologue_there k ts [] us h p rest = rest p refl ∙ sym (ap (λ (z : Lexemes). 
 prologue_there k ts (x ∷ xs) us h p rest =
     let later : Bool = all_based false (based_behind (is_some p.base) x) h.0 in
     let behind : (u : Prologue) → declaration x p ≡ Some (tt, u) → is_some (option_and_then (λ r. k r.1) (each declaration xs u)) ≡ later = λ u e. (
-      let same = declaration_known p x u e in
-      prologue_there k h.0 xs us h.2 u (λ z is. rest z (is ∙ ap (λ (names : List (List ℕ)). declared_by names xs) same.0)) ∙ ap (λ (b : Bool). all_based false b h.0) same.1) in
+    let same = declaration_known p x u e in
+    prologue_there k h.0 xs us h.2 u (λ z is. rest z (is ∙ ap (λ (names : List (List ℕ)). declared_by names xs) same.0)) ∙ ap (λ (b : Bool). all_based false b h.0) same.1) in
     behind_first k x xs p (declaration x p) refl later behind ∙ ap (λ (b : Bool). b && later) (declaration_there p x) ∙ sym (h.1.based (is_some p.base))
 
 -- the meaning of a query whose prefixes are declared is there just where each reference has a scheme or a base
@@ -398,7 +396,7 @@ unfolding query_in
 query_there base ts w h proper known =
     prologue_there (λ u. form_in u w.form []) ts w.prologue h.mid h.declares (prologue.start base)
     (λ u is. (
-      let names : all_named (knows (declared u)) h.mid ≡ true =
-      h.adds.says (knows (declared u)) ∙ known_form_is (declared u) w.form ∙ ap (λ (z : List (List ℕ)). known_form z w.form) is ∙ known in
-      form_there u w.form [] proper ∙ sym (h.adds.says (has_iri u)) ∙ all_there u h.mid names ∙ sym (and_true (all_named (has_base (is_some u.base)) h.mid))
-      ∙ sym (plain_based (is_some u.base) h.mid [] h.adds.plain) ∙ ap (λ (z : Lexemes). all_based false (is_some u.base) z) (append-nil h.mid)))
+    let names : all_named (knows (declared u)) h.mid ≡ true =
+    h.adds.says (knows (declared u)) ∙ known_form_is (declared u) w.form ∙ ap (λ (z : List (List ℕ)). known_form z w.form) is ∙ known in
+    form_there u w.form [] proper ∙ sym (h.adds.says (has_iri u)) ∙ all_there u h.mid names ∙ sym (and_true (all_named (has_base (is_some u.base)) h.mid))
+    ∙ sym (plain_based (is_some u.base) h.mid [] h.adds.plain) ∙ ap (λ (z : Lexemes). all_based false (is_some u.base) z) (append-nil h.mid)))

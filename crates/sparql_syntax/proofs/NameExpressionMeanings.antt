@@ -1,7 +1,7 @@
 -- Proper expressions say something just where each of their names has an IRI.
-use Rattle.std.proofs.Common.{◌≡◌, ◌∙◌, ap, refl, sym, subst, Bool, true, false, ◌&&◌, List, [], ◌∷◌, map, Option, Some, None}
+use Rattle.std.proofs.Common.{◌≡◌, ◌∙◌, ap, refl, sym, subst, Bool, true, ◌&&◌, List, [], ◌∷◌, map, Option, Some, None}
 use Rattle.std.proofs.lemmas.Bool.{and_parts}
-use Rattle.std.specs.Prelude.{is_some, option_map, option_and_then}
+use Rattle.std.specs.Prelude.{is_some, option_map}
 use Rattle.std.specs.List.{list_all, AllByRecursion}
 use Rattle.rdf_grammar.specs.Holds.{holds}
 use Rattle.rdf_grammar.specs.Prologue.{Prologue, iri_of}

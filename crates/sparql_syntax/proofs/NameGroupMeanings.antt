@@ -1,19 +1,19 @@
 -- Proper groups say something just where each of their names has an IRI.
-use Rattle.std.proofs.Common.{◌≡◌, ◌∙◌, ap, refl, sym, subst, ℕ, Bool, true, false, ◌&&◌, List, [], ◌∷◌, ◌++◌, map, Option, Some, None}
+use Rattle.std.proofs.Common.{◌≡◌, ◌∙◌, refl, sym, subst, Bool, true, List, [], ◌∷◌, ◌++◌, map, Option, Some, None}
 use Rattle.std.proofs.lemmas.Bool.{and_parts}
 use Rattle.std.specs.Prelude.{is_some}
 use Rattle.std.specs.List.{list_all, AllByRecursion}
 use Rattle.std.specs.Option.{option_map}
 use Rattle.rdf_grammar.specs.Holds.{holds}
 use Rattle.rdf_grammar.specs.Prologue.{Prologue, iri_of}
-use Rattle.rdf_grammar.specs.Steps.{Outcome, and_then}
+use Rattle.rdf_grammar.specs.Steps.{and_then}
 use Rattle.sparql_expressions.specs.declared.tree.Expression as written_expression
 use Rattle.sparql_expressions.specs.ProperExpressions.{proper_expression}
 use Rattle.sparql_grammar.specs.Proper.{is_filled, proper_group, proper_group_of, proper_member, proper_member_of, proper_triples, proper_var_or_iri}
 use Rattle.sparql_grammar.specs.declared.tree.Group.{Group}
 use Rattle.sparql_grammar.specs.declared.tree.Member as written_member
 use Rattle.sparql_grammar.specs.declared.tree.Member.TheOpen.{Group-F, Member-F}
-use Rattle.sparql_grammar.specs.declared.tree.Member.TheFolds.{fold-roll-Group, fold-roll-Member, map-Group, map-Member, ind-Group, ind-Member}
+use Rattle.sparql_grammar.specs.declared.tree.Member.TheFolds.{fold-roll-Group, fold-roll-Member, map-Group, map-Member, ind-Group}
 use Rattle.sparql_grammar.specs.declared.tree.Member.TheViews.{roll-Group, roll-Member}
 use Rattle.sparql_grammar.specs.declared.tree.Triples.{Triples}
 use Rattle.sparql_grammar.specs.declared.tree.VarOrIri as written_name
@@ -22,11 +22,9 @@ use Rattle.sparql_drafts.specs.Meaning.{pattern_in}
 use Rattle.sparql_queries.specs.Collected.{collected, collected_behind}
 use Rattle.sparql_queries.specs.Expressions.{all, expression_in}
 use Rattle.sparql_queries.specs.Groups.{Does, Labels, asked, basic, graph_name, group, group_of, member_in, member_of, named, pattern_with}
-use Rattle.sparql_trees.specs.declared.expression.Expression.{Expression}
 use Rattle.sparql_trees.specs.declared.pattern.Member.{Member}
 use Rattle.sparql_trees.specs.declared.pattern.Member.TheVariants as member
 use Rattle.sparql_trees.specs.declared.pattern.Pattern.{Pattern}
-use Rattle.sparql_trees.specs.declared.pattern.VarOrIri.{VarOrIri}
 use Rattle.sparql_syntax.proofs.NameFronts.{Ask}
 use Rattle.sparql_syntax.proofs.NameExpressions.{each_expression}
 use Rattle.sparql_syntax.proofs.NameNodes.{each_triples, each_var_or_iri}

@@ -19,7 +19,7 @@ use Rattle.sparql_grammar.specs.Proper.{is_filled, stands_alone, proper_node, pr
 use Rattle.sparql_grammar.specs.declared.tree.Block.{Block}
 use Rattle.sparql_grammar.specs.declared.tree.Node.{Node}
 use Rattle.sparql_grammar.specs.declared.tree.Node.TheOpen.{Node-F, Property-F}
-use Rattle.sparql_grammar.specs.declared.tree.Node.TheFolds.{fold-Node, fold-Property, fold-roll-Node, fold-roll-Property, map-Node, map-Property, ind-Node, ind-Property}
+use Rattle.sparql_grammar.specs.declared.tree.Node.TheFolds.{fold-roll-Node, fold-roll-Property, map-Node, map-Property, ind-Node, ind-Property}
 use Rattle.sparql_grammar.specs.declared.tree.Node.TheViews.{roll-Node, roll-Property}
 use Rattle.sparql_grammar.specs.declared.tree.Property.{Property}
 use Rattle.sparql_grammar.specs.declared.tree.Triples.{Triples}

@@ -1,8 +1,7 @@
 -- Triples, and the names that their lexemes carry.
-use Rattle.std.proofs.Common.{◌≡◌, ◌∙◌, ap, refl, sym, ℕ, zero, suc, Bool, true, ◌&&◌, List, [], ◌∷◌, map, Option, Some, None}
+use Rattle.std.proofs.Common.{◌≡◌, ◌∙◌, ap, refl, sym, ℕ, zero, suc, Bool, true, ◌&&◌, List, [], ◌∷◌, map, Option}
 use Rattle.std.specs.Prelude.{option_to_list}
 use Rattle.std.specs.List.{list_all}
-use Rattle.rdf_grammar.specs.Derivations as grammar
 use Rattle.rdf_grammar.specs.Holds.{holds}
 use Rattle.rdf_grammar.specs.Terminals.{Slice}
 use Rattle.rdf_grammar.specs.declared.tree.Literal.{Literal}

@@ -1,15 +1,8 @@
 -- Requests and queries as declarations and operations one after another, and what a search for names without IRIs asks of them.
-use Rattle.std.proofs.Common.{◌≡◌, ◌∙◌, ap, refl, sym, subst, ℕ, suc, Bool, true, false, ◌&&◌, not, List, [], ◌∷◌, ◌++◌, map, append_assoc, append-nil, inl, inr, ◌⊎◌}
-use Rattle.std.specs.Prelude.{Some}
-use Rattle.indexmap.specs.IndexSet.{insert_key}
+use Rattle.std.proofs.Common.{◌≡◌, ◌∙◌, ap, refl, sym, subst, ℕ, Bool, true, false, ◌&&◌, not, List, [], ◌∷◌, ◌++◌, map, append_assoc, append-nil, inl, inr}
 use Rattle.rdf_grammar.specs.Derivations as grammar
 use Rattle.rdf_grammar.specs.Derivations.{Then, Star, stop, more}
-use Rattle.rdf_grammar.specs.Keys.{key_of, same_key}
-use Rattle.rdf_grammar.specs.Prologue.{knows}
-use Rattle.rdf_grammar.specs.Productions as productions
 use Rattle.rdf_grammar.specs.Terminals.{Slice}
-use Rattle.rdf_grammar.specs.declared.tree.Name.TheVariants.{Full}
-use Rattle.rdf_grammar.specs.declared.word.Word.TheVariants as w
 use Rattle.rdf_tokens.specs.Values.{prefix_part}
 use Rattle.sparql_terminals.specs.declared.terminal.Terminal.{Terminal}
 use Rattle.sparql_terminals.specs.declared.terminal.Terminal.TheVariants as terminal
@@ -22,8 +15,7 @@ use Rattle.sparql_grammar.specs.declared.tree.Part.{Part}
 use Rattle.sparql_grammar.specs.declared.tree.Part.TheVariants as p
 use Rattle.sparql_grammar.specs.declared.tree.Query.{Query}
 use Rattle.sparql_grammar.specs.GroupGrammar.{GroupAt}
-use Rattle.sparql_grammar.specs.Grammar.{Nodes_at, TriplesTemplate}
-use Rattle.sparql_grammar.specs.OperationGrammar.{IsRequest, Update, Update1, declared, last, more as more_parts}
+use Rattle.sparql_grammar.specs.OperationGrammar.{IsRequest, Update, declared, last, more as more_parts}
 use Rattle.sparql_grammar.specs.PrologueGrammar.{BaseDecl, PrefixDecl, Prologue}
 use Rattle.sparql_grammar.specs.QueryGrammar.{IsQuery, AQuery}
 use Rattle.sparql_drafts.specs.Known.{declared_behind}
@@ -31,7 +23,7 @@ use Rattle.sparql_syntax.specs.FaultyNames.{lacks}
 use Rattle.sparql_syntax.proofs.NameFronts as fronts
 use Rattle.sparql_syntax.proofs.NameFronts.{Adds, Gives, Value, all_named, start, Front, iri_only, pname_only}
 use Rattle.sparql_syntax.proofs.NameOperations.{operation_value, form_value, operation_gives, form_gives}
-use Rattle.sparql_syntax.proofs.NameScans.{all_bound, all_based, has_base, plain_bound, plain_based}
+use Rattle.sparql_syntax.proofs.NameScans.{all_bound, all_based}
 
 -- ---- declarations
 

@@ -1,9 +1,8 @@
 -- How far a search for a name without an IRI goes among lexemes, and what it asks of each name.
-use Rattle.std.proofs.Common.{◌≡◌, ◌↔◌, ◌∙◌, ap, refl, sym, ℕ, suc, ◌+◌, ◌<◌, Bool, true, false, cond, ◌&&◌, ◌||◌, not, List, [], ◌∷◌, ◌++◌, length, arith, true≢false}
+use Rattle.std.proofs.Common.{◌≡◌, ◌↔◌, ◌∙◌, ap, refl, sym, ℕ, suc, ◌+◌, ◌<◌, Bool, true, false, cond, ◌&&◌, not, List, [], ◌∷◌, ◌++◌, length, arith, true≢false}
 use Rattle.std.proofs.lemmas.Bool.{and_parts}
 use Rattle.std.proofs.Math.Bool.{and_assoc}
 use Rattle.std.specs.List.{list_any}
-use Rattle.indexmap.specs.IndexSet.{insert_key}
 use Rattle.rdf_grammar.specs.Keys.{key_of, same_key}
 use Rattle.rdf_grammar.specs.Prologue.{knows}
 use Rattle.rdf_grammar.specs.Productions as productions
@@ -13,7 +12,7 @@ use Rattle.rdf_grammar.specs.declared.tree.Name.TheVariants.{Full, Prefixed}
 use Rattle.rdf_tokens.specs.Values.{prefix_part}
 use Rattle.sparql_terminals.specs.declared.terminal.Terminal.{Terminal}
 use Rattle.sparql_terminals.specs.declared.terminal.Terminal.TheVariants as terminal
-use Rattle.sparql_terminals.specs.Lexemes.{Lexeme, Lexemes}
+use Rattle.sparql_terminals.specs.Lexemes.{Lexemes}
 use Rattle.sparql_syntax.specs.FaultyNames.{declares_behind, is_unbound, bound_behind, unbound_from, lacks, moves_behind, is_lacking, base_behind, lacking_from}
 use Rattle.sparql_syntax.proofs.NameFronts.{Ask, names, all_named, is_plain, all_plain}
 

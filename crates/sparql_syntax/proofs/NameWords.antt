@@ -1,6 +1,5 @@
 -- Names and literals, and the names that their lexemes carry.
-use Rattle.std.proofs.Common.{◌≡◌, refl, Bool, true, false}
-use Rattle.rdf_grammar.specs.Derivations as grammar
+use Rattle.std.proofs.Common.{refl, Bool, true, false}
 use Rattle.rdf_grammar.specs.Productions as productions
 use Rattle.rdf_grammar.specs.Terminals.{Slice}
 use Rattle.rdf_grammar.specs.declared.tree.Literal.{Literal}

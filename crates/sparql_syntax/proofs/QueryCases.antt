@@ -40,9 +40,9 @@ Kind = IsKindOfTree grammar.IsQuery meaning
 abbrev Rule : SyntaxFaultKind → Type 0
 Rule = IsRuleKind grammar.IsQuery meaning
 
-pub label_kind : (b : Bool) (query : Query) (k : SyntaxFaultKind) → ◌≡◌ {A = Result Query SyntaxFaultKind} (cond b (Err fault.BlankReused) (Ok query)) (Err k) → Rule k
-label_kind true query k e = subst Rule (err_same fault.BlankReused k e) (λ base text h line there. (h, there))
-label_kind false query k e = absurd (ok_err query k e)
+pub label_kind : (b : Bool) (said : Query) (k : SyntaxFaultKind) → ◌≡◌ {A = Result Query SyntaxFaultKind} (cond b (Err fault.BlankReused) (Ok said)) (Err k) → Rule k
+label_kind true said k e = subst Rule (err_same fault.BlankReused k e) (λ base text h line there. (h, there))
+label_kind false said k e = absurd (ok_err said k e)
 
 ruled_kind : (o : Option (Query × Labels)) (k : SyntaxFaultKind) → ruled o ≡ Err k → Kind k
 ruled_kind None k e = subst Kind (err_same fault.Relative k e) (language.relative_kind grammar.IsQuery meaning)
