@@ -1,21 +1,23 @@
 -- A text says one thing in a language, or has one fault.
-use Rattle.std.proofs.Common.{◌≡◌, ◌<◌, ◌⊎◌, ◌≤◌, inl, inr, ℕ, zero, suc, true, false, List, Option, Some, Result, Ok, Err, refl, sym, ap, subst, ◌∙◌, arith, lit<, lit≤, true≢false}
+use Rattle.std.proofs.Common.{◌≡◌, ◌<◌, ◌⊎◌, ◌≤◌, inl, inr, ℕ, zero, suc, true, false, List, Option, Some, is_some, Result, Ok, Err, refl, sym, ap, subst, ◌∙◌, arith, lit<, lit≤, true≢false}
 use Rattle.std.proofs.lemmas.Bool.{cases_lt}
 use Rattle.std.specs.List.{slice_get}
 use Rattle.std.specs.Str.{chars, IsUtf8}
 use Rattle.rdf_grammar.proofs.CallerLemmas as text_lemmas
+use Rattle.rdf_grammar.specs.Walks.{start_of}
 use Rattle.rdf_tokens.specs.declared.token.Token.{Token}
 use Rattle.rdf_tokens.specs.Lines.{line_of}
 use Rattle.rdf_tokens.proofs.CallerLemmas.{one_token_list}
-use Rattle.sparql_terminals.specs.Lexemes.{Lexeme, AreLexemes}
+use Rattle.sparql_terminals.specs.Lexemes.{Lexeme, Lexemes, AreLexemes}
 use Rattle.sparql_grammar.specs.Nesting.{IsTooDeep, IsTooDeepAt}
 use Rattle.sparql_terminals.specs.Profile.{AreInside, IsFirstOutside}
 use Rattle.sparql_terminals.specs.Terminals.{terminal_by, bracket}
 use Rattle.sparql_syntax.specs.declared.fault.SyntaxFault.{SyntaxFault}
 use Rattle.sparql_syntax.specs.declared.fault.SyntaxFaultKind.{SyntaxFaultKind}
 use Rattle.sparql_syntax.specs.declared.fault.SyntaxFaultKind.TheVariants as fault
+use Rattle.sparql_syntax.specs.FaultyNames.{first_unbound, first_lacking}
 use Rattle.sparql_syntax.specs.Phases as phases
-use Rattle.sparql_syntax.specs.Phases.{HasTokens}
+use Rattle.sparql_syntax.specs.Phases.{HasTokens, IsLineAt}
 use Rattle.sparql_syntax.specs.UpdateLaws.{has_free_line, SameFault}
 use Rattle.sparql_syntax.proofs.ProfileLemmas.{not_inside, one_outside}
 
@@ -49,6 +51,11 @@ same_word text ts us m n lists h i = one_outside (chars text) us m n (subst (λ 
 
 same_opener : (ls ms : List Lexeme) (m n : ℕ) → ls ≡ ms → IsTooDeepAt ls m → IsTooDeepAt ms n → m ≡ n
 same_opener ls ms m n lists h i = text_lemmas.one_opener bracket ms m n (subst (λ (x : List Lexeme). IsTooDeepAt x m) lists h) i
+
+same_lexeme : (text : List ℕ) (number : Lexemes → ℕ) (line other : ℕ) → IsLineAt text number line → IsLineAt text number other → line ≡ other
+same_lexeme text number line other h k =
+    let lists = one_tokens text h.0 k.0 h.1 k.1 h.2 k.2 in
+    h.3 ∙ ap (λ (x : List Token). line_of text (start_of text x (number h.1))) lists.0 ∙ ap (λ (x : Lexemes). line_of text (start_of text k.0 (number x))) lists.1 ∙ sym k.3
 
 -- ---- a language in which lexemes have one tree at most
 
@@ -192,9 +199,11 @@ module _ {Tree Said : Type 0} (Derives : List Lexeme → Tree → Type 0) (meani
   abbrev Same : SyntaxFaultKind → SyntaxFaultKind → ℕ → ℕ → Type 0
   Same j k m n = (j ≡ k) × ((has_free_line j ≡ false) → m ≡ n)
 
+  same_kind : (base : Option (List ℕ)) (text : List ℕ) (j k : SyntaxFaultKind) → IsRefused base text j → IsRefused base text k → j ≡ k
+  same_kind base text j k h i = err_same j k (sym h.2 ∙ same_meaning base text h.0 i.0 h.1 i.1 ∙ i.2)
+
   by_refusal : (base : Option (List ℕ)) (text : List ℕ) (j k : SyntaxFaultKind) (m n : ℕ) → IsRefused base text j → IsRefused base text k → has_free_line j ≡ true → Same j k m n
-  by_refusal base text j k m n h i free =
-      (err_same j k (sym h.2 ∙ same_meaning base text h.0 i.0 h.1 i.1 ∙ i.2), λ fixed. absurd (true≢false (sym free ∙ fixed)))
+  by_refusal base text j k m n h i free = (same_kind base text j k h i, λ fixed. absurd (true≢false (sym free ∙ fixed)))
 
   alike : (base : Option (List ℕ)) (text : List ℕ) (j k : SyntaxFaultKind) (m n : ℕ) → phase j ≡ phase k → FaultIs base text j m → FaultIs base text k n → Same j k m n
   alike base text fault.NotUtf8 fault.NotUtf8 m n e h i =
@@ -213,8 +222,10 @@ module _ {Tree Said : Type 0} (Derives : List Lexeme → Tree → Type 0) (meani
   alike base text fault.TooDeep _ m n e h i = absurd (omega (arith, e))
   alike base text fault.Syntax fault.Syntax m n e h i = (refl, λ fixed. absurd (true≢false fixed))
   alike base text fault.Syntax _ m n e h i = absurd (omega (arith, e))
-  alike base text fault.UnknownPrefix k m n e h i = by_refusal base text fault.UnknownPrefix k m n h.0 (refused base text k n (λ x. omega (arith, e, x)) i) refl
-  alike base text fault.Relative k m n e h i = by_refusal base text fault.Relative k m n h.0 (refused base text k n (λ x. omega (arith, e, x)) i) refl
+  alike base text fault.UnknownPrefix fault.UnknownPrefix m n e h i = (refl, λ f. same_lexeme text first_unbound m n h.1 i.1)
+  alike base text fault.UnknownPrefix k m n e h i = absurd (cc (same_kind base text fault.UnknownPrefix k h.0 (refused base text k n (λ x. omega (arith, e, x)) i)))
+  alike base text fault.Relative fault.Relative m n e h i = (refl, λ f. same_lexeme text (first_lacking (is_some base)) m n h.1 i.1)
+  alike base text fault.Relative k m n e h i = absurd (cc (same_kind base text fault.Relative k h.0 (refused base text k n (λ x. omega (arith, e, x)) i)))
   alike base text fault.BlankInDelete k m n e h i = by_refusal base text fault.BlankInDelete k m n h.0 (refused base text k n (λ x. omega (arith, e, x)) i) refl
   alike base text fault.VariableInData k m n e h i = by_refusal base text fault.VariableInData k m n h.0 (refused base text k n (λ x. omega (arith, e, x)) i) refl
   alike base text fault.LiteralSubject k m n e h i = by_refusal base text fault.LiteralSubject k m n h.0 (refused base text k n (λ x. omega (arith, e, x)) i) refl

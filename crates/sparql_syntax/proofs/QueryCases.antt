@@ -24,7 +24,7 @@ use Rattle.sparql_syntax.specs.QueryLaws.{SomeMeaning, OneQuery, NeverBoth, OneF
 use Rattle.sparql_trees.specs.declared.query.Query.{Query}
 use Rattle.sparql_syntax.proofs.PhaseLemmas as phases
 use Rattle.sparql_syntax.proofs.SayLemmas as language
-use Rattle.sparql_syntax.proofs.SayLemmas.{IsKindOfTree}
+use Rattle.sparql_syntax.proofs.SayLemmas.{IsKindOfTree, IsRuleKind}
 
 -- ---- why a tree says nothing
 
@@ -37,17 +37,20 @@ ok_err a b e = cc
 abbrev Kind : SyntaxFaultKind → Type 0
 Kind = IsKindOfTree grammar.IsQuery meaning
 
-label_kind : (b : Bool) (query : Query) (k : SyntaxFaultKind) → ◌≡◌ {A = Result Query SyntaxFaultKind} (cond b (Err fault.BlankReused) (Ok query)) (Err k) → Kind k
-label_kind true query k e = subst Kind (err_same fault.BlankReused k e) (λ base text h line there. (h, there))
-label_kind false query k e = absurd (ok_err query k e)
+abbrev Rule : SyntaxFaultKind → Type 0
+Rule = IsRuleKind grammar.IsQuery meaning
+
+pub label_kind : (b : Bool) (said : Query) (k : SyntaxFaultKind) → ◌≡◌ {A = Result Query SyntaxFaultKind} (cond b (Err fault.BlankReused) (Ok said)) (Err k) → Rule k
+label_kind true said k e = subst Rule (err_same fault.BlankReused k e) (λ base text h line there. (h, there))
+label_kind false said k e = absurd (ok_err said k e)
 
 ruled_kind : (o : Option (Query × Labels)) (k : SyntaxFaultKind) → ruled o ≡ Err k → Kind k
-ruled_kind None k e = subst Kind (err_same fault.Relative k e) (λ base text h line there. (h, there))
-ruled_kind (Some said) k e = label_kind (repeats_label [] said.1) said.0 k e
+ruled_kind None k e = subst Kind (err_same fault.Relative k e) (language.relative_kind grammar.IsQuery meaning)
+ruled_kind (Some said) k e = language.rule_kind grammar.IsQuery meaning k (label_kind (repeats_label [] said.1) said.0 k e)
 
 known_kind : (b : Bool) (o : Option (Query × Labels)) (k : SyntaxFaultKind) → ◌≡◌ {A = Result Query SyntaxFaultKind} (cond b (ruled o) (Err fault.UnknownPrefix)) (Err k) → Kind k
 known_kind true o k e = ruled_kind o k e
-known_kind false o k e = subst Kind (err_same fault.UnknownPrefix k e) (λ base text h line there. (h, there))
+known_kind false o k e = subst Kind (err_same fault.UnknownPrefix k e) (language.unknown_kind grammar.IsQuery meaning)
 
 pub tree_kind : (base : Option (List ℕ)) (tree : written.Query) (k : SyntaxFaultKind) → meaning base tree ≡ Err k → Kind k
 tree_kind base tree k e = known_kind (known_query tree) (query_in base tree) k e

@@ -1,10 +1,9 @@
 -- What a reader of queries answers is what the text says.
-use Rattle.std.proofs.Common.{◌≡◌, ◌∙◌, inl, inr, ℕ, true, false, List, Option, Some, None, Result, Ok, Err, IsTrue, MatchResult, refl, subst}
+use Rattle.std.proofs.Common.{◌≡◌, ◌∙◌, inl, inr, ℕ, Bool, true, false, List, [], Option, Some, None, is_some, Result, Ok, Err, IsTrue, MatchResult, refl, sym, subst}
 use Rattle.std.specs.Str.{chars}
 use Rattle.rdf_grammar.specs.declared.fault.GrammarFault.{GrammarFault}
 use Rattle.rdf_grammar.specs.declared.prologue.PrologueFault.{PrologueFault}
 use Rattle.rdf_grammar.specs.declared.prologue.PrologueFault.TheVariants as name
-use Rattle.rdf_tokens.specs.Lines.{line_of}
 use Rattle.sparql_grammar.specs.declared.tree.Query as written
 use Rattle.rdf_grammar.specs.Lexemes.{AreReadOf}
 use Rattle.sparql_terminals.specs.Lexemes.{Lexemes}
@@ -18,13 +17,16 @@ use Rattle.sparql_queries.specs.Known.{known_query}
 use Rattle.sparql_queries.specs.Queries.{query_in, IsFaultOf}
 use Rattle.sparql_syntax.specs.declared.fault.SyntaxFault.{SyntaxFault}
 use Rattle.sparql_syntax.specs.declared.fault.SyntaxFaultKind.TheVariants as fault
+use Rattle.sparql_syntax.specs.FaultyNames.{first_unbound, first_lacking}
+use Rattle.sparql_syntax.specs.Labels.{repeats_label}
+use Rattle.sparql_syntax.specs.NamePlaces.{IsNameFault}
 use Rattle.sparql_syntax.specs.Phases.{TellsEarly}
 use Rattle.sparql_syntax.specs.Survey.{IsReadable}
 use Rattle.sparql_syntax.specs.Query.{HasTree, IsQuery, TellsFault, meaning, ruled}
 use Rattle.sparql_syntax.specs.QueryTold.{IsTold, IsRuleFault}
-use Rattle.sparql_syntax.specs.Told.{IsStopFault, name_fault}
+use Rattle.sparql_syntax.specs.Told.{IsStopFault}
 use Rattle.sparql_trees.specs.declared.query.Query.{Query}
-use Rattle.sparql_syntax.proofs.QueryCases.{tree_kind}
+use Rattle.sparql_syntax.proofs.QueryCases.{label_kind}
 use Rattle.sparql_syntax.proofs.TellLemmas as language
 
 pub early_told : (text : List ℕ) (f : SyntaxFault) → TellsEarly text f f.kind → IsTold text f
@@ -51,19 +53,24 @@ unknown base tree h = rw h refl
 known_means : (base : Option (List ℕ)) (tree : written.Query) (said : Option (Query × Labels)) → known_query tree ≡ true → query_in base tree ≡ said → meaning base tree ≡ ruled said
 known_means base tree said h k = rw (h, k) refl
 
-pub name_told : (base : Option (List ℕ)) (text : List ℕ) (tree : written.Query) (e : PrologueFault) (f : SyntaxFault) → HasTree text tree → IsFaultOf base tree e → f ≡ name_fault text e
+name_told_at : (base : Option (List ℕ)) (text : List ℕ) (tree : written.Query) (e : PrologueFault) (f : SyntaxFault) → HasTree text tree → IsFaultOf base tree e → IsNameFault text (is_some base) e f
     → TellsFault base text f f.kind
-name_told base text tree (name.NoMemory refused) f h is named = language.memory_told grammar.IsQuery meaning base text f refused named
-name_told base text tree (name.UnknownPrefix start) f h is named =
-    language.told_at grammar.IsQuery meaning base text f fault.UnknownPrefix (line_of text start) named ((tree, h, unknown base tree is), (start, refl))
-name_told base text tree (name.Relative start) f h is named =
-    language.told_at grammar.IsQuery meaning base text f fault.Relative (line_of text start) named ((tree, h, known_means base tree None is.0 is.1), (start, refl))
+name_told_at base text tree (name.NoMemory refused) f h is named = language.memory_told grammar.IsQuery meaning base text f refused named
+name_told_at base text tree (name.UnknownPrefix start) f h is named =
+    language.first_told grammar.IsQuery meaning base text h.tokens h.lexemes f fault.UnknownPrefix first_unbound h.list (λ line at. ((tree, h, unknown base tree is), at)) named
+name_told_at base text tree (name.Relative start) f h is named =
+    language.first_told grammar.IsQuery meaning base text h.tokens h.lexemes f fault.Relative (first_lacking (is_some base)) h.list
+    (λ line at. ((tree, h, known_means base tree None is.0 is.1), at)) named
+
+pub name_told : (base : Option (List ℕ)) (based : Bool) (text : List ℕ) (tree : written.Query) (e : PrologueFault) (f : SyntaxFault) → is_some base ≡ based → HasTree text tree → IsFaultOf base tree e
+    → IsNameFault text based e f → TellsFault base text f f.kind
+name_told base based text tree e f same h is named = name_told_at base text tree e f h is (subst (λ (b : Bool). IsNameFault text b e f) (sym same) named)
 
 rule_told : (base : Option (List ℕ)) (text : List ℕ) (tree : written.Query) (said : Query × Labels) (f : SyntaxFault) → HasTree text tree → meaning base tree ≡ ruled (Some said)
     → IsRuleFault text (ruled (Some said)) f → TellsFault base text f f.kind
 rule_told base text tree said f h is (inr memory) = language.memory_told grammar.IsQuery meaning base text f memory.0 memory.1
 rule_told base text tree said f h is (inl e) =
-    language.told_at grammar.IsQuery meaning base text f f.kind f.line refl (tree_kind base tree f.kind (is ∙ e.0) base text (tree, h, is ∙ e.0) f.line e.1)
+    language.told_at grammar.IsQuery meaning base text f f.kind f.line refl (label_kind (repeats_label [] said.1) said.0 f.kind e.0 base text (tree, h, is ∙ e.0) f.line e.1)
 
 pub all_told : (base : Option (List ℕ)) (text : List ℕ) (tree : written.Query) (said : Query × Labels) (r : Result Query SyntaxFault) → HasTree text tree → known_query tree ≡ true
     → query_in base tree ≡ Some said → MatchResult r (λ query. ruled (Some said) ≡ Ok query) (λ f. IsRuleFault text (ruled (Some said)) f)

@@ -1,11 +1,10 @@
 -- What a reader answers is what the text says.
-use Rattle.std.proofs.Common.{◌≡◌, inl, inr, ℕ, List, Option, Result, Ok, Err, IsTrue, MatchResult, map, refl, ap, subst, ◌∙◌}
+use Rattle.std.proofs.Common.{◌≡◌, inl, inr, ℕ, Bool, List, Option, is_some, Result, Ok, Err, IsTrue, MatchResult, map, refl, sym, ap, subst, ◌∙◌}
 use Rattle.std.specs.List.{list_all}
 use Rattle.std.specs.Str.{chars}
 use Rattle.rdf_grammar.specs.declared.fault.GrammarFault.{GrammarFault}
 use Rattle.rdf_grammar.specs.declared.prologue.PrologueFault.{PrologueFault}
 use Rattle.rdf_grammar.specs.declared.prologue.PrologueFault.TheVariants as name
-use Rattle.rdf_tokens.specs.Lines.{line_of}
 use Rattle.sparql_grammar.specs.declared.tree.Part.{Part}
 use Rattle.rdf_grammar.specs.Lexemes.{AreReadOf}
 use Rattle.sparql_terminals.specs.Lexemes.{Lexemes}
@@ -17,16 +16,18 @@ use Rattle.sparql_grammar.proofs.CallerLemmas.{requests_proper}
 use Rattle.sparql_syntax.specs.declared.draft.Draft.{Draft}
 use Rattle.sparql_syntax.specs.declared.fault.SyntaxFault.{SyntaxFault}
 use Rattle.sparql_syntax.specs.declared.fault.SyntaxFaultKind.TheVariants as fault
+use Rattle.sparql_syntax.specs.FaultyNames.{first_unbound, first_lacking}
+use Rattle.sparql_syntax.specs.NamePlaces.{IsNameFault}
 use Rattle.sparql_syntax.specs.Phases.{TellsEarly}
 use Rattle.sparql_syntax.specs.Survey.{IsReadable}
 use Rattle.sparql_syntax.specs.Rules.{judged}
 use Rattle.sparql_syntax.specs.Kept.{IsFaultOf}
 use Rattle.sparql_syntax.specs.Meaning.{answer}
-use Rattle.sparql_syntax.specs.Told.{IsTold, IsRuleFault, IsStopFault, name_fault}
+use Rattle.sparql_syntax.specs.Told.{IsTold, IsRuleFault, IsStopFault}
 use Rattle.sparql_syntax.specs.Update.{HasTree, IsUpdate, TellsFault, meaning, ruled}
 use Rattle.sparql_trees.specs.declared.operation.Request.{Request}
 use Rattle.sparql_syntax.proofs.TellLemmas as language
-use Rattle.sparql_syntax.proofs.UpdateCases.{tree_kind}
+use Rattle.sparql_syntax.proofs.UpdateCases.{judged_kind}
 
 -- ---- whatever the base is
 
@@ -50,18 +51,24 @@ tree_proper text tree h =
 
 -- ---- against a base
 
-pub name_told : (base : Option (List ℕ)) (text : List ℕ) (tree : List Part) (e : PrologueFault) (f : SyntaxFault) → HasTree text tree → IsFaultOf (answer base tree) e → f ≡ name_fault text e
+name_told_at : (base : Option (List ℕ)) (text : List ℕ) (tree : List Part) (e : PrologueFault) (f : SyntaxFault) → HasTree text tree → IsFaultOf (answer base tree) e → IsNameFault text (is_some base) e f
     → TellsFault base text f f.kind
-name_told base text tree (name.NoMemory refused) f h is named = language.memory_told IsRequest meaning base text f refused named
-name_told base text tree (name.UnknownPrefix start) f h is named = language.told_at IsRequest meaning base text f fault.UnknownPrefix (line_of text start) named ((tree, h, ap ruled is), (start, refl))
-name_told base text tree (name.Relative start) f h is named = language.told_at IsRequest meaning base text f fault.Relative (line_of text start) named ((tree, h, ap ruled is), (start, refl))
+name_told_at base text tree (name.NoMemory refused) f h is named = language.memory_told IsRequest meaning base text f refused named
+name_told_at base text tree (name.UnknownPrefix start) f h is named =
+    language.first_told IsRequest meaning base text h.tokens h.lexemes f fault.UnknownPrefix first_unbound h.list (λ line at. ((tree, h, ap ruled is), at)) named
+name_told_at base text tree (name.Relative start) f h is named =
+    language.first_told IsRequest meaning base text h.tokens h.lexemes f fault.Relative (first_lacking (is_some base)) h.list (λ line at. ((tree, h, ap ruled is), at)) named
+
+pub name_told : (base : Option (List ℕ)) (based : Bool) (text : List ℕ) (tree : List Part) (e : PrologueFault) (f : SyntaxFault) → is_some base ≡ based → HasTree text tree → IsFaultOf (answer base tree) e
+    → IsNameFault text based e f → TellsFault base text f f.kind
+name_told base based text tree e f same h is named = name_told_at base text tree e f h is (subst (λ (b : Bool). IsNameFault text b e f) (sym same) named)
 
 rule_told : (base : Option (List ℕ)) (text : List ℕ) (tree : List Part) (drafts : List Draft) (f : SyntaxFault) → HasTree text tree → answer base tree ≡ Ok drafts → IsRuleFault text (judged drafts) f
     → TellsFault base text f f.kind
 rule_told base text tree drafts f h is (inr memory) = language.memory_told IsRequest meaning base text f memory.0 memory.1
 rule_told base text tree drafts f h is (inl e) =
     let none : meaning base tree ≡ Err f.kind = ap ruled is ∙ e.0 in
-    language.told_at IsRequest meaning base text f f.kind f.line refl (tree_kind base tree f.kind none base text (tree, h, none) f.line e.1)
+    language.told_at IsRequest meaning base text f f.kind f.line refl (judged_kind drafts f.kind e.0 base text (tree, h, none) f.line e.1)
 
 update_told : (base : Option (List ℕ)) (text : List ℕ) (tree : List Part) (drafts : List Draft) (request : Request) → HasTree text tree → answer base tree ≡ Ok drafts
     → judged drafts ≡ Ok request.operations → IsUpdate base text request

@@ -1,5 +1,5 @@
 -- Each text says something in a language, or has a fault.
-use Rattle.std.proofs.Common.{◌≡◌, ◌<◌, ◌⊎◌, inl, inr, ℕ, List, Option, Result, Ok, Err, refl, sym, subst, ◌∙◌, true≢false}
+use Rattle.std.proofs.Common.{◌≡◌, ◌<◌, ◌⊎◌, inl, inr, ℕ, List, Option, is_some, Result, Ok, Err, refl, sym, subst, ◌∙◌, true≢false}
 use Rattle.std.proofs.lemmas.Bool.{cases_Bool}
 use Rattle.std.proofs.lemmas.Str.{IsUtf8-from_is_utf8, is_utf8-from_IsUtf8}
 use Rattle.std.specs.Str.{chars, IsUtf8, is_utf8}
@@ -16,14 +16,33 @@ use Rattle.sparql_terminals.specs.Terminals.{terminal_by, bracket}
 use Rattle.sparql_syntax.specs.declared.fault.SyntaxFault.{SyntaxFault}
 use Rattle.sparql_syntax.specs.declared.fault.SyntaxFaultKind.{SyntaxFaultKind}
 use Rattle.sparql_syntax.specs.declared.fault.SyntaxFaultKind.TheVariants as fault
+use Rattle.sparql_syntax.specs.FaultyNames.{first_unbound, first_lacking}
 use Rattle.sparql_syntax.specs.Phases as phases
-use Rattle.sparql_syntax.specs.Phases.{HasTokens}
+use Rattle.sparql_syntax.specs.Phases.{HasTokens, IsLineAt}
 use Rattle.sparql_syntax.proofs.ProfileLemmas.{inside_or_outside}
 
 -- the kinds of faults that a tree may have
 abbrev pub IsKindOfTree : {Tree Said : Type 0} (Derives : List Lexeme → Tree → Type 0) (meaning : Option (List ℕ) → Tree → Result Said SyntaxFaultKind) → SyntaxFaultKind → Type 0
 IsKindOfTree Derives meaning k =
+    (base : Option (List ℕ)) (text : List ℕ) → phases.IsRefused Derives meaning base text k → (line : ℕ) × phases.FaultIs Derives meaning base text k line
+
+-- those that may be told in any line of the text
+abbrev pub IsRuleKind : {Tree Said : Type 0} (Derives : List Lexeme → Tree → Type 0) (meaning : Option (List ℕ) → Tree → Result Said SyntaxFaultKind) → SyntaxFaultKind → Type 0
+IsRuleKind Derives meaning k =
     (base : Option (List ℕ)) (text : List ℕ) → phases.IsRefused Derives meaning base text k → (line : ℕ) → phases.IsLineOf text line → phases.FaultIs Derives meaning base text k line
+
+module _ {Tree Said : Type 0} (Derives : List Lexeme → Tree → Type 0) (meaning : Option (List ℕ) → Tree → Result Said SyntaxFaultKind) where
+  pub rule_kind : (k : SyntaxFaultKind) → IsRuleKind Derives meaning k → IsKindOfTree Derives meaning k
+  rule_kind k rule base text h = (line_of text 0, rule base text h (line_of text 0) (0, refl))
+
+  first_line : (text : List ℕ) (tree : Tree) (has : phases.HasTree Derives text tree) (number : Lexemes → ℕ) → (line : ℕ) × IsLineAt text number line
+  first_line text tree has number = (line_of text (start_of text has.tokens (number has.lexemes)), (has.tokens, has.lexemes, has.list, refl))
+
+  pub unknown_kind : IsKindOfTree Derives meaning fault.UnknownPrefix
+  unknown_kind base text h = (let line = first_line text h.0 h.1 first_unbound in (line.0, (h, line.1)))
+
+  pub relative_kind : IsKindOfTree Derives meaning fault.Relative
+  relative_kind base text h = (let line = first_line text h.0 h.1 (first_lacking (is_some base)) in (line.0, (h, line.1)))
 
 -- a language of which each tree means something or has a fault, and lexemes that aren't too deep have a tree or none
 module _ {Tree Said : Type 0} (Derives : List Lexeme → Tree → Type 0) (meaning : Option (List ℕ) → Tree → Result Said SyntaxFaultKind)
@@ -39,7 +58,7 @@ module _ {Tree Said : Type 0} (Derives : List Lexeme → Tree → Type 0) (meani
 
   by_meaning : (base : Option (List ℕ)) (text : List ℕ) (tree : Tree) → HasTree text tree → (r : Result Said SyntaxFaultKind) → meaning base tree ≡ r → Meant base text
   by_meaning base text tree h (Ok said) e = inl (said, (tree, h, e))
-  by_meaning base text tree h (Err k) e = inr (record { line = line_of text 0; kind = k }, tree_kind base tree k e base text (tree, h, e) (line_of text 0) (0, refl))
+  by_meaning base text tree h (Err k) e = (let told = tree_kind base tree k e base text (tree, h, e) in inr (record { line = told.0; kind = k }, told.1))
 
   by_lexemes : (base : Option (List ℕ)) (text : List ℕ) (tokens : List Token) (lexemes : Lexemes) → HasTokens text tokens lexemes → AreInside (chars text) tokens → Meant base text
   by_lexemes base text tokens lexemes h inside = elim (shallow_or_deep bracket lexemes) [

@@ -20,7 +20,8 @@ use Rattle.sparql_syntax.specs.declared.fault.SyntaxFault.{SyntaxFault}
 use Rattle.sparql_syntax.specs.declared.fault.SyntaxFaultKind.{SyntaxFaultKind}
 use Rattle.sparql_syntax.specs.declared.fault.SyntaxFaultKind.TheVariants as fault
 use Rattle.sparql_syntax.specs.Phases as phases
-use Rattle.sparql_syntax.specs.Phases.{HasTokens, StopsEarly, TellsEarly}
+use Rattle.sparql_syntax.specs.NamePlaces.{IsAtFirst}
+use Rattle.sparql_syntax.specs.Phases.{HasTokens, IsLineAt, StopsEarly, TellsEarly}
 use Rattle.sparql_syntax.specs.Survey.{IsReadable, IsStop}
 use Rattle.sparql_syntax.specs.Told.{fault_at, wants_memory, IsStopFault}
 
@@ -86,6 +87,13 @@ module _ {Tree Said : Type 0} (Derives : List Lexeme → Tree → Type 0) (meani
 
   pub memory_told : (base : Option (List ℕ)) (text : List ℕ) (f : SyntaxFault) (refused : NoMemory) → f ≡ wants_memory refused → Tells base text f
   memory_told base text f refused e = subst (λ (x : SyntaxFault). Tells base text x) (sym e) refl
+
+  -- a fault that is told at the first name that has it
+  pub first_told : (base : Option (List ℕ)) (text : List ℕ) (tokens : List Token) (lexemes : Lexemes) (f : SyntaxFault) (k : SyntaxFaultKind) (number : Lexemes → ℕ) → HasTokens text tokens lexemes
+      → ((line : ℕ) → IsLineAt text number line → phases.FaultIs Derives meaning base text k line) → IsAtFirst text k number f → Tells base text f
+  first_told base text tokens lexemes f k number held is (Ok start, starts, told) =
+      told_at base text f k (line_of text start) told (is (line_of text start) (tokens, lexemes, held, ap (line_of text) (starts tokens lexemes held)))
+  first_told base text tokens lexemes f k number held is (Err refused, starts, told) = memory_told base text f refused told
 
   -- a fault that stops the text in every language
   early_is : (base : Option (List ℕ)) (text : List ℕ) (k : SyntaxFaultKind) (line : ℕ) → StopsEarly text k line → phases.FaultIs Derives meaning base text k line

@@ -1,11 +1,14 @@
 pub mod Blanks
 pub mod Drafts
 pub mod FaultName
+pub mod FaultyNameLaws
+pub mod FaultyNames
 pub mod Kept
 pub mod Known
 pub mod Labels
 pub mod Meaning
 pub mod ModifyLaws
+pub mod NamePlaces
 pub mod Phases
 pub mod Query
 pub mod QueryLaws

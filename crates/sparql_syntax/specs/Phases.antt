@@ -1,18 +1,19 @@
 -- What the bytes of a text say in a language of SPARQL, or its fault, phase by phase (SPARQL 1.1 Query, section 19): the language is a relation
 -- of lexemes and trees, with what a tree means against a base, or why it means nothing.
-use Rattle.std.specs.Prelude.{◌≡◌, ℕ, List, Option, Some, Result, Ok, Err}
+use Rattle.std.specs.Prelude.{◌≡◌, ℕ, List, Option, Some, Result, Ok, Err, is_some}
 use Rattle.std.specs.Str.{chars, IsUtf8, IsValidUpTo}
 use Rattle.std.specs.List.{slice_get}
 use Rattle.rdf_grammar.specs.Walks.{start_of}
 use Rattle.rdf_tokens.specs.declared.token.Token.{Token}
 use Rattle.rdf_tokens.specs.Lines.{line_of}
 use Rattle.rdf_tokens.specs.Tokens.{Tokenizes}
-use Rattle.sparql_terminals.specs.Lexemes.{Lexeme, AreLexemes}
+use Rattle.sparql_terminals.specs.Lexemes.{Lexeme, Lexemes, AreLexemes}
 use Rattle.sparql_grammar.specs.Nesting.{IsTooDeep, IsTooDeepAt}
 use Rattle.sparql_terminals.specs.Profile.{AreInside, IsFirstOutside}
 use Rattle.sparql_syntax.specs.declared.fault.SyntaxFault.{SyntaxFault}
 use Rattle.sparql_syntax.specs.declared.fault.SyntaxFaultKind.{SyntaxFaultKind}
 use Rattle.sparql_syntax.specs.declared.fault.SyntaxFaultKind.TheVariants as fault
+use Rattle.sparql_syntax.specs.FaultyNames.{first_unbound, first_lacking}
 
 -- The text is UTF-8, these are its tokens, and these are the tokens as the grammar sees them.
 pub record HasTokens (text : List ℕ) (tokens : List Token) (lexemes : List Lexeme) : Type 0 where
@@ -33,6 +34,11 @@ pub record HasTree {Tree : Type 0} (Derives : List Lexeme → Tree → Type 0) (
 -- it is the line of one of the bytes of the text, or of its end
 abbrev pub IsLineOf : List ℕ → ℕ → Type 0
 IsLineOf text line = (place : ℕ) × (line ≡ line_of text place)
+
+-- it is the line of the lexeme of this number, or of the end
+abbrev pub IsLineAt : List ℕ → (Lexemes → ℕ) → ℕ → Type 0
+IsLineAt text number line =
+    (tokens : List Token) × (lexemes : Lexemes) × HasTokens text tokens lexemes × (line ≡ line_of text (start_of text tokens (number lexemes)))
 
 -- Why a text is read in no language of SPARQL, and the line of the place that shows it.
 abbrev pub StopsEarly : List ℕ → SyntaxFaultKind → ℕ → Type 0
@@ -77,10 +83,10 @@ module _ {Tree Said : Type 0} (Derives : List Lexeme → Tree → Type 0) (meani
       (tokens : List Token) × (lexemes : List Lexeme) × HasTokens text tokens lexemes × AreInside (chars text) tokens
       × ¬ (IsTooDeep lexemes) × ((tree : Tree) → ¬ (Derives lexemes tree))
       × ((number : ℕ) × (line ≡ line_of text (start_of text tokens number)))
-  -- a prefix is used before it is declared
-  FaultIs base text fault.UnknownPrefix line = IsRefusedAt base text fault.UnknownPrefix line
-  -- a reference without a base
-  FaultIs base text fault.Relative line = IsRefusedAt base text fault.Relative line
+  -- a prefix is used before it is declared, in the line of the first name with such a prefix
+  FaultIs base text fault.UnknownPrefix line = IsRefused base text fault.UnknownPrefix × IsLineAt text first_unbound line
+  -- a reference without a base, in the line of the first
+  FaultIs base text fault.Relative line = IsRefused base text fault.Relative × IsLineAt text (first_lacking (is_some base)) line
   -- a static rule is broken
   FaultIs base text fault.BlankInDelete line = IsRefusedAt base text fault.BlankInDelete line
   FaultIs base text fault.VariableInData line = IsRefusedAt base text fault.VariableInData line

@@ -2,8 +2,6 @@
 use Rattle.std.specs.Prelude.{◌≡◌, ◌⊎◌, ℕ, List, Option, Result, Err}
 use Rattle.rdf_grammar.specs.declared.fault.GrammarFault.{GrammarFault}
 use Rattle.rdf_grammar.specs.declared.fault.GrammarFault.TheVariants as grammar
-use Rattle.rdf_grammar.specs.declared.prologue.PrologueFault.{PrologueFault}
-use Rattle.rdf_grammar.specs.declared.prologue.PrologueFault.TheVariants as name
 use Rattle.rdf_terms.specs.declared.fault.NoMemory.{NoMemory}
 use Rattle.rdf_tokens.specs.Lines.{line_of}
 use Rattle.sparql_syntax.specs.declared.fault.SyntaxFault.{SyntaxFault}
@@ -28,12 +26,6 @@ wants_memory refused = record { line = 0; kind = kind.NoMemory refused }
 abbrev pub IsStopFault : List ℕ → GrammarFault → ℕ → SyntaxFault → Type 0
 IsStopFault text grammar.Syntax left f = (start : ℕ) × IsStop text left start × (f ≡ fault_at text kind.Syntax start)
 IsStopFault text (grammar.NoMemory refused) left f = f ≡ wants_memory refused
-
--- the fault of a text for that of a name
-abbrev pub name_fault : List ℕ → PrologueFault → SyntaxFault
-name_fault text (name.UnknownPrefix start) = fault_at text kind.UnknownPrefix start
-name_fault text (name.Relative start) = fault_at text kind.Relative start
-name_fault text (name.NoMemory refused) = wants_memory refused
 
 -- the answer is a fault of this kind, in a line of the text, or memory was wanting
 abbrev pub IsRuleFault : List ℕ → Result (List Operation) SyntaxFaultKind → SyntaxFault → Type 0

@@ -9,8 +9,8 @@ use Rattle.sparql_syntax.specs.Update.{IsUpdate, IsFaulty}
 -- The kinds of faults whose line is the reader's own choice among those of the text.
 abbrev pub has_free_line : SyntaxFaultKind → Bool
 has_free_line Syntax = true
-has_free_line UnknownPrefix = true
-has_free_line Relative = true
+has_free_line UnknownPrefix = false
+has_free_line Relative = false
 has_free_line BlankInDelete = true
 has_free_line VariableInData = true
 has_free_line LiteralSubject = true

@@ -1,4 +1,5 @@
 //! What holds of each text.
+ghost use Rattle.sparql_syntax.specs.FaultyNameLaws as names;
 ghost use Rattle.sparql_syntax.specs.ModifyLaws.{DeleteWhereIsItsGroup};
 ghost use Rattle.sparql_syntax.specs.QueryLaws as query;
 ghost use Rattle.sparql_syntax.specs.RuleLaws.{LabelsAreShared, PatternsAreQuads};
@@ -18,6 +19,18 @@ pub fn one_request()
     ensures request { OneRequest }
     ensures never_both { NeverBoth }
     ensures fault { OneFault }
+{}
+
+/// Why a name of a text has no IRI (SPARQL 1.1 Query, sections 4.1.1 and 19.5), in updates and in queries:
+/// the fault is `UnknownPrefix` just where a prefixed name stands whose prefix isn't declared before it, and
+/// `Relative` just where none does and a reference without a scheme stands while no base is in force. Its
+/// line is that of the first such name; the search for one comes to the end of the lexemes where there is
+/// none.
+pub fn faulty_names_are_found()
+    ensures unknown_in_updates { names.UnknownInUpdates }
+    ensures relative_in_updates { names.RelativeInUpdates }
+    ensures unknown_in_queries { names.UnknownInQueries }
+    ensures relative_in_queries { names.RelativeInQueries }
 {}
 
 /// Where the static rules are kept no quad of the data is lost.

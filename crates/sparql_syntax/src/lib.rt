@@ -7,6 +7,7 @@
 
 mod draft;
 mod fault;
+mod faulty_name;
 mod known;
 mod labels;
 mod laws;
@@ -20,7 +21,8 @@ mod text;
 
 pub use fault::{SyntaxFault, SyntaxFaultKind};
 pub use laws::{
-    data_are_quads, delete_where_is_its_group, labels_are_shared, one_query, one_request,
+    data_are_quads, delete_where_is_its_group, faulty_names_are_found, labels_are_shared,
+    one_query, one_request,
 };
 pub use operation::blank_numbers_are_below;
 pub use query::{read_query, read_query_with};

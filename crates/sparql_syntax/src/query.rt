@@ -91,7 +91,7 @@ fn read_text(
     };
     let said = match said_by(alloc, vocabulary, base, &tree) {
         Ok(said) => said,
-        Err(fault) => return Err(name_fault(text.as_bytes(), fault)),
+        Err(fault) => return Err(name_fault(alloc, text, base.is_some(), fault)),
     };
     query_of(alloc, text, said)
 }

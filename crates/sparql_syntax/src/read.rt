@@ -95,7 +95,7 @@ fn read_text(
     };
     let drafts = match drafts_of(alloc, vocabulary, base, tree.into_vec()) {
         Ok(drafts) => drafts,
-        Err(fault) => return Err(name_fault(text.as_bytes(), fault)),
+        Err(fault) => return Err(name_fault(alloc, text, base.is_some(), fault)),
     };
     request_of(alloc, text, drafts)
 }

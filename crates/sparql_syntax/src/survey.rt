@@ -47,8 +47,8 @@ fn first_left_out(
     }
 }
 
-// The terminal of a slice of the text that is a token of that kind.
-fn terminal_of(kind: Kind, slice: &Slice<'_>) -> Terminal
+/// The terminal of a slice of the text that is a token of that kind.
+pub(crate) fn terminal_of(kind: Kind, slice: &Slice<'_>) -> Terminal
     ensures { result ≡ spec.terminal_of kind slice.now }
 {
     Terminal::of(kind, slice.as_str())

@@ -1,10 +1,14 @@
 //! The faults of a text, by their places.
 ghost use Rattle.std.specs.Prelude.{◌≡◌};
+ghost use Rattle.sparql_syntax.specs.NamePlaces as places;
+ghost use Rattle.sparql_syntax.specs.NamePlaces.{IsNameFault};
 ghost use Rattle.sparql_syntax.specs.Survey.{IsStop};
 ghost use Rattle.sparql_syntax.specs.Told as spec;
 
 use crate::fault::{SyntaxFault, SyntaxFaultKind};
+use crate::faulty_name::{first_lacking, first_unbound};
 use rdf_grammar::{GrammarFault, PrologueFault, start_of};
+use rdf_terms::NoMemory;
 use rdf_tokens::line_at;
 use sparql_terminals::Parser;
 use std::alloc::Global;
@@ -40,15 +44,35 @@ pub(crate) fn stop_fault(alloc: Global, text: &str, fault: GrammarFault, left: u
     }
 }
 
-/// The fault of a name, at the line where it stands.
-pub(crate) fn name_fault(text: &[u8], fault: PrologueFault) -> SyntaxFault
-    ensures { result ≡ spec.name_fault text.now fault }
+// The fault at the place that was found, or want of memory.
+fn at_place(text: &str, kind: SyntaxFaultKind, place: Result<usize, NoMemory>) -> SyntaxFault
+    ensures { result ≡ places.at_place text.now kind place }
+{
+    match place {
+        Ok(start) => fault_at(text.as_bytes(), kind, start),
+        Err(refused) => SyntaxFault::from(refused),
+    }
+}
+
+/// The fault of a text that has a name without an IRI, in the line of the first such name, against a base or
+/// none; or want of memory.
+pub(crate) fn name_fault(
+    alloc: Global,
+    text: &str,
+    based: bool,
+    fault: PrologueFault,
+) -> SyntaxFault
+    ensures { IsNameFault text.now based fault result }
 {
     match fault {
-        PrologueFault::UnknownPrefix(start) => {
-            fault_at(text, SyntaxFaultKind::UnknownPrefix, start)
+        PrologueFault::UnknownPrefix(_) => {
+            let place = first_unbound(alloc, text);
+            at_place(text, SyntaxFaultKind::UnknownPrefix, place)
         }
-        PrologueFault::Relative(start) => fault_at(text, SyntaxFaultKind::Relative, start),
+        PrologueFault::Relative(_) => {
+            let place = first_lacking(alloc, based, text);
+            at_place(text, SyntaxFaultKind::Relative, place)
+        }
         PrologueFault::NoMemory(refused) => SyntaxFault::from(refused),
     }
 }

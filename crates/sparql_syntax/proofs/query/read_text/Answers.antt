@@ -3,6 +3,7 @@ use Rattle.std.specs.Option.{option_copied}
 use Rattle.sparql_queries.specs.Known.{known_query}
 use Rattle.sparql_queries.specs.Queries.{query_in, IsFaultOf}
 use Rattle.sparql_syntax.specs.Query.{HasTree}
+use Rattle.sparql_syntax.proofs.NameWalks.{some_copied}
 use Rattle.sparql_syntax.proofs.QueryLemmas.{name_told, all_told, tree_proper}
 use Rattle.sparql_syntax.proofs.query.read_text.Goals as goal
 
@@ -19,7 +20,7 @@ returns-in-Err-said_by c =
     let base = option_copied c.args.base in
     let tree : HasTree c.args.text.now c.in-Ok.tree = search rules in
     let told : IsFaultOf base c.in-Ok.tree c.in-Err-said_by.fault = search rules in
-    name_told base c.args.text.now c.in-Ok.tree c.in-Err-said_by.fault c.name_fault.result tree told (search rules)
+    name_told base c.is_some.result c.args.text.now c.in-Ok.tree c.in-Err-said_by.fault c.name_fault.result (some_copied c.args.base c.is_some.result c.is_some.ensures) tree told c.name_fault.ensures
 
 pub returns : goal.returns
 returns c =

@@ -6,6 +6,7 @@ use Rattle.sparql_grammar.specs.Proper.{holds, proper_part}
 use Rattle.sparql_syntax.specs.Kept.{IsFaultOf}
 use Rattle.sparql_syntax.specs.Meaning.{answer}
 use Rattle.sparql_syntax.specs.Update.{HasTree}
+use Rattle.sparql_syntax.proofs.NameWalks.{some_copied}
 use Rattle.sparql_syntax.proofs.ReadLemmas.{name_told, all_told, tree_proper}
 use Rattle.sparql_syntax.proofs.RequestLemmas.{drafts_below}
 use Rattle.sparql_syntax.proofs.read.read_text.Goals as goal
@@ -24,7 +25,7 @@ returns-in-Err-drafts_of c =
     let tree : HasTree c.args.text.now c.in-Ok.tree = search rules in
     let told : IsFaultOf (answer base c.into_vec.result.items) c.in-Err-drafts_of.fault = search rules in
     let is = subst (λ (t : List Part). IsFaultOf (answer base t) c.in-Err-drafts_of.fault) c.into_vec.ensures told in
-    name_told base c.args.text.now c.in-Ok.tree c.in-Err-drafts_of.fault c.name_fault.result tree is (search rules)
+    name_told base c.is_some.result c.args.text.now c.in-Ok.tree c.in-Err-drafts_of.fault c.name_fault.result (some_copied c.args.base c.is_some.result c.is_some.ensures) tree is c.name_fault.ensures
 
 pub request_of-requires : goal.request_of-requires
 request_of-requires c =

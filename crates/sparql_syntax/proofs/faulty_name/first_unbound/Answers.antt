@@ -1,0 +1,25 @@
+use Rattle.std.proofs.Common.{rules, ◌≡◌, ◌∙◌, ap, [], ◌∷◌, true, length}
+use Rattle.sparql_syntax.specs.FaultyNames.{is_unbound}
+use Rattle.sparql_terminals.specs.Terminals.{terminal_of}
+use Rattle.sparql_syntax.proofs.NameWalks.{unbound_start, unbound_starts, here}
+use Rattle.sparql_syntax.proofs.faulty_name.first_unbound.Goals as goal
+
+pub returns-then-is_unbound : goal.returns-then-is_unbound
+returns-then-is_unbound c =
+    let l = c.loop-found in
+    let found : is_unbound l.declares l.bound.keys (terminal_of c.in-Token.kind c.in-Token.name) c.in-Token.name ≡ true =
+    cc (c.if-is_unbound.ensures, c.terminal_of-terminal.ensures) in
+    unbound_starts c.args.text.now c.over-walk.result c.in-Token.start c.over-walk.ensures
+    (l.invariant ∙ ap (unbound_start (length c.args.text.now) l.declares l.bound.keys) (c.in-Some.ensures ∙ ap (λ f. f ∷ c.next.new.self) c.in-Token.is) ∙ here _ _ _ found)
+
+pub returns-in-NoToken : goal.returns-in-NoToken
+returns-in-NoToken c =
+    let l = c.loop-found in
+    unbound_starts c.args.text.now c.over-walk.result _ c.over-walk.ensures
+    (l.invariant ∙ ap (unbound_start (length c.args.text.now) l.declares l.bound.keys) (c.in-Some.ensures ∙ ap (λ f. f ∷ c.next.new.self) c.in-NoToken.is))
+
+pub returns : goal.returns
+returns c =
+    let l = c.loop-found in
+    let end : l.walk ≡ [] = search rules in
+    unbound_starts c.args.text.now c.over-walk.result _ c.over-walk.ensures (l.invariant ∙ ap (unbound_start (length c.args.text.now) l.declares l.bound.keys) end)

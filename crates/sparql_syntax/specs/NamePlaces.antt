@@ -1,0 +1,33 @@
+-- Where the first name without an IRI stands, and the fault that is told of it.
+use Rattle.std.specs.Prelude.{◌≡◌, ℕ, Bool, List, Result, Ok, Err, IfOk}
+use Rattle.rdf_grammar.specs.Walks.{start_of}
+use Rattle.rdf_grammar.specs.declared.prologue.PrologueFault.{PrologueFault}
+use Rattle.rdf_grammar.specs.declared.prologue.PrologueFault.TheVariants as name
+use Rattle.rdf_terms.specs.declared.fault.NoMemory.{NoMemory}
+use Rattle.rdf_tokens.specs.declared.token.Token.{Token}
+use Rattle.sparql_terminals.specs.Lexemes.{Lexemes}
+use Rattle.sparql_syntax.specs.declared.fault.SyntaxFault.{SyntaxFault}
+use Rattle.sparql_syntax.specs.declared.fault.SyntaxFaultKind.{SyntaxFaultKind}
+use Rattle.sparql_syntax.specs.declared.fault.SyntaxFaultKind.TheVariants as kind
+use Rattle.sparql_syntax.specs.FaultyNames.{first_unbound, first_lacking}
+use Rattle.sparql_syntax.specs.Phases.{HasTokens}
+use Rattle.sparql_syntax.specs.Told.{fault_at, wants_memory}
+
+-- Where the text has tokens, the one of that number starts there, or the text ends there.
+abbrev pub StartsAt : List ℕ → (Lexemes → ℕ) → ℕ → Type 0
+StartsAt text number place = (tokens : List Token) (lexemes : Lexemes) → HasTokens text tokens lexemes → place ≡ start_of text tokens (number lexemes)
+
+-- the fault at the place that was found, or want of memory
+abbrev pub at_place : List ℕ → SyntaxFaultKind → Result ℕ NoMemory → SyntaxFault
+at_place text k (Ok start) = fault_at text k start
+at_place text k (Err refused) = wants_memory refused
+
+-- it is told at the first such name, unless memory was wanting
+abbrev pub IsAtFirst : List ℕ → SyntaxFaultKind → (Lexemes → ℕ) → SyntaxFault → Type 0
+IsAtFirst text k number f = (place : Result ℕ NoMemory) × IfOk place (λ start. StartsAt text number start) × (f ≡ at_place text k place)
+
+-- the fault of a text for that of a name, against a base or none
+abbrev pub IsNameFault : List ℕ → Bool → PrologueFault → SyntaxFault → Type 0
+IsNameFault text based (name.UnknownPrefix start) f = IsAtFirst text kind.UnknownPrefix first_unbound f
+IsNameFault text based (name.Relative start) f = IsAtFirst text kind.Relative (first_lacking based) f
+IsNameFault text based (name.NoMemory refused) f = f ≡ wants_memory refused
