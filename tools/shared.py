@@ -202,22 +202,27 @@ def processes():
     return found
 
 
-def run(words, folder, hear=lambda line: None, until=math.inf):
-    """Runs a command in a session of its own, which ends at the time `until`, and returns its status, what it says, and the processor seconds of all that
-    it ran. `hear` is told each line."""
+def run(words, folder, hear=lambda line: None, until=math.inf, late=lambda: None):
+    """Runs a command in a session of its own, which ends at the time `until`, behind a call of `late`, and returns its status, what it says, and the
+    processor seconds of all that it ran. `hear` is told each line."""
     streams = {"stdin": subprocess.DEVNULL, "stdout": subprocess.PIPE, "stderr": subprocess.STDOUT, "errors": "replace"}
     process, said = subprocess.Popen([str(it) for it in words], cwd=folder, start_new_session=True, **streams), []
     with contextlib.suppress(OSError):
         # (Linux may give each session the same share of the processors: what is nice has to be said of the session)
         pathlib.Path("/proc", str(process.pid), "autogroup").write_text(str(os.nice(0)))
-    late = threading.Timer(min(max(0, until - time.time()), threading.TIMEOUT_MAX), os.killpg, (process.pid, signal.SIGKILL))
+
+    def end():
+        late()
+        os.killpg(process.pid, signal.SIGKILL)
+
+    timer = threading.Timer(min(max(0, until - time.time()), threading.TIMEOUT_MAX), end)
     try:
-        late.start()
+        timer.start()
         for line in process.stdout:
             said.append(line)
             hear(line.rstrip("\n"))
     finally:
-        late.cancel()
+        timer.cancel()
     _, status, usage = os.wait4(process.pid, 0)
     process.returncode = os.WEXITSTATUS(status) if os.WIFEXITED(status) else -os.WTERMSIG(status)
     return process.returncode, "".join(said), usage.ru_utime + usage.ru_stime
@@ -251,18 +256,47 @@ def need(crate, root=ROOT):
     return max(2.5e9, 1.2e9 + 0.8e6 * lines_of(crate, root))
 
 
-def side_by_side(coming, lanes):
-    """Runs tasks, as many as there are lanes and free memory, the least order first: those that a call gives, until it gives None, and what tasks return."""
+def idle_seconds():
+    """How long this process's processors have stood idle since the machine began, all together."""
+    own = {f"cpu{it}" for it in os.sched_getaffinity(0)}
+    rows = [line.split() for line in pathlib.Path("/proc/stat").read_text().splitlines()]
+    return sum(int(it[4]) for it in rows if it[0] in own) / os.sysconf("SC_CLK_TCK")
+
+
+class Spare:
+    """What a run that goes first leaves: whether one more task may begin beside it."""
+
+    # how long a processor stands idle before, and the memory that stays free, in which that run's largest crate finds room
+    SECONDS, MEMORY = 10, 6e9
+
+    def __init__(self, is_over):
+        self.is_over, self.since = is_over, (time.time(), idle_seconds())
+
+    def __call__(self, left):
+        """Whether a task may begin that leaves so much memory free."""
+        is_over, now = self.is_over(), (time.time(), idle_seconds())
+        watched, idle = (it - was for it, was in zip(now, self.since))
+        if is_over or watched < self.SECONDS or left < self.MEMORY:
+            return is_over
+        # (what begins, or what asked long ago, has the processors watched anew)
+        self.since = now
+        return watched < 3 * self.SECONDS and idle >= 0.9 * watched
+
+
+def side_by_side(coming, lanes, may_begin=lambda left: True):
+    """Runs tasks, as many as there are lanes and free memory, the least order first: those that a call gives, until it gives None, and what tasks return.
+    `may_begin` is told of each how much memory it would leave free."""
     pool, tasks, running, more = ThreadPoolExecutor(lanes), [], {}, []
     while tasks or running or more is not None:
         more = coming() if more is not None else None
         tasks = sorted([*tasks, *(more or [])], key=lambda it: it.order)
         for task in [*tasks]:
             # (what runs may not have all of its memory yet)
-            if len(running) < lanes and (not running or task.memory <= 0.85 * free_memory() - sum(running.values()) / 2):
+            left = 0.85 * free_memory() - sum(running.values()) / 2 - task.memory
+            if len(running) < lanes and (not running or left >= 0) and may_begin(left):
                 tasks.remove(task)
                 running[pool.submit(task.call)] = task.memory
-        if not running and more is not None:
+        if not running and (tasks or more is not None):
             time.sleep(2)
         for ended in wait(running, 2, FIRST_COMPLETED).done:
             del running[ended]
