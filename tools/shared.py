@@ -7,6 +7,8 @@ ROOT = pathlib.Path(__file__).resolve().parents[1]
 KEPT = ("out/rlib", "out/incremental")
 # copies stand beside what they link to, wherever /tmp is: those of each process in a folder of its own
 COPIES = ROOT / "out" / "copies"
+# has a command end where what waits for it does, however that ends
+ENDS_WITH_US = ("setpriv", "--pdeathsig", "KILL", "--")
 RT = os.environ.get("RT", "rt")
 # a task: the least order starts first; its memory in bytes; a call that gives a list of further tasks
 Task = collections.namedtuple("Task", "order memory call")
@@ -157,56 +159,11 @@ def put(new, place):
     shutil.rmtree(old, ignore_errors=True)
 
 
-def guard():
-    """Has a process wait for this one's end, however it ends, and then end all that this one started, and take away its copies."""
-    name, own = f"RDFKEEP_{os.getpid()}_{time.time_ns()}".encode(), COPIES / str(os.getpid())
-    os.environb[name] = b"1"
-    for it in COPIES.glob("*"):
-        # (what an earlier one left that ended together with the process that waited for it)
-        if not pathlib.Path("/proc", it.name).exists():
-            shutil.rmtree(it, ignore_errors=True)
-    for it in (signal.SIGTERM, signal.SIGHUP):
-        if signal.getsignal(it) != signal.SIG_IGN:
-            signal.signal(it, signal.default_int_handler)
-    end, held = os.pipe()
-    if os.fork():
-        return os.close(end)
-    os.setsid()
-    os.close(held)
-    for stream in range(3):
-        os.dup2(os.open(os.devnull, os.O_RDWR), stream)
-    os.read(end, 1)
-    started = [name]
-    while started:
-        there = processes()
-        started = below = {it for it, (_, environment) in there.items() if name in environment}
-        while below:
-            below = {it for it, (parent, _) in there.items() if parent in below}
-            started = started | below
-        for it in started:
-            with contextlib.suppress(OSError):
-                os.kill(it, signal.SIGKILL)
-        time.sleep(0.1)
-    shutil.rmtree(own, ignore_errors=True)
-    os._exit(0)
-
-
-def processes():
-    """Each process that can be seen and hasn't ended, by number: its parent's number, and the environment that it began with."""
-    found = {}
-    for at in pathlib.Path("/proc").glob("[0-9]*"):
-        with contextlib.suppress(OSError):
-            state, parent = (at / "stat").read_text().rpartition(")")[2].split()[:2]
-            if state not in "ZX":
-                found[int(at.name)] = int(parent), (at / "environ").read_bytes()
-    return found
-
-
 def run(words, folder, hear=lambda line: None, until=math.inf, late=lambda: None):
     """Runs a command in a session of its own, which ends at the time `until`, behind a call of `late`, and returns its status, what it says, and the
     processor seconds of all that it ran. `hear` is told each line."""
     streams = {"stdin": subprocess.DEVNULL, "stdout": subprocess.PIPE, "stderr": subprocess.STDOUT, "errors": "replace"}
-    process, said = subprocess.Popen([str(it) for it in words], cwd=folder, start_new_session=True, **streams), []
+    process, said = subprocess.Popen([*ENDS_WITH_US, *map(str, words)], cwd=folder, start_new_session=True, **streams), []
     with contextlib.suppress(OSError):
         # (Linux may give each session the same share of the processors: what is nice has to be said of the session)
         pathlib.Path("/proc", str(process.pid), "autogroup").write_text(str(os.nice(0)))
@@ -304,8 +261,13 @@ def side_by_side(coming, lanes, may_begin=lambda left: True):
 
 
 def ends(main):
-    """Runs a tool, and ends with its status, at once also where it is interrupted or fails."""
-    guard()
+    """Runs a tool, and ends with its status, at once also where it is interrupted or fails: its copies go then as the next one begins."""
+    for it in COPIES.glob("*"):
+        if not pathlib.Path("/proc", it.name).exists():
+            shutil.rmtree(it, ignore_errors=True)
+    for it in (signal.SIGTERM, signal.SIGHUP):
+        if signal.getsignal(it) != signal.SIG_IGN:
+            signal.signal(it, signal.default_int_handler)
     said = ""
     try:
         status = main() or 0
@@ -317,4 +279,6 @@ def ends(main):
         status, said = 1, traceback.format_exc()
     print(said, end="\n" if said else "", file=sys.stderr, flush=True)
     sys.stdout.flush()
+    with contextlib.suppress(OSError):
+        (COPIES / str(os.getpid())).rmdir()
     os._exit(status)
