@@ -5,7 +5,7 @@
 #                  many wrong bodies as can be judged: those that changed last first; proofs that aren't done at minute 165 are named, and fail
 #   make gate      the same with all wrong bodies, in hours on few processors: before a release
 #
-# A second call does nothing again that is done.
+# A second call proves nothing again that is proved.
 
 .PHONY: all test gate clean
 
