@@ -2,10 +2,10 @@
 #
 #   make           the program, proved and built, at ./rdfkeep
 #   make test      every proof and test, every refused allocation and where a refusal may come of, every file test, and within 150 minutes as
-#                  many wrong bodies as can be judged: those that changed last first
+#                  many wrong bodies as can be judged: those that changed last first; proofs that aren't done at minute 165 are named, and fail
 #   make gate      the same with all wrong bodies, in hours on few processors: before a release
 #
-# A second call does nothing again that is done.
+# A second call proves nothing again that is proved.
 
 .PHONY: all test gate clean
 
@@ -22,7 +22,7 @@ rdfkeep: $(SOURCES) out/sources
 	@cp crates/rdfkeep/out/rdfkeep rdfkeep.new && mv rdfkeep.new rdfkeep
 
 test:
-	@tools/test-all
+	@tools/test-all --end 165
 
 gate:
 	@tools/test-all --all

@@ -35,9 +35,6 @@ class Case:
     def run(self, number, course):
         return self.program.run(self.words, self.text, number, course)
 
-    def refusals(self, untouched):
-        return [(course, number) for course in COURSES for number in range(1, untouched.counted + 1)]
-
 
 def is_refused(course, it):
     """Whether a run's refusal came."""
@@ -50,7 +47,9 @@ def report(tool, cases, kind=""):
     with ThreadPoolExecutor(processors()) as lanes:
         for case in cases:
             untouched = case.run(0, "alone")
-            made = {(course, number): lanes.submit(case.run, number, course) for course, number in case.refusals(untouched)}
+            # (what takes no memory is run with the first refused, which doesn't come)
+            numbers = range(1, max(untouched.counted, 1) + 1)
+            made = {(course, number): lanes.submit(case.run, number, course) for course in COURSES for number in numbers}
             faults += [f"{kind}{case.name}: {it}" for it in case.wrong(untouched, {key: it.result() for key, it in made.items()})]
             runs += len(made)
             counts.append(f"{case.name} {untouched.counted}")

@@ -123,12 +123,6 @@ class Edit:
         if len(self.functions) != 1:
             self.why = self.why or f"no one function of the crate is its law: {self.law or 'it names none'}"
 
-    def learn(self):
-        """Notes in the edit's file which goals need not be tried, where it is refused at more than one."""
-        if len(self.open) > 1 and not self.beside:
-            shown = min(self.open, key=lambda goal: "limits" in self.open[goal])
-            self.path.write_text(self.text.rstrip("\n") + f"\n# also at: {', '.join(it for it in self.open if it != shown)}\n")
-
     def folders(self):
         """The folders of proofs/ in which its functions' answers stand: of a cycle of calls it is one, beside those of its functions."""
         own = [it.split("::", 1)[1].replace("::", "/") for it in self.symbols]

@@ -7,6 +7,8 @@ ROOT = pathlib.Path(__file__).resolve().parents[1]
 KEPT = ("out/rlib", "out/incremental")
 # copies stand beside what they link to, wherever /tmp is: those of each process in a folder of its own
 COPIES = ROOT / "out" / "copies"
+# has a command end where what waits for it does, however that ends
+ENDS_WITH_US = ("setpriv", "--pdeathsig", "KILL", "--")
 RT = os.environ.get("RT", "rt")
 # a task: the least order starts first; its memory in bytes; a call that gives a list of further tasks
 Task = collections.namedtuple("Task", "order memory call")
@@ -157,67 +159,27 @@ def put(new, place):
     shutil.rmtree(old, ignore_errors=True)
 
 
-def guard():
-    """Has a process wait for this one's end, however it ends, and then end all that this one started, and take away its copies."""
-    name, own = f"RDFKEEP_{os.getpid()}_{time.time_ns()}".encode(), COPIES / str(os.getpid())
-    os.environb[name] = b"1"
-    for it in COPIES.glob("*"):
-        # (what an earlier one left that ended together with the process that waited for it)
-        if not pathlib.Path("/proc", it.name).exists():
-            shutil.rmtree(it, ignore_errors=True)
-    for it in (signal.SIGTERM, signal.SIGHUP):
-        if signal.getsignal(it) != signal.SIG_IGN:
-            signal.signal(it, signal.default_int_handler)
-    end, held = os.pipe()
-    if os.fork():
-        return os.close(end)
-    os.setsid()
-    os.close(held)
-    for stream in range(3):
-        os.dup2(os.open(os.devnull, os.O_RDWR), stream)
-    os.read(end, 1)
-    started = [name]
-    while started:
-        there = processes()
-        started = below = {it for it, (_, environment) in there.items() if name in environment}
-        while below:
-            below = {it for it, (parent, _) in there.items() if parent in below}
-            started = started | below
-        for it in started:
-            with contextlib.suppress(OSError):
-                os.kill(it, signal.SIGKILL)
-        time.sleep(0.1)
-    shutil.rmtree(own, ignore_errors=True)
-    os._exit(0)
-
-
-def processes():
-    """Each process that can be seen and hasn't ended, by number: its parent's number, and the environment that it began with."""
-    found = {}
-    for at in pathlib.Path("/proc").glob("[0-9]*"):
-        with contextlib.suppress(OSError):
-            state, parent = (at / "stat").read_text().rpartition(")")[2].split()[:2]
-            if state not in "ZX":
-                found[int(at.name)] = int(parent), (at / "environ").read_bytes()
-    return found
-
-
-def run(words, folder, hear=lambda line: None, until=math.inf):
-    """Runs a command in a session of its own, which ends at the time `until`, and returns its status, what it says, and the processor seconds of all that
-    it ran. `hear` is told each line."""
+def run(words, folder, hear=lambda line: None, until=math.inf, late=lambda: None):
+    """Runs a command in a session of its own, which ends at the time `until`, behind a call of `late`, and returns its status, what it says, and the
+    processor seconds of all that it ran. `hear` is told each line."""
     streams = {"stdin": subprocess.DEVNULL, "stdout": subprocess.PIPE, "stderr": subprocess.STDOUT, "errors": "replace"}
-    process, said = subprocess.Popen([str(it) for it in words], cwd=folder, start_new_session=True, **streams), []
+    process, said = subprocess.Popen([*ENDS_WITH_US, *map(str, words)], cwd=folder, start_new_session=True, **streams), []
     with contextlib.suppress(OSError):
         # (Linux may give each session the same share of the processors: what is nice has to be said of the session)
         pathlib.Path("/proc", str(process.pid), "autogroup").write_text(str(os.nice(0)))
-    late = threading.Timer(min(max(0, until - time.time()), threading.TIMEOUT_MAX), os.killpg, (process.pid, signal.SIGKILL))
+
+    def end():
+        late()
+        os.killpg(process.pid, signal.SIGKILL)
+
+    timer = threading.Timer(min(max(0, until - time.time()), threading.TIMEOUT_MAX), end)
     try:
-        late.start()
+        timer.start()
         for line in process.stdout:
             said.append(line)
             hear(line.rstrip("\n"))
     finally:
-        late.cancel()
+        timer.cancel()
     _, status, usage = os.wait4(process.pid, 0)
     process.returncode = os.WEXITSTATUS(status) if os.WIFEXITED(status) else -os.WTERMSIG(status)
     return process.returncode, "".join(said), usage.ru_utime + usage.ru_stime
@@ -251,18 +213,47 @@ def need(crate, root=ROOT):
     return max(2.5e9, 1.2e9 + 0.8e6 * lines_of(crate, root))
 
 
-def side_by_side(coming, lanes):
-    """Runs tasks, as many as there are lanes and free memory, the least order first: those that a call gives, until it gives None, and what tasks return."""
+def idle_seconds():
+    """How long this process's processors have stood idle since the machine began, all together."""
+    own = {f"cpu{it}" for it in os.sched_getaffinity(0)}
+    rows = [line.split() for line in pathlib.Path("/proc/stat").read_text().splitlines()]
+    return sum(int(it[4]) for it in rows if it[0] in own) / os.sysconf("SC_CLK_TCK")
+
+
+class Spare:
+    """What a run that goes first leaves: whether one more task may begin beside it."""
+
+    # how long a processor stands idle before, and the memory that stays free, in which that run's largest crate finds room
+    SECONDS, MEMORY = 10, 6e9
+
+    def __init__(self, is_over):
+        self.is_over, self.since = is_over, (time.time(), idle_seconds())
+
+    def __call__(self, left):
+        """Whether a task may begin that leaves so much memory free."""
+        is_over, now = self.is_over(), (time.time(), idle_seconds())
+        watched, idle = (it - was for it, was in zip(now, self.since))
+        if is_over or watched < self.SECONDS or left < self.MEMORY:
+            return is_over
+        # (what begins, or what asked long ago, has the processors watched anew)
+        self.since = now
+        return watched < 3 * self.SECONDS and idle >= 0.9 * watched
+
+
+def side_by_side(coming, lanes, may_begin=lambda left: True):
+    """Runs tasks, as many as there are lanes and free memory, the least order first: those that a call gives, until it gives None, and what tasks return.
+    `may_begin` is told of each how much memory it would leave free."""
     pool, tasks, running, more = ThreadPoolExecutor(lanes), [], {}, []
     while tasks or running or more is not None:
         more = coming() if more is not None else None
         tasks = sorted([*tasks, *(more or [])], key=lambda it: it.order)
         for task in [*tasks]:
             # (what runs may not have all of its memory yet)
-            if len(running) < lanes and (not running or task.memory <= 0.85 * free_memory() - sum(running.values()) / 2):
+            left = 0.85 * free_memory() - sum(running.values()) / 2 - task.memory
+            if len(running) < lanes and (not running or left >= 0) and may_begin(left):
                 tasks.remove(task)
                 running[pool.submit(task.call)] = task.memory
-        if not running and more is not None:
+        if not running and (tasks or more is not None):
             time.sleep(2)
         for ended in wait(running, 2, FIRST_COMPLETED).done:
             del running[ended]
@@ -270,8 +261,13 @@ def side_by_side(coming, lanes):
 
 
 def ends(main):
-    """Runs a tool, and ends with its status, at once also where it is interrupted or fails."""
-    guard()
+    """Runs a tool, and ends with its status, at once also where it is interrupted or fails: its copies go then as the next one begins."""
+    for it in COPIES.glob("*"):
+        if not pathlib.Path("/proc", it.name).exists():
+            shutil.rmtree(it, ignore_errors=True)
+    for it in (signal.SIGTERM, signal.SIGHUP):
+        if signal.getsignal(it) != signal.SIG_IGN:
+            signal.signal(it, signal.default_int_handler)
     said = ""
     try:
         status = main() or 0
@@ -283,4 +279,6 @@ def ends(main):
         status, said = 1, traceback.format_exc()
     print(said, end="\n" if said else "", file=sys.stderr, flush=True)
     sys.stdout.flush()
+    with contextlib.suppress(OSError):
+        (COPIES / str(os.getpid())).rmdir()
     os._exit(status)
