@@ -9,8 +9,8 @@ use crate::order::Key;
 use std::cmp::Ordering;
 use std::marker::Model;
 
-/// A key whose numbers each fit 32 bits, which contracts see as their list. Two of them are compared in
-/// a few instructions, where arrays take over a hundred.
+/// A key whose numbers each fit 32 bits, which contracts see as their list. Two of them are compared
+/// without a loop, as arrays aren't.
 #[derive(Clone, Copy)]
 pub(crate) struct NarrowKey {
     graph: u32,

@@ -43,7 +43,7 @@ use Rattle.sparql_solve.specs.Under.{binds_none, is_unit, is_served, below, mask
 use Rattle.sparql_solve.proofs.SideLemmas.{same_all, all_give, times_once, sum_times, basic_look_up}
 use Rattle.sparql_solve.proofs.MemberLemmas.{extended_push, union_is, once_for_all}
 use Rattle.sparql_solve.proofs.MinusLemmas.{all_left}
-use Rattle.sparql_solve.proofs.SharedLemmas.{bound_above, merges_again, replicate_none, below_none, merges_none, below_masked, length_masked, masked_cut, shared, SameBag-kept}
+use Rattle.sparql_solve.proofs.SharedLemmas.{bound_above, merges_again, replicate_none, below_none, merges_none, below_masked, length_masked, masked_cut, shared, SameBag-met, SameBag-kept}
 
 -- ---- lengths
 
@@ -405,6 +405,27 @@ module _ (vs : Variables) (s : State) where
       e f ∙ ap (λ (ys : List Mapping). sum_by f (flat_map (λ x. agreeing (kept vs k x (merges (met k x ys) x)) a) rows)) eg
       ∙ all_give (is_wide vs) (λ x. agreeing (kept vs k x (merges (met k x found) x)) a) (made vs d g a k) rows w
       (λ x wx. shared vs a nothing x (wide ∙ sym (wide_from vs x wx)) (below_none nothing x none) k found (element_solutions vs d g k) bag) f
+
+  element_wide : (d : Listing) (g : GraphName) (k : Element) → list_all (has_length (length vs)) (element_solutions vs d g k) ≡ true
+  element_wide d g (joined A) = solutions_length vs d g A
+  element_wide d g (optional F A) = solutions_length vs d g A
+  element_wide d g (removed A) = solutions_length vs d g A
+
+  -- with what was looked up once for all rows
+  pub made_once : (g : GraphName) (a : Mapping) (k : Element) (l : LookUp) (rows : List Mapping) (nothing : Mapping) (there given out : List Mapping) →
+      nothing ≡ replicate (length vs + 0) None → IsLookUpOf vs s l (λ d. element_solutions vs d g k) → AreSolutions s there (λ d. found vs d l nothing) → given ≡ there →
+      SameBag out (flat_map (λ x. agreeing (kept vs k x (merges (met k x given) x)) a) rows) → AreMade vs s g a k rows out
+  made_once g a k l rows nothing there given out en gives h eg e ea w d p f =
+      let S : List Mapping = element_solutions vs d g k in
+      let more : length vs + 0 ≡ length vs = omega arith in
+      let wide : length nothing ≡ length vs = ap length en ∙ length-replicate {A = Option Term} (length vs + 0) None ∙ more in
+      let none : binds_none nothing ≡ true = ap binds_none en ∙ replicate_none (length vs + 0) in
+      let all : merges S nothing ≡ S = merges_none nothing S (length vs) none wide (element_wide d g k) in
+      let bag : SameBag there S = λ f2. h d p f2 ∙ gives d p nothing wide f2 ∙ ap (sum_by f2) all in
+      e f ∙ ap (λ (ys : List Mapping). sum_by f (flat_map (λ x. agreeing (kept vs k x (merges (met k x ys) x)) a) rows)) eg
+      ∙ all_give (is_wide vs) (λ x. agreeing (kept vs k x (merges (met k x there) x)) a) (made vs d g a k) rows w
+      (λ x wx. SameBag-filter (compatible a) (kept vs k x (merges (met k x there) x)) (kept vs k x (merges (met k x S) x))
+      (SameBag-kept vs k x (merges (met k x there) x) (merges (met k x S) x) (SameBag-merges x (met k x there) (met k x S) (SameBag-met k x there S bag)))) f
 
   -- the first member of a group
   pub made_first : (g : GraphName) (a : Mapping) (k : Element) (rows out : List Mapping) → is_unit rows ≡ true → is_joined k ≡ true →

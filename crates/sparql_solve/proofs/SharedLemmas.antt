@@ -245,7 +245,7 @@ SameBag-where_none x [] (y ∷ B) r = absurd (omega (arith, r (λ _. 1), sum_by-
 SameBag-where_none x (y ∷ A) [] r = absurd (omega (arith, r (λ _. 1), sum_by-cons (λ (_ : Mapping). 1) y A))
 SameBag-where_none x (y ∷ A) (z ∷ B) r = SameBag-refl []
 
-SameBag-met : (k : Element) (x : Mapping) (A B : List Mapping) → SameBag A B → SameBag (met k x A) (met k x B)
+pub SameBag-met : (k : Element) (x : Mapping) (A B : List Mapping) → SameBag A B → SameBag (met k x A) (met k x B)
 SameBag-met (joined P) x A B r = r
 SameBag-met (optional F P) x A B r = r
 SameBag-met (removed P) x A B r = SameBag-filter (shares x) A B r

@@ -20,6 +20,12 @@ const A_ROW_ALONE: u128 = 4;
 
 const AT_LEAST: u128 = 4096;
 
+// For how many rows at least a triple may be found that isn't asked for under any of them, and for how
+// many rows that is asked at all.
+const A_TRIPLE: usize = 8;
+
+const MANY: usize = 64;
+
 fn is_named_by(name: &VarOrIri, variable: &Text) -> bool {
     match name {
         VarOrIri::Variable(named) => named.cmp(variable).is_eq(),
@@ -149,6 +155,15 @@ pub(crate) fn served_len(asked: &Row, rows: &[Row], flags: &[bool]) -> usize
         len += 1;
     }
     len
+}
+
+/// How many triples a triple pattern may have at most that is found once for so many rows, and isn't
+/// looked up under each of them.
+pub(crate) fn few_beside(rows: usize) -> Option<usize> {
+    if rows < MANY {
+        return None;
+    }
+    Some(rows / A_TRIPLE)
 }
 
 /// Whether a member is followed no further: a basic graph pattern is to the end, another one as

@@ -13,10 +13,11 @@ ghost use Rattle.sparql_solve.specs.Under.{AreEnough, AreMade, IsLookUpFor, IsLo
 use crate::filters::filtered_rows;
 use crate::joins::{join, left_join, or_alone};
 use crate::look_ups::{Graphs, LookUp, found_rows, some_found};
+use crate::matching::few_quads_of;
 use crate::members::is_removed;
 use crate::minus::minus;
 use crate::rows::Row;
-use crate::sharing::{is_alike, served_len, stops_looking};
+use crate::sharing::{few_beside, is_alike, served_len, stops_looking};
 use rdf_dataset::Source;
 use rdf_terms::{GraphName, NoMemory, Text, Vocabulary};
 use sparql_trees::Member;
@@ -336,8 +337,53 @@ fn first_looked_up<S: Source>(
     Ok(Made { rows: made, done })
 }
 
-/// What a member makes of rows by look-ups under each of them, which have these columns. The rows
-/// that are left where look-ups stop may be found faster without.
+// Whether what is looked up is one triple pattern that has so few triples in the graph, whatever rows
+// bind, that these are found once for all of the rows. It looks at no more of them to see that.
+fn is_small<S: Source>(
+    alloc: Global,
+    source: &S,
+    look_up: &LookUp,
+    rows: usize,
+) -> Result<bool, NoMemory> {
+    let Graphs::One(graph) = &look_up.graphs else {
+        return Ok(false);
+    };
+    let [places] = look_up.places.as_slice() else {
+        return Ok(false);
+    };
+    let Some(most) = few_beside(rows) else {
+        return Ok(false);
+    };
+    let nothing = Row::empty(alloc, 0, 0)?;
+    let few = few_quads_of(alloc, graph, source, places, &nothing, most)?;
+    Ok(few.are_all)
+}
+
+// What a member makes of rows with what is looked up once for all of them, and joined by key.
+fn rows_found_once<S: Source>(
+    alloc: Global,
+    variables: &[Text],
+    vocabulary: &Vocabulary,
+    _graph: &GraphName,
+    source: &S,
+    rows: &[Row],
+    look_up: &LookUp,
+    member: &Member,
+    under: &Row,
+) -> Result<Vec<Row>, NoMemory>
+    requires { IsLookUpOf variables.now (S.contents source.now) look_up.now
+        (λ d. element_solutions variables.now d _graph.now (element member.now)) }
+    ensures { IfOk result (λ out. AreMade variables.now (S.contents source.now) _graph.now under.now
+        (element member.now) rows.now out.items) }
+{
+    let nothing = Row::empty(alloc, variables.len(), 0)?;
+    let found = found_rows(alloc, variables, source, look_up, &nothing)?;
+    rows_beside(alloc, variables, vocabulary, rows, &found, member, under)
+}
+
+/// What a member makes of rows by look-ups under each of them, which have these columns, or by one for
+/// all of them where it is small by itself. The rows that are left where look-ups stop may be found
+/// faster without.
 pub(crate) fn rows_looked_up<S: Source>(
     alloc: Global,
     variables: &[Text],
@@ -359,6 +405,15 @@ pub(crate) fn rows_looked_up<S: Source>(
     ensures { IfOk result (λ m. AreMade variables.now (S.contents source.now) graph.now under.now
         (element member.now) (take m.done rows.now) m.rows.items) }
 {
+    if is_small(alloc, source, look_up, rows.len())? {
+        let once = rows_found_once(
+            alloc, variables, vocabulary, graph, source, rows, look_up, member, under,
+        )?;
+        return Ok(Made {
+            rows: once,
+            done: rows.len(),
+        });
+    }
     let before = looked.get();
     let tries_names = tries_names(look_up);
     let mut out = Vec::new(alloc);

@@ -1,9 +1,16 @@
-use Rattle.std.proofs.Common.{◌≡◌, ◌<◌, ◌≤◌, ◌-◌, List, ap, take, drop, length, arith}
+use Rattle.std.proofs.Common.{◌≡◌, ◌<◌, ◌≤◌, ◌-◌, List, ap, sym, subst, take, drop, length, arith}
 use Rattle.std.proofs.lemmas.List.{take_all, length-drop}
 use Rattle.sparql_values.specs.Mapping.{Mapping}
 use Rattle.sparql_algebra.specs.Algebra.{element}
+use Rattle.sparql_solve.specs.Under.{AreMade}
 use Rattle.sparql_solve.proofs.FollowLemmas.{made_more, made_nothing}
 use Rattle.sparql_solve.proofs.sides.rows_looked_up.Goals as goal
+
+pub returns-then-branch : goal.returns-then-branch
+returns-then-branch g c =
+    let rows = c.args.rows.now in
+    subst (λ (xs : List Mapping). AreMade c.args.variables.now (g.S.Source.contents c.args.source.now) c.args.graph.now c.args.under.now
+    (element c.args.member.now) xs c.in_ok-once.once.items) (sym (take_all (length rows) rows (omega arith))) c.in_ok-once.ensures
 
 pub loop-done-init : goal.loop-done-init
 loop-done-init g c = record {
