@@ -6,9 +6,14 @@ ghost use Rattle.rdf_streams.specs.Conversion.Converts.{Converts};
 mod fault;
 mod gathered;
 mod held;
+mod line;
 mod lines;
+mod parts;
+mod pieces;
+mod predicates;
 mod triple_lines;
 mod turtle;
+mod writing;
 
 use crate::conversion::lines::convert_lines;
 use crate::conversion::turtle::convert_turtle;
