@@ -6,7 +6,7 @@ use crate::streams::{WriteFault, write_whole};
 use std::io::Write;
 
 // How many bytes are written at once at least, but for the last.
-const PIECE: usize = 65536;
+const PIECE: usize = 32768;
 
 /// Writes what was gathered.
 pub(crate) fn flush<W: Write>(writer: &mut W, gathered: &mut Vec<u8>) -> Result<(), WriteFault>

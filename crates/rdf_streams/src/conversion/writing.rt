@@ -14,8 +14,8 @@ use rdf_terms::{Iri, NoMemory};
 use std::alloc::Global;
 use std::io::Write;
 
-// How many bytes can be gathered without a growth: a piece, the longest subject and rest of a line, and some predicate.
-const ROOM: usize = 262144;
+// How many bytes are gathered without a growth: a piece, and a line that is no longer.
+const ROOM: usize = 65536;
 
 // Puts a line.
 fn put_line<W: Write>(
