@@ -24,6 +24,7 @@ use rdf_session::Format;
 use rdf_terms::Iri;
 use std::alloc::Global;
 use std::io::{Read, Write};
+pub(crate) use triple_lines::TripleLines;
 
 /// Writes each statement of a document, in its order, as a canonical line of N-Quads (RDF 1.1 N-Quads, section 4).
 /// A statement that stands twice is written twice. Blank nodes are numbered from 0 by first appearance.

@@ -1,6 +1,6 @@
 -- Lines of triples say these triples.
-use Rattle.std.proofs.Common.{◌≡◌, ◌∙◌, inl, inr, ap, refl, sym, subst, arith, true≢false, ℕ, ◌+◌, ◌<◌, ◌^◌, true, false, List, [], ◌∷◌, ◌++◌, codes, drop, length, length-append, append_assoc, map, Some, None, Ok, Err}
-use Rattle.std.specs.Prelude.{IsTrue, Result, OnOk, OnErr}
+use Rattle.std.proofs.Common.{◌≡◌, ◌∙◌, inl, inr, ap, refl, sym, subst, arith, true≢false, ℕ, ◌+◌, ◌<◌, ◌≤◌, ◌^◌, true, false, List, [], ◌∷◌, ◌++◌, codes, drop, length, length-append, append_assoc, map, Some, None, Ok, Err}
+use Rattle.std.specs.Prelude.{IsTrue, Result, OnErr}
 use Rattle.std.specs.List.{AllByRecursion}
 use Rattle.std.specs.Str.{all_ascii_digits}
 use Rattle.std.specs.Str.Parse.{digits_value}
@@ -112,37 +112,45 @@ pub triple_is_one : (subject object : Term) (predicate : List ℕ) → is_litera
 triple_is_one subject object predicate kind s p o = (rw (kind, s, p, o) refl, refl)
 
 -- nothing is held
-pub no_triples : (held : Held) → Holds held → text_of held ≡ [] → (triples_in (text_of held) ≡ []) × AreHeldLines held
+pub no_triples : (held : Held) → Holds held → text_of held ≡ [] → (triples_in (text_of held) ≡ []) × AreHeldLines held 0
 no_triples held holds is =
-    let none = no_lines (text_of held) is in (
-      none.0,
-      record { holds = holds; lines = none.1; few = (let n : length (triples_in (text_of held)) ≡ 0 = ap length none.0 in omega (arith, n)) },
-    )
+    let none = no_lines (text_of held) is in (none.0, record { holds = holds; lines = none.1; counted = sym (ap length none.0); few = omega arith })
 
--- a triple that is taken, or not
-module _ (old new : Held) (q : QuadParts) (lines : AreHeldLines old) (h : IsDefaultQuad q) where
-  behind : HoldsOn old new (quad_text q) → (triples_in (text_of new) ≡ triples_in (text_of old) ++ q ∷ []) × AreLinesOfTriples (text_of new)
-  behind on = line_behind (text_of old) (text_of new) q lines.lines h (on.text lines.holds)
+-- a triple that is taken
+module _ (old new : Held) (count : ℕ) (q : QuadParts) (lines : AreHeldLines old count) (h : IsDefaultQuad q) (on : HoldsOn old new (quad_text q)) where
+  behind : (triples_in (text_of new) ≡ triples_in (text_of old) ++ q ∷ []) × AreLinesOfTriples (text_of new)
+  behind = line_behind (text_of old) (text_of new) q lines.lines h (on.text lines.holds)
 
-  pub lines_on : {E : Type 0} (r : Result (Unit {0}) E) → OnOk r (HoldsOn old new (quad_text q)) → OnErr r (Keeps old new) → AreHeldLines new
-  lines_on (Ok u) on err = record {
+  pub lines_on : AreHeldLines new (count + 1)
+  lines_on = record {
     holds = on.holds lines.holds;
-    lines = (behind on).1;
-    few = (let n : length (triples_in (text_of new)) ≡ length (triples_in (text_of old) ++ q ∷ []) = ap length (behind on).0 in let few = lines.few in let parts = on.parts in omega (arith, n, few, parts, length-append (triples_in (text_of old)) (q ∷ [])));
+    lines = behind.1;
+    counted = (let n : length (triples_in (text_of new)) ≡ length (triples_in (text_of old) ++ q ∷ []) = ap length behind.0 in let c = lines.counted in omega (arith, n, c, length-append (triples_in (text_of old)) (q ∷ [])));
+    few = (let few = lines.few in let parts = on.parts in omega (arith, few, parts));
   }
-  lines_on (Err e) on keeps = record {
+
+  pub triples_on : (taken : List QuadParts) → triples_in (text_of old) ≡ taken → triples_in (text_of new) ≡ taken ++ q ∷ []
+  triples_on taken is = behind.0 ∙ ap (λ (t : List QuadParts). t ++ q ∷ []) is
+
+-- and one that isn't
+module _ (old new : Held) (count : ℕ) (lines : AreHeldLines old count) (keeps : Keeps old new) where
+  pub lines_kept : AreHeldLines new count
+  lines_kept = record {
     holds = keeps.holds lines.holds;
     lines = subst AreLinesOfTriples (sym (keeps.text lines.holds)) lines.lines;
-    few = (let n : length (triples_in (text_of new)) ≡ length (triples_in (text_of old)) = ap (λ (t : List ℕ). length (triples_in t)) (keeps.text lines.holds) in let few = lines.few in let parts = keeps.parts in omega (arith, n, few, parts));
+    counted = lines.counted ∙ sym (ap (λ (t : List ℕ). length (triples_in t)) (keeps.text lines.holds));
+    few = (let few = lines.few in let parts = keeps.parts in omega (arith, few, parts));
   }
 
-  pub triples_on : {E : Type 0} (r : Result (Unit {0}) E) (taken : List QuadParts) → triples_in (text_of old) ≡ taken → OnOk r (HoldsOn old new (quad_text q)) → OnOk r (triples_in (text_of new) ≡ taken ++ q ∷ [])
-  triples_on (Ok u) taken is on = (behind on).0 ∙ ap (λ (t : List QuadParts). t ++ q ∷ []) is
-  triples_on (Err e) taken is on = tt
+  pub triples_kept : (taken : List QuadParts) → triples_in (text_of old) ≡ taken → triples_in (text_of new) ≡ taken
+  triples_kept taken is = ap triples_in (keeps.text lines.holds) ∙ is
 
-  pub triples_kept : {E : Type 0} (r : Result (Unit {0}) E) (taken : List QuadParts) → triples_in (text_of old) ≡ taken → OnErr r (Keeps old new) → OnErr r (triples_in (text_of new) ≡ taken)
-  triples_kept (Ok u) taken is keeps = tt
-  triples_kept (Err e) taken is keeps = ap triples_in (keeps.text lines.holds) ∙ is
+pub on_err : {E A : Type 0} (r : Result (Unit {0}) E) → A → OnErr r A
+on_err (Ok u) a = tt
+on_err (Err e) a = a
+
+pub few_held : (held : Held) (count : ℕ) → AreHeldLines held count → length (triples_in (text_of held)) ≤ length held.parts.items
+few_held held count lines = let c = lines.counted in let few = lines.few in omega (arith, c, few)
 
 pub front_written : (old a b c d s p : List ℕ) → a ≡ old ++ s → b ≡ a ++ 32 ∷ 60 ∷ [] → c ≡ b ++ p → d ≡ c ++ 62 ∷ 32 ∷ [] → d ≡ old ++ (((s ++ 32 ∷ 60 ∷ []) ++ p) ++ 62 ∷ 32 ∷ [])
 front_written old a b c d s p h1 h2 h3 h4 =

@@ -51,8 +51,9 @@ pub record AreLinesOfTriples (text : List ℕ) : Type 0 where
   pub are : text ≡ lines_of (triples_in text)
   pub well_formed : AllByRecursion IsDefaultQuad (triples_in text)
 
--- The lines of triples are held, no more of them than parts.
-pub record AreHeldLines (held : Held) : Type 0 where
+-- The lines of so many triples are held, no more of them than parts.
+pub record AreHeldLines (held : Held) (count : ℕ) : Type 0 where
   pub holds : Holds held
   pub lines : AreLinesOfTriples (text_of held)
-  pub few : length (triples_in (text_of held)) ≤ length held.parts.items
+  pub counted : count ≡ length (triples_in (text_of held))
+  pub few : count ≤ length held.parts.items

@@ -1,4 +1,5 @@
 //! The lines of triples, held until all of a document is read.
+ghost use Rattle.std.specs.Prelude.{◌≡◌, length};
 ghost use Rattle.rdf_streams.specs.Conversion.Converts.{lines_of};
 ghost use Rattle.rdf_streams.specs.Inside.Held.{WritesLines};
 
@@ -15,6 +16,7 @@ use std::marker::Model;
 #[derive(Drop)]
 pub(crate) struct TripleLines {
     held: Held,
+    count: u64,
 }
 
 impl Model for TripleLines {
@@ -27,7 +29,7 @@ impl Model for TripleLines {
 
     ghost view = { λ lines. triples_in (text_of lines.held) };
 
-    ghost invariant = { λ lines. AreHeldLines lines.held };
+    ghost invariant = { λ lines. AreHeldLines lines.held lines.count };
 }
 
 impl TripleLines {
@@ -42,6 +44,13 @@ impl TripleLines {
     {
         write_held(alloc, &self.held, writer)
     }
+
+    /// How many triples were taken.
+    pub(crate) fn count(&self) -> u64
+        ensures { result ≡ length self.now }
+    {
+        self.count
+    }
 }
 
 impl TripleSink for TripleLines {
@@ -50,6 +59,7 @@ impl TripleSink for TripleLines {
     fn empty(alloc: Global) -> TripleLines {
         TripleLines {
             held: Held::new(alloc),
+            count: 0,
         }
     }
 
@@ -57,6 +67,8 @@ impl TripleSink for TripleLines {
         term_is_one(subject);
         let _ = predicate.as_str();
         term_is_one(&object);
-        self.held.hold(subject, predicate, &object)
+        self.held.hold(subject, predicate, &object)?;
+        self.count += 1;
+        Ok(())
     }
 }
