@@ -2,7 +2,7 @@
 """Writes large documents into the current folder, with what the program has to make of them, known by construction.
 
     large.py nquads|ntriples|turtle|update convert|print|load|save|restore
-    large.py lines|faulty|long-line|cr-lf|objects|statements|brackets|updates|state
+    large.py lines|faulty|long-line|cr-lf|objects|statements|terms|brackets|updates|state
 
 The first form makes 10^5 statements by a seeded generator, always the same: long texts, escapes, many labels and
 prefixes. `convert` writes the document as data and its canonical lines as stdout; `print` its sorted lines, as the
@@ -290,6 +290,15 @@ def size(what):
     elif what == "statements":
         write("data", "<a:s> <a:p> [] ." * 10_000)
         write("stdout", "".join(f"<a:s> <a:p> _:b{number} .\n" for number in range(10_000)))
+    elif what == "terms":
+        # around 65,535 bytes, with what stands behind an object, and twice as many; and more than 65,536 predicates
+        names = [f"<a:{'n' * (length - 4)}>" for length in (*range(65_530, 65_538), *range(131_065, 131_073), 200_000)]
+        triples = [(name, "<a:p>", "<a:o>") for name in names] + [("<a:s>", "<a:p>", name) for name in names]
+        triples += [(name, predicate, name) for name in names for predicate in ("<a:p>", "<a:q>")]
+        triples += [("<a:s>", f"<a:p{number}>", "<a:o>") for number in (*range(66_000), 0, 65_535, 65_999, 1)]
+        text = "".join(f"{subject} {predicate} {object} .\n" for subject, predicate, object in triples)
+        write("data", text)
+        write("stdout", text)
     elif what == "updates":
         numbers = range(STATEMENTS)
         triples = " .\n".join(f"<a:s> <a:p> {number}" for number in numbers)

@@ -2,6 +2,8 @@
 pub mod Converts
 pub mod Gathered
 pub mod Ordered
+pub mod Parts
+pub mod Pieces
 pub mod TripleLines
 pub mod Turtle
 pub mod WholeLines

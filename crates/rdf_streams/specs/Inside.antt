@@ -2,4 +2,6 @@
 pub mod Counted
 pub mod Gathered
 pub mod Held
+pub mod Parts
+pub mod Pieces
 pub mod TripleLines

@@ -6,9 +6,14 @@ ghost use Rattle.rdf_streams.specs.Conversion.Converts.{Converts};
 mod fault;
 mod gathered;
 mod held;
+mod line;
 mod lines;
+mod parts;
+mod pieces;
+mod predicates;
 mod triple_lines;
 mod turtle;
+mod writing;
 
 use crate::conversion::lines::convert_lines;
 use crate::conversion::turtle::convert_turtle;
@@ -19,6 +24,7 @@ use rdf_session::Format;
 use rdf_terms::Iri;
 use std::alloc::Global;
 use std::io::{Read, Write};
+pub(crate) use triple_lines::TripleLines;
 
 /// Writes each statement of a document, in its order, as a canonical line of N-Quads (RDF 1.1 N-Quads, section 4).
 /// A statement that stands twice is written twice. Blank nodes are numbered from 0 by first appearance.

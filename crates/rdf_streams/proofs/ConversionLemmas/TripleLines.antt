@@ -1,6 +1,6 @@
 -- Lines of triples say these triples.
 use Rattle.std.proofs.Common.{◌≡◌, ◌∙◌, inl, inr, ap, refl, sym, subst, arith, true≢false, ℕ, ◌+◌, ◌<◌, ◌≤◌, ◌^◌, true, false, List, [], ◌∷◌, ◌++◌, codes, drop, length, length-append, append_assoc, map, Some, None, Ok, Err}
-use Rattle.std.specs.Prelude.{IsTrue, Result, OnOk, OnErr}
+use Rattle.std.specs.Prelude.{IsTrue, Result, OnErr}
 use Rattle.std.specs.List.{AllByRecursion}
 use Rattle.std.specs.Str.{all_ascii_digits}
 use Rattle.std.specs.Str.Parse.{digits_value}
@@ -22,7 +22,9 @@ use Rattle.rdf_lines.proofs.CallerLemmas.{one_answer, some_answer, reads_all}
 use Rattle.rdf_turtle.specs.ParserState.{triple}
 use Rattle.rdf_turtle.specs.WrittenLaws.{IsDefaultQuad}
 use Rattle.rdf_streams.specs.Conversion.Converts.{lines_of}
-use Rattle.rdf_streams.specs.Inside.TripleLines.{term_of, object_term, triple_said, before, statements_in, triples_in, AreLinesOfTriples}
+use Rattle.rdf_streams.specs.Inside.TripleLines.{term_of, object_term, triple_said, before, statements_in, triples_in, AreHeldLines, AreLinesOfTriples}
+use Rattle.rdf_streams.specs.Inside.Parts.{Holds, HoldsOn, Keeps, text_of}
+use Rattle.rdf_streams.specs.declared.conversion.held.Held.{Held}
 use Rattle.rdf_streams.proofs.ConversionLemmas.Converts.{lines_of-push}
 
 -- ---- the statements of lines
@@ -109,34 +111,55 @@ pub triple_is_one : (subject object : Term) (predicate : List ℕ) → is_litera
     → IsDefaultQuad (triple subject predicate object)
 triple_is_one subject object predicate kind s p o = (rw (kind, s, p, o) refl, refl)
 
-module _ {E : Type 0} (text more : List ℕ) (q : QuadParts) (lines : AreLinesOfTriples text) (h : IsDefaultQuad q) where
-  pub lines_on : (r : Result (Unit {0}) E) → OnOk r (more ≡ text ++ quad_text q) → OnErr r (more ≡ text) → AreLinesOfTriples more
-  lines_on (Ok u) ok err = (line_behind text more q lines h ok).1
-  lines_on (Err e) ok err = subst AreLinesOfTriples (sym err) lines
+-- nothing is held
+pub no_triples : (held : Held) → Holds held → text_of held ≡ [] → (triples_in (text_of held) ≡ []) × AreHeldLines held 0
+no_triples held holds is =
+    let none = no_lines (text_of held) is in (none.0, record { holds = holds; lines = none.1; counted = sym (ap length none.0); few = omega arith })
 
-  pub triples_on : (r : Result (Unit {0}) E) (taken : List QuadParts) → triples_in text ≡ taken → OnOk r (more ≡ text ++ quad_text q) → OnOk r (triples_in more ≡ taken ++ q ∷ [])
-  triples_on (Ok u) taken is ok = (line_behind text more q lines h ok).0 ∙ ap (λ (t : List QuadParts). t ++ q ∷ []) is
-  triples_on (Err e) taken is ok = tt
+-- a triple that is taken
+module _ (old new : Held) (count : ℕ) (q : QuadParts) (lines : AreHeldLines old count) (h : IsDefaultQuad q) (on : HoldsOn old new (quad_text q)) where
+  behind : (triples_in (text_of new) ≡ triples_in (text_of old) ++ q ∷ []) × AreLinesOfTriples (text_of new)
+  behind = line_behind (text_of old) (text_of new) q lines.lines h (on.text lines.holds)
 
--- a line by its pieces
-pub written : (old a b c d e f s p o : List ℕ) → a ≡ old ++ s → b ≡ a ++ 32 ∷ 60 ∷ [] → c ≡ b ++ p → d ≡ c ++ 62 ∷ 32 ∷ [] → e ≡ d ++ o → f ≡ e ++ 32 ∷ 46 ∷ 10 ∷ []
-    → f ≡ old ++ (s ++ codes " " ++ (codes "<" ++ p ++ codes ">") ++ codes " " ++ o ++ codes " " ++ [] ++ codes ".\n")
-written old a b c d e f s p o h1 h2 h3 h4 h5 h6 =
-    let all : f ≡ (((((old ++ s) ++ 32 ∷ 60 ∷ []) ++ p) ++ 62 ∷ 32 ∷ []) ++ o) ++ 32 ∷ 46 ∷ 10 ∷ [] = cc in
+  pub lines_on : AreHeldLines new (count + 1)
+  lines_on = record {
+    holds = on.holds lines.holds;
+    lines = behind.1;
+    counted = (let n : length (triples_in (text_of new)) ≡ length (triples_in (text_of old) ++ q ∷ []) = ap length behind.0 in let c = lines.counted in omega (arith, n, c, length-append (triples_in (text_of old)) (q ∷ [])));
+    few = (let few = lines.few in let parts = on.parts in omega (arith, few, parts));
+  }
+
+  pub triples_on : (taken : List QuadParts) → triples_in (text_of old) ≡ taken → triples_in (text_of new) ≡ taken ++ q ∷ []
+  triples_on taken is = behind.0 ∙ ap (λ (t : List QuadParts). t ++ q ∷ []) is
+
+-- and one that isn't
+module _ (old new : Held) (count : ℕ) (lines : AreHeldLines old count) (keeps : Keeps old new) where
+  pub lines_kept : AreHeldLines new count
+  lines_kept = record {
+    holds = keeps.holds lines.holds;
+    lines = subst AreLinesOfTriples (sym (keeps.text lines.holds)) lines.lines;
+    counted = lines.counted ∙ sym (ap (λ (t : List ℕ). length (triples_in t)) (keeps.text lines.holds));
+    few = (let few = lines.few in let parts = keeps.parts in omega (arith, few, parts));
+  }
+
+  pub triples_kept : (taken : List QuadParts) → triples_in (text_of old) ≡ taken → triples_in (text_of new) ≡ taken
+  triples_kept taken is = ap triples_in (keeps.text lines.holds) ∙ is
+
+pub on_err : {E A : Type 0} (r : Result (Unit {0}) E) → A → OnErr r A
+on_err (Ok u) a = tt
+on_err (Err e) a = a
+
+pub few_held : (held : Held) (count : ℕ) → AreHeldLines held count → length (triples_in (text_of held)) ≤ length held.parts.items
+few_held held count lines = let c = lines.counted in let few = lines.few in omega (arith, c, few)
+
+pub front_written : (old a b c d s p : List ℕ) → a ≡ old ++ s → b ≡ a ++ 32 ∷ 60 ∷ [] → c ≡ b ++ p → d ≡ c ++ 62 ∷ 32 ∷ [] → d ≡ old ++ (((s ++ 32 ∷ 60 ∷ []) ++ p) ++ 62 ∷ 32 ∷ [])
+front_written old a b c d s p h1 h2 h3 h4 =
+    let all : d ≡ (((old ++ s) ++ 32 ∷ 60 ∷ []) ++ p) ++ 62 ∷ 32 ∷ [] = cc in
     all ∙ simp append_assoc
 
--- no more of them than bytes
-some_bytes : (front : List ℕ) → 1 ≤ length (front ++ codes ".\n")
-some_bytes front = let n : length (front ++ codes ".\n") ≡ length front + 2 = length-append front (codes ".\n") in omega (arith, n)
-
-line_is_long : (q : QuadParts) → 1 ≤ length (quad_text q)
-line_is_long q = some_bytes _
-
-lines_are_long : (quads : List QuadParts) → length quads ≤ length (lines_of quads)
-lines_are_long [] = omega arith
-lines_are_long (q ∷ quads) =
-    let n : length (quad_text q ++ lines_of quads) ≡ length (quad_text q) + length (lines_of quads) = length-append (quad_text q) (lines_of quads) in
-    omega (arith, n, line_is_long q, lines_are_long quads)
-
-pub few_triples : (text : List ℕ) → AreLinesOfTriples text → length (triples_in text) ≤ length text
-few_triples text lines = subst (λ (t : List ℕ). length (triples_in text) ≤ length t) (sym lines.are) (lines_are_long (triples_in text))
+-- a line by its pieces
+pub written : (old a b c d f s p o : List ℕ) → a ≡ old ++ s → b ≡ a ++ 32 ∷ 60 ∷ [] → c ≡ b ++ p → d ≡ c ++ 62 ∷ 32 ∷ [] → f ≡ d ++ (o ++ 32 ∷ 46 ∷ 10 ∷ [])
+    → f ≡ old ++ (s ++ codes " " ++ (codes "<" ++ p ++ codes ">") ++ codes " " ++ o ++ codes " " ++ [] ++ codes ".\n")
+written old a b c d f s p o h1 h2 h3 h4 h5 =
+    let all : f ≡ ((((old ++ s) ++ 32 ∷ 60 ∷ []) ++ p) ++ 62 ∷ 32 ∷ []) ++ (o ++ 32 ∷ 46 ∷ 10 ∷ []) = cc in
+    all ∙ simp append_assoc

@@ -1,5 +1,5 @@
 -- What is written of a document of Turtle.
-use Rattle.std.proofs.Common.{◌≡◌, ◌∙◌, inl, inr, ap, refl, sym, subst, ℕ, List, [], ◌++◌, append-nil, Option, Some, None}
+use Rattle.std.proofs.Common.{◌≡◌, ◌∙◌, ap, refl, sym, subst, ℕ, List, [], ◌++◌, append-nil, Option, Some, None}
 use Rattle.std.specs.Prelude.{Result, Ok, Err}
 use Rattle.std.specs.Io.KnownBytes.{Appends, Consumes, IsAtEnd}
 use Rattle.rdf_terms.specs.declared.quad.Quad.{Quad}
@@ -8,10 +8,10 @@ use Rattle.rdf_turtle.specs.declared.fault.TurtleFault.{TurtleFault}
 use Rattle.rdf_turtle.specs.declared.fault.TurtleFaultKind.{TurtleFaultKind}
 use Rattle.rdf_turtle.specs.declared.fault.TurtleFaultKind.TheVariants as kind
 use Rattle.rdf_streams.specs.Conversion.Converts.{lines_of, ConvertsTurtle}
-use Rattle.rdf_streams.specs.Inside.Held.{Finishes, turtle_fault}
+use Rattle.rdf_streams.specs.Inside.Held.{WritesLines, turtle_fault}
 use Rattle.rdf_streams.specs.Streams.{ReadsTo}
 use Rattle.rdf_streams.specs.declared.conversion.fault.ConvertFault.{ConvertFault}
-use Rattle.rdf_streams.specs.declared.conversion.fault.ConvertFault.TheVariants.{Read}
+use Rattle.rdf_streams.specs.declared.conversion.fault.ConvertFault.TheVariants.{Document, NoMemory, Read, Write}
 use Rattle.rdf_streams.specs.declared.streams.reading.Ending.TheVariants.{AtEnd}
 use Rattle.rdf_streams.proofs.ConversionLemmas.Converts.{Appends-none}
 use Rattle.rdf_streams.specs.Conversion.Faults.{no_memory}
@@ -30,12 +30,13 @@ whole_text before after text held e (read, is, c, end) = is ∙ consumed after t
 abbrev pub Outcome : Option (List ℕ) → Option (List ℕ) → Option (List ℕ) → List ℕ → Result (Unit {0}) ConvertFault → Type 0
 Outcome before after base text answer = (out : List ℕ) × Appends before after out × ConvertsTurtle base text out answer
 
-pub document : (before after base : Option (List ℕ)) (text held : List ℕ) (quads : List Quad) (answer : Result (Unit {0}) ConvertFault) → turtle.IsDocument base text quads → held ≡ lines_of quads
-    → Finishes before held (Ok tt) answer after → Outcome before after base text answer
-document before after base text held quads answer doc is f = elim f [
-  | inl done ↦ (held, done.1, subst (ConvertsTurtle base text held) (sym done.0) (quads, doc, is))
-  | inr cut ↦ let c = cut.1 in (c.0, c.2, subst (ConvertsTurtle base text c.0) (sym cut.0) (quads, c.1, doc, sym is ∙ c.3, c.4))
-]
+pub document : (before after base : Option (List ℕ)) (text : List ℕ) (quads : List Quad) (answer : Result (Unit {0}) ConvertFault) → turtle.IsDocument base text quads
+    → WritesLines before (lines_of quads) answer after → Outcome before after base text answer
+document before after base text quads (Ok u) doc w = (lines_of quads, w, (quads, doc, refl))
+document before after base text quads (Err Write) doc (out, more, w, is, some) = (out, w, (quads, more, doc, is, some))
+document before after base text quads (Err (NoMemory _)) doc w = ([], w, refl)
+document before after base text quads (Err Read) doc w = absurd w
+document before after base text quads (Err (Document fault)) doc w = absurd w
 
 told : (base : Option (List ℕ)) (text : List ℕ) (f : TurtleFault) (k : TurtleFaultKind) → turtle.TellsFault base text f k → ConvertsTurtle base text [] (Err (turtle_fault f k))
 told base text f (kind.NoMemory _) h = refl

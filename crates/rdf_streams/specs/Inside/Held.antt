@@ -1,5 +1,5 @@
 -- What a conversion writes at its end, and what its readers' faults are to it.
-use Rattle.std.specs.Prelude.{◌≡◌, ◌≢◌, ◌⊎◌, ℕ, List, [], ◌++◌, Option, Result, Err}
+use Rattle.std.specs.Prelude.{◌≡◌, ◌≢◌, ℕ, List, [], ◌++◌, Option, Result, Ok, Err}
 use Rattle.std.specs.Io.KnownBytes.{Appends}
 use Rattle.rdf_lines.specs.declared.fault.LineFault.{LineFault}
 use Rattle.rdf_lines.specs.declared.fault.FaultKind.{FaultKind}
@@ -11,10 +11,13 @@ use Rattle.rdf_streams.specs.declared.conversion.fault.DocumentFault.TheVariants
 use Rattle.rdf_streams.specs.declared.conversion.fault.ConvertFault.{ConvertFault}
 use Rattle.rdf_streams.specs.declared.conversion.fault.ConvertFault.TheVariants.{Document, Read, Write, NoMemory}
 
--- what is held is written, and the answer given
-abbrev pub Finishes : Option (List ℕ) → List ℕ → Result (Unit {0}) ConvertFault → Result (Unit {0}) ConvertFault → Option (List ℕ) → Type 0
-Finishes before held given answer after =
-    ((answer ≡ given) × Appends before after held) ⊎ ((answer ≡ Err Write) × ((out more : List ℕ) × Appends before after out × (held ≡ out ++ more) × (more ≢ [])))
+-- What is held is written, or a proper front of it where a write failed, or nothing where memory was wanting.
+abbrev pub WritesLines : Option (List ℕ) → List ℕ → Result (Unit {0}) ConvertFault → Option (List ℕ) → Type 0
+WritesLines before held (Ok u) after = Appends before after held
+WritesLines before held (Err Write) after = (out more : List ℕ) × Appends before after out × (held ≡ out ++ more) × (more ≢ [])
+WritesLines before held (Err (NoMemory _)) after = Appends before after []
+WritesLines before held (Err Read) after = ⊥
+WritesLines before held (Err (Document fault)) after = ⊥
 
 -- the fault of a conversion that a reader's fault is
 abbrev pub fault_of_kind : LineFault → FaultKind → ConvertFault

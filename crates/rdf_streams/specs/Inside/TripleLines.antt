@@ -1,5 +1,5 @@
 -- The triples whose lines a text is: what its lines say (RDF 1.1 N-Quads, section 2), with the number of a blank node in its label.
-use Rattle.std.specs.Prelude.{◌≡◌, ℕ, List, [], ◌∷◌, drop, map, Option, Some, None, Result, Ok, Err}
+use Rattle.std.specs.Prelude.{◌≡◌, ◌≤◌, ℕ, List, [], ◌∷◌, drop, length, map, Option, Some, None, Result, Ok, Err}
 use Rattle.std.specs.List.{AllByRecursion}
 use Rattle.std.specs.Str.Parse.{digits_value}
 use Rattle.rdf_terms.specs.Quad.{QuadParts}
@@ -17,6 +17,8 @@ use Rattle.rdf_lines.specs.declared.statement.Statement.{Statement}
 use Rattle.rdf_lines.proofs.CallerLemmas.{some_answer}
 use Rattle.rdf_turtle.specs.WrittenLaws.{IsDefaultQuad}
 use Rattle.rdf_streams.specs.Conversion.Converts.{lines_of}
+use Rattle.rdf_streams.specs.Inside.Parts.{Holds, text_of}
+use Rattle.rdf_streams.specs.declared.conversion.held.Held.{Held}
 
 -- the term that a node is, where a blank node's label is `b` and its number
 abbrev pub term_of : Node → Term
@@ -48,3 +50,10 @@ triples_in text = map triple_said (statements_in (lines text))
 pub record AreLinesOfTriples (text : List ℕ) : Type 0 where
   pub are : text ≡ lines_of (triples_in text)
   pub well_formed : AllByRecursion IsDefaultQuad (triples_in text)
+
+-- The lines of so many triples are held, no more of them than parts.
+pub record AreHeldLines (held : Held) (count : ℕ) : Type 0 where
+  pub holds : Holds held
+  pub lines : AreLinesOfTriples (text_of held)
+  pub counted : count ≡ length (triples_in (text_of held))
+  pub few : count ≤ length held.parts.items

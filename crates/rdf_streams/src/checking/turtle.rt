@@ -3,10 +3,10 @@ ghost use Rattle.std.specs.Prelude.{◌≡◌, ℕ, List, Some};
 ghost use Rattle.std.specs.Option.{option_copied};
 ghost use Rattle.rdf_streams.specs.Checks.{ChecksTurtle};
 
-use crate::conversion::{ConvertFault, turtle_fault};
+use crate::conversion::{ConvertFault, TripleLines, turtle_fault};
 use crate::streams::{Ending, read_all};
 use rdf_terms::Iri;
-use rdf_turtle::read_turtle;
+use rdf_turtle::read_turtle_into;
 use std::alloc::Global;
 use std::io::Read;
 
@@ -21,8 +21,8 @@ pub(crate) fn check_turtle<R: Read>(
 {
     let mut held = Vec::new(alloc);
     match read_all(reader, &mut held) {
-        Ending::AtEnd => match read_turtle(alloc, held.as_slice(), base) {
-            Ok(quads) => Ok(quads.len() as u64),
+        Ending::AtEnd => match read_turtle_into::<TripleLines>(alloc, held.as_slice(), base) {
+            Ok(lines) => Ok(lines.count()),
             Err(fault) => Err(turtle_fault(fault)),
         },
         Ending::Failed => Err(ConvertFault::Read),

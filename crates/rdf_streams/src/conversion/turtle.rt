@@ -5,7 +5,6 @@ ghost use Rattle.std.specs.Io.KnownBytes.{Appends};
 ghost use Rattle.rdf_streams.specs.Conversion.Converts.{ConvertsTurtle};
 
 use crate::conversion::fault::{ConvertFault, turtle_fault};
-use crate::conversion::held::finish;
 use crate::conversion::triple_lines::TripleLines;
 use crate::streams::{Ending, read_all};
 use rdf_terms::Iri;
@@ -27,7 +26,7 @@ pub(crate) fn convert_turtle<R: Read, W: Write>(
     let mut held = Vec::new(alloc);
     match read_all(reader, &mut held) {
         Ending::AtEnd => match read_turtle_into::<TripleLines>(alloc, held.as_slice(), base) {
-            Ok(lines) => finish(lines.as_slice(), writer, Ok(())),
+            Ok(lines) => lines.write(alloc, writer),
             Err(fault) => Err(turtle_fault(fault)),
         },
         Ending::Failed => Err(ConvertFault::Read),

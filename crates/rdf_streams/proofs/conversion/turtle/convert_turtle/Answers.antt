@@ -12,11 +12,11 @@ returns-in-Ok g c text e =
     let after = g.R.Read.remaining c.read_all.new.reader in
     let held = c.read_all.new.held.items in
     let wrote = g.W.Write.contents c.args.writer.now in
-    let now = g.W.Write.contents c.finish.new.writer in
+    let now = g.W.Write.contents c.write.new.writer in
     let reads = subst (λ (h : List ℕ). ReadsTo before after h AtEnd held) c.new-held.ensures.items c.in-AtEnd.ensures in
     let is : c.as_slice.result.now ≡ text = c.as_slice.ensures.value ∙ whole_text before after text held e reads in
-    document wrote now (option_copied c.args.base) text c.as_slice-in-Ok.result.now c.in-Ok.lines c.finish.result
-    (subst (λ (t : List ℕ). turtle.IsDocument (option_copied c.args.base) t c.in-Ok.lines) is c.in-Ok.ensures) c.as_slice-in-Ok.ensures c.finish.ensures
+    document wrote now (option_copied c.args.base) text c.in-Ok.lines c.write.result
+    (subst (λ (t : List ℕ). turtle.IsDocument (option_copied c.args.base) t c.in-Ok.lines) is c.in-Ok.ensures) c.write.ensures
 
 pub returns-in-AtEnd : goal.returns-in-AtEnd
 returns-in-AtEnd g c text e =

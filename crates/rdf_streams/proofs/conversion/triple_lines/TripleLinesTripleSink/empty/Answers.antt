@@ -1,8 +1,8 @@
-use Rattle.rdf_streams.proofs.ConversionLemmas.TripleLines.{no_lines}
+use Rattle.rdf_streams.proofs.ConversionLemmas.TripleLines.{no_triples}
 use Rattle.rdf_streams.proofs.conversion.triple_lines.TripleLinesTripleSink.empty.Goals as goal
 
 pub invariant_of-result : goal.invariant_of-result
-invariant_of-result c = (no_lines c.new.result.items c.new.ensures.items).1
+invariant_of-result c = (no_triples c.new.result c.new.ensures.holds c.new.ensures.text).1
 
 pub returns : goal.returns
-returns c = (no_lines c.new.result.items c.new.ensures.items).0
+returns c = (no_triples c.new.result c.new.ensures.holds c.new.ensures.text).0
