@@ -221,13 +221,6 @@ QUERIES = {
 # what of these asks for a product, as docs/FORMATS.md states: it grows with the square of n
 STATED = {
     "chained bases",
-    "OPTIONALs",
-    "MINUS behind MINUS",
-    "GRAPHs of n names",
-    "triple patterns of one subject",
-    "unlinked triple patterns",
-    "columns that stand in the pattern",
-    "all columns, by groups",
 }
 SESSIONS = {
     "blank lines of a script": lambda n: " \n" * n,

@@ -413,13 +413,12 @@ module _ (vs : Variables) (s : State) where
 
   -- with what was looked up once for all rows
   pub made_once : (g : GraphName) (a : Mapping) (k : Element) (l : LookUp) (rows : List Mapping) (nothing : Mapping) (there given out : List Mapping) →
-      nothing ≡ replicate (length vs + 0) None → IsLookUpOf vs s l (λ d. element_solutions vs d g k) → AreSolutions s there (λ d. found vs d l nothing) → given ≡ there →
+      nothing ≡ replicate (length vs) None → IsLookUpOf vs s l (λ d. element_solutions vs d g k) → AreSolutions s there (λ d. found vs d l nothing) → given ≡ there →
       SameBag out (flat_map (λ x. agreeing (kept vs k x (merges (met k x given) x)) a) rows) → AreMade vs s g a k rows out
   made_once g a k l rows nothing there given out en gives h eg e ea w d p f =
       let S : List Mapping = element_solutions vs d g k in
-      let more : length vs + 0 ≡ length vs = omega arith in
-      let wide : length nothing ≡ length vs = ap length en ∙ length-replicate {A = Option Term} (length vs + 0) None ∙ more in
-      let none : binds_none nothing ≡ true = ap binds_none en ∙ replicate_none (length vs + 0) in
+      let wide : length nothing ≡ length vs = ap length en ∙ length-replicate {A = Option Term} (length vs) None in
+      let none : binds_none nothing ≡ true = ap binds_none en ∙ replicate_none (length vs) in
       let all : merges S nothing ≡ S = merges_none nothing S (length vs) none wide (element_wide d g k) in
       let bag : SameBag there S = λ f2. h d p f2 ∙ gives d p nothing wide f2 ∙ ap (sum_by f2) all in
       e f ∙ ap (λ (ys : List Mapping). sum_by f (flat_map (λ x. agreeing (kept vs k x (merges (met k x ys) x)) a) rows)) eg

@@ -26,3 +26,8 @@ pub mod FewLemmas
 pub mod AskQuadLemmas
 pub mod AskGroupLemmas
 pub mod ApartLemmas
+pub mod OwnLemmas
+pub mod StepLemmas
+pub mod GrownLemmas
+pub mod EmptyLemmas
+pub mod NameLemmas

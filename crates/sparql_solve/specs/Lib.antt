@@ -1,8 +1,10 @@
 pub mod Keys
+pub mod Own
 pub mod Parts
 pub mod LookUps
 pub mod Matching
 pub mod Sides
 pub mod Members
 pub mod Under
+pub mod Steps
 pub mod Ask

@@ -79,6 +79,11 @@ pub record HoldsOnly (p : Pattern) (x : Member) : Type 0 where
   pub member : p.members ≡ x ∷ []
   pub filters : p.filters ≡ []
 
+-- the group holds nothing
+pub record HoldsNone (p : Pattern) : Type 0 where
+  pub members : p.members ≡ []
+  pub filters : p.filters ≡ []
+
 -- the member is MINUS of just this basic graph pattern
 pub record RemovesJust (x : Member) (b : BasicGraphPattern) : Type 0 where
   pub group : Pattern

@@ -12,6 +12,7 @@ ghost use Rattle.sparql_solve.specs.Ask.{SaysWhether};
 ghost use Rattle.sparql_solve.specs.Under.{under_name};
 ghost use Rattle.sparql_values.specs.Mapping.{same_term};
 
+use crate::above::Above;
 use crate::chunks::{first_rooms, some_after};
 use crate::counted::Counted;
 use crate::evaluator::{graph_under, unit_rows};
@@ -20,6 +21,7 @@ use crate::members::lone_member;
 use crate::names::names_under;
 use crate::rows::Row;
 use crate::shapes::{before_apart, group_reads};
+use crate::sorted_names::SortedNames;
 use rdf_dataset::Source;
 use rdf_terms::{GraphName, NoMemory, Term, Text, Vocabulary};
 use sparql_trees::{Member, Pattern, VarOrIri};
@@ -29,7 +31,7 @@ use std::cell::Cell;
 /// Whether a group has a solution in a graph.
 pub(crate) fn has_solution<S: Source>(
     alloc: Global,
-    variables: &[Text],
+    variables: &SortedNames,
     vocabulary: &Vocabulary,
     graph: &GraphName,
     source: &S,
@@ -38,7 +40,7 @@ pub(crate) fn has_solution<S: Source>(
     ensures { IfOk result (λ answer. (d : Listing) → Lists (S.contents source.now) d → answer
         ≡ is_some_solution (solutions variables.now d graph.now (translation pattern.now))) }
 {
-    let nothing = Row::empty(alloc, variables.len(), 0)?;
+    let nothing = Above::nothing(alloc, variables)?;
     let looked = Cell::new(0);
     let counted = Counted {
         source,
@@ -52,13 +54,13 @@ pub(crate) fn has_solution<S: Source>(
 // Whether a group has a solution, its members being followed in chunks.
 fn some_in_members<S: Source>(
     alloc: Global,
-    variables: &[Text],
+    variables: &SortedNames,
     vocabulary: &Vocabulary,
     graph: &GraphName,
     source: &S,
     looked: &Cell<u64>,
     pattern: &Pattern,
-    under: &Row,
+    under: &Above,
 ) -> Result<bool, NoMemory>
     ensures { IfOk result (λ answer.
         SaysWhether variables.now (S.contents source.now) under.now answer
@@ -77,13 +79,13 @@ fn some_in_members<S: Source>(
 #[cycle(some)]
 fn some_in_group<S: Source>(
     alloc: Global,
-    variables: &[Text],
+    variables: &SortedNames,
     vocabulary: &Vocabulary,
     graph: &GraphName,
     source: &S,
     looked: &Cell<u64>,
     pattern: &Pattern,
-    under: &Row,
+    under: &Above,
 ) -> Result<bool, NoMemory>
     ensures { IfOk result (λ answer.
         SaysWhether variables.now (S.contents source.now) under.now answer
@@ -114,13 +116,13 @@ fn some_in_group<S: Source>(
 #[cycle(some)]
 fn some_in_union<S: Source>(
     alloc: Global,
-    variables: &[Text],
+    variables: &SortedNames,
     vocabulary: &Vocabulary,
     graph: &GraphName,
     source: &S,
     looked: &Cell<u64>,
     groups: &[Pattern],
-    under: &Row,
+    under: &Above,
 ) -> Result<bool, NoMemory>
     ensures { IfOk result (λ answer.
         SaysWhether variables.now (S.contents source.now) under.now answer
@@ -150,13 +152,13 @@ fn is_found_by_name(pattern: &Pattern) -> bool {
 #[cycle(some)]
 fn some_in_graph<S: Source>(
     alloc: Global,
-    variables: &[Text],
+    variables: &SortedNames,
     vocabulary: &Vocabulary,
     name: &VarOrIri,
     source: &S,
     looked: &Cell<u64>,
     pattern: &Pattern,
-    under: &Row,
+    under: &Above,
 ) -> Result<bool, NoMemory>
     ensures { IfOk result (λ answer. (active : GraphName) →
         SaysWhether variables.now (S.contents source.now) under.now answer
@@ -188,13 +190,13 @@ fn some_in_graph<S: Source>(
 #[cycle(some)]
 fn some_in_named<S: Source>(
     alloc: Global,
-    variables: &[Text],
+    variables: &SortedNames,
     vocabulary: &Vocabulary,
     name: Term,
     source: &S,
     looked: &Cell<u64>,
     pattern: &Pattern,
-    under: &Row,
+    under: &Above,
 ) -> Result<bool, NoMemory>
     ensures { IfOk result (λ answer.
         SaysWhether variables.now (S.contents source.now) under.now answer
@@ -215,14 +217,14 @@ fn some_in_named<S: Source>(
 #[cycle(some)]
 fn some_in_each<S: Source>(
     alloc: Global,
-    variables: &[Text],
+    variables: &SortedNames,
     vocabulary: &Vocabulary,
     variable: &Text,
     names: &[Term],
     source: &S,
     looked: &Cell<u64>,
     pattern: &Pattern,
-    under: &Row,
+    under: &Above,
 ) -> Result<bool, NoMemory>
     ensures { IfOk result (λ answer. length under.now ≡ length variables.now →
         (d : Listing) → Lists (S.contents source.now) d → answer ≡ is_some_solution

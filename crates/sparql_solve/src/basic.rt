@@ -3,57 +3,99 @@ ghost use Rattle.std.specs.Prelude.{◌≡◌, IfOk, map};
 ghost use Rattle.std.specs.List.{list_any};
 ghost use Rattle.sparql_algebra.specs.Algebra.{basic};
 ghost use Rattle.sparql_algebra.specs.Solutions.{solutions};
-ghost use Rattle.sparql_solve.specs.Matching.{has_column, is_place_at};
+ghost use Rattle.sparql_solve.specs.Matching.{has_column};
 ghost use Rattle.sparql_solve.specs.Members.{AreSolutions};
 ghost use Rattle.sparql_solve.specs.Sides.{found};
-ghost use Rattle.sparql_solve.specs.Under.{AreUnder, flags_where, masked};
+ghost use Rattle.sparql_solve.specs.Own.{is_bound_at, is_bound_in, marked};
+ghost use Rattle.sparql_solve.specs.Under.{AreUnder, binds_none, flags_where, masked, own_columns};
 
+use crate::above::Above;
 use crate::look_ups::{Graphs, LookUp, found_rows, look_up_in};
 use crate::place::{Place, Places};
 use crate::rows::Row;
+use crate::sorted_names::SortedNames;
 use rdf_dataset::Source;
-use rdf_terms::{GraphName, NoMemory, Text};
+use rdf_terms::{GraphName, NoMemory};
 use sparql_trees::BasicGraphPattern;
 use std::alloc::Global;
 
-// Whether the place is the column.
-fn is_at(place: &Place, at: usize) -> bool
-    ensures { result ≡ is_place_at at place.now }
+// Raises the flag of the place's column, if it is one of these.
+fn mark(flags: &mut [bool], place: &Place)
+    ensures { flags.new ≡ marked place.now flags.old }
+{
+    if let Place::Column(column) = place {
+        if *column < flags.len() as u128 {
+            flags[*column as usize] = true;
+        }
+    }
+}
+
+fn mark_places(flags: &mut [bool], places: &Places)
+    ensures { flags.new ≡ marked places.now.subject
+        (marked places.now.predicate (marked places.now.object flags.old)) }
+{
+    mark(flags, &places.object);
+    mark(flags, &places.predicate);
+    mark(flags, &places.subject);
+}
+
+// For each of so many columns whether one of the triple patterns has it.
+fn flags_of(alloc: Global, columns: usize, patterns: &[Places]) -> Result<Vec<bool>, NoMemory>
+    ensures { IfOk result (λ out. out.items
+        ≡ flags_where (λ at. list_any (has_column at) patterns.now) columns) }
+{
+    let mut own = Vec::with_capacity(alloc, columns)?;
+    for _at in 0..columns {
+        own.push(false)?;
+    }
+    for places in patterns {
+        mark_places(&mut own, places);
+    }
+    Ok(own)
+}
+
+/// For each column whether the look-ups have it.
+pub(crate) fn own_columns(
+    alloc: Global,
+    variables: &SortedNames,
+    look_up: &LookUp,
+) -> Result<Vec<bool>, NoMemory>
+    ensures { IfOk result (λ out. out.items ≡ own_columns variables.now look_up.now) }
+{
+    flags_of(alloc, variables.len(), look_up.places.as_slice())
+}
+
+// Whether the place is one of so many columns, and the row has a term there.
+fn is_bound_at(row: &Row, width: usize, place: &Place) -> bool
+    ensures { result ≡ is_bound_at width row.now place.now }
 {
     match place {
-        Place::Column(column) => at as u128 == *column,
+        Place::Column(column) => *column < width as u128 && row.has(place),
         Place::Fixed(_) | Place::Nowhere => false,
     }
 }
 
-// Whether one of the places is the column.
-fn has_column(places: &Places, at: usize) -> bool
-    ensures { result ≡ has_column at places.now }
+fn is_bound_in(row: &Row, width: usize, places: &Places) -> bool
+    ensures { result ≡ is_bound_in width row.now places.now }
 {
-    is_at(&places.subject, at) || is_at(&places.predicate, at) || is_at(&places.object, at)
+    is_bound_at(row, width, &places.subject)
+        || is_bound_at(row, width, &places.predicate)
+        || is_bound_at(row, width, &places.object)
 }
 
-// Whether one of the triple patterns has the column.
-fn any_has(patterns: &[Places], at: usize) -> bool
-    ensures { result ≡ list_any (has_column at) patterns.now }
+fn is_bound_in_any(row: &Row, width: usize, patterns: &[Places]) -> bool
+    ensures { result ≡ list_any (is_bound_in width row.now) patterns.now }
 {
-    patterns.iter().any(|places| has_column(places, at))
+    patterns
+        .iter()
+        .any(|places| is_bound_in(row, width, places))
 }
 
-/// For each of so many columns whether one of the triple patterns has it.
-pub(crate) fn own_columns(
-    alloc: Global,
-    columns: usize,
-    patterns: &[Places],
-) -> Result<Vec<bool>, NoMemory>
-    ensures { IfOk result (λ out. out.items
-        ≡ flags_where (λ at. list_any (has_column at) patterns.now) columns) }
+/// Whether the row has nothing at the look-ups' columns.
+pub(crate) fn is_unbound_in(variables: &SortedNames, look_up: &LookUp, row: &Row) -> bool
+    ensures { result ≡ binds_none (masked (own_columns variables.now look_up.now) row.now) }
 {
-    let mut out = Vec::with_capacity(alloc, columns)?;
-    for at in 0..columns {
-        out.push(any_has(patterns, at))?;
-    }
-    Ok(out)
+    !is_bound_in_any(row, variables.len(), look_up.places.as_slice())
 }
 
 // The columns of each row whose flag is up.
@@ -70,16 +112,16 @@ fn masked_rows(alloc: Global, rows: &[Row], flags: &[bool]) -> Result<Vec<Row>, 
 /// What look-ups find under a row, in these columns alone.
 pub(crate) fn own_rows<S: Source>(
     alloc: Global,
-    variables: &[Text],
+    variables: &SortedNames,
     source: &S,
     look_up: &LookUp,
     own: &[bool],
-    under: &Row,
+    under: &Above,
 ) -> Result<Vec<Row>, NoMemory>
     ensures { IfOk result (λ out. AreSolutions (S.contents source.now) out.items
         (λ d. map (masked own.now) (found variables.now d look_up.now under.now))) }
 {
-    let rows = found_rows(alloc, variables, source, look_up, under)?;
+    let rows = found_rows(alloc, variables, source, look_up, under.row())?;
     masked_rows(alloc, &rows, own)
 }
 
@@ -87,16 +129,16 @@ pub(crate) fn own_rows<S: Source>(
 /// alone.
 pub(crate) fn basic_under<S: Source>(
     alloc: Global,
-    variables: &[Text],
+    variables: &SortedNames,
     graph: &GraphName,
     source: &S,
     pattern: &BasicGraphPattern,
-    under: &Row,
+    under: &Above,
 ) -> Result<Vec<Row>, NoMemory>
     ensures { IfOk result (λ out. AreUnder variables.now (S.contents source.now) under.now out.items
         (λ d. solutions variables.now d graph.now (basic pattern.now))) }
 {
     let look_up = look_up_in(alloc, variables, Graphs::One(graph.copy()?), pattern)?;
-    let own = own_columns(alloc, variables.len(), look_up.places.as_slice())?;
+    let own = own_columns(alloc, variables, &look_up)?;
     own_rows(alloc, variables, source, &look_up, &own, under)
 }

@@ -13,6 +13,7 @@ ghost use Rattle.sparql_solve.specs.LookUps.{widened};
 ghost use Rattle.sparql_solve.specs.Matching.{has_held, matches_of, matching};
 ghost use Rattle.sparql_solve.specs.Under.{is_wide};
 
+use crate::above::Above;
 use crate::evaluator::rows_after;
 use crate::filters::some_satisfies;
 use crate::look_ups::{Graphs, LookUp};
@@ -23,8 +24,9 @@ use crate::members::{is_joined, look_up_of_joined};
 use crate::place::Places;
 use crate::rows::Row;
 use crate::sides::compatible_rows;
+use crate::sorted_names::SortedNames;
 use rdf_dataset::Source;
-use rdf_terms::{GraphName, NoMemory, Quad, Text, Vocabulary};
+use rdf_terms::{GraphName, NoMemory, Quad, Vocabulary};
 use sparql_trees::{Expression, Member};
 use std::alloc::Global;
 use std::cell::Cell;
@@ -106,7 +108,7 @@ fn widened_rows(alloc: Global, rows: &[Row], hidden: u64) -> Result<Vec<Row>, No
 #[cycle(ask)]
 pub(crate) fn some_after<S: Source>(
     alloc: Global,
-    variables: &[Text],
+    variables: &SortedNames,
     vocabulary: &Vocabulary,
     graph: &GraphName,
     source: &S,
@@ -115,7 +117,7 @@ pub(crate) fn some_after<S: Source>(
     members: &[Member],
     filters: &[Expression],
     rooms: &[Cell<usize>],
-    under: &Row,
+    under: &Above,
 ) -> Result<bool, NoMemory>
     ensures { IfOk result (λ answer. (d : Listing) → Lists (S.contents source.now) d →
         length under.now ≡ length variables.now →
@@ -166,7 +168,7 @@ pub(crate) fn some_after<S: Source>(
 #[cycle(ask)]
 fn some_of_first<S: Source>(
     alloc: Global,
-    variables: &[Text],
+    variables: &SortedNames,
     vocabulary: &Vocabulary,
     graph: &GraphName,
     source: &S,
@@ -175,7 +177,7 @@ fn some_of_first<S: Source>(
     members: &[Member],
     filters: &[Expression],
     rooms: &[Cell<usize>],
-    under: &Row,
+    under: &Above,
 ) -> Result<bool, NoMemory>
     ensures some { IfOk result (λ answer. (d : Listing) → Lists (S.contents source.now) d →
         length under.now ≡ length variables.now →
@@ -205,7 +207,7 @@ fn some_of_first<S: Source>(
 #[cycle(ask)]
 fn some_looked_up<S: Source>(
     alloc: Global,
-    variables: &[Text],
+    variables: &SortedNames,
     vocabulary: &Vocabulary,
     graph: &GraphName,
     source: &S,
@@ -216,7 +218,7 @@ fn some_looked_up<S: Source>(
     members: &[Member],
     filters: &[Expression],
     rooms: &[Cell<usize>],
-    under: &Row,
+    under: &Above,
 ) -> Result<bool, NoMemory>
     ensures { IfOk result (λ answer. (d : Listing) → Lists (S.contents source.now) d →
         length under.now ≡ length variables.now → list_all (is_wide variables.now) rows.now ≡ true →
@@ -237,7 +239,7 @@ fn some_looked_up<S: Source>(
 #[cycle(ask)]
 fn some_matched<S: Source>(
     alloc: Global,
-    variables: &[Text],
+    variables: &SortedNames,
     vocabulary: &Vocabulary,
     graph: &GraphName,
     source: &S,
@@ -248,7 +250,7 @@ fn some_matched<S: Source>(
     members: &[Member],
     filters: &[Expression],
     rooms: &[Cell<usize>],
-    under: &Row,
+    under: &Above,
 ) -> Result<bool, NoMemory>
     ensures { IfOk result (λ answer. (d : Listing) → Lists (S.contents source.now) d →
         length under.now ≡ length variables.now →
@@ -290,7 +292,7 @@ fn some_matched<S: Source>(
 #[cycle(ask)]
 fn some_of_first_matched<S: Source>(
     alloc: Global,
-    variables: &[Text],
+    variables: &SortedNames,
     vocabulary: &Vocabulary,
     graph: &GraphName,
     source: &S,
@@ -301,7 +303,7 @@ fn some_of_first_matched<S: Source>(
     members: &[Member],
     filters: &[Expression],
     rooms: &[Cell<usize>],
-    under: &Row,
+    under: &Above,
 ) -> Result<bool, NoMemory>
     ensures some { IfOk result (λ answer. (d : Listing) → Lists (S.contents source.now) d →
         length under.now ≡ length variables.now →
@@ -335,7 +337,7 @@ fn some_of_first_matched<S: Source>(
 #[cycle(ask)]
 fn some_of_lone<S: Source>(
     alloc: Global,
-    variables: &[Text],
+    variables: &SortedNames,
     vocabulary: &Vocabulary,
     graph: &GraphName,
     source: &S,
@@ -347,7 +349,7 @@ fn some_of_lone<S: Source>(
     members: &[Member],
     filters: &[Expression],
     rooms: &[Cell<usize>],
-    under: &Row,
+    under: &Above,
 ) -> Result<bool, NoMemory>
     requires { 0 < length rooms.now }
     ensures { IfOk result (λ answer. (d : Listing) → Lists (S.contents source.now) d →
@@ -379,7 +381,7 @@ fn some_of_lone<S: Source>(
 #[cycle(ask)]
 fn some_of_quads<S: Source>(
     alloc: Global,
-    variables: &[Text],
+    variables: &SortedNames,
     vocabulary: &Vocabulary,
     graph: &GraphName,
     source: &S,
@@ -392,7 +394,7 @@ fn some_of_quads<S: Source>(
     members: &[Member],
     filters: &[Expression],
     rooms: &[Cell<usize>],
-    under: &Row,
+    under: &Above,
 ) -> Result<bool, NoMemory>
     requires room { 0 < length rooms.now }
     requires held { IsTrue (list_all (has_held places.now row.now) quads.now) }

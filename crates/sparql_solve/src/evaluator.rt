@@ -9,9 +9,11 @@ ghost use Rattle.sparql_algebra.specs.Algebra.{element, filtered, graph, group_o
 ghost use Rattle.sparql_algebra.specs.Solutions.{solutions};
 ghost use Rattle.sparql_solve.specs.Members.{AreSolutions, element_solutions};
 ghost use Rattle.sparql_values.specs.Mapping.{same_term};
+ghost use Rattle.sparql_solve.specs.Steps.{Begins};
 ghost use Rattle.sparql_solve.specs.Under.{AreMade, AreUnder, IsLookUpFor, IsLookUpOf, asked, is_joined, is_unit, masked, under_name};
 
-use crate::basic::{basic_under, own_columns};
+use crate::above::Above;
+use crate::basic::basic_under;
 use crate::counted::Counted;
 use crate::filters::filtered_rows;
 use crate::look_ups::{Graphs, LookUp, is_named, look_up_in};
@@ -20,7 +22,11 @@ use crate::names::{names_under, rows_of_names};
 use crate::rows::Row;
 use crate::shapes::{before_apart, group_reads};
 use crate::sharing::{asked_columns, gather, is_group, served_len, stops};
-use crate::sides::{Found, Made, asked, rows_beside, rows_looked_up, rows_served, rows_with};
+use crate::sides::{
+    Begun, Found, Made, asked, nothing_begun, nothing_made, rows_beside, rows_looked_up,
+    rows_served, rows_with,
+};
+use crate::sorted_names::SortedNames;
 use rdf_dataset::Source;
 use rdf_terms::{GraphName, NoMemory, Term, Text, Vocabulary};
 use sparql_trees::{Expression, Member, Pattern, VarOrIri};
@@ -30,7 +36,7 @@ use std::cell::Cell;
 /// The solutions of a group in a graph.
 pub(crate) fn group_rows<S: Source>(
     alloc: Global,
-    variables: &[Text],
+    variables: &SortedNames,
     vocabulary: &Vocabulary,
     graph: &GraphName,
     source: &S,
@@ -39,7 +45,7 @@ pub(crate) fn group_rows<S: Source>(
     ensures { IfOk result (λ out. AreSolutions (S.contents source.now) out.items
         (λ d. solutions variables.now d graph.now (translation pattern.now))) }
 {
-    let nothing = Row::empty(alloc, variables.len(), 0)?;
+    let nothing = Above::nothing(alloc, variables)?;
     let looked = Cell::new(0);
     let counted = Counted {
         source,
@@ -51,11 +57,11 @@ pub(crate) fn group_rows<S: Source>(
 }
 
 /// The solution of the empty pattern: the row that binds nothing.
-pub(crate) fn unit_rows(alloc: Global, variables: &[Text]) -> Result<Vec<Row>, NoMemory>
+pub(crate) fn unit_rows(alloc: Global, variables: &SortedNames) -> Result<Vec<Row>, NoMemory>
     ensures { IfOk result (λ out. out.items ≡ replicate (length variables.now) None ∷ []) }
 {
     let mut rows = Vec::new(alloc);
-    rows.push(Row::empty(alloc, variables.len(), 0)?)?;
+    rows.push(Row::unbound(alloc, variables)?)?;
     Ok(rows)
 }
 
@@ -80,11 +86,11 @@ fn is_first(rows: &[Row], member: &Member) -> bool
 // are found under the row alone, and those of joined members where the row above binds nothing.
 fn direct_look_up<S: Source>(
     alloc: Global,
-    variables: &[Text],
+    variables: &SortedNames,
     graph: &GraphName,
     source: &S,
     member: &Member,
-    under: &Row,
+    under: &Above,
 ) -> Result<Option<LookUp>, NoMemory>
     ensures gives { IfOk result (λ found. IfSome found (λ look_up.
         IsLookUpOf variables.now (S.contents source.now) look_up
@@ -103,43 +109,41 @@ fn direct_look_up<S: Source>(
     look_up_of(alloc, variables, graph, source, member)
 }
 
-// What a member makes of the first rows by look-ups under each of them, where it has such.
-fn made_directly<S: Source>(
+// What a member makes of the first rows by look-ups under each of them, where it has such, and the
+// rows that are left.
+fn begun_directly<S: Source>(
     alloc: Global,
-    variables: &[Text],
+    variables: &SortedNames,
     vocabulary: &Vocabulary,
     graph: &GraphName,
     source: &S,
     looked: &Cell<u64>,
-    rows: &[Row],
+    rows: Vec<Row>,
     member: &Member,
-    under: &Row,
-) -> Result<Option<Made>, NoMemory>
-    ensures { IfOk result (λ found. IfSome found (λ m.
-        AreMade variables.now (S.contents source.now) graph.now under.now (element member.now)
-        (take m.done rows.now) m.rows.items)) }
+    under: &Above,
+) -> Result<Begun, NoMemory>
+    ensures { IfOk result (λ b. Begins variables.now (S.contents source.now) graph.now under.now
+        (element member.now) rows.items b.rows.items b.rest.items) }
 {
     let Some(look_up) = direct_look_up(alloc, variables, graph, source, member, under)? else {
-        return Ok(None);
+        return Ok(nothing_begun(alloc, rows));
     };
-    let own = own_columns(alloc, variables.len(), look_up.places.as_slice())?;
-    let made = rows_looked_up(
-        alloc, variables, vocabulary, graph, source, looked, rows, &look_up, &own, member, under,
-    )?;
-    Ok(Some(made))
+    rows_looked_up(
+        alloc, variables, vocabulary, graph, source, looked, rows, &look_up, member, under,
+    )
 }
 
 // A group: its members under its own filters, which are asked of its own rows.
 #[cycle(follow)]
 fn group_under<S: Source>(
     alloc: Global,
-    variables: &[Text],
+    variables: &SortedNames,
     vocabulary: &Vocabulary,
     graph: &GraphName,
     source: &S,
     looked: &Cell<u64>,
     pattern: &Pattern,
-    under: &Row,
+    under: &Above,
 ) -> Result<Vec<Row>, NoMemory>
     ensures { IfOk result (λ out. AreUnder variables.now (S.contents source.now) under.now out.items
         (λ d. solutions variables.now d graph.now (translation pattern.now))) }
@@ -156,13 +160,13 @@ fn group_under<S: Source>(
 #[cycle(follow)]
 fn members_under<S: Source>(
     alloc: Global,
-    variables: &[Text],
+    variables: &SortedNames,
     vocabulary: &Vocabulary,
     graph: &GraphName,
     source: &S,
     looked: &Cell<u64>,
     members: &[Member],
-    under: &Row,
+    under: &Above,
 ) -> Result<Vec<Row>, NoMemory>
     ensures { IfOk result (λ out. AreUnder variables.now (S.contents source.now) under.now out.items
         (λ d. solutions variables.now d graph.now (group_of (map element members.now)))) }
@@ -177,14 +181,14 @@ fn members_under<S: Source>(
 #[cycle(follow)]
 fn first_under<S: Source>(
     alloc: Global,
-    variables: &[Text],
+    variables: &SortedNames,
     vocabulary: &Vocabulary,
     graph: &GraphName,
     source: &S,
     looked: &Cell<u64>,
     members: &[Member],
     many: usize,
-    under: &Row,
+    under: &Above,
 ) -> Result<Vec<Row>, NoMemory>
     requires { many ≤ length members.now }
     ensures { IfOk result (λ out. AreUnder variables.now (S.contents source.now) under.now out.items
@@ -205,24 +209,63 @@ fn first_under<S: Source>(
 #[cycle(follow)]
 pub(crate) fn rows_after<S: Source>(
     alloc: Global,
-    variables: &[Text],
+    variables: &SortedNames,
     vocabulary: &Vocabulary,
     graph: &GraphName,
     source: &S,
     looked: &Cell<u64>,
     rows: Vec<Row>,
     member: &Member,
-    under: &Row,
+    under: &Above,
 ) -> Result<Vec<Row>, NoMemory>
     ensures { IfOk result (λ out. AreMade variables.now (S.contents source.now) graph.now under.now
         (element member.now) rows.items out.items) }
 {
-    let direct = made_directly(
-        alloc, variables, vocabulary, graph, source, looked, &rows, member, under,
+    let begun = begun_directly(
+        alloc, variables, vocabulary, graph, source, looked, rows, member, under,
     )?;
-    if let Some(made) = direct {
-        return with_others(
-            alloc, variables, vocabulary, graph, source, looked, rows, made, member, under,
+    if begun.rest.is_empty() {
+        return Ok(begun.rows);
+    }
+    let mut out = begun.rows;
+    let mut more = rows_left(
+        alloc,
+        variables,
+        vocabulary,
+        graph,
+        source,
+        looked,
+        begun.rest,
+        begun.is_slow,
+        member,
+        under,
+    )?;
+    out.append(&mut more)?;
+    Ok(out)
+}
+
+// What a member makes of rows under which it isn't looked up one by one: where that would be slow
+// another one than a group is found once, a group for what the rows share.
+#[cycle(follow)]
+fn rows_left<S: Source>(
+    alloc: Global,
+    variables: &SortedNames,
+    vocabulary: &Vocabulary,
+    graph: &GraphName,
+    source: &S,
+    looked: &Cell<u64>,
+    rows: Vec<Row>,
+    is_slow: bool,
+    member: &Member,
+    under: &Above,
+) -> Result<Vec<Row>, NoMemory>
+    ensures { IfOk result (λ out. AreMade variables.now (S.contents source.now) graph.now under.now
+        (element member.now) rows.items out.items) }
+{
+    if is_slow && !is_group(member) {
+        let made = nothing_made(alloc);
+        return with_the_rest(
+            alloc, variables, vocabulary, graph, source, looked, &rows, made, member, under,
         );
     }
     if is_first(&rows, member) {
@@ -235,53 +278,18 @@ pub(crate) fn rows_after<S: Source>(
     )
 }
 
-// What was made of the first rows by look-ups, and what the member makes of the others: of a group
-// for what they share, of another one by finding it once.
-#[cycle(follow)]
-fn with_others<S: Source>(
-    alloc: Global,
-    variables: &[Text],
-    vocabulary: &Vocabulary,
-    graph: &GraphName,
-    source: &S,
-    looked: &Cell<u64>,
-    mut rows: Vec<Row>,
-    made: Made,
-    member: &Member,
-    under: &Row,
-) -> Result<Vec<Row>, NoMemory>
-    ensures { IfOk result (λ out.
-        AreMade variables.now (S.contents source.now) graph.now under.now (element member.now)
-        (take made.done rows.items) made.rows.items →
-        AreMade variables.now (S.contents source.now) graph.now under.now (element member.now)
-        rows.items out.items) }
-{
-    if rows.len() <= made.done || !is_group(member) {
-        return with_the_rest(
-            alloc, variables, vocabulary, graph, source, looked, &rows, made, member, under,
-        );
-    }
-    let others = rows.split_off(made.done)?;
-    let mut more = rows_gathered(
-        alloc, variables, vocabulary, graph, source, looked, others, member, under,
-    )?;
-    let mut out = made.rows;
-    out.append(&mut more)?;
-    Ok(out)
-}
-
 // What a member makes of rows, which are put side by side where they share what is found.
 #[cycle(follow)]
 fn rows_gathered<S: Source>(
     alloc: Global,
-    variables: &[Text],
+    variables: &SortedNames,
     vocabulary: &Vocabulary,
     graph: &GraphName,
     source: &S,
     looked: &Cell<u64>,
     mut rows: Vec<Row>,
     member: &Member,
-    under: &Row,
+    under: &Above,
 ) -> Result<Vec<Row>, NoMemory>
     ensures { IfOk result (λ out. AreMade variables.now (S.contents source.now) graph.now under.now
         (element member.now) rows.items out.items) }
@@ -301,7 +309,7 @@ fn rows_gathered<S: Source>(
 #[cycle(follow)]
 fn rows_followed<S: Source>(
     alloc: Global,
-    variables: &[Text],
+    variables: &SortedNames,
     vocabulary: &Vocabulary,
     graph: &GraphName,
     source: &S,
@@ -309,7 +317,7 @@ fn rows_followed<S: Source>(
     rows: &[Row],
     flags: &[bool],
     member: &Member,
-    under: &Row,
+    under: &Above,
 ) -> Result<Made, NoMemory>
     requires { length flags.now ≡ length variables.now }
     ensures { IfOk result (λ m. AreMade variables.now (S.contents source.now) graph.now under.now
@@ -348,7 +356,7 @@ fn rows_followed<S: Source>(
 #[cycle(follow)]
 fn found_for<S: Source>(
     alloc: Global,
-    variables: &[Text],
+    variables: &SortedNames,
     vocabulary: &Vocabulary,
     graph: &GraphName,
     source: &S,
@@ -356,7 +364,7 @@ fn found_for<S: Source>(
     row: &Row,
     flags: &[bool],
     member: &Member,
-    under: &Row,
+    under: &Above,
 ) -> Result<Found, NoMemory>
     ensures columns { IfOk result (λ f. f.columns ≡ masked flags.now row.now) }
     ensures rows { IfOk result (λ f. AreUnder variables.now (S.contents source.now)
@@ -376,7 +384,7 @@ fn found_for<S: Source>(
 #[cycle(follow)]
 fn with_the_rest<S: Source>(
     alloc: Global,
-    variables: &[Text],
+    variables: &SortedNames,
     vocabulary: &Vocabulary,
     graph: &GraphName,
     source: &S,
@@ -384,7 +392,7 @@ fn with_the_rest<S: Source>(
     rows: &[Row],
     made: Made,
     member: &Member,
-    under: &Row,
+    under: &Above,
 ) -> Result<Vec<Row>, NoMemory>
     ensures { IfOk result (λ out.
         AreMade variables.now (S.contents source.now) graph.now under.now (element member.now)
@@ -396,7 +404,7 @@ fn with_the_rest<S: Source>(
         return Ok(made.rows);
     }
     let rest = &rows[made.done..];
-    let nothing = Row::empty(alloc, variables.len(), 0)?;
+    let nothing = Row::unbound(alloc, variables)?;
     let asked = asked(alloc, member, under, &nothing)?;
     let found = member_under(
         alloc, variables, vocabulary, graph, source, looked, member, &asked,
@@ -411,13 +419,13 @@ fn with_the_rest<S: Source>(
 #[cycle(follow)]
 fn member_under<S: Source>(
     alloc: Global,
-    variables: &[Text],
+    variables: &SortedNames,
     vocabulary: &Vocabulary,
     graph: &GraphName,
     source: &S,
     looked: &Cell<u64>,
     member: &Member,
-    under: &Row,
+    under: &Above,
 ) -> Result<Vec<Row>, NoMemory>
     ensures { IfOk result (λ out. AreUnder variables.now (S.contents source.now) under.now out.items
         (λ d. element_solutions variables.now d graph.now (element member.now))) }
@@ -449,13 +457,13 @@ fn member_under<S: Source>(
 #[cycle(follow)]
 fn union_under<S: Source>(
     alloc: Global,
-    variables: &[Text],
+    variables: &SortedNames,
     vocabulary: &Vocabulary,
     graph: &GraphName,
     source: &S,
     looked: &Cell<u64>,
     groups: &[Pattern],
-    under: &Row,
+    under: &Above,
 ) -> Result<Vec<Row>, NoMemory>
     ensures { IfOk result (λ out. AreUnder variables.now (S.contents source.now) under.now out.items
         (λ d. solutions variables.now d graph.now (union_of (map translation groups.now)))) }
@@ -478,13 +486,13 @@ fn union_under<S: Source>(
 #[cycle(follow)]
 pub(crate) fn graph_under<S: Source>(
     alloc: Global,
-    variables: &[Text],
+    variables: &SortedNames,
     vocabulary: &Vocabulary,
     name: &VarOrIri,
     source: &S,
     looked: &Cell<u64>,
     pattern: &Pattern,
-    under: &Row,
+    under: &Above,
 ) -> Result<Vec<Row>, NoMemory>
     ensures { IfOk result (λ out. (active : GraphName) →
         AreUnder variables.now (S.contents source.now) under.now out.items
@@ -517,13 +525,13 @@ pub(crate) fn graph_under<S: Source>(
 #[cycle(follow)]
 fn named_under<S: Source>(
     alloc: Global,
-    variables: &[Text],
+    variables: &SortedNames,
     vocabulary: &Vocabulary,
     name: Term,
     source: &S,
     looked: &Cell<u64>,
     pattern: &Pattern,
-    under: &Row,
+    under: &Above,
 ) -> Result<Vec<Row>, NoMemory>
     ensures { IfOk result (λ out. AreUnder variables.now (S.contents source.now) under.now out.items
         (λ d. cond (list_any (same_term name) d.names)
@@ -543,13 +551,13 @@ fn named_under<S: Source>(
 #[cycle(follow)]
 fn reading_under<S: Source>(
     alloc: Global,
-    variables: &[Text],
+    variables: &SortedNames,
     vocabulary: &Vocabulary,
     variable: &Text,
     source: &S,
     looked: &Cell<u64>,
     pattern: &Pattern,
-    under: &Row,
+    under: &Above,
 ) -> Result<Vec<Row>, NoMemory>
     ensures { IfOk result (λ out. (active : GraphName) →
         AreUnder variables.now (S.contents source.now) under.now out.items
@@ -586,7 +594,7 @@ fn reading_under<S: Source>(
 #[cycle(follow)]
 fn each_under<S: Source>(
     alloc: Global,
-    variables: &[Text],
+    variables: &SortedNames,
     vocabulary: &Vocabulary,
     variable: &Text,
     names: &[Term],
@@ -595,7 +603,7 @@ fn each_under<S: Source>(
     members: &[Member],
     many: usize,
     filters: &[Expression],
-    under: &Row,
+    under: &Above,
 ) -> Result<Vec<Row>, NoMemory>
     requires { many ≤ length members.now }
     ensures { IfOk result (λ out. length under.now ≡ length variables.now →

@@ -4,7 +4,8 @@ ghost use Rattle.sparql_algebra.specs.Results.{is_some_solution};
 ghost use Rattle.sparql_algebra.specs.Solutions.{satisfies};
 
 use crate::rows::Row;
-use rdf_terms::{NoMemory, Text, Vocabulary};
+use crate::sorted_names::SortedNames;
+use rdf_terms::{NoMemory, Vocabulary};
 use sparql_trees::Expression;
 use sparql_values::is_satisfied;
 use std::alloc::Global;
@@ -12,7 +13,7 @@ use std::alloc::Global;
 // Whether each of the filters is true of the row.
 fn satisfies(
     alloc: Global,
-    variables: &[Text],
+    variables: &SortedNames,
     vocabulary: &Vocabulary,
     row: &Row,
     filters: &[Expression],
@@ -20,7 +21,13 @@ fn satisfies(
     ensures { IfOk result (λ b. b ≡ satisfies variables.now filters.now row.now) }
 {
     for filter in filters {
-        if !is_satisfied(alloc, variables, row.values(), vocabulary, filter)? {
+        if !is_satisfied(
+            alloc,
+            variables.as_slice(),
+            row.values(),
+            vocabulary,
+            filter,
+        )? {
             return Ok(false);
         }
     }
@@ -30,7 +37,7 @@ fn satisfies(
 /// The rows of which each of the filters is true, neither false nor an error.
 pub(crate) fn filtered_rows(
     alloc: Global,
-    variables: &[Text],
+    variables: &SortedNames,
     vocabulary: &Vocabulary,
     rows: Vec<Row>,
     filters: &[Expression],
@@ -53,7 +60,7 @@ pub(crate) fn filtered_rows(
 /// Whether each of the filters is true of one of the rows.
 pub(crate) fn some_satisfies(
     alloc: Global,
-    variables: &[Text],
+    variables: &SortedNames,
     vocabulary: &Vocabulary,
     rows: &[Row],
     filters: &[Expression],

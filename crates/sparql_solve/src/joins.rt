@@ -9,7 +9,8 @@ use crate::filters::filtered_rows;
 use crate::keys::{Part, run_of};
 use crate::parts::{cut_parts, parted, parts_of};
 use crate::rows::Row;
-use rdf_terms::{NoMemory, Text, Vocabulary};
+use crate::sorted_names::SortedNames;
+use rdf_terms::{NoMemory, Vocabulary};
 use sparql_trees::Expression;
 use std::alloc::Global;
 
@@ -92,7 +93,7 @@ pub(crate) fn or_alone(alloc: Global, row: &Row, mut merged: Vec<Row>) -> Result
 // A row's part of LeftJoin.
 fn optional_merges(
     alloc: Global,
-    variables: &[Text],
+    variables: &SortedNames,
     vocabulary: &Vocabulary,
     row: &Row,
     parts: &[Part],
@@ -110,7 +111,7 @@ fn optional_merges(
 // Appends each row's part of LeftJoin.
 fn append_left_joins(
     alloc: Global,
-    variables: &[Text],
+    variables: &SortedNames,
     vocabulary: &Vocabulary,
     rows: &[&Row],
     parts: &[Part],
@@ -132,7 +133,7 @@ fn append_left_joins(
 /// row that has none.
 pub(crate) fn left_join(
     alloc: Global,
-    variables: &[Text],
+    variables: &SortedNames,
     vocabulary: &Vocabulary,
     left: &[Row],
     right: &[Row],

@@ -5,6 +5,7 @@
 //! nothing, reads no text, and writes none: rows are terms.
 #![tactic(auto)]
 
+mod above;
 mod asking;
 mod basic;
 mod chunks;
@@ -27,8 +28,10 @@ mod rows;
 mod shapes;
 mod sharing;
 mod sides;
+mod sorted_names;
 
 pub use keys::runs_give_merges;
 pub use laws::{look_ups_are_merges, rows_are_followed};
 pub use results::{Solutions, ask, ask_with, select, select_with, solve, sorted_solutions};
 pub use rows::Row;
+pub use sorted_names::SortedNames;

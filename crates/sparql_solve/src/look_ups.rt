@@ -1,6 +1,6 @@
 //! Basic graph patterns looked up under the rows of the left side (SPARQL 1.1 Query, sections 13.3,
 //! 18.3.1 and 18.5).
-ghost use Rattle.std.specs.Prelude.{◌≡◌, ◌∷◌, [], IfOk, IfSome};
+ghost use Rattle.std.specs.Prelude.{◌≡◌, ◌∷◌, [], IfOk, IfSome, length};
 ghost use Rattle.std.specs.Option.{option_copied};
 ghost use Rattle.std.specs.List.{flat_map, list_any};
 ghost use Rattle.rdf_terms.specs.declared.term.Term.{Term};
@@ -13,13 +13,13 @@ ghost use Rattle.sparql_solve.specs.LookUps.{looked_up};
 ghost use Rattle.sparql_solve.specs.Sides.{found, found_in, found_under, graph_where, graphs_of, look_up_in, tried};
 ghost use Rattle.sparql_solve.specs.Members.{AreSolutions};
 
-use crate::matching::{cut_rows, matching_rows, rows_of_one, some_of_one};
+use crate::matching::{asks_same, cut_rows, matching_rows, moved_of_one, rows_of_one, some_of_one};
 use crate::place::{Places, all_places};
 use crate::rows::{Row, copy_value};
+use crate::sorted_names::SortedNames;
 use rdf_dataset::Source;
 use rdf_terms::{GraphName, Items, NoMemory, Term, Text};
 use sparql_trees::{BasicGraphPattern, VarOrIri};
-use sparql_values::column;
 use std::alloc::Global;
 
 /// Where a basic graph pattern is looked up.
@@ -87,7 +87,7 @@ pub(crate) fn graphs_of<S: Source>(source: &S, name: &VarOrIri) -> Result<Graphs
 /// The look-ups of a basic graph pattern in these graphs.
 pub(crate) fn look_up_in(
     alloc: Global,
-    variables: &[Text],
+    variables: &SortedNames,
     graphs: Graphs,
     basic: &BasicGraphPattern,
 ) -> Result<LookUp, NoMemory>
@@ -100,6 +100,24 @@ pub(crate) fn look_up_in(
         places,
         hidden,
     })
+}
+
+/// Whether the rows have the same at each place of the triple patterns. Nothing but time rests on it.
+pub(crate) fn asks_all_same(row: &Row, other: &Row, patterns: &[Places]) -> bool {
+    patterns.iter().all(|places| asks_same(row, other, places))
+}
+
+/// The look-ups of no triple pattern: what they find are the graphs.
+pub(crate) fn look_up_of_names(alloc: Global, graphs: Graphs) -> LookUp
+    ensures graphs { result.graphs ≡ graphs }
+    ensures places { result.places ≡ [] }
+    ensures hidden { result.hidden ≡ 0 }
+{
+    LookUp {
+        graphs,
+        places: Items::new(alloc),
+        hidden: 0,
+    }
 }
 
 // The only triple pattern, where there are no hidden variables.
@@ -116,6 +134,27 @@ fn lone_pattern(look_up: &LookUp) -> Option<&Places>
     }
 }
 
+// What is found in one graph under the row, which is moved on.
+fn grown_in_graph<S: Source>(
+    alloc: Global,
+    graph: &GraphName,
+    source: &S,
+    look_up: &LookUp,
+    row: Row,
+) -> Result<Vec<Row>, NoMemory>
+    ensures { IfOk result (λ out. AreSolutions (S.contents source.now) out.items
+        (λ d. found_in d look_up.now graph.now row)) }
+{
+    if let Some(places) = lone_pattern(look_up) {
+        return moved_of_one(alloc, graph, source, places, row);
+    }
+    let columns = row.values().len();
+    let mut start = Vec::new(alloc);
+    start.push(row.widen(alloc, look_up.hidden)?)?;
+    let rows = matching_rows(alloc, graph, source, look_up.places.as_slice(), start)?;
+    cut_rows(alloc, rows, columns)
+}
+
 // What is found under the row in one graph.
 fn rows_in_graph<S: Source>(
     alloc: Global,
@@ -130,10 +169,7 @@ fn rows_in_graph<S: Source>(
     if let Some(places) = lone_pattern(look_up) {
         return rows_of_one(alloc, graph, source, places, row);
     }
-    let mut start = Vec::new(alloc);
-    start.push(row.widened(alloc, look_up.hidden)?)?;
-    let rows = matching_rows(alloc, graph, source, look_up.places.as_slice(), start)?;
-    cut_rows(alloc, rows, row.values().len())
+    grown_in_graph(alloc, graph, source, look_up, row.copy(alloc)?)
 }
 
 /// The names that a graph's variable may have, which has this value so far.
@@ -160,7 +196,7 @@ pub(crate) fn tried_names<S: Source>(
 // What is found under the row in the graph of the name, to which the variable is bound first.
 fn rows_under_name<S: Source>(
     alloc: Global,
-    variables: &[Text],
+    variables: &SortedNames,
     variable: &Text,
     name: &Term,
     source: &S,
@@ -182,7 +218,7 @@ fn rows_under_name<S: Source>(
 // What is found under the row in the graphs of these names.
 fn rows_under_names<S: Source>(
     alloc: Global,
-    variables: &[Text],
+    variables: &SortedNames,
     variable: &Text,
     names: &[Term],
     source: &S,
@@ -203,7 +239,7 @@ fn rows_under_names<S: Source>(
 /// What is found under the row.
 pub(crate) fn found_rows<S: Source>(
     alloc: Global,
-    variables: &[Text],
+    variables: &SortedNames,
     source: &S,
     look_up: &LookUp,
     row: &Row,
@@ -215,9 +251,76 @@ pub(crate) fn found_rows<S: Source>(
         Graphs::One(graph) => rows_in_graph(alloc, graph, source, look_up, row),
         Graphs::Missing => Ok(Vec::new(alloc)),
         Graphs::Each(variable) => {
-            let value = copy_value(row.value_in(column(variables, variable)))?;
+            let value = copy_value(row.value_in(variables.column(variable)))?;
             let names = tried_names(alloc, source, value)?;
             rows_under_names(alloc, variables, variable, &names, source, look_up, row)
+        }
+    }
+}
+
+// What is found in the graph of the name under the row, which is moved on, the variable bound first.
+fn grown_under_name<S: Source>(
+    alloc: Global,
+    variables: &SortedNames,
+    variable: &Text,
+    name: &Term,
+    source: &S,
+    look_up: &LookUp,
+    mut row: Row,
+) -> Result<Vec<Row>, NoMemory>
+    ensures { IfOk result (λ out. length row ≡ length variables.now →
+        AreSolutions (S.contents source.now) out.items
+        (λ d. found_under variables.now d look_up.now variable.now row name.now)) }
+{
+    if !row.bind(variables.column(variable), name)? {
+        return Ok(Vec::new(alloc));
+    }
+    let graph = GraphName::Named(name.copy()?);
+    grown_in_graph(alloc, &graph, source, look_up, row)
+}
+
+// What is found in the graphs of these names under the row, which is moved on to the last one.
+fn grown_under_names<S: Source>(
+    alloc: Global,
+    variables: &SortedNames,
+    variable: &Text,
+    names: &[Term],
+    source: &S,
+    look_up: &LookUp,
+    row: Row,
+) -> Result<Vec<Row>, NoMemory>
+    ensures { IfOk result (λ out. length row ≡ length variables.now →
+        AreSolutions (S.contents source.now) out.items (λ d.
+        flat_map (found_under variables.now d look_up.now variable.now row) names.now)) }
+{
+    let Some((last, others)) = names.split_last() else {
+        return Ok(Vec::new(alloc));
+    };
+    let mut out = rows_under_names(alloc, variables, variable, others, source, look_up, &row)?;
+    let mut more = grown_under_name(alloc, variables, variable, last, source, look_up, row)?;
+    out.append(&mut more)?;
+    Ok(out)
+}
+
+/// What is found under the row, which is moved on.
+pub(crate) fn grown_rows<S: Source>(
+    alloc: Global,
+    variables: &SortedNames,
+    source: &S,
+    look_up: &LookUp,
+    row: Row,
+) -> Result<Vec<Row>, NoMemory>
+    ensures { IfOk result (λ out. length row ≡ length variables.now →
+        AreSolutions (S.contents source.now) out.items
+        (λ d. found variables.now d look_up.now row)) }
+{
+    match &look_up.graphs {
+        Graphs::One(graph) => grown_in_graph(alloc, graph, source, look_up, row),
+        Graphs::Missing => found_rows(alloc, variables, source, look_up, &row),
+        Graphs::Each(variable) => {
+            let value = copy_value(row.value_in(variables.column(variable)))?;
+            let names = tried_names(alloc, source, value)?;
+            grown_under_names(alloc, variables, variable, &names, source, look_up, row)
         }
     }
 }
@@ -225,7 +328,7 @@ pub(crate) fn found_rows<S: Source>(
 /// Some of what is found under the row, one at least where there is any.
 pub(crate) fn some_found<S: Source>(
     alloc: Global,
-    variables: &[Text],
+    variables: &SortedNames,
     source: &S,
     look_up: &LookUp,
     row: &Row,

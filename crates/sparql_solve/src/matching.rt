@@ -97,8 +97,8 @@ fn append_matches(
     Ok(())
 }
 
-// Whether the rows have the same at the places.
-fn asks_same(row: &Row, other: &Row, places: &Places) -> bool
+/// Whether the rows have the same at the places.
+pub(crate) fn asks_same(row: &Row, other: &Row, places: &Places) -> bool
     ensures { IsTrue result → AsksSame places.now row.now other.now }
 {
     row.holds_same(other, &places.subject)
@@ -190,6 +190,24 @@ pub(crate) fn rows_of_one<S: Source>(
 {
     let quads = quads_of(alloc, graph, source, places, row)?;
     copies_matched(alloc, row, places, &quads)
+}
+
+/// The rows that one triple pattern makes of a row, by a look-up of its triples: the last one of the
+/// row itself.
+pub(crate) fn moved_of_one<S: Source>(
+    alloc: Global,
+    graph: &GraphName,
+    source: &S,
+    places: &Places,
+    row: Row,
+) -> Result<Vec<Row>, NoMemory>
+    ensures { IfOk result (λ out. AreSolutions (S.contents source.now) out.items
+        (λ d. matches_of (d.quads graph.now) places.now row)) }
+{
+    let found = quads_of(alloc, graph, source, places, &row)?;
+    let mut out = Vec::new(alloc);
+    append_matches(alloc, row, places, &found, &mut out)?;
+    Ok(out)
 }
 
 /// Some of the rows that one triple pattern makes of a row, one at least where there are any: a quad

@@ -1,17 +1,18 @@
 //! Members of groups: which of them are looked up, and which variables they name.
-ghost use Rattle.std.specs.Prelude.{◌≡◌, ◌∷◌, [], IfOk, IfSome, Some, map};
+ghost use Rattle.std.specs.Prelude.{◌≡◌, ◌∷◌, [], IfOk, IfSome, IsTrue, Some, map};
 ghost use Rattle.std.specs.Option.{option_copied};
 ghost use Rattle.rdf_terms.specs.declared.quad.GraphName.{GraphName};
 ghost use Rattle.sparql_trees.specs.declared.pattern.BasicGraphPattern.{BasicGraphPattern};
 ghost use Rattle.sparql_algebra.specs.Algebra.{element, graph, translation, union_of};
 ghost use Rattle.sparql_algebra.specs.Solutions.{solutions};
-ghost use Rattle.sparql_solve.specs.Sides.{HoldsJust, HoldsOnly, RemovesJust, lone_joined};
+ghost use Rattle.sparql_solve.specs.Sides.{HoldsJust, HoldsNone, HoldsOnly, RemovesJust, lone_joined};
 ghost use Rattle.sparql_solve.specs.Members.{element_solutions};
 ghost use Rattle.sparql_solve.specs.Under.{IsLookUpOf, is_joined, is_removed};
 
-use crate::look_ups::{Graphs, LookUp, graphs_of, look_up_in};
+use crate::look_ups::{Graphs, LookUp, graphs_of, look_up_in, look_up_of_names};
+use crate::sorted_names::SortedNames;
 use rdf_dataset::Source;
-use rdf_terms::{GraphName, NoMemory, Text};
+use rdf_terms::{GraphName, NoMemory};
 use sparql_trees::{BasicGraphPattern, Member, Pattern, VarOrIri};
 use std::alloc::Global;
 
@@ -85,10 +86,18 @@ pub(crate) fn removed_basic(member: &Member) -> Option<&BasicGraphPattern>
     }
 }
 
-// The look-ups of GRAPH with a basic graph pattern, whichever graph is the active one.
+// Whether the group holds neither members nor filters.
+fn holds_none(pattern: &Pattern) -> bool
+    ensures { IsTrue result → HoldsNone pattern.now }
+{
+    pattern.members.is_empty() && pattern.filters.is_empty()
+}
+
+// The look-ups of GRAPH with a basic graph pattern or with nothing, whichever graph is the active
+// one.
 fn look_up_of_graph<S: Source>(
     alloc: Global,
-    variables: &[Text],
+    variables: &SortedNames,
     source: &S,
     name: &VarOrIri,
     pattern: &Pattern,
@@ -97,6 +106,10 @@ fn look_up_of_graph<S: Source>(
         IsLookUpOf variables.now (S.contents source.now) look_up
         (λ d. solutions variables.now d active (graph name.now (translation pattern.now))))) }
 {
+    if holds_none(pattern) {
+        let named = graphs_of(source, name)?;
+        return Ok(Some(look_up_of_names(alloc, named)));
+    }
     let Some(basic) = lone_basic(pattern) else {
         return Ok(None);
     };
@@ -117,7 +130,7 @@ fn lone_group(groups: &[Pattern]) -> Option<&Pattern>
 // The look-ups of a group that stands alone, without UNION, and holds just a basic graph pattern.
 fn look_up_of_groups<S: Source>(
     alloc: Global,
-    variables: &[Text],
+    variables: &SortedNames,
     graph: &GraphName,
     _source: &S,
     groups: &[Pattern],
@@ -139,7 +152,7 @@ fn look_up_of_groups<S: Source>(
 /// The look-ups of a member that is a basic graph pattern, by itself, in GRAPH or in a group.
 pub(crate) fn look_up_of_joined<S: Source>(
     alloc: Global,
-    variables: &[Text],
+    variables: &SortedNames,
     graph: &GraphName,
     source: &S,
     member: &Member,
@@ -167,7 +180,7 @@ pub(crate) fn look_up_of_joined<S: Source>(
 /// OPTIONAL.
 pub(crate) fn look_up_of<S: Source>(
     alloc: Global,
-    variables: &[Text],
+    variables: &SortedNames,
     graph: &GraphName,
     source: &S,
     member: &Member,

@@ -6,34 +6,35 @@ ghost use Rattle.sparql_algebra.specs.Solutions.{joins};
 ghost use Rattle.sparql_algebra.specs.Under.{agreeing, names_left};
 ghost use Rattle.sparql_values.specs.Mapping.{single, value_of};
 
+use crate::above::Above;
 use crate::joins::join;
 use crate::look_ups::tried_names;
 use crate::rows::{Row, copy_value};
 use crate::sides::compatible_rows;
+use crate::sorted_names::SortedNames;
 use rdf_dataset::Source;
 use rdf_terms::{NoMemory, Term, Text};
-use sparql_values::column;
 use std::alloc::Global;
 
 /// The names that the variable may have beside what the row has there.
 pub(crate) fn names_under<S: Source>(
     alloc: Global,
-    variables: &[Text],
+    variables: &SortedNames,
     variable: &Text,
     source: &S,
-    under: &Row,
+    under: &Above,
 ) -> Result<Vec<Term>, NoMemory>
     ensures { IfOk result (λ names. (d : Listing) → Lists (S.contents source.now) d →
         SameBag names.items (names_left d.names (value_of variables.now under.now variable.now))) }
 {
-    let value = copy_value(under.value_in(column(variables, variable)))?;
+    let value = copy_value(under.value_in(variables.column(variable)))?;
     tried_names(alloc, source, value)
 }
 
 // The rows that bind one variable alone to these names.
 fn single_rows(
     alloc: Global,
-    variables: &[Text],
+    variables: &SortedNames,
     variable: &Text,
     names: &[Term],
 ) -> Result<Vec<Row>, NoMemory>
@@ -51,11 +52,11 @@ fn single_rows(
 /// with the row above.
 pub(crate) fn rows_of_names(
     alloc: Global,
-    variables: &[Text],
+    variables: &SortedNames,
     variable: &Text,
     names: &[Term],
     rows: &[Row],
-    under: &Row,
+    under: &Above,
 ) -> Result<Vec<Row>, NoMemory>
     ensures { IfOk result (λ out. SameBag out.items
         (agreeing (joins rows.now (map (single variables.now variable.now) names.now)) under.now)) }

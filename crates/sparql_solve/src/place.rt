@@ -4,9 +4,9 @@ ghost use Rattle.sparql_algebra.specs.Solutions.{var_or_term};
 ghost use Rattle.sparql_solve.specs.Matching.{place_of, places_of};
 ghost use Rattle.sparql_trees.specs.declared.pattern.VarOrTerm.TheVariants.{Variable};
 
+use crate::sorted_names::SortedNames;
 use rdf_terms::{NoMemory, Term, Text};
 use sparql_trees::{TriplePattern, VarOrIri, VarOrTerm};
-use sparql_values::column;
 use std::alloc::Global;
 
 /// Where a place of a triple pattern gets its term.
@@ -28,16 +28,16 @@ pub struct Places {
     pub object: Place,
 }
 
-fn place_of_variable(variables: &[Text], name: &Text) -> Place
+fn place_of_variable(variables: &SortedNames, name: &Text) -> Place
     ensures { result ≡ place_of variables.now (Variable name.now) }
 {
-    match column(variables, name) {
+    match variables.column(name) {
         Some(column) => Place::Column(column as u128),
         None => Place::Nowhere,
     }
 }
 
-fn place_of(variables: &[Text], term: &VarOrTerm) -> Result<Place, NoMemory>
+fn place_of(variables: &SortedNames, term: &VarOrTerm) -> Result<Place, NoMemory>
     ensures { IfOk result (λ place. place ≡ place_of variables.now term.now) }
 {
     Ok(match term {
@@ -49,7 +49,7 @@ fn place_of(variables: &[Text], term: &VarOrTerm) -> Result<Place, NoMemory>
     })
 }
 
-fn place_of_predicate(variables: &[Text], predicate: &VarOrIri) -> Result<Place, NoMemory>
+fn place_of_predicate(variables: &SortedNames, predicate: &VarOrIri) -> Result<Place, NoMemory>
     ensures { IfOk result (λ place. place ≡ place_of variables.now (var_or_term predicate.now)) }
 {
     Ok(match predicate {
@@ -59,7 +59,7 @@ fn place_of_predicate(variables: &[Text], predicate: &VarOrIri) -> Result<Place,
 }
 
 // The places of a triple pattern, whose variables have the first columns.
-fn places_of(variables: &[Text], pattern: &TriplePattern) -> Result<Places, NoMemory>
+fn places_of(variables: &SortedNames, pattern: &TriplePattern) -> Result<Places, NoMemory>
     ensures { IfOk result (λ places. places ≡ places_of variables.now pattern.now) }
 {
     Ok(Places {
@@ -72,7 +72,7 @@ fn places_of(variables: &[Text], pattern: &TriplePattern) -> Result<Places, NoMe
 /// The places of each triple pattern.
 pub(crate) fn all_places(
     alloc: Global,
-    variables: &[Text],
+    variables: &SortedNames,
     patterns: &[TriplePattern],
 ) -> Result<Vec<Places>, NoMemory>
     ensures { IfOk result (λ out. out.items ≡ map (places_of variables.now) patterns.now) }

@@ -11,17 +11,19 @@ use crate::evaluator::group_rows;
 use crate::order::{ordered, sort_rows};
 use crate::rows::Row;
 use crate::shapes::has_minus;
+use crate::sorted_names::SortedNames;
 use rdf_dataset::Source;
-use rdf_terms::{GraphName, Items, NoMemory, Text, Vocabulary};
-use sparql_trees::{Pattern, Select, named_variables, visible_variables};
-use sparql_values::column;
+use rdf_terms::{GraphName, NoMemory, Text, Vocabulary};
+use sparql_trees::{
+    Pattern, Select, named_variables, one_list_of_visible_variables, visible_variables,
+};
 use std::alloc::Global;
 
 /// The solutions of a pattern.
 #[derive(Drop)]
 pub struct Solutions {
     /// The visible variables in the order of their names.
-    pub variables: Items<Text>,
+    pub variables: SortedNames,
     /// The solutions, each as often as the algebra counts it, from [`solve`] in any order and from
     /// [`sorted_solutions`] in theirs; the columns of a row are the variables.
     pub rows: Vec<Row>,
@@ -56,12 +58,13 @@ fn solve_with<S: Source>(
     ensures { IfOk result (λ s. Solves pattern.now graph.now (S.contents source.now)
         s.variables s.rows.items) }
 {
-    let variables = visible_variables(alloc, pattern)?;
+    let listed = visible_variables(alloc, pattern)?;
+    one_list_of_visible_variables();
+    let variables = SortedNames::from_rising(listed);
     if has_minus(pattern) {
         return solve_minus(alloc, vocabulary, pattern, graph, source, variables);
     }
-    let names = variables.as_slice();
-    let rows = group_rows(alloc, names, vocabulary, graph, source, pattern)?;
+    let rows = group_rows(alloc, &variables, vocabulary, graph, source, pattern)?;
     Ok(Solutions { variables, rows })
 }
 
@@ -72,26 +75,27 @@ fn solve_minus<S: Source>(
     pattern: &Pattern,
     graph: &GraphName,
     source: &S,
-    variables: Items<Text>,
+    variables: SortedNames,
 ) -> Result<Solutions, NoMemory>
     requires { variables ≡ visible pattern.now }
     ensures { IfOk result (λ s. Solves pattern.now graph.now (S.contents source.now)
         s.variables s.rows.items) }
 {
-    let named = named_variables(alloc, pattern)?;
-    let all = named.as_slice();
-    let rows = group_rows(alloc, all, vocabulary, graph, source, pattern)?;
-    if all == variables.as_slice() {
+    let listed = named_variables(alloc, pattern)?;
+    one_list_of_visible_variables();
+    let all = SortedNames::from_rising(listed);
+    let rows = group_rows(alloc, &all, vocabulary, graph, source, pattern)?;
+    if all.as_slice() == variables.as_slice() {
         return Ok(Solutions { variables, rows });
     }
-    let rows = shown_rows(alloc, all, variables.as_slice(), &rows)?;
+    let rows = shown_rows(alloc, &all, variables.as_slice(), &rows)?;
     Ok(Solutions { variables, rows })
 }
 
 // What rows over these names have at the variables.
 fn shown_rows(
     alloc: Global,
-    names: &[Text],
+    names: &SortedNames,
     variables: &[Text],
     rows: &[Row],
 ) -> Result<Vec<Row>, NoMemory>
@@ -131,14 +135,14 @@ pub fn sorted_solutions<S: Source>(
 // The columns of the names; a name that is no variable has none.
 fn columns_of(
     alloc: Global,
-    variables: &[Text],
+    variables: &SortedNames,
     names: &[Text],
 ) -> Result<Vec<Option<usize>>, NoMemory>
     ensures { IfOk result (λ columns. columns.items ≡ map (column variables.now) names.now) }
 {
     let mut columns = Vec::new(alloc);
     for name in names {
-        columns.push(column(variables, name))?;
+        columns.push(variables.column(name))?;
     }
     Ok(columns)
 }
@@ -271,7 +275,7 @@ pub fn select_with<S: Source>(
         &GraphName::Default,
         source,
     )?;
-    let columns = columns_of(alloc, found.variables.as_slice(), query.columns.as_slice())?;
+    let columns = columns_of(alloc, &found.variables, query.columns.as_slice())?;
     let fewer = selected_rows(alloc, found.rows, columns.as_slice(), query.distinct)?;
     Ok(ordered(fewer, query.distinct)?)
 }
@@ -299,8 +303,9 @@ pub fn ask_with<S: Source>(
 ) -> Result<bool, NoMemory>
     ensures { IfOk result (λ answer. HasSolution pattern.now (S.contents source.now) answer) }
 {
-    let named = named_variables(alloc, pattern)?;
-    let names = named.as_slice();
+    let listed = named_variables(alloc, pattern)?;
+    one_list_of_visible_variables();
+    let names = SortedNames::from_rising(listed);
     let graph = GraphName::Default;
-    has_solution(alloc, names, vocabulary, &graph, source, pattern)
+    has_solution(alloc, &names, vocabulary, &graph, source, pattern)
 }

@@ -1,7 +1,7 @@
 //! Rows: mappings over the columns of a pattern (SPARQL 1.1 Query, section 18.1.4).
 ghost use Rattle.std.specs.Prelude.{◌≡◌, ◌+◌, ◌<◌, length, is_none, is_some, slice_get, slice_set, Some, IfOk, IfSome, IsTrue, cond, replicate, None, take, if◌then◌else◌, nat_lt, map};
 ghost use Rattle.std.specs.Option.{option_copied, option_map};
-ghost use Rattle.sparql_values.specs.Mapping.{agrees, compatible, merge, same_mapping, same_term, same_value, single, value_at, value_in};
+ghost use Rattle.sparql_values.specs.Mapping.{agrees, compatible, empty_mapping, merge, same_mapping, same_term, same_value, set_in, single, value_at, value_in};
 ghost use Rattle.sparql_algebra.specs.Order.{mapping_cmp};
 ghost use Rattle.sparql_algebra.specs.Solutions.{both_have, shares};
 ghost use Rattle.sparql_solve.specs.LookUps.{widened};
@@ -9,8 +9,8 @@ ghost use Rattle.sparql_solve.specs.Matching.{assigned, held, vacant};
 ghost use Rattle.sparql_solve.specs.Under.{below, binds_none, lies, masked, shown};
 
 use crate::place::Place;
+use crate::sorted_names::SortedNames;
 use rdf_terms::{NoMemory, Term, Text};
-use sparql_values::column;
 use std::alloc::Global;
 use std::cmp::Ordering;
 use std::marker::Model;
@@ -47,6 +47,16 @@ fn agree(x: &Option<Term>, y: &Option<Term>) -> bool
     }
 }
 
+// Whether the value is no other term.
+fn agree_with(value: Option<&Term>, term: &Term) -> bool
+    ensures { result ≡ agrees (option_copied value.entry, Some term.now) }
+{
+    match value {
+        Some(own) => is_same(own, term),
+        None => true,
+    }
+}
+
 // Whether both values are terms.
 fn both_have(x: &Option<Term>, y: &Option<Term>) -> bool
     ensures { result ≡ both_have (x.now, y.now) }
@@ -63,13 +73,6 @@ fn lies(x: &Option<Term>, y: &Option<Term>) -> bool
         (Some(_), None) => false,
         (None, _) => true,
     }
-}
-
-// Whether nothing is shown of the value.
-fn is_hidden(value: &Option<Term>, is_shown: bool) -> bool
-    ensures { result ≡ is_none (shown (value.now, is_shown)) }
-{
-    !is_shown || value.is_none()
 }
 
 // The value, if it is shown.
@@ -159,16 +162,6 @@ impl Row {
         self.values.iter().all(|value| value.is_none())
     }
 
-    /// Whether it binds none of the columns whose flag is up.
-    pub(crate) fn is_unbound_at(&self, flags: &[bool]) -> bool
-        ensures { result ≡ binds_none (masked flags.now self.now) }
-    {
-        self.values
-            .iter()
-            .zip(flags)
-            .all(|(value, is_shown)| is_hidden(value, *is_shown))
-    }
-
     /// Whether each column is unbound or has what the other row has there.
     pub(crate) fn is_below(&self, other: &Row) -> bool
         ensures { result ≡ below self.now other.now }
@@ -204,10 +197,16 @@ impl Row {
     pub(crate) fn widened(&self, alloc: Global, hidden: u64) -> Result<Row, NoMemory>
         ensures { IfOk result (λ row. row ≡ widened hidden self.now) }
     {
-        let mut row = self.copy(alloc)?;
+        Ok(self.copy(alloc)?.widen(alloc, hidden)?)
+    }
+
+    /// The row with so many columns more, which have nothing.
+    pub(crate) fn widen(mut self, alloc: Global, hidden: u64) -> Result<Row, NoMemory>
+        ensures { IfOk result (λ row. row ≡ widened hidden self) }
+    {
         let mut more = Row::empty(alloc, 0, hidden)?;
-        row.values.append(&mut more.values)?;
-        Ok(row)
+        self.values.append(&mut more.values)?;
+        Ok(self)
     }
 
     /// The row of so many columns, with nothing in each.
@@ -221,17 +220,24 @@ impl Row {
         Ok(Row { values })
     }
 
+    /// The row of the variables, with nothing in each column.
+    pub(crate) fn unbound(alloc: Global, variables: &SortedNames) -> Result<Row, NoMemory>
+        ensures { IfOk result (λ row. row ≡ empty_mapping variables.now) }
+    {
+        Row::empty(alloc, variables.len(), 0)
+    }
+
     /// The row that binds one variable alone to a term; nothing where it has no column.
     pub(crate) fn single(
         alloc: Global,
-        variables: &[Text],
+        variables: &SortedNames,
         name: &Text,
         term: &Term,
     ) -> Result<Row, NoMemory>
         ensures { IfOk result (λ row. row ≡ single variables.now name.now term.now) }
     {
-        let mut row = Row::empty(alloc, variables.len(), 0)?;
-        if let Some(column) = column(variables, name) {
+        let mut row = Row::unbound(alloc, variables)?;
+        if let Some(column) = variables.column(name) {
             row.set(column, term.copy()?);
         }
         Ok(row)
@@ -339,6 +345,24 @@ impl Row {
             return Ok(self.admits(place, term));
         };
         self.set(column, term.copy()?);
+        Ok(true)
+    }
+
+    /// Puts the term at the column, if there is one, and answers whether it may stand there: nothing
+    /// else does.
+    pub(crate) fn bind(&mut self, column: Option<usize>, term: &Term) -> Result<bool, NoMemory>
+        ensures fits { IfOk result (λ fits.
+            fits ≡ agrees (value_in self.old column, Some term.now)) }
+        ensures bound { IfOk result (λ fits.
+            IsTrue fits → self.new ≡ set_in self.old column term.now) }
+    {
+        if !agree_with(self.value_in(column), term) {
+            return Ok(false);
+        }
+        let copy = term.copy()?;
+        if let Some(column) = column {
+            self.set(column, copy);
+        }
         Ok(true)
     }
 

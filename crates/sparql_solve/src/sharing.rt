@@ -1,15 +1,17 @@
 //! Rows that share what is found for them: those that have the same at the columns whose variables
 //! a member names. Which columns these are is seen in nothing but time, and so is when rows are
 //! followed no further.
-ghost use Rattle.std.specs.Prelude.{◌≡◌, ◌<◌, ◌≤◌, IfOk, IsPermutation, IsTrue, OnOk, drop, length, take, true};
+ghost use Rattle.std.specs.Prelude.{◌≡◌, ◌++◌, ◌<◌, ◌≤◌, IfOk, IsPermutation, IsTrue, OnOk, drop, length, take, true};
 ghost use Rattle.std.specs.List.{list_all};
 ghost use Rattle.sparql_solve.specs.Under.{is_served};
 
 use crate::rows::Row;
+use crate::sorted_names::SortedNames;
 use rdf_terms::{NoMemory, Text};
 use sparql_trees::{Member, Pattern, TriplePattern, VarOrIri, VarOrTerm};
 use std::alloc::Global;
 use std::cmp::Ordering;
+use std::collections::VecDeque;
 
 // How many look-ups, quads and names a row may take on the whole before rows are followed no
 // further, or before they are looked up no further one by one, where what they share isn't sought;
@@ -26,67 +28,63 @@ const A_TRIPLE: usize = 8;
 
 const MANY: usize = 64;
 
-fn is_named_by(name: &VarOrIri, variable: &Text) -> bool {
-    match name {
-        VarOrIri::Variable(named) => named.cmp(variable).is_eq(),
-        VarOrIri::Iri(_) => false,
+// Raises the flag of the variable's column.
+fn mark(flags: &mut [bool], variables: &SortedNames, variable: &Text) {
+    if let Some(column) = variables.column(variable) {
+        if column < flags.len() {
+            flags[column] = true;
+        }
     }
 }
 
-fn stands_at(place: &VarOrTerm, variable: &Text) -> bool {
-    match place {
-        VarOrTerm::Variable(named) => named.cmp(variable).is_eq(),
-        VarOrTerm::Hidden(_) | VarOrTerm::Term(_) => false,
+fn mark_name(flags: &mut [bool], variables: &SortedNames, name: &VarOrIri) {
+    if let VarOrIri::Variable(variable) = name {
+        mark(flags, variables, variable);
     }
 }
 
-fn stands_in(triple: &TriplePattern, variable: &Text) -> bool {
-    stands_at(&triple.subject, variable)
-        || is_named_by(&triple.predicate, variable)
-        || stands_at(&triple.object, variable)
+fn mark_place(flags: &mut [bool], variables: &SortedNames, place: &VarOrTerm) {
+    if let VarOrTerm::Variable(variable) = place {
+        mark(flags, variables, variable);
+    }
 }
 
-fn stands_in_any(triples: &[TriplePattern], variable: &Text) -> bool {
+fn mark_triples(flags: &mut [bool], variables: &SortedNames, triples: &[TriplePattern]) {
     for triple in triples {
-        if stands_in(triple, variable) {
-            return true;
-        }
+        mark_place(flags, variables, &triple.subject);
+        mark_name(flags, variables, &triple.predicate);
+        mark_place(flags, variables, &triple.object);
     }
-    false
 }
 
 #[cycle(names)]
-fn one_names(groups: &[Pattern], variable: &Text) -> bool {
+fn mark_groups(flags: &mut [bool], variables: &SortedNames, groups: &[Pattern]) {
     for group in groups {
-        if group_names(group, variable) {
-            return true;
-        }
+        mark_group(flags, variables, group);
     }
-    false
 }
 
 #[cycle(names)]
-fn group_names(pattern: &Pattern, variable: &Text) -> bool {
+fn mark_group(flags: &mut [bool], variables: &SortedNames, pattern: &Pattern) {
     let members = pattern.members.as_slice();
     for member in members {
-        if names(member, variable) {
-            return true;
-        }
+        mark_member(flags, variables, member);
     }
-    false
 }
 
-// Whether the variable stands in the member's triple patterns or as GRAPH's name, at any depth.
+// Raises the flags of the variables that stand in the member's triple patterns or as GRAPH's name, at
+// any depth.
 #[cycle(names)]
-fn names(member: &Member, variable: &Text) -> bool {
+fn mark_member(flags: &mut [bool], variables: &SortedNames, member: &Member) {
     match member {
-        Member::Basic(basic) => stands_in_any(basic.triples.as_slice(), variable),
-        Member::Union(groups) => one_names(groups.as_slice(), variable),
-        Member::Optional(pattern) => group_names(pattern, variable),
+        Member::Basic(basic) => mark_triples(flags, variables, basic.triples.as_slice()),
+        Member::Union(groups) => mark_groups(flags, variables, groups.as_slice()),
+        Member::Optional(pattern) => mark_group(flags, variables, pattern),
         Member::Graph(name, pattern) => {
-            is_named_by(name, variable) || group_names(pattern, variable)
+            mark_name(flags, variables, name);
+            mark_group(flags, variables, pattern);
         }
-        Member::Minus(pattern) => group_names(pattern, variable),
+        Member::Minus(pattern) => mark_group(flags, variables, pattern),
     }
 }
 
@@ -94,15 +92,19 @@ fn names(member: &Member, variable: &Text) -> bool {
 /// row shares with no other.
 pub(crate) fn asked_columns(
     alloc: Global,
-    variables: &[Text],
+    variables: &SortedNames,
     member: &Member,
     rows: usize,
 ) -> Result<Vec<bool>, NoMemory>
     ensures { IfOk result (λ flags. length flags.items ≡ length variables.now) }
 {
+    let is_alone = rows < 2;
     let mut flags = Vec::with_capacity(alloc, variables.len())?;
-    for variable in variables {
-        flags.push(rows < 2 || names(member, variable))?;
+    for _column in 0..variables.len() {
+        flags.push(is_alone)?;
+    }
+    if !is_alone {
+        mark_member(&mut flags, variables, member);
     }
     Ok(flags)
 }
@@ -118,11 +120,6 @@ fn compare_at(row: &Row, other: &Row, flags: &[bool]) -> Ordering {
         }
     }
     Ordering::Equal
-}
-
-/// Whether two rows have the same at the columns whose flag is up.
-pub(crate) fn is_alike(row: &Row, other: &Row, flags: &[bool]) -> bool {
-    compare_at(row, other, flags).is_eq()
 }
 
 /// Puts rows side by side that have the same at the columns whose flag is up.
@@ -164,6 +161,28 @@ pub(crate) fn few_beside(rows: usize) -> Option<usize> {
         return None;
     }
     Some(rows / A_TRIPLE)
+}
+
+/// Takes away the rows at the front that are served by what was found for these columns.
+pub(crate) fn served_rows(
+    alloc: Global,
+    asked: &Row,
+    flags: &[bool],
+    rest: &mut VecDeque<Row>,
+) -> Result<Vec<Row>, NoMemory>
+    ensures taken { IfOk result (λ served. rest.old.items ≡ served.items ++ rest.new.items) }
+    ensures served { IfOk result (λ served.
+        list_all (is_served asked.now) served.items ≡ true) }
+{
+    let mut served = Vec::new(alloc);
+    while let Some(row) = rest.pop_front() {
+        if !serves(asked, &row, flags) {
+            rest.push_front(row)?;
+            return Ok(served);
+        }
+        served.push(row)?;
+    }
+    Ok(served)
 }
 
 /// Whether a member is followed no further: a basic graph pattern is to the end, another one as

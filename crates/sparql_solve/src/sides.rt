@@ -1,28 +1,33 @@
 //! What members make of rows: of their merges with what was looked up or found for them (SPARQL 1.1
 //! Query, section 18.5).
-ghost use Rattle.std.specs.Prelude.{◌≡◌, ◌&&◌, ◌<◌, ◌≤◌, false, IfOk, IsTrue, length, map, take};
+ghost use Rattle.std.specs.Prelude.{◌≡◌, ◌&&◌, ◌<◌, ◌∷◌, [], false, IfOk, IsTrue, length, map};
 ghost use Rattle.std.specs.List.{flat_map};
 ghost use Rattle.sparql_algebra.specs.Algebra.{element};
 ghost use Rattle.sparql_algebra.specs.Bags.{SameBag};
-ghost use Rattle.sparql_algebra.specs.Solutions.{merges};
+ghost use Rattle.sparql_algebra.specs.Solutions.{merges, or_alone};
 ghost use Rattle.sparql_algebra.specs.Under.{agreeing};
 ghost use Rattle.sparql_values.specs.Mapping.{merge};
 ghost use Rattle.sparql_solve.specs.Members.{element_solutions};
+ghost use Rattle.sparql_solve.specs.Steps.{Begins};
 ghost use Rattle.sparql_solve.specs.Under.{AreEnough, AreMade, IsLookUpFor, IsLookUpOf, asked, binds_none, counting, is_removed, kept, masked, met, own_columns, where_none};
 
+use crate::above::Above;
+use crate::basic::{is_unbound_in, own_columns};
 use crate::filters::filtered_rows;
 use crate::joins::{join, left_join, or_alone};
-use crate::look_ups::{Graphs, LookUp, found_rows, some_found};
+use crate::look_ups::{Graphs, LookUp, asks_all_same, found_rows, grown_rows, some_found};
 use crate::matching::few_quads_of;
-use crate::members::is_removed;
+use crate::members::{is_joined, is_removed};
 use crate::minus::minus;
 use crate::rows::Row;
-use crate::sharing::{few_beside, is_alike, served_len, stops_looking};
+use crate::sharing::{few_beside, served_rows, stops_looking};
+use crate::sorted_names::SortedNames;
 use rdf_dataset::Source;
-use rdf_terms::{GraphName, NoMemory, Text, Vocabulary};
+use rdf_terms::{GraphName, NoMemory, Vocabulary};
 use sparql_trees::Member;
 use std::alloc::Global;
 use std::cell::Cell;
+use std::collections::VecDeque;
 
 /// What was made of the first rows, where the others may have been left.
 #[derive(Drop)]
@@ -30,6 +35,62 @@ pub(crate) struct Made {
     pub(crate) rows: Vec<Row>,
     /// Of how many rows.
     pub(crate) done: usize,
+}
+
+/// Nothing is made so far.
+pub(crate) fn nothing_made(alloc: Global) -> Made
+    ensures made { result.rows.items ≡ [] }
+    ensures done { result.done ≡ 0 }
+{
+    Made {
+        rows: Vec::new(alloc),
+        done: 0,
+    }
+}
+
+/// What was made of the first rows by look-ups under each of them, and the rows that are left.
+#[derive(Drop)]
+pub(crate) struct Begun {
+    pub(crate) rows: Vec<Row>,
+    pub(crate) rest: Vec<Row>,
+    /// Whether look-ups under each of these would be slow; else there are none.
+    pub(crate) is_slow: bool,
+}
+
+/// Nothing is made: there are no look-ups.
+pub(crate) fn nothing_begun(alloc: Global, rows: Vec<Row>) -> Begun
+    ensures made { result.rows.items ≡ [] }
+    ensures rest { result.rest.items ≡ rows.items }
+{
+    Begun {
+        rows: Vec::new(alloc),
+        rest: rows,
+        is_slow: false,
+    }
+}
+
+// All is made: no rows are left.
+fn all_made(alloc: Global, rows: Vec<Row>) -> Begun
+    ensures made { result.rows.items ≡ rows.items }
+    ensures rest { result.rest.items ≡ [] }
+{
+    Begun {
+        rows,
+        rest: Vec::new(alloc),
+        is_slow: false,
+    }
+}
+
+// What was made by look-ups, and the rows that are left.
+fn begun_with(rows: Vec<Row>, rest: VecDeque<Row>) -> Begun
+    ensures made { result.rows.items ≡ rows.items }
+    ensures rest { result.rest.items ≡ rest.items }
+{
+    Begun {
+        rows,
+        rest: rest.into_vec(),
+        is_slow: true,
+    }
 }
 
 /// What was found for rows that have the same where it was asked for.
@@ -43,7 +104,7 @@ pub(crate) struct Found {
 /// The rows that are compatible with this one.
 pub(crate) fn compatible_rows(
     alloc: Global,
-    under: &Row,
+    under: &Above,
     rows: Vec<Row>,
 ) -> Result<Vec<Row>, NoMemory>
     ensures { IfOk result (λ out. out.items ≡ agreeing rows.items under.now) }
@@ -73,11 +134,16 @@ pub(crate) fn rows_with(alloc: Global, rows: &[Row], bound: &Row) -> Result<Vec<
 
 /// Under what a member is found for a row that stands under another one: OPTIONAL and MINUS under
 /// the row alone.
-pub(crate) fn asked(alloc: Global, member: &Member, under: &Row, row: &Row) -> Result<Row, NoMemory>
+pub(crate) fn asked(
+    alloc: Global,
+    member: &Member,
+    under: &Above,
+    row: &Row,
+) -> Result<Above, NoMemory>
     ensures { IfOk result (λ out. out ≡ asked (element member.now) under.now row.now) }
 {
     match member {
-        Member::Optional(_) | Member::Minus(_) => row.copy(alloc),
+        Member::Optional(_) | Member::Minus(_) => Ok(Above::of(row.copy(alloc)?)),
         Member::Basic(_) | Member::Union(_) | Member::Graph(_, _) => under.merged(alloc, row),
     }
 }
@@ -97,7 +163,7 @@ fn where_none(alloc: Global, row: &Row, merged: &[Row]) -> Result<Vec<Row>, NoMe
 // OPTIONAL's own group are its condition.
 fn passed_rows(
     alloc: Global,
-    variables: &[Text],
+    variables: &SortedNames,
     vocabulary: &Vocabulary,
     row: &Row,
     merged: Vec<Row>,
@@ -120,12 +186,12 @@ fn passed_rows(
 // Of what a member makes of a row what is compatible with the row above.
 fn kept_rows(
     alloc: Global,
-    variables: &[Text],
+    variables: &SortedNames,
     vocabulary: &Vocabulary,
     row: &Row,
     merged: Vec<Row>,
     member: &Member,
-    under: &Row,
+    under: &Above,
 ) -> Result<Vec<Row>, NoMemory>
     ensures { IfOk result (λ out. out.items
         ≡ agreeing (kept variables.now (element member.now) row.now merged.items) under.now) }
@@ -150,12 +216,12 @@ fn merges_of(alloc: Global, row: &Row, found: &[Row]) -> Result<Vec<Row>, NoMemo
 // What a member makes of a row with what was found for it.
 fn made_rows(
     alloc: Global,
-    variables: &[Text],
+    variables: &SortedNames,
     vocabulary: &Vocabulary,
     row: &Row,
     found: &[Row],
     member: &Member,
-    under: &Row,
+    under: &Above,
 ) -> Result<Vec<Row>, NoMemory>
     ensures { IfOk result (λ out. out.items ≡ agreeing (kept variables.now (element member.now)
         row.now (merges found.now row.now)) under.now) }
@@ -167,7 +233,7 @@ fn made_rows(
 // What a member makes of rows, joined by key with what was found for all of them.
 fn joined_rows(
     alloc: Global,
-    variables: &[Text],
+    variables: &SortedNames,
     vocabulary: &Vocabulary,
     rows: &[Row],
     found: &[Row],
@@ -190,12 +256,12 @@ fn joined_rows(
 /// compatible with the row above.
 pub(crate) fn rows_beside(
     alloc: Global,
-    variables: &[Text],
+    variables: &SortedNames,
     vocabulary: &Vocabulary,
     rows: &[Row],
     found: &[Row],
     member: &Member,
-    under: &Row,
+    under: &Above,
 ) -> Result<Vec<Row>, NoMemory>
     ensures { IfOk result (λ out. SameBag out.items (flat_map (λ x. agreeing (kept variables.now
         (element member.now) x (merges (met (element member.now) x found.now) x)) under.now)
@@ -208,12 +274,12 @@ pub(crate) fn rows_beside(
 // What a member makes of rows one by one.
 fn rows_one_by_one(
     alloc: Global,
-    variables: &[Text],
+    variables: &SortedNames,
     vocabulary: &Vocabulary,
     rows: &[Row],
     found: &[Row],
     member: &Member,
-    under: &Row,
+    under: &Above,
 ) -> Result<Vec<Row>, NoMemory>
     ensures { IfOk result (λ out. out.items ≡ flat_map (λ x. agreeing (kept variables.now
         (element member.now) x (merges found.now x)) under.now) rows.now) }
@@ -230,12 +296,12 @@ fn rows_one_by_one(
 /// it may be compatible with each of them, and have no variable in common with any.
 pub(crate) fn rows_served(
     alloc: Global,
-    variables: &[Text],
+    variables: &SortedNames,
     vocabulary: &Vocabulary,
     rows: &[Row],
     found: &[Row],
     member: &Member,
-    under: &Row,
+    under: &Above,
 ) -> Result<Vec<Row>, NoMemory>
     ensures { IfOk result (λ out. SameBag out.items (flat_map (λ x. agreeing (kept variables.now
         (element member.now) x (merges (met (element member.now) x found.now) x)) under.now)
@@ -259,14 +325,12 @@ fn tries_names(look_up: &LookUp) -> bool {
 // for MINUS a part, and nothing, by no look-up, where the row has none of the pattern's variables.
 fn counting_rows<S: Source>(
     alloc: Global,
-    variables: &[Text],
+    variables: &SortedNames,
     source: &S,
     look_up: &LookUp,
-    own: &[bool],
     member: &Member,
     row: &Row,
 ) -> Result<Vec<Row>, NoMemory>
-    requires { own.now ≡ own_columns variables.now look_up.now }
     ensures { IfOk result (λ out. AreEnough variables.now (S.contents source.now)
         (element member.now) row.now out.items
         (λ d. counting variables.now d look_up.now (element member.now) row.now)) }
@@ -274,7 +338,7 @@ fn counting_rows<S: Source>(
     if !is_removed(member) {
         return found_rows(alloc, variables, source, look_up, row);
     }
-    if row.is_unbound_at(own) {
+    if is_unbound_in(variables, look_up, row) {
         return Ok(Vec::new(alloc));
     }
     some_found(alloc, variables, source, look_up, row)
@@ -282,59 +346,133 @@ fn counting_rows<S: Source>(
 
 // Whether a row shares its look-up with the next one: both have the same at the look-ups' columns,
 // for MINUS not nothing alone, and none of GRAPH's names has to be tried.
-fn is_shared(row: &Row, others: &[Row], look_up: &LookUp, own: &[bool], member: &Member) -> bool
-    ensures { IsTrue result →
-        (is_removed (element member.now) && binds_none (masked own.now row.now)) ≡ false }
+fn is_shared(
+    variables: &SortedNames,
+    row: &Row,
+    next: Option<&Row>,
+    look_up: &LookUp,
+    member: &Member,
+) -> bool
+    ensures { IsTrue result → (is_removed (element member.now)
+        && binds_none (masked (own_columns variables.now look_up.now) row.now)) ≡ false }
 {
-    let Some(next) = others.first() else {
+    let Some(next) = next else {
         return false;
     };
-    if is_removed(member) && row.is_unbound_at(own) {
+    if is_removed(member) && is_unbound_in(variables, look_up, row) {
         return false;
     }
-    !tries_names(look_up) && is_alike(row, next, own)
+    !tries_names(look_up) && asks_all_same(row, next, look_up.places.as_slice())
 }
 
-// What a member makes of the first row by a look-up, which those behind it share that have the same
-// at the look-ups' columns.
-fn first_looked_up<S: Source>(
+// The row alone, which is moved on, where it has no merge.
+fn or_moved(row: Row, mut passed: Vec<Row>) -> Result<Vec<Row>, NoMemory>
+    ensures { IfOk result (λ out. out.items ≡ or_alone row passed.items) }
+{
+    if passed.is_empty() {
+        passed.push(row)?;
+    }
+    Ok(passed)
+}
+
+// The row, which is moved on, where there is none of these.
+fn moved_where_none(alloc: Global, row: Row, found: &[Row]) -> Result<Vec<Row>, NoMemory>
+    ensures { IfOk result (λ out. out.items ≡ where_none row found.now) }
+{
+    let mut out = Vec::new(alloc);
+    if found.is_empty() {
+        out.push(row)?;
+    }
+    Ok(out)
+}
+
+// What a member makes of a row, whose merges with what counts for it these are: the row itself is
+// moved on where it stays.
+fn moved_on(
     alloc: Global,
-    variables: &[Text],
+    variables: &SortedNames,
+    vocabulary: &Vocabulary,
+    row: Row,
+    merged: Vec<Row>,
+    member: &Member,
+) -> Result<Vec<Row>, NoMemory>
+    ensures { IfOk result (λ out. out.items
+        ≡ kept variables.now (element member.now) row merged.items) }
+{
+    match member {
+        Member::Optional(pattern) => {
+            let filters = pattern.filters.as_slice();
+            let left = filtered_rows(alloc, variables, vocabulary, merged, filters)?;
+            or_moved(row, left)
+        }
+        Member::Minus(_) => moved_where_none(alloc, row, &merged),
+        Member::Union(_) | Member::Basic(_) | Member::Graph(_, _) => Ok(merged),
+    }
+}
+
+// What a member makes of a row by a look-up; the row itself is moved on.
+fn looked_up_alone<S: Source>(
+    alloc: Global,
+    variables: &SortedNames,
     vocabulary: &Vocabulary,
     _graph: &GraphName,
     source: &S,
-    rows: &[Row],
+    row: Row,
     look_up: &LookUp,
-    own: &[bool],
     member: &Member,
-    under: &Row,
-) -> Result<Made, NoMemory>
-    requires rows { 0 < length rows.now }
-    requires own { own.now ≡ own_columns variables.now look_up.now }
-    requires gives { IsLookUpOf variables.now (S.contents source.now) look_up.now
-        (λ d. element_solutions variables.now d _graph.now (element member.now)) }
-    requires counts { IsLookUpFor variables.now (S.contents source.now) (element member.now)
+    under: &Above,
+) -> Result<Vec<Row>, NoMemory>
+    requires { IsLookUpFor variables.now (S.contents source.now) (element member.now)
         look_up.now (λ d. element_solutions variables.now d _graph.now (element member.now)) }
-    ensures some { IfOk result (λ m. 0 < m.done) }
-    ensures within { IfOk result (λ m. m.done ≤ length rows.now) }
-    ensures made { IfOk result (λ m. AreMade variables.now (S.contents source.now) _graph.now
-        under.now (element member.now) (take m.done rows.now) m.rows.items) }
+    ensures { IfOk result (λ out. AreMade variables.now (S.contents source.now) _graph.now
+        under.now (element member.now) (row ∷ []) out.items) }
 {
-    let row = &rows[0];
-    if !is_shared(row, &rows[1..], look_up, own, member) {
-        let found = counting_rows(alloc, variables, source, look_up, own, member, row)?;
-        let made = kept_rows(alloc, variables, vocabulary, row, found, member, under)?;
-        return Ok(Made {
-            rows: made,
-            done: 1,
-        });
+    if is_joined(member) && under.is_unbound() {
+        return grown_rows(alloc, variables, source, look_up, row);
     }
-    let key = row.masked(alloc, own)?;
-    let done = served_len(&key, rows, own);
+    let found = counting_rows(alloc, variables, source, look_up, member, &row)?;
+    let made = moved_on(alloc, variables, vocabulary, row, found, member)?;
+    compatible_rows(alloc, under, made)
+}
+
+// What a member makes of the first row by a look-up, which those behind it share that have the same
+// at the look-ups' columns. These rows are taken away.
+fn first_looked_up<S: Source>(
+    alloc: Global,
+    variables: &SortedNames,
+    vocabulary: &Vocabulary,
+    graph: &GraphName,
+    source: &S,
+    rest: &mut VecDeque<Row>,
+    look_up: &LookUp,
+    member: &Member,
+    under: &Above,
+) -> Result<Vec<Row>, NoMemory>
+    requires rows { 0 < length rest.old.items }
+    requires gives { IsLookUpOf variables.now (S.contents source.now) look_up.now
+        (λ d. element_solutions variables.now d graph.now (element member.now)) }
+    requires counts { IsLookUpFor variables.now (S.contents source.now) (element member.now)
+        look_up.now (λ d. element_solutions variables.now d graph.now (element member.now)) }
+    ensures fewer { IfOk result (λ _. length rest.new.items < length rest.old.items) }
+    ensures begins { IfOk result (λ out. Begins variables.now (S.contents source.now) graph.now
+        under.now (element member.now) rest.old.items out.items rest.new.items) }
+{
+    let Some(row) = rest.pop_front() else {
+        unreachable!()
+    };
+    if !is_shared(variables, &row, rest.front(), look_up, member) {
+        return looked_up_alone(
+            alloc, variables, vocabulary, graph, source, row, look_up, member, under,
+        );
+    }
+    let own = own_columns(alloc, variables, look_up)?;
+    let key = row.masked(alloc, &own)?;
+    let mut behind = served_rows(alloc, &key, &own, rest)?;
     let found = found_rows(alloc, variables, source, look_up, &key)?;
-    let served = &rows[..done];
-    let made = rows_one_by_one(alloc, variables, vocabulary, served, &found, member, under)?;
-    Ok(Made { rows: made, done })
+    let mut served = Vec::new(alloc);
+    served.push(row)?;
+    served.append(&mut behind)?;
+    rows_one_by_one(alloc, variables, vocabulary, &served, &found, member, under)
 }
 
 // Whether what is looked up is one triple pattern that has so few triples in the graph, whatever rows
@@ -362,73 +500,67 @@ fn is_small<S: Source>(
 // What a member makes of rows with what is looked up once for all of them, and joined by key.
 fn rows_found_once<S: Source>(
     alloc: Global,
-    variables: &[Text],
+    variables: &SortedNames,
     vocabulary: &Vocabulary,
     _graph: &GraphName,
     source: &S,
     rows: &[Row],
     look_up: &LookUp,
     member: &Member,
-    under: &Row,
+    under: &Above,
 ) -> Result<Vec<Row>, NoMemory>
     requires { IsLookUpOf variables.now (S.contents source.now) look_up.now
         (λ d. element_solutions variables.now d _graph.now (element member.now)) }
     ensures { IfOk result (λ out. AreMade variables.now (S.contents source.now) _graph.now under.now
         (element member.now) rows.now out.items) }
 {
-    let nothing = Row::empty(alloc, variables.len(), 0)?;
+    let nothing = Row::unbound(alloc, variables)?;
     let found = found_rows(alloc, variables, source, look_up, &nothing)?;
     rows_beside(alloc, variables, vocabulary, rows, &found, member, under)
 }
 
-/// What a member makes of rows by look-ups under each of them, which have these columns, or by one for
-/// all of them where it is small by itself. The rows that are left where look-ups stop may be found
-/// faster without.
+/// What a member makes of rows by look-ups under each of them, or by one for all of them where it is
+/// small by itself. The rows that are left where look-ups stop may be found faster without.
 pub(crate) fn rows_looked_up<S: Source>(
     alloc: Global,
-    variables: &[Text],
+    variables: &SortedNames,
     vocabulary: &Vocabulary,
     graph: &GraphName,
     source: &S,
     looked: &Cell<u64>,
-    rows: &[Row],
+    rows: Vec<Row>,
     look_up: &LookUp,
-    own: &[bool],
     member: &Member,
-    under: &Row,
-) -> Result<Made, NoMemory>
-    requires own { own.now ≡ own_columns variables.now look_up.now }
+    under: &Above,
+) -> Result<Begun, NoMemory>
     requires gives { IsLookUpOf variables.now (S.contents source.now) look_up.now
         (λ d. element_solutions variables.now d graph.now (element member.now)) }
     requires counts { IsLookUpFor variables.now (S.contents source.now) (element member.now)
         look_up.now (λ d. element_solutions variables.now d graph.now (element member.now)) }
-    ensures { IfOk result (λ m. AreMade variables.now (S.contents source.now) graph.now under.now
-        (element member.now) (take m.done rows.now) m.rows.items) }
+    ensures { IfOk result (λ b. Begins variables.now (S.contents source.now) graph.now under.now
+        (element member.now) rows.items b.rows.items b.rest.items) }
 {
     if is_small(alloc, source, look_up, rows.len())? {
         let once = rows_found_once(
-            alloc, variables, vocabulary, graph, source, rows, look_up, member, under,
+            alloc, variables, vocabulary, graph, source, &rows, look_up, member, under,
         )?;
-        return Ok(Made {
-            rows: once,
-            done: rows.len(),
-        });
+        return Ok(all_made(alloc, once));
     }
     let before = looked.get();
     let tries_names = tries_names(look_up);
+    let all = rows.len();
     let mut out = Vec::new(alloc);
-    let mut done = 0;
-    while done < rows.len() {
+    let mut rest = VecDeque::from_vec(rows);
+    while !rest.is_empty() {
         let taken = looked.get().saturating_sub(before);
-        if stops_looking(tries_names, member, taken, done, rows.len(), out.len()) {
-            return Ok(Made { rows: out, done });
+        let done = all.saturating_sub(rest.len());
+        if stops_looking(tries_names, member, taken, done, all, out.len()) {
+            return Ok(begun_with(out, rest));
         }
-        let rest = &rows[done..];
         let mut made = first_looked_up(
-            alloc, variables, vocabulary, graph, source, rest, look_up, own, member, under,
+            alloc, variables, vocabulary, graph, source, &mut rest, look_up, member, under,
         )?;
-        out.append(&mut made.rows)?;
-        done += made.done;
+        out.append(&mut made)?;
     }
-    Ok(Made { rows: out, done })
+    Ok(begun_with(out, rest))
 }

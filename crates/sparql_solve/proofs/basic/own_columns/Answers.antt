@@ -1,14 +1,10 @@
-use Rattle.std.specs.List.{list_any}
-use Rattle.sparql_solve.specs.Matching.{has_column}
-use Rattle.sparql_solve.proofs.FollowLemmas.{more_flags, flags_done}
+use Rattle.std.proofs.Common.{◌∙◌}
+use Rattle.std.proofs.lemmas.Result.{IfOk-weaker}
+use Rattle.sparql_solve.proofs.OwnLemmas.{own_is}
 use Rattle.sparql_solve.proofs.basic.own_columns.Goals as goal
-
-pub loop-at-preserved : goal.loop-at-preserved
-loop-at-preserved c =
-    more_flags (λ at. list_any (has_column at) c.args.patterns.now) c.loop-at.at c.any_has.result c.loop-at.out.items c.push.new.self.items
-    c.loop-at.invariant c.any_has.ensures c.in_ok-push.ensures.items
 
 pub returns : goal.returns
 returns c =
-    flags_done (λ at. list_any (has_column at) c.args.patterns.now) c.loop-at.at c.args.columns c.loop-at.out.items
-    c.loop-at.invariant c.loop-at.auto.at-end c.loop-at-test.false
+    IfOk-weaker c.flags_of.result _ _
+    (λ out h. h ∙ own_is c.args.variables.now c.args.look_up.now c.len.result c.as_slice.result.now c.len.ensures c.as_slice.ensures)
+    c.flags_of.ensures

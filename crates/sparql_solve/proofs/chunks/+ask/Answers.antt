@@ -116,7 +116,7 @@ some_matched-returns g t c =
     c.args.members.now c.args.filters.now (asked c.args.patterns.items) c.loop-rest.rest.items c.args.start.items c.loop-rest.rows.items
     c.in_ok-cut.cut.items c.in_ok-rows-2.rows.items (length c.args.variables.now) answer d
     (omega (arith, c.loop-rest.rest.ok.0, eqb-true c.loop-rest.rest.len 0 (sym c.is_empty.ensures ∙ c.loop-rest-test.false)))
-    (c.loop-rest.invariant d l ea w) c.in_ok-cut.ensures refl c.in_ok-rows-2.ensures (h d l ea))
+    (c.loop-rest.invariant d l ea w) (c.in_ok-cut.ensures ∙ ap (λ n. map (take n) c.loop-rest.rows.items) c.len.ensures) refl c.in_ok-rows-2.ensures (h d l ea))
     c.some_after.ensures
 
 pub some_of_first_matched-returns-then-branch-clause-some : goal.some_of_first_matched-returns-then-branch-clause-some

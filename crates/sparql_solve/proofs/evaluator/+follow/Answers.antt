@@ -11,6 +11,8 @@ use Rattle.sparql_solve.proofs.ApartLemmas as apart
 use Rattle.sparql_solve.proofs.FollowLemmas as follow
 use Rattle.sparql_solve.proofs.SideLemmas.{done_gives}
 use Rattle.sparql_solve.proofs.MemberLemmas.{more_gives}
+use Rattle.sparql_solve.proofs.StepLemmas as step
+use Rattle.sparql_solve.proofs.OwnLemmas.{nothing_is}
 use Rattle.sparql_solve.proofs.evaluator.+follow.Goals as goal
 
 pub group_under-returns : goal.group_under-returns
@@ -43,34 +45,34 @@ first_under-returns g t c =
     apart.so_many c.args.variables.now (g.S.Source.contents c.args.source.now) c.args.graph.now c.args.under.now c.args.members.now c.loop-place.place
     c.args.many c.loop-place.rows.items (omega arith) c.loop-place.invariant
 
-pub rows_after-returns-in-Some : goal.rows_after-returns-in-Some
-rows_after-returns-in-Some g t c =
-    IfOk-weaker c.with_others.result _ _
-    (λ out h. follow.direct_follows c.args.variables.now (g.S.Source.contents c.args.source.now) c.args.graph.now c.args.under.now
-    (element c.args.member.now) c.args.rows.items c.deref.result.now out.items c.in_ok-direct.direct c.in-Some.made c.deref.ensures.value c.in-Some.is
-    c.in_ok-direct.ensures h)
-    c.with_others.ensures
+pub rows_after-returns-then-is_empty : goal.rows_after-returns-then-is_empty
+rows_after-returns-then-is_empty g t c =
+    step.begins_all c.args.variables.now (g.S.Source.contents c.args.source.now) c.args.graph.now c.args.under.now (element c.args.member.now)
+    c.args.rows.items c.in_ok-begun.begun.rows.items c.in_ok-begun.begun.rest.items
+    (step.none_in _ c.in_ok-begun.begun.rest.items (sym c.is_empty.ensures ∙ c.if-is_empty.true) (omega (arith, c.in_ok-begun.begun.rest.ok.0)))
+    c.in_ok-begun.ensures
 
-pub rows_after-returns-then-is_first : goal.rows_after-returns-then-is_first
-rows_after-returns-then-is_first g t c =
+pub rows_after-returns : goal.rows_after-returns
+rows_after-returns g t c =
+    step.begins_more c.args.variables.now (g.S.Source.contents c.args.source.now) c.args.graph.now c.args.under.now (element c.args.member.now)
+    c.args.rows.items c.in_ok-begun.begun.rows.items c.in_ok-begun.begun.rest.items c.in_ok-more.more.items c.append.new.self.items
+    c.in_ok-append.ensures.items c.in_ok-begun.ensures c.in_ok-more.ensures
+
+pub rows_left-returns-then-not-is_group : goal.rows_left-returns-then-not-is_group
+rows_left-returns-then-not-is_group g t c =
+    IfOk-weaker c.with_the_rest.result _ _
+    (λ out h. step.rest_of_all c.args.variables.now (g.S.Source.contents c.args.source.now) c.args.graph.now c.args.under.now
+    (element c.args.member.now) c.args.rows.items c.deref.result.now c.nothing_made-made.result.rows.items out.items c.nothing_made-made.result.done
+    c.deref.ensures.value c.nothing_made-made.ensures.made c.nothing_made-made.ensures.done h)
+    c.with_the_rest.ensures
+
+pub rows_left-returns-then-is_first : goal.rows_left-returns-then-is_first
+rows_left-returns-then-is_first g t c =
     IfOk-weaker c.member_under.result _ _
     (λ out h. follow.first_follows c.args.variables.now (g.S.Source.contents c.args.source.now) c.args.graph.now c.args.under.now
     (element c.args.member.now) c.args.rows.items c.deref-2.result.now out.items c.is_first.result c.deref-2.ensures.value c.is_first.ensures
     c.if-is_first.true h)
     c.member_under.ensures
-
-pub with_others-returns-then-len-made : goal.with_others-returns-then-len-made
-with_others-returns-then-len-made g t c =
-    IfOk-weaker c.with_the_rest.result _ _
-    (λ out h. follow.given_follows c.args.variables.now (g.S.Source.contents c.args.source.now) c.args.graph.now c.args.under.now
-    (element c.args.member.now) c.args.rows.items c.deref.result.now c.args.made.rows.items out.items c.args.made.done c.deref.ensures.value h)
-    c.with_the_rest.ensures
-
-pub with_others-returns : goal.with_others-returns
-with_others-returns g t c =
-    follow.others_follow c.args.variables.now (g.S.Source.contents c.args.source.now) c.args.graph.now c.args.under.now
-    (element c.args.member.now) c.args.rows.items c.in_ok-others.others.items c.args.made.rows.items c.in_ok-more.more.items c.append.new.self.items
-    c.args.made.done c.in_ok-others.ensures.tail c.in_ok-append.ensures.items c.in_ok-more.ensures
 
 pub rows_gathered-returns : goal.rows_gathered-returns
 rows_gathered-returns g t c =
@@ -131,7 +133,8 @@ with_the_rest-returns g t c h =
     let rest = take (length rows - n) (drop n rows) in
     follow.rest_follows c.args.variables.now (g.S.Source.contents c.args.source.now) c.args.graph.now c.args.under.now (element c.args.member.now)
     rows rest n c.in_ok-nothing.nothing c.in_ok-asked.asked c.args.made.rows.items c.in_ok-found.found.items c.deref.result.now c.in_ok-beside.beside.items
-    c.append.new.self.items (take_all (length rows - n) (drop n rows) (omega (arith, length-drop n rows))) c.in_ok-nothing.ensures c.in_ok-asked.ensures
+    c.append.new.self.items (take_all (length rows - n) (drop n rows) (omega (arith, length-drop n rows)))
+    (nothing_is c.args.variables.now c.in_ok-nothing.nothing c.in_ok-nothing.ensures) c.in_ok-asked.ensures
     c.in_ok-found.ensures c.deref.ensures.value c.in_ok-beside.ensures c.in_ok-append.ensures.items h
 
 pub member_under-returns-in-Basic : goal.member_under-returns-in-Basic
@@ -205,6 +208,13 @@ graph_under-returns-in_ok-rows-in-Variable g t c =
     c.deref.ensures.value (c.group_reads.ensures c.if-group_reads.false) c.in_ok-rows-in-Variable.ensures
     c.deref-in-Variable.ensures.value e)
     c.rows_of_names.ensures
+
+pub named_under-returns : goal.named_under-returns
+named_under-returns g t c =
+    IfOk-weaker c.group_under.result _ _
+    (λ out h. follow.there_follows c.args.variables.now (g.S.Source.contents c.args.source.now) (translation c.args.pattern.now) c.args.name
+    (Named c.args.name) c.args.under.now out.items c.is_named.result c.is_named.ensures c.if-not-is_named.false refl h)
+    c.group_under.ensures
 
 pub reading_under-returns-then-not-is_empty : goal.reading_under-returns-then-not-is_empty
 reading_under-returns-then-not-is_empty g t c =

@@ -2,7 +2,7 @@ use Rattle.sparql_algebra.specs.Algebra.{element}
 use Rattle.sparql_solve.specs.Members.{element_solutions}
 use Rattle.sparql_solve.specs.Under.{IsLookUpFor, IsLookUpOf}
 use Rattle.sparql_solve.proofs.FollowLemmas.{some_of}
-use Rattle.sparql_solve.proofs.evaluator.made_directly.Goals as goal
+use Rattle.sparql_solve.proofs.evaluator.begun_directly.Goals as goal
 
 pub rows_looked_up-requires-clause-gives : goal.rows_looked_up-requires-clause-gives
 rows_looked_up-requires-clause-gives g c =
