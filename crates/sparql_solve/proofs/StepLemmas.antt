@@ -47,10 +47,11 @@ module _ (vs : Variables) (s : State) (g : GraphName) (a : Mapping) (k : Element
   begins_front rows block rest made e h more r = made_append vs s g a k block rest rows made more (made ++ more) e refl h r
 
   -- all of them
-  pub begins_whole : (rows made after rest : List Mapping) → after ≡ made → rest ≡ [] → AreMade vs s g a k rows made → Begins vs s g a k rows after rest
-  begins_whole rows made after rest ea er h =
+  pub begins_whole : (rows given made after rest : List Mapping) → given ≡ rows → after ≡ made → rest ≡ [] → AreMade vs s g a k given made →
+      Begins vs s g a k rows after rest
+  begins_whole rows given made after rest eg ea er h =
       begins_front rows rows rest after (sym (append-nil rows) ∙ ap (λ (xs : List Mapping). rows ++ xs) (sym er))
-      (subst (λ (ys : List Mapping). AreMade vs s g a k rows ys) (sym ea) h)
+      (subst (λ (xs : List Mapping). AreMade vs s g a k xs after) eg (subst (λ (ys : List Mapping). AreMade vs s g a k given ys) (sym ea) h))
 
   -- and further ones
   pub begins_further : (rows made middle next rest after : List Mapping) → after ≡ made ++ next → Begins vs s g a k rows made middle →
