@@ -1,5 +1,5 @@
 -- What is found under a row that is moved on.
-use Rattle.std.proofs.Common.{◌≡◌, ℕ, ◌+◌, zero, suc, Bool, true, false, cond, ◌&&◌, List, [], ◌∷◌, ◌++◌, Option, Some, None, refl, sym, ap, ◌∙◌, subst, length, replicate, arith, append-nil}
+use Rattle.std.proofs.Common.{◌≡◌, ℕ, ◌+◌, zero, suc, Bool, true, false, cond, ◌&&◌, List, [], ◌∷◌, ◌++◌, Option, Some, None, refl, sym, ap, ◌∙◌, length, replicate, arith, append-nil}
 use Rattle.std.specs.Prelude.{slice_set}
 use Rattle.std.specs.List.{flat_map, sum_by, IsLastAndRest}
 use Rattle.std.proofs.lemmas.Grind.{flat_map-append}
@@ -8,8 +8,7 @@ use Rattle.rdf_terms.specs.declared.term.Term.{Term}
 use Rattle.rdf_terms.specs.declared.quad.GraphName.{GraphName}
 use Rattle.rdf_terms.specs.declared.quad.GraphName.TheVariants.{Named}
 use Rattle.rdf_dataset.specs.State.{State}
-use Rattle.sparql_values.specs.Mapping.{Variables, Mapping, agrees, column, compatible, empty_mapping, first_of, merge, same_term, set_in, single, value_at, value_in}
-use Rattle.sparql_algebra.specs.Listing.{Listing}
+use Rattle.sparql_values.specs.Mapping.{Variables, Mapping, agrees, column, compatible, empty_mapping, merge, set_in, single, value_at, value_in}
 use Rattle.sparql_algebra.proofs.CallerLemmas.{same_term_is}
 use Rattle.sparql_solve.specs.declared.look_ups.LookUp.{LookUp}
 use Rattle.sparql_solve.specs.Members.{AreSolutions}

@@ -1,5 +1,4 @@
-use Rattle.std.proofs.Common.{ap, not, ◌∙◌, List}
-use Rattle.sparql_values.specs.Mapping.{Mapping}
+use Rattle.std.proofs.Common.{ap, not, ◌∙◌}
 use Rattle.sparql_solve.proofs.OwnLemmas.{unbound_of}
 use Rattle.sparql_solve.proofs.basic.is_unbound_in.Goals as goal
 

@@ -1,4 +1,4 @@
-use Rattle.std.proofs.Common.{Bool, List, [], ◌∷◌, ◌++◌, ap, sym, ◌∙◌, refl}
+use Rattle.std.proofs.Common.{Bool, List, [], ◌∷◌, ◌++◌, ap, ◌∙◌, refl}
 use Rattle.std.proofs.lemmas.Result.{IfOk-weaker}
 use Rattle.sparql_algebra.specs.Algebra.{element}
 use Rattle.sparql_values.specs.Mapping.{Mapping}
