@@ -6,7 +6,7 @@ use Rattle.rdf_session.specs.Session.{Session}
 use Rattle.rdf_session.specs.declared.format.Format.{Format}
 use Rattle.rdf_keeper.specs.Program.Openings.{Opening, Opened, Unopened}
 use Rattle.rdf_keeper.specs.Program.Order.{FilesInOrder, Opens, file_named, file_of, files_named, files_of_data, first_file, path_of}
-use Rattle.rdf_keeper.specs.Program.Sessions.{Begins, BeginsAll, BeginsFirst, BeginsOnce, BeginsRun, GivesBase, GivesDepth, LoadsFurther, LoadsOne}
+use Rattle.rdf_keeper.specs.Program.Sessions.{Begins, BeginsFirst, BeginsOnce, BeginsRun, GivesBase, GivesDepth, LoadsFurther, LoadsOne}
 use Rattle.rdf_keeper.specs.Program.Stages.{EndsUnwritten, Part, Stays, Then}
 use Rattle.rdf_keeper.specs.Program.Texts.{OpensFile, OpensOrInput, ReadsAll, ReadsFile, ReadsNamed, is_input}
 use Rattle.rdf_keeper.specs.Program.Words.{AnswersQuery, AppliesRequest, ChecksAll, ChecksFile, ChecksFiles, ConvertsAll, ConvertsBytes, Queries, Runs, RunsScript, Updates}

@@ -1,5 +1,5 @@
 -- What the program does for its words: which files it opens, one behind another, what it reads and writes, and how it ends. The first fault ends it.
-use Rattle.std.specs.Prelude.{◌≡◌, ◌⊎◌, ℕ, Bool, true, false, not, ◌||◌, if◌then◌else◌, List, [], ◌∷◌, Option, Some, Result, Ok, Err, MatchBool, map, string_bytes}
+use Rattle.std.specs.Prelude.{◌≡◌, ◌⊎◌, ℕ, Bool, false, not, ◌||◌, if◌then◌else◌, List, [], ◌∷◌, Option, Some, Result, Err, MatchBool, map, string_bytes}
 use Rattle.std.specs.List.{concat}
 use Rattle.std.specs.Option.{option_copied}
 use Rattle.std.specs.Io.KnownBytes.{Appends}
