@@ -1,3 +1,4 @@
+pub mod OrderLemmas
 pub mod ProgramLemmas
 pub mod ScriptLemmas
 pub mod SeveralLemmas

@@ -1,40 +1,38 @@
--- Documents that are loaded one behind another.
-use Rattle.std.proofs.Common.{◌≡◌, ◌<◌, ◌+◌, sym, ap, subst, ℕ, List, [], ◌∷◌, length, drop, map, get_or, Option}
-use Rattle.std.proofs.lemmas.List.{drop_more}
-use Rattle.std.specs.Prelude.{Result, Ok, Err, IfOk, MatchOption, MatchResult}
-use Rattle.rdf_dataset.specs.State.{empty_state}
-use Rattle.rdf_session.specs.Session.{Session, fresh}
+-- Documents and files of a list, one behind another.
+use Rattle.std.proofs.Common.{◌≡◌, ◌<◌, ◌≤◌, ◌+◌, ◌||◌, not, sym, ap, subst, refl, ℕ, Bool, List, length, drop, get_or, map, Option}
+use Rattle.std.proofs.lemmas.List.{drop_all, drop_more}
+use Rattle.std.specs.Prelude.{Result, Ok, if◌then◌else◌}
+use Rattle.rdf_session.specs.Session.{Session}
 use Rattle.rdf_session.specs.declared.format.Format.{Format}
-use Rattle.rdf_keeper.specs.Inside.Once.{LoadsAll}
-use Rattle.rdf_keeper.specs.Inside.Starts.{BeginsWith, RefusesData}
-use Rattle.rdf_keeper.specs.declared.program.once_words.StartWord.{StartWord}
+use Rattle.rdf_keeper.specs.Program.Openings.{Opening}
+use Rattle.rdf_keeper.specs.Program.Sessions.{LoadsFurther, LoadsOne}
+use Rattle.rdf_keeper.specs.Program.Stages.{Ends, Stays, Then}
+use Rattle.rdf_keeper.specs.Program.Texts.{ReadsNamed}
+use Rattle.rdf_keeper.specs.Program.Words.{ChecksFile, ChecksFiles}
+use Rattle.rdf_keeper.specs.declared.program.once_words.DocumentWord.{DocumentWord}
 use Rattle.rdf_keeper.specs.declared.program.outcome.Outcome.{Outcome}
-use Rattle.rdf_keeper.specs.declared.program.words.StartFormat.{StartFormat}
+use Rattle.rdf_keeper.specs.declared.program.outcome.Outcome.TheVariants.{Done, SomeRefused}
 
--- one document, and then others
-loads_on : (formats : List Format) (format : Format) (text : List ℕ) (more : List (List ℕ)) (old mid new : Session) → LoadsAll (format ∷ []) (text ∷ []) old mid → LoadsAll formats more mid new
-    → LoadsAll (format ∷ formats) (text ∷ more) old new
-loads_on formats format text more old mid new (counts, loaded, end, load, commit, same) rest = (counts, loaded, end, load, commit, subst (λ s. LoadsAll formats more s new) same rest)
+module _ {Folder : Type 0} (step : Folder → Opening → Folder → Type 0) where
+  -- the document at a place, and then those behind it
+  pub further_at : (words : List DocumentWord) (i : ℕ) (d : DocumentWord) (old : Session) (s new : Folder × Option (List ℕ)) (result : Result Session Outcome) → i < length words
+      → Then (ReadsNamed step (get_or words i d).path.now) (λ text. Then (Stays (LoadsOne (get_or words i d).format text old)) (λ mid. LoadsFurther step (drop (i + 1) words) mid)) s result new
+      → LoadsFurther step (drop i words) old s result new
+  further_at words i d old s new result here part = subst (λ ws. LoadsFurther step ws old s result new) (sym (drop_more words i d here)) part
 
--- the item at a place, and then those behind it
-pub loads_at : {W : Type 0} (format : W → Format) (words : List W) (i : ℕ) (d : W) (text : List ℕ) (more : List (List ℕ)) (old mid new : Session) → i < length words
-    → LoadsAll (format (get_or words i d) ∷ []) (text ∷ []) old mid → LoadsAll (map format (drop (i + 1) words)) more mid new → LoadsAll (map format (drop i words)) (text ∷ more) old new
-loads_at format words i d text more old mid new h one rest =
-    subst (λ fs. LoadsAll fs (text ∷ more) old new) (sym (ap (map format) (drop_more words i d h))) (loads_on (map format (drop (i + 1) words)) (format (get_or words i d)) text more old mid new one rest)
+  -- none is left
+  pub further_done : (words : List DocumentWord) (i : ℕ) (old : Session) (s : Folder × Option (List ℕ)) → length words ≤ i → LoadsFurther step (drop i words) old s (Ok old) s
+  further_done words i old s past = subst (λ ws. LoadsFurther step ws old s (Ok old) s) (sym (drop_all i words past)) (refl, refl)
 
--- ---- the first of them
+  module _ (format : Format) (base : Option (List ℕ)) {Path : Type 0} (bytes : Path → List ℕ) where
+    -- the file at a place, and then those behind it
+    pub files_at : (paths : List Path) (i : ℕ) (d : Path) (refused : Bool) (s new : Folder × Option (List ℕ) × Option (List ℕ)) (outcome : Outcome) → i < length paths
+        → Ends (ChecksFile step format base (bytes (get_or paths i d))) (λ sound. ChecksFiles step format base (map bytes (drop (i + 1) paths)) (refused || not sound)) s outcome new
+        → ChecksFiles step format base (map bytes (drop i paths)) refused s outcome new
+    files_at paths i d refused s new outcome here part = subst (λ ps. ChecksFiles step format base (map bytes ps) refused s outcome new) (sym (drop_more paths i d here)) part
 
-module _ (base : Option (List ℕ)) (first : Option StartWord) where
-  abbrev Begins : Session → Type 0
-  Begins start = MatchOption first (start ≡ fresh base (empty_state 0)) (λ word. (text : List ℕ) × BeginsWith word.format base text start)
-
-  -- and then those behind it
-  pub begun_by : {W : Type 0} (format : W → Format) (words now : List W) (start : Session) (r : Result Session Outcome) → now ≡ words → Begins start → IfOk r (λ new. (texts : List (List ℕ)) × LoadsAll (map format now) texts start new)
-      → IfOk r (λ keeper. (begun : Session) × (texts : List (List ℕ)) × Begins begun × LoadsAll (map format words) texts begun keeper)
-  begun_by format words now start (Ok new) is begins (texts, loads) = (start, texts, begins, subst (λ ws. LoadsAll (map format ws) texts start new) is loads)
-  begun_by format words now start (Err outcome) is begins loads = tt
-
-pub begun_some : (format : StartFormat) (base : Option (List ℕ)) (text : List ℕ) (r : Result Session Outcome)
-    → MatchResult r (λ start. BeginsWith format base text start) (λ outcome. RefusesData format base text outcome) → IfOk r (λ start. (held : List ℕ) × BeginsWith format base held start)
-begun_some format base text (Ok start) b = (text, b)
-begun_some format base text (Err outcome) b = tt
+    -- none is left
+    pub files_done : (paths : List Path) (i : ℕ) (refused known : Bool) (s : Folder × Option (List ℕ) × Option (List ℕ)) → length paths ≤ i → refused ≡ known
+        → ChecksFiles step format base (map bytes (drop i paths)) refused s (if known then SomeRefused else Done) s
+    files_done paths i refused known s past is =
+        subst (λ ps. ChecksFiles step format base (map bytes ps) refused s (if known then SomeRefused else Done) s) (sym (drop_all i paths past)) (ap (λ b. if b then SomeRefused else Done) (sym is), refl)

@@ -1,4 +1,4 @@
--- What only private functions speak of: the parts of an answer, and how the program begins and ends.
+-- What private functions speak of: the parts of an answer, how the program begins and ends, and what `Program` is made of.
 pub mod Asks
 pub mod Once
 pub mod Outcomes

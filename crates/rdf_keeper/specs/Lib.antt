@@ -1,4 +1,5 @@
 pub mod Examples
 pub mod Inside
+pub mod Program
 pub mod Progress
 pub mod Script

@@ -1,5 +1,7 @@
 //! Laws over the definitions alone: that a script's lines are its text, that its pieces are the script, that it has one output, that its refusals change nothing,
-//! that what is printed is read back in each format, and that what is shown of a state is taken up again.
+//! that what is printed is read back in each format, that what is shown of a state is taken up again, and that files are opened as the words name
+//! them.
+ghost use Rattle.rdf_keeper.specs.Program.Order.{FilesInOrder};
 ghost use Rattle.rdf_keeper.specs.Script.Promised.{AnswersAreTransitions, ScriptsArePromised, UndoneInAScript, RedoneInAScript};
 ghost use Rattle.rdf_keeper.specs.Script.Refusals.{RefusedAnswersLeave};
 ghost use Rattle.rdf_keeper.specs.Script.LineLaws.{LinesAreTheText, LinesAreEnded, OneCut};
@@ -9,6 +11,8 @@ ghost use Rattle.rdf_keeper.specs.Script.Pieces.{PiecesAreTheText};
 ghost use Rattle.rdf_keeper.specs.Script.Saved.{RestoredShowsItsText, ScriptsGoOnAlike, ShownComesBack};
 ghost use Rattle.rdf_keeper.specs.Script.Small.{AnswersAreReplies, ChangesAreShown, QueryScriptAsks, RepliesAreAnswers, UpdateScriptActs};
 ghost use Rattle.rdf_keeper.specs.Script.OneOutput.{OneOutput, OneOutputOfBytes, OneText, OneTextOfBytes};
+
+use crate::program::Folder;
 
 /// A refusal, of a script's line that is no command too, leaves the session as it was.
 pub fn refused_answers_leave()
@@ -100,4 +104,11 @@ pub fn a_word_is_a_session_in_small()
     ensures replies { RepliesAreAnswers }
     ensures answers { AnswersAreReplies }
     ensures shown { ChangesAreShown }
+{}
+
+/// Whatever words ask for, and wherever a fault ends the program, the files that it has opened, or tried to open, are the first
+/// ones of those that the words name, in their order: the data, and then the script, the query or the request. None is opened twice
+/// that isn't named twice, and no other is.
+pub fn files_are_opened_in_order<F: Folder>()
+    ensures { FilesInOrder F.step }
 {}

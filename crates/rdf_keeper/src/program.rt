@@ -1,20 +1,19 @@
 //! The whole program, over its words, its standard input, output and error.
-ghost use Rattle.std.specs.Prelude.{◌≡◌, ◌≢◌, ◌≤◌, ℕ, List, [], Option, Some, Result, IfOk, IsTrue, MatchOption, string_bytes};
-ghost use Rattle.rdf_dataset.specs.State.{empty_state};
-ghost use Rattle.std.specs.List.{concat};
+ghost use Rattle.std.specs.Prelude.{◌≡◌, ◌≢◌, ◌≤◌, [], IsTrue, string_bytes};
 ghost use Rattle.std.specs.Option.{option_copied};
 ghost use Rattle.std.specs.Io.KnownBytes.{Appends};
-ghost use Rattle.rdf_streams.specs.Conversion.Converts.{Converts};
-ghost use Rattle.rdf_keeper.specs.Inside.Outcomes.{status_of, outcome_of};
-ghost use Rattle.rdf_keeper.specs.Inside.Starts.{BeginsWith, outcome_after};
+ghost use Rattle.rdf_keeper.specs.Inside.Once.{WritesOut};
+ghost use Rattle.rdf_keeper.specs.Inside.Outcomes.{status_of};
+ghost use Rattle.rdf_keeper.specs.Program.Openings.{anything};
+ghost use Rattle.rdf_keeper.specs.Program.Sessions.{BeginsRun, GivesBase};
+ghost use Rattle.rdf_keeper.specs.Program.Words.{ConvertsAll, ConvertsBytes, Does, DoesAsked, Runs, RunsScript};
 ghost use Rattle.rdf_keeper.specs.Progress.{AsksProgress};
-ghost use Rattle.rdf_keeper.specs.Script.Runs.{RunsOver};
-ghost use Rattle.rdf_keeper.specs.declared.script.status.Status.{Status};
-ghost use Rattle.rdf_session.specs.Session.{Session, fresh, with_depth};
-ghost use Rattle.rdf_streams.specs.declared.conversion.fault.ConvertFault.{ConvertFault};
+ghost use Rattle.rdf_keeper.specs.declared.program.folder.HostFolder.{HostFolder};
+ghost use Rattle.rdf_keeper.specs.declared.program.outcome.Outcome.{Outcome};
 
 mod check;
 mod data;
+mod folder;
 mod help;
 mod once;
 mod once_words;
@@ -25,22 +24,23 @@ mod words;
 
 use crate::program::check::check_words;
 use crate::program::data::{begun, bounded, depth_of};
+pub use crate::program::folder::Folder;
+use crate::program::folder::HostFolder;
 use crate::program::once::{query_words, update_words};
 use crate::program::outcome::{Outcome, outcome_of, report};
-use crate::program::watch::{Progress, silent, size_of};
+use crate::program::watch::{Progress, silent};
 use crate::program::words::{Asked, ConvertWords, RunWords, WordsFault, read_words};
 use crate::script::{Settings, Status, run};
 use rdf_session::{Format, Keeper};
 use rdf_streams::{convert, write_whole};
 use rdf_terms::{Iri, IriFault};
 use std::alloc::Global;
-use std::fs;
 use std::io::{Read, Write};
 use std::rt::Files;
 
 // The base that the words give, if any.
 fn base_of(alloc: Global, word: Option<&str>) -> Result<Option<Iri>, Outcome>
-    ensures { IfOk result (λ base. base ≡ option_copied word.entry) }
+    ensures { GivesBase (option_copied word.entry) result }
 {
     match word {
         None => Ok(None),
@@ -53,21 +53,17 @@ fn base_of(alloc: Global, word: Option<&str>) -> Result<Option<Iri>, Outcome>
 }
 
 // The session that the words begin with.
-fn session_of<T: Files, P: Write>(
-    rt: &T,
+fn session_of<F: Folder, P: Write>(
     alloc: Global,
+    folder: &mut F,
     words: RunWords<'_>,
     progress: &mut Progress<P>,
 ) -> Result<Keeper, Outcome>
-    ensures { IfOk result (λ keeper. (base : Option (List ℕ)) × (start : Session)
-        × (base ≡ option_copied words.entry.base)
-        × MatchOption words.entry.data (start ≡ fresh base (empty_state 0))
-        (λ _. (text : List ℕ) × BeginsWith words.entry.format base text start)
-        × (keeper ≡ with_depth words.entry.depth start)) }
+    ensures { BeginsRun F.step words.entry folder.old result folder.new }
 {
     let depth = depth_of(words.depth)?;
     let base = base_of(alloc, words.base)?;
-    let keeper = begun(rt, alloc, base, words.data, words.format, progress)?;
+    let keeper = begun(alloc, folder, base, words.data, words.format, progress)?;
     Ok(bounded(keeper, depth))
 }
 
@@ -80,11 +76,8 @@ fn run_all<R: Read + Drop, W: Write>(
     settings: Settings,
 ) -> Outcome
     ensures told { status_of result ≢ 2 }
-    ensures ran { (answers : List (List ℕ)) × (left : Option (List ℕ)) × (end : Session)
-        × (status : Status)
-        × Appends (W.contents writer.old) (W.contents writer.new) (concat answers)
-        × RunsOver settings.stop (R.remaining reader) left keeper answers end status
-        × (result ≡ outcome_after status) }
+    ensures ran { RunsScript settings.stop keeper (R.remaining reader) (W.contents writer.old)
+        (W.contents writer.new) result }
 {
     match run(alloc, &mut keeper, &mut reader, writer, settings) {
         Status::Accepted => Outcome::Done,
@@ -95,18 +88,20 @@ fn run_all<R: Read + Drop, W: Write>(
     }
 }
 
-fn run_words<T: Files, R: Read + Drop, W: Write, P: Write>(
-    rt: &T,
+fn run_words<F: Folder, R: Read + Drop, W: Write, P: Write>(
     alloc: Global,
+    folder: &mut F,
     words: RunWords<'_>,
     reader: R,
     writer: &mut W,
     progress: &mut Progress<P>,
 ) -> Outcome
-    ensures { status_of result ≡ 2 →
+    ensures does { Runs F.step words.entry (R.remaining reader) (W.contents writer.old)
+        (W.contents writer.new) folder.old result folder.new }
+    ensures silent { status_of result ≡ 2 →
         Appends (W.contents writer.old) (W.contents writer.new) [] }
 {
-    let started = session_of(rt, alloc, words, progress);
+    let started = session_of(alloc, folder, words, progress);
     progress.clear();
     let keeper = match started {
         Ok(keeper) => keeper,
@@ -115,7 +110,7 @@ fn run_words<T: Files, R: Read + Drop, W: Write, P: Write>(
     let settings = Settings { stop: words.stop };
     match words.script {
         None => run_all(alloc, keeper, reader, writer, settings),
-        Some(path) => match fs::open(rt, path) {
+        Some(path) => match folder.open(path) {
             Ok(file) => run_all(alloc, keeper, file, writer, settings),
             Err(_) => Outcome::ReadFailed,
         },
@@ -131,10 +126,8 @@ fn convert_all<R: Read + Drop, W: Write>(
     writer: &mut W,
 ) -> Outcome
     ensures told { status_of result ≢ 2 }
-    ensures written { (text : List ℕ) → R.remaining reader ≡ Some text →
-        (out : List ℕ) × (left : Option (List ℕ)) × (answer : Result (Unit {0}) ConvertFault)
-        × Appends (W.contents writer.old) (W.contents writer.new) out
-        × Converts format base text left out answer × (result ≡ outcome_of answer) }
+    ensures written { ConvertsBytes format base (R.remaining reader) (W.contents writer.old)
+        (W.contents writer.new) result }
 {
     outcome_of(convert(alloc, format, base, &mut reader, writer))
 }
@@ -149,25 +142,25 @@ fn convert_told<R: Read + Drop, W: Write, P: Write>(
     progress: &mut Progress<P>,
 ) -> Outcome
     ensures told { status_of result ≢ 2 }
-    ensures written { (text : List ℕ) → R.remaining reader ≡ Some text →
-        (out : List ℕ) × (left : Option (List ℕ)) × (answer : Result (Unit {0}) ConvertFault)
-        × Appends (W.contents writer.old) (W.contents writer.new) out
-        × Converts format base text left out answer × (result ≡ outcome_of answer) }
+    ensures written { ConvertsBytes format base (R.remaining reader) (W.contents writer.old)
+        (W.contents writer.new) result }
 {
     let outcome = convert_all(alloc, format, base, progress.watch(reader), writer);
     progress.clear();
     outcome
 }
 
-fn convert_words<T: Files, R: Read + Drop, W: Write, P: Write>(
-    rt: &T,
+fn convert_words<F: Folder, R: Read + Drop, W: Write, P: Write>(
     alloc: Global,
+    folder: &mut F,
     words: ConvertWords<'_>,
     reader: R,
     writer: &mut W,
     progress: &mut Progress<P>,
 ) -> Outcome
-    ensures { status_of result ≡ 2 →
+    ensures does { ConvertsAll F.step words.entry (R.remaining reader) (W.contents writer.old)
+        (W.contents writer.new) folder.old result folder.new }
+    ensures silent { status_of result ≡ 2 →
         Appends (W.contents writer.old) (W.contents writer.new) [] }
 {
     let base = match base_of(alloc, words.base) {
@@ -176,9 +169,9 @@ fn convert_words<T: Files, R: Read + Drop, W: Write, P: Write>(
     };
     match words.file {
         None => convert_told(alloc, words.from, base, reader, writer, progress),
-        Some(path) => match fs::open(rt, path) {
+        Some(path) => match folder.open(path) {
             Ok(file) => {
-                progress.begin(size_of(&file));
+                progress.begin(F::size_of(&file));
                 convert_told(alloc, words.from, base, file, writer, progress)
             }
             Err(_) => Outcome::ReadFailed,
@@ -187,7 +180,8 @@ fn convert_words<T: Files, R: Read + Drop, W: Write, P: Write>(
 }
 
 fn show<W: Write>(text: &str, writer: &mut W) -> Outcome
-    ensures { status_of result ≢ 2 }
+    ensures written { WritesOut (W.contents writer.old) text.now result (W.contents writer.new) }
+    ensures told { status_of result ≢ 2 }
 {
     match write_whole(writer, text.as_bytes()) {
         Ok(()) => Outcome::Done,
@@ -196,23 +190,25 @@ fn show<W: Write>(text: &str, writer: &mut W) -> Outcome
 }
 
 // Does what the words ask for, and tells how far documents are read.
-fn do_asked<T: Files + AllocGlobal, R: Read + Drop, W: Write, P: Write>(
-    rt: &T,
+fn do_asked<F: Folder, R: Read + Drop, W: Write, P: Write>(
+    alloc: Global,
+    folder: &mut F,
     asked: Asked<'_>,
     reader: R,
     writer: &mut W,
     progress: &mut Progress<P>,
 ) -> Outcome
+    ensures does { Does F.step asked.entry (R.remaining reader) (W.contents writer.old)
+        (W.contents writer.new) folder.old result folder.new }
     ensures silent { status_of result ≡ 2 →
         Appends (W.contents writer.old) (W.contents writer.new) [] }
 {
-    let alloc = rt.alloc();
     match asked {
-        Asked::Run(words) => run_words(rt, alloc, words, reader, writer, progress),
-        Asked::Convert(words) => convert_words(rt, alloc, words, reader, writer, progress),
-        Asked::Query(words) => query_words(rt, alloc, &words, reader, writer, progress),
-        Asked::Update(words) => update_words(rt, alloc, &words, reader, writer, progress),
-        Asked::Check(words) => check_words(rt, alloc, &words, reader, writer, progress),
+        Asked::Run(words) => run_words(alloc, folder, words, reader, writer, progress),
+        Asked::Convert(words) => convert_words(alloc, folder, words, reader, writer, progress),
+        Asked::Query(words) => query_words(alloc, folder, &words, reader, writer, progress),
+        Asked::Update(words) => update_words(alloc, folder, &words, reader, writer, progress),
+        Asked::Check(words) => check_words(alloc, folder, &words, reader, writer, progress),
         Asked::Shown(text) => show(text.as_str(), writer),
     }
 }
@@ -233,14 +229,17 @@ fn has_progress_word(words: &[String]) -> bool
 }
 
 // Does what the words ask for, and tells on standard error how far documents are read where they ask for that too.
-fn answer_asked<T: Files + AllocGlobal, R: Read + Drop, W: Write, E: Write>(
-    rt: &T,
+fn answer_asked<F: Folder, R: Read + Drop, W: Write, E: Write>(
+    alloc: Global,
+    folder: &mut F,
     words: &[String],
     asked: Asked<'_>,
     reader: R,
     writer: &mut W,
     errors: &mut E,
 ) -> Outcome
+    ensures does { Does F.step asked.entry (R.remaining reader) (W.contents writer.old)
+        (W.contents writer.new) folder.old result folder.new }
     ensures silent { status_of result ≡ 2 →
         Appends (W.contents writer.old) (W.contents writer.new) [] }
     ensures quiet { (AsksProgress string_bytes words.now → ⊥) →
@@ -248,28 +247,38 @@ fn answer_asked<T: Files + AllocGlobal, R: Read + Drop, W: Write, E: Write>(
 {
     // (that the word is there is what the contract knows of its option)
     if asked.has_progress() && has_progress_word(words) {
-        do_asked(rt, asked, reader, writer, &mut Progress::new(errors))
+        do_asked(
+            alloc,
+            folder,
+            asked,
+            reader,
+            writer,
+            &mut Progress::new(errors),
+        )
     } else {
-        do_asked(rt, asked, reader, writer, &mut silent())
+        do_asked(alloc, folder, asked, reader, writer, &mut silent())
     }
 }
 
 // Answers words, also those that ask for nothing.
-fn answer_words<T: Files + AllocGlobal, R: Read + Drop, W: Write, E: Write>(
-    rt: &T,
+fn answer_words<F: Folder, R: Read + Drop, W: Write, E: Write>(
+    alloc: Global,
+    folder: &mut F,
     words: &[String],
     reader: R,
     writer: &mut W,
     errors: &mut E,
 ) -> Outcome
+    ensures does { DoesAsked F.step (R.remaining reader) (W.contents writer.old)
+        (W.contents writer.new) folder.old result folder.new }
     ensures silent { status_of result ≡ 2 →
         Appends (W.contents writer.old) (W.contents writer.new) [] }
     ensures quiet { status_of result ≡ 0 →
         (AsksProgress string_bytes words.now → ⊥) →
         Appends (E.contents errors.old) (E.contents errors.new) [] }
 {
-    match read_words(rt.alloc(), words) {
-        Ok(asked) => answer_asked(rt, words, asked, reader, writer, errors),
+    match read_words(alloc, words) {
+        Ok(asked) => answer_asked(alloc, folder, words, asked, reader, writer, errors),
         Err(WordsFault::Usage(text)) => {
             let _ = write_whole(errors, text.as_str().as_bytes());
             Outcome::BadWords
@@ -284,8 +293,31 @@ fn answer_words<T: Files + AllocGlobal, R: Read + Drop, W: Write, E: Write>(
     }
 }
 
-/// The whole program `rdfkeep`, over its words (without its own name), its standard input, output and error. Answers
-/// the exit status:
+/// The whole program `rdfkeep`, as [`start_over`], over the files of a host.
+pub fn start<T: Files + AllocGlobal, R: Read + Drop, W: Write, E: Write>(
+    rt: &T,
+    words: &[String],
+    reader: R,
+    writer: &mut W,
+    errors: &mut E,
+) -> u8
+    // of the files nothing is known
+    ensures does { (before after : HostFolder T) × (outcome : Outcome)
+        × (result ≡ status_of outcome)
+        × DoesAsked anything (R.remaining reader) (W.contents writer.old) (W.contents writer.new)
+        before outcome after }
+    ensures status { result ≤ 4 }
+    ensures silent { result ≡ 2 → Appends (W.contents writer.old) (W.contents writer.new) [] }
+    ensures quiet { result ≡ 0 →
+        (AsksProgress string_bytes words.now → ⊥) →
+        Appends (E.contents errors.old) (E.contents errors.new) [] }
+{
+    let mut folder = HostFolder { rt };
+    start_over(rt.alloc(), &mut folder, words, reader, writer, errors)
+}
+
+/// The whole program `rdfkeep`, over its words (without its own name), the files that they name, its standard input, output and
+/// error. Answers the exit status:
 ///
 /// - 0 where all was accepted, written or shown;
 /// - 1 where a command of the script, the query or the request was refused, or a document that is converted or checked is
@@ -299,13 +331,18 @@ fn answer_words<T: Files + AllocGlobal, R: Read + Drop, W: Write, E: Write>(
 ///
 /// With `--progress` standard error tells how many bytes of a document are read, while it is read, and is cleared of that before
 /// anything else is written on it. What standard output gets and the status don't depend on it.
-pub fn start<T: Files + AllocGlobal, R: Read + Drop, W: Write, E: Write>(
-    rt: &T,
+pub fn start_over<F: Folder, R: Read + Drop, W: Write, E: Write>(
+    alloc: Global,
+    folder: &mut F,
     words: &[String],
     reader: R,
     writer: &mut W,
     errors: &mut E,
 ) -> u8
+    // it opens, reads and writes what the words ask for, up to the first fault
+    ensures does { (outcome : Outcome) × (result ≡ status_of outcome)
+        × DoesAsked F.step (R.remaining reader) (W.contents writer.old) (W.contents writer.new)
+        folder.old outcome folder.new }
     ensures status { result ≤ 4 }
     // where the words, the base or the start data are wrong, nothing is written
     ensures silent { result ≡ 2 → Appends (W.contents writer.old) (W.contents writer.new) [] }
@@ -314,6 +351,6 @@ pub fn start<T: Files + AllocGlobal, R: Read + Drop, W: Write, E: Write>(
         (AsksProgress string_bytes words.now → ⊥) →
         Appends (E.contents errors.old) (E.contents errors.new) [] }
 {
-    let outcome = answer_words(rt, words, reader, writer, errors);
+    let outcome = answer_words(alloc, folder, words, reader, writer, errors);
     report(&outcome, errors)
 }

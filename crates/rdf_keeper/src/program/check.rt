@@ -1,16 +1,16 @@
 //! Documents that are checked.
-ghost use Rattle.std.specs.Prelude.{◌≡◌, ◌≢◌, ◌++◌, [], List, ℕ, Some, Result, IfErr, Err};
+ghost use Rattle.std.specs.Prelude.{◌≡◌, ◌≢◌, ◌++◌, [], false, List, ℕ, Option, IfErr, Err, map};
 ghost use Rattle.std.specs.Option.{option_copied};
 ghost use Rattle.std.specs.Io.KnownBytes.{Appends};
-ghost use Rattle.rdf_streams.specs.Checks.{Checks};
 ghost use Rattle.rdf_keeper.specs.Inside.Once.{Tells, WritesCheck, WritesLine, counted_line, faulty_line};
 ghost use Rattle.rdf_keeper.specs.Inside.Outcomes.{status_of};
-ghost use Rattle.rdf_streams.specs.declared.conversion.fault.ConvertFault.{ConvertFault};
+ghost use Rattle.rdf_keeper.specs.Program.Words.{ChecksAll, ChecksBytes, ChecksFile, ChecksFiles};
 
 use crate::program::base_of;
+use crate::program::folder::Folder;
 use crate::program::once_words::{CheckWords, INPUT};
 use crate::program::outcome::{Outcome, document_fault_name};
-use crate::program::watch::{Progress, Watched, size_of};
+use crate::program::watch::{Progress, Watched};
 use crate::short_line::{append, append_place};
 use arrayvec::ArrayVec;
 use itoa::Buffer;
@@ -18,9 +18,7 @@ use rdf_session::Format;
 use rdf_streams::{ConvertFault, DocumentFault, check, write_whole};
 use rdf_terms::Iri;
 use std::alloc::Global;
-use std::fs;
 use std::io::{Read, Write};
-use std::rt::Files;
 
 // What stands behind a file's name: how many statements it has.
 fn counted_line(count: u64) -> ArrayVec<u8, 64>
@@ -112,10 +110,8 @@ fn check_one<R: Read, W: Write, P: Write>(
     writer: &mut W,
 ) -> Result<bool, Outcome>
     ensures told { IfErr result (λ outcome. status_of outcome ≢ 2) }
-    ensures written { (text : List ℕ) → R.remaining reader.old.reader ≡ Some text →
-        (answer : Result ℕ ConvertFault)
-        × Checks format (option_copied base.entry) text (R.remaining reader.new.reader) answer
-        × WritesCheck name.now (W.contents writer.old) answer result (W.contents writer.new) }
+    ensures written { ChecksBytes format (option_copied base.entry) name.now
+        (R.remaining reader.old.reader) (W.contents writer.old) (W.contents writer.new) result }
 {
     let answer = check(alloc, format, base, reader);
     reader.clear();
@@ -123,9 +119,9 @@ fn check_one<R: Read, W: Write, P: Write>(
 }
 
 // Checks a file, or standard input.
-fn check_file<T: Files, R: Read, W: Write, P: Write>(
-    rt: &T,
+fn check_file<F: Folder, R: Read, W: Write, P: Write>(
     alloc: Global,
+    folder: &mut F,
     format: Format,
     base: Option<&Iri>,
     path: &str,
@@ -133,16 +129,19 @@ fn check_file<T: Files, R: Read, W: Write, P: Write>(
     writer: &mut W,
     progress: &mut Progress<P>,
 ) -> Result<bool, Outcome>
-    ensures { IfErr result (λ outcome. status_of outcome ≢ 2) }
+    ensures does { ChecksFile F.step format (option_copied base.entry) path.now
+        (folder.old, R.remaining reader.old, W.contents writer.old) result
+        (folder.new, R.remaining reader.new, W.contents writer.new) }
+    ensures told { IfErr result (λ outcome. status_of outcome ≢ 2) }
 {
     if path == INPUT {
         progress.begin(None);
         let mut input = progress.watch(reader);
         return check_one(alloc, format, base, path, &mut input, writer);
     }
-    match fs::open(rt, path) {
+    match folder.open(path) {
         Ok(file) => {
-            progress.begin(size_of(&file));
+            progress.begin(F::size_of(&file));
             let mut file = progress.watch(file);
             check_one(alloc, format, base, path, &mut file, writer)
         }
@@ -151,15 +150,18 @@ fn check_file<T: Files, R: Read, W: Write, P: Write>(
 }
 
 /// Checks files, one behind another.
-pub(crate) fn check_words<T: Files, R: Read + Drop, W: Write, P: Write>(
-    rt: &T,
+pub(crate) fn check_words<F: Folder, R: Read + Drop, W: Write, P: Write>(
     alloc: Global,
+    folder: &mut F,
     words: &CheckWords<'_>,
     mut reader: R,
     writer: &mut W,
     progress: &mut Progress<P>,
 ) -> Outcome
-    ensures { status_of result ≡ 2 →
+    ensures does { (left : Option (List ℕ)) × ChecksAll F.step words.now
+        (folder.old, R.remaining reader, W.contents writer.old) result
+        (folder.new, left, W.contents writer.new) }
+    ensures silent { status_of result ≡ 2 →
         Appends (W.contents writer.old) (W.contents writer.new) [] }
 {
     let base = match base_of(alloc, words.base) {
@@ -167,8 +169,8 @@ pub(crate) fn check_words<T: Files, R: Read + Drop, W: Write, P: Write>(
         Err(outcome) => return outcome,
     };
     check_files(
-        rt,
         alloc,
+        folder,
         words,
         base.as_ref(),
         &mut reader,
@@ -178,22 +180,27 @@ pub(crate) fn check_words<T: Files, R: Read + Drop, W: Write, P: Write>(
 }
 
 // The same, against a base.
-fn check_files<T: Files, R: Read, W: Write, P: Write>(
-    rt: &T,
+fn check_files<F: Folder, R: Read, W: Write, P: Write>(
     alloc: Global,
+    folder: &mut F,
     words: &CheckWords<'_>,
     base: Option<&Iri>,
     reader: &mut R,
     writer: &mut W,
     progress: &mut Progress<P>,
 ) -> Outcome
-    ensures { status_of result ≢ 2 }
+    ensures does { ChecksFiles F.step words.now.from (option_copied base.entry)
+        (map (λ path. path.now) words.now.files.items) false
+        (folder.old, R.remaining reader.old, W.contents writer.old) result
+        (folder.new, R.remaining reader.new, W.contents writer.new) }
+    ensures told { status_of result ≢ 2 }
 {
     let mut refused = false;
     for path in words.files.as_slice() {
-        match check_file(rt, alloc, words.from, base, path, reader, writer, progress) {
-            Ok(true) => {}
-            Ok(false) => refused = true,
+        match check_file(
+            alloc, folder, words.from, base, path, reader, writer, progress,
+        ) {
+            Ok(sound) => refused |= !sound,
             Err(outcome) => return outcome,
         }
     }

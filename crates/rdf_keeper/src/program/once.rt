@@ -1,8 +1,11 @@
 //! One query, and one request, of data.
-ghost use Rattle.std.specs.Prelude.{◌≡◌, ◌≢◌, [], Result, Ok};
+ghost use Rattle.std.specs.Prelude.{◌≡◌, ◌≢◌, [], ℕ, List, Option, Result, Ok};
+ghost use Rattle.std.specs.Option.{option_copied};
 ghost use Rattle.std.specs.Io.KnownBytes.{Appends};
 ghost use Rattle.rdf_keeper.specs.Inside.Once.{WritesOut, WritesReply, WritesShown, refusal};
 ghost use Rattle.rdf_keeper.specs.Inside.Outcomes.{status_of};
+ghost use Rattle.rdf_keeper.specs.Program.Sessions.{BeginsOnce};
+ghost use Rattle.rdf_keeper.specs.Program.Words.{Queries, Updates};
 ghost use Rattle.rdf_session.specs.Query.{RepliesIn};
 ghost use Rattle.rdf_session.specs.Request.{Update};
 ghost use Rattle.rdf_session.specs.Session.{Do, Session, Transition, reply_of};
@@ -12,6 +15,7 @@ ghost use Rattle.rdf_session.specs.declared.query.Answer.{Answer};
 
 use crate::program::base_of;
 use crate::program::data::text_named;
+use crate::program::folder::Folder;
 use crate::program::once_words::{DataWords, QueryWords, UpdateWords};
 use crate::program::outcome::Outcome;
 use crate::program::several::begun_with_all;
@@ -22,7 +26,6 @@ use rdf_session::{Keeper, KeeperFault, ResultsFormat};
 use rdf_streams::write_whole;
 use std::alloc::Global;
 use std::io::{Read, Write};
-use std::rt::Files;
 
 // How a refused query or request ends the program.
 fn refusal(fault: KeeperFault) -> Outcome
@@ -93,61 +96,70 @@ fn write_update<W: Write>(
 }
 
 // The session that words begin with.
-fn session_with<T: Files, R: Read, P: Write>(
-    rt: &T,
+fn session_with<F: Folder, R: Read, P: Write>(
     alloc: Global,
+    folder: &mut F,
     base: Option<&str>,
     data: &DataWords<'_>,
     reader: &mut R,
     progress: &mut Progress<P>,
-) -> Result<Keeper, Outcome> {
+) -> Result<Keeper, Outcome>
+    ensures { BeginsOnce F.step (option_copied base.entry) data.now
+        (folder.old, R.remaining reader.old) result (folder.new, R.remaining reader.new) }
+{
     let base = base_of(alloc, base)?;
-    let started = begun_with_all(rt, alloc, base, data, reader, progress);
+    let started = begun_with_all(alloc, folder, base, data, reader, progress);
     progress.clear();
     started
 }
 
 /// Answers a query.
-pub(crate) fn query_words<T: Files, R: Read + Drop, W: Write, P: Write>(
-    rt: &T,
+pub(crate) fn query_words<F: Folder, R: Read + Drop, W: Write, P: Write>(
     alloc: Global,
+    folder: &mut F,
     words: &QueryWords<'_>,
     mut reader: R,
     writer: &mut W,
     progress: &mut Progress<P>,
 ) -> Outcome
-    ensures { status_of result ≡ 2 →
+    ensures does { (left : Option (List ℕ))
+        × Queries F.step words.now (W.contents writer.old) (W.contents writer.new)
+        (folder.old, R.remaining reader) result (folder.new, left) }
+    ensures silent { status_of result ≡ 2 →
         Appends (W.contents writer.old) (W.contents writer.new) [] }
 {
     let data = &words.data;
-    let keeper = match session_with(rt, alloc, words.base, data, &mut reader, progress) {
+    let keeper = match session_with(alloc, folder, words.base, data, &mut reader, progress) {
         Ok(keeper) => keeper,
         Err(outcome) => return outcome,
     };
-    match text_named(rt, alloc, words.query, &mut reader, &mut silent()) {
+    match text_named(alloc, folder, words.query, &mut reader, &mut silent()) {
         Ok(text) => write_reply(&keeper, words.results, text.as_slice(), writer),
         Err(outcome) => outcome,
     }
 }
 
 /// Applies a request.
-pub(crate) fn update_words<T: Files, R: Read + Drop, W: Write, P: Write>(
-    rt: &T,
+pub(crate) fn update_words<F: Folder, R: Read + Drop, W: Write, P: Write>(
     alloc: Global,
+    folder: &mut F,
     words: &UpdateWords<'_>,
     mut reader: R,
     writer: &mut W,
     progress: &mut Progress<P>,
 ) -> Outcome
-    ensures { status_of result ≡ 2 →
+    ensures does { (left : Option (List ℕ))
+        × Updates F.step words.now (W.contents writer.old) (W.contents writer.new)
+        (folder.old, R.remaining reader) result (folder.new, left) }
+    ensures silent { status_of result ≡ 2 →
         Appends (W.contents writer.old) (W.contents writer.new) [] }
 {
     let data = &words.data;
-    let keeper = match session_with(rt, alloc, words.base, data, &mut reader, progress) {
+    let keeper = match session_with(alloc, folder, words.base, data, &mut reader, progress) {
         Ok(keeper) => keeper,
         Err(outcome) => return outcome,
     };
-    match text_named(rt, alloc, words.request, &mut reader, &mut silent()) {
+    match text_named(alloc, folder, words.request, &mut reader, &mut silent()) {
         Ok(text) => write_update(alloc, keeper, words.shown, text.as_slice(), writer),
         Err(outcome) => outcome,
     }

@@ -8,7 +8,6 @@ use crate::short_line::append;
 use arrayvec::ArrayVec;
 use itoa::Buffer;
 use rdf_streams::write_whole;
-use std::fs::OpenFile;
 use std::io;
 use std::io::{Read, Sink, Write};
 
@@ -58,14 +57,6 @@ fn size_behind(read: u64, size: Option<u64>) -> Option<u64>
 {
     match size {
         Some(size) if read <= size => Some(size),
-        _ => None,
-    }
-}
-
-/// How many bytes a file has, where it is one that has a size.
-pub(crate) fn size_of<F: OpenFile>(file: &F) -> Option<u64> {
-    match file.metadata() {
-        Ok(known) if known.is_file() => Some(known.len()),
         _ => None,
     }
 }

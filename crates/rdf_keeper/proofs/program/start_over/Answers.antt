@@ -1,6 +1,6 @@
 use Rattle.std.proofs.Common.{◌∙◌, sym}
 use Rattle.rdf_keeper.proofs.ProgramLemmas.{stays_quiet}
-use Rattle.rdf_keeper.proofs.program.start.Goals as goal
+use Rattle.rdf_keeper.proofs.program.start_over.Goals as goal
 
 pub returns-clause-quiet : goal.returns-clause-quiet
 returns-clause-quiet g c zero unasked =
