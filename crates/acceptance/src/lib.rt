@@ -8,8 +8,6 @@ mod calls;
 #[cfg(test)]
 mod dialogue;
 #[cfg(test)]
-mod files;
-#[cfg(test)]
 mod keeper;
 #[cfg(test)]
 mod look_ups;
@@ -19,7 +17,5 @@ mod once;
 mod states;
 #[cfg(test)]
 mod streams;
-#[cfg(test)]
-mod table;
 #[cfg(test)]
 mod templates;

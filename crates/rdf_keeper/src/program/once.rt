@@ -100,15 +100,15 @@ fn session_with<F: Folder, R: Read, P: Write>(
     alloc: Global,
     folder: &mut F,
     base: Option<&str>,
-    data: &DataWords<'_>,
+    words: &DataWords<'_>,
     reader: &mut R,
     progress: &mut Progress<P>,
 ) -> Result<Keeper, Outcome>
-    ensures { BeginsOnce F.step (option_copied base.entry) data.now
+    ensures { BeginsOnce F.step (option_copied base.entry) words.now
         (folder.old, R.remaining reader.old) result (folder.new, R.remaining reader.new) }
 {
     let base = base_of(alloc, base)?;
-    let started = begun_with_all(alloc, folder, base, data, reader, progress);
+    let started = begun_with_all(alloc, folder, base, words, reader, progress);
     progress.clear();
     started
 }
