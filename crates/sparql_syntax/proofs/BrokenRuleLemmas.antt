@@ -1,5 +1,5 @@
 -- Where a static rule is broken a lexeme shows it.
-use Rattle.std.proofs.Common.{◌≡◌, ◌<◌, ◌≤◌, ◌+◌, ◌∙◌, ap, refl, sym, subst, ℕ, suc, Bool, true, false, cond, ◌&&◌, ◌||◌, not, ◌==◌, List, [], ◌∷◌, ◌++◌, map, length, Option, Some, None, Result, Ok, Err, inl, inr, arith, true≢false}
+use Rattle.std.proofs.Common.{◌≡◌, ◌<◌, ◌≤◌, ◌+◌, ◌∙◌, ap, refl, sym, ℕ, suc, Bool, true, false, cond, ◌&&◌, ◌||◌, not, ◌==◌, List, [], ◌∷◌, ◌++◌, map, length, Option, Some, None, Result, Ok, Err, inl, inr, arith, true≢false}
 use Rattle.std.proofs.lemmas.Bool.{and_parts, cases_lt}
 use Rattle.std.specs.List.{AllByRecursion, list_any}
 use Rattle.rdf_grammar.specs.Terminals.{next_terminal}
@@ -7,7 +7,6 @@ use Rattle.sparql_grammar.specs.OperationGrammar.{IsRequest}
 use Rattle.sparql_grammar.specs.declared.tree.Part.{Part}
 use Rattle.sparql_terminals.specs.Lexemes.{Lexeme, Lexemes}
 use Rattle.sparql_terminals.specs.declared.terminal.Terminal.{Terminal}
-use Rattle.sparql_terminals.specs.declared.terminal.Terminal.TheVariants as terminal
 use Rattle.sparql_drafts.specs.declared.draft.QuadPattern.{QuadPattern}
 use Rattle.sparql_drafts.specs.declared.draft.Quads.{Quads}
 use Rattle.sparql_drafts.specs.declared.draft.VarOrIri.{VarOrIri}
@@ -20,17 +19,15 @@ use Rattle.sparql_syntax.specs.declared.draft.Draft.{Draft}
 use Rattle.sparql_syntax.specs.declared.draft.Draft.TheVariants as draft
 use Rattle.sparql_syntax.specs.declared.fault.SyntaxFaultKind.{SyntaxFaultKind}
 use Rattle.sparql_syntax.specs.declared.fault.SyntaxFaultKind.TheVariants as fault
-use Rattle.sparql_syntax.specs.BrokenRuleLaws.{IsFound, IsOfKind, BlankIsFound, VariableIsFound, LiteralIsFound, BlankIsOfKind, VariableIsOfKind, LiteralIsOfKind}
+use Rattle.sparql_syntax.specs.BrokenRuleLaws.{BlankIsFound, VariableIsFound, LiteralIsFound, BlankIsOfKind, VariableIsOfKind, LiteralIsOfKind}
 use Rattle.sparql_syntax.specs.BrokenRules.{breaks, breaking_from, first_breaking, is_blank, is_literal, is_variable, subject_behind}
 use Rattle.sparql_syntax.specs.Clauses.{clause_behind, is_data, is_deleted}
 use Rattle.sparql_syntax.specs.Meaning.{answer}
-use Rattle.sparql_syntax.specs.Phases.{HasTree}
 use Rattle.sparql_syntax.specs.Rules as rules
 use Rattle.sparql_syntax.specs.Update.{meaning, ruled}
 use Rattle.sparql_trees.specs.declared.operation.Operation.{Operation}
 use Rattle.sparql_syntax.proofs.RequestLemmas.{answer_kind}
 use Rattle.sparql_syntax.proofs.RuleDrafts.{FitsDraft, drafts_fit}
-use Rattle.sparql_syntax.proofs.RuleFronts.{Told}
 use Rattle.sparql_syntax.proofs.RuleMeanings.{FitsName, FitsTerm, FitsGraph, FitsPattern, FitsQuads}
 use Rattle.sparql_syntax.proofs.RuleRequests.{Tells, request_fits}
 use Rattle.sparql_syntax.proofs.RuleTrees.{Allows, Asks}

@@ -1,5 +1,5 @@
 -- A text says one thing in a language, or has one fault.
-use Rattle.std.proofs.Common.{◌≡◌, ◌<◌, ◌⊎◌, ◌≤◌, inl, inr, ℕ, zero, suc, true, false, List, Option, Some, is_some, Result, Ok, Err, refl, sym, ap, subst, ◌∙◌, arith, lit<, lit≤, true≢false}
+use Rattle.std.proofs.Common.{◌≡◌, ◌<◌, ◌⊎◌, ◌≤◌, inl, inr, ℕ, zero, suc, false, List, Option, Some, is_some, Result, Ok, Err, refl, sym, ap, subst, ◌∙◌, arith, lit<, lit≤, true≢false}
 use Rattle.std.proofs.lemmas.Bool.{cases_lt}
 use Rattle.std.specs.List.{slice_get}
 use Rattle.std.specs.Str.{chars, IsUtf8}

@@ -1,5 +1,5 @@
 -- What a reader answers is what the text says.
-use Rattle.std.proofs.Common.{◌≡◌, inl, inr, ℕ, Bool, List, Option, is_some, Result, Ok, Err, IsTrue, MatchResult, map, refl, sym, ap, subst, ◌∙◌}
+use Rattle.std.proofs.Common.{◌≡◌, inl, inr, ℕ, Bool, List, Option, is_some, Result, Ok, Err, IsTrue, MatchResult, map, sym, ap, subst, ◌∙◌}
 use Rattle.std.specs.List.{list_all}
 use Rattle.std.specs.Str.{chars}
 use Rattle.rdf_grammar.specs.declared.fault.GrammarFault.{GrammarFault}

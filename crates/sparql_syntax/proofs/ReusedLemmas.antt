@@ -1,8 +1,7 @@
 -- The first label that is reused stands in front of itself too.
-use Rattle.std.proofs.Common.{◌≡◌, ◌<◌, ◌+◌, ◌∙◌, ap, refl, sym, subst, ℕ, suc, Bool, true, false, cond, ◌&&◌, ◌||◌, List, [], ◌∷◌, ◌++◌, length, append_assoc, arith, true≢false}
-use Rattle.std.proofs.lemmas.Bool.{and_parts, and_from}
+use Rattle.std.proofs.Common.{◌≡◌, ◌<◌, ◌+◌, ◌∙◌, ap, refl, sym, ℕ, suc, Bool, true, false, cond, ◌&&◌, ◌||◌, List, [], ◌∷◌, ◌++◌, length, append_assoc, arith, true≢false}
+use Rattle.std.proofs.lemmas.Bool.{and_parts}
 use Rattle.std.proofs.lemmas.List.Folds.{list_any-append}
-use Rattle.std.specs.List.{list_any}
 use Rattle.rdf_grammar.specs.Keys.{key_of, same_key}
 use Rattle.rdf_grammar.specs.Terminals.{Slice}
 use Rattle.sparql_terminals.specs.Lexemes.{Lexeme, Lexemes}
@@ -12,7 +11,7 @@ use Rattle.sparql_syntax.specs.declared.clause.Clause.{Clause}
 use Rattle.sparql_syntax.specs.declared.clause.Clause.TheVariants as clause
 use Rattle.sparql_syntax.specs.BrokenRuleLaws.{is_blank_label, has_label, LabelIsReused}
 use Rattle.sparql_syntax.specs.BrokenRules.{ends, is_label, is_reused, is_shared, reused_from, seen_behind}
-use Rattle.sparql_syntax.specs.Clauses.{clause_behind, is_same}
+use Rattle.sparql_syntax.specs.Clauses.{clause_behind}
 use Rattle.sparql_syntax.specs.Labels.{is_among}
 use Rattle.sparql_syntax.specs.SeenLabels.{Seen, moved_on, none_seen, with_label}
 use Rattle.sparql_syntax.proofs.SharedLabels.{known_grows, stands}

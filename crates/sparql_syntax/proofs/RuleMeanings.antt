@@ -1,5 +1,5 @@
 -- What triples say that fit what a static rule allows: their quads fit it too.
-use Rattle.std.proofs.Common.{◌≡◌, ◌∙◌, ap, refl, sym, subst, ℕ, Bool, true, false, cond, ◌&&◌, ◌||◌, not, List, [], ◌∷◌, ◌++◌, map, Option, Some, None, true≢false}
+use Rattle.std.proofs.Common.{◌≡◌, ◌∙◌, refl, sym, subst, ℕ, Bool, true, false, cond, ◌&&◌, ◌||◌, not, List, [], ◌∷◌, ◌++◌, map, Option, Some, None, true≢false}
 use Rattle.std.proofs.lemmas.Bool.{and_parts}
 use Rattle.std.specs.List.{list_all, AllByRecursion}
 use Rattle.std.specs.Option.{option_map}
@@ -7,7 +7,7 @@ use Rattle.rdf_terms.specs.Vocabulary.{rdf_type}
 use Rattle.rdf_terms.specs.declared.term.Term.TheVariants as t
 use Rattle.rdf_grammar.specs.Holds.{holds}
 use Rattle.rdf_grammar.specs.Prologue.{Prologue, iri_of}
-use Rattle.rdf_grammar.specs.Steps.{Outcome, Step, and_then, each, none}
+use Rattle.rdf_grammar.specs.Steps.{Outcome, and_then, each, none}
 use Rattle.rdf_grammar.specs.declared.tree.Literal.{Literal}
 use Rattle.rdf_grammar.specs.declared.tree.Name.{Name}
 use Rattle.sparql_grammar.specs.Proper.{is_filled, stands_alone}
@@ -22,7 +22,7 @@ use Rattle.sparql_grammar.specs.declared.tree.VarOrIri as written
 use Rattle.sparql_grammar.specs.declared.tree.VarOrIri.TheVariants as n
 use Rattle.sparql_grammar.specs.declared.tree.Verb.{Verb}
 use Rattle.sparql_grammar.specs.declared.tree.Verb.TheVariants as v
-use Rattle.sparql_drafts.specs.Drafting.{Drafting, Does, start, quads, told, fresh, labelled, in_default, in_graph, says}
+use Rattle.sparql_drafts.specs.Drafting.{Drafting, Does, start, quads, fresh, labelled, in_default, in_graph, says}
 use Rattle.sparql_drafts.specs.Meaning.{Meaning, Says, iri, verb, var_or_iri, literal, object, objects, first, rest, nil, next_cell, behind, list_term, list_inside, node_of, property_of, meaning, property, properties, subject_with, triples, graph, block, quads_in}
 use Rattle.sparql_drafts.specs.declared.draft.QuadPattern.{QuadPattern}
 use Rattle.sparql_drafts.specs.declared.draft.Quads.{Quads}

@@ -1,5 +1,5 @@
 -- What a walk over the lexemes of a text finds of its static rules.
-use Rattle.std.proofs.Common.{◌≡◌, ◌+◌, cond, ◌||◌, ℕ, Bool, true, false, List, [], ◌∷◌, length, Option, Some, None, refl, sym, ap, ◌∙◌, arith}
+use Rattle.std.proofs.Common.{◌≡◌, ◌+◌, cond, ℕ, Bool, true, false, List, [], ◌∷◌, length, Option, Some, None, refl, sym, ap, ◌∙◌, arith}
 use Rattle.std.specs.Str.{chars}
 use Rattle.rdf_grammar.proofs.CallerLemmas.{one_lexemes}
 use Rattle.rdf_grammar.specs.Lexemes.{AreReadOf}

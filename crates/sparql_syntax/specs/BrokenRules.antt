@@ -1,6 +1,6 @@
 -- Which lexeme of a request or a query is the first that breaks a static rule (SPARQL 1.1 Update, section 3.1; SPARQL 1.1 Query, sections 4.1.4,
 -- 19.6 and 19.8).
-use Rattle.std.specs.Prelude.{ℕ, ◌+◌, Bool, true, false, ◌&&◌, ◌||◌, if◌then◌else◌, List, [], ◌∷◌, ◌++◌, Option, Some}
+use Rattle.std.specs.Prelude.{ℕ, ◌+◌, Bool, true, false, ◌&&◌, ◌||◌, if◌then◌else◌, [], ◌∷◌, Option, Some}
 use Rattle.rdf_grammar.specs.Terminals.{Slice, next_terminal}
 use Rattle.sparql_terminals.specs.Lexemes.{Lexemes}
 use Rattle.sparql_terminals.specs.declared.terminal.Terminal.{Terminal}
