@@ -120,7 +120,7 @@ request_numbered base ps ds e = by (drafts ps (prologue.start base)) refl e
     by None h e = absurd (cc e)
     by (Some z) h e = subst (AllByRecursion IsDraftNumbered) (same_Some _ _ e) (parts_numbered [] ps (prologue.start base) z.1 z.0 tt h)
 
-answered : (ok : Bool) (r : Option (List Draft)) (ds : List Draft) → ◌≡◌ {A = Result (List Draft) SyntaxFaultKind} (if ok then ok_or r Relative else Err UnknownPrefix) (Ok ds) → r ≡ Some ds
+pub answered : (ok : Bool) (r : Option (List Draft)) (ds : List Draft) → ◌≡◌ {A = Result (List Draft) SyntaxFaultKind} (if ok then ok_or r Relative else Err UnknownPrefix) (Ok ds) → r ≡ Some ds
 answered true None ds e = absurd (cc e)
 answered true (Some qs) ds e = (let same : qs ≡ ds = cc e in ap (λ z. Some z) same)
 answered false r ds e = absurd (cc e)

@@ -1,5 +1,6 @@
 pub mod AnswerLemmas
 mod AtOnceLemmas
+mod BrokenRuleLemmas
 pub mod DraftsNumbered
 mod FailLemmas
 mod FaultyNameLemmas
@@ -24,8 +25,15 @@ mod QueryCases
 pub mod QueryLemmas
 pub mod ReadLemmas
 mod RequestLemmas
+mod ReusedLemmas
+mod RuleDrafts
+mod RuleFronts
 mod RuleLawLemmas
 mod RuleLemmas
+mod RuleMeanings
+mod RuleRequests
+mod RuleTrees
+mod RuleWalks
 mod SayLemmas
 mod SharedLabels
 mod SurveyLemmas

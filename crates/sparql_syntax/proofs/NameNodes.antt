@@ -57,25 +57,25 @@ module _ (q : Ask) where
 -- ---- nodes by what they are
 
 module _ {A B : Type 0} (f : Node-F A B → A) (h : Property-F A B → B) where
-  by-Variable : (name : Slice) → fold-Node A B f h (n.Variable name) ≡ f (Node-F.Variable name)
+  pub by-Variable : (name : Slice) → fold-Node A B f h (n.Variable name) ≡ f (Node-F.Variable name)
   by-Variable name = ap (fold-Node A B f h) (sym (n.rolls-Variable name)) ∙ fold-roll-Node A B f h (Node-F.Variable name)
 
-  by-Name : (name : Name) → fold-Node A B f h (n.Name name) ≡ f (Node-F.Name name)
+  pub by-Name : (name : Name) → fold-Node A B f h (n.Name name) ≡ f (Node-F.Name name)
   by-Name name = ap (fold-Node A B f h) (sym (n.rolls-Name name)) ∙ fold-roll-Node A B f h (Node-F.Name name)
 
-  by-Literal : (literal : Literal) → fold-Node A B f h (n.Literal literal) ≡ f (Node-F.Literal literal)
+  pub by-Literal : (literal : Literal) → fold-Node A B f h (n.Literal literal) ≡ f (Node-F.Literal literal)
   by-Literal literal = ap (fold-Node A B f h) (sym (n.rolls-Literal literal)) ∙ fold-roll-Node A B f h (Node-F.Literal literal)
 
-  by-Label : (label : Slice) → fold-Node A B f h (n.Label label) ≡ f (Node-F.Label label)
+  pub by-Label : (label : Slice) → fold-Node A B f h (n.Label label) ≡ f (Node-F.Label label)
   by-Label label = ap (fold-Node A B f h) (sym (n.rolls-Label label)) ∙ fold-roll-Node A B f h (Node-F.Label label)
 
-  by-Blank : (bracket : Slice) (ps : List Property) → fold-Node A B f h (n.Blank bracket ps) ≡ f (Node-F.Blank bracket (map (fold-Property A B f h) ps))
+  pub by-Blank : (bracket : Slice) (ps : List Property) → fold-Node A B f h (n.Blank bracket ps) ≡ f (Node-F.Blank bracket (map (fold-Property A B f h) ps))
   by-Blank bracket ps = ap (fold-Node A B f h) (sym (n.rolls-Blank bracket ps)) ∙ fold-roll-Node A B f h (Node-F.Blank bracket ps)
 
-  by-Collection : (bracket : Slice) (xs : List Node) → fold-Node A B f h (n.Collection bracket xs) ≡ f (Node-F.Collection bracket (map (fold-Node A B f h) xs))
+  pub by-Collection : (bracket : Slice) (xs : List Node) → fold-Node A B f h (n.Collection bracket xs) ≡ f (Node-F.Collection bracket (map (fold-Node A B f h) xs))
   by-Collection bracket xs = ap (fold-Node A B f h) (sym (n.rolls-Collection bracket xs)) ∙ fold-roll-Node A B f h (Node-F.Collection bracket xs)
 
-  by-property : (verb : Verb) (objects : List Node) → fold-Property A B f h (read.property_with verb objects) ≡ h (record { verb = verb; objects = map (fold-Node A B f h) objects })
+  pub by-property : (verb : Verb) (objects : List Node) → fold-Property A B f h (read.property_with verb objects) ≡ h (record { verb = verb; objects = map (fold-Node A B f h) objects })
   by-property verb objects = fold-roll-Property A B f h (record { verb = verb; objects = objects })
 
 abbrev pub node_value : Node → Value

@@ -33,11 +33,11 @@ module _ (size : ℕ) where
       (lacking_start (moves_behind moves (terminal_of kind slice)) (base_behind moves based (terminal_of kind slice)) all)
 
 -- the lexemes of what is found
-abbrev slices : List Found → Lexemes
+abbrev pub slices : List Found → Lexemes
 slices = lexemes_found terminal_by
 
 -- one token more, at which something is found or not
-one_more : (text : List ℕ) (t : Token) (ts : List Token) (test : Bool) (start n m : ℕ) → start ≡ t.start → m ≡ start_of text ts n
+pub one_more : (text : List ℕ) (t : Token) (ts : List Token) (test : Bool) (start n m : ℕ) → start ≡ t.start → m ≡ start_of text ts n
     → cond test start m ≡ start_of text (t ∷ ts) (cond test 0 (n + 1))
 one_more text t ts true start n m e h = e
 one_more text t ts false start n m e h = h ∙ ap (start_of text (t ∷ ts)) (sym (add-one n))
@@ -62,7 +62,7 @@ lacking text moves based (t ∷ ts) (Read start kind slice ∷ fs) h =
     let k = terminal_of kind slice in
     one_more text t ts (is_lacking based k slice) start _ _ h.0.0 (lacking text (moves_behind moves k) (base_behind moves based k) ts fs h.1)
 
-starts_by : (text : List ℕ) (all : List Found) (place : ℕ) (number : Lexemes → ℕ) → AreFoundIn (chars text) all
+pub starts_by : (text : List ℕ) (all : List Found) (place : ℕ) (number : Lexemes → ℕ) → AreFoundIn (chars text) all
     → ((tokens : List Token) → AreFound (chars text) tokens all → place ≡ start_of text tokens (number (slices all))) → StartsAt text number place
 starts_by text all place number walk at tokens lexemes h =
     let are = all_found (chars text) tokens all walk h.list in

@@ -1,5 +1,5 @@
 -- A text says one thing in a language, or has one fault.
-use Rattle.std.proofs.Common.{◌≡◌, ◌<◌, ◌⊎◌, ◌≤◌, inl, inr, ℕ, zero, suc, true, false, List, Option, Some, is_some, Result, Ok, Err, refl, sym, ap, subst, ◌∙◌, arith, lit<, lit≤, true≢false}
+use Rattle.std.proofs.Common.{◌≡◌, ◌<◌, ◌⊎◌, ◌≤◌, inl, inr, ℕ, zero, suc, false, List, Option, Some, is_some, Result, Ok, Err, refl, sym, ap, subst, ◌∙◌, arith, lit<, lit≤, true≢false}
 use Rattle.std.proofs.lemmas.Bool.{cases_lt}
 use Rattle.std.specs.List.{slice_get}
 use Rattle.std.specs.Str.{chars, IsUtf8}
@@ -15,6 +15,7 @@ use Rattle.sparql_terminals.specs.Terminals.{terminal_by, bracket}
 use Rattle.sparql_syntax.specs.declared.fault.SyntaxFault.{SyntaxFault}
 use Rattle.sparql_syntax.specs.declared.fault.SyntaxFaultKind.{SyntaxFaultKind}
 use Rattle.sparql_syntax.specs.declared.fault.SyntaxFaultKind.TheVariants as fault
+use Rattle.sparql_syntax.specs.BrokenRules.{first_broken}
 use Rattle.sparql_syntax.specs.FaultyNames.{first_unbound, first_lacking}
 use Rattle.sparql_syntax.specs.Phases as phases
 use Rattle.sparql_syntax.specs.Phases.{HasTokens, IsLineAt}
@@ -202,9 +203,6 @@ module _ {Tree Said : Type 0} (Derives : List Lexeme → Tree → Type 0) (meani
   same_kind : (base : Option (List ℕ)) (text : List ℕ) (j k : SyntaxFaultKind) → IsRefused base text j → IsRefused base text k → j ≡ k
   same_kind base text j k h i = err_same j k (sym h.2 ∙ same_meaning base text h.0 i.0 h.1 i.1 ∙ i.2)
 
-  by_refusal : (base : Option (List ℕ)) (text : List ℕ) (j k : SyntaxFaultKind) (m n : ℕ) → IsRefused base text j → IsRefused base text k → has_free_line j ≡ true → Same j k m n
-  by_refusal base text j k m n h i free = (same_kind base text j k h i, λ fixed. absurd (true≢false (sym free ∙ fixed)))
-
   alike : (base : Option (List ℕ)) (text : List ℕ) (j k : SyntaxFaultKind) (m n : ℕ) → phase j ≡ phase k → FaultIs base text j m → FaultIs base text k n → Same j k m n
   alike base text fault.NotUtf8 fault.NotUtf8 m n e h i =
       (refl, λ f. h.1.2 ∙ ap (line_of text) (text_lemmas.one_front text h.1.0 i.1.0 h.1.1 i.1.1) ∙ sym i.1.2)
@@ -226,10 +224,14 @@ module _ {Tree Said : Type 0} (Derives : List Lexeme → Tree → Type 0) (meani
   alike base text fault.UnknownPrefix k m n e h i = absurd (cc (same_kind base text fault.UnknownPrefix k h.0 (refused base text k n (λ x. omega (arith, e, x)) i)))
   alike base text fault.Relative fault.Relative m n e h i = (refl, λ f. same_lexeme text (first_lacking (is_some base)) m n h.1 i.1)
   alike base text fault.Relative k m n e h i = absurd (cc (same_kind base text fault.Relative k h.0 (refused base text k n (λ x. omega (arith, e, x)) i)))
-  alike base text fault.BlankInDelete k m n e h i = by_refusal base text fault.BlankInDelete k m n h.0 (refused base text k n (λ x. omega (arith, e, x)) i) refl
-  alike base text fault.VariableInData k m n e h i = by_refusal base text fault.VariableInData k m n h.0 (refused base text k n (λ x. omega (arith, e, x)) i) refl
-  alike base text fault.LiteralSubject k m n e h i = by_refusal base text fault.LiteralSubject k m n h.0 (refused base text k n (λ x. omega (arith, e, x)) i) refl
-  alike base text fault.BlankReused k m n e h i = by_refusal base text fault.BlankReused k m n h.0 (refused base text k n (λ x. omega (arith, e, x)) i) refl
+  alike base text fault.BlankInDelete fault.BlankInDelete m n e h i = (refl, λ f. same_lexeme text (first_broken fault.BlankInDelete) m n h.1 i.1)
+  alike base text fault.BlankInDelete k m n e h i = absurd (cc (same_kind base text fault.BlankInDelete k h.0 (refused base text k n (λ x. omega (arith, e, x)) i)))
+  alike base text fault.VariableInData fault.VariableInData m n e h i = (refl, λ f. same_lexeme text (first_broken fault.VariableInData) m n h.1 i.1)
+  alike base text fault.VariableInData k m n e h i = absurd (cc (same_kind base text fault.VariableInData k h.0 (refused base text k n (λ x. omega (arith, e, x)) i)))
+  alike base text fault.LiteralSubject fault.LiteralSubject m n e h i = (refl, λ f. same_lexeme text (first_broken fault.LiteralSubject) m n h.1 i.1)
+  alike base text fault.LiteralSubject k m n e h i = absurd (cc (same_kind base text fault.LiteralSubject k h.0 (refused base text k n (λ x. omega (arith, e, x)) i)))
+  alike base text fault.BlankReused fault.BlankReused m n e h i = (refl, λ f. same_lexeme text (first_broken fault.BlankReused) m n h.1 i.1)
+  alike base text fault.BlankReused k m n e h i = absurd (cc (same_kind base text fault.BlankReused k h.0 (refused base text k n (λ x. omega (arith, e, x)) i)))
   alike base text (fault.NoMemory refused) k m n e h i = absurd h
 
   pub one_fault : (base : Option (List ℕ)) (text : List ℕ) (a b : SyntaxFault) → IsFaulty base text a → IsFaulty base text b → SameFault a b

@@ -17,13 +17,14 @@ use Rattle.sparql_queries.specs.Known.{known_query}
 use Rattle.sparql_queries.specs.Queries.{query_in, IsFaultOf}
 use Rattle.sparql_syntax.specs.declared.fault.SyntaxFault.{SyntaxFault}
 use Rattle.sparql_syntax.specs.declared.fault.SyntaxFaultKind.TheVariants as fault
+use Rattle.sparql_syntax.specs.BrokenRules.{first_broken}
 use Rattle.sparql_syntax.specs.FaultyNames.{first_unbound, first_lacking}
 use Rattle.sparql_syntax.specs.Labels.{repeats_label}
-use Rattle.sparql_syntax.specs.NamePlaces.{IsNameFault}
+use Rattle.sparql_syntax.specs.NamePlaces.{IsNameFault, IsRuleFault}
 use Rattle.sparql_syntax.specs.Phases.{TellsEarly}
 use Rattle.sparql_syntax.specs.Survey.{IsReadable}
 use Rattle.sparql_syntax.specs.Query.{HasTree, IsQuery, TellsFault, meaning, ruled}
-use Rattle.sparql_syntax.specs.QueryTold.{IsTold, IsRuleFault}
+use Rattle.sparql_syntax.specs.QueryTold.{IsTold}
 use Rattle.sparql_syntax.specs.Told.{IsStopFault}
 use Rattle.sparql_trees.specs.declared.query.Query.{Query}
 use Rattle.sparql_syntax.proofs.QueryCases.{label_kind}
@@ -69,8 +70,9 @@ name_told base based text tree e f same h is named = name_told_at base text tree
 rule_told : (base : Option (List ℕ)) (text : List ℕ) (tree : written.Query) (said : Query × Labels) (f : SyntaxFault) → HasTree text tree → meaning base tree ≡ ruled (Some said)
     → IsRuleFault text (ruled (Some said)) f → TellsFault base text f f.kind
 rule_told base text tree said f h is (inr memory) = language.memory_told grammar.IsQuery meaning base text f memory.0 memory.1
-rule_told base text tree said f h is (inl e) =
-    language.told_at grammar.IsQuery meaning base text f f.kind f.line refl (label_kind (repeats_label [] said.1) said.0 f.kind e.0 base text (tree, h, is ∙ e.0) f.line e.1)
+rule_told base text tree said f h is (inl (rule, e, told)) =
+    language.first_told grammar.IsQuery meaning base text h.tokens h.lexemes f rule (first_broken rule) h.list
+    (λ line at. label_kind (repeats_label [] said.1) said.0 rule e base text (tree, h, is ∙ e) line at) told
 
 pub all_told : (base : Option (List ℕ)) (text : List ℕ) (tree : written.Query) (said : Query × Labels) (r : Result Query SyntaxFault) → HasTree text tree → known_query tree ≡ true
     → query_in base tree ≡ Some said → MatchResult r (λ query. ruled (Some said) ≡ Ok query) (λ f. IsRuleFault text (ruled (Some said)) f)

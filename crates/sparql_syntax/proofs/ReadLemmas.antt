@@ -1,5 +1,5 @@
 -- What a reader answers is what the text says.
-use Rattle.std.proofs.Common.{◌≡◌, inl, inr, ℕ, Bool, List, Option, is_some, Result, Ok, Err, IsTrue, MatchResult, map, refl, sym, ap, subst, ◌∙◌}
+use Rattle.std.proofs.Common.{◌≡◌, inl, inr, ℕ, Bool, List, Option, is_some, Result, Ok, Err, IsTrue, MatchResult, map, sym, ap, subst, ◌∙◌}
 use Rattle.std.specs.List.{list_all}
 use Rattle.std.specs.Str.{chars}
 use Rattle.rdf_grammar.specs.declared.fault.GrammarFault.{GrammarFault}
@@ -16,14 +16,15 @@ use Rattle.sparql_grammar.proofs.CallerLemmas.{requests_proper}
 use Rattle.sparql_syntax.specs.declared.draft.Draft.{Draft}
 use Rattle.sparql_syntax.specs.declared.fault.SyntaxFault.{SyntaxFault}
 use Rattle.sparql_syntax.specs.declared.fault.SyntaxFaultKind.TheVariants as fault
+use Rattle.sparql_syntax.specs.BrokenRules.{first_broken}
 use Rattle.sparql_syntax.specs.FaultyNames.{first_unbound, first_lacking}
-use Rattle.sparql_syntax.specs.NamePlaces.{IsNameFault}
+use Rattle.sparql_syntax.specs.NamePlaces.{IsNameFault, IsRuleFault}
 use Rattle.sparql_syntax.specs.Phases.{TellsEarly}
 use Rattle.sparql_syntax.specs.Survey.{IsReadable}
 use Rattle.sparql_syntax.specs.Rules.{judged}
 use Rattle.sparql_syntax.specs.Kept.{IsFaultOf}
 use Rattle.sparql_syntax.specs.Meaning.{answer}
-use Rattle.sparql_syntax.specs.Told.{IsTold, IsRuleFault, IsStopFault}
+use Rattle.sparql_syntax.specs.Told.{IsTold, IsStopFault}
 use Rattle.sparql_syntax.specs.Update.{HasTree, IsUpdate, TellsFault, meaning, ruled}
 use Rattle.sparql_trees.specs.declared.operation.Request.{Request}
 use Rattle.sparql_syntax.proofs.TellLemmas as language
@@ -66,9 +67,9 @@ name_told base based text tree e f same h is named = name_told_at base text tree
 rule_told : (base : Option (List ℕ)) (text : List ℕ) (tree : List Part) (drafts : List Draft) (f : SyntaxFault) → HasTree text tree → answer base tree ≡ Ok drafts → IsRuleFault text (judged drafts) f
     → TellsFault base text f f.kind
 rule_told base text tree drafts f h is (inr memory) = language.memory_told IsRequest meaning base text f memory.0 memory.1
-rule_told base text tree drafts f h is (inl e) =
-    let none : meaning base tree ≡ Err f.kind = ap ruled is ∙ e.0 in
-    language.told_at IsRequest meaning base text f f.kind f.line refl (judged_kind drafts f.kind e.0 base text (tree, h, none) f.line e.1)
+rule_told base text tree drafts f h is (inl (rule, e, told)) =
+    let none : meaning base tree ≡ Err rule = ap ruled is ∙ e in
+    language.first_told IsRequest meaning base text h.tokens h.lexemes f rule (first_broken rule) h.list (λ line at. judged_kind drafts rule e base text (tree, h, none) line at) told
 
 update_told : (base : Option (List ℕ)) (text : List ℕ) (tree : List Part) (drafts : List Draft) (request : Request) → HasTree text tree → answer base tree ≡ Ok drafts
     → judged drafts ≡ Ok request.operations → IsUpdate base text request

@@ -16,6 +16,7 @@ use Rattle.sparql_terminals.specs.Terminals.{terminal_by, bracket}
 use Rattle.sparql_syntax.specs.declared.fault.SyntaxFault.{SyntaxFault}
 use Rattle.sparql_syntax.specs.declared.fault.SyntaxFaultKind.{SyntaxFaultKind}
 use Rattle.sparql_syntax.specs.declared.fault.SyntaxFaultKind.TheVariants as fault
+use Rattle.sparql_syntax.specs.BrokenRules.{first_broken}
 use Rattle.sparql_syntax.specs.FaultyNames.{first_unbound, first_lacking}
 use Rattle.sparql_syntax.specs.Phases as phases
 use Rattle.sparql_syntax.specs.Phases.{HasTokens, IsLineAt}
@@ -26,17 +27,17 @@ abbrev pub IsKindOfTree : {Tree Said : Type 0} (Derives : List Lexeme → Tree �
 IsKindOfTree Derives meaning k =
     (base : Option (List ℕ)) (text : List ℕ) → phases.IsRefused Derives meaning base text k → (line : ℕ) × phases.FaultIs Derives meaning base text k line
 
--- those that may be told in any line of the text
+-- those that are told in the line of the first lexeme that breaks a rule
 abbrev pub IsRuleKind : {Tree Said : Type 0} (Derives : List Lexeme → Tree → Type 0) (meaning : Option (List ℕ) → Tree → Result Said SyntaxFaultKind) → SyntaxFaultKind → Type 0
 IsRuleKind Derives meaning k =
-    (base : Option (List ℕ)) (text : List ℕ) → phases.IsRefused Derives meaning base text k → (line : ℕ) → phases.IsLineOf text line → phases.FaultIs Derives meaning base text k line
+    (base : Option (List ℕ)) (text : List ℕ) → phases.IsRefused Derives meaning base text k → (line : ℕ) → IsLineAt text (first_broken k) line → phases.FaultIs Derives meaning base text k line
 
 module _ {Tree Said : Type 0} (Derives : List Lexeme → Tree → Type 0) (meaning : Option (List ℕ) → Tree → Result Said SyntaxFaultKind) where
-  pub rule_kind : (k : SyntaxFaultKind) → IsRuleKind Derives meaning k → IsKindOfTree Derives meaning k
-  rule_kind k rule base text h = (line_of text 0, rule base text h (line_of text 0) (0, refl))
-
   first_line : (text : List ℕ) (tree : Tree) (has : phases.HasTree Derives text tree) (number : Lexemes → ℕ) → (line : ℕ) × IsLineAt text number line
   first_line text tree has number = (line_of text (start_of text has.tokens (number has.lexemes)), (has.tokens, has.lexemes, has.list, refl))
+
+  pub rule_kind : (k : SyntaxFaultKind) → IsRuleKind Derives meaning k → IsKindOfTree Derives meaning k
+  rule_kind k rule base text h = (let line = first_line text h.0 h.1 (first_broken k) in (line.0, rule base text h line.0 line.1))
 
   pub unknown_kind : IsKindOfTree Derives meaning fault.UnknownPrefix
   unknown_kind base text h = (let line = first_line text h.0 h.1 first_unbound in (line.0, (h, line.1)))

@@ -15,11 +15,11 @@ use Rattle.sparql_syntax.specs.Labels.{is_among, known_behind, repeats_label}
 use Rattle.sparql_syntax.specs.RuleLaws.{brings_label, patterns_with, stands_in, HasSharedLabel, LabelsAreShared}
 use Rattle.sparql_syntax.specs.Rules.{inserted_labels, pattern_labels, reuses_label}
 
-abbrev Keys : Type 0
+abbrev pub Keys : Type 0
 Keys = List (List ℕ)
 
 -- one of the labels has this key
-abbrev stands : List ℕ → Keys → Bool
+abbrev pub stands : List ℕ → Keys → Bool
 stands key labels = list_any (λ l. same_key key (key_of l)) labels
 
 or_no : (b : Bool) → (b || false) ≡ b
@@ -48,7 +48,7 @@ or_assoc : (a b c : Bool) → ((a || b) || c) ≡ (a || (b || c))
 or_assoc true b c = refl
 or_assoc false b c = refl
 
-known_grows : (key : List ℕ) (labels known : Keys) → list_any (same_key key) (known_behind known labels) ≡ (list_any (same_key key) known || stands key labels)
+pub known_grows : (key : List ℕ) (labels known : Keys) → list_any (same_key key) (known_behind known labels) ≡ (list_any (same_key key) known || stands key labels)
 known_grows key [] known = sym (or_no _)
 known_grows key (label ∷ labels) known =
     known_grows key labels (insert_key same_key known (key_of label))

@@ -56,7 +56,7 @@ ok_same a b e = cc
 ok_err : {A E : Type 0} {P : Type 0} (a : A) (b : E) → ◌≡◌ {A = Result A E} (Ok a) (Err b) → P
 ok_err a b e = absurd (cc)
 
-listed : (text : List ℕ) (tokens : List Token) (ts : Lexemes) → Tokenizes text (Ok tokens) → AreReadOf terminal_by text ts → AreLexemes terminal_by text tokens ts
+pub listed : (text : List ℕ) (tokens : List Token) (ts : Lexemes) → Tokenizes text (Ok tokens) → AreReadOf terminal_by text ts → AreLexemes terminal_by text tokens ts
 listed text tokens ts list (Ok us, says, are) =
     subst (λ (x : List Token). AreLexemes terminal_by text x ts) (ok_same us tokens (one_token_list text (Ok us) (Ok tokens) says list)) are
 listed text tokens ts list (Err place, says, are) = ok_err tokens place (one_token_list text (Ok tokens) (Err place) list says)

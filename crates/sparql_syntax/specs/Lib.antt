@@ -1,4 +1,7 @@
 pub mod Blanks
+pub mod BrokenRuleLaws
+pub mod BrokenRules
+pub mod Clauses
 pub mod Drafts
 pub mod FaultName
 pub mod FaultyNameLaws
@@ -15,6 +18,7 @@ pub mod QueryLaws
 pub mod QueryTold
 pub mod RuleLaws
 pub mod Rules
+pub mod SeenLabels
 pub mod Survey
 pub mod Told
 pub mod Update

@@ -1,5 +1,5 @@
--- Where the first name without an IRI stands, and the fault that is told of it.
-use Rattle.std.specs.Prelude.{◌≡◌, ℕ, Bool, List, Result, Ok, Err, IfOk}
+-- Where the first lexeme stands that shows a fault, a name without an IRI or what breaks a static rule, and the fault that is told of it.
+use Rattle.std.specs.Prelude.{◌≡◌, ◌⊎◌, ℕ, Bool, List, Result, Ok, Err, IfOk}
 use Rattle.rdf_grammar.specs.Walks.{start_of}
 use Rattle.rdf_grammar.specs.declared.prologue.PrologueFault.{PrologueFault}
 use Rattle.rdf_grammar.specs.declared.prologue.PrologueFault.TheVariants as name
@@ -9,6 +9,7 @@ use Rattle.sparql_terminals.specs.Lexemes.{Lexemes}
 use Rattle.sparql_syntax.specs.declared.fault.SyntaxFault.{SyntaxFault}
 use Rattle.sparql_syntax.specs.declared.fault.SyntaxFaultKind.{SyntaxFaultKind}
 use Rattle.sparql_syntax.specs.declared.fault.SyntaxFaultKind.TheVariants as kind
+use Rattle.sparql_syntax.specs.BrokenRules.{first_broken}
 use Rattle.sparql_syntax.specs.FaultyNames.{first_unbound, first_lacking}
 use Rattle.sparql_syntax.specs.Phases.{HasTokens}
 use Rattle.sparql_syntax.specs.Told.{fault_at, wants_memory}
@@ -31,3 +32,8 @@ abbrev pub IsNameFault : List ℕ → Bool → PrologueFault → SyntaxFault →
 IsNameFault text based (name.UnknownPrefix start) f = IsAtFirst text kind.UnknownPrefix first_unbound f
 IsNameFault text based (name.Relative start) f = IsAtFirst text kind.Relative (first_lacking based) f
 IsNameFault text based (name.NoMemory refused) f = f ≡ wants_memory refused
+
+-- the answer is the fault of a rule, told at the first lexeme that breaks it, or memory was wanting
+abbrev pub IsRuleFault : {Said : Type 0} → List ℕ → Result Said SyntaxFaultKind → SyntaxFault → Type 0
+IsRuleFault text answer f =
+    ((rule : SyntaxFaultKind) × (answer ≡ Err rule) × IsAtFirst text rule (first_broken rule) f) ⊎ ((refused : NoMemory) × (f ≡ wants_memory refused))

@@ -13,6 +13,7 @@ use Rattle.sparql_terminals.specs.Profile.{AreInside, IsFirstOutside}
 use Rattle.sparql_syntax.specs.declared.fault.SyntaxFault.{SyntaxFault}
 use Rattle.sparql_syntax.specs.declared.fault.SyntaxFaultKind.{SyntaxFaultKind}
 use Rattle.sparql_syntax.specs.declared.fault.SyntaxFaultKind.TheVariants as fault
+use Rattle.sparql_syntax.specs.BrokenRules.{first_broken}
 use Rattle.sparql_syntax.specs.FaultyNames.{first_unbound, first_lacking}
 
 -- The text is UTF-8, these are its tokens, and these are the tokens as the grammar sees them.
@@ -30,10 +31,6 @@ pub record HasTree {Tree : Type 0} (Derives : List Lexeme → Tree → Type 0) (
   pub inside : AreInside (chars text) tokens
   pub shallow : ¬ (IsTooDeep lexemes)
   pub reads : Derives lexemes tree
-
--- it is the line of one of the bytes of the text, or of its end
-abbrev pub IsLineOf : List ℕ → ℕ → Type 0
-IsLineOf text line = (place : ℕ) × (line ≡ line_of text place)
 
 -- it is the line of the lexeme of this number, or of the end
 abbrev pub IsLineAt : List ℕ → (Lexemes → ℕ) → ℕ → Type 0
@@ -71,10 +68,6 @@ module _ {Tree Said : Type 0} (Derives : List Lexeme → Tree → Type 0) (meani
   abbrev pub IsRefused : Option (List ℕ) → List ℕ → SyntaxFaultKind → Type 0
   IsRefused base text kind = (tree : Tree) × HasTree Derives text tree × (meaning base tree ≡ Err kind)
 
-  -- For this reason the text says nothing; the line is one of its lines.
-  abbrev pub IsRefusedAt : Option (List ℕ) → List ℕ → SyntaxFaultKind → ℕ → Type 0
-  IsRefusedAt base text kind line = IsRefused base text kind × IsLineOf text line
-
   -- Why a text says nothing, and the line of the place that shows it. The first reason that applies is the fault, and of one reason the first
   -- place.
   abbrev pub FaultIs : Option (List ℕ) → List ℕ → SyntaxFaultKind → ℕ → Type 0
@@ -87,11 +80,11 @@ module _ {Tree Said : Type 0} (Derives : List Lexeme → Tree → Type 0) (meani
   FaultIs base text fault.UnknownPrefix line = IsRefused base text fault.UnknownPrefix × IsLineAt text first_unbound line
   -- a reference without a base, in the line of the first
   FaultIs base text fault.Relative line = IsRefused base text fault.Relative × IsLineAt text (first_lacking (is_some base)) line
-  -- a static rule is broken
-  FaultIs base text fault.BlankInDelete line = IsRefusedAt base text fault.BlankInDelete line
-  FaultIs base text fault.VariableInData line = IsRefusedAt base text fault.VariableInData line
-  FaultIs base text fault.LiteralSubject line = IsRefusedAt base text fault.LiteralSubject line
-  FaultIs base text fault.BlankReused line = IsRefusedAt base text fault.BlankReused line
+  -- a static rule is broken, in the line of the first lexeme that breaks it
+  FaultIs base text fault.BlankInDelete line = IsRefused base text fault.BlankInDelete × IsLineAt text (first_broken fault.BlankInDelete) line
+  FaultIs base text fault.VariableInData line = IsRefused base text fault.VariableInData × IsLineAt text (first_broken fault.VariableInData) line
+  FaultIs base text fault.LiteralSubject line = IsRefused base text fault.LiteralSubject × IsLineAt text (first_broken fault.LiteralSubject) line
+  FaultIs base text fault.BlankReused line = IsRefused base text fault.BlankReused × IsLineAt text (first_broken fault.BlankReused) line
   -- the text is read in no language
   FaultIs base text kind line = StopsEarly text kind line
 

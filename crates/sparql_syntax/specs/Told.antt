@@ -1,5 +1,5 @@
 -- The faults that are told of a text, by what its parts answer.
-use Rattle.std.specs.Prelude.{◌≡◌, ◌⊎◌, ℕ, List, Option, Result, Err}
+use Rattle.std.specs.Prelude.{◌≡◌, ℕ, List, Option}
 use Rattle.rdf_grammar.specs.declared.fault.GrammarFault.{GrammarFault}
 use Rattle.rdf_grammar.specs.declared.fault.GrammarFault.TheVariants as grammar
 use Rattle.rdf_terms.specs.declared.fault.NoMemory.{NoMemory}
@@ -7,10 +7,8 @@ use Rattle.rdf_tokens.specs.Lines.{line_of}
 use Rattle.sparql_syntax.specs.declared.fault.SyntaxFault.{SyntaxFault}
 use Rattle.sparql_syntax.specs.declared.fault.SyntaxFaultKind.{SyntaxFaultKind}
 use Rattle.sparql_syntax.specs.declared.fault.SyntaxFaultKind.TheVariants as kind
-use Rattle.sparql_syntax.specs.Phases.{IsLineOf}
 use Rattle.sparql_syntax.specs.Survey.{IsStop}
 use Rattle.sparql_syntax.specs.Update.{TellsFault}
-use Rattle.sparql_trees.specs.declared.operation.Operation.{Operation}
 
 -- the fault is told of the text, whatever the base is
 abbrev pub IsTold : List ℕ → SyntaxFault → Type 0
@@ -26,7 +24,3 @@ wants_memory refused = record { line = 0; kind = kind.NoMemory refused }
 abbrev pub IsStopFault : List ℕ → GrammarFault → ℕ → SyntaxFault → Type 0
 IsStopFault text grammar.Syntax left f = (start : ℕ) × IsStop text left start × (f ≡ fault_at text kind.Syntax start)
 IsStopFault text (grammar.NoMemory refused) left f = f ≡ wants_memory refused
-
--- the answer is a fault of this kind, in a line of the text, or memory was wanting
-abbrev pub IsRuleFault : List ℕ → Result (List Operation) SyntaxFaultKind → SyntaxFault → Type 0
-IsRuleFault text answer f = ((answer ≡ Err f.kind) × IsLineOf text f.line) ⊎ ((refused : NoMemory) × (f ≡ wants_memory refused))

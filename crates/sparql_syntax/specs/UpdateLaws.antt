@@ -11,10 +11,10 @@ abbrev pub has_free_line : SyntaxFaultKind → Bool
 has_free_line Syntax = true
 has_free_line UnknownPrefix = false
 has_free_line Relative = false
-has_free_line BlankInDelete = true
-has_free_line VariableInData = true
-has_free_line LiteralSubject = true
-has_free_line BlankReused = true
+has_free_line BlankInDelete = false
+has_free_line VariableInData = false
+has_free_line LiteralSubject = false
+has_free_line BlankReused = false
 has_free_line NotUtf8 = false
 has_free_line Token = false
 has_free_line NotInProfile = false

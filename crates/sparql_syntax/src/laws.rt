@@ -1,4 +1,5 @@
 //! What holds of each text.
+ghost use Rattle.sparql_syntax.specs.BrokenRuleLaws as laws;
 ghost use Rattle.sparql_syntax.specs.FaultyNameLaws as names;
 ghost use Rattle.sparql_syntax.specs.ModifyLaws.{DeleteWhereIsItsGroup};
 ghost use Rattle.sparql_syntax.specs.QueryLaws as query;
@@ -31,6 +32,19 @@ pub fn faulty_names_are_found()
     ensures relative_in_updates { names.RelativeInUpdates }
     ensures unknown_in_queries { names.UnknownInQueries }
     ensures relative_in_queries { names.RelativeInQueries }
+{}
+
+/// Where a text is refused by the rule on blank nodes, on variables or on literals (SPARQL 1.1 Update, section
+/// 3.1), some lexeme breaks it, and the first such, whose line is told, is a blank node, a variable or a
+/// literal. The first label whose line is told for a reused one stands before it too.
+pub fn broken_rules_are_found()
+    ensures blank { laws.BlankIsFound }
+    ensures variable { laws.VariableIsFound }
+    ensures literal { laws.LiteralIsFound }
+    ensures blank_kind { laws.BlankIsOfKind }
+    ensures variable_kind { laws.VariableIsOfKind }
+    ensures literal_kind { laws.LiteralIsOfKind }
+    ensures label { laws.LabelIsReused }
 {}
 
 /// Where the static rules are kept no quad of the data is lost.

@@ -5,6 +5,8 @@
 //! SPARQL it has the profile of docs/FORMATS.md.
 #![tactic(auto)]
 
+mod broken_rule;
+mod clause;
 mod draft;
 mod fault;
 mod faulty_name;
@@ -16,13 +18,14 @@ mod query;
 mod read;
 mod request;
 mod rules;
+mod seen;
 mod survey;
 mod text;
 
 pub use fault::{SyntaxFault, SyntaxFaultKind};
 pub use laws::{
-    data_are_quads, delete_where_is_its_group, faulty_names_are_found, labels_are_shared,
-    one_query, one_request,
+    broken_rules_are_found, data_are_quads, delete_where_is_its_group, faulty_names_are_found,
+    labels_are_shared, one_query, one_request,
 };
 pub use operation::blank_numbers_are_below;
 pub use query::{read_query, read_query_with};

@@ -4,13 +4,14 @@ ghost use Rattle.std.specs.Option.{option_copied};
 ghost use Rattle.std.specs.Str.{IsUtf8};
 ghost use Rattle.sparql_syntax.specs.Query as spec;
 ghost use Rattle.sparql_syntax.specs.Query.{HasTree, IsQuery, TellsFault};
-ghost use Rattle.sparql_syntax.specs.QueryTold.{IsRuleFault, IsTold};
+ghost use Rattle.sparql_syntax.specs.NamePlaces.{IsRuleFault};
+ghost use Rattle.sparql_syntax.specs.QueryTold.{IsTold};
 ghost use Rattle.sparql_syntax.specs.Survey.{IsReadable};
 
 use crate::fault::{SyntaxFault, SyntaxFaultKind};
-use crate::labels::first_repeated;
+use crate::labels::repeats_label;
 use crate::survey::{opens_few, survey};
-use crate::text::{fault_at, name_fault, stop_fault};
+use crate::text::{fault_at, name_fault, rule_fault, stop_fault};
 use indexmap::IndexSet;
 use rdf_grammar::GrammarFault;
 use rdf_terms::{Iri, NoMemory, Vocabulary};
@@ -66,9 +67,8 @@ fn query_of(alloc: Global, text: &str, said: Said<'_>) -> Result<Query, SyntaxFa
         MatchResult result (λ query. answer ≡ Ok query) (λ fault. IsRuleFault text.now answer fault) }
 {
     let mut known = IndexSet::new(alloc);
-    if let Some(start) = first_repeated(&mut known, said.labels.as_slice())? {
-        let kind = SyntaxFaultKind::BlankReused;
-        return Err(fault_at(text.as_bytes(), kind, start));
+    if repeats_label(&mut known, said.labels.as_slice())? {
+        return Err(rule_fault(alloc, text, SyntaxFaultKind::BlankReused));
     }
     Ok(said.query)
 }

@@ -6,16 +6,17 @@ ghost use Rattle.std.specs.Str.{IsUtf8};
 ghost use Rattle.sparql_syntax.specs.Drafts.{IsDraftBelow};
 ghost use Rattle.sparql_syntax.specs.Rules.{judged};
 ghost use Rattle.sparql_syntax.specs.Survey.{IsReadable};
-ghost use Rattle.sparql_syntax.specs.Told.{IsRuleFault, IsTold};
+ghost use Rattle.sparql_syntax.specs.NamePlaces.{IsRuleFault};
+ghost use Rattle.sparql_syntax.specs.Told.{IsTold};
 ghost use Rattle.sparql_syntax.specs.Update.{HasTree, IsUpdate, TellsFault};
 
 use crate::draft::Draft;
 use crate::fault::{SyntaxFault, SyntaxFaultKind};
 use crate::operation::drafts_of;
 use crate::request::operations_of;
-use crate::rules::{Broken, first_broken};
+use crate::rules::first_broken;
 use crate::survey::{opens_few, survey};
-use crate::text::{fault_at, name_fault, stop_fault};
+use crate::text::{fault_at, name_fault, rule_fault, stop_fault};
 use rdf_grammar::GrammarFault;
 use rdf_terms::{Iri, Items, NoMemory, Vocabulary};
 use sparql_grammar::{Part, parse_update};
@@ -70,8 +71,8 @@ fn request_of(alloc: Global, text: &str, drafts: Items<Draft<'_>>) -> Result<Req
         (λ request. judged drafts.entry ≡ Ok request.operations)
         (λ fault. IsRuleFault text.now (judged drafts.entry) fault) }
 {
-    if let Some(Broken { rule, start }) = first_broken(alloc, drafts.as_slice())? {
-        return Err(fault_at(text.as_bytes(), rule, start));
+    if let Some(rule) = first_broken(alloc, drafts.as_slice())? {
+        return Err(rule_fault(alloc, text, rule));
     }
     let operations = operations_of(alloc, drafts.into_vec())?;
     Ok(Request { operations })

@@ -1,10 +1,12 @@
 //! The faults of a text, by their places.
-ghost use Rattle.std.specs.Prelude.{◌≡◌};
+ghost use Rattle.std.specs.Prelude.{◌≡◌, IfOk};
 ghost use Rattle.sparql_syntax.specs.NamePlaces as places;
-ghost use Rattle.sparql_syntax.specs.NamePlaces.{IsNameFault};
+ghost use Rattle.sparql_syntax.specs.BrokenRules.{first_broken};
+ghost use Rattle.sparql_syntax.specs.NamePlaces.{IsAtFirst, IsNameFault, StartsAt};
 ghost use Rattle.sparql_syntax.specs.Survey.{IsStop};
 ghost use Rattle.sparql_syntax.specs.Told as spec;
 
+use crate::broken_rule::{first_breaking, first_reused};
 use crate::fault::{SyntaxFault, SyntaxFaultKind};
 use crate::faulty_name::{first_lacking, first_unbound};
 use rdf_grammar::{GrammarFault, PrologueFault, start_of};
@@ -75,4 +77,23 @@ pub(crate) fn name_fault(
         }
         PrologueFault::NoMemory(refused) => SyntaxFault::from(refused),
     }
+}
+
+// Where the first lexeme starts that breaks the rule, or where the text ends.
+fn broken_place(alloc: Global, text: &str, rule: SyntaxFaultKind) -> Result<usize, NoMemory>
+    ensures { IfOk result (λ place. StartsAt text.now (first_broken rule) place) }
+{
+    match rule {
+        SyntaxFaultKind::BlankReused => first_reused(alloc, text),
+        _ => Ok(first_breaking(alloc, text, rule)),
+    }
+}
+
+/// The fault of a text that breaks a static rule, in the line of the first lexeme that breaks it; or want of
+/// memory.
+pub(crate) fn rule_fault(alloc: Global, text: &str, rule: SyntaxFaultKind) -> SyntaxFault
+    ensures { IsAtFirst text.now rule (first_broken rule) result }
+{
+    let place = broken_place(alloc, text, rule);
+    at_place(text, rule, place)
 }

@@ -1,7 +1,0 @@
-use Rattle.std.proofs.Common.{◌≡◌, drop}
-use Rattle.std.specs.List.{list_any}
-use Rattle.sparql_syntax.specs.Rules as spec
-use Rattle.sparql_syntax.proofs.rules.first_blank.Given as goal
-
-abbrev pub invariant-loop-draft : goal.invariant-loop-draft
-invariant-loop-draft l = list_any spec.has_blank_in_delete l.drafts ≡ list_any spec.has_blank_in_delete (drop l.draft-index l.drafts)

@@ -1,0 +1,7 @@
+use Rattle.std.proofs.Common.{◌≡◌, drop}
+use Rattle.std.specs.List.{list_any}
+use Rattle.sparql_syntax.specs.Rules as spec
+use Rattle.sparql_syntax.proofs.rules.has_variable_data.Given as goal
+
+abbrev pub invariant-loop-draft : goal.invariant-loop-draft
+invariant-loop-draft l = list_any spec.has_variable_in_data l.drafts ≡ list_any spec.has_variable_in_data (drop l.draft-index l.drafts)
