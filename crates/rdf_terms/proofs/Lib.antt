@@ -9,6 +9,7 @@ mod DottedLemmas
 mod EscapeLemmas
 mod EscapedLemmas
 mod ExampleLemmas
+mod FrontLemmas
 mod IntegerLemmas
 mod LoopLemmas
 mod OptionLemmas
