@@ -11,7 +11,9 @@ mod EscapedLemmas
 mod ExampleLemmas
 mod FrontLemmas
 mod IntegerLemmas
+mod LayoutLemmas
 mod LoopLemmas
+mod MovingLemmas
 mod OptionLemmas
 mod PastLemmas
 mod PlaceLemmas

@@ -22,6 +22,10 @@ unfoldable pub resolved : List ℕ → List ℕ → List ℕ
 resolved base reference =
     before colon base ++ colon ∷ recomposed (target (components_of (unwrap_or (after colon base) [])) (components_of reference))
 
+-- the components of a base, behind its scheme
+abbrev pub parts_of : List ℕ → Components
+parts_of base = components_of (unwrap_or (after colon base) [])
+
 -- the length of the first segment with the slash before it, of a text that isn't empty
 abbrev pub first_len : List ℕ → ℕ
 first_len input = suc (length (before slash (drop 1 input)))
