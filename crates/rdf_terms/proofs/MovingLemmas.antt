@@ -2,6 +2,7 @@
 use Rattle.std.proofs.Common.{Bor, ◌≡◌, ℕ, ◌+◌, ◌-◌, ◌<◌, ◌≤◌, Bool, true, false, cond, ◌&&◌, eqb, nat_eq, List, [], ◌∷◌, ◌++◌, codes, Option, Some, None, Result, Ok, Err, IfOk, not, is_some, length, min, take, drop, refl, sym, ap, subst, ◌∙◌, inl, inr, arith, append_assoc, IfSome, IsTrue, unwrap_or}
 use Rattle.std.specs.List.{starts_with}
 use Rattle.std.specs.Option.{option_copied, option_or}
+use Rattle.std.specs.Str.{IsUtf8}
 use Rattle.std.proofs.lemmas.Bool.{and_parts, cases_Bool, cond_both, cond-false, or_from, or_parts, true≢false}
 use Rattle.std.proofs.lemmas.List.{append-nil, length-append, length-take, length-take-le, take-append-drop, take-append-le, take-take, take_at, drop_at}
 use Rattle.rdf_terms.specs.declared.dots.Output.{Output}
@@ -9,15 +10,17 @@ use Rattle.rdf_terms.specs.declared.layout.Layout.{Layout}
 use Rattle.rdf_terms.specs.declared.moving.Change.{Change}
 use Rattle.rdf_terms.specs.Cuts.{before, after, up_to_slash}
 use Rattle.rdf_terms.specs.Dots.{is_dot_segment, segments, without_dots}
-use Rattle.rdf_terms.specs.Iri.{has_scheme, is_scheme}
+use Rattle.rdf_terms.specs.Iri.{has_forbidden, has_scheme, is_iri, is_scheme}
 use Rattle.rdf_terms.specs.Layout.{front_of, IsLayout, IsMove, TakesPath}
 use Rattle.rdf_terms.specs.Reference.{Components, Lacks, HasComponents, PathFits, marked, recomposed, is_rooted}
-use Rattle.rdf_terms.specs.Resolution.{target, merged, is_empty, begins_with_slash}
+use Rattle.rdf_terms.specs.Resolution.{target, merged, is_empty, begins_with_slash, ResolvesTo}
 use Rattle.rdf_terms.specs.Rewriting.{components_of, parts_of, resolved, written}
+use Rattle.rdf_terms.proofs.CleanLemmas.{resolved_iri, scheme_from_iri}
 use Rattle.rdf_terms.proofs.CutLemmas.{has_slash, a_slash, before_lacks_mark, before_joined, after_joined, Lacks-append, Lacks-parts, last_slash, up_lacks, up_joined}
 use Rattle.rdf_terms.proofs.DotLawLemmas.{has_dots, segments-append, no_dots_left}
 use Rattle.rdf_terms.proofs.LayoutLemmas.{end_of, front_joins, base_text, base_length, parts_have, dots_lack, dots_rooted}
 use Rattle.rdf_terms.proofs.ReferenceLemmas.{components_are, components_there}
+use Rattle.rdf_terms.proofs.ResolutionLemmas.{resolves}
 
 -- ---- the layout of what a reference gives
 
@@ -218,9 +221,11 @@ kept_front base front l k scheme at e room =
     let within : k ≤ length (parts_of base).path = omega arith in
     let all = base_length base scheme in
     let sum = length-append (parts_of base).path (end_of (parts_of base)) in
-    let one = at.path in
-    (ap (take (l.path_start + k)) (base_text base scheme) ∙ take_behind (front_of base) ((parts_of base).path ++ end_of (parts_of base)) l.path_start k one (omega arith)
-    ∙ ap (λ (t : List ℕ). front_of base ++ t) (take-append-le k (parts_of base).path (end_of (parts_of base)) within ∙ sym (ap (take k) e ∙ take-take k (length front) (parts_of base).path room)), omega arith)
+    let one = at.path in (
+      ap (take (l.path_start + k)) (base_text base scheme) ∙ take_behind (front_of base) ((parts_of base).path ++ end_of (parts_of base)) l.path_start k one (omega arith)
+          ∙ ap (λ (t : List ℕ). front_of base ++ t) (take-append-le k (parts_of base).path (end_of (parts_of base)) within ∙ sym (ap (take k) e ∙ take-take k (length front) (parts_of base).path room)),
+      omega arith,
+    )
 
 pub moved_path : (base reference front path : List ℕ) (r : Components) (l : Layout) (o : Output) (c : Change) → has_scheme base ≡ true → IsLayout base l → r ≡ components_of reference
     → TakesPath base (components_of reference) (front ++ path) → front ≡ take (length front) (parts_of base).path → o.kept ≤ length front → written front o ≡ without_dots (front ++ path)
@@ -341,3 +346,19 @@ none_copied (Some x) e = absurd (true≢false e)
 pub empty_from : (xs : List ℕ) → length xs < 1 → xs ≡ []
 empty_from [] h = refl
 empty_from (x ∷ xs) h = absurd (omega arith)
+
+pub record Moved (base reference text : List ℕ) (l : Layout) : Type 0 where
+  pub value : ResolvesTo base reference text
+  pub sound : IsTrue (is_iri text)
+  pub layout : IsLayout text l
+
+pub base_moved : (base reference : List ℕ) (c : Change) (base2 reference2 added text : List ℕ) → base2 ≡ base → reference2 ≡ reference → IsMove base2 reference2 c → added ≡ c.added.items
+    → text ≡ take c.kept base ++ added → IsTrue (is_iri base) → IsUtf8 reference → has_forbidden reference ≡ false → Moved base reference text c.layout
+base_moved base reference c base2 reference2 added text b r move a e iri utf8 allowed =
+    let own : IsMove base reference c = subst (λ (x : List ℕ). IsMove base x c) r (subst (λ (x : List ℕ). IsMove x reference2 c) b move) in
+    let whole : text ≡ resolved base reference = e ∙ ap (λ (x : List ℕ). take c.kept base ++ x) a ∙ own.text in
+    record {
+      value = rw whole (resolves base reference (scheme_from_iri base iri));
+      sound = rw whole (resolved_iri base reference iri utf8 allowed);
+      layout = rw whole own.layout;
+    }

@@ -1,8 +1,7 @@
 //! The base that references are resolved against, which is moved where it stands.
 ghost use Rattle.std.specs.Prelude.{◌≡◌, ◌↔◌, IfOk, IsErrOf, IsTrue, OnErr, OnOk, Some, false};
 ghost use Rattle.rdf_terms.specs.Iri.{has_forbidden, is_iri};
-ghost use Rattle.rdf_terms.specs.Resolution.{Means};
-ghost use Rattle.rdf_terms.specs.Rewriting.{resolved};
+ghost use Rattle.rdf_terms.specs.Resolution.{Means, ResolvesTo};
 
 use crate::fault::{IriFault, NoMemory};
 use crate::iri::{Iri, has_forbidden, has_scheme};
@@ -76,7 +75,7 @@ impl Base {
     /// [`IriFault::NoMemory`] where memory is wanting. The base is as before then.
     pub fn move_to(&mut self, alloc: Global, reference: &str) -> Result<(), IriFault>
         ensures value { OnOk result (Means (Some self.old) reference.now self.new) }
-        ensures sound { IsTrue (is_iri self.new) }
+        ensures sound { OnOk result (IsTrue (is_iri self.new)) }
         ensures kept { OnErr result (self.new ≡ self.old) }
         ensures relative { IsErrOf result IriFault.Relative → ⊥ }
         ensures bad_character { IsErrOf result IriFault.BadCharacter
@@ -96,8 +95,8 @@ impl Base {
     // Moves the base by a reference without a scheme and without forbidden characters.
     fn move_by(&mut self, alloc: Global, reference: &str) -> Result<(), NoMemory>
         requires { has_forbidden reference.now ≡ false }
-        ensures value { OnOk result (self.new ≡ resolved self.old reference.now) }
-        ensures sound { IsTrue (is_iri self.new) }
+        ensures value { OnOk result (ResolvesTo self.old reference.now self.new) }
+        ensures sound { OnOk result (IsTrue (is_iri self.new)) }
         ensures kept { OnErr result (self.new ≡ self.old) }
     {
         match &mut self.form {
@@ -162,8 +161,8 @@ impl Placed {
 
     fn move_by(&mut self, alloc: Global, reference: &str) -> Result<(), NoMemory>
         requires { has_forbidden reference.now ≡ false }
-        ensures value { OnOk result (self.new ≡ resolved self.old reference.now) }
-        ensures sound { IsTrue (is_iri self.new) }
+        ensures value { OnOk result (ResolvesTo self.old reference.now self.new) }
+        ensures sound { OnOk result (IsTrue (is_iri self.new)) }
         ensures kept { OnErr result (self.new ≡ self.old) }
     {
         let change = moved(alloc, &self.text, self.layout, reference.as_bytes())?;

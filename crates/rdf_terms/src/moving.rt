@@ -67,11 +67,7 @@ fn anew(alloc: Global, base: &[u8], reference: &[u8]) -> Result<Change, NoMemory
 
 // The reference has no authority and no path: the base keeps its path, and where the reference has
 // no query, its query.
-fn with_end(
-    alloc: Global,
-    layout: Layout,
-    reference: &Reference<'_>,
-) -> Result<Change, NoMemory>
+fn with_end(alloc: Global, layout: Layout, reference: &Reference<'_>) -> Result<Change, NoMemory>
     requires order { layout.path_end ≤ layout.query_end }
     requires small { layout.query_end < 2 ^ 63 }
     ensures kept { let kept = (if is_some reference.now.query then layout.path_end else layout.query_end) in
@@ -81,7 +77,7 @@ fn with_end(
         IfOk result (λ change. change.added.items ≡ end) }
     ensures layout { let query = marked (codes "?") reference.now.query in
         IfOk result (λ change. change.layout
-            ≡ record layout { query_end = change.kept + length query }) }
+        ≡ record layout { query_end = change.kept + length query }) }
 {
     let kept = if reference.query.is_some() {
         layout.path_end
