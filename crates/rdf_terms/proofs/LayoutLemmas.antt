@@ -1,23 +1,19 @@
 -- The layout of a base, and of one that is moved where it stands.
-use Rattle.std.proofs.Common.{◌≡◌, ℕ, ◌+◌, ◌-◌, ◌<◌, ◌≤◌, Bool, true, false, cond, eqb, nat_eq, List, [], ◌∷◌, ◌++◌, codes, map, Option, Some, None, is_some, length, take, drop, refl, sym, ap, subst, ◌∙◌, inl, inr, arith, append_assoc, IfSome, IsTrue, unwrap_or}
-use Rattle.std.specs.List.{AllByRecursion, onto_first, list_any, starts_with}
-use Rattle.std.specs.Option.{option_or}
+use Rattle.std.proofs.Common.{◌≡◌, ℕ, ◌+◌, ◌-◌, ◌≤◌, true, false, cond, eqb, List, [], ◌∷◌, ◌++◌, codes, map, Option, is_some, length, drop, refl, sym, ap, ◌∙◌, inl, inr, arith, append_assoc, IsTrue, unwrap_or}
+use Rattle.std.specs.List.{AllByRecursion, onto_first}
 use Rattle.std.proofs.lemmas.Bool.{cases_Bool, cond_both, true≢false}
-use Rattle.std.proofs.lemmas.List.{append-nil, length-append, length-take-le, take-append-drop, take-take, take_at, drop_at}
+use Rattle.std.proofs.lemmas.List.{length-append}
 use Rattle.rdf_terms.specs.declared.layout.Layout.{Layout}
-use Rattle.rdf_terms.specs.declared.moving.Change.{Change}
-use Rattle.rdf_terms.specs.Cuts.{before, after, up_to_slash}
+use Rattle.rdf_terms.specs.Cuts.{before, after}
 use Rattle.rdf_terms.specs.Dots.{is_text, is_dot_segment, segments, undotted, with_slashes, closing, kept, joined, without_dots}
 use Rattle.rdf_terms.specs.Iri.{has_scheme}
-use Rattle.rdf_terms.specs.Layout.{front_of, IsLayout, IsMove, TakesPath}
-use Rattle.rdf_terms.specs.Reference.{Components, Lacks, HasComponents, PathFits, marked, recomposed, is_rooted}
-use Rattle.rdf_terms.specs.Resolution.{target, merged, is_empty, begins_with_slash}
-use Rattle.rdf_terms.specs.Rewriting.{components_of, parts_of, resolved}
+use Rattle.rdf_terms.specs.Layout.{front_of, IsLayout}
+use Rattle.rdf_terms.specs.Reference.{Components, Lacks, HasComponents, marked, recomposed, is_rooted}
+use Rattle.rdf_terms.specs.Rewriting.{parts_of}
 use Rattle.rdf_terms.proofs.CleanLemmas.{scheme_split}
-use Rattle.rdf_terms.proofs.CutLemmas.{has_slash, before_lacks_mark, before_joined, after_joined, Lacks-append, Lacks-parts, last_slash, up_lacks, up_joined}
+use Rattle.rdf_terms.proofs.CutLemmas.{Lacks-append}
 use Rattle.rdf_terms.proofs.DotLemmas.{slashed}
-use Rattle.rdf_terms.proofs.DotLawLemmas.{has_dots, no_dots_left}
-use Rattle.rdf_terms.proofs.ReferenceLemmas.{components_are, components_there}
+use Rattle.rdf_terms.proofs.ReferenceLemmas.{components_there}
 
 -- ---- what holds of the segments of a path holds of the path without its dot segments
 

@@ -4,7 +4,7 @@ use Rattle.std.specs.List.{starts_with}
 use Rattle.std.specs.Option.{option_copied, option_or}
 use Rattle.std.specs.Str.{IsUtf8}
 use Rattle.std.proofs.lemmas.Bool.{and_parts, cases_Bool, cond_both, cond-false, or_from, or_parts, true≢false}
-use Rattle.std.proofs.lemmas.List.{append-nil, length-append, length-take, length-take-le, take-append-drop, take-append-le, take-take, take_at, drop_at}
+use Rattle.std.proofs.lemmas.List.{length-append, length-take, length-take-le, take-append-drop, take-append-le, take-take, take_at, drop_at}
 use Rattle.rdf_terms.specs.declared.dots.Output.{Output}
 use Rattle.rdf_terms.specs.declared.layout.Layout.{Layout}
 use Rattle.rdf_terms.specs.declared.moving.Change.{Change}
@@ -16,7 +16,7 @@ use Rattle.rdf_terms.specs.Reference.{Components, Lacks, HasComponents, PathFits
 use Rattle.rdf_terms.specs.Resolution.{target, merged, is_empty, begins_with_slash, ResolvesTo}
 use Rattle.rdf_terms.specs.Rewriting.{components_of, parts_of, resolved, written}
 use Rattle.rdf_terms.proofs.CleanLemmas.{resolved_iri, scheme_from_iri}
-use Rattle.rdf_terms.proofs.CutLemmas.{has_slash, a_slash, before_lacks_mark, before_joined, after_joined, Lacks-append, Lacks-parts, last_slash, up_lacks, up_joined}
+use Rattle.rdf_terms.proofs.CutLemmas.{has_slash, before_lacks_mark, before_joined, after_joined, Lacks-append, Lacks-parts, last_slash, up_lacks, up_joined}
 use Rattle.rdf_terms.proofs.DotLawLemmas.{has_dots, segments-append, no_dots_left}
 use Rattle.rdf_terms.proofs.LayoutLemmas.{end_of, front_joins, base_text, base_length, parts_have, dots_lack, dots_rooted}
 use Rattle.rdf_terms.proofs.ReferenceLemmas.{components_are, components_there}
