@@ -3,8 +3,7 @@
 
 Each shape below is given at sizes n that double from 256, each in a process of its own, until one takes SECONDS of a processor (1 if not
 given) or the text is 32 MB long. A row has the times at the three largest sizes, and how many times that of half the size each is. A shape is
-named again at the end where both times it is more than three: those that ask for a product, as docs/FORMATS.md states, in a line of their own. Of
-WORDs only the shapes whose names have one of them are tried.
+named again at the end where both times it is more than three. Of WORDs only the shapes whose names have one of them are tried.
 
 Where a shape's name ends in `: Fault`, its last answer has to be that fault; else no answer may be a refusal.
 """
@@ -78,6 +77,13 @@ TURTLE = {
     "a long base and n references": lambda n: turtle("BASE <http://e/" + "a/" * 100 + "> " + many(n, "<%> <../p> <#o> .")),
     "chained bases": lambda n: turtle("BASE <http://e/> " + "BASE <a/> " * n + "<s> <p> <o> ."),
     "chained bases, up and down": lambda n: turtle("BASE <http://e/> " + "BASE <a/../> " * n + "<s> <p> <o> ."),
+    "chained bases that grow, up and down": lambda n: turtle("BASE <http://e/> " + "BASE <./a/../a/> " * n + "<s> <p> <o> ."),
+    "chained bases that grow, up into the one before": lambda n: turtle("BASE <http://e/> " + "BASE <a/b/> BASE <../c> " * n + "<s> <p> <o> ."),
+    "chained bases without an authority": lambda n: turtle("BASE <a:b/> " + "BASE <a/> " * n + "<s> <p> <o> ."),
+    "queries of a long base": lambda n: turtle("BASE <http://e/" + "a/" * n + "> " + "BASE <?q> BASE <#f> " * n + "<s> <p> <o> ."),
+    "queries of a long base with dot segments": lambda n: turtle("BASE <http://e/../" + "a/" * n + "> " + "BASE <?q> " * n + "<s> <p> <o> ."),
+    "rooted bases behind a long authority": lambda n: turtle("BASE <http://" + "e" * n + "/> " + "BASE </a> " * n + "<s> <p> <o> ."),
+    "bases with an authority behind a long one": lambda n: turtle("BASE <http://e/" + "a/" * n + "> " + "BASE <//e> BASE <a/> " * n + "<s> <p> <o> ."),
     "chained prefixes": lambda n: turtle("BASE <http://e/> " + many(n, "PREFIX p%: <x%>") + "<s> <p> <o> ."),
     "a reference of n steps": lambda n: turtle("BASE <http://e/> <" + "a/" * n + "../" * n + "s> <a:p> 1 ."),
     "a base of n steps, n steps up": lambda n: turtle("BASE <http://e/" + "a/" * n + "> <" + "../" * n + "s> <a:p> 1 ."),
@@ -103,6 +109,7 @@ TURTLE = {
     "a sign that begins no token at the end: Token": lambda n: turtle(many(n, "<a:%> <a:p> 1 .") + " \x07"),
 }
 UPDATES = {
+    "chained bases of an update": lambda n: update("BASE <http://e/> " + "BASE <a/> " * n + "INSERT DATA { <s> <p> <o> }"),
     "data": lambda n: data(many(n, "<a:%> <a:p> 1 .")),
     "data in blocks": lambda n: data(many(n, "GRAPH <a:g%> { <a:s> <a:p> 1 }")),
     "one block's graph, again and again": lambda n: data("GRAPH <a:g> { <a:s> <a:p> 1 } " * n),
@@ -218,10 +225,6 @@ QUERIES = {
     "an unknown prefix behind all: UnknownPrefix": lambda n: query("ASK { " + many(n, "?s <a:%> ?o", " . ") + " . ?s x:y ?o }"),
     "a word outside the profile behind all: NotInProfile": lambda n: query("ASK { " + many(n, "?s <a:%> ?o", " . ") + " } LIMIT 1"),
 }
-# what of these asks for a product, as docs/FORMATS.md states: it grows with the square of n
-STATED = {
-    "chained bases",
-}
 SESSIONS = {
     "blank lines of a script": lambda n: " \n" * n,
     "comments of a script": lambda n: "# x\n" * n,
@@ -315,8 +318,7 @@ def main(rdfkeep=str(pathlib.Path(__file__).resolve().parent.parent / "rdfkeep")
             if len(ratios) == 2 and min(ratios) > 3 and times[-1] > FLOOR:
                 grows.append(name)
             print("%-68s %9d %28s   %s %s" % (name, found[-1][0], " ".join("%8.3f" % it for it in times), " ".join("%5.1f" % it for it in ratios), wrong), flush=True)
-    print("grow faster, as stated:", "; ".join(it for it in grows if it in STATED) or "none")
-    print("grow faster:", "; ".join(it for it in grows if it not in STATED) or "none")
+    print("grow faster:", "; ".join(grows) or "none")
 
 
 if __name__ == "__main__":

@@ -1,12 +1,13 @@
 -- The IRIs of references and names.
-use Rattle.std.proofs.Common.{◌≡◌, ◌∙◌, ap, refl, sym, subst, ℕ, Bool, true, false, ◌&&◌, ◌||◌, not, List, ◌++◌, Option, Some, None, IsTrue, true≢false}
+use Rattle.std.proofs.Common.{◌≡◌, ◌∙◌, ap, refl, sym, subst, ℕ, Bool, true, false, ◌&&◌, ◌||◌, not, List, ◌++◌, Option, Some, None, IsTrue, IsSomeAnd, true≢false}
+use Rattle.std.specs.Option.{option_map}
 use Rattle.std.specs.Prelude.{if◌then◌else◌}
 use Rattle.std.proofs.lemmas.Bool.{and_parts}
 use Rattle.std.proofs.lemmas.List.Folds.{list_any-append}
 use Rattle.std.specs.Str.{is_utf8}
 use Rattle.rdf_terms.specs.Iri.{is_iri, is_forbidden, has_scheme, has_forbidden}
 use Rattle.rdf_terms.specs.Resolution.{Means}
-use Rattle.rdf_grammar.specs.Prologue.{Prologue, resolved}
+use Rattle.rdf_grammar.specs.Prologue.{Prologue, moves_base, resolved}
 use Rattle.rdf_tokens.specs.Values.{iri_value}
 use Rattle.rdf_grammar.proofs.ScopeReferences.{resolve_found}
 use Rattle.rdf_tokens.proofs.CallerLemmas.{iri_value_allowed}
@@ -19,6 +20,13 @@ resolved_is p base reference text iri b t m =
     let of_base : Means p.base text iri = subst (λ (o : Option (List ℕ)). Means o text iri) b m in
     let of_text : Means p.base (iri_value reference) iri = subst (λ (r : List ℕ). Means p.base r iri) t of_base in
     resolve_found p.base (iri_value reference) iri of_text (iri_value_allowed reference)
+
+-- and the base moves to it
+pub moved_is : (p u : Prologue) (reference text : List ℕ) (base : Option (List ℕ)) → text ≡ iri_value reference → IsSomeAnd base (λ iri. Means p.base text iri) → u ≡ record p { base = base }
+    → option_map (λ iri. moves_base iri p) (resolved reference p) ≡ Some u
+unfolding moves_base
+moved_is p u reference text None t m e = absurd m
+moved_is p u reference text (Some iri) t m e = ap (option_map (λ i. record p { base = Some i })) (resolved_is p p.base reference text iri refl t m) ∙ ap (λ (x : Prologue). Some x) (sym e)
 
 pub never_forbidden : (reference text : List ℕ) → text ≡ iri_value reference → IsTrue (has_forbidden text) → ⊥
 never_forbidden reference text t bad = true≢false (sym bad ∙ ap has_forbidden t ∙ iri_value_allowed reference)

@@ -1,5 +1,8 @@
 //! The base and the prefixes in force, and the IRIs of names.
-ghost use Rattle.std.specs.Prelude.{◌≡◌, Some, IfOk, IfErr, OnOk, OnErr, IsTrue};
+ghost use Rattle.std.specs.Prelude.{◌≡◌, Some, IfOk, IfErr, OnOk, OnErr, IsTrue, IsErrOf, IsSomeAnd};
+ghost use Rattle.std.specs.Option.{option_copied, option_map};
+ghost use Rattle.rdf_terms.specs.Iri.{has_forbidden};
+ghost use Rattle.rdf_terms.specs.Resolution.{LacksBase, Means};
 ghost use Rattle.rdf_grammar.specs.Keys.{key_of};
 ghost use Rattle.rdf_grammar.specs.Prologue as spec;
 ghost use Rattle.rdf_grammar.specs.PrologueFaults.{Explains};
@@ -10,7 +13,7 @@ use crate::names::Names;
 use crate::tags::Tags;
 use crate::tree::Name;
 use indexmap::IndexMap;
-use rdf_terms::{Iri, IriFault, NoMemory, resolve};
+use rdf_terms::{Base, Iri, IriFault, NoMemory, resolve};
 use rdf_tokens::{Slice, iri_value};
 use std::alloc::Global;
 use std::marker::Model;
@@ -46,7 +49,7 @@ impl From<NoMemory> for PrologueFault {
 #[derive(Drop)]
 pub struct Prologue<'a> {
     pub(crate) alloc: Global,
-    base: Option<Iri>,
+    base: Option<Base>,
     prefixes: IndexMap<Key<'a>, Iri>,
     names: Names<'a>,
     pub(crate) tags: Tags<'a>,
@@ -69,6 +72,10 @@ impl<'a> Prologue<'a> {
     pub fn new(alloc: Global, base: Option<Iri>) -> Result<Prologue<'a>, NoMemory>
         ensures { IfOk result (λ prologue. prologue ≡ spec.start base) }
     {
+        let base = match base {
+            Some(iri) => Some(Base::new(iri)),
+            None => None,
+        };
         Ok(Prologue {
             alloc,
             base,
@@ -92,12 +99,27 @@ impl<'a> Prologue<'a> {
         Ok(())
     }
 
-    /// Moves the base.
+    /// Moves the base to the IRI that a reference means against it (RFC 3986, section 5.2).
+    ///
+    /// # Errors
+    /// As of [`Prologue::resolve`]; then the base is as before.
     #[tactic(auto, unfolding(crate::specs::Prologue::moves_base))]
-    pub fn set_base(&mut self, iri: Iri)
-        ensures { self.new ≡ spec.moves_base iri self.old }
+    pub fn move_base(&mut self, reference: &Slice<'a>) -> Result<(), PrologueFault>
+        ensures value { let found = spec.resolved reference.now self.old in
+            let moved = option_map (λ iri. spec.moves_base iri self.old) found in
+            OnOk result (moved ≡ Some self.new) }
+        ensures fault { let name = Name.Full reference.now in
+            IfErr result (λ fault. Explains self.old name fault) }
+        ensures kept { OnErr result (self.new ≡ self.old) }
     {
-        self.base = Some(iri);
+        let text = iri_value(self.alloc, reference)?;
+        let start = reference.start();
+        match move_on(self.alloc, &mut self.base, text.as_str()) {
+            Ok(()) => Ok(()),
+            Err(IriFault::Relative) => Err(PrologueFault::Relative(start)),
+            Err(IriFault::BadCharacter) => unreachable!(),
+            Err(IriFault::NoMemory(refusal)) => Err(PrologueFault::NoMemory(refusal)),
+        }
     }
 
     /// The IRI that a reference means against the base in force (RFC 3986, section 5.2).
@@ -111,7 +133,7 @@ impl<'a> Prologue<'a> {
         ensures fault { IfErr result (λ fault. Explains self.now (Name.Full reference.now) fault) }
     {
         let text = iri_value(self.alloc, reference)?;
-        match resolve(self.alloc, self.base.as_ref(), text.as_str()) {
+        match meant(self.alloc, self.base.as_ref(), text.as_str()) {
             Ok(iri) => Ok(iri),
             Err(IriFault::Relative) => Err(PrologueFault::Relative(reference.start())),
             Err(IriFault::BadCharacter) => unreachable!(),
@@ -150,6 +172,38 @@ impl<'a> Prologue<'a> {
         match name {
             Name::Full(reference) => self.resolve(reference),
             Name::Prefixed(prefix, local) => self.prefixed(prefix, local),
+        }
+    }
+}
+
+// The IRI that a reference means against a base, or without one.
+fn meant(alloc: Global, base: Option<&Base>, reference: &str) -> Result<Iri, IriFault>
+    ensures value { IfOk result (λ iri. Means (option_copied base.entry) reference.now iri) }
+    ensures relative { IsErrOf result IriFault.Relative
+        → LacksBase (option_copied base.entry) reference.now }
+    ensures bad_character { IsErrOf result IriFault.BadCharacter
+        → IsTrue (has_forbidden reference.now) }
+{
+    match base {
+        Some(base) => base.resolve(alloc, reference),
+        None => resolve(alloc, None, reference),
+    }
+}
+
+// Moves a base to the IRI that a reference means against it, or without one.
+fn move_on(alloc: Global, base: &mut Option<Base>, reference: &str) -> Result<(), IriFault>
+    ensures value { OnOk result (IsSomeAnd base.new (λ iri. Means base.old reference.now iri)) }
+    ensures kept { OnErr result (base.new ≡ base.old) }
+    ensures relative { IsErrOf result IriFault.Relative → LacksBase base.old reference.now }
+    ensures bad_character { IsErrOf result IriFault.BadCharacter
+        → IsTrue (has_forbidden reference.now) }
+{
+    match base {
+        Some(base) => base.move_to(alloc, reference),
+        None => {
+            let iri = resolve(alloc, None, reference)?;
+            *base = Some(Base::new(iri));
+            Ok(())
         }
     }
 }

@@ -136,7 +136,7 @@ no_slash : (cs : List ℕ) → Lacks 47 cs → has_slash cs ≡ false
 no_slash [] h = refl
 no_slash (c ∷ cs) h = or_from (eqb c 47) (has_slash cs) h.0 (no_slash cs h.1)
 
-a_slash : (xs ys : List ℕ) → has_slash (xs ++ 47 ∷ ys) ≡ true
+pub a_slash : (xs ys : List ℕ) → has_slash (xs ++ 47 ∷ ys) ≡ true
 a_slash [] ys = refl
 a_slash (x ∷ xs) ys = or_right (eqb x 47) (has_slash (xs ++ 47 ∷ ys)) (a_slash xs ys)
 

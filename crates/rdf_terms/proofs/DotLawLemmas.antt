@@ -9,10 +9,10 @@ use Rattle.rdf_terms.specs.Reference.{Lacks}
 use Rattle.rdf_terms.specs.ResolutionLaws.{together}
 use Rattle.rdf_terms.proofs.DotLemmas.{slashed, none_slash, kept_segment, segments_are_the_path}
 
-abbrev has_dots : List (List ℕ) → Bool
+abbrev pub has_dots : List (List ℕ) → Bool
 has_dots ss = list_any is_dot_segment ss
 
-has_dots-append : (xs ys : List (List ℕ)) → has_dots xs ≡ false → has_dots ys ≡ false → has_dots (xs ++ ys) ≡ false
+pub has_dots-append : (xs ys : List (List ℕ)) → has_dots xs ≡ false → has_dots ys ≡ false → has_dots (xs ++ ys) ≡ false
 has_dots-append [] ys h g = g
 has_dots-append (x ∷ xs) ys h g =
     let p = or_parts (is_dot_segment x) (has_dots xs) h in
@@ -20,7 +20,7 @@ has_dots-append (x ∷ xs) ys h g =
 
 -- ---- the segments of a text
 
-some_segment : (xs : List ℕ) → (s : List ℕ) × (ss : List (List ℕ)) × (segments xs ≡ s ∷ ss)
+pub some_segment : (xs : List ℕ) → (s : List ℕ) × (ss : List (List ℕ)) × (segments xs ≡ s ∷ ss)
 some_segment [] = ([], [], refl)
 some_segment (x ∷ xs) =
     elim (cases_Bool (eqb x 47)) [
@@ -31,7 +31,7 @@ some_segment (x ∷ xs) =
 onto_append : (x : ℕ) (ss : List (List ℕ)) (s t : List ℕ) (ts : List (List ℕ)) → ss ≡ t ∷ ts → onto_first x (ss ++ s ∷ []) ≡ onto_first x ss ++ s ∷ []
 onto_append x ss s t ts e = rw e refl
 
-segments-append : (xs s : List ℕ) → Lacks 47 s → segments (xs ++ 47 ∷ s) ≡ segments xs ++ s ∷ []
+pub segments-append : (xs s : List ℕ) → Lacks 47 s → segments (xs ++ 47 ∷ s) ≡ segments xs ++ s ∷ []
 segments-append [] s h = ap (λ (ss : List (List ℕ)). [] ∷ ss) (slice_split_none (λ c. eqb c 47) s (none_slash s h))
 segments-append (x ∷ xs) s h =
     elim (cases_Bool (eqb x 47)) [
@@ -39,14 +39,14 @@ segments-append (x ∷ xs) s h =
       | inr not ↦ let r = some_segment xs in rw not (ap (onto_first x) (segments-append xs s h) ∙ onto_append x (segments xs) s r.0 r.1 r.2)
     ]
 
-abbrev AllLack : List (List ℕ) → Type 0
+abbrev pub AllLack : List (List ℕ) → Type 0
 AllLack ss = AllByRecursion (λ s. Lacks 47 s) ss
 
 lack_onto : (x : ℕ) (ss : List (List ℕ)) → eqb x 47 ≡ false → AllLack ss → AllLack (onto_first x ss)
 lack_onto x [] e h = ((e, tt), tt)
 lack_onto x (s ∷ ss) e h = ((e, h.0), h.1)
 
-segments_lack : (xs : List ℕ) → AllLack (segments xs)
+pub segments_lack : (xs : List ℕ) → AllLack (segments xs)
 segments_lack [] = (tt, tt)
 segments_lack (x ∷ xs) =
     elim (cases_Bool (eqb x 47)) [
@@ -58,7 +58,7 @@ undotted_lack : (ss : List (List ℕ)) → AllLack ss → AllLack (undotted ss)
 undotted_lack [] h = tt
 undotted_lack (s ∷ ss) h = cond_both (is_dot_segment s) (undotted ss) (s ∷ ss) (λ (ts : List (List ℕ)). AllLack ts) (λ _. undotted_lack ss h.1) (λ _. h)
 
-abbrev FirstIsPlain : List (List ℕ) → Type 0
+abbrev pub FirstIsPlain : List (List ℕ) → Type 0
 FirstIsPlain [] = Unit {0}
 FirstIsPlain (s ∷ ss) = is_dot_segment s ≡ false
 
@@ -70,7 +70,7 @@ undotted_first (s ∷ ss) =
 -- ---- no dot segment is left
 
 -- segments kept, the last one first: none is a slash and a dot segment, nor a leading dot segment
-abbrev Plain : List (List ℕ) → Type 0
+abbrev pub Plain : List (List ℕ) → Type 0
 Plain [] = Unit {0}
 Plain (p ∷ earlier) =
     ((s : List ℕ) × (p ≡ 47 ∷ s) × Lacks 47 s × (is_dot_segment s ≡ false) × Plain earlier) ⊎ ((earlier ≡ []) × Lacks 47 p × (is_dot_segment p ≡ false))
@@ -116,10 +116,10 @@ kept_plain done (p ∷ ps) h g =
       ]
     ]
 
-no_slash_word : (c : ℕ) (cs w : List ℕ) → eqb c 47 ≡ false → is_text (c ∷ cs) (47 ∷ w) ≡ false
+pub no_slash_word : (c : ℕ) (cs w : List ℕ) → eqb c 47 ≡ false → is_text (c ∷ cs) (47 ∷ w) ≡ false
 no_slash_word c cs w e = rw e refl
 
-segments_kept : (ss : List (List ℕ)) → AllLack ss → FirstIsPlain ss → Plain (kept [] (with_slashes ss))
+pub segments_kept : (ss : List (List ℕ)) → AllLack ss → FirstIsPlain ss → Plain (kept [] (with_slashes ss))
 segments_kept [] h first = tt
 segments_kept ([] ∷ ss) h first = kept_plain [] (map slashed ss) tt (slashed_are ss h.1)
 segments_kept ((c ∷ cs) ∷ ss) h first =

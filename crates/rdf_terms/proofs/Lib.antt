@@ -9,8 +9,11 @@ mod DottedLemmas
 mod EscapeLemmas
 mod EscapedLemmas
 mod ExampleLemmas
+mod FrontLemmas
 mod IntegerLemmas
+mod LayoutLemmas
 mod LoopLemmas
+mod MovingLemmas
 mod OptionLemmas
 mod PastLemmas
 mod PlaceLemmas

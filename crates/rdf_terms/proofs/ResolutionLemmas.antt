@@ -19,6 +19,9 @@ resolves base reference h =
 pub means_resolved : (base reference text : List ℕ) → has_scheme base ≡ true → has_scheme reference ≡ false → text ≡ resolved base reference → Means (Some base) reference text
 means_resolved base reference text h relative e = rw (relative, e) (resolves base reference h)
 
+pub means_from : (o : Option (List ℕ)) (base reference text : List ℕ) → o ≡ Some base → has_scheme reference ≡ false → ResolvesTo base reference text → Means o reference text
+means_from o base reference text e relative h = rw (e, relative) h
+
 pub means_itself : (base : Option (List ℕ)) (reference text : List ℕ) → has_scheme reference ≡ true → text ≡ reference → Means base reference text
 means_itself base reference text absolute e = rw absolute e
 

@@ -1,3 +1,4 @@
+pub mod Base
 pub mod Below
 pub mod Blanks
 pub mod Characters
@@ -11,6 +12,7 @@ pub mod Examples
 pub mod IntegerLaws
 pub mod Integers
 pub mod Iri
+pub mod Layout
 pub mod LineEnds
 pub mod Lists
 pub mod Literal

@@ -6,6 +6,7 @@
 //! document, normalizes nothing, and knows the value of no literal but of whole numbers.
 #![tactic(auto)]
 
+mod base;
 mod character;
 mod cursor;
 mod cuts;
@@ -19,7 +20,9 @@ mod iri;
 mod iri_reference;
 mod items;
 mod laws;
+mod layout;
 mod literal;
+mod moving;
 mod quad;
 mod quoted;
 mod reference;
@@ -35,6 +38,7 @@ mod text;
 mod vocabulary;
 mod write;
 
+pub use base::Base;
 pub use character::{is_forbidden_in_iri, is_pn_chars, is_pn_chars_base, is_pn_chars_u};
 pub use cursor::Cursor;
 pub use escape::{characters_are_read, escapes_are_read, one_value, unescape};

@@ -79,8 +79,11 @@ fn split_authority(rest: &[u8]) -> (&[u8], &[u8])
     rest.split_at(authority.len())
 }
 
-// Appends the component with its mark before it, if it is present.
-fn push_marked(mark: &[u8], part: Option<&[u8]>, out: &mut Vec<u8>) -> Result<(), NoMemory>
+/// Appends the component with its mark before it, if it is present.
+///
+/// # Errors
+/// [`NoMemory`] where memory is wanting; a part of the text may then stand at the end.
+pub fn push_marked(mark: &[u8], part: Option<&[u8]>, out: &mut Vec<u8>) -> Result<(), NoMemory>
     ensures { OnOk result (out.new.items
         ≡ out.old.items ++ marked mark.now (option_copied part.entry)) }
 {

@@ -40,16 +40,20 @@ pub fn resolve(alloc: Global, base: Option<&Iri>, reference: &str) -> Result<Iri
     if has_forbidden(bytes) {
         return Err(IriFault::BadCharacter);
     }
-    Ok(resolved(alloc, base, reference)?)
+    Ok(resolved(alloc, base.as_str().as_bytes(), reference)?)
 }
 
-// The IRI that a reference without forbidden characters gives against the base.
-fn resolved(alloc: Global, base: &Iri, reference: &str) -> Result<Iri, NoMemory>
-    requires { has_forbidden reference.now ≡ false }
+/// The IRI that a reference without forbidden characters gives against the base.
+///
+/// # Errors
+/// [`NoMemory`] where memory is wanting.
+pub fn resolved(alloc: Global, base: &[u8], reference: &str) -> Result<Iri, NoMemory>
+    requires base { IsTrue (is_iri base.now) }
+    requires allowed { has_forbidden reference.now ≡ false }
     ensures value { IfOk result (λ iri. ResolvesTo base.now reference.now iri) }
     ensures sound { IfOk result (λ iri. IsTrue (is_iri iri)) }
 {
-    let text = resolved_text(alloc, base.as_str().as_bytes(), reference.as_bytes())?;
+    let text = resolved_text(alloc, base, reference.as_bytes())?;
     Ok(iri_of(text)?)
 }
 
@@ -67,8 +71,12 @@ fn iri_of(bytes: Vec<u8>) -> Result<Iri, NoMemory>
     Ok(iri)
 }
 
+/// The text that a reference gives against the base.
+///
+/// # Errors
+/// [`NoMemory`] where memory is wanting.
 #[tactic(auto, unfolding(crate::specs::Rewriting::resolved))]
-fn resolved_text(alloc: Global, base: &[u8], reference: &[u8]) -> Result<Vec<u8>, NoMemory>
+pub fn resolved_text(alloc: Global, base: &[u8], reference: &[u8]) -> Result<Vec<u8>, NoMemory>
     ensures { IfOk result (λ v. v.items ≡ resolved base.now reference.now) }
 {
     let (scheme, rest) = split_scheme(base);
@@ -83,8 +91,8 @@ fn resolved_text(alloc: Global, base: &[u8], reference: &[u8]) -> Result<Vec<u8>
     Ok(text)
 }
 
-// The scheme of a base, and what follows its colon.
-fn split_scheme(base: &[u8]) -> (&[u8], &[u8])
+/// The scheme of a base, and what follows its colon.
+pub fn split_scheme(base: &[u8]) -> (&[u8], &[u8])
     ensures scheme { result.0.now ≡ before colon base.now }
     ensures rest { result.1.now ≡ unwrap_or (after colon base.now) [] }
 {

@@ -9,12 +9,16 @@ use Rattle.rdf_grammar.specs.declared.prologue.PrologueFault.TheVariants.{Unknow
 use Rattle.rdf_grammar.specs.declared.tree.Name.{Name}
 use Rattle.rdf_grammar.specs.declared.tree.Name.TheVariants.{Full, Prefixed}
 use Rattle.rdf_turtle.specs.Inside.Told.{GivesOrMisses}
-use Rattle.rdf_turtle.specs.Meaning.{iri, literal}
-use Rattle.rdf_grammar.specs.Prologue.{Prologue, declared, knows, iri_of, resolved, prefixed}
+use Rattle.rdf_turtle.specs.Meaning.{iri, literal, statement}
+use Rattle.rdf_turtle.specs.declared.tree.Statement.TheVariants as t
+use Rattle.rdf_grammar.specs.Prologue.{Prologue, declared, knows, iri_of, moves_base, resolved, prefixed}
+use Rattle.rdf_grammar.specs.Steps.{Outcome, and_then}
 use Rattle.rdf_grammar.specs.Keys.{key_of, same_key}
 use Rattle.rdf_tokens.specs.Values.{local_value, text_value}
 use Rattle.rdf_grammar.specs.PrologueFaults.{Explains}
+use Rattle.rdf_turtle.specs.ParserState as state
 use Rattle.rdf_turtle.specs.ParserState.{ParserState, told}
+use Rattle.rdf_terms.proofs.CallerLemmas.{some_is}
 use Rattle.rdf_grammar.proofs.CallerLemmas.{reference_lacking, name_lacking, literal_lacking}
 use Rattle.rdf_grammar.specs.declared.tree.Literal.{Literal}
 use Rattle.rdf_grammar.specs.declared.tree.Literal.TheVariants as l
@@ -33,6 +37,31 @@ reference_gives reference s u (Ok i) value fault same = told_is (resolved refere
 reference_gives reference s u (Err (NoMemory e)) value fault same = tt
 reference_gives reference s u (Err (UnknownPrefix place)) value fault same = absurd (true≢false fault)
 reference_gives reference s u (Err (Relative place)) value fault same = not_told (resolved reference) s (reference_lacking reference s.prologue place fault)
+
+-- ---- a base that is moved
+
+moved_step : (o : Option (List ℕ)) (s : ParserState) (q : Prologue) → option_map (λ i. moves_base i s.prologue) o ≡ Some q
+    → and_then (option_map (λ i. (i, s)) o) (λ i. state.declared (moves_base i)) ≡ Some (tt, record s { prologue = q })
+moved_step None s q e = absurd (cc)
+moved_step (Some i) s q e = let same : moves_base i s.prologue ≡ q = some_is (moves_base i s.prologue) q e in ap (λ (x : Prologue). Some (tt, record s { prologue = x })) same
+
+pub base_gives : (reference : List ℕ) (s u : ParserState) (q : Prologue) (r : Result (Unit {0}) PrologueFault) → OnOk r (option_map (λ i. moves_base i s.prologue) (resolved reference s.prologue) ≡ Some q)
+    → IfErr r (λ e. Explains s.prologue (Full reference) e) → u ≡ record s { prologue = q } → GivesOrMisses (statement (t.Base reference) s) r u
+unfolding statement
+base_gives reference s u q (Ok x) value fault same = moved_step (resolved reference s.prologue) s q value ∙ ap (λ (z : ParserState). Some (tt, z)) (sym same)
+base_gives reference s u q (Err (NoMemory e)) value fault same = tt
+base_gives reference s u q (Err (UnknownPrefix place)) value fault same = absurd (true≢false fault)
+base_gives reference s u q (Err (Relative place)) value fault same =
+    ap (λ (o : Outcome ParserState (List ℕ)). and_then o (λ i. state.declared (moves_base i))) (not_told (resolved reference) s (reference_lacking reference s.prologue place fault))
+
+base_known : (o : Option (List ℕ)) (p q : Prologue) → option_map (λ i. moves_base i p) o ≡ Some q → declared q ≡ declared p
+unfolding moves_base
+base_known None p q e = absurd (cc)
+base_known (Some i) p q e = sym (ap declared (some_is (moves_base i p) q e))
+
+pub base_declares : {A : Type 0} (reference : List ℕ) (p q : Prologue) (r : Result A PrologueFault) → OnOk r (option_map (λ i. moves_base i p) (resolved reference p) ≡ Some q) → OnOk r (declared q ≡ declared p)
+base_declares reference p q (Ok x) value = base_known (resolved reference p) p q value
+base_declares reference p q (Err x) value = tt
 
 -- ---- names whose prefix isn't declared
 

@@ -280,11 +280,7 @@ impl<'a, S: TripleSink> Scope<'a, S> {
                 let iri = self.resolved(reference)?;
                 Ok(self.prologue.declare(prefix, iri)?)
             }
-            Statement::Base(reference) => {
-                let base = self.resolved(reference)?;
-                self.prologue.set_base(base);
-                Ok(())
-            }
+            Statement::Base(reference) => self.prologue.move_base(reference),
             Statement::Triples(node, properties) => self.triples(node, properties.as_slice()),
         }
     }

@@ -262,11 +262,7 @@ impl<'a> Scope<'a> {
                 let iri = self.resolved(reference)?;
                 Ok(self.prologue.declare(prefix, iri)?)
             }
-            Declaration::Base(reference) => {
-                let base = self.resolved(reference)?;
-                self.prologue.set_base(base);
-                Ok(())
-            }
+            Declaration::Base(reference) => self.prologue.move_base(reference),
         }
     }
 

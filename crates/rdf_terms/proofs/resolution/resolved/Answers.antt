@@ -1,5 +1,5 @@
-use Rattle.std.proofs.Common.{◌≡◌, ℕ, false, IsTrue, List, ap, ◌∙◌}
-use Rattle.rdf_terms.specs.Iri.{has_forbidden, is_iri}
+use Rattle.std.proofs.Common.{◌≡◌, ℕ, false, List, ap, ◌∙◌}
+use Rattle.rdf_terms.specs.Iri.{has_forbidden}
 use Rattle.rdf_terms.specs.Rewriting.{resolved}
 use Rattle.rdf_terms.proofs.CleanLemmas.{resolved_iri, scheme_from_iri}
 use Rattle.rdf_terms.proofs.ResolutionLemmas.{resolves}
@@ -7,13 +7,11 @@ use Rattle.rdf_terms.proofs.resolution.resolved.Goals as goal
 
 pub iri_of-requires : goal.iri_of-requires
 iri_of-requires c =
-    let sound : IsTrue (is_iri c.as_bytes.result.now) = rw (c.as_bytes.ensures.value, c.as_str.ensures.value) c.as_str.ensures.sound in
-    let allowed : has_forbidden c.as_bytes-2.result.now ≡ false = rw c.as_bytes-2.ensures.value c.requires in
-    rw c.in_ok-text.ensures (resolved_iri c.as_bytes.result.now c.as_bytes-2.result.now sound c.as_bytes-2.ensures.utf8 allowed)
+    let allowed : has_forbidden c.as_bytes.result.now ≡ false = rw c.as_bytes.ensures.value c.requires.allowed in
+    rw c.in_ok-text.ensures (resolved_iri c.args.base.now c.as_bytes.result.now c.requires.base c.as_bytes.ensures.utf8 allowed)
 
 pub returns-clause-value : goal.returns-clause-value
 returns-clause-value c =
     let e : c.in_ok-iri_of.field-0 ≡ resolved c.args.base.now c.args.reference.now =
-    c.in_ok-iri_of.ensures ∙ c.in_ok-text.ensures ∙ ap (λ (x : List ℕ). resolved x c.as_bytes-2.result.now) (c.as_bytes.ensures.value ∙ c.as_str.ensures.value)
-    ∙ ap (resolved c.args.base.now) c.as_bytes-2.ensures.value in
-    rw e (resolves c.args.base.now c.args.reference.now (scheme_from_iri c.args.base.now c.as_str.ensures.sound))
+    c.in_ok-iri_of.ensures ∙ c.in_ok-text.ensures ∙ ap (resolved c.args.base.now) c.as_bytes.ensures.value in
+    rw e (resolves c.args.base.now c.args.reference.now (scheme_from_iri c.args.base.now c.requires.base))

@@ -12,4 +12,4 @@ returns-in-Ok-clause-value c =
 pub unreachable-requires : goal.unreachable-requires
 unreachable-requires c =
     never_forbidden c.args.reference.now c.as_str.result.now (c.as_str.ensures.value ∙ c.in_ok-text.ensures)
-    (c.in-Err-BadCharacter.ensures.bad_character.0 (ap (λ (e : IriFault). Err e) c.in-Err-BadCharacter.field-0-is)).0
+    (c.in-Err-BadCharacter.ensures.bad_character (ap (λ (e : IriFault). Err e) c.in-Err-BadCharacter.field-0-is))
