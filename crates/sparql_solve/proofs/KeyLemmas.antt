@@ -94,7 +94,7 @@ module _ {X : Type 0} where
       ∙ ap (λ (l : List X). x ∷ l) (filter_keeps p xs n (λ k d a b. h (suc k) d (omega arith) (omega arith)) (λ k d a b. j (suc k) d (omega arith) (omega arith)))
 
   -- a test that takes in another leaves what that one keeps
-  filter_within : (p q : X → Bool) (xs : List X) → ((k : ℕ) (d : X) → k < length xs → p (get_or xs k d) ≡ true → q (get_or xs k d) ≡ true) →
+  pub filter_within : (p q : X → Bool) (xs : List X) → ((k : ℕ) (d : X) → k < length xs → p (get_or xs k d) ≡ true → q (get_or xs k d) ≡ true) →
       filter p (filter q xs) ≡ filter p xs
   filter_within p q [] h = refl
   filter_within p q (x ∷ xs) h = by_test (p x) (q x) refl refl (filter_within p q xs (λ k d b e. h (suc k) d (omega arith) e))
@@ -259,7 +259,7 @@ same_at (Some s) (Some t) h p q = ap Some (same_term_is s t h)
 same_at (Some s) None h p q = cc
 same_at None y h p q = cc
 
-agree_at : (a b : Mapping) (c : ℕ) → compatible a b ≡ true → binds c a ≡ true → binds c b ≡ true → value_at a c ≡ value_at b c
+pub agree_at : (a b : Mapping) (c : ℕ) → compatible a b ≡ true → binds c a ≡ true → binds c b ≡ true → value_at a c ≡ value_at b c
 agree_at [] b c h p q = cc
 agree_at (x ∷ a) [] c h p q = cc
 agree_at (x ∷ a) (y ∷ b) zero h p q = same_at x y (and_left (agrees (x, y)) _ h) p q
@@ -280,13 +280,13 @@ one_key columns a b p q h =
     ap (λ (m : Mapping). is_eq (mapping_cmp (key columns a) m)) (sym (keys_agree columns a b h p q)) ∙ ap is_eq (tied_itself mapping_total (key columns a))
 
 -- each mapping of both lists has the key
-left_has : (columns : List ℕ) (A B : List Mapping) (i : ℕ) (d : Mapping) → i < length A → IsKeyOf columns A B → has_key columns (get_or A i d) ≡ true
+pub left_has : (columns : List ℕ) (A B : List Mapping) (i : ℕ) (d : Mapping) → i < length A → IsKeyOf columns A B → has_key columns (get_or A i d) ≡ true
 left_has [] A B i d lt h = refl
 left_has (c ∷ columns) A B i d lt h =
     ap (λ t. t && has_key columns (get_or A i d)) (all_at (binds c) A i d (and_left (list_all (binds c) A) _ (and_left (all_bind A B c) _ h)) lt)
     ∙ left_has columns A B i d lt (and_right (all_bind A B c) _ h)
 
-right_has : (columns : List ℕ) (A B : List Mapping) (i : ℕ) (d : Mapping) → i < length B → IsKeyOf columns A B → has_key columns (get_or B i d) ≡ true
+pub right_has : (columns : List ℕ) (A B : List Mapping) (i : ℕ) (d : Mapping) → i < length B → IsKeyOf columns A B → has_key columns (get_or B i d) ≡ true
 right_has [] A B i d lt h = refl
 right_has (c ∷ columns) A B i d lt h =
     ap (λ t. t && has_key columns (get_or B i d)) (all_at (binds c) B i d (and_right (list_all (binds c) A) _ (and_left (all_bind A B c) _ h)) lt)

@@ -12,7 +12,7 @@ use Rattle.sparql_algebra.proofs.CallerLemmas.{any_filtered, SameBag-minuses}
 use Rattle.sparql_solve.specs.Keys.{binds}
 use Rattle.sparql_solve.specs.Parts.{both_bind, left_in, meets, meets_in, part_run}
 use Rattle.sparql_solve.specs.Under.{where_none}
-use Rattle.sparql_solve.specs.declared.keys.Part.{Part}
+use Rattle.sparql_solve.specs.declared.keyed.Part.{Part}
 use Rattle.sparql_solve.proofs.KeyLemmas.{rows_of}
 use Rattle.sparql_solve.proofs.PartLemmas.{Rows, all_rows, one_group, rows_more}
 

@@ -11,7 +11,7 @@ use Rattle.sparql_algebra.specs.Bags.{SameBag}
 use Rattle.sparql_algebra.specs.Solutions.{merges, joins, left_joins, or_alone}
 use Rattle.sparql_algebra.specs.Under.{agreeing}
 use Rattle.sparql_algebra.proofs.CallerLemmas.{sum_by-map, SameBag-joins, SameBag-left_joins}
-use Rattle.sparql_solve.specs.declared.keys.Part.{Part}
+use Rattle.sparql_solve.specs.declared.keyed.Part.{Part}
 use Rattle.sparql_solve.specs.Keys.{IsIndex, IsKeyOf, run}
 use Rattle.sparql_solve.specs.Parts.{merges_in, part_merges, part_run}
 use Rattle.sparql_solve.proofs.KeyLemmas.{rows_of, compatible_in_run}

@@ -1,4 +1,5 @@
 pub mod Keys
+pub mod Bins
 pub mod Own
 pub mod Parts
 pub mod LookUps

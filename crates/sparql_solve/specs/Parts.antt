@@ -1,14 +1,22 @@
 -- The right side of a join in parts, each by the key that it shares with some left rows.
 use Rattle.std.specs.Prelude.{ℕ, Bool, ◌&&◌, cond, List, [], ◌∷◌, map}
 use Rattle.std.specs.List.{flat_map, list_any}
-use Rattle.sparql_values.specs.Mapping.{Mapping, compatible}
+use Rattle.sparql_values.specs.Mapping.{Mapping, compatible, value_at}
 use Rattle.sparql_algebra.specs.Solutions.{merges, shares}
-use Rattle.sparql_solve.specs.declared.keys.Part.{Part}
+use Rattle.sparql_solve.specs.declared.keyed.Part.{Part}
+use Rattle.sparql_solve.specs.declared.keyed.Part.TheVariants.{Binned, Sorted}
+use Rattle.sparql_solve.specs.declared.bins.Bins.{Bins}
+use Rattle.sparql_solve.specs.Bins.{binned_in}
 use Rattle.sparql_solve.specs.Keys.{binds, run}
+
+-- those in the bin of the term that a mapping has at the column
+abbrev pub bin_of : Mapping → Bins → List Mapping
+bin_of a b = binned_in b.terms (map (λ bin. map (λ r. r.now) bin.items) b.bins.items) (value_at a b.column)
 
 -- those of a part that have the key of a mapping
 abbrev pub part_run : Mapping → Part → List Mapping
-part_run a p = run p.columns.items (map (λ r. r.now) p.rows.items) a
+part_run a (Binned b) = bin_of a b
+part_run a (Sorted i) = run i.columns.items (map (λ r. r.now) i.rows.items) a
 
 -- its merges with these
 abbrev pub part_merges : Mapping → Part → List Mapping

@@ -6,7 +6,7 @@ ghost use Rattle.sparql_algebra.specs.Solutions.{joins, left_joins, merges, or_a
 ghost use Rattle.sparql_solve.specs.Parts.{merges_in};
 
 use crate::filters::filtered_rows;
-use crate::keys::{Part, run_of};
+use crate::keyed::{Part, part_run};
 use crate::parts::{cut_parts, parted, parts_of};
 use crate::rows::Row;
 use crate::sorted_names::SortedNames;
@@ -42,7 +42,7 @@ fn append_partners(
     ensures { OnOk result (out.new.items ≡ out.old.items ++ merges_in parts.now row.now) }
 {
     for part in parts {
-        let run = run_of(row, &part.rows, &part.columns);
+        let run = part_run(row, part);
         append_merges(alloc, row, run, out)?;
     }
     Ok(())

@@ -11,7 +11,7 @@ use std::cmp::Ordering;
 
 /// Rows in the order of their keys.
 #[derive(Drop)]
-pub(crate) struct Part<'r> {
+pub(crate) struct Index<'r> {
     /// The columns of the key.
     pub(crate) columns: Vec<usize>,
     pub(crate) rows: Vec<&'r Row>,

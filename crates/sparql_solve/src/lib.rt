@@ -8,11 +8,13 @@
 mod above;
 mod asking;
 mod basic;
+mod bins;
 mod chunks;
 mod counted;
 mod evaluator;
 mod filters;
 mod joins;
+mod keyed;
 mod keys;
 mod laws;
 mod look_ups;

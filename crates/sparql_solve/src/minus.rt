@@ -7,7 +7,7 @@ ghost use Rattle.sparql_algebra.specs.Solutions.{minuses, shares};
 ghost use Rattle.sparql_solve.specs.Keys.{binds};
 ghost use Rattle.sparql_solve.specs.Parts.{both_bind, left_in, meets, meets_in};
 
-use crate::keys::{Part, run_of};
+use crate::keyed::{Part, part_run};
 use crate::parts::{cut_parts, part_of, parted};
 use crate::rows::Row;
 use rdf_terms::NoMemory;
@@ -96,7 +96,7 @@ fn meets_one(row: &Row, others: &[&Row]) -> bool
 fn meets_in(row: &Row, part: &Part) -> bool
     ensures { result ≡ meets_in row.now part.now }
 {
-    meets_one(row, run_of(row, &part.rows, &part.columns))
+    meets_one(row, part_run(row, part))
 }
 
 fn meets_any(row: &Row, parts: &[Part]) -> bool

@@ -8,7 +8,9 @@ ghost use Rattle.sparql_algebra.specs.Under.{agreeing};
 ghost use Rattle.sparql_solve.specs.Keys.{IsKeyOf};
 ghost use Rattle.sparql_solve.specs.Parts.{merges_in, part_run};
 
-use crate::keys::{Part, index_of, key_columns};
+use crate::bins::bins_of;
+use crate::keyed::Part;
+use crate::keys::{Index, index_of, key_columns};
 use crate::rows::Row;
 use rdf_terms::NoMemory;
 use std::alloc::Global;
@@ -90,8 +92,11 @@ pub(crate) fn part_of<'r>(
         (map (λ r. r.now) left.now)) }
 {
     let columns = columns_for(alloc, left, rows)?;
+    if let [column] = columns.as_slice() {
+        return Ok(Part::Binned(bins_of(alloc, rows, *column)?));
+    }
     let rows = index_of(alloc, rows, columns.as_slice())?;
-    Ok(Part { columns, rows })
+    Ok(Part::Sorted(Index { columns, rows }))
 }
 
 /// The parts, each by the key that it shares with these left rows.

@@ -5,6 +5,8 @@ ghost use Rattle.std.specs.Prelude.{◌≡◌, ◌++◌, ◌<◌, ◌≤◌, IfO
 ghost use Rattle.std.specs.List.{list_all};
 ghost use Rattle.sparql_solve.specs.Under.{is_served};
 
+use crate::matching::asks_same;
+use crate::place::Places;
 use crate::rows::Row;
 use crate::sorted_names::SortedNames;
 use rdf_terms::{NoMemory, Text};
@@ -22,10 +24,7 @@ const A_ROW_ALONE: u128 = 4;
 
 const AT_LEAST: u128 = 4096;
 
-// For how many rows at least a triple may be found that isn't asked for under any of them, and for how
-// many rows that is asked at all.
-const A_TRIPLE: usize = 8;
-
+// For how many look-ups at least it is asked whether a triple pattern has few triples.
 const MANY: usize = 64;
 
 // Raises the flag of the variable's column.
@@ -154,13 +153,24 @@ pub(crate) fn served_len(asked: &Row, rows: &[Row], flags: &[bool]) -> usize
     len
 }
 
-/// How many triples a triple pattern may have at most that is found once for so many rows, and isn't
-/// looked up under each of them.
-pub(crate) fn few_beside(rows: usize) -> Option<usize> {
-    if rows < MANY {
+/// How many look-ups of a triple pattern rows take: those side by side that ask the same share one.
+pub(crate) fn look_ups_under(rows: &[Row], places: &Places) -> usize {
+    let mut many: usize = rows.len().min(1);
+    for place in 1..rows.len() {
+        if !asks_same(&rows[place - 1], &rows[place], places) {
+            many = many.saturating_add(1);
+        }
+    }
+    many
+}
+
+/// How many triples a triple pattern may have at most that is found once, and isn't looked up so many
+/// times: no more than these. To find them and to join them costs a little less than as many look-ups.
+pub(crate) fn few_beside(look_ups: usize) -> Option<usize> {
+    if look_ups < MANY {
         return None;
     }
-    Some(rows / A_TRIPLE)
+    Some(look_ups)
 }
 
 /// Takes away the rows at the front that are served by what was found for these columns.

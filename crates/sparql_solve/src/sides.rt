@@ -20,7 +20,7 @@ use crate::matching::few_quads_of;
 use crate::members::{is_joined, is_removed};
 use crate::minus::minus;
 use crate::rows::Row;
-use crate::sharing::{few_beside, served_rows, stops_looking};
+use crate::sharing::{few_beside, look_ups_under, served_rows, stops_looking};
 use crate::sorted_names::SortedNames;
 use rdf_dataset::Source;
 use rdf_terms::{GraphName, NoMemory, Vocabulary};
@@ -481,7 +481,7 @@ fn is_small<S: Source>(
     alloc: Global,
     source: &S,
     look_up: &LookUp,
-    rows: usize,
+    rows: &[Row],
 ) -> Result<bool, NoMemory> {
     let Graphs::One(graph) = &look_up.graphs else {
         return Ok(false);
@@ -489,7 +489,7 @@ fn is_small<S: Source>(
     let [places] = look_up.places.as_slice() else {
         return Ok(false);
     };
-    let Some(most) = few_beside(rows) else {
+    let Some(most) = few_beside(look_ups_under(rows, places)) else {
         return Ok(false);
     };
     let nothing = Row::empty(alloc, 0, 0)?;
@@ -540,7 +540,7 @@ pub(crate) fn rows_looked_up<S: Source>(
     ensures { IfOk result (λ b. Begins variables.now (S.contents source.now) graph.now under.now
         (element member.now) rows.items b.rows.items b.rest.items) }
 {
-    if is_small(alloc, source, look_up, rows.len())? {
+    if is_small(alloc, source, look_up, &rows)? {
         let once = rows_found_once(
             alloc, variables, vocabulary, graph, source, &rows, look_up, member, under,
         )?;

@@ -1,0 +1,112 @@
+//! Rows in bins: by the term that they have at the one column of a key. A bin is found by a look-up of
+//! the term, and no term is compared to put rows in order.
+ghost use Rattle.std.specs.Prelude.{◌≡◌, ◌++◌, ◌∷◌, [], IfOk, OnOk, cond, filter, length, map};
+ghost use Rattle.rdf_terms.specs.declared.term.Term.{Term};
+ghost use Rattle.sparql_values.specs.Mapping.{same_term, value_at};
+ghost use Rattle.sparql_solve.specs.Bins.{binned, binned_in, has_at, with_at};
+
+use crate::rows::Row;
+use rdf_terms::{NoMemory, Term, TermTable, terms_are_held_once};
+use std::alloc::Global;
+
+/// Rows by their term at a column.
+#[derive(Drop)]
+pub(crate) struct Bins<'r> {
+    pub(crate) column: usize,
+    /// The terms, each of which has the bin at its own place.
+    pub(crate) terms: TermTable,
+    pub(crate) bins: Vec<Vec<&'r Row>>,
+    /// The bin of a term that no row has.
+    none: Vec<&'r Row>,
+    ghost empty: { none.items ≡ [] },
+    ghost paired: { length bins.items ≡ length terms },
+}
+
+// Puts the row into the bin at the place, if there is one.
+fn put_at<'r>(bins: &mut Vec<Vec<&'r Row>>, place: usize, row: &'r Row) -> Result<(), NoMemory>
+    ensures { OnOk result (map (λ bin. map (λ r. r.now) bin.items) bins.new.items
+        ≡ with_at place row.now (map (λ bin. map (λ r. r.now) bin.items) bins.old.items)) }
+{
+    if let Some(bin) = bins.get_mut(place) {
+        bin.push(row)?;
+    }
+    Ok(())
+}
+
+// Puts the row into the bin of the term, which gets one where it is new.
+fn put<'r>(
+    alloc: Global,
+    terms: &mut TermTable,
+    bins: &mut Vec<Vec<&'r Row>>,
+    term: &Term,
+    row: &'r Row,
+) -> Result<(), NoMemory>
+    requires { length bins.old.items ≡ length terms.old }
+    ensures paired { OnOk result (length bins.new.items ≡ length terms.new) }
+    ensures put { OnOk result ((t : Term) →
+        binned terms.new (map (λ bin. map (λ r. r.now) bin.items) bins.new.items) t
+        ≡ binned terms.old (map (λ bin. map (λ r. r.now) bin.items) bins.old.items) t
+        ++ cond (same_term t term.now) (row.now ∷ []) []) }
+{
+    let place = terms.intern(term.copy()?)?.0 as usize;
+    terms_are_held_once(terms);
+    if place == bins.len() {
+        bins.push(Vec::new(alloc))?;
+    }
+    put_at(bins, place, row)
+}
+
+/// The rows that have a term at the column, in bins, in each of them in the order in which they came.
+pub(crate) fn bins_of<'r>(
+    alloc: Global,
+    rows: &[&'r Row],
+    column: usize,
+) -> Result<Bins<'r>, NoMemory>
+    ensures column { IfOk result (λ b. b.column ≡ column) }
+    ensures bins { IfOk result (λ b. (t : Term) →
+        binned b.terms (map (λ bin. map (λ r. r.now) bin.items) b.bins.items) t
+        ≡ filter (has_at column t) (map (λ r. r.now) rows.now)) }
+{
+    let mut terms = TermTable::new(alloc);
+    let mut bins = Vec::new(alloc);
+    for row in rows {
+        if let Some(term) = row.value(column) {
+            put(alloc, &mut terms, &mut bins, term, row)?;
+        }
+    }
+    Ok(Bins {
+        column,
+        terms,
+        bins,
+        none: Vec::new(alloc),
+    })
+}
+
+impl<'r> Bins<'r> {
+    // The bin of a term; none where no row has it.
+    fn bin(&self, term: &Term) -> &[&'r Row]
+        ensures { map (λ r. r.now) result.now ≡ binned self.now.terms
+            (map (λ bin. map (λ r. r.now) bin.items) self.now.bins.items) term.now }
+    {
+        terms_are_held_once(&self.terms);
+        let Some(id) = self.terms.find(term) else {
+            return self.none.as_slice();
+        };
+        match self.bins.get(id.0 as usize) {
+            Some(bin) => bin.as_slice(),
+            None => self.none.as_slice(),
+        }
+    }
+
+    /// The rows that have the same term at the column as this row.
+    pub(crate) fn bin_of(&self, row: &Row) -> &[&'r Row]
+        ensures { map (λ r. r.now) result.now ≡ binned_in self.now.terms
+            (map (λ bin. map (λ r. r.now) bin.items) self.now.bins.items)
+            (value_at row.now self.now.column) }
+    {
+        match row.value(self.column) {
+            Some(term) => self.bin(term),
+            None => self.none.as_slice(),
+        }
+    }
+}
