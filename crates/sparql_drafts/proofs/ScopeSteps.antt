@@ -27,7 +27,7 @@ reference_tells reference p (Err (Relative place)) value fault = reference_lacki
 -- a base that is moved
 moved_step : (o : Option (List ℕ)) (p u : Prologue) → option_map (λ i. moves_base i p) o ≡ Some u → option_map {U = (Unit {0}) × Prologue} (λ i. (tt, moves_base i p)) o ≡ Some (tt, u)
 moved_step None p u e = absurd (cc)
-moved_step (Some i) p u e = ap (λ (x : Prologue). Some {A = (Unit {0}) × Prologue} (tt, x)) (some_is (moves_base i p) u e)
+moved_step (Some i) p u e = ap (λ (x : Prologue). Some (tt, x)) (some_is (moves_base i p) u e)
 
 pub base_gives : (reference : List ℕ) (p u : Prologue) (r : Result (Unit {0}) PrologueFault) → OnOk r (option_map (λ i. moves_base i p) (resolved reference p) ≡ Some u)
     → IfErr r (λ e. Explains p (Full reference) e) → Gives (declaration (d.Base reference) p) r u

@@ -10,13 +10,13 @@ use Rattle.sparql_drafts.proofs.scope.Scope.declare.Goals as goal
 
 pub returns-in-Base-clause-gives : goal.returns-in-Base-clause-gives
 returns-in-Base-clause-gives c =
-    let before = ap (λ (s : Drafting). s.prologue) c.self-in-Base.view_is in
+    let before = ap (λ (s : Drafting). s.prologue) c.self.view_is in
     rw c.in-Base.is (base_gives c.in-Base.reference c.args.self.now.prologue c.move_base.new.self c.move_base.result
     (subst (λ (p : Prologue). OnOk c.move_base.result (option_map (λ i. moves_base i p) (resolved c.in-Base.reference p) ≡ Some c.move_base.new.self)) before c.move_base.ensures.value)
     (subst (λ (p : Prologue). IfErr c.move_base.result (λ e. Explains p (Full c.in-Base.reference) e)) before c.move_base.ensures.fault))
 
 pub returns-in-Base-clause-declares : goal.returns-in-Base-clause-declares
 returns-in-Base-clause-declares c =
-    let before = ap (λ (s : Drafting). s.prologue) c.self-in-Base.view_is in
+    let before = ap (λ (s : Drafting). s.prologue) c.self.view_is in
     rw c.in-Base.is (base_declares c.in-Base.reference c.args.self.now.prologue c.move_base.new.self c.move_base.result
     (subst (λ (p : Prologue). OnOk c.move_base.result (option_map (λ i. moves_base i p) (resolved c.in-Base.reference p) ≡ Some c.move_base.new.self)) before c.move_base.ensures.value))
