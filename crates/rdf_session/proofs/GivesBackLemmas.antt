@@ -1,5 +1,5 @@
 -- What undo, redo and rollback give back.
-use Rattle.std.proofs.Common.{◌≡◌, ℕ, ◌+◌, ◌-◌, ◌<◌, ◌≤◌, List, [], ◌∷◌, length, Option, Some, None, refl, sym, ap, ◌∙◌, subst, arith}
+use Rattle.std.proofs.Common.{◌≡◌, ℕ, ◌+◌, ◌-◌, ◌<◌, List, [], ◌∷◌, Option, sym, ap, ◌∙◌, subst, arith}
 use Rattle.rdf_dataset.specs.State.{State}
 use Rattle.rdf_session.proofs.BehindLemmas.{one_place}
 use Rattle.rdf_session.proofs.BetweenLemmas.{quiet_accepted, quiet_run}

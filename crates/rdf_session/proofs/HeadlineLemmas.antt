@@ -78,15 +78,15 @@ module _ (laws : ReaderLaws) where
       let rest = one_list_of_all base requests a.1 b.1 a.3 b.3 in
       a.4 ∙ (λ i. first i ++ rest i) ∙ sym b.4
 
-  make_exactly : (base : Base) (requests : List Request) (s t : State) → MakesAll base requests s t → MakeExactly base requests s t
+  pub make_exactly : (base : Base) (requests : List Request) (s t : State) → MakesAll base requests s t → MakeExactly base requests s t
   make_exactly base requests s t m =
       let all = all_operations_of base requests s t m in
       record { operations = all.0; theirs = all.1; no_others = λ others h. one_list_of_all base requests others all.0 h all.1; lead = all.2 }
 
-  makes_exactly : (base : Base) (request : Request) (s t : State) → Makes base request s t → MakeExactly base (request ∷ []) s t
+  pub makes_exactly : (base : Base) (request : Request) (s t : State) → Makes base request s t → MakeExactly base (request ∷ []) s t
   makes_exactly base request s t m = make_exactly base (request ∷ []) s t (t, m, refl)
 
-  have_entries : (base : Base) (s : State) (requests : List Request) (states : List State) → Follows base s requests states → HaveEntries base requests (nets_between s states) s states
+  pub have_entries : (base : Base) (s : State) (requests : List Request) (states : List State) → Follows base s requests states → HaveEntries base requests (nets_between s states) s states
   have_entries base s [] [] f = tt
   have_entries base s [] (t ∷ states) f = absurd f
   have_entries base s (request ∷ requests) [] f = absurd f
@@ -102,11 +102,11 @@ module _ (laws : ReaderLaws) where
 
 -- ---- the requests that still stand
 
-makes_on : (base : Base) (requests more : List Request) (s t u : State) → MakesAll base requests s t → MakesAll base more t u → MakesAll base (requests ++ more) s u
+pub makes_on : (base : Base) (requests more : List Request) (s t u : State) → MakesAll base requests s t → MakesAll base more t u → MakesAll base (requests ++ more) s u
 makes_on base [] more s t u a b = subst (λ x. MakesAll base more x u) a b
 makes_on base (request ∷ requests) more s t u a b = (a.0, a.1, makes_on base requests more a.0 t u a.2 b)
 
-stands_now : (depth : Option ℕ) (base : Base) (s : Session) (h : Requests) → Agrees depth base s h → MakesAll base (take h.cursor h.items) s.base (now s)
+pub stands_now : (depth : Option ℕ) (base : Base) (s : Session) (h : Requests) → Agrees depth base s h → MakesAll base (take h.cursor h.items) s.base (now s)
 stands_now depth base s h a =
     subst (λ k. MakesAll base (take k h.items) s.base (now s)) (sym a.cursor) (standing base s.base h.items s.states.items s.states.cursor s.base a.follows a.within)
 
@@ -142,7 +142,7 @@ base_after depth base old new Commit (Changed counts) h a st = absurd st
 base_after depth base old new Commit Done h a st =
     subst (MakesAll base (take h.cursor h.items) old.base) (sym (ap (λ (x : Session). x.base) st)) (stands_now depth base old h a)
 
-run_base : (depth : Option ℕ) (base : Base) (events : List (Command × Reply)) (old new : Session) (h : Requests) → Agrees depth base old h → Run old events new → MakesAll base (committed depth h events) old.base new.base
+pub run_base : (depth : Option ℕ) (base : Base) (events : List (Command × Reply)) (old new : Session) (h : Requests) → Agrees depth base old h → Run old events new → MakesAll base (committed depth h events) old.base new.base
 run_base depth base [] old new h a run = ap (λ (x : Session). x.base) run
 run_base depth base (event ∷ events) old new h a run =
     let mid : Session = run.0 in
@@ -154,7 +154,7 @@ run_base depth base (event ∷ events) old new h a run =
 same_end : (ending : Ending) (t u : State) → ending ≡ Ok t → ending ≡ Ok u → t ≡ u
 same_end ending t u e f = cc
 
-one_end : (base : Base) (requests : List Request) (s t u : State) → MakeExactly base requests s t → MakeExactly base requests s u → t ≡ u
+pub one_end : (base : Base) (requests : List Request) (s t u : State) → MakeExactly base requests s t → MakeExactly base requests s u → t ≡ u
 one_end base requests s t u a b = same_end (steps s a.operations) t u a.lead (ap (steps s) (b.no_others a.operations a.theirs) ∙ b.lead)
 
 -- ---- all of it

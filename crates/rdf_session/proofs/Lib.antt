@@ -21,6 +21,7 @@ mod NetLemmas
 mod OneQueryLemmas
 mod OneReplyLemmas
 mod OneResultLemmas
+mod OnwardLemmas
 mod PlaceLemmas
 mod QueryLemmas
 mod RefusalLemmas

@@ -1,5 +1,5 @@
 -- A mark is at its state after any commands, so a rollback to it gives that back.
-use Rattle.std.proofs.Common.{◌≡◌, ℕ, ◌+◌, ◌-◌, ◌<◌, ◌≤◌, Bool, true, false, cond, List, [], ◌∷◌, length, Option, Some, None, refl, sym, ap, ◌∙◌, subst, arith, add-one}
+use Rattle.std.proofs.Common.{◌≡◌, ℕ, ◌+◌, ◌≤◌, true, false, cond, List, [], ◌∷◌, length, Option, Some, None, refl, sym, ap, ◌∙◌, subst, arith, add-one}
 use Rattle.std.specs.List.{AllByRecursion}
 use Rattle.rdf_dataset.specs.State.{State}
 use Rattle.rdf_session.proofs.BehindLemmas.{behind_was, get_behind, one_place}
@@ -11,7 +11,6 @@ use Rattle.rdf_session.specs.History.{is_too_long, place_of}
 use Rattle.rdf_session.specs.RollsBack.{LeavesMark, IsRequest, RollbackGivesBackItsMark, RollbackIsTaken}
 use Rattle.rdf_session.specs.Session.{Session, Command, Reply, Do, Undo, Redo, Mark, Rollback, Commit, Changed, Done, Refused, Transition, MayRefuse, accepted, counts_between, forgetting, grown, now, state_at, with_mark}
 use Rattle.rdf_session.specs.Standing.{Run}
-use Rattle.rdf_session.specs.declared.fault.Counts.{Counts}
 use Rattle.rdf_session.specs.declared.fault.KeeperFault.{KeeperFault}
 use Rattle.rdf_session.specs.declared.fault.KeeperFault.TheVariants.{NoSuchMark, MarkAhead, NoMemory}
 

@@ -15,6 +15,7 @@ pub mod LoadLaws
 pub mod OneQueryReply
 pub mod OneReply
 pub mod OneResult
+pub mod Onward
 pub mod QuadLines
 pub mod Query
 pub mod Request

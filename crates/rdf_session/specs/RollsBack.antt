@@ -1,5 +1,5 @@
 -- A rollback and the mark that it goes to, whatever comes between.
-use Rattle.std.specs.Prelude.{◌≡◌, ℕ, List, Option, None}
+use Rattle.std.specs.Prelude.{◌≡◌, ℕ, List, None}
 use Rattle.std.specs.List.{AllByRecursion}
 use Rattle.rdf_session.specs.Faults.{no_memory}
 use Rattle.rdf_session.specs.GivesBack.{IsPlaced}

@@ -19,6 +19,7 @@ ghost use Rattle.rdf_session.specs.LoadLaws.{LoadInserts, LoadIsRefusedAlike};
 ghost use Rattle.rdf_session.specs.OneQueryReply.{OneQueryReply};
 ghost use Rattle.rdf_session.specs.OneReply.{OneReply};
 ghost use Rattle.rdf_session.specs.OneResult.{SomeResult, OneResult, ResultOrRefusal};
+ghost use Rattle.rdf_session.specs.Onward.{PromisedOnward, PromiseGoesOn, ReachedHaveHistory, RestoredArePromised};
 ghost use Rattle.rdf_session.specs.RollsBack.{RollbackGivesBackItsMark, RollbackIsTaken};
 ghost use Rattle.rdf_session.specs.Saved.{CommandsGoOnAlike, RestoredIsAsCommitted, RestoredIsSavedAlike, SavedComesBack};
 ghost use Rattle.rdf_session.specs.UndoRedo.{UndoThenRedo, RedoThenUndo};
@@ -47,6 +48,21 @@ pub fn the_headline()
     ensures promise { Headline }
     ensures accepted { MayBeAccepted }
     ensures each_runs { EachCommandRuns }
+{
+    readers_keep_laws();
+}
+
+/// The promise of a session that has a history when it is taken up. Each session that commands led to has one: that of the
+/// requests since its base. Behind any further commands all of the promise holds of it: an accepted request leaves exactly what its
+/// operations make, undo and redo give back, a refusal changes nothing, the base and the state are exactly what the requests that
+/// were committed since and those that stand now make of the base then, those of before among them; and the same requests over
+/// that base leave the same state, whatever was done and taken back before or since. It is kept of all commands from the start, too, as if they were
+/// one list; and of a session that was restored from a state text, from that text's state on.
+pub fn the_promise_goes_on()
+    ensures onward { PromisedOnward }
+    ensures reached { ReachedHaveHistory }
+    ensures further { PromiseGoesOn }
+    ensures restored { RestoredArePromised }
 {
     readers_keep_laws();
 }

@@ -26,7 +26,7 @@ pub use keeper::Keeper;
 pub use law::{
     a_depth_forgets_the_oldest, a_load_is_insert_data, a_rollback_gives_back_its_mark,
     a_saved_state_comes_back, counts_are_told, one_reply, standing_requests, the_headline,
-    undo_gives_back,
+    the_promise_goes_on, undo_gives_back,
 };
 pub use query::Answer;
 pub use sparql_results::ResultsFormat;

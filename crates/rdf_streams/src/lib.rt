@@ -6,10 +6,12 @@
 
 mod checking;
 mod conversion;
+mod law;
 mod streams;
 
 pub use checking::check;
 pub use conversion::{ConvertFault, DocumentFault, convert};
+pub use law::a_document_has_one_conversion;
 pub use streams::{
     Device, Ending, Lent, LentWriter, READ_CALLS, WriteFault, read_all, write_on, write_whole,
 };
