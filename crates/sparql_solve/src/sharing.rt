@@ -164,13 +164,13 @@ pub(crate) fn look_ups_under(rows: &[Row], places: &Places) -> usize {
     many
 }
 
-/// How many triples a triple pattern may have at most that is found once, and isn't looked up so many
-/// times: no more than these. To find them and to join them costs a little less than as many look-ups.
+/// Fewer triples than these are found once, and aren't looked up so many times: three for each four
+/// look-ups. To find a triple and to join it costs nearly a look-up.
 pub(crate) fn few_beside(look_ups: usize) -> Option<usize> {
     if look_ups < MANY {
         return None;
     }
-    Some(look_ups)
+    Some(look_ups.saturating_sub(look_ups / 4))
 }
 
 /// Takes away the rows at the front that are served by what was found for these columns.
