@@ -1,5 +1,7 @@
 -- The lines of a script, its commands and its answers.
+pub mod CommandLaws
 pub mod Cuts
+pub mod EarlyRuns
 pub mod Examples
 pub mod Feeds
 pub mod FirstEnds

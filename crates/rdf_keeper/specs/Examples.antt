@@ -149,6 +149,14 @@ abbrev pub OpenLoad : Type 0
 OpenLoad = MustAnswer (codes "%print\n%load nquads\n<e:s> <e:p> <e:o> .\n")
     (codes "ok 0\n" ∷ codes "refused: NoEnd\n" ∷ []) Refused (empty_state 0)
 
+-- a refusal isn't forgotten, whatever comes behind it
+abbrev pub RefusedFirst : Type 0
+RefusedFirst = MustAnswer (codes "%undo\n%print\n") (codes "refused: NothingToUndo\n" ∷ codes "ok 0\n" ∷ []) Refused (empty_state 0)
+
+-- where the first refusal ends the session, it is answered, and nothing behind it
+abbrev pub StoppedAtOnce : Type 0
+StoppedAtOnce = Serves (to_end FirmAnswers true Accepted) false (script (codes "%undo\n%print\n")) begin (codes "refused: NothingToUndo\n" ∷ []) begin Refused
+
 -- ---- histories, and the numbers of blank nodes
 
 -- a request after an undo cuts what was undone, and the mark past it

@@ -1,6 +1,8 @@
 -- Scripts: their lines, their commands, and what is answered.
 pub mod Answers
+pub mod CommandLaws
 pub mod Commands
+pub mod EarlyRuns
 pub mod LineLaws
 pub mod LineWords
 pub mod Lines

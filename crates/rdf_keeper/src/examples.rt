@@ -1,5 +1,5 @@
 //! Worked examples of scripts, of whole sessions, of histories and of the numbers of blank nodes.
-ghost use Rattle.rdf_keeper.specs.Examples.{NothingAsked, FourCommands, LineEnds, OpenBody, EndAndSpace, BadCommands, WholeLines, MarkNames, ReplyLines, NothingAnswered, LoadUndone, LoadTwice, LoadRedone, MarkReached, Committed, GraphShown, GraphCommitted, OpenLoad, HistoryCut, BlankNumbers};
+ghost use Rattle.rdf_keeper.specs.Examples.{NothingAsked, FourCommands, LineEnds, OpenBody, EndAndSpace, BadCommands, WholeLines, MarkNames, ReplyLines, NothingAnswered, LoadUndone, LoadTwice, LoadRedone, MarkReached, Committed, GraphShown, GraphCommitted, OpenLoad, RefusedFirst, StoppedAtOnce, HistoryCut, BlankNumbers};
 
 use crate::law::a_script_has_one_output;
 
@@ -25,6 +25,8 @@ pub fn the_worked_examples_hold()
     ensures graph_shown { GraphShown }
     ensures graph_committed { GraphCommitted }
     ensures open_load { OpenLoad }
+    ensures refused_first { RefusedFirst }
+    ensures stopped_at_once { StoppedAtOnce }
     ensures history_cut { HistoryCut }
     ensures blank_numbers { BlankNumbers }
 {

@@ -2,6 +2,8 @@
 //! that what is printed is read back in each format, that what is shown of a state is taken up again, and that files are opened as the words name
 //! them.
 ghost use Rattle.rdf_keeper.specs.Program.Order.{FilesInOrder};
+ghost use Rattle.rdf_keeper.specs.Script.CommandLaws.{BodiesAreTexts, BodiesAsk, ChangesTell, CommentsAskNothing, EndsAreLines, FormatsAsk, LinesTell, NamesAsk, NamesOfMarks, OpenBodies, OthersAreBad, StatusesTell, WordsAsk};
+ghost use Rattle.rdf_keeper.specs.Script.EarlyRuns.{EarlyRunsAgree};
 ghost use Rattle.rdf_keeper.specs.Script.Promised.{AnswersAreTransitions, ScriptsArePromised, UndoneInAScript, RedoneInAScript};
 ghost use Rattle.rdf_keeper.specs.Script.Refusals.{RefusedAnswersLeave};
 ghost use Rattle.rdf_keeper.specs.Script.LineLaws.{LinesAreTheText, LinesAreEnded, OneCut};
@@ -28,6 +30,35 @@ pub fn a_script_has_one_output()
     ensures bytes { OneText }
     ensures answers_of_bytes { OneOutputOfBytes }
     ensures bytes_of_bytes { OneTextOfBytes }
+{
+    rdf_session::one_reply();
+}
+
+/// The list of commands and of answer lines, as a reader has it: what each word of a script asks for, which words and names are none, what a
+/// body is and where it ends; how an answer tells what came and what went, the line of a fault, the rows of a query; and the exit
+/// status of each ending.
+pub fn commands_are_as_listed()
+    ensures words { WordsAsk }
+    ensures names { NamesAsk }
+    ensures formats { FormatsAsk }
+    ensures bodies { BodiesAsk }
+    ensures texts { BodiesAreTexts }
+    ensures ends { EndsAreLines }
+    ensures open { OpenBodies }
+    ensures comments { CommentsAskNothing }
+    ensures others { OthersAreBad }
+    ensures marks { NamesOfMarks }
+    ensures lines { LinesTell }
+    ensures changes { ChangesTell }
+    ensures statuses { StatusesTell }
+{}
+
+/// However two sessions end that are given the same bytes to read, by a failed read or write, or where memory for the next command is
+/// wanting: as far as both went they make the same answers, but for the lines of some faults, as long as none is that memory is wanting.
+/// Those of the one that ended first are the first of the other's, what was written of an answer that broke off is a front of it,
+/// and where both made as many they stand at the same session. Those of one that came to its end are all.
+pub fn early_runs_agree()
+    ensures { EarlyRunsAgree }
 {
     rdf_session::one_reply();
 }

@@ -24,7 +24,7 @@ use Rattle.rdf_dataset.specs.Sorted.{ListsSorted}
 use Rattle.rdf_dataset.specs.State.{State, empty_state, last_number, net_between}
 use Rattle.rdf_keeper.specs.Script.Answers.{Answers, reply_line}
 use Rattle.rdf_keeper.specs.Script.Commands.{Asked, act, show, unended}
-use Rattle.rdf_keeper.specs.Examples.{MustAnswer, MayAnswer, NothingAnswered, LoadUndone, LoadTwice, LoadRedone, MarkReached, Committed, GraphShown, GraphCommitted, OpenLoad, HistoryCut, begin, document, graph_name, named_document, named_quad, one_named, one_quad, quad, script}
+use Rattle.rdf_keeper.specs.Examples.{MustAnswer, MayAnswer, NothingAnswered, LoadUndone, LoadTwice, LoadRedone, MarkReached, Committed, GraphShown, GraphCommitted, OpenLoad, RefusedFirst, StoppedAtOnce, HistoryCut, begin, document, graph_name, named_document, named_quad, one_named, one_quad, quad, script}
 use Rattle.rdf_keeper.specs.Script.OneOutput.{FirmAnswers, IsFree, IsWhole, OneText}
 use Rattle.rdf_session.specs.Request.{Load, loaded}
 use Rattle.rdf_keeper.specs.Script.Show.{ListsChange}
@@ -82,7 +82,7 @@ module _ {K : Type 0} {R : K → K → Ordering} (o : IsTotalOrder R) (apart : I
   unfolding IsStrictlySortedBy
   lists_none = record { lists = record { all = refl; once = sym (len-empty R) }; rises = tt }
 
-  lists_one : (k : K) → ListsSorted {R = R} (set.from_list (k ∷ [])) (k ∷ [])
+  pub lists_one : (k : K) → ListsSorted {R = R} (set.from_list (k ∷ [])) (k ∷ [])
   unfolding IsStrictlySortedBy
   lists_one k = record { lists = record { all = refl; once = sym (one_member k) }; rises = (tt, tt) }
 
@@ -165,7 +165,7 @@ same_byte : (b : ℕ) → nat_eq b b ≡ true
 same_byte b = (Decides-eqb b b).1 refl
 
 -- another byte at some place
-differs : (text : List ℕ) (k : ℕ) → nat_eq (get_or text k 0) (get_or wanting k 0) ≡ false → text ≢ wanting
+pub differs : (text : List ℕ) (k : ℕ) → nat_eq (get_or text k 0) (get_or wanting k 0) ≡ false → text ≢ wanting
 differs text k n e = true≢false (sym (same_byte (get_or wanting k 0)) ∙ sym (ap (λ t. nat_eq (get_or t k 0) (get_or wanting k 0)) e) ∙ n)
 
 -- the answers of one are those of all
@@ -395,6 +395,23 @@ is_committed = (
 
 pub committed : OneText → Committed
 committed one = answered one _ _ Refused one_quad tt (end_of begin committed_session, runs false begin committed_session is_committed, refl)
+
+-- ---- a refusal first
+
+abbrev refused_session : List Entry
+refused_session = entry (act Undo) (codes "refused: NothingToUndo\n") true begin ∷ entry (show Quads) (codes "ok 0\n") false begin ∷ []
+
+nothing_to_undo : Answers (act Undo) begin (codes "refused: NothingToUndo\n") true begin
+nothing_to_undo = (RefusedReply NothingToUndo, (refl, refl), refl, refl)
+
+is_refused : IsSession begin refused_session
+is_refused = (nothing_to_undo, differs _ 11 refl, λ fault x. x.0, (print_none begin refl, differs _ 0 refl, λ fault x. x, tt))
+
+pub refused_first : OneText → RefusedFirst
+refused_first one = answered one _ _ Refused no_quads tt (end_of begin refused_session, runs false begin refused_session is_refused, refl)
+
+pub stopped_at_once : StoppedAtOnce
+stopped_at_once = inr (codes "refused: NothingToUndo\n", true, begin, ((nothing_to_undo, differs _ 11 refl), λ fault x. x.0), inr (inl (refl, refl, refl, refl)))
 
 -- ---- a named graph with a blank node
 

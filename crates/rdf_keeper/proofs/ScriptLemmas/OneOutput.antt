@@ -74,7 +74,7 @@ same_query query s t u text other refused otherwise a b (inr d) same = (
 )
 
 module _ (one : OneReply) (one_query : OneQueryReply) where
-  one_answer : (c : Asked) (s t u : Session) (text other : List ℕ) (refused otherwise : Bool) → FullAnswers c s text refused t → FullAnswers c s other otherwise u → Alike c text refused t other otherwise u
+  pub one_answer : (c : Asked) (s t u : Session) (text other : List ℕ) (refused otherwise : Bool) → FullAnswers c s text refused t → FullAnswers c s other otherwise u → Alike c text refused t other otherwise u
   one_answer (act c) s t u text other refused otherwise a b =
       let same = one s t u c a.0.0 b.0.0 a.0.1 (full_reply a.0.0 text a.0.2 a.1) b.0.1 (full_reply b.0.0 other b.0.2 b.1) in
       same_reply c t u text other refused otherwise a.0.0 b.0.0 same.0 same.1 a.0.2 a.0.3 b.0.2 b.0.3
@@ -159,7 +159,7 @@ module _ (May : Asked → Session → List ℕ → Bool → Session → Type 0) 
         ]
       ]
 
-no_answers : (cs : List Asked) → SameAnswers cs [] []
+pub no_answers : (cs : List Asked) → SameAnswers cs [] []
 no_answers [] = tt
 no_answers (c ∷ cs) = tt
 

@@ -31,7 +31,7 @@ onto_front : (b : ℕ) (l : List ℕ) (ls rest whole : List (List ℕ)) → whol
 onto_front b l ls rest whole e = rw e refl
 
 -- the lines that have their ends in a front of a text are the first of the text
-front_lines : (read more : List ℕ) → (others : List (List ℕ)) × (raw_lines (read ++ more) ≡ raw_lines (upto_last_end read) ++ others)
+pub front_lines : (read more : List ℕ) → (others : List (List ℕ)) × (raw_lines (read ++ more) ≡ raw_lines (upto_last_end read) ++ others)
 front_lines [] more = (raw_lines more, refl)
 front_lines (b ∷ bs) more = by (nat_eq b 10) (upto_last_end bs) refl (front_lines bs more)
   where
@@ -59,7 +59,7 @@ front_after skipped front all inside within f g = f
 front_after (opens body) front all inside within f g = g body
 front_after (asks a) front all inside within f g = (f.0, ap (λ cs. a ∷ cs) f.1)
 
-front_commands : (held : Open) (lines others : List (List ℕ)) → IsFront (commands true held (lines ++ others)) (commands false held lines)
+pub front_commands : (held : Open) (lines others : List (List ℕ)) → IsFront (commands true held (lines ++ others)) (commands false held lines)
 front_commands None [] others = (commands true None others, refl)
 front_commands (Some body) [] others = (commands true (Some body) others, refl)
 front_commands None (line ∷ lines) others =

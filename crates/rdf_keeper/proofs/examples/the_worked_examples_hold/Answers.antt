@@ -1,5 +1,5 @@
 use Rattle.std.proofs.Common.{refl}
-use Rattle.rdf_keeper.proofs.ScriptLemmas.Examples.{nothing_answered, load_undone, load_twice, load_redone, mark_reached, committed, graph_shown, graph_committed, open_load, history_cut}
+use Rattle.rdf_keeper.proofs.ScriptLemmas.Examples.{nothing_answered, load_undone, load_twice, load_redone, mark_reached, committed, graph_shown, graph_committed, open_load, refused_first, stopped_at_once, history_cut}
 use Rattle.rdf_keeper.proofs.examples.the_worked_examples_hold.Goals as goal
 
 pub returns-clause-nothing_asked : goal.returns-clause-nothing_asked
@@ -55,6 +55,12 @@ returns-clause-graph_committed c = graph_committed c.a_script_has_one_output.ens
 
 pub returns-clause-open_load : goal.returns-clause-open_load
 returns-clause-open_load c = open_load c.a_script_has_one_output.ensures.bytes
+
+pub returns-clause-refused_first : goal.returns-clause-refused_first
+returns-clause-refused_first c = refused_first c.a_script_has_one_output.ensures.bytes
+
+pub returns-clause-stopped_at_once : goal.returns-clause-stopped_at_once
+returns-clause-stopped_at_once c = stopped_at_once
 
 pub returns-clause-history_cut : goal.returns-clause-history_cut
 returns-clause-history_cut c = history_cut
