@@ -1,6 +1,5 @@
-//! Tests that call the keeper, queries, updates and the program as a host does: each call once, readers and writers that
-//! fail, how much patterns look at, updates that no text has, and texts near to a state text. What a document or a script shows stands in `tests/`. It has no
-//! code of its own.
+//! Tests that call the keeper and the program as a host does: each call once, readers and writers that fail, and texts near to
+//! a state text. What a document or a script shows stands in `tests/`. It has no code of its own.
 #![tactic(auto)]
 
 #[cfg(test)]
@@ -10,12 +9,8 @@ mod dialogue;
 #[cfg(test)]
 mod keeper;
 #[cfg(test)]
-mod look_ups;
-#[cfg(test)]
 mod once;
 #[cfg(test)]
 mod states;
 #[cfg(test)]
 mod streams;
-#[cfg(test)]
-mod templates;
