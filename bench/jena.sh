@@ -1,6 +1,6 @@
 #!/usr/bin/env bash
-# Runs Jena.java with Apache Jena of Debian's packages on its class path (apt-get install libapache-jena-java default-jdk-headless).
-# Usage: bench/jena.sh WORK KIND FOLDER NAME.., where WORK is a folder for what this unpacks.
+# Runs Jena.java, or Answers.java, with Apache Jena of Debian's packages on its class path (apt-get install libapache-jena-java default-jdk-headless).
+# Usage: bench/jena.sh WORK WORD.., where WORK is a folder for what this unpacks and the WORDs are those of Jena.java, or of the program that JENA names.
 set -euo pipefail
 here=$(cd "$(dirname "$0")" && pwd)
 work=$1
@@ -26,4 +26,4 @@ for name in jar.namelist():
         to.parent.mkdir(parents=True, exist_ok=True)
         to.write_bytes(jar.read(name))
 PY
-exec java -Xmx4g -cp "$path" "$here/Jena.java" "$@" 2> "$work/jena.errors"
+exec java -Xmx4g -cp "$path" "$here/${JENA:-Jena.java}" "$@" 2> "$work/jena.errors"

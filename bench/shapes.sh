@@ -1,7 +1,7 @@
 #!/usr/bin/env bash
 # Asks queries of many shapes of 10^5 quads, most in the default graph and some in 1,000 others, with rdfkeep, Apache Jena in memory and warm, and
-# rdflib, in one go, and prints the processor time from each query's text to its last row, loading apart. rdfkeep's times are the best of three means over
-# many repeats in a session, Jena's the best of many and of its two datasets in memory, rdflib's the best of three. A query may take two minutes and
+# rdflib, in one go, and prints the processor time from each query's text to its last row, loading apart. rdfkeep's times are the best of many means over
+# a fiftieth of a second in a session, Jena's the best of many and of its two datasets in memory, rdflib's the best of three. A query may take two minutes and
 # rdfkeep 8 GB; what passes either is a dash. The memory of rdfkeep is what a query takes at the peak beside the session's own.
 # Usage: bench/shapes.sh [RDFKEEP [COUNT [SEED [NAME..]]]], where RDFKEEP is the built program, COUNT the number of quads and each NAME a shape of
 # shapes_catalogue.py, all if none is given (apt-get install libapache-jena-java default-jdk-headless python3-rdflib time).

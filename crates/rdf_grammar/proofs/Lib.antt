@@ -8,6 +8,7 @@ mod LexemeLemmas
 mod LexemeReadings
 mod Lists
 mod LiteralLemmas
+mod LiteralSteps
 mod MeaningLemmas
 mod Members
 mod Nests

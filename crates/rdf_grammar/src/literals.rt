@@ -1,9 +1,11 @@
 //! What literals stand for.
-ghost use Rattle.std.specs.Prelude.{◌≡◌, Some, IfOk, IfErr, IsTrue};
+ghost use Rattle.std.specs.Prelude.{◌≡◌, Ok, Some, IfOk, IfErr, IsTrue};
 ghost use Rattle.std.specs.Str.{encode_utf8_all};
+ghost use Rattle.rdf_terms.specs.declared.fault.NoMemory.{NoMemory as Refusal};
 ghost use Rattle.rdf_tokens.specs.Values.{text_value};
 ghost use Rattle.rdf_grammar.specs.Literals as spec;
 ghost use Rattle.rdf_grammar.specs.Literals.{ExplainsLiteral};
+ghost use Rattle.rdf_grammar.specs.declared.prologue.PrologueFault.TheVariants.{NoMemory as WantsMemory};
 
 use crate::kept_literals::KeptLiterals;
 use crate::prologue::{Prologue, PrologueFault};
@@ -61,13 +63,21 @@ fn boolean(
     kept.word(alloc, boolean_text(value), datatype)
 }
 
+// The literal, or the fault that memory was wanting.
+fn or_fault(literal: Result<Literal, NoMemory>) -> Result<Literal, PrologueFault>
+    ensures value { IfOk result (λ told. literal ≡ Ok told) }
+    ensures fault { IfErr result (λ fault. (e : Refusal) × (fault ≡ WantsMemory e)) }
+{
+    Ok(literal?)
+}
+
 impl<'a> Prologue<'a> {
     /// What a literal stands for (Turtle 1.1, section 2.5; SPARQL 1.1 Query, section 4.1.2). Numbers
     /// keep their text.
     ///
     /// # Errors
     /// As of [`Prologue::iri`], for the name of its datatype.
-    #[tactic(auto, unfolding(crate::specs::Literals::literal_of))]
+    #[tactic(auto, using(crate::proofs::LiteralSteps::told, crate::proofs::LiteralSteps::wants), unfolding(crate::specs::Literals::literal_of))]
     pub fn literal(
         &mut self,
         word: &Vocabulary,
@@ -81,18 +91,18 @@ impl<'a> Prologue<'a> {
     {
         match literal {
             Written::Plain(text) => {
-                Ok(quoted(self.alloc, &mut self.literals, text, word.xsd_string())?)
+                or_fault(quoted(self.alloc, &mut self.literals, text, word.xsd_string()))
             }
-            Written::Tagged(text, tag) => Ok(self.tags.literal(self.alloc, text, tag)?),
+            Written::Tagged(text, tag) => or_fault(self.tags.literal(self.alloc, text, tag)),
             Written::Typed(text, name) => {
                 let datatype = self.iri(name)?;
-                Ok(quoted(self.alloc, &mut self.literals, text, &datatype)?)
+                or_fault(quoted(self.alloc, &mut self.literals, text, &datatype))
             }
-            Written::Integer(text) => Ok(number(self.alloc, text, word.xsd_integer())?),
-            Written::Decimal(text) => Ok(number(self.alloc, text, word.xsd_decimal())?),
-            Written::Double(text) => Ok(number(self.alloc, text, word.xsd_double())?),
+            Written::Integer(text) => or_fault(number(self.alloc, text, word.xsd_integer())),
+            Written::Decimal(text) => or_fault(number(self.alloc, text, word.xsd_decimal())),
+            Written::Double(text) => or_fault(number(self.alloc, text, word.xsd_double())),
             Written::Boolean(value, _) => {
-                Ok(boolean(self.alloc, &mut self.literals, *value, word.xsd_boolean())?)
+                or_fault(boolean(self.alloc, &mut self.literals, *value, word.xsd_boolean()))
             }
         }
     }

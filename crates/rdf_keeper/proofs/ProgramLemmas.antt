@@ -3,7 +3,8 @@ use Rattle.std.proofs.Common.{◌≡◌, ◌≢◌, append_assoc, ◌∙◌, ref
 use Rattle.std.specs.Prelude.{Result, Ok, Err, IfOk, MatchResult, is_err}
 use Rattle.std.specs.Io.KnownBytes.{Appends}
 use Rattle.rdf_streams.specs.Streams.{WritesTo}
-use Rattle.rdf_keeper.specs.Inside.Outcomes.{status_of, error_line}
+use Rattle.rdf_keeper.specs.Inside.Outcomes.{TellsEnding, status_of, error_line}
+use Rattle.rdf_keeper.specs.Inside.Told.{IsShown}
 use Rattle.rdf_streams.specs.declared.streams.writing.WriteFault.{WriteFault}
 use Rattle.rdf_keeper.specs.declared.program.outcome.Outcome.{Outcome}
 use Rattle.rdf_keeper.specs.declared.program.outcome.Outcome.TheVariants.{Done, SomeRefused, BadDocument, BadText, BadWords, BadBase, BadData, NotState, ReadFailed, WriteFailed, NoMemory, ParserNoMemory}
@@ -40,6 +41,28 @@ pub stays_quiet : (before mid after : Option (List ℕ)) (o : Outcome) → statu
 stays_quiet before mid after o zero so_far (front, more, parts, wrote) =
     let none = first_nil front more (sym (no_line o zero) ∙ parts) in
     Appends-chain before mid after [] [] so_far (subst (Appends mid after) none wrote)
+
+-- ---- the line of an ending, behind nothing else
+
+pub ends_well : (o : Outcome) → status_of o ≡ 0 → o ≢ BadWords
+ends_well o zero e = let bad : status_of BadWords ≡ 0 = sym (ap status_of e) ∙ zero in cc
+
+shown_behind : (before mid after : Option (List ℕ)) (text : List ℕ) → Appends before mid [] → (front more : List ℕ) × (text ≡ front ++ more) × Appends mid after front → IsShown before text after
+shown_behind before mid after text so_far (front, more, parts, wrote) = (front, more, parts, Appends-chain before mid after [] front so_far wrote)
+
+pub ending_told : (before mid after : Option (List ℕ)) (o : Outcome) → (o ≢ BadWords → Appends before mid []) → (front more : List ℕ) × (error_line o ≡ front ++ more) × Appends mid after front → TellsEnding o before after
+ending_told before mid after BadWords quiet told = tt
+ending_told before mid after Done quiet told = shown_behind before mid after _ (quiet (λ e. cc)) told
+ending_told before mid after SomeRefused quiet told = shown_behind before mid after _ (quiet (λ e. cc)) told
+ending_told before mid after (BadDocument at) quiet told = shown_behind before mid after _ (quiet (λ e. cc)) told
+ending_told before mid after (BadText fault) quiet told = shown_behind before mid after _ (quiet (λ e. cc)) told
+ending_told before mid after BadBase quiet told = shown_behind before mid after _ (quiet (λ e. cc)) told
+ending_told before mid after (BadData fault) quiet told = shown_behind before mid after _ (quiet (λ e. cc)) told
+ending_told before mid after NotState quiet told = shown_behind before mid after _ (quiet (λ e. cc)) told
+ending_told before mid after ReadFailed quiet told = shown_behind before mid after _ (quiet (λ e. cc)) told
+ending_told before mid after WriteFailed quiet told = shown_behind before mid after _ (quiet (λ e. cc)) told
+ending_told before mid after (NoMemory refused) quiet told = shown_behind before mid after _ (quiet (λ e. cc)) told
+ending_told before mid after ParserNoMemory quiet told = shown_behind before mid after _ (quiet (λ e. cc)) told
 
 -- ---- a line in two parts
 

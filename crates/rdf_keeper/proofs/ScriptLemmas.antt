@@ -2,6 +2,7 @@
 pub mod CommandLaws
 pub mod Cuts
 pub mod EarlyRuns
+pub mod Ends
 pub mod Examples
 pub mod Feeds
 pub mod FirstEnds

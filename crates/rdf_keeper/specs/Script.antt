@@ -3,6 +3,7 @@ pub mod Answers
 pub mod CommandLaws
 pub mod Commands
 pub mod EarlyRuns
+pub mod EndLaws
 pub mod LineLaws
 pub mod LineWords
 pub mod Lines

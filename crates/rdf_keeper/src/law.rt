@@ -4,6 +4,7 @@
 ghost use Rattle.rdf_keeper.specs.Program.Order.{FilesInOrder};
 ghost use Rattle.rdf_keeper.specs.Script.CommandLaws.{BodiesAreTexts, BodiesAsk, ChangesTell, CommentsAskNothing, EndsAreLines, FormatsAsk, LinesTell, NamesAsk, NamesOfMarks, OpenBodies, OthersAreBad, StatusesTell, WordsAsk};
 ghost use Rattle.rdf_keeper.specs.Script.EarlyRuns.{EarlyRunsAgree};
+ghost use Rattle.rdf_keeper.specs.Script.EndLaws.{AcceptedToTheEnd, FaultsAreTold, ReadFaultsCame, RefusedWithoutFaults, WriteFaultsCame};
 ghost use Rattle.rdf_keeper.specs.Script.Promised.{AnswersAreTransitions, ScriptsArePromised, UndoneInAScript, RedoneInAScript};
 ghost use Rattle.rdf_keeper.specs.Script.Refusals.{RefusedAnswersLeave};
 ghost use Rattle.rdf_keeper.specs.Script.LineLaws.{LinesAreTheText, LinesAreEnded, OneCut};
@@ -94,6 +95,17 @@ pub fn each_call_has_its_place()
     ensures ends { NothingIsReadBehindTheEnd }
     ensures failures { NothingComesBehindAFailure }
     ensures writes { WritesAreAnswers }
+{}
+
+/// What the status of a session tells of its end, by the log of [`crate::run_on`]. A call that fails is the last, and its fault is
+/// told; a fault is told only of such a call, or of so many read calls that found no end. A script is accepted only where its end was
+/// read and no call failed, and refused only where none did.
+pub fn the_status_tells_the_end()
+    ensures faults { FaultsAreTold }
+    ensures write_faults { WriteFaultsCame }
+    ensures read_faults { ReadFaultsCame }
+    ensures accepted { AcceptedToTheEnd }
+    ensures refused { RefusedWithoutFaults }
 {}
 
 /// The lines of a script, one after another, are its text. An LF ends each of them but perhaps the last, and stands nowhere

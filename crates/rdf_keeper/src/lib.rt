@@ -19,6 +19,7 @@ pub use law::{
     a_word_is_a_session_in_small, commands_are_as_listed, each_call_has_its_place,
     early_runs_agree, files_are_opened_in_order, pieces_are_the_script,
     printed_lines_are_documents, refused_answers_leave, script_lines_are_the_text,
+    the_status_tells_the_end,
 };
 pub use program::{Folder, start, start_over};
 pub use rdf_lines::StateFault;
@@ -29,5 +30,6 @@ pub use rdf_session::{
 };
 pub use rdf_streams::{
     ConvertFault, Device, DocumentFault, a_document_has_one_conversion, check, convert,
+    documents_are_those_that_a_session_loads,
 };
 pub use script::{Feed, Settings, Status, run, run_on, run_within};

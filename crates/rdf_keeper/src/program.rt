@@ -3,13 +3,14 @@ ghost use Rattle.std.specs.Prelude.{◌≡◌, ◌≢◌, ◌≤◌, [], IsTrue,
 ghost use Rattle.std.specs.Option.{option_copied};
 ghost use Rattle.std.specs.Io.KnownBytes.{Appends};
 ghost use Rattle.rdf_keeper.specs.Inside.Once.{WritesOut};
-ghost use Rattle.rdf_keeper.specs.Inside.Outcomes.{status_of};
+ghost use Rattle.rdf_keeper.specs.Inside.Outcomes.{TellsEnding, status_of};
 ghost use Rattle.rdf_keeper.specs.Program.Openings.{anything};
 ghost use Rattle.rdf_keeper.specs.Program.Sessions.{BeginsRun, GivesBase};
 ghost use Rattle.rdf_keeper.specs.Program.Words.{ConvertsAll, ConvertsBytes, Does, DoesAsked, Runs, RunsScript};
 ghost use Rattle.rdf_keeper.specs.Progress.{AsksProgress};
 ghost use Rattle.rdf_keeper.specs.declared.program.folder.HostFolder.{HostFolder};
 ghost use Rattle.rdf_keeper.specs.declared.program.outcome.Outcome.{Outcome};
+ghost use Rattle.rdf_keeper.specs.declared.program.outcome.Outcome.TheVariants.{BadWords};
 
 mod check;
 mod data;
@@ -273,7 +274,7 @@ fn answer_words<F: Folder, R: Read + Drop, W: Write, E: Write>(
         (W.contents writer.new) folder.old result folder.new }
     ensures silent { status_of result ≡ 2 →
         Appends (W.contents writer.old) (W.contents writer.new) [] }
-    ensures quiet { status_of result ≡ 0 →
+    ensures quiet { result ≢ BadWords →
         (AsksProgress string_bytes words.now → ⊥) →
         Appends (E.contents errors.old) (E.contents errors.new) [] }
 {
@@ -305,7 +306,9 @@ pub fn start<T: Files + AllocGlobal, R: Read + Drop, W: Write, E: Write>(
     ensures does { (before after : HostFolder T) × (outcome : Outcome)
         × (result ≡ status_of outcome)
         × DoesAsked anything (R.remaining reader) (W.contents writer.old) (W.contents writer.new)
-        before outcome after }
+        before outcome after
+        × ((AsksProgress string_bytes words.now → ⊥) →
+        TellsEnding outcome (E.contents errors.old) (E.contents errors.new)) }
     ensures status { result ≤ 4 }
     ensures silent { result ≡ 2 → Appends (W.contents writer.old) (W.contents writer.new) [] }
     ensures quiet { result ≡ 0 →
@@ -339,10 +342,12 @@ pub fn start_over<F: Folder, R: Read + Drop, W: Write, E: Write>(
     writer: &mut W,
     errors: &mut E,
 ) -> u8
-    // it opens, reads and writes what the words ask for, up to the first fault
+    // it opens, reads and writes what the words ask for, up to the first fault, of which the line is told on standard error
     ensures does { (outcome : Outcome) × (result ≡ status_of outcome)
         × DoesAsked F.step (R.remaining reader) (W.contents writer.old) (W.contents writer.new)
-        folder.old outcome folder.new }
+        folder.old outcome folder.new
+        × ((AsksProgress string_bytes words.now → ⊥) →
+        TellsEnding outcome (E.contents errors.old) (E.contents errors.new)) }
     ensures status { result ≤ 4 }
     // where the words, the base or the start data are wrong, nothing is written
     ensures silent { result ≡ 2 → Appends (W.contents writer.old) (W.contents writer.new) [] }

@@ -33,6 +33,7 @@ mod CanonicalLemmas
 mod SuffixSlices
 mod SuffixSteps
 mod TermLemmas
+mod WriteSteps
 mod WrittenFedLemmas
 mod WrittenLabelLemmas
 mod WrittenLineLemmas

@@ -1,4 +1,5 @@
 pub mod CheckLemmas
 pub mod ConversionLemmas
 pub mod DeviceLemmas
+pub mod DocumentLemmas
 pub mod StreamLemmas

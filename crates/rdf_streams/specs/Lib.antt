@@ -1,5 +1,6 @@
 pub mod Checks
 pub mod Conversion
 pub mod Devices
+pub mod DocumentLaws
 pub mod Inside
 pub mod Streams

@@ -11,7 +11,7 @@ mod streams;
 
 pub use checking::check;
 pub use conversion::{ConvertFault, DocumentFault, convert};
-pub use law::a_document_has_one_conversion;
+pub use law::{a_document_has_one_conversion, documents_are_those_that_a_session_loads};
 pub use streams::{
     Device, Ending, Lent, LentWriter, READ_CALLS, WriteFault, read_all, write_on, write_whole,
 };

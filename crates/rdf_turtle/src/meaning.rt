@@ -1,8 +1,9 @@
 //! The triples of a tree.
-ghost use Rattle.std.specs.Prelude.{◌≡◌, true, false, IfOk, OnOk, IsTrue, map};
+ghost use Rattle.std.specs.Prelude.{◌≡◌, [], true, false, IfOk, OnOk, IsTrue, map};
 ghost use Rattle.std.specs.List.{list_all};
 ghost use Rattle.std.specs.Option.{option_copied};
 ghost use Rattle.rdf_terms.specs.Term.{is_literal_term};
+ghost use Rattle.rdf_terms.specs.Vocabulary.{rdf_first, rdf_rest};
 ghost use Rattle.rdf_turtle.specs.Blanks.{BlankNumbersAreBelow};
 ghost use Rattle.rdf_turtle.specs.Inside.Cells.{next_cell};
 ghost use Rattle.rdf_turtle.specs.Known as known;
@@ -89,7 +90,7 @@ impl<'a, S: TripleSink> Scope<'a, S> {
                 [first, rest @ ..] => {
                     let predicate = self.vocabulary.rdf_first().copy()?;
                     self.object(term, &predicate, first)?;
-                    self.behind(term, rest)
+                    self.behind(term, &predicate, rest)
                 }
             },
             Node::Name(_) | Node::Label(_) | Node::Literal(_) => Ok(()),
@@ -156,11 +157,24 @@ impl<'a, S: TripleSink> Scope<'a, S> {
         Ok(next)
     }
 
+    // The last cell has nothing behind it.
+    fn end_list(&mut self, cell: &Term, rest: &Iri) -> Result<(), PrologueFault>
+        requires subject { is_literal_term cell.now ≡ false }
+        requires predicate { rest.now ≡ rdf_rest }
+        ensures gives { GivesOrMisses (spec.behind cell.now [] self.old) result self.new }
+        ensures prologue { self.new.prologue ≡ self.old.prologue }
+        ensures room { OnOk result (TakesAtMost 0 self.old self.new) }
+    {
+        let nil = Term::Iri(self.vocabulary.rdf_nil().copy()?);
+        Ok(self.says(cell, rest, nil)?)
+    }
+
     // The cells behind one, and what is inside their elements.
     #[cycle(inside)]
-    fn behind(&mut self, cell: &Term, items: &[Node<'a>]) -> Result<(), PrologueFault>
+    fn behind(&mut self, cell: &Term, first: &Iri, items: &[Node<'a>]) -> Result<(), PrologueFault>
         requires proper { IsTrue (list_all holds (map proper.proper_node items.now)) }
         requires subject { is_literal_term cell.now ≡ false }
+        requires predicate { first.now ≡ rdf_first }
         requires room { HasRoom 0 self.old }
         ensures gives { let says = spec.behind cell.now (map spec.meaning items.now) in
             GivesOrMisses (says self.old) result self.new }
@@ -169,15 +183,13 @@ impl<'a, S: TripleSink> Scope<'a, S> {
         ensures prologue { self.new.prologue ≡ self.old.prologue }
         ensures room { OnOk result (TakesAtMost 0 self.old self.new) }
     {
-        let first = self.vocabulary.rdf_first().copy()?;
         let rest = self.vocabulary.rdf_rest().copy()?;
         let mut cell = cell.copy()?;
         for item in items {
-            let next = self.next_cell(&cell, &rest, &first, item)?;
+            let next = self.next_cell(&cell, &rest, first, item)?;
             cell = next;
         }
-        let nil = Term::Iri(self.vocabulary.rdf_nil().copy()?);
-        Ok(self.says(&cell, &rest, nil)?)
+        self.end_list(&cell, &rest)
     }
 
     #[cycle(inside)]

@@ -1,3 +1,4 @@
+mod GraphLawLemmas
 mod GraphLemmas
 mod LawLemmas
 mod ModifyLawLemmas

@@ -1,4 +1,5 @@
 pub mod Faults
+pub mod GraphLaws
 pub mod Graphs
 pub mod Inside
 pub mod Laws

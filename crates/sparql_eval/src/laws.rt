@@ -1,4 +1,5 @@
 //! Laws over the definitions alone.
+ghost use Rattle.sparql_eval.specs.GraphLaws.{GraphsLeft, GraphsMeant, GraphsWanted, PatternsLookedFor};
 ghost use Rattle.sparql_eval.specs.Laws.{CopyReads, DropAllEmpties, EachSolutionHasItsOwnBlankNodes, InsertAgain, InsertDataIsModify, ModifyDeletesThenInserts, MoveIsCopyThenDrop, OneAnswer, OthersStay, SilentChangesNothing};
 ghost use Rattle.sparql_eval.specs.TemplateLaws.{GraphTable, InstancesAreOfTheirTemplate};
 
@@ -60,4 +61,16 @@ pub fn insert_data_is_modify()
 pub fn templates_stand_in_their_graph()
     ensures graphs { GraphTable }
     ensures instances { InstancesAreOfTheirTemplate }
+{}
+
+/// The operations on graphs, graph by graph (SPARQL 1.1 Update, section 3.2): which graphs CLEAR and DROP
+/// mean; that CREATE brings a graph without a quad, CLEAR leaves the graphs there that it empties, DROP
+/// doesn't, COPY and ADD make their second graph though the first is empty, and ADD takes nothing away;
+/// and where each is refused. The pattern of DELETE/INSERT is looked for in the graph of WITH (section
+/// 3.1.3).
+pub fn operations_are_of_their_graphs()
+    ensures meant { GraphsMeant }
+    ensures left { GraphsLeft }
+    ensures wanted { GraphsWanted }
+    ensures patterns { PatternsLookedFor }
 {}

@@ -20,7 +20,8 @@ pub use fault::ApplyFault;
 pub use laws::{
     copy_reads, drop_all_empties, each_solution_has_its_own_blank_nodes, insert_again,
     insert_data_is_modify, modify_deletes_then_inserts, move_is_copy_then_drop, one_answer,
-    others_stay, silent_changes_nothing, templates_stand_in_their_graph,
+    operations_are_of_their_graphs, others_stay, silent_changes_nothing,
+    templates_stand_in_their_graph,
 };
 pub use net::net_of_request;
 pub use request::{apply, apply_with};

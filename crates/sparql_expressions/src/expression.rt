@@ -1,17 +1,16 @@
 //! Expressions (SPARQL 1.1 Query, section 19.8), a reader for each production. What stands in
 //! parentheses is a recursion, and operands between equal operators are a loop.
 
-ghost use Rattle.std.specs.Prelude.{◌≡◌, ◌≢◌, ◌≤◌, ◌<◌, [], ◌∷◌, length, IfOk, OnOk, MatchResult};
+ghost use Rattle.std.specs.Prelude.{◌≡◌, ◌≢◌, ◌≤◌, ◌<◌, [], ◌∷◌, length, OnOk, MatchResult};
 ghost use Rattle.rdf_grammar.specs.Readings.{Reads};
 ghost use Rattle.sparql_expressions.specs.ExpressionReading as spec;
 
 use crate::choice::{begins_addend, comparison, function, sign};
 use crate::tree::{Expression, Literal};
 use rdf_grammar::{GrammarFault, iri, literal};
-use rdf_terms::{Items, NoMemory};
+use rdf_terms::Items;
 use sparql_terminals::{Parser, Terminal};
 use sparql_trees::{Boxed, Sign};
-use std::alloc::Global;
 
 // The only one of these operands, or all of them where there are more.
 fn alone<'a>(operands: Items<Expression<'a>>) -> Result<Expression<'a>, Items<Expression<'a>>>
@@ -27,17 +26,6 @@ fn alone<'a>(operands: Items<Expression<'a>>) -> Result<Expression<'a>, Items<Ex
         Some(only) => Ok(only),
         None => Err(Items::from_vec(all)),
     }
-}
-
-// Two operands, each in a box of its own.
-fn boxed<'a>(
-    alloc: Global,
-    left: Expression<'a>,
-    right: Expression<'a>,
-) -> Result<(Boxed<Expression<'a>>, Boxed<Expression<'a>>), NoMemory>
-    ensures { IfOk result (λ both. both ≡ (left.entry, right.entry)) }
-{
-    Ok((Boxed::new(alloc, left)?, Boxed::new(alloc, right)?))
 }
 
 // "(" Var ")", behind BOUND
@@ -56,14 +44,13 @@ fn bound<'a>(parser: &mut Parser<'_, 'a>) -> Result<Expression<'a>, GrammarFault
 #[tactic(auto, unfolding(crate::specs::ExpressionReading::same_term_of))]
 fn same_term_of<'a>(
     parser: &mut Parser<'_, 'a>,
-    left: Expression<'a>,
-    right: Expression<'a>,
+    left: Boxed<Expression<'a>>,
+    right: Boxed<Expression<'a>>,
 ) -> Result<Expression<'a>, GrammarFault>
     ensures reads { Reads (spec.same_term_of left.entry right.entry parser.old) result parser.new }
     ensures shorter { OnOk result (length parser.new < length parser.old) }
 {
     parser.expect(Terminal::Close)?;
-    let (left, right) = boxed(parser.alloc(), left, right)?;
     Ok(Expression::SameTerm(left, right))
 }
 
@@ -157,8 +144,9 @@ fn relational<'a>(parser: &mut Parser<'_, 'a>, depth: usize) -> Result<Expressio
         return Ok(left);
     };
     parser.pass();
+    let left = Boxed::new(parser.alloc(), left)?;
     let right = additive(parser, depth)?;
-    let (left, right) = boxed(parser.alloc(), left, right)?;
+    let right = Boxed::new(parser.alloc(), right)?;
     Ok(Expression::Compare(operator, left, right))
 }
 
@@ -341,6 +329,7 @@ fn same_term<'a>(parser: &mut Parser<'_, 'a>, depth: usize) -> Result<Expression
 {
     parser.expect(Terminal::Open)?;
     let left = expression(parser, depth)?;
+    let left = Boxed::new(parser.alloc(), left)?;
     second_term(parser, depth, left)
 }
 
@@ -350,7 +339,7 @@ fn same_term<'a>(parser: &mut Parser<'_, 'a>, depth: usize) -> Result<Expression
 fn second_term<'a>(
     parser: &mut Parser<'_, 'a>,
     depth: usize,
-    left: Expression<'a>,
+    left: Boxed<Expression<'a>>,
 ) -> Result<Expression<'a>, GrammarFault>
     ensures reads { Reads
         (spec.second_term (spec.expression depth) left.entry parser.old) result parser.new }
@@ -358,6 +347,7 @@ fn second_term<'a>(
 {
     parser.expect(Terminal::Comma)?;
     let right = expression(parser, depth)?;
+    let right = Boxed::new(parser.alloc(), right)?;
     same_term_of(parser, left, right)
 }
 

@@ -1,6 +1,14 @@
 -- What stays of a list that only grows, step by step.
 use Rattle.std.proofs.Common.{◌≡◌, ◌∙◌, ap, sym, ℕ, List, ◌++◌, length, take, drop, take-append-drop, append_assoc}
+use Rattle.std.proofs.Math.Seq.{take-append_seam}
 use Rattle.rdf_terms.proofs.CallerLemmas.{kept_on}
+
+-- `new` is `old` and what came behind it, in one step, and in two
+pub kept_before : (old xs new : List ℕ) → new ≡ old ++ xs → take (length old) new ≡ old
+kept_before old xs new e = ap (λ (t : List ℕ). take (length old) t) e ∙ take-append_seam old xs
+
+pub kept_before_two : (old xs ys a new : List ℕ) → a ≡ old ++ xs → new ≡ a ++ ys → take (length old) new ≡ old
+kept_before_two old xs ys a new first second = kept_on old xs a new first (kept_before a ys new second)
 
 -- `new` begins with `mid`, and `mid` with `old`
 pub kept_through : (old mid new : List ℕ) → take (length old) mid ≡ old → take (length mid) new ≡ mid → take (length old) new ≡ old

@@ -30,10 +30,7 @@ fn append_json_blank(alloc: Global, number: u64, out: &mut Vec<u8>) -> Result<()
     ensures kept { take (length out.old.items) out.new.items ≡ out.old.items }
 {
     let label = format!(in alloc; "b{number}")?;
-    out.extend_from_slice(b"{\"type\":\"bnode\",\"value\":")?;
-    append_json_string(label.as_bytes(), out)?;
-    out.push(b'}')?;
-    Ok(())
+    append_json_object(b"{\"type\":\"bnode\",\"value\":", label.as_bytes(), out)
 }
 
 fn append_json_iri(iri: &Iri, out: &mut Vec<u8>) -> Result<(), NoMemory>
@@ -41,18 +38,43 @@ fn append_json_iri(iri: &Iri, out: &mut Vec<u8>) -> Result<(), NoMemory>
         ++ codes "{\"type\":\"uri\",\"value\":" ++ json_string iri.now ++ codes "}") }
     ensures kept { take (length out.old.items) out.new.items ≡ out.old.items }
 {
-    out.extend_from_slice(b"{\"type\":\"uri\",\"value\":")?;
-    append_json_string(iri.as_str().as_bytes(), out)?;
+    append_json_object(
+        b"{\"type\":\"uri\",\"value\":",
+        iri.as_str().as_bytes(),
+        out,
+    )
+}
+
+// Appends an object of a type and a value; the type stands in what opens it.
+fn append_json_object(opener: &[u8], value: &[u8], out: &mut Vec<u8>) -> Result<(), NoMemory>
+    ensures ok { OnOk result (out.new.items
+        ≡ out.old.items ++ opener.now ++ json_string value.now ++ codes "}") }
+    ensures kept { take (length out.old.items) out.new.items ≡ out.old.items }
+{
+    append_json_field(opener, value, out)?;
     out.push(b'}')?;
     Ok(())
+}
+
+// Appends a name, and the string behind it.
+fn append_json_field(name: &[u8], value: &[u8], out: &mut Vec<u8>) -> Result<(), NoMemory>
+    ensures ok { OnOk result (out.new.items
+        ≡ out.old.items ++ name.now ++ json_string value.now) }
+    ensures kept { take (length out.old.items) out.new.items ≡ out.old.items }
+{
+    out.extend_from_slice(name)?;
+    append_json_string(value, out)
 }
 
 fn append_json_literal(literal: &Literal, out: &mut Vec<u8>) -> Result<(), NoMemory>
     ensures ok { OnOk result (out.new.items ≡ out.old.items ++ json_literal literal.now) }
     ensures kept { take (length out.old.items) out.new.items ≡ out.old.items }
 {
-    out.extend_from_slice(b"{\"type\":\"literal\",\"value\":")?;
-    append_json_string(literal.lexical().as_bytes(), out)?;
+    append_json_field(
+        b"{\"type\":\"literal\",\"value\":",
+        literal.lexical().as_bytes(),
+        out,
+    )?;
     append_json_suffix(literal, out)?;
     out.push(b'}')?;
     Ok(())
@@ -74,8 +96,7 @@ fn append_json_tag(tag: &str, out: &mut Vec<u8>) -> Result<(), NoMemory>
         ≡ out.old.items ++ codes ",\"xml:lang\":" ++ json_string tag.now) }
     ensures kept { take (length out.old.items) out.new.items ≡ out.old.items }
 {
-    out.extend_from_slice(b",\"xml:lang\":")?;
-    append_json_string(tag.as_bytes(), out)
+    append_json_field(b",\"xml:lang\":", tag.as_bytes(), out)
 }
 
 fn append_json_datatype(datatype: &Iri, out: &mut Vec<u8>) -> Result<(), NoMemory>
@@ -85,8 +106,7 @@ fn append_json_datatype(datatype: &Iri, out: &mut Vec<u8>) -> Result<(), NoMemor
     if is_xsd_string(datatype) {
         return Ok(());
     }
-    out.extend_from_slice(b",\"datatype\":")?;
-    append_json_string(datatype.as_str().as_bytes(), out)
+    append_json_field(b",\"datatype\":", datatype.as_str().as_bytes(), out)
 }
 
 fn is_xsd_string(datatype: &Iri) -> bool

@@ -30,5 +30,6 @@ pub mod ApartLemmas
 pub mod OwnLemmas
 pub mod StepLemmas
 pub mod GrownLemmas
+pub mod OnceLemmas
 pub mod EmptyLemmas
 pub mod NameLemmas

@@ -13,6 +13,7 @@ mod chunks;
 mod counted;
 mod evaluator;
 mod filters;
+mod grown;
 mod joins;
 mod keyed;
 mod keys;

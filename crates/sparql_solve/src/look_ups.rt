@@ -5,7 +5,7 @@ ghost use Rattle.std.specs.Option.{option_copied};
 ghost use Rattle.std.specs.List.{flat_map, list_any};
 ghost use Rattle.rdf_terms.specs.declared.term.Term.{Term};
 ghost use Rattle.rdf_dataset.specs.Sorted.{ListsOnce};
-ghost use Rattle.sparql_values.specs.Mapping.{same_term};
+ghost use Rattle.sparql_values.specs.Mapping.{empty_mapping, same_term};
 ghost use Rattle.sparql_algebra.specs.Bags.{SameBag};
 ghost use Rattle.sparql_algebra.specs.Listing.{Listing, Lists};
 ghost use Rattle.sparql_algebra.specs.Results.{is_some_solution};
@@ -13,7 +13,9 @@ ghost use Rattle.sparql_solve.specs.LookUps.{looked_up};
 ghost use Rattle.sparql_solve.specs.Sides.{found, found_in, found_under, graph_where, graphs_of, look_up_in, tried};
 ghost use Rattle.sparql_solve.specs.Members.{AreSolutions};
 
-use crate::matching::{asks_same, cut_rows, matching_rows, moved_of_one, rows_of_one, some_of_one};
+use crate::matching::{
+    asks_same, cut_rows, few_of_one, matching_rows, moved_of_one, rows_of_one, some_of_one,
+};
 use crate::place::{Places, all_places};
 use crate::rows::{Row, copy_value};
 use crate::sorted_names::SortedNames;
@@ -120,6 +122,16 @@ pub(crate) fn look_up_of_names(alloc: Global, graphs: Graphs) -> LookUp
     }
 }
 
+// The only triple pattern.
+fn only_pattern(look_up: &LookUp) -> Option<&Places>
+    ensures { IfSome (option_copied result) (λ p. look_up.now.places ≡ p ∷ []) }
+{
+    match look_up.places.as_slice() {
+        [places] => Some(places),
+        _ => None,
+    }
+}
+
 // The only triple pattern, where there are no hidden variables.
 fn lone_pattern(look_up: &LookUp) -> Option<&Places>
     ensures alone { IfSome (option_copied result) (λ p. look_up.now.places ≡ p ∷ []) }
@@ -128,10 +140,7 @@ fn lone_pattern(look_up: &LookUp) -> Option<&Places>
     if look_up.hidden != 0 {
         return None;
     }
-    match look_up.places.as_slice() {
-        [places] => Some(places),
-        _ => None,
-    }
+    only_pattern(look_up)
 }
 
 // What is found in one graph under the row, which is moved on.
@@ -343,4 +352,31 @@ pub(crate) fn some_found<S: Source>(
         }
     }
     found_rows(alloc, variables, source, look_up, row)
+}
+
+/// What is looked up by itself, whatever rows bind, where it is one triple pattern in one graph that
+/// has fewer triples than so many: no more of them are looked at.
+pub(crate) fn few_found<S: Source>(
+    alloc: Global,
+    variables: &SortedNames,
+    source: &S,
+    look_up: &LookUp,
+    most: usize,
+) -> Result<Option<Vec<Row>>, NoMemory>
+    ensures { IfOk result (λ few. IfSome few (λ out. AreSolutions (S.contents source.now) out.items
+        (λ d. found variables.now d look_up.now (empty_mapping variables.now)))) }
+{
+    let Graphs::One(graph) = &look_up.graphs else {
+        return Ok(None);
+    };
+    let Some(places) = only_pattern(look_up) else {
+        return Ok(None);
+    };
+    let unbound = Row::unbound(alloc, variables)?;
+    let nothing = unbound.widen(alloc, look_up.hidden)?;
+    let Some(rows) = few_of_one(alloc, graph, source, places, &nothing, most)? else {
+        return Ok(None);
+    };
+    let shown = cut_rows(alloc, rows, variables.len())?;
+    Ok(Some(shown))
 }

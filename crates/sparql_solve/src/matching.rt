@@ -1,6 +1,6 @@
 //! Basic graph patterns: the rows under which every instance lies in the graph
 //! (SPARQL 1.1 Query, section 18.3.1), by look-ups.
-ghost use Rattle.std.specs.Prelude.{◌≡◌, ◌++◌, ◌<◌, [], IfOk, IsTrue, None, OnOk, Some, cond, length, map, take};
+ghost use Rattle.std.specs.Prelude.{◌≡◌, ◌++◌, ◌<◌, [], IfOk, IfSome, IsTrue, None, OnOk, Some, cond, length, map, take};
 ghost use Rattle.std.specs.List.{list_all};
 ghost use Rattle.rdf_dataset.specs.Sorted.{ListsOnce};
 ghost use Rattle.rdf_dataset.specs.State.{AppendsSome};
@@ -9,6 +9,7 @@ ghost use Rattle.sparql_algebra.specs.Results.{is_some_solution};
 ghost use Rattle.sparql_solve.specs.Matching.{AsksSame, has_held, matched, matches_of, stepped, matching, quads_under};
 ghost use Rattle.sparql_solve.specs.Members.{AreSolutions};
 
+use crate::grown::{copies_grown, row_grown};
 use crate::place::{Place, Places};
 use crate::rows::Row;
 use rdf_dataset::Source;
@@ -189,7 +190,7 @@ pub(crate) fn rows_of_one<S: Source>(
         (λ d. matches_of (d.quads graph.now) places.now row.now)) }
 {
     let quads = quads_of(alloc, graph, source, places, row)?;
-    copies_matched(alloc, row, places, &quads)
+    copies_grown(alloc, row, places, quads)
 }
 
 /// The rows that one triple pattern makes of a row, by a look-up of its triples: the last one of the
@@ -205,9 +206,28 @@ pub(crate) fn moved_of_one<S: Source>(
         (λ d. matches_of (d.quads graph.now) places.now row)) }
 {
     let found = quads_of(alloc, graph, source, places, &row)?;
-    let mut out = Vec::new(alloc);
-    append_matches(alloc, row, places, &found, &mut out)?;
-    Ok(out)
+    row_grown(alloc, row, places, found)
+}
+
+/// The rows that one triple pattern makes of a row, if it has fewer triples than so many: no more of
+/// them are looked at.
+pub(crate) fn few_of_one<S: Source>(
+    alloc: Global,
+    graph: &GraphName,
+    source: &S,
+    places: &Places,
+    row: &Row,
+    most: usize,
+) -> Result<Option<Vec<Row>>, NoMemory>
+    ensures { IfOk result (λ few. IfSome few (λ out. AreSolutions (S.contents source.now) out.items
+        (λ d. matches_of (d.quads graph.now) places.now row.now))) }
+{
+    let found = few_quads_of(alloc, graph, source, places, row, most)?;
+    if found.are_all {
+        let rows = copies_grown(alloc, row, places, found.quads)?;
+        return Ok(Some(rows));
+    }
+    Ok(None)
 }
 
 /// Some of the rows that one triple pattern makes of a row, one at least where there are any: a quad

@@ -348,6 +348,22 @@ impl Row {
         Ok(true)
     }
 
+    /// Moves the term to the place, and answers whether it may stand there: nothing else does. Where the
+    /// place is known to have it, no term is compared.
+    pub(crate) fn put(&mut self, place: &Place, term: Term, is_known: bool) -> bool
+        requires { IsTrue is_known → assigned self.old place.now term ≡ Some self.old }
+        ensures { assigned self.old place.now term ≡ cond result (Some self.new) None }
+    {
+        if is_known {
+            return true;
+        }
+        let Some(column) = self.vacant(place) else {
+            return self.admits(place, &term);
+        };
+        self.set(column, term);
+        true
+    }
+
     /// Puts the term at the column, if there is one, and answers whether it may stand there: nothing
     /// else does.
     pub(crate) fn bind(&mut self, column: Option<usize>, term: &Term) -> Result<bool, NoMemory>

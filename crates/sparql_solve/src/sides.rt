@@ -1,13 +1,14 @@
 //! What members make of rows: of their merges with what was looked up or found for them (SPARQL 1.1
 //! Query, section 18.5).
-ghost use Rattle.std.specs.Prelude.{◌≡◌, ◌&&◌, ◌<◌, ◌∷◌, [], false, IfOk, IsTrue, length, map};
+ghost use Rattle.std.specs.Prelude.{◌≡◌, ◌&&◌, ◌<◌, ◌∷◌, [], false, IfOk, IfSome, IsTrue, length, map};
 ghost use Rattle.std.specs.List.{flat_map};
 ghost use Rattle.sparql_algebra.specs.Algebra.{element};
 ghost use Rattle.sparql_algebra.specs.Bags.{SameBag};
 ghost use Rattle.sparql_algebra.specs.Solutions.{merges, or_alone};
 ghost use Rattle.sparql_algebra.specs.Under.{agreeing};
-ghost use Rattle.sparql_values.specs.Mapping.{merge};
-ghost use Rattle.sparql_solve.specs.Members.{element_solutions};
+ghost use Rattle.sparql_values.specs.Mapping.{empty_mapping, merge};
+ghost use Rattle.sparql_solve.specs.Members.{AreSolutions, element_solutions};
+ghost use Rattle.sparql_solve.specs.Sides.{found};
 ghost use Rattle.sparql_solve.specs.Steps.{Begins};
 ghost use Rattle.sparql_solve.specs.Under.{AreEnough, AreMade, IsLookUpFor, IsLookUpOf, asked, binds_none, counting, is_removed, kept, masked, met, own_columns, where_none};
 
@@ -15,8 +16,9 @@ use crate::above::Above;
 use crate::basic::{is_unbound_in, own_columns};
 use crate::filters::filtered_rows;
 use crate::joins::{join, left_join, or_alone};
-use crate::look_ups::{Graphs, LookUp, asks_all_same, found_rows, grown_rows, some_found};
-use crate::matching::few_quads_of;
+use crate::look_ups::{
+    Graphs, LookUp, asks_all_same, few_found, found_rows, grown_rows, some_found,
+};
 use crate::members::{is_joined, is_removed};
 use crate::minus::minus;
 use crate::rows::Row;
@@ -475,48 +477,48 @@ fn first_looked_up<S: Source>(
     rows_one_by_one(alloc, variables, vocabulary, &served, &found, member, under)
 }
 
-// Whether what is looked up is one triple pattern that has so few triples in the graph, whatever rows
-// bind, that these are found once for all of the rows. It looks at no more of them to see that.
-fn is_small<S: Source>(
+// What is looked up once for all of the rows, where it is one triple pattern that has so few triples,
+// whatever rows bind, that these are found faster than under each row.
+fn found_once<S: Source>(
     alloc: Global,
+    variables: &SortedNames,
     source: &S,
     look_up: &LookUp,
     rows: &[Row],
-) -> Result<bool, NoMemory> {
-    let Graphs::One(graph) = &look_up.graphs else {
-        return Ok(false);
-    };
+) -> Result<Option<Vec<Row>>, NoMemory>
+    ensures { IfOk result (λ few. IfSome few (λ out. AreSolutions (S.contents source.now) out.items
+        (λ d. found variables.now d look_up.now (empty_mapping variables.now)))) }
+{
     let [places] = look_up.places.as_slice() else {
-        return Ok(false);
+        return Ok(None);
     };
-    let Some(most) = few_beside(look_ups_under(rows, places)) else {
-        return Ok(false);
-    };
-    let nothing = Row::empty(alloc, 0, 0)?;
-    let few = few_quads_of(alloc, graph, source, places, &nothing, most)?;
-    Ok(few.are_all)
+    match few_beside(look_ups_under(rows, places)) {
+        Some(most) => few_found(alloc, variables, source, look_up, most),
+        None => Ok(None),
+    }
 }
 
 // What a member makes of rows with what is looked up once for all of them, and joined by key.
-fn rows_found_once<S: Source>(
+fn rows_joined_once<S: Source>(
     alloc: Global,
     variables: &SortedNames,
     vocabulary: &Vocabulary,
     _graph: &GraphName,
-    source: &S,
+    _source: &S,
     rows: &[Row],
-    look_up: &LookUp,
+    all: &[Row],
+    _look_up: &LookUp,
     member: &Member,
     under: &Above,
 ) -> Result<Vec<Row>, NoMemory>
-    requires { IsLookUpOf variables.now (S.contents source.now) look_up.now
+    requires gives { IsLookUpOf variables.now (S.contents _source.now) _look_up.now
         (λ d. element_solutions variables.now d _graph.now (element member.now)) }
-    ensures { IfOk result (λ out. AreMade variables.now (S.contents source.now) _graph.now under.now
+    requires found { AreSolutions (S.contents _source.now) all.now
+        (λ d. found variables.now d _look_up.now (empty_mapping variables.now)) }
+    ensures { IfOk result (λ out. AreMade variables.now (S.contents _source.now) _graph.now under.now
         (element member.now) rows.now out.items) }
 {
-    let nothing = Row::unbound(alloc, variables)?;
-    let found = found_rows(alloc, variables, source, look_up, &nothing)?;
-    rows_beside(alloc, variables, vocabulary, rows, &found, member, under)
+    rows_beside(alloc, variables, vocabulary, rows, all, member, under)
 }
 
 /// What a member makes of rows by look-ups under each of them, or by one for all of them where it is
@@ -540,9 +542,9 @@ pub(crate) fn rows_looked_up<S: Source>(
     ensures { IfOk result (λ b. Begins variables.now (S.contents source.now) graph.now under.now
         (element member.now) rows.items b.rows.items b.rest.items) }
 {
-    if is_small(alloc, source, look_up, &rows)? {
-        let once = rows_found_once(
-            alloc, variables, vocabulary, graph, source, &rows, look_up, member, under,
+    if let Some(found) = found_once(alloc, variables, source, look_up, &rows)? {
+        let once = rows_joined_once(
+            alloc, variables, vocabulary, graph, source, &rows, &found, look_up, member, under,
         )?;
         return Ok(all_made(alloc, once));
     }

@@ -99,19 +99,19 @@ literal_is_of_kind = of_kind fault.LiteralSubject (λ k _. is_literal k)
 
 -- ---- what the rules allow
 
-abbrev no_blank : Allows
+abbrev pub no_blank : Allows
 no_blank = record { variable = true; blank = false; literal = true }
 
-abbrev no_variable : Allows
+abbrev pub no_variable : Allows
 no_variable = record { variable = false; blank = true; literal = true }
 
-abbrev no_literal : Allows
+abbrev pub no_literal : Allows
 no_literal = record { variable = true; blank = true; literal = false }
 
-abbrev of_deletions : Asks
+abbrev pub of_deletions : Asks
 of_deletions = record { insert = false; delete = true; template = true }
 
-abbrev of_data : Asks
+abbrev pub of_data : Asks
 of_data = record { insert = true; delete = true; template = false }
 
 clash : {P : Type 0} (b : Bool) → b ≡ true → b ≡ false → P
@@ -184,7 +184,7 @@ variable_kept (draft.DeleteData quads) h = quads_kept quads (h refl)
 variable_kept (draft.Modify m) h = refl
 variable_kept (draft.Other other) h = refl
 
-not_true : (b : Bool) → (b ≡ true → false ≡ true) → b ≡ false
+pub not_true : (b : Bool) → (b ≡ true → false ≡ true) → b ≡ false
 not_true true h = sym (h refl)
 not_true false h = refl
 
@@ -202,10 +202,10 @@ literal_kept (draft.Other other) h = refl
 
 -- ---- a rule that is broken
 
-err_same : {A E : Type 0} (a b : E) → ◌≡◌ {A = Result A E} (Err a) (Err b) → a ≡ b
+pub err_same : {A E : Type 0} (a b : E) → ◌≡◌ {A = Result A E} (Err a) (Err b) → a ≡ b
 err_same a b e = cc
 
-abbrev Judgement : Bool → Bool → Bool → Bool → List Operation → Result (List Operation) SyntaxFaultKind
+abbrev pub Judgement : Bool → Bool → Bool → Bool → List Operation → Result (List Operation) SyntaxFaultKind
 Judgement a b c d operations =
     cond a (Err fault.BlankInDelete) (cond b (Err fault.VariableInData) (cond c (Err fault.LiteralSubject) (cond d (Err fault.BlankReused) (Ok operations))))
 

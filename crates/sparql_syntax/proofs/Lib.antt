@@ -1,10 +1,21 @@
 pub mod AnswerLemmas
 mod AtOnceLemmas
+mod BrokenFound
 mod BrokenRuleLemmas
+mod CalmFronts
 pub mod DraftsNumbered
 mod FailLemmas
 mod FaultyNameLemmas
+mod LabelDrafts
+mod LabelExpressions
+mod LabelFronts
+mod LabelGroupMeanings
+mod LabelGroups
 pub mod LabelLemmas
+mod LabelMeanings
+mod LabelNodes
+mod LabelQuads
+mod LabelRequests
 pub mod ModifyLemmas
 mod NameAnswers
 mod NameExpressionMeanings
@@ -23,9 +34,13 @@ mod PhaseLemmas
 mod ProfileLemmas
 mod QueryCases
 pub mod QueryLemmas
+mod QuietSteps
 pub mod ReadLemmas
+mod RequestBlankLemmas
 mod RequestLemmas
+mod ReusedFound
 mod ReusedLemmas
+mod ReusedLists
 mod RuleDrafts
 mod RuleFronts
 mod RuleLawLemmas
@@ -36,6 +51,10 @@ mod RuleTrees
 mod RuleWalks
 mod SayLemmas
 mod SharedLabels
+mod ShowDrafts
+mod ShowFronts
+mod ShowMeanings
+mod ShowRequests
 mod SurveyLemmas
 mod TellLemmas
 mod UpdateCases

@@ -62,7 +62,7 @@ pub record Told (a : Allows) (subject : Bool) (k : Terminal) (next : Option Term
 
 -- ---- words
 
-word_steady : (c : Clause) (j : Terminal) (k : Word) → word j ≡ Some k → clause_behind c j ≡ c
+pub word_steady : (c : Clause) (j : Terminal) (k : Word) → word j ≡ Some k → clause_behind c j ≡ c
 word_steady c terminal.Insert k e = absurd (cc)
 word_steady c terminal.Delete k e = absurd (cc)
 word_steady c terminal.Data k e = absurd (cc)

@@ -22,15 +22,15 @@ Keys = List (List ℕ)
 abbrev pub stands : List ℕ → Keys → Bool
 stands key labels = list_any (λ l. same_key key (key_of l)) labels
 
-or_no : (b : Bool) → (b || false) ≡ b
+pub or_no : (b : Bool) → (b || false) ≡ b
 or_no true = refl
 or_no false = refl
 
-or_yes : (b : Bool) → (b || true) ≡ true
+pub or_yes : (b : Bool) → (b || true) ≡ true
 or_yes true = refl
 or_yes false = refl
 
-same_self : (key : List ℕ) → same_key key key ≡ true
+pub same_self : (key : List ℕ) → same_key key key ≡ true
 same_self key = nat_list_eq_equiv.refl key
 
 -- ---- keys that are known
@@ -44,7 +44,7 @@ found_behind key k known false c e f = list_any-append (same_key key) known (k �
 inserted : (key k : List ℕ) (known : Keys) → list_any (same_key key) (insert_key same_key known k) ≡ (list_any (same_key key) known || same_key key k)
 inserted key k known = found_behind key k known (list_any (same_key k) known) (same_key key k) refl refl
 
-or_assoc : (a b c : Bool) → ((a || b) || c) ≡ (a || (b || c))
+pub or_assoc : (a b c : Bool) → ((a || b) || c) ≡ (a || (b || c))
 or_assoc true b c = refl
 or_assoc false b c = refl
 
@@ -86,7 +86,7 @@ meets key known (label ∷ labels) among e = meets_by key known labels label (sa
 -- ---- what is repeated stands in two
 
 -- in how many lists a label stands
-times : List ℕ → Labels → ℕ
+unfoldable pub times : List ℕ → Labels → ℕ
 times label [] = 0
 times label (labels ∷ lists) = cond (stands_in label labels) (1 + times label lists) (times label lists)
 
@@ -167,22 +167,22 @@ unknown lists label (inl h) = absurd (cc h.0)
 unknown lists label (inr two) = two
 
 -- a label stands in two of the lists
-abbrev InTwo : Labels → Type 0
+abbrev pub InTwo : Labels → Type 0
 InTwo lists = (label : List ℕ) × (2 ≤ times label lists)
 
-in_two : (lists : Labels) → repeats_label [] lists ≡ true → InTwo lists
+pub in_two : (lists : Labels) → repeats_label [] lists ≡ true → InTwo lists
 in_two lists e = let m = shared [] lists e in (m.label, unknown lists m.label m.often)
 
-from_two : (lists : Labels) (label : List ℕ) → 2 ≤ times label lists → repeats_label [] lists ≡ true
+pub from_two : (lists : Labels) (label : List ℕ) → 2 ≤ times label lists → repeats_label [] lists ≡ true
 from_two lists label two = (repeated label [] lists).twice two
 
 -- ---- the lists of a request
 
-counted : (label : List ℕ) (lists : Labels) → times label lists ≡ count_by (stands_in label) lists
+pub counted : (label : List ℕ) (lists : Labels) → times label lists ≡ count_by (stands_in label) lists
 unfolding times
 counted label lists = is_count_by (times label) (stands_in label) refl (λ labels rest. refl) lists
 
-times-append : (label : List ℕ) (lists others : Labels) → times label (lists ++ others) ≡ times label lists + times label others
+pub times-append : (label : List ℕ) (lists others : Labels) → times label (lists ++ others) ≡ times label lists + times label others
 times-append label lists others =
     let e : times label lists + times label others ≡ count_by (stands_in label) lists + count_by (stands_in label) others = rw (counted label lists, counted label others) refl in
     counted label (lists ++ others) ∙ (sum_by-append (λ labels. cond (stands_in label labels) 1 0) lists others ∙ sym e)

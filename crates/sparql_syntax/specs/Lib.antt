@@ -16,6 +16,7 @@ pub mod Phases
 pub mod Query
 pub mod QueryLaws
 pub mod QueryTold
+pub mod RequestBlanks
 pub mod RuleLaws
 pub mod Rules
 pub mod SeenLabels

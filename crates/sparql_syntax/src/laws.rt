@@ -3,6 +3,7 @@ ghost use Rattle.sparql_syntax.specs.BrokenRuleLaws as laws;
 ghost use Rattle.sparql_syntax.specs.FaultyNameLaws as names;
 ghost use Rattle.sparql_syntax.specs.ModifyLaws.{DeleteWhereIsItsGroup};
 ghost use Rattle.sparql_syntax.specs.QueryLaws as query;
+ghost use Rattle.sparql_syntax.specs.RequestBlanks.{RequestsStayBelow};
 ghost use Rattle.sparql_syntax.specs.RuleLaws.{LabelsAreShared, PatternsAreQuads};
 ghost use Rattle.sparql_syntax.specs.UpdateLaws.{SomeMeaning, OneRequest, NeverBoth, OneFault};
 
@@ -36,7 +37,7 @@ pub fn faulty_names_are_found()
 
 /// Where a text is refused by the rule on blank nodes, on variables or on literals (SPARQL 1.1 Update, section
 /// 3.1), some lexeme breaks it, and the first such, whose line is told, is a blank node, a variable or a
-/// literal. The first label whose line is told for a reused one stands before it too.
+/// literal. So is a label found where one is reused, and the first such stands before it too.
 pub fn broken_rules_are_found()
     ensures blank { laws.BlankIsFound }
     ensures variable { laws.VariableIsFound }
@@ -45,6 +46,17 @@ pub fn broken_rules_are_found()
     ensures variable_kind { laws.VariableIsOfKind }
     ensures literal_kind { laws.LiteralIsOfKind }
     ensures label { laws.LabelIsReused }
+    ensures reused { laws.ReusedIsFound }
+    ensures reused_in_queries { laws.ReusedIsFoundInQueries }
+{}
+
+/// And the other way round: where there is such a lexeme what the request or the query says breaks the rule.
+pub fn found_lexemes_break_rules()
+    ensures blank { laws.BlankIsBroken }
+    ensures variable { laws.VariableIsBroken }
+    ensures literal { laws.LiteralIsBroken }
+    ensures reused { laws.ReusedIsBroken }
+    ensures reused_in_queries { laws.ReusedIsBrokenInQueries }
 {}
 
 /// Where the static rules are kept no quad of the data is lost.
@@ -62,4 +74,11 @@ pub fn labels_are_shared()
 /// (SPARQL 1.1 Update, section 3.1.3.3).
 pub fn delete_where_is_its_group()
     ensures { DeleteWhereIsItsGroup }
+{}
+
+/// Each blank node of a request has a number below the count of its data or of its template, no template
+/// names one of the dataset, and what is deleted has none: where the request is applied no quad is lost for
+/// want of a blank node (SPARQL 1.1 Update, sections 3.1.1 and 3.1.3).
+pub fn requests_stay_below()
+    ensures { RequestsStayBelow }
 {}

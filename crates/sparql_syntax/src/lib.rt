@@ -25,7 +25,7 @@ mod text;
 pub use fault::{SyntaxFault, SyntaxFaultKind};
 pub use laws::{
     broken_rules_are_found, data_are_quads, delete_where_is_its_group, faulty_names_are_found,
-    labels_are_shared, one_query, one_request,
+    found_lexemes_break_rules, labels_are_shared, one_query, one_request, requests_stay_below,
 };
 pub use operation::blank_numbers_are_below;
 pub use query::{read_query, read_query_with};

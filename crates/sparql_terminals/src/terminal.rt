@@ -239,30 +239,37 @@ fn word_terminal(text: &str) -> Terminal
     }
 }
 
+// Whether the text is this sign.
+fn is_sign(text: &str, sign: &str) -> bool
+    ensures { result ≡ bytes_eq text.now sign.now }
+{
+    text == sign
+}
+
 fn operator_terminal(text: &str) -> Terminal
     ensures { result ≡ spec.operator_terminal text.now }
 {
-    if text == "=" {
+    if is_sign(text, "=") {
         Terminal::Equal
-    } else if text == "!=" {
+    } else if is_sign(text, "!=") {
         Terminal::NotEqual
-    } else if text == "<" {
+    } else if is_sign(text, "<") {
         Terminal::Less
-    } else if text == ">" {
+    } else if is_sign(text, ">") {
         Terminal::Greater
-    } else if text == "<=" {
+    } else if is_sign(text, "<=") {
         Terminal::LessOrEqual
-    } else if text == ">=" {
+    } else if is_sign(text, ">=") {
         Terminal::GreaterOrEqual
-    } else if text == "&&" {
+    } else if is_sign(text, "&&") {
         Terminal::And
-    } else if text == "||" {
+    } else if is_sign(text, "||") {
         Terminal::Or
-    } else if text == "!" {
+    } else if is_sign(text, "!") {
         Terminal::Not
-    } else if text == "+" {
+    } else if is_sign(text, "+") {
         Terminal::Plus
-    } else if text == "-" {
+    } else if is_sign(text, "-") {
         Terminal::Minus
     } else {
         Terminal::Other
@@ -272,17 +279,17 @@ fn operator_terminal(text: &str) -> Terminal
 fn bracket_terminal(text: &str) -> Terminal
     ensures { result ≡ spec.bracket_terminal text.now }
 {
-    if text == "[" {
+    if is_sign(text, "[") {
         Terminal::OpenBracket
-    } else if text == "]" {
+    } else if is_sign(text, "]") {
         Terminal::CloseBracket
-    } else if text == "(" {
+    } else if is_sign(text, "(") {
         Terminal::Open
-    } else if text == ")" {
+    } else if is_sign(text, ")") {
         Terminal::Close
-    } else if text == "{" {
+    } else if is_sign(text, "{") {
         Terminal::OpenBrace
-    } else if text == "}" {
+    } else if is_sign(text, "}") {
         Terminal::CloseBrace
     } else {
         operator_terminal(text)
@@ -292,15 +299,15 @@ fn bracket_terminal(text: &str) -> Terminal
 fn symbol_terminal(text: &str) -> Terminal
     ensures { result ≡ spec.symbol_terminal text.now }
 {
-    if text == "." {
+    if is_sign(text, ".") {
         Terminal::Dot
-    } else if text == ";" {
+    } else if is_sign(text, ";") {
         Terminal::Semicolon
-    } else if text == "," {
+    } else if is_sign(text, ",") {
         Terminal::Comma
-    } else if text == "^^" {
+    } else if is_sign(text, "^^") {
         Terminal::Caret
-    } else if text == "*" {
+    } else if is_sign(text, "*") {
         Terminal::Star
     } else {
         bracket_terminal(text)

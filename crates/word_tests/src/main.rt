@@ -3,14 +3,11 @@
 //! the program's own matter: such a case is left to `tests/run`.
 #![tactic(auto)]
 
-mod case;
 mod memory;
-mod table;
 mod verdict;
 
-use crate::case::Case;
-use crate::table::read_table;
 use crate::verdict::{Verdict, judge};
+use case_tables::{Case, read_table};
 use std::rt::Files;
 use std::{fs, io};
 

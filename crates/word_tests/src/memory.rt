@@ -1,7 +1,7 @@
 //! Files in memory.
 ghost use Rattle.rdf_keeper.specs.Program.Openings.{anything};
 
-use crate::case::Part;
+use case_tables::Part;
 use rdf_keeper::Folder;
 use std::io;
 use std::io::ErrorKind;

@@ -1,6 +1,6 @@
 //! What a case wants, and what the program does.
-use crate::case::Case;
 use crate::memory::Memory;
+use case_tables::Case;
 use rdf_keeper::start_over;
 use std::alloc::Global;
 use std::{io, str};

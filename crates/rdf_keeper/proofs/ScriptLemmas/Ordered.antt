@@ -62,7 +62,7 @@ served_whole stop log s t answers status h served =
     subst (λ v. Serves (to_end Answers stop (cond v Accepted ReadFailed)) false (cond v (commands true None (raw_lines (given log))) (commands false None (raw_lines (upto_last_end (given log))))) s answers t status) (sym h) served
 
 -- no command makes a read fault
-no_read_fault : {O : Type 0} (c : Course O) (o : O) → ((r : Bool) → o ≡ c.behind r → ⊥) → (o ≡ c.ended no_memory → ⊥) → (o ≡ c.ended WriteFailed → ⊥) → (o ≡ c.ended Refused → ⊥)
+pub no_read_fault : {O : Type 0} (c : Course O) (o : O) → ((r : Bool) → o ≡ c.behind r → ⊥) → (o ≡ c.ended no_memory → ⊥) → (o ≡ c.ended WriteFailed → ⊥) → (o ≡ c.ended Refused → ⊥)
     → (refused : Bool) (cs : List Asked) (s t : Session) (answers : List (List ℕ)) → Serves c refused cs s answers t o → ⊥
 no_read_fault c o done memory write stop refused [] s t answers p = elim (p.2) [ inl e ↦ done refused e | inr e ↦ memory e ]
 no_read_fault c o done memory write stop refused (asked ∷ cs) s t answers p =

@@ -1,5 +1,6 @@
 -- How the program ends: its exit status, and its line on standard error.
 use Rattle.std.specs.Prelude.{ℕ, List, [], ◌++◌, codes, Option, None, Some, Result, Ok, Err}
+use Rattle.rdf_keeper.specs.Inside.Told.{IsShown}
 use Rattle.rdf_keeper.specs.Script.Answers.{place_text}
 use Rattle.rdf_streams.specs.Conversion.Faults.{document_fault_line, document_fault_name}
 use Rattle.rdf_lines.specs.FaultName.{state_fault_name}
@@ -62,3 +63,9 @@ error_line ReadFailed = codes "rdfkeep: read failed\n"
 error_line WriteFailed = codes "rdfkeep: write failed\n"
 error_line (NoMemory refused) = codes "rdfkeep: no memory\n"
 error_line ParserNoMemory = codes "rdfkeep: no memory\n"
+
+-- What standard error gets of an ending where nothing is told there meanwhile: its line alone, or a front of that where it takes no more. Of wrong words it
+-- gets a text of its own.
+abbrev pub TellsEnding : Outcome → Option (List ℕ) → Option (List ℕ) → Type 0
+TellsEnding BadWords before after = Unit {0}
+TellsEnding outcome before after = IsShown before (error_line outcome) after

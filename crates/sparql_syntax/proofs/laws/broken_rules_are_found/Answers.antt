@@ -1,4 +1,5 @@
 use Rattle.sparql_syntax.proofs.BrokenRuleLemmas as lemma
+use Rattle.sparql_syntax.proofs.ReusedFound as found
 use Rattle.sparql_syntax.proofs.ReusedLemmas.{label_is_reused}
 use Rattle.sparql_syntax.proofs.laws.broken_rules_are_found.Goals as goal
 
@@ -22,3 +23,9 @@ returns-clause-literal_kind c = lemma.literal_is_of_kind
 
 pub returns-clause-label : goal.returns-clause-label
 returns-clause-label c = label_is_reused
+
+pub returns-clause-reused : goal.returns-clause-reused
+returns-clause-reused c = found.reused_is_found
+
+pub returns-clause-reused_in_queries : goal.returns-clause-reused_in_queries
+returns-clause-reused_in_queries c = found.reused_is_found_in_queries

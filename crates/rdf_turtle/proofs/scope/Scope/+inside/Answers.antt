@@ -18,8 +18,8 @@ behind-loop-item-preserved g t c =
     let proper = next_member proper_node items i c.item-item.result c.loop-item-test.true c.item-item.is c.loop-item.invariant.proper in
     record {
       says = c.loop-item.invariant.says
-          ∙ next_cell c.loop-item.cell c.in_ok-next.next c.in_ok-first.first c.in_ok-rest.rest items i c.item-item.result c.loop-item.self c.next_cell.new.self
-          (c.in_ok-first.ensures ∙ c.rdf_first.ensures) (c.in_ok-rest.ensures ∙ c.rdf_rest.ensures) c.loop-item-test.true c.item-item.is c.in_ok-next.ensures.gives;
+          ∙ next_cell c.loop-item.cell c.in_ok-next.next c.args.first.now c.in_ok-rest.rest items i c.item-item.result c.loop-item.self c.next_cell.new.self
+          c.requires.predicate (c.in_ok-rest.ensures ∙ c.rdf_rest.ensures) c.loop-item-test.true c.item-item.is c.in_ok-next.ensures.gives;
       prologue = same ∙ c.loop-item.invariant.prologue;
       known = c.loop-item.invariant.known ∙ member_holds (known_node (declared c.args.self.now.prologue)) items i c.item-item.result c.loop-item-test.true c.item-item.is known;
       proper = proper.1;

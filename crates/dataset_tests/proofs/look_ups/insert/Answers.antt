@@ -1,4 +1,0 @@
-use Rattle.dataset_tests.proofs.look_ups.insert.Goals as goal
-
-pub insert-requires : goal.insert-requires
-insert-requires c = record { below = c.in_ok-quad.ensures _ }

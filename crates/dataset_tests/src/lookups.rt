@@ -1,0 +1,123 @@
+//! Look-ups by a text `GRAPH SUBJECT PREDICATE OBJECT`, in which `*` stands for a free place.
+use crate::answer::Answer;
+use crate::terms::{graph, term};
+use rdf_dataset::Source;
+use rdf_terms::{GraphName, Quad, Term, write_term};
+use std::alloc::Global;
+
+// What is looked for.
+#[derive(Drop)]
+struct Wanted {
+    graph: GraphName,
+    subject: Option<Term>,
+    predicate: Option<Term>,
+    object: Option<Term>,
+}
+
+impl Wanted {
+    fn new(alloc: Global, text: &str) -> Option<Wanted> {
+        let mut words = text.split(' ');
+        let graph = graph(alloc, words.next()?)?;
+        Some(Wanted {
+            graph,
+            subject: place(alloc, words.next()?),
+            predicate: place(alloc, words.next()?),
+            object: place(alloc, words.next()?),
+        })
+    }
+}
+
+// A text that is no term is a free place, as `*` is.
+fn place(alloc: Global, text: &str) -> Option<Term> {
+    if text == "*" { None } else { term(alloc, text) }
+}
+
+// The quads that are found, and how many were looked at.
+fn found<D: Source>(alloc: Global, source: &D, text: &str) -> Option<(Vec<Quad>, usize)> {
+    let wanted = Wanted::new(alloc, text)?;
+    let mut quads = Vec::new(alloc);
+    let looked = source
+        .matches(
+            &wanted.graph,
+            wanted.subject.as_ref(),
+            wanted.predicate.as_ref(),
+            wanted.object.as_ref(),
+            &mut quads,
+        )
+        .ok()?;
+    Some((quads, looked))
+}
+
+/// The objects of the quads that are found, in order.
+pub(crate) fn objects<D: Source>(alloc: Global, source: &D, text: &str) -> Option<Answer> {
+    let (quads, _) = found(alloc, source, text)?;
+    let mut objects = Vec::new(alloc);
+    for quad in quads.as_slice() {
+        objects.push(quad.object().copy().ok()?).ok()?;
+    }
+    listed(alloc, objects)
+}
+
+/// How many quads are found, and how many were looked at.
+pub(crate) fn looked<D: Source>(alloc: Global, source: &D, text: &str) -> Option<Answer> {
+    let (quads, looked) = found(alloc, source, text)?;
+    Some(Answer::Looked(quads.len(), looked))
+}
+
+/// The same, where it is looked a hundred times.
+pub(crate) fn looked_often<D: Source>(alloc: Global, source: &D, text: &str) -> Option<Answer> {
+    for _ in 1..100 {
+        found(alloc, source, text)?;
+    }
+    looked(alloc, source, text)
+}
+
+/// Of a text `MOST GRAPH SUBJECT PREDICATE OBJECT` how many quads are found, and whether these are all.
+pub(crate) fn some<D: Source>(alloc: Global, source: &D, text: &str) -> Option<Answer> {
+    let (most, text) = text.split_once(' ')?;
+    let most = most.parse::<usize>().ok()?;
+    let wanted = Wanted::new(alloc, text)?;
+    let mut quads = Vec::new(alloc);
+    let all = source
+        .some_matches(
+            &wanted.graph,
+            wanted.subject.as_ref(),
+            wanted.predicate.as_ref(),
+            wanted.object.as_ref(),
+            most,
+            &mut quads,
+        )
+        .ok()?;
+    Some(Answer::Some(quads.len(), all))
+}
+
+/// How many quads of named graphs are found, and how many were looked at.
+pub(crate) fn of_named<D: Source>(alloc: Global, source: &D) -> Option<Answer> {
+    let mut quads = Vec::new(alloc);
+    let looked = source.named_quads(&mut quads).ok()?;
+    Some(Answer::Looked(quads.len(), looked))
+}
+
+/// The names of graphs, in order.
+pub(crate) fn names<D: Source>(alloc: Global, source: &D) -> Option<Answer> {
+    let mut names = Vec::new(alloc);
+    source.names(&mut names).ok()?;
+    listed(alloc, names)
+}
+
+// The texts of the terms, in order, or `none`.
+fn listed(alloc: Global, terms: Vec<Term>) -> Option<Answer> {
+    let mut terms = terms;
+    terms.sort().ok()?;
+    let mut text = Vec::new(alloc);
+    if terms.is_empty() {
+        text.extend_from_slice(b"none").ok()?;
+    }
+    for term in terms.as_slice() {
+        if !text.is_empty() {
+            text.push(b' ').ok()?;
+        }
+        write_term(term, &mut text).ok()?;
+    }
+    Some(Answer::Text(String::from_utf8(text).ok()?))
+}

@@ -1,0 +1,62 @@
+use Rattle.std.proofs.Common.{rules, ◌≡◌, List, [], ◌++◌, Some, None, cond, sym, ap, ◌∙◌, arith, length, append-nil}
+use Rattle.std.specs.List.{list_all}
+use Rattle.std.specs.Vec.Iter.{into_iter_items}
+use Rattle.rdf_terms.specs.Quad.{QuadParts}
+use Rattle.sparql_values.specs.Mapping.{Mapping}
+use Rattle.sparql_solve.specs.Matching.{has_held, matched, matches_of}
+use Rattle.sparql_solve.proofs.MemberLemmas.{none_left}
+use Rattle.sparql_solve.proofs.OnceLemmas.{held_first, held_rest, grown_by, grown_by_none}
+use Rattle.sparql_solve.proofs.grown.append_grown.Goals as goal
+
+pub loop-quad-init : goal.loop-quad-init
+loop-quad-init c =
+    let is : into_iter_items c.into_iter-quad-iterator.result ≡ c.args.quads.items = search rules in
+    record {
+      made = ap (λ (qs : List QuadParts). c.args.out.now.items ++ matches_of qs c.args.places.now c.args.row.now) is;
+      held = ap (list_all (has_held c.args.places.now c.args.row.now)) is ∙ c.requires;
+      count = search rules;
+    }
+
+pub grows-requires : goal.grows-requires
+grows-requires c =
+    ap (λ (m : Mapping). has_held c.args.places.now m c.in-Some.quad) c.in_ok-found.ensures
+    ∙ held_first c.args.places.now c.args.row.now c.in-Some.quad (into_iter_items c.next.new.self) (into_iter_items c.loop-quad.quad-iterator)
+    c.in-Some.ensures.steps.0 c.loop-quad.invariant.held
+
+pub loop-quad-preserved-in-Continue-branch-2 : goal.loop-quad-preserved-in-Continue-branch-2
+loop-quad-preserved-in-Continue-branch-2 c =
+    let m = c.args.row.now in
+    let p = c.args.places.now in
+    let rest = into_iter_items c.next.new.self in
+    let items = into_iter_items c.loop-quad.quad-iterator in
+    record {
+      made = grown_by p m c.in-Some.quad rest items c.in-Some.ensures.steps.0 c.loop-quad.out.items (c.args.out.now.items ++ matches_of c.args.quads.items p m)
+          c.loop-quad.invariant.made c.grows.new.row c.push.new.self.items
+          (ap (λ (l : Mapping). matched p l c.in-Some.quad) (sym c.in_ok-found.ensures)
+          ∙ c.grows.ensures ∙ ap (λ b. cond b (Some c.grows.new.row) None) c.if-grows.true)
+          c.in_ok-push.ensures.items;
+      held = held_rest p m c.in-Some.quad rest items c.in-Some.ensures.steps.0 c.loop-quad.invariant.held;
+      count = omega (arith, ap length c.in-Some.ensures.steps.0, c.in-Some.ensures.steps.1, c.loop-quad.invariant.count);
+    }
+
+pub loop-quad-preserved : goal.loop-quad-preserved
+loop-quad-preserved c =
+    let m = c.args.row.now in
+    let p = c.args.places.now in
+    let rest = into_iter_items c.next.new.self in
+    let items = into_iter_items c.loop-quad.quad-iterator in
+    record {
+      made = grown_by_none p m c.in-Some.quad rest items c.in-Some.ensures.steps.0 c.loop-quad.out.items
+          (c.args.out.now.items ++ matches_of c.args.quads.items p m) c.loop-quad.invariant.made
+          (ap (λ (l : Mapping). matched p l c.in-Some.quad) (sym c.in_ok-found.ensures)
+          ∙ c.grows.ensures ∙ ap (λ b. cond b (Some c.grows.new.row) None) c.if-grows.false);
+      held = held_rest p m c.in-Some.quad rest items c.in-Some.ensures.steps.0 c.loop-quad.invariant.held;
+      count = omega (arith, ap length c.in-Some.ensures.steps.0, c.in-Some.ensures.steps.1, c.loop-quad.invariant.count);
+    }
+
+pub returns : goal.returns
+returns c =
+    let none : into_iter_items c.loop-quad.quad-iterator ≡ [] = none_left _ (sym c.loop-quad.invariant.count ∙ c.in-None.ensures.steps.0) in
+    sym (append-nil c.loop-quad.out.items)
+    ∙ ap (λ (qs : List QuadParts). c.loop-quad.out.items ++ matches_of qs c.args.places.now c.args.row.now) (sym none)
+    ∙ c.loop-quad.invariant.made

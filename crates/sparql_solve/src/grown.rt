@@ -1,0 +1,86 @@
+//! Rows that grow from a row by the triples that were looked up under it, whose terms move into them.
+ghost use Rattle.std.specs.Prelude.{◌≡◌, ◌++◌, IfOk, IsTrue, None, OnOk, Some, cond};
+ghost use Rattle.std.specs.List.{list_all};
+ghost use Rattle.sparql_solve.specs.Matching.{has_held, matched, matches_of};
+
+use crate::place::Places;
+use crate::rows::Row;
+use rdf_terms::{NoMemory, Quad};
+use std::alloc::Global;
+
+// Moves into the row what the triple binds, which was looked up under it, and answers whether it
+// fits; a variable that stands twice may still want two terms.
+fn grows(row: &mut Row, places: &Places, quad: Quad) -> bool
+    requires { IsTrue (has_held places.now row.old quad) }
+    ensures { matched places.now row.old quad ≡ cond result (Some row.new) None }
+{
+    let has_predicate = row.has(&places.predicate);
+    let has_subject = row.has(&places.subject);
+    let has_object = row.has(&places.object);
+    let (_graph, subject, predicate, object) = quad.into_parts();
+    if !row.put(&places.predicate, predicate, has_predicate) {
+        return false;
+    }
+    if !row.put(&places.subject, subject, has_subject) {
+        return false;
+    }
+    row.put(&places.object, object, has_object)
+}
+
+// Appends the rows that the triples make of copies of a row under which they were looked up.
+fn append_grown(
+    alloc: Global,
+    row: &Row,
+    places: &Places,
+    quads: Vec<Quad>,
+    out: &mut Vec<Row>,
+) -> Result<(), NoMemory>
+    requires { IsTrue (list_all (has_held places.now row.now) quads.items) }
+    ensures { OnOk result (out.new.items
+        ≡ out.old.items ++ matches_of quads.items places.now row.now) }
+{
+    for quad in quads {
+        let mut found = row.copy(alloc)?;
+        if grows(&mut found, places, quad) {
+            out.push(found)?;
+        }
+    }
+    Ok(())
+}
+
+/// The rows that triples make of copies of a row under which they were looked up.
+pub(crate) fn copies_grown(
+    alloc: Global,
+    row: &Row,
+    places: &Places,
+    quads: Vec<Quad>,
+) -> Result<Vec<Row>, NoMemory>
+    requires { IsTrue (list_all (has_held places.now row.now) quads.items) }
+    ensures { IfOk result (λ out. out.items ≡ matches_of quads.items places.now row.now) }
+{
+    let mut rows = Vec::with_capacity(alloc, quads.len())?;
+    append_grown(alloc, row, places, quads, &mut rows)?;
+    Ok(rows)
+}
+
+/// The rows that triples make of a row under which they were looked up: the last one of the row
+/// itself.
+pub(crate) fn row_grown(
+    alloc: Global,
+    mut row: Row,
+    places: &Places,
+    mut quads: Vec<Quad>,
+) -> Result<Vec<Row>, NoMemory>
+    requires { IsTrue (list_all (has_held places.now row) quads.items) }
+    ensures { IfOk result (λ out. out.items ≡ matches_of quads.items places.now row) }
+{
+    let mut out = Vec::with_capacity(alloc, quads.len())?;
+    let Some(last) = quads.pop() else {
+        return Ok(out);
+    };
+    append_grown(alloc, &row, places, quads, &mut out)?;
+    if grows(&mut row, places, last) {
+        out.push(row)?;
+    }
+    Ok(out)
+}
