@@ -1,12 +1,17 @@
--- Where a static rule is broken a lexeme shows it.
-use Rattle.std.proofs.Common.{◌≡◌, ◌<◌, ◌≤◌, ◌+◌, ◌∙◌, ap, refl, sym, ℕ, suc, Bool, true, false, cond, ◌&&◌, ◌||◌, not, ◌==◌, List, [], ◌∷◌, ◌++◌, map, length, Option, Some, None, Result, Ok, Err, inl, inr, arith, true≢false}
-use Rattle.std.proofs.lemmas.Bool.{and_parts, cases_lt}
-use Rattle.std.specs.List.{AllByRecursion, list_any}
-use Rattle.rdf_grammar.specs.Terminals.{next_terminal}
+-- A static rule is broken just where a lexeme shows it.
+use Rattle.std.proofs.Common.{◌≡◌, ◌<◌, ◌+◌, ◌∙◌, ap, refl, sym, ℕ, suc, Bool, true, false, cond, ◌&&◌, ◌||◌, not, ◌==◌, List, [], ◌∷◌, ◌++◌, map, length, Option, Some, None, Result, Ok, Err, inl, inr, arith, true≢false}
+use Rattle.std.proofs.lemmas.Bool.{and_parts}
+use Rattle.std.specs.List.{list_all, list_any}
+use Rattle.rdf_terms.specs.Term.{is_literal_term}
+use Rattle.rdf_grammar.specs.Prologue.{Prologue}
+use Rattle.rdf_grammar.specs.Terminals.{Slice, next_terminal}
 use Rattle.sparql_grammar.specs.OperationGrammar.{IsRequest}
+use Rattle.sparql_grammar.specs.declared.tree.Block.{Block}
 use Rattle.sparql_grammar.specs.declared.tree.Part.{Part}
 use Rattle.sparql_terminals.specs.Lexemes.{Lexeme, Lexemes}
 use Rattle.sparql_terminals.specs.declared.terminal.Terminal.{Terminal}
+use Rattle.sparql_terminals.specs.declared.terminal.Terminal.TheVariants as terminal
+use Rattle.sparql_drafts.specs.Meaning.{quads_in}
 use Rattle.sparql_drafts.specs.declared.draft.QuadPattern.{QuadPattern}
 use Rattle.sparql_drafts.specs.declared.draft.Quads.{Quads}
 use Rattle.sparql_drafts.specs.declared.draft.VarOrIri.{VarOrIri}
@@ -19,29 +24,21 @@ use Rattle.sparql_syntax.specs.declared.draft.Draft.{Draft}
 use Rattle.sparql_syntax.specs.declared.draft.Draft.TheVariants as draft
 use Rattle.sparql_syntax.specs.declared.fault.SyntaxFaultKind.{SyntaxFaultKind}
 use Rattle.sparql_syntax.specs.declared.fault.SyntaxFaultKind.TheVariants as fault
-use Rattle.sparql_syntax.specs.BrokenRuleLaws.{BlankIsFound, VariableIsFound, LiteralIsFound, BlankIsOfKind, VariableIsOfKind, LiteralIsOfKind}
+use Rattle.sparql_syntax.specs.BrokenRuleLaws.{BlankIsFound, VariableIsFound, LiteralIsFound, BlankIsOfKind, VariableIsOfKind, LiteralIsOfKind, BlankIsBroken, VariableIsBroken, LiteralIsBroken}
 use Rattle.sparql_syntax.specs.BrokenRules.{breaks, breaking_from, first_breaking, is_blank, is_literal, is_variable, subject_behind}
 use Rattle.sparql_syntax.specs.Clauses.{clause_behind, is_data, is_deleted}
 use Rattle.sparql_syntax.specs.Meaning.{answer}
 use Rattle.sparql_syntax.specs.Rules as rules
 use Rattle.sparql_syntax.specs.Update.{meaning, ruled}
 use Rattle.sparql_trees.specs.declared.operation.Operation.{Operation}
+use Rattle.sparql_syntax.proofs.QuestionFronts.{asked, opened}
 use Rattle.sparql_syntax.proofs.RequestLemmas.{answer_kind}
-use Rattle.sparql_syntax.proofs.RuleDrafts.{FitsDraft, drafts_fit}
-use Rattle.sparql_syntax.proofs.RuleMeanings.{FitsName, FitsTerm, FitsGraph, FitsPattern, FitsQuads}
-use Rattle.sparql_syntax.proofs.RuleRequests.{Tells, request_fits}
-use Rattle.sparql_syntax.proofs.RuleTrees.{Allows, Asks}
-
--- ---- how far the search goes
-
-never_behind : (rule : SyntaxFaultKind) (ts : Lexemes) (c : Clause) (subject : Bool) → breaking_from rule c subject ts ≤ length ts
-never_behind rule [] c subject = omega arith
-never_behind rule (t ∷ ts) c subject =
-    by (breaks rule c subject t.terminal (next_terminal ts)) _ (never_behind rule ts (clause_behind c t.terminal) (subject_behind t.terminal))
-  where
-    by : (b : Bool) (n : ℕ) → n ≤ length ts → cond b 0 (n + 1) ≤ suc (length ts)
-    by true n h = omega arith
-    by false n h = omega (arith, h)
+use Rattle.sparql_syntax.proofs.RuleDrafts.{drafts_tested, test_by}
+use Rattle.sparql_syntax.proofs.RuleLexemes.{Rule, Broken, opened_yes, searched}
+use Rattle.sparql_syntax.proofs.RuleRequests.{breaks_in, request_broken}
+use Rattle.sparql_syntax.proofs.SharedLabels.{or_no, or_yes}
+use Rattle.sparql_syntax.proofs.TripleQuestions.{Question, asks_blocks}
+use Rattle.sparql_syntax.proofs.TriplesSaid.{Sound, blocks_say, every, fits_around, fits_iri, fits_pattern, fits_place, fits_quads, fits_subject, iri_fits, pattern_by_subject}
 
 -- ---- which lexeme it comes to
 
@@ -97,108 +94,168 @@ pub literal_is_of_kind : LiteralIsOfKind
 literal_is_of_kind = of_kind fault.LiteralSubject (λ k _. is_literal k)
     (λ c subject k next e. (and_parts subject (is_literal k) (and_parts (is_data c) (subject && is_literal k) e).1).1)
 
--- ---- what the rules allow
+-- ---- the rules
 
-abbrev pub no_blank : Allows
-no_blank = record { variable = true; blank = false; literal = true }
+and_no : (b : Bool) → (b && false) ≡ false
+and_no true = refl
+and_no false = refl
 
-abbrev pub no_variable : Allows
-no_variable = record { variable = false; blank = true; literal = true }
+abbrev blank_question : Question
+blank_question = record { name = λ _. true; variable = true; label = λ _. false; blank = false; literal = true; word = true }
 
-abbrev pub no_literal : Allows
-no_literal = record { variable = true; blank = true; literal = false }
+abbrev variable_question : Question
+variable_question = record { name = λ _. true; variable = false; label = λ _. true; blank = true; literal = true; word = true }
 
-abbrev pub of_deletions : Asks
-of_deletions = record { insert = false; delete = true; template = true }
+abbrev literal_question : Question
+literal_question = record { name = λ _. true; variable = true; label = λ _. true; blank = true; literal = false; word = true }
 
-abbrev pub of_data : Asks
-of_data = record { insert = true; delete = true; template = false }
+blank_sound : Sound blank_question
+blank_sound = record { names = λ n. refl; alike = λ l o e. refl; labels = λ l e. e }
 
-clash : {P : Type 0} (b : Bool) → b ≡ true → b ≡ false → P
-clash b e f = absurd (true≢false (sym e ∙ f))
+variable_sound : Sound variable_question
+variable_sound = record { names = λ n. refl; alike = λ l o e. refl; labels = λ l e. refl }
 
-blank_tells : (c : Clause) → is_deleted c ≡ true → Tells fault.BlankInDelete no_blank c
-blank_tells c deleted subject k next e = record {
-  variable = λ _. refl;
-  blank = λ blank. clash (is_blank k next) blank (ap (λ (b : Bool). b && is_blank k next) (sym deleted) ∙ e);
-  literal = λ _ _. refl;
+literal_sound : Sound literal_question
+literal_sound = record { names = λ n. refl; alike = λ l o e. refl; labels = λ l e. refl }
+
+open_blank : (next : Option Terminal) → is_blank terminal.Open next ≡ not (opened false next)
+open_blank None = refl
+open_blank (Some terminal.Close) = refl
+open_blank (Some _) = refl
+
+blank_shows : (s : Bool) (k : Terminal) (text : Slice) (next : Option Terminal) → is_blank k next ≡ not (asked blank_question s k text next)
+blank_shows s terminal.Open text next = open_blank next
+blank_shows s _ text next = refl
+
+variable_shows : (s : Bool) (k : Terminal) (text : Slice) (next : Option Terminal) → is_variable k ≡ not (asked variable_question s k text next)
+variable_shows s terminal.Open text next = ap not (sym (opened_yes next))
+variable_shows s _ text next = refl
+
+literal_shows : (s : Bool) (k : Terminal) (text : Slice) (next : Option Terminal) → (s && is_literal k) ≡ not (asked literal_question s k text next)
+literal_shows true terminal.Open text next = ap not (sym (opened_yes next))
+literal_shows true _ text next = refl
+literal_shows false terminal.Open text next = ap not (sym (opened_yes next))
+literal_shows false _ text next = refl
+
+abbrev blank_rule : Rule
+blank_rule = record {
+  kind = fault.BlankInDelete;
+  asks = is_deleted;
+  question = blank_question;
+  sound = blank_sound;
+  words = refl;
+  inserts = refl;
+  patterns = refl;
+  deletes = refl;
+  is = λ c s k text next. ap (λ (b : Bool). is_deleted c && b) (blank_shows s k text next);
 }
 
-variable_tells : (c : Clause) → is_data c ≡ true → Tells fault.VariableInData no_variable c
-variable_tells c of_it subject k next e = record {
-  variable = λ is. clash (is_variable k) (ap is_variable is) (ap (λ (b : Bool). b && is_variable k) (sym of_it) ∙ e);
-  blank = λ _. refl;
-  literal = λ _ _. refl;
+abbrev variable_rule : Rule
+variable_rule = record {
+  kind = fault.VariableInData;
+  asks = is_data;
+  question = variable_question;
+  sound = variable_sound;
+  words = refl;
+  inserts = refl;
+  patterns = refl;
+  deletes = refl;
+  is = λ c s k text next. ap (λ (b : Bool). is_data c && b) (variable_shows s k text next);
 }
 
-literal_tells : (c : Clause) → is_data c ≡ true → Tells fault.LiteralSubject no_literal c
-literal_tells c of_it subject k next e = record {
-  variable = λ _. refl;
-  blank = λ _. refl;
-  literal = λ stands is. clash (is_literal k) is (ap (λ (b : Bool). b && is_literal k) (sym stands) ∙ ap (λ (b : Bool). b && (subject && is_literal k)) (sym of_it) ∙ e);
+abbrev literal_rule : Rule
+literal_rule = record {
+  kind = fault.LiteralSubject;
+  asks = is_data;
+  question = literal_question;
+  sound = literal_sound;
+  words = refl;
+  inserts = refl;
+  patterns = refl;
+  deletes = refl;
+  is = λ c s k text next. ap (λ (b : Bool). is_data c && b) (literal_shows s k text next);
 }
 
--- ---- drafts that fit keep to the rule
+-- ---- quads that fit a rule
 
-none_any : {A : Type 0} (test : A → Bool) (Fits : A → Type 0) → ((x : A) → Fits x → test x ≡ false) → (xs : List A) → AllByRecursion Fits xs → list_any test xs ≡ false
-none_any test Fits h [] all = refl
-none_any test Fits h (x ∷ xs) all = ap (λ (b : Bool). b || list_any test xs) (h x all.0) ∙ none_any test Fits h xs all.1
+none_of : (a b x y : Bool) → a ≡ not x → b ≡ not y → (a || b) ≡ not (x && y)
+none_of a b x y e f = ap (λ (z : Bool). z || b) e ∙ ap (λ (z : Bool). not x || z) f ∙ by x
+  where
+    by : (x : Bool) → (not x || not y) ≡ not (x && y)
+    by true = refl
+    by false = refl
 
-no_blanks : (n : ℕ) → n ≡ 0 → not (n == 0) ≡ false
-no_blanks n e = ap (λ (m : ℕ). not (m == 0)) e
+any_not_all : {A : Type 0} (f g : A → Bool) → ((x : A) → f x ≡ not (g x)) → (xs : List A) → list_any f xs ≡ not (list_all g xs)
+any_not_all f g h [] = refl
+any_not_all f g h (x ∷ xs) = none_of (f x) (list_any f xs) (g x) (list_all g xs) (h x) (any_not_all f g h xs)
 
-blank_kept : (d : Draft) → FitsDraft no_blank of_deletions d → rules.has_blank_in_delete d ≡ false
-blank_kept (draft.DeleteData quads) h = no_blanks quads.blanks ((h refl).blank refl)
-blank_kept (draft.Modify m) h = no_blanks m.delete.blanks ((h refl).blank refl)
-blank_kept (draft.InsertData quads) h = refl
-blank_kept (draft.Other other) h = refl
+zero_is : (n : ℕ) → (n == 0) ≡ true → n ≡ 0
+zero_is n e = grind arith
 
-name_kept : (n : VarOrIri) → FitsName no_variable n → rules.is_variable n ≡ false
-name_kept (name.Variable v) h = absurd (true≢false (sym h))
-name_kept (name.Iri iri) h = refl
+-- no blank node
+blank_said : (d : Quads) → (d.blanks ≡ 0 → d.labels ≡ []) → not (d.blanks == 0) ≡ not (fits_quads blank_question d)
+blank_said d few = ap not (by (d.blanks == 0) refl)
+  where
+    all : (list_all (fits_pattern blank_question) d.patterns && list_all (fits_iri blank_question) d.graphs) ≡ true
+    all =
+        ap (λ (b : Bool). b && list_all (fits_iri blank_question) d.graphs) (every (fits_pattern blank_question) (λ p. pattern_by_subject blank_question refl p ∙ or_yes (not (rules.is_literal p.subject))) d.patterns)
+        ∙ every (fits_iri blank_question) (iri_fits blank_question refl) d.graphs
 
-term_kept : (y : VarOrTerm) → FitsTerm no_variable y → rules.is_variable_place y ≡ false
-term_kept (place.Variable v) h = absurd (true≢false (sym h))
-term_kept (place.Term t) h = refl
+    by : (b : Bool) → (d.blanks == 0) ≡ b → b ≡ ((b || false) && (list_all (λ _. false) d.labels && (list_all (fits_pattern blank_question) d.patterns && list_all (fits_iri blank_question) d.graphs)))
+    by true e = sym (ap (λ (ls : List Slice). list_all (λ _. false) ls && (list_all (fits_pattern blank_question) d.patterns && list_all (fits_iri blank_question) d.graphs)) (few (zero_is d.blanks e)) ∙ all)
+    by false e = refl
 
-graph_kept : (g : Option VarOrIri) → FitsGraph no_variable g → rules.is_variable_graph g ≡ false
-graph_kept None h = refl
-graph_kept (Some n) h = name_kept n h
+-- no variable
+iri_said : (n : VarOrIri) → rules.is_variable n ≡ not (fits_iri variable_question n)
+iri_said (name.Variable v) = refl
+iri_said (name.Iri iri) = refl
 
-none_of_four : (a b c d : Bool) → a ≡ false → b ≡ false → c ≡ false → d ≡ false → (a || (b || (c || d))) ≡ false
-none_of_four a b c d e f g h = ap (λ (z : Bool). z || (b || (c || d))) e ∙ ap (λ (z : Bool). z || (c || d)) f ∙ ap (λ (z : Bool). z || d) g ∙ h
+around_said : (g : Option VarOrIri) → rules.is_variable_graph g ≡ not (fits_around variable_question g)
+around_said None = refl
+around_said (Some n) = iri_said n
 
-pattern_kept : (q : QuadPattern) → FitsPattern no_variable q → rules.has_variable q ≡ false
-pattern_kept q h =
-    none_of_four (rules.is_variable_graph q.graph) (rules.is_variable_place q.subject) (rules.is_variable q.predicate) (rules.is_variable_place q.object)
-    (graph_kept q.graph h.graph) (term_kept q.subject h.subject.0) (name_kept q.predicate h.predicate) (term_kept q.object h.object)
+place_said : (y : VarOrTerm) → rules.is_variable_place y ≡ not (fits_place variable_question y)
+place_said (place.Variable v) = refl
+place_said (place.Term t) = refl
 
-quads_kept : (q : Quads) → FitsQuads no_variable q → rules.quads_have_variable q ≡ false
-quads_kept q h =
-    ap (λ (b : Bool). b || list_any rules.has_variable q.patterns) (none_any rules.is_variable (FitsName no_variable) name_kept q.graphs h.graphs)
-    ∙ none_any rules.has_variable (FitsPattern no_variable) pattern_kept q.patterns h.patterns
+subject_said : (y : VarOrTerm) → rules.is_variable_place y ≡ not (fits_subject variable_question y)
+subject_said (place.Variable v) = refl
+subject_said (place.Term t) = ap not (sym (or_yes (not (is_literal_term t))))
 
-variable_kept : (d : Draft) → FitsDraft no_variable of_data d → rules.has_variable_in_data d ≡ false
-variable_kept (draft.InsertData quads) h = quads_kept quads (h refl)
-variable_kept (draft.DeleteData quads) h = quads_kept quads (h refl)
-variable_kept (draft.Modify m) h = refl
-variable_kept (draft.Other other) h = refl
+pattern_said : (p : QuadPattern) → rules.has_variable p ≡ not (fits_pattern variable_question p)
+pattern_said p =
+    none_of (rules.is_variable_graph p.graph) _ (fits_around variable_question p.graph) _ (around_said p.graph)
+    (none_of (rules.is_variable_place p.subject) _ (fits_subject variable_question p.subject) _ (subject_said p.subject)
+    (none_of (rules.is_variable p.predicate) (rules.is_variable_place p.object) (fits_iri variable_question p.predicate) (fits_place variable_question p.object) (iri_said p.predicate) (place_said p.object)))
 
-pub not_true : (b : Bool) → (b ≡ true → false ≡ true) → b ≡ false
-not_true true h = sym (h refl)
-not_true false h = refl
+or_turned : (a b : Bool) → (a || b) ≡ (b || a)
+or_turned true b = sym (or_yes b)
+or_turned false b = sym (or_no b)
 
-subject_kept : (q : QuadPattern) → FitsPattern no_literal q → rules.is_literal q.subject ≡ false
-subject_kept q h = not_true (rules.is_literal q.subject) h.subject.1
+variable_said : (d : Quads) → rules.quads_have_variable d ≡ not (fits_quads variable_question d)
+variable_said d =
+    or_turned (list_any rules.is_variable d.graphs) (list_any rules.has_variable d.patterns)
+    ∙ none_of (list_any rules.has_variable d.patterns) (list_any rules.is_variable d.graphs) (list_all (fits_pattern variable_question) d.patterns) (list_all (fits_iri variable_question) d.graphs)
+    (any_not_all rules.has_variable (fits_pattern variable_question) pattern_said d.patterns) (any_not_all rules.is_variable (fits_iri variable_question) iri_said d.graphs)
+    ∙ ap (λ (b : Bool). not (b && (list_all (fits_pattern variable_question) d.patterns && list_all (fits_iri variable_question) d.graphs))) (sym (every (λ (l : Slice). true) (λ l. refl) d.labels))
+    ∙ ap (λ (b : Bool). not (b && (list_all (λ (l : Slice). true) d.labels && (list_all (fits_pattern variable_question) d.patterns && list_all (fits_iri variable_question) d.graphs)))) (sym (or_yes (d.blanks == 0)))
 
-subjects_kept : (q : Quads) → FitsQuads no_literal q → list_any (λ p. rules.is_literal p.subject) q.patterns ≡ false
-subjects_kept q h = none_any (λ p. rules.is_literal p.subject) (FitsPattern no_literal) subject_kept q.patterns h.patterns
+-- no literal as a subject
+literal_said : (d : Quads) → list_any (λ p. rules.is_literal p.subject) d.patterns ≡ not (fits_quads literal_question d)
+literal_said d =
+    any_not_all (λ p. rules.is_literal p.subject) (fits_pattern literal_question) (λ p. (back (rules.is_literal p.subject) ∙ ap not (sym (pattern_by_subject literal_question refl p)))) d.patterns
+    ∙ ap not (sym (by (list_all (fits_pattern literal_question) d.patterns)))
+    ∙ ap (λ (b : Bool). not (list_all (fits_pattern literal_question) d.patterns && b)) (sym (every (fits_iri literal_question) (iri_fits literal_question refl) d.graphs))
+    ∙ ap (λ (b : Bool). not (b && (list_all (fits_pattern literal_question) d.patterns && list_all (fits_iri literal_question) d.graphs))) (sym (every (λ (l : Slice). true) (λ l. refl) d.labels))
+    ∙ ap (λ (b : Bool). not (b && (list_all (λ (l : Slice). true) d.labels && (list_all (fits_pattern literal_question) d.patterns && list_all (fits_iri literal_question) d.graphs)))) (sym (or_yes (d.blanks == 0)))
+  where
+    back : (b : Bool) → b ≡ not (not b || false)
+    back true = refl
+    back false = refl
 
-literal_kept : (d : Draft) → FitsDraft no_literal of_data d → rules.has_literal_subject d ≡ false
-literal_kept (draft.InsertData quads) h = subjects_kept quads (h refl)
-literal_kept (draft.DeleteData quads) h = subjects_kept quads (h refl)
-literal_kept (draft.Modify m) h = refl
-literal_kept (draft.Other other) h = refl
+    by : (b : Bool) → (b && true) ≡ b
+    by true = refl
+    by false = refl
 
 -- ---- a rule that is broken
 
@@ -230,58 +287,77 @@ literal_third false false true d operations e = refl
 literal_third false false false true operations e = absurd (cc e)
 literal_third false false false false operations e = absurd (cc e)
 
--- an answer that breaks a rule is of drafts, one of which breaks it
-module _ (rule : SyntaxFaultKind) (test : Draft → Bool) (other : (rule ≡ fault.UnknownPrefix → ⊥) × (rule ≡ fault.Relative → ⊥))
-    (broken : (drafts : List Draft) → rules.judged drafts ≡ Err rule → list_any test drafts ≡ true)
-    (kept : (base : Option (List ℕ)) (ts : Lexemes) (tree : List Part) (drafts : List Draft) → IsRequest ts tree → first_breaking rule ts ≡ length ts → answer base tree ≡ Ok drafts → list_any test drafts ≡ false) where
-  by_answer : (base : Option (List ℕ)) (ts : Lexemes) (tree : List Part) (r : Result (List Draft) SyntaxFaultKind) → IsRequest ts tree → answer base tree ≡ r → ruled r ≡ Err rule → first_breaking rule ts ≡ length ts → ⊥
-  by_answer base ts tree (Ok drafts) reads is e end = true≢false (sym (broken drafts e) ∙ kept base ts tree drafts reads end is)
-  by_answer base ts tree (Err kind) reads is e end = elim (answer_kind base tree kind is) [
-    | inl unknown ↦ other.0 (sym (err_same kind rule e) ∙ unknown)
-    | inr relative ↦ other.1 (sym (err_same kind rule e) ∙ relative)
-  ]
+same_any : {A : Type 0} (f g : A → Bool) → ((x : A) → f x ≡ g x) → (xs : List A) → list_any f xs ≡ list_any g xs
+same_any f g h [] = refl
+same_any f g h (x ∷ xs) = ap (λ (b : Bool). b || list_any f xs) (h x) ∙ ap (λ (b : Bool). g x || b) (same_any f g h xs)
 
-  found : (base : Option (List ℕ)) (ts : Lexemes) (tree : List Part) → IsRequest ts tree → meaning base tree ≡ Err rule → first_breaking rule ts < length ts
-  found base ts tree reads e = elim (cases_lt (first_breaking rule ts) (length ts)) [
-    | inl short ↦ short
-    | inr far ↦ absurd (by_answer base ts tree (answer base tree) reads refl e
-        (let most : first_breaking rule ts ≤ length ts = never_behind rule ts clause.Pattern false in omega (arith, far, most)))
+-- a rule by its test on drafts, and on quads
+module _ (r : Rule) (test : Draft → Bool) (said : Quads → Bool) (alike : (d : Draft) → test d ≡ test_by r.asks said d)
+    (fits : (d : Quads) → (d.blanks ≡ 0 → d.labels ≡ []) → said d ≡ not (fits_quads r.question d)) where
+  quads_tested : (bs : List Block) (p : Prologue) (d : Quads) → quads_in bs p ≡ Some d → said d ≡ breaks_in r bs
+  quads_tested bs p d e = (let a = blocks_say r.question r.sound bs p d e in fits d a.few ∙ ap not a.is)
+
+  -- some draft breaks it just where a lexeme does
+  same_broken : (base : Option (List ℕ)) (ts : Lexemes) (tree : List Part) (drafts : List Draft) → IsRequest ts tree → answer base tree ≡ Ok drafts → list_any test drafts ≡ Broken r clause.Pattern false ts
+  same_broken base ts tree drafts reads is =
+      same_any test (test_by r.asks said) alike drafts ∙ drafts_tested r.asks r.deletes (breaks_in r) said quads_tested base tree drafts is ∙ sym (request_broken r ts tree reads)
+
+  is_broken : (base : Option (List ℕ)) (ts : Lexemes) (tree : List Part) (drafts : List Draft) → IsRequest ts tree → answer base tree ≡ Ok drafts → first_breaking r.kind ts < length ts → list_any test drafts ≡ true
+  is_broken base ts tree drafts reads is lt = same_broken base ts tree drafts reads is ∙ (searched r.kind ts clause.Pattern false).comes lt
+
+  -- an answer that breaks it is of drafts
+  by_answer : (r.kind ≡ fault.UnknownPrefix → ⊥) → (r.kind ≡ fault.Relative → ⊥) → ((drafts : List Draft) → rules.judged drafts ≡ Err r.kind → list_any test drafts ≡ true)
+      → (base : Option (List ℕ)) (ts : Lexemes) (tree : List Part) (a : Result (List Draft) SyntaxFaultKind) → IsRequest ts tree → answer base tree ≡ a → ruled a ≡ Err r.kind → first_breaking r.kind ts < length ts
+  by_answer known based judged base ts tree (Ok drafts) reads is e = (searched r.kind ts clause.Pattern false).goes (sym (same_broken base ts tree drafts reads is) ∙ judged drafts e)
+  by_answer known based judged base ts tree (Err kind) reads is e = elim (answer_kind base tree kind is) [
+    | inl unknown ↦ absurd (known (sym (err_same kind r.kind e) ∙ unknown))
+    | inr relative ↦ absurd (based (sym (err_same kind r.kind e) ∙ relative))
   ]
 
 -- ---- each rule
 
-none_asked : {P : Type 0} → false ≡ true → P
-none_asked e = absurd (true≢false (sym e))
+blank_test : (d : Draft) → rules.has_blank_in_delete d ≡ test_by is_deleted (λ q. not (q.blanks == 0)) d
+blank_test (draft.InsertData quads) = refl
+blank_test (draft.DeleteData quads) = refl
+blank_test (draft.Modify m) = refl
+blank_test (draft.Other other) = refl
+
+variable_test : (d : Draft) → rules.has_variable_in_data d ≡ test_by is_data rules.quads_have_variable d
+variable_test (draft.InsertData quads) = refl
+variable_test (draft.DeleteData quads) = refl
+variable_test (draft.Modify m) = refl
+variable_test (draft.Other other) = refl
+
+literal_test : (d : Draft) → rules.has_literal_subject d ≡ test_by is_data (λ q. list_any (λ p. rules.is_literal p.subject) q.patterns) d
+literal_test (draft.InsertData quads) = refl
+literal_test (draft.DeleteData quads) = refl
+literal_test (draft.Modify m) = refl
+literal_test (draft.Other other) = refl
 
 pub blank_is_found : BlankIsFound
 blank_is_found base text tree has e =
-    found fault.BlankInDelete rules.has_blank_in_delete ((λ x. cc x), (λ x. cc x))
+    by_answer blank_rule rules.has_blank_in_delete (λ q. not (q.blanks == 0)) blank_test blank_said (λ x. cc x) (λ x. cc x)
     (λ drafts broken. blank_first (list_any rules.has_blank_in_delete drafts) (list_any rules.has_variable_in_data drafts) (list_any rules.has_literal_subject drafts) (rules.reuses_label drafts) (map rules.operation_of drafts) broken)
-    (λ at ts parts drafts reads end is.
-    none_any rules.has_blank_in_delete (FitsDraft no_blank of_deletions) blank_kept drafts
-    (drafts_fit no_blank of_deletions at parts drafts
-    (request_fits fault.BlankInDelete no_blank of_deletions none_asked (λ _. blank_tells clause.DeleteData refl) (λ _. blank_tells clause.DeleteTemplate refl) (λ _. blank_tells clause.DeleteWhere refl) ts parts reads
-    (record { within = clause.Pattern; subject = false; quiet = end })) is))
-    base has.lexemes tree has.reads e
+    base has.lexemes tree (answer base tree) has.reads refl e
 
 pub variable_is_found : VariableIsFound
 variable_is_found base text tree has e =
-    found fault.VariableInData rules.has_variable_in_data ((λ x. cc x), (λ x. cc x))
+    by_answer variable_rule rules.has_variable_in_data rules.quads_have_variable variable_test (λ d few. variable_said d) (λ x. cc x) (λ x. cc x)
     (λ drafts broken. variable_second (list_any rules.has_blank_in_delete drafts) (list_any rules.has_variable_in_data drafts) (list_any rules.has_literal_subject drafts) (rules.reuses_label drafts) (map rules.operation_of drafts) broken)
-    (λ at ts parts drafts reads end is.
-    none_any rules.has_variable_in_data (FitsDraft no_variable of_data) variable_kept drafts
-    (drafts_fit no_variable of_data at parts drafts
-    (request_fits fault.VariableInData no_variable of_data (λ _. variable_tells clause.InsertData refl) (λ _. variable_tells clause.DeleteData refl) none_asked none_asked ts parts reads
-    (record { within = clause.Pattern; subject = false; quiet = end })) is))
-    base has.lexemes tree has.reads e
+    base has.lexemes tree (answer base tree) has.reads refl e
 
 pub literal_is_found : LiteralIsFound
 literal_is_found base text tree has e =
-    found fault.LiteralSubject rules.has_literal_subject ((λ x. cc x), (λ x. cc x))
+    by_answer literal_rule rules.has_literal_subject (λ q. list_any (λ p. rules.is_literal p.subject) q.patterns) literal_test (λ d few. literal_said d) (λ x. cc x) (λ x. cc x)
     (λ drafts broken. literal_third (list_any rules.has_blank_in_delete drafts) (list_any rules.has_variable_in_data drafts) (list_any rules.has_literal_subject drafts) (rules.reuses_label drafts) (map rules.operation_of drafts) broken)
-    (λ at ts parts drafts reads end is.
-    none_any rules.has_literal_subject (FitsDraft no_literal of_data) literal_kept drafts
-    (drafts_fit no_literal of_data at parts drafts
-    (request_fits fault.LiteralSubject no_literal of_data (λ _. literal_tells clause.InsertData refl) (λ _. literal_tells clause.DeleteData refl) none_asked none_asked ts parts reads
-    (record { within = clause.Pattern; subject = false; quiet = end })) is))
-    base has.lexemes tree has.reads e
+    base has.lexemes tree (answer base tree) has.reads refl e
+
+pub blank_is_broken : BlankIsBroken
+blank_is_broken base text tree has drafts is lt = is_broken blank_rule rules.has_blank_in_delete (λ q. not (q.blanks == 0)) blank_test blank_said base has.lexemes tree drafts has.reads is lt
+
+pub variable_is_broken : VariableIsBroken
+variable_is_broken base text tree has drafts is lt = is_broken variable_rule rules.has_variable_in_data rules.quads_have_variable variable_test (λ d few. variable_said d) base has.lexemes tree drafts has.reads is lt
+
+pub literal_is_broken : LiteralIsBroken
+literal_is_broken base text tree has drafts is lt =
+    is_broken literal_rule rules.has_literal_subject (λ q. list_any (λ p. rules.is_literal p.subject) q.patterns) literal_test (λ d few. literal_said d) base has.lexemes tree drafts has.reads is lt

@@ -1,22 +1,14 @@
 -- What triples say: a blank node label is listed just where it stands among their labels.
-use Rattle.std.proofs.Common.{◌≡◌, ◌≢◌, ◌∙◌, ap, refl, sym, subst, ℕ, Bool, true, false, cond, ◌||◌, List, [], ◌∷◌, ◌++◌, map, append_assoc, append-nil, Option, Some, None, arith, true≢false}
+use Rattle.std.proofs.Common.{◌≡◌, ◌∙◌, ap, refl, sym, subst, ℕ, Bool, true, false, ◌&&◌, ◌||◌, not, ◌==◌, List, [], ◌∷◌, ◌++◌, map, Option, Some, None}
 use Rattle.std.proofs.lemmas.List.Folds.{list_any-append}
 use Rattle.std.proofs.lemmas.Slice.Eq.{bytes_eq-Decides}
-use Rattle.std.specs.List.{list_any, AllByRecursion}
-use Rattle.std.specs.Map.{lookup}
-use Rattle.std.specs.Option.{option_map}
-use Rattle.rdf_terms.specs.Vocabulary.{rdf_type}
-use Rattle.rdf_terms.specs.declared.term.Term.TheVariants as t
+use Rattle.std.specs.List.{list_all, AllByRecursion}
+use Rattle.rdf_grammar.specs.Holds.{holds}
 use Rattle.rdf_grammar.specs.Keys.{key_of, same_key}
-use Rattle.rdf_grammar.specs.Numbering.{labelled_as}
-use Rattle.rdf_grammar.specs.Prologue.{Prologue, iri_of}
-use Rattle.rdf_grammar.specs.Steps.{Outcome, and_then, each, none}
+use Rattle.rdf_grammar.specs.Prologue.{Prologue}
 use Rattle.rdf_grammar.specs.Terminals.{Slice}
 use Rattle.rdf_grammar.specs.declared.tree.Literal.{Literal}
-use Rattle.rdf_grammar.specs.declared.tree.Name.{Name}
-use Rattle.rdf_grammar.proofs.CallerLemmas.{kept}
-use Rattle.indexmap.specs.IndexMap.{insert_entry}
-use Rattle.sparql_grammar.specs.Proper.{is_filled, stands_alone}
+use Rattle.rdf_grammar.specs.declared.tree.Literal.TheVariants as l
 use Rattle.sparql_grammar.specs.declared.tree.Block.{Block}
 use Rattle.sparql_grammar.specs.declared.tree.Node.{Node}
 use Rattle.sparql_grammar.specs.declared.tree.Node.TheOpen.{Node-F, Property-F}
@@ -24,223 +16,68 @@ use Rattle.sparql_grammar.specs.declared.tree.Node.TheFolds.{fold-roll-Node, fol
 use Rattle.sparql_grammar.specs.declared.tree.Node.TheViews.{roll-Node, roll-Property}
 use Rattle.sparql_grammar.specs.declared.tree.Property.{Property}
 use Rattle.sparql_grammar.specs.declared.tree.Triples.{Triples}
-use Rattle.sparql_grammar.specs.declared.tree.VarOrIri as written
-use Rattle.sparql_grammar.specs.declared.tree.VarOrIri.TheVariants as n
+use Rattle.sparql_grammar.specs.declared.tree.VarOrIri.{VarOrIri}
+use Rattle.sparql_grammar.specs.declared.tree.VarOrIri.TheVariants as i
 use Rattle.sparql_grammar.specs.declared.tree.Verb.{Verb}
 use Rattle.sparql_grammar.specs.declared.tree.Verb.TheVariants as v
-use Rattle.sparql_drafts.specs.Drafting.{Drafting, Does, start, quads, fresh, labelled, labels_behind, in_default, in_graph, says}
-use Rattle.sparql_drafts.specs.Meaning.{Meaning, Says, iri, verb, var_or_iri, literal, object, objects, first, rest, nil, next_cell, behind, list_term, list_inside, node_of, property_of, meaning, property, properties, subject_with, triples, graph, block, quads_in, pattern_in}
+use Rattle.sparql_drafts.specs.Meaning.{quads_in, pattern_in}
 use Rattle.sparql_drafts.specs.declared.draft.Quads.{Quads}
-use Rattle.sparql_drafts.specs.declared.draft.VarOrIri.{VarOrIri}
-use Rattle.sparql_drafts.specs.declared.draft.VarOrIri.TheVariants as i
-use Rattle.sparql_drafts.specs.declared.draft.VarOrTerm.{VarOrTerm}
-use Rattle.sparql_drafts.specs.declared.draft.VarOrTerm.TheVariants as x
 use Rattle.sparql_syntax.specs.RuleLaws.{stands_in}
+use Rattle.sparql_syntax.specs.Rules.{is_literal}
 use Rattle.sparql_syntax.proofs.LabelFronts.{Slices, lists}
 use Rattle.sparql_syntax.proofs.LabelNodes.{labels_of_node, labels_of_property, node_labels, property_labels, triples_labels}
-use Rattle.sparql_syntax.proofs.SharedLabels.{or_no, or_yes, or_assoc}
+use Rattle.sparql_syntax.proofs.NameFronts.{and_true}
+use Rattle.sparql_syntax.proofs.SharedLabels.{or_no, or_yes}
+use Rattle.sparql_syntax.proofs.TripleQuestions.{Question, is_literal_node, asks_literal, asks_verb, asks_property_of, asks_node_of, asks_node, asks_property, asks_triples, asks_graph, asks_block, asks_blocks}
+use Rattle.sparql_syntax.proofs.TriplesSaid as said
+use Rattle.sparql_syntax.proofs.TriplesSaid.{Answers, Sound, every, fits_iri, fits_pattern, fits_quads, iri_fits, pattern_by_subject}
 
 abbrev pub block_labels : Block → Slices
 block_labels b = lists triples_labels b.triples
 
--- ---- what is listed so far
-
--- a label that has a number is listed, and where no blank node has one no label is
-pub record Listed (s : Drafting) : Type 0 where
-  pub found : (label : Slice) (number : ℕ) → lookup (same_key (key_of label)) s.numbering.labels ≡ Some number → stands_in label s.labels ≡ true
-  pub few : s.numbering.next ≡ 0 → s.labels ≡ []
-
-same_labels : (label other : Slice) (labels : Slices) → same_key (key_of label) (key_of other) ≡ true → stands_in label labels ≡ stands_in other labels
-same_labels label other labels e =
-    ap (λ (key : List ℕ). list_any (λ (l : List ℕ). same_key key (key_of l)) labels) ((bytes_eq-Decides (key_of label) (key_of other)).0 e)
-
--- behind the labels stands another
-more_stand : (label other : Slice) (labels : Slices) → stands_in label (labels ++ other ∷ []) ≡ (stands_in label labels || same_key (key_of label) (key_of other))
-more_stand label other labels =
-    list_any-append (λ (l : List ℕ). same_key (key_of label) (key_of l)) labels (other ∷ []) ∙ ap (λ (b : Bool). stands_in label labels || b) (or_no (same_key (key_of label) (key_of other)))
-
 module _ (label : List ℕ) where
-  -- the label is listed behind a step just where it was before, or stands among these
-  pub record Adds (added : Slices) (s u : Drafting) : Type 0 where
-    pub listed : Listed u
-    pub says : stands_in label u.labels ≡ (stands_in label s.labels || stands_in label added)
+  -- it is another label
+  abbrev other : Slice → Bool
+  other text = not (same_key (key_of label) (key_of text))
 
-  abbrev Comes : {A : Type 0} → Slices → Drafting → Outcome Drafting A → Type 0
-  Comes added s None = Unit {0}
-  Comes added s (Some r) = Adds added s r.1
+  abbrev question : Question
+  question = record { name = λ _. true; variable = true; label = other; blank = true; literal = true; word = true }
 
-  abbrev Goes : {A : Type 0} → Slices → Does A → Type 0
-  Goes added f = (s : Drafting) → Listed s → Comes added s (f s)
-
-  shifted : {B : Type 0} (own others : Slices) (s u : Drafting) (o : Outcome Drafting B) → Adds own s u → Comes others u o → Comes (own ++ others) s o
-  shifted own others s u None a c = tt
-  shifted own others s u (Some r) a c = record {
-    listed = c.listed;
-    says = c.says ∙ ap (λ (b : Bool). b || stands_in label others) a.says ∙ or_assoc (stands_in label s.labels) (stands_in label own) (stands_in label others)
-        ∙ ap (λ (b : Bool). stands_in label s.labels || b) (sym (list_any-append (λ (l : List ℕ). same_key (key_of label) (key_of l)) own others));
+  sound : Sound question
+  sound = record {
+    names = λ name. refl;
+    alike = λ one another e. ap (λ (key : List ℕ). not (same_key (key_of label) key)) ((bytes_eq-Decides (key_of one) (key_of another)).0 e);
+    labels = λ l e. refl;
   }
 
-  then_comes : {A B : Type 0} (own others : Slices) (s : Drafting) (o : Outcome Drafting A) (g : A → Does B) → Comes own s o → ((y : A) → Goes others (g y)) → Comes (own ++ others) s (and_then o g)
-  then_comes own others s None g c q = tt
-  then_comes own others s (Some r) g c q = shifted own others s r.1 (g r.0 r.1) c (q r.0 r.1 c.listed)
+  abbrev lacks : Slices → Bool
+  lacks xs = not (stands_in label xs)
 
-  then_goes : {A B : Type 0} (own others : Slices) (f : Does A) (g : A → Does B) → Goes own f → ((y : A) → Goes others (g y)) → Goes (own ++ others) (λ s. and_then (f s) g)
-  then_goes own others f g p q = λ s h. then_comes own others s (f s) g (p s h) q
-
-  same_goes : {A : Type 0} (added other : Slices) (f : Does A) → added ≡ other → Goes added f → Goes other f
-  same_goes added other f e p = subst (λ (z : Slices). Goes z f) e p
-
-  pure_goes : {A : Type 0} (y : A) → Goes [] (λ s. Some (y, s))
-  pure_goes y = λ s h. record { listed = h; says = sym (or_no (stands_in label s.labels)) }
-
-  map_goes : {A B : Type 0} (added : Slices) (f : Does A) (g : A → B) → Goes added f → Goes added (λ s. and_then (f s) (λ y u. Some (g y, u)))
-  map_goes added f g p = same_goes (added ++ []) added _ (append-nil added) (then_goes added [] f (λ y u. Some (g y, u)) p (λ y. pure_goes (g y)))
-
-  each_goes : {B C : Type 0} (f : C → Does (Unit {0})) (g : B → C) (value : B → Slices) (xs : List B) → AllByRecursion (λ y. Goes (value y) (f (g y))) xs → Goes (lists value xs) (each f (map g xs))
-  each_goes f g value [] all = pure_goes (tt {0})
-  each_goes f g value (y ∷ ys) all = then_goes (value y) (lists value ys) (f (g y)) (λ _. each f (map g ys)) all.0 (λ _. each_goes f g value ys all.1)
-
-  -- ---- single steps
-
-  told_comes : {A : Type 0} (o : Option A) (s : Drafting) → Listed s → Comes [] s (option_map {U = A × Drafting} (λ y. (y, s)) o)
-  told_comes None s h = tt
-  told_comes (Some y) s h = pure_goes y s h
-
-  iri_goes : (name : Name) → Goes [] (iri name)
-  unfolding iri
-  iri_goes name = λ s h. told_comes (iri_of name s.prologue) s h
-
-  literal_goes : (w : Literal) → Goes [] (literal w)
-  unfolding literal
-  literal_goes w = λ s h. told_comes _ s h
-
-  verb_goes : (w : Verb) → Goes [] (verb w)
-  unfolding verb
-  verb_goes (v.Variable name) = pure_goes (i.Variable name)
-  verb_goes (v.Name name) = map_goes [] (iri name) i.Iri (iri_goes name)
-  verb_goes v.Type = pure_goes (i.Iri rdf_type)
-
-  name_goes : (w : written.VarOrIri) → Goes [] (var_or_iri w)
-  unfolding var_or_iri
-  name_goes (n.Variable name) = pure_goes (i.Variable name)
-  name_goes (n.Name name) = map_goes [] (iri name) i.Iri (iri_goes name)
-
-  fresh_goes : Goes [] fresh
-  unfolding fresh
-  fresh_goes = λ s h. record { listed = record { found = h.found; few = λ e. absurd (omega (arith, e)) }; says = sym (or_no (stands_in label s.labels)) }
-
-  says_goes : (subject : VarOrTerm) (predicate : VarOrIri) (o : VarOrTerm) → Goes [] (says subject predicate o)
-  unfolding says
-  says_goes subject predicate o = λ s h. record { listed = record { found = h.found; few = h.few }; says = sym (or_no (stands_in label s.labels)) }
-
-  default_goes : Goes [] in_default
-  unfolding in_default
-  default_goes = λ s h. record { listed = record { found = h.found; few = h.few }; says = sym (or_no (stands_in label s.labels)) }
-
-  graph_goes : (name : VarOrIri) → Goes [] (in_graph name)
-  unfolding in_graph
-  graph_goes name = λ s h. record { listed = record { found = h.found; few = h.few }; says = sym (or_no (stands_in label s.labels)) }
-
-  -- a label that has this number, or none yet
-  labelled_by : (other : Slice) (o : Option ℕ) (s : Drafting) → Drafting
-  labelled_by other o s = record s { numbering = (labelled_as (key_of other) o s.numbering).1; labels = labels_behind other o s.labels }
-
-  old_stands : (other : Slice) (s : Drafting) → stands_in other s.labels ≡ true → stands_in label s.labels ≡ (stands_in label s.labels || (same_key (key_of label) (key_of other) || false))
-  old_stands other s e = by (same_key (key_of label) (key_of other)) refl
+  lacks-append : (xs ys : Slices) → lacks xs && lacks ys ≡ lacks (xs ++ ys)
+  lacks-append xs ys = by (stands_in label xs) ∙ ap not (sym (list_any-append (λ (l : List ℕ). same_key (key_of label) (key_of l)) xs ys))
     where
-      by : (b : Bool) → same_key (key_of label) (key_of other) ≡ b → stands_in label s.labels ≡ (stands_in label s.labels || (b || false))
-      by true f = same_labels label other s.labels f ∙ e ∙ sym (or_yes (stands_in label s.labels))
-      by false f = sym (or_no (stands_in label s.labels))
+      by : (b : Bool) → not b && lacks ys ≡ not (b || stands_in label ys)
+      by true = refl
+      by false = refl
 
-  new_found : (other : Slice) (s : Drafting) → Listed s → (l : Slice) (number : ℕ) → lookup (same_key (key_of l)) (insert_entry same_key s.numbering.labels (key_of other) s.numbering.next) ≡ Some number
-      → stands_in l (s.labels ++ other ∷ []) ≡ true
-  new_found other s h l number e = by (same_key (key_of l) (key_of other)) refl
-    where
-      by : (b : Bool) → same_key (key_of l) (key_of other) ≡ b → stands_in l (s.labels ++ other ∷ []) ≡ true
-      by true f = more_stand l other s.labels ∙ ap (λ (b : Bool). stands_in l s.labels || b) f ∙ or_yes (stands_in l s.labels)
-      by false f =
-          let apart : key_of l ≢ key_of other = λ is. absurd (true≢false (sym ((bytes_eq-Decides (key_of l) (key_of other)).1 is) ∙ f)) in
-          let old = h.found l number (sym (kept (key_of other) s.numbering.next (key_of l) s.numbering.labels apart) ∙ e) in
-          more_stand l other s.labels ∙ ap (λ (b : Bool). b || same_key (key_of l) (key_of other)) old
-
-  labelled_comes : (other : Slice) (o : Option ℕ) (s : Drafting) → lookup (same_key (key_of other)) s.numbering.labels ≡ o → Listed s → Adds (other ∷ []) s (labelled_by other o s)
-  unfolding labelled_by
-  labelled_comes other (Some number) s e h = record { listed = record { found = h.found; few = h.few }; says = old_stands other s (h.found other number e) }
-  labelled_comes other None s e h = record {
-    listed = record { found = new_found other s h; few = λ none. absurd (omega (arith, none)) };
-    says = list_any-append (λ (l : List ℕ). same_key (key_of label) (key_of l)) s.labels (other ∷ []);
-  }
-
-  pub labelled_goes : (other : Slice) → Goes (other ∷ []) (labelled other)
-  unfolding labelled labelled_by
-  labelled_goes other = λ s h. labelled_comes other (lookup (same_key (key_of other)) s.numbering.labels) s refl h
+  all_lack : {A : Type 0} (flag : A → Bool) (value : A → Slices) (xs : List A) → AllByRecursion (λ x. flag x ≡ lacks (value x)) xs → list_all holds (map flag xs) ≡ lacks (lists value xs)
+  all_lack flag value [] all = refl
+  all_lack flag value (x ∷ xs) all =
+      ap (λ (b : Bool). b && list_all holds (map flag xs)) all.0 ∙ ap (λ (b : Bool). lacks (value x) && b) (all_lack flag value xs all.1) ∙ lacks-append (value x) (lists value xs)
 
   -- ---- nodes
 
-  -- the labels of what it stands for, and then those inside it
-  pub record NodeGoes (m : Meaning) (added : Slices) : Type 0 where
-    pub own : Slices
-    pub others : Slices
-    pub is : own ++ others ≡ added
-    pub term : Goes own m.term
-    pub inside : (y : VarOrTerm) → Goes others (m.inside y)
+  abbrev NodeLacks : Node → Type 0
+  NodeLacks d = asks_node question d ≡ lacks (node_labels d)
 
-  object_goes : (subject : VarOrTerm) (predicate : VarOrIri) (m : Meaning) (added : Slices) → NodeGoes m added → Goes added (object subject predicate m)
-  unfolding object
-  object_goes subject predicate m added g =
-      same_goes (g.own ++ g.others) added _ g.is
-      (then_goes g.own g.others m.term _ g.term (λ o. then_goes [] g.others (says subject predicate o) _ (says_goes subject predicate o) (λ _. g.inside o)))
-
-  next_goes : (cell : VarOrTerm) (m : Meaning) (added : Slices) → NodeGoes m added → Goes added (next_cell cell m)
-  next_goes cell m added g =
-      same_goes (added ++ []) added _ (append-nil added)
-      (then_goes [] (added ++ []) fresh _ fresh_goes
-      (λ next. then_goes [] (added ++ []) (says cell rest next) _ (says_goes cell rest next)
-      (λ _. then_goes added [] (object next first m) _ (object_goes next first m added g) (λ _. pure_goes next))))
-
-  module _ {D : Type 0} (mean : D → Meaning) (value : D → Slices) where
-    abbrev AllGo : List D → Type 0
-    AllGo ds = AllByRecursion (λ d. NodeGoes (mean d) (value d)) ds
-
-    all_objects : (subject : VarOrTerm) (predicate : VarOrIri) (ds : List D) → AllGo ds → AllByRecursion (λ d. Goes (value d) (object subject predicate (mean d))) ds
-    all_objects subject predicate [] all = tt
-    all_objects subject predicate (d ∷ ds) all = (object_goes subject predicate (mean d) (value d) all.0, all_objects subject predicate ds all.1)
-
-    objects_go : (subject : VarOrTerm) (predicate : VarOrIri) (ds : List D) → AllGo ds → Goes (lists value ds) (objects subject predicate (map mean ds))
-    objects_go subject predicate [] all = λ s h. tt
-    objects_go subject predicate (d ∷ ds) all = each_goes (object subject predicate) mean value (d ∷ ds) (all_objects subject predicate (d ∷ ds) all)
-
-    behind_goes : (cell : VarOrTerm) (ds : List D) → AllGo ds → Goes (lists value ds) (behind cell (map mean ds))
-    behind_goes cell [] all = says_goes cell rest nil
-    behind_goes cell (d ∷ ds) all =
-        then_goes (value d) (lists value ds) (next_cell cell (mean d)) (λ next. behind next (map mean ds)) (next_goes cell (mean d) (value d) all.0) (λ next. behind_goes next ds all.1)
-
-    list_goes : (ds : List D) → AllGo ds → NodeGoes (record { term = list_term (map mean ds); inside = λ cell. list_inside (map mean ds) cell }) (lists value ds)
-    list_goes [] all = record { own = []; others = []; is = refl; term = pure_goes nil; inside = λ y. pure_goes (tt {0}) }
-    list_goes (d ∷ ds) all = record {
-      own = [];
-      others = lists value (d ∷ ds);
-      is = refl;
-      term = fresh_goes;
-      inside = λ cell. then_goes (value d) (lists value ds) (object cell first (mean d)) (λ _. behind cell (map mean ds)) (object_goes cell first (mean d) (value d) all.0) (λ _. behind_goes cell ds all.1);
-    }
-
-  leaf_goes : (added : Slices) (f : Does VarOrTerm) → Goes added f → NodeGoes (record { term = f; inside = λ _ s. Some (tt, s) }) added
-  leaf_goes added f h = record { own = added; others = []; is = append-nil added; term = h; inside = λ y. pure_goes (tt {0}) }
-
-  -- ---- trees
-
-  abbrev NodeMeans : Node → Type 0
-  NodeMeans d = NodeGoes (meaning d) (node_labels d)
-
-  abbrev PropertyMeans : Property → Type 0
-  PropertyMeans d = (y : VarOrTerm) → Goes (property_labels d) (property d y)
+  abbrev PropertyLacks : Property → Type 0
+  PropertyLacks d = asks_property question d ≡ lacks (property_labels d)
 
   abbrev GoodNode : Type 0
-  GoodNode = (d : Node) × NodeMeans d
+  GoodNode = (d : Node) × NodeLacks d
 
   abbrev GoodProperty : Type 0
-  GoodProperty = (d : Property) × PropertyMeans d
+  GoodProperty = (d : Property) × PropertyLacks d
 
   abbrev plain_node : Node-F GoodNode GoodProperty → Node-F Node Property
   plain_node = map-Node GoodNode GoodProperty Node Property (λ e. e.0) (λ e. e.0)
@@ -248,125 +85,110 @@ module _ (label : List ℕ) where
   abbrev plain_property : Property-F GoodNode GoodProperty → Property-F Node Property
   plain_property = map-Property GoodNode GoodProperty Node Property (λ e. e.0) (λ e. e.0)
 
-  all_nodes : (ds : List GoodNode) → AllGo meaning node_labels (map (λ e. e.0) ds)
+  all_nodes : (ds : List GoodNode) → AllByRecursion NodeLacks (map (λ e. e.0) ds)
   all_nodes [] = tt
   all_nodes (d ∷ ds) = (d.1, all_nodes ds)
 
-  all_properties : (ds : List GoodProperty) → AllByRecursion PropertyMeans (map (λ e. e.0) ds)
+  all_properties : (ds : List GoodProperty) → AllByRecursion PropertyLacks (map (λ e. e.0) ds)
   all_properties [] = tt
   all_properties (d ∷ ds) = (d.1, all_properties ds)
 
-  at_subject : (y : VarOrTerm) (ds : List Property) → AllByRecursion PropertyMeans ds → AllByRecursion (λ d. Goes (property_labels d) (property d y)) ds
-  at_subject y [] all = tt
-  at_subject y (d ∷ ds) all = (all.0 y, at_subject y ds all.1)
+  typed_literal : (w : Literal) → asks_literal question w ≡ true
+  typed_literal (l.Typed text name) = refl
+  typed_literal _ = refl
 
-  properties_go : (y : VarOrTerm) (ds : List Property) → AllByRecursion PropertyMeans ds → Goes (lists property_labels ds) (properties y ds)
-  properties_go y ds all = each_goes (λ (f : Says). f y) property property_labels ds (at_subject y ds all)
+  good_node : (y : Node-F GoodNode GoodProperty) → asks_node_of question (map-Node Node Property Bool Bool (asks_node question) (asks_property question) (plain_node y))
+      ≡ lacks (labels_of_node (map-Node Node Property Slices Slices node_labels property_labels (plain_node y)))
+  good_node (Node-F.Variable name) = refl
+  good_node (Node-F.Name name) = refl
+  good_node (Node-F.Literal w) = typed_literal w
+  good_node (Node-F.Label text) = ap not (sym (or_no (same_key (key_of label) (key_of text))))
+  good_node (Node-F.Blank bracket ps) = all_lack (asks_property question) property_labels (map (λ e. e.0) ps) (all_properties ps)
+  good_node (Node-F.Collection bracket []) = refl
+  good_node (Node-F.Collection bracket (d ∷ ds)) = all_lack (asks_node question) node_labels (map (λ e. e.0) (d ∷ ds)) (all_nodes (d ∷ ds))
 
-  good_node : (y : Node-F GoodNode GoodProperty)
-      → NodeGoes (node_of (map-Node Node Property Meaning Says meaning property (plain_node y))) (labels_of_node (map-Node Node Property Slices Slices node_labels property_labels (plain_node y)))
-  good_node (Node-F.Variable name) = leaf_goes [] _ (pure_goes (x.Variable name))
-  good_node (Node-F.Name name) = leaf_goes [] _ (map_goes [] (iri name) (λ iri. x.Term (t.Iri iri)) (iri_goes name))
-  good_node (Node-F.Literal w) = leaf_goes [] _ (map_goes [] (literal w) (λ y. x.Term (t.Literal y)) (literal_goes w))
-  good_node (Node-F.Label other) = leaf_goes (other ∷ []) _ (labelled_goes other)
-  good_node (Node-F.Blank bracket ps) = record {
-    own = [];
-    others = lists property_labels (map (λ e. e.0) ps);
-    is = refl;
-    term = fresh_goes;
-    inside = λ y. properties_go y (map (λ e. e.0) ps) (all_properties ps);
-  }
-  good_node (Node-F.Collection bracket ds) = list_goes meaning node_labels (map (λ e. e.0) ds) (all_nodes ds)
+  typed_verb : (w : Verb) → asks_verb question w ≡ true
+  typed_verb (v.Variable name) = refl
+  typed_verb _ = refl
 
-  good_property : (y : Property-F GoodNode GoodProperty) (subject : VarOrTerm)
-      → Goes (labels_of_property (map-Property Node Property Slices Slices node_labels property_labels (plain_property y))) (property_of (map-Property Node Property Meaning Says meaning property (plain_property y)) subject)
-  good_property y subject =
-      let ds : List Node = map (λ e. e.0) y.objects in
-      then_goes [] (lists node_labels ds) (verb y.verb) (λ predicate. objects subject predicate (map meaning ds)) (verb_goes y.verb)
-      (λ predicate. objects_go meaning node_labels subject predicate ds (all_nodes y.objects))
+  good_property : (y : Property-F GoodNode GoodProperty) → asks_property_of question (map-Property Node Property Bool Bool (asks_node question) (asks_property question) (plain_property y))
+      ≡ lacks (labels_of_property (map-Property Node Property Slices Slices node_labels property_labels (plain_property y)))
+  good_property y =
+      ap (λ (b : Bool). b && list_all holds (map (asks_node question) (map (λ e. e.0) y.objects))) (typed_verb y.verb)
+      ∙ all_lack (asks_node question) node_labels (map (λ e. e.0) y.objects) (all_nodes y.objects)
 
-  rolled_node : (y : Node-F GoodNode GoodProperty) → NodeMeans (roll-Node (plain_node y))
-  rolled_node y =
-      let z : Node-F Node Property = plain_node y in
-      subst (λ (m : Meaning). NodeGoes m (node_labels (roll-Node z))) (sym (fold-roll-Node Meaning Says node_of property_of z))
-      (subst (λ (b : Slices). NodeGoes (node_of (map-Node Node Property Meaning Says meaning property z)) b) (sym (fold-roll-Node Slices Slices labels_of_node labels_of_property z)) (good_node y))
+  node_step : (z : Node-F Node Property) (y : Node-F GoodNode GoodProperty) → plain_node y ≡ z → NodeLacks (roll-Node z)
+  node_step z y is = subst (λ (e : Node-F Node Property). NodeLacks (roll-Node e)) is
+      (fold-roll-Node Bool Bool (asks_node_of question) (asks_property_of question) (plain_node y) ∙ good_node y ∙ ap lacks (sym (fold-roll-Node Slices Slices labels_of_node labels_of_property (plain_node y))))
 
-  rolled_property : (y : Property-F GoodNode GoodProperty) → PropertyMeans (roll-Property (plain_property y))
-  rolled_property y subject =
-      let z : Property-F Node Property = plain_property y in
-      subst (λ (f : Says). Goes (property_labels (roll-Property z)) (f subject)) (sym (fold-roll-Property Meaning Says node_of property_of z))
-      (subst (λ (b : Slices). Goes b (property_of (map-Property Node Property Meaning Says meaning property z) subject)) (sym (fold-roll-Property Slices Slices labels_of_node labels_of_property z)) (good_property y subject))
+  property_step : (z : Property-F Node Property) (y : Property-F GoodNode GoodProperty) → plain_property y ≡ z → PropertyLacks (roll-Property z)
+  property_step z y is = subst (λ (e : Property-F Node Property). PropertyLacks (roll-Property e)) is
+      (fold-roll-Property Bool Bool (asks_node_of question) (asks_property_of question) (plain_property y) ∙ good_property y ∙ ap lacks (sym (fold-roll-Property Slices Slices labels_of_node labels_of_property (plain_property y))))
 
-  node_step : (z : Node-F Node Property) (y : Node-F GoodNode GoodProperty) → plain_node y ≡ z → NodeMeans (roll-Node z)
-  node_step z y is = subst (λ (e : Node-F Node Property). NodeMeans (roll-Node e)) is (rolled_node y)
+  node_lacks : (d : Node) → NodeLacks d
+  node_lacks = ind-Node NodeLacks PropertyLacks node_step property_step
 
-  property_step : (z : Property-F Node Property) (y : Property-F GoodNode GoodProperty) → plain_property y ≡ z → PropertyMeans (roll-Property z)
-  property_step z y is = subst (λ (e : Property-F Node Property). PropertyMeans (roll-Property e)) is (rolled_property y)
-
-  node_means : (d : Node) → NodeMeans d
-  node_means = ind-Node NodeMeans PropertyMeans node_step property_step
-
-  property_means : (d : Property) → PropertyMeans d
-  property_means = ind-Property NodeMeans PropertyMeans node_step property_step
-
-  properties_mean : (ds : List Property) → AllByRecursion PropertyMeans ds
-  properties_mean [] = tt
-  properties_mean (d ∷ ds) = (property_means d, properties_mean ds)
+  property_lacks : (d : Property) → PropertyLacks d
+  property_lacks = ind-Property NodeLacks PropertyLacks node_step property_step
 
   -- ---- triples and blocks
 
-  subject_goes : (node : Node) (ps : List Property) → Goes (node_labels node ++ lists property_labels ps) (subject_with node ps)
-  subject_goes node ps =
-      let g = node_means node in
-      same_goes (g.own ++ (g.others ++ lists property_labels ps)) (node_labels node ++ lists property_labels ps) _
-      (sym (append_assoc g.own g.others (lists property_labels ps)) ∙ ap (λ (z : Slices). z ++ lists property_labels ps) g.is)
-      (then_goes g.own (g.others ++ lists property_labels ps) (meaning node).term _ g.term
-      (λ subject. then_goes g.others (lists property_labels ps) ((meaning node).inside subject) _ (g.inside subject) (λ _. properties_go subject ps (properties_mean ps))))
+  all_of : {A : Type 0} (P : A → Type 0) → ((x : A) → P x) → (xs : List A) → AllByRecursion P xs
+  all_of P h [] = tt
+  all_of P h (x ∷ xs) = (h x, all_of P h xs)
 
-  chosen : (b : Bool) (added : Slices) (f : Does (Unit {0})) → Goes added f → Goes added (cond b f none)
-  chosen true added f h = h
-  chosen false added f h = λ s k. tt
+  triples_lack : (ts : Triples) → asks_triples question ts ≡ lacks (triples_labels ts)
+  triples_lack ts =
+      ap (λ (b : Bool). b && (asks_node question ts.subject && list_all holds (map (asks_property question) ts.properties))) (or_yes (not (is_literal_node ts.subject)))
+      ∙ ap (λ (b : Bool). b && list_all holds (map (asks_property question) ts.properties)) (node_lacks ts.subject)
+      ∙ ap (λ (b : Bool). lacks (node_labels ts.subject) && b) (all_lack (asks_property question) property_labels ts.properties (all_of PropertyLacks property_lacks ts.properties))
+      ∙ lacks-append (node_labels ts.subject) (lists property_labels ts.properties)
 
-  triples_go : (ts : Triples) → Goes (triples_labels ts) (triples ts)
-  unfolding triples
-  triples_go ts = chosen (stands_alone ts.subject || is_filled ts.properties) (triples_labels ts) (subject_with ts.subject ts.properties) (subject_goes ts.subject ts.properties)
+  list_lacks : (ts : List Triples) → list_all holds (map (asks_triples question) ts) ≡ lacks (lists triples_labels ts)
+  list_lacks ts = all_lack (asks_triples question) triples_labels ts (all_of (λ t. asks_triples question t ≡ lacks (triples_labels t)) triples_lack ts)
 
-  all_triples : (ys : List Triples) → AllByRecursion (λ ts. Goes (triples_labels ts) (triples ts)) ys
-  all_triples [] = tt
-  all_triples (ts ∷ ys) = (triples_go ts, all_triples ys)
+  graph_asked : (g : Option VarOrIri) → asks_graph question g ≡ true
+  graph_asked None = refl
+  graph_asked (Some (i.Variable name)) = refl
+  graph_asked (Some (i.Name name)) = refl
 
-  graph_named : (g : Option written.VarOrIri) → Goes [] (graph g)
-  graph_named None = default_goes
-  graph_named (Some name) = then_goes [] [] (var_or_iri name) in_graph (name_goes name) graph_goes
-
-  block_goes : (b : Block) → Goes (block_labels b) (block b)
-  block_goes b =
-      then_goes [] (block_labels b) (graph b.graph) (λ _. each (λ f. f) (map triples b.triples)) (graph_named b.graph)
-      (λ _. each_goes (λ (f : Does (Unit {0})). f) triples triples_labels b.triples (all_triples b.triples))
-
-  all_blocks : (bs : List Block) → AllByRecursion (λ b. Goes (block_labels b) (block b)) bs
-  all_blocks [] = tt
-  all_blocks (b ∷ bs) = (block_goes b, all_blocks bs)
+  block_lacks : (b : Block) → asks_block question b ≡ lacks (block_labels b)
+  block_lacks b = ap (λ (c : Bool). c && list_all holds (map (asks_triples question) b.triples)) (graph_asked b.graph) ∙ list_lacks b.triples
 
   -- the labels of data, and where they have no blank nodes none
-  pub record SaysLabels (added : Slices) (q : Quads) : Type 0 where
-    pub says : stands_in label q.labels ≡ stands_in label added
-    pub few : q.blanks ≡ 0 → q.labels ≡ []
+  pub record SaysLabels (added : Slices) (d : Quads) : Type 0 where
+    pub says : stands_in label d.labels ≡ stands_in label added
+    pub few : d.blanks ≡ 0 → d.labels ≡ []
 
-  quads_say : (added : Slices) (p : Prologue) (o : Outcome Drafting (Unit {0})) (q : Quads) → Comes added (start p) o → option_map (λ r. quads r.1) o ≡ Some q → SaysLabels added q
-  quads_say added p None q h e = absurd (cc e)
-  quads_say added p (Some r) q h e =
-      let said : SaysLabels added (quads r.1) = record { says = h.says; few = h.listed.few } in
-      let same : quads r.1 ≡ q = cc e in
-      subst (SaysLabels added) same said
+  not_same : (a b : Bool) → not a ≡ not b → a ≡ b
+  not_same true true e = refl
+  not_same true false e = sym e
+  not_same false true e = sym e
+  not_same false false e = refl
 
-  pub none_listed : (p : Prologue) → Listed (start p)
-  none_listed p = record { found = λ l number e. absurd (cc e); few = λ _. refl }
+  listed : (labels : Slices) → list_all other labels ≡ lacks labels
+  listed [] = refl
+  listed (text ∷ labels) = ap (λ (b : Bool). other text && b) (listed labels) ∙ by (same_key (key_of label) (key_of text))
+    where
+      by : (b : Bool) → not b && lacks labels ≡ not (b || stands_in label labels)
+      by true = refl
+      by false = refl
 
-  pub blocks_say : (bs : List Block) (p : Prologue) (q : Quads) → quads_in bs p ≡ Some q → SaysLabels (lists block_labels bs) q
-  unfolding quads_in
-  blocks_say bs p q e = quads_say (lists block_labels bs) p (each (λ f. f) (map block bs) (start p)) q (each_goes (λ (f : Does (Unit {0})). f) block block_labels bs (all_blocks bs) (start p) (none_listed p)) e
+  -- nothing else is asked of quads
+  only_labels : (d : Quads) → fits_quads question d ≡ lacks d.labels
+  only_labels d =
+      ap (λ (b : Bool). b && (list_all other d.labels && (list_all (fits_pattern question) d.patterns && list_all (fits_iri question) d.graphs))) (or_yes (d.blanks == 0))
+      ∙ ap (λ (b : Bool). list_all other d.labels && (b && list_all (fits_iri question) d.graphs))
+      (every (fits_pattern question) (λ p. pattern_by_subject question refl p ∙ or_yes (not (is_literal p.subject))) d.patterns)
+      ∙ ap (λ (b : Bool). list_all other d.labels && b) (every (fits_iri question) (iri_fits question refl) d.graphs) ∙ and_true (list_all other d.labels) ∙ listed d.labels
 
-  pub pattern_says : (ts : List Triples) (p : Prologue) (q : Quads) → pattern_in ts p ≡ Some q → SaysLabels (lists triples_labels ts) q
-  unfolding pattern_in
-  pattern_says ts p q e = quads_say (lists triples_labels ts) p (each (λ f. f) (map triples ts) (start p)) q (each_goes (λ (f : Does (Unit {0})). f) triples triples_labels ts (all_triples ts) (start p) (none_listed p)) e
+  said_labels : (v : Bool) (added : Slices) (d : Quads) → Answers question sound v d → v ≡ lacks added → SaysLabels added d
+  said_labels v added d a e = record { says = not_same (stands_in label d.labels) (stands_in label added) (sym (only_labels d) ∙ a.is ∙ e); few = a.few }
+
+  pub blocks_say : (bs : List Block) (p : Prologue) (d : Quads) → quads_in bs p ≡ Some d → SaysLabels (lists block_labels bs) d
+  blocks_say bs p d e =
+      said_labels (asks_blocks question bs) (lists block_labels bs) d (said.blocks_say question sound bs p d e)
+      (all_lack (asks_block question) block_labels bs (all_of (λ b. asks_block question b ≡ lacks (block_labels b)) block_lacks bs))
+
+  pub pattern_says : (ts : List Triples) (p : Prologue) (d : Quads) → pattern_in ts p ≡ Some d → SaysLabels (lists triples_labels ts) d
+  pattern_says ts p d e = said_labels (list_all holds (map (asks_triples question) ts)) (lists triples_labels ts) d (said.pattern_says question sound ts p d e) (list_lacks ts)

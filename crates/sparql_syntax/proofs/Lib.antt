@@ -1,8 +1,6 @@
 pub mod AnswerLemmas
 mod AtOnceLemmas
-mod BrokenFound
 mod BrokenRuleLemmas
-mod CalmFronts
 pub mod DraftsNumbered
 mod FailLemmas
 mod FaultyNameLemmas
@@ -32,9 +30,10 @@ mod NameWalks
 mod NameWords
 mod PhaseLemmas
 mod ProfileLemmas
+mod QuadFronts
 mod QueryCases
 pub mod QueryLemmas
-mod QuietSteps
+mod QuestionFronts
 pub mod ReadLemmas
 mod RequestBlankLemmas
 mod RequestLemmas
@@ -42,20 +41,17 @@ mod ReusedFound
 mod ReusedLemmas
 mod ReusedLists
 mod RuleDrafts
-mod RuleFronts
 mod RuleLawLemmas
 mod RuleLemmas
-mod RuleMeanings
+mod RuleLexemes
 mod RuleRequests
-mod RuleTrees
 mod RuleWalks
 mod SayLemmas
 mod SharedLabels
-mod ShowDrafts
-mod ShowFronts
-mod ShowMeanings
-mod ShowRequests
 mod SurveyLemmas
 mod TellLemmas
+mod TripleFronts
+mod TripleQuestions
+mod TriplesSaid
 mod UpdateCases
 mod UpdateLemmas

@@ -51,7 +51,7 @@ use Rattle.sparql_syntax.specs.Known.{declares_first, known_operation}
 use Rattle.sparql_syntax.specs.Meaning.{both, drafts_behind, drafts_of, graph_or_default, graph_ref_all, modification, operation, part, templates, with_graph, listed}
 use Rattle.sparql_syntax.specs.declared.draft.Draft.{Draft}
 use Rattle.sparql_syntax.specs.FaultyNames.{lacks}
-use Rattle.sparql_syntax.proofs.NameFronts.{Ask, all_named, and_true}
+use Rattle.sparql_syntax.proofs.NameFronts.{Ask, of_names, all_named, and_true}
 use Rattle.sparql_syntax.proofs.NameNodes.{each_triples, each_var_or_iri}
 use Rattle.sparql_syntax.proofs.NameGroups.{each_group, each_group_of, each_member, each_member_of, by-Triples, by-Graph, by-group}
 use Rattle.sparql_syntax.proofs.NameOperations.{each_block, each_blocks, each_form, each_graph_or_default, each_graph_ref_all, each_operation, each_with}
@@ -71,7 +71,7 @@ some_then f flag (Some a) h = h a
 
 module _ (p : Prologue) where
   abbrev q : Ask
-  q = has_iri p
+  q = of_names (has_iri p)
 
   with_there : (w : Option Name) → is_some (with_graph w p) ≡ each_with q w
   with_there None = refl
@@ -178,19 +178,19 @@ regrouped true true c d = refl
 regrouped true false c d = refl
 regrouped false b c d = refl
 
-pub operation_there : (p : Prologue) (w : Operation) → proper_operation w ≡ true → is_some (operation w p) ≡ each_operation (has_iri p) w
+pub operation_there : (p : Prologue) (w : Operation) → proper_operation w ≡ true → is_some (operation w p) ≡ each_operation (of_names (has_iri p)) w
 unfolding operation proper_operation
 operation_there p (o.InsertData blocks) h = some_map _ (quads_in blocks p) ∙ quads_there p blocks h
 operation_there p (o.DeleteData blocks) h = some_map _ (quads_in blocks p) ∙ quads_there p blocks h
 operation_there p (o.DeleteWhere blocks) h =
     some_map _ (modification None blocks [] (quads_group blocks) p) ∙ modification_there p None blocks [] (quads_group blocks) h refl (proper_quads blocks h)
-    ∙ ap (λ (b : Bool). (each_blocks (has_iri p) blocks && true) && b) (each_quads (has_iri p) blocks) ∙ twice (each_blocks (has_iri p) blocks)
+    ∙ ap (λ (b : Bool). (each_blocks (of_names (has_iri p)) blocks && true) && b) (each_quads (of_names (has_iri p)) blocks) ∙ twice (each_blocks (of_names (has_iri p)) blocks)
 operation_there p (o.Modify w) h =
     let name = and_parts _ (proper_blocks w.delete && (proper_blocks w.insert && proper_group w.group)) h in
     let delete = and_parts (proper_blocks w.delete) (proper_blocks w.insert && proper_group w.group) name.1 in
     let insert = and_parts (proper_blocks w.insert) (proper_group w.group) delete.1 in
     some_map _ (modification w.with w.delete w.insert w.group p) ∙ modification_there p w.with w.delete w.insert w.group delete.0 insert.0 insert.1
-    ∙ regrouped (each_with (has_iri p) w.with) (each_blocks (has_iri p) w.delete) (each_blocks (has_iri p) w.insert) (each_group (has_iri p) w.group)
+    ∙ regrouped (each_with (of_names (has_iri p)) w.with) (each_blocks (of_names (has_iri p)) w.delete) (each_blocks (of_names (has_iri p)) w.insert) (each_group (of_names (has_iri p)) w.group)
 operation_there p (o.Create silent name) h = some_map _ (iri_of name p)
 operation_there p (o.Clear silent graphs) h = some_map _ (graph_ref_all graphs p) ∙ graphs_there p graphs
 operation_there p (o.Drop silent graphs) h = some_map _ (graph_ref_all graphs p) ∙ graphs_there p graphs
@@ -218,10 +218,10 @@ iri_there p (Prefixed prefix local) =
     some_map _ (lookup (same_key (key_of prefix)) p.prefixes) ∙ is_some-lookup (same_key (key_of prefix)) p.prefixes ∙ sym (and_true (list_any (same_key (key_of prefix)) (declared p)))
 
 -- what has an IRI among lexemes whose prefixes are declared
-all_there : (p : Prologue) (f : Lexemes) → all_named (knows (declared p)) f ≡ true → all_named (has_iri p) f ≡ all_named (has_base (is_some p.base)) f
+all_there : (p : Prologue) (f : Lexemes) → all_named (of_names (knows (declared p))) f ≡ true → all_named (of_names (has_iri p)) f ≡ all_named (of_names (has_base (is_some p.base))) f
 all_there p f h =
     all_alike (has_iri p) (λ n. knows (declared p) n && has_base (is_some p.base) n) (iri_there p) f
-    ∙ all_both (knows (declared p)) (has_base (is_some p.base)) f ∙ ap (λ (b : Bool). b && all_named (has_base (is_some p.base)) f) h
+    ∙ all_both (knows (declared p)) (has_base (is_some p.base)) f ∙ ap (λ (b : Bool). b && all_named (of_names (has_base (is_some p.base))) f) h
 
 -- ---- declarations
 
@@ -271,7 +271,7 @@ declaration_there p (d.Base reference) = some_map _ (resolved reference p) ∙ r
 
 -- ---- requests
 
-pub known_is : (names : List (List ℕ)) (w : Operation) → each_operation (knows names) w ≡ known_operation names w
+pub known_is : (names : List (List ℕ)) (w : Operation) → each_operation (of_names (knows names)) w ≡ known_operation names w
 unfolding known_operation
 known_is names (o.InsertData blocks) = refl
 known_is names (o.DeleteData blocks) = refl
@@ -301,7 +301,7 @@ parts_bound ts (written_part.Declaration x ∷ ps) walk names = walk.1.bound nam
 parts_bound ts (written_part.Operation w ∷ ps) walk names =
     let f = walk.1.0 in
     ap (λ (z : Lexemes). all_bound false names z) walk.1.1 ∙ plain_bound names f walk.0 walk.1.2.plain
-    ∙ ap (λ (b : Bool). b && all_bound false names walk.0) (walk.1.2.says (knows names) ∙ known_is names w)
+    ∙ ap (λ (b : Bool). b && all_bound false names walk.0) (walk.1.2.says (of_names (knows names)) ∙ known_is names w)
     ∙ ap (λ (b : Bool). known_operation names w && b) (parts_bound walk.0 ps walk.2 names) ∙ and_if (known_operation names w) (declares_first names ps)
 
 -- drafts are there behind an outcome that is
@@ -338,8 +338,8 @@ parts_there ts (written_part.Operation w ∷ ps) walk proper p known ds =
     let base : Bool = is_some p.base in
     let both = known_first (known_operation (declared p) w) (declares_first (declared p) ps) known in
     let parts = and_parts (proper_operation w) (list_all holds (map proper_part ps)) proper in
-    let names : all_named (knows (declared p)) f ≡ true = walk.1.2.says (knows (declared p)) ∙ known_is (declared p) w ∙ both.0 in
-    let there : is_some (operation w p) ≡ all_named (has_base base) f = operation_there p w parts.0 ∙ sym (walk.1.2.says (has_iri p)) ∙ all_there p f names in
+    let names : all_named (of_names (knows (declared p))) f ≡ true = walk.1.2.says (of_names (knows (declared p))) ∙ known_is (declared p) w ∙ both.0 in
+    let there : is_some (operation w p) ≡ all_named (of_names (has_base base)) f = operation_there p w parts.0 ∙ sym (walk.1.2.says (of_names (has_iri p))) ∙ all_there p f names in
     behind_operation w ps ds p (operation w p) refl (all_based false base us) (λ draft. parts_there us ps walk.2 parts.1 p both.1 (ds ++ draft ∷ []))
     ∙ ap (λ (b : Bool). b && all_based false base us) there ∙ sym (plain_based base f us walk.1.2.plain) ∙ sym (ap (λ (z : Lexemes). all_based false base z) walk.1.1)
 
@@ -350,7 +350,7 @@ drafts_there base ts parts walk proper known = some_map _ (drafts_behind [] part
 
 -- ---- queries
 
-known_form_is : (names : List (List ℕ)) (w : QueryForm) → each_form (knows names) w ≡ known_form names w
+known_form_is : (names : List (List ℕ)) (w : QueryForm) → each_form (of_names (knows names)) w ≡ known_form names w
 known_form_is names (form.Select distinct columns g) = refl
 known_form_is names (form.Ask g) = refl
 
@@ -362,13 +362,13 @@ pub query_bound : (ts : Lexemes) (w : written.Query) → IsQueryFront w ts → a
 query_bound ts w h =
     let names : List (List ℕ) = declared_by [] w.prologue in
     prologue_bound ts w.prologue h.mid h.declares [] ∙ ap (λ (z : Lexemes). all_bound false names z) (sym (append-nil h.mid)) ∙ plain_bound names h.mid [] h.adds.plain
-    ∙ and_true (all_named (knows names) h.mid) ∙ h.adds.says (knows names) ∙ known_form_is names w.form
+    ∙ and_true (all_named (of_names (knows names)) h.mid) ∙ h.adds.says (of_names (knows names)) ∙ known_form_is names w.form
 
 mapped : {S A B : Type 0} (f : A → B) (v : Outcome S A) → is_some (and_then v (λ a s. Some (f a, s))) ≡ is_some v
 mapped f None = refl
 mapped f (Some r) = refl
 
-form_there : (p : Prologue) (w : QueryForm) (labels : Labels) → proper_form w ≡ true → is_some (form_in p w labels) ≡ each_form (has_iri p) w
+form_there : (p : Prologue) (w : QueryForm) (labels : Labels) → proper_form w ≡ true → is_some (form_in p w labels) ≡ each_form (of_names (has_iri p)) w
 form_there p (form.Select distinct columns g) labels h = mapped (select_with distinct columns) (group p g labels) ∙ group_there p g labels (and_parts _ (proper_group g) h).1
 form_there p (form.Ask g) labels h = mapped Asks (group p g labels) ∙ group_there p g labels h
 
@@ -396,7 +396,7 @@ unfolding query_in
 query_there base ts w h proper known =
     prologue_there (λ u. form_in u w.form []) ts w.prologue h.mid h.declares (prologue.start base)
     (λ u is. (
-    let names : all_named (knows (declared u)) h.mid ≡ true =
-    h.adds.says (knows (declared u)) ∙ known_form_is (declared u) w.form ∙ ap (λ (z : List (List ℕ)). known_form z w.form) is ∙ known in
-    form_there u w.form [] proper ∙ sym (h.adds.says (has_iri u)) ∙ all_there u h.mid names ∙ sym (and_true (all_named (has_base (is_some u.base)) h.mid))
+    let names : all_named (of_names (knows (declared u))) h.mid ≡ true =
+    h.adds.says (of_names (knows (declared u))) ∙ known_form_is (declared u) w.form ∙ ap (λ (z : List (List ℕ)). known_form z w.form) is ∙ known in
+    form_there u w.form [] proper ∙ sym (h.adds.says (of_names (has_iri u))) ∙ all_there u h.mid names ∙ sym (and_true (all_named (of_names (has_base (is_some u.base))) h.mid))
     ∙ sym (plain_based (is_some u.base) h.mid [] h.adds.plain) ∙ ap (λ (z : Lexemes). all_based false (is_some u.base) z) (append-nil h.mid)))

@@ -13,7 +13,7 @@ use Rattle.sparql_expressions.specs.ProperExpressions.{proper_expression, proper
 use Rattle.sparql_queries.specs.Expressions.{all, addend, both, expression_in, expression_of}
 use Rattle.sparql_trees.specs.declared.expression.Expression.{Expression}
 use Rattle.sparql_trees.specs.declared.expression.Sign.{Sign}
-use Rattle.sparql_syntax.proofs.NameFronts.{Ask}
+use Rattle.sparql_syntax.proofs.NameFronts.{Ask, of_names}
 use Rattle.sparql_syntax.proofs.NameExpressions.{each_expression, each_expression_of}
 use Rattle.sparql_syntax.proofs.NameMeanings.{has_iri, literal_there, some_map}
 
@@ -29,7 +29,7 @@ all_there f flag (d ∷ ds) h =
 
 module _ (p : Prologue) where
   abbrev q : Ask
-  q = has_iri p
+  q = of_names (has_iri p)
 
   abbrev Tells : written.Expression → Type 0
   Tells d = is_some (expression_in p d) ≡ each_expression q d

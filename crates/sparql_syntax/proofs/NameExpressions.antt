@@ -38,7 +38,7 @@ module _ (q : Ask) where
   each_expression_of (Expression-F.Not operand) = operand
   each_expression_of (Expression-F.Signed sign operand) = operand
   each_expression_of (Expression-F.Variable variable) = true
-  each_expression_of (Expression-F.Name name) = q name
+  each_expression_of (Expression-F.Name name) = q.name name
   each_expression_of (Expression-F.Literal literal) = each_literal q literal
   each_expression_of (Expression-F.Bound variable) = true
   each_expression_of (Expression-F.SameTerm left right) = left && right

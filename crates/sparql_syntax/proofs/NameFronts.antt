@@ -17,10 +17,15 @@ use Rattle.sparql_terminals.specs.declared.terminal.Terminal.{Terminal}
 use Rattle.sparql_terminals.specs.declared.terminal.Terminal.TheVariants as terminal
 use Rattle.sparql_terminals.specs.Lexemes.{Lexeme, Lexemes, Derives}
 use Rattle.sparql_terminals.specs.Terminals.{word}
+use Rattle.sparql_syntax.proofs.TripleQuestions.{Question}
 
--- a question that is asked of names
+-- a question that is asked of names, and of the words INSERT and DELETE
 abbrev pub Ask : Type 0
-Ask = Name → Bool
+Ask = Question
+
+-- of names alone
+abbrev pub of_names : (Name → Bool) → Ask
+of_names n = record { name = n; variable = true; label = λ _. true; blank = true; literal = true; word = true }
 
 -- the answer to each question
 abbrev pub Value : Type 0
@@ -28,10 +33,12 @@ Value = Ask → Bool
 
 -- ---- lexemes
 
--- what is answered of a lexeme's name; a lexeme that is none says nothing
+-- what is answered of a lexeme's name or word; of another nothing is asked
 abbrev pub names : Ask → Terminal → Slice → Bool
-names q terminal.Iri text = q (Full text)
-names q terminal.Pname text = q (productions.prefixed text)
+names q terminal.Iri text = q.name (Full text)
+names q terminal.Pname text = q.name (productions.prefixed text)
+names q terminal.Insert text = q.word
+names q terminal.Delete text = q.word
 names q _ text = true
 
 -- of each name among the lexemes
@@ -153,6 +160,21 @@ map_gives f P before mid after p h = then_gives P _ before mid after p (λ a. pu
 pub behind_gives : {A : Type 0} (k : Terminal) (P : Derives A) (before : Value) (after : A → Value) → Sign k → Gives before P after → Gives before (grammar.◌>>◌ (grammar.the k) P) after
 behind_gives k P before after sign p = then_gives (grammar.the k) _ before (λ _. before) after (the_gives k before sign) (λ _. p)
 
+-- a word that begins a clause, and a tree behind it
+opens_gives : (k : Terminal) → is_plain k ≡ true → ((q : Ask) (text : Slice) → names q k text ≡ q.word) → Gives start (grammar.the k) (λ _ q. q.word)
+unfolding Gives
+opens_gives k plain is ts x us d = record {
+  front = d.0 ∷ [];
+  is = d.2;
+  adds = record {
+    plain = ap (λ (j : Terminal). is_plain j && true) d.1 ∙ ap (λ (b : Bool). b && true) plain;
+    says = λ q. and_true (names q d.0.terminal d.0.text) ∙ ap (λ (j : Terminal). names q j d.0.text) d.1 ∙ is q d.0.text;
+  };
+}
+
+pub opening_gives : {A : Type 0} (k : Terminal) (P : Derives A) (after : A → Value) → is_plain k ≡ true → ((q : Ask) (text : Slice) → names q k text ≡ q.word) → Gives (λ q. q.word) P after → Gives start (grammar.◌>>◌ (grammar.the k) P) after
+opening_gives k P after plain is p = then_gives (grammar.the k) _ start (λ _ q. q.word) after (opens_gives k plain is) (λ _. p)
+
 -- a lexeme, and a tree behind it
 pub closed_gives : {A : Type 0} (k : Terminal) (x : A) (before : Value) (after : A → Value) → Sign k → ((q : Ask) → before q ≡ after x q)
     → Gives before (grammar.◌>>◌ (grammar.the k) (grammar.pure x)) after
@@ -246,6 +268,8 @@ word_sign terminal.Pname k e h = absurd (true≢false (ap (λ (o : Option Word).
     by None = true
     by (Some x) = is_name x
 word_sign terminal.Base k e h = absurd (cc)
+word_sign terminal.Insert k e h = absurd (cc)
+word_sign terminal.Delete k e h = absurd (cc)
 word_sign terminal.Prefix k e h = absurd (cc)
 word_sign _ k e h = (refl, λ q text. refl)
 
@@ -269,8 +293,8 @@ by_gives : {A : Type 0} (P Q : Derives A) (before : Value) (after : A → Value)
 unfolding Gives
 by_gives P Q before after there q ts x us d = q ts x us (there ts x us d)
 
-pub reference_gives : Gives start (productions.value word w.Iri) (λ text q. q (Full text))
+pub reference_gives : Gives start (productions.value word w.Iri) (λ text q. q.name (Full text))
 reference_gives = by_gives _ (grammar.value terminal.Iri) start _ (λ ts x us d. (d.0, iri_only d.0.terminal d.1, d.2, d.3)) (name_gives terminal.Iri refl)
 
-pub pname_gives : Gives start (productions.value word w.Pname) (λ text q. q (productions.prefixed text))
+pub pname_gives : Gives start (productions.value word w.Pname) (λ text q. q.name (productions.prefixed text))
 pname_gives = by_gives _ (grammar.value terminal.Pname) start _ (λ ts x us d. (d.0, pname_only d.0.terminal d.1, d.2, d.3)) (name_gives terminal.Pname refl)

@@ -25,7 +25,7 @@ use Rattle.sparql_queries.specs.Groups.{Does, Labels, asked, basic, graph_name, 
 use Rattle.sparql_trees.specs.declared.pattern.Member.{Member}
 use Rattle.sparql_trees.specs.declared.pattern.Member.TheVariants as member
 use Rattle.sparql_trees.specs.declared.pattern.Pattern.{Pattern}
-use Rattle.sparql_syntax.proofs.NameFronts.{Ask}
+use Rattle.sparql_syntax.proofs.NameFronts.{Ask, of_names}
 use Rattle.sparql_syntax.proofs.NameExpressions.{each_expression}
 use Rattle.sparql_syntax.proofs.NameNodes.{each_triples, each_var_or_iri}
 use Rattle.sparql_syntax.proofs.NameGroups.{each_group, each_group_of, each_member, each_member_of, passed}
@@ -34,7 +34,7 @@ use Rattle.sparql_syntax.proofs.NameExpressionMeanings.{all_there, expression_th
 
 module _ (p : Prologue) where
   abbrev q : Ask
-  q = has_iri p
+  q = of_names (has_iri p)
 
   abbrev Given : Labels → Type 0
   Given labels = Unit {0}

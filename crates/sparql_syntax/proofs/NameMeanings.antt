@@ -33,13 +33,13 @@ use Rattle.sparql_drafts.specs.declared.draft.VarOrIri.{VarOrIri}
 use Rattle.sparql_drafts.specs.declared.draft.VarOrIri.TheVariants as i
 use Rattle.sparql_drafts.specs.declared.draft.VarOrTerm.{VarOrTerm}
 use Rattle.sparql_drafts.specs.declared.draft.VarOrTerm.TheVariants as x
-use Rattle.sparql_syntax.proofs.NameFronts.{Ask, and_true}
+use Rattle.sparql_syntax.proofs.NameFronts.{Ask, of_names, and_true}
 use Rattle.sparql_syntax.proofs.NameWords.{each_literal}
 use Rattle.sparql_syntax.proofs.NameNodes.{each_verb, each_node_of, each_property_of, each_node, each_property, each_triples, each_var_or_iri}
 use Rattle.sparql_syntax.proofs.NameOperations.{each_graph, each_block, each_blocks}
 
 -- the name has an IRI
-abbrev pub has_iri : Prologue → Ask
+abbrev pub has_iri : Prologue → Name → Bool
 has_iri p name = is_some (iri_of name p)
 
 -- ---- steps over a state of which something holds
@@ -85,7 +85,7 @@ some_map f (Some a) = refl
 
 module _ (p : Prologue) where
   abbrev q : Ask
-  q = has_iri p
+  q = of_names (has_iri p)
 
   abbrev Given : Drafting → Type 0
   Given s = s.prologue ≡ p
@@ -100,7 +100,7 @@ module _ (p : Prologue) where
   told_goes : {A : Type 0} (f : Prologue → Option A) → DoesGo (is_some (f p)) (told f)
   told_goes f = λ s h. told_by (f p) (f s.prologue) s (ap f h) h
 
-  iri_goes : (name : Name) → DoesGo (q name) (iri name)
+  iri_goes : (name : Name) → DoesGo (has_iri p name) (iri name)
   unfolding iri
   iri_goes name = told_goes (iri_of name)
 
@@ -125,13 +125,13 @@ module _ (p : Prologue) where
   verb_goes : (w : Verb) → DoesGo (each_verb q w) (verb w)
   unfolding verb
   verb_goes (v.Variable name) = pure_goes Given _
-  verb_goes (v.Name name) = map_goes Given (q name) (iri name) i.Iri (iri_goes name)
+  verb_goes (v.Name name) = map_goes Given (has_iri p name) (iri name) i.Iri (iri_goes name)
   verb_goes v.Type = pure_goes Given _
 
   place_goes : (w : written.VarOrIri) → DoesGo (each_var_or_iri q w) (var_or_iri w)
   unfolding var_or_iri
   place_goes (n.Variable name) = pure_goes Given _
-  place_goes (n.Name name) = map_goes Given (q name) (iri name) i.Iri (iri_goes name)
+  place_goes (n.Name name) = map_goes Given (has_iri p name) (iri name) i.Iri (iri_goes name)
 
   fresh_goes : DoesGo true fresh
   unfolding fresh
@@ -250,7 +250,7 @@ module _ (p : Prologue) where
   good_node : (y : Node-F GoodNode GoodProperty) → proper_node_of (map-Node Node Property Bool Bool proper_node proper_property (plain_node y)) ≡ true
       → NodeGoes (node_of (map-Node Node Property Meaning Says meaning property (plain_node y))) (each_node_of q (map-Node Node Property Bool Bool (each_node q) (each_property q) (plain_node y)))
   good_node (Node-F.Variable name) h = only_goes true _ (pure_goes Given _)
-  good_node (Node-F.Name name) h = only_goes (q name) _ (map_goes Given (q name) (iri name) (λ iri. x.Term (t.Iri iri)) (iri_goes name))
+  good_node (Node-F.Name name) h = only_goes (has_iri p name) _ (map_goes Given (has_iri p name) (iri name) (λ iri. x.Term (t.Iri iri)) (iri_goes name))
   good_node (Node-F.Literal w) h = only_goes (each_literal q w) _ (map_goes Given (each_literal q w) (literal w) (λ y. x.Term (t.Literal y)) (literal_goes w h))
   good_node (Node-F.Label label) h = only_goes true _ (labelled_goes label)
   good_node (Node-F.Blank bracket ps) h = record {

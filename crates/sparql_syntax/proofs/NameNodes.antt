@@ -27,7 +27,7 @@ use Rattle.sparql_syntax.proofs.NameWords.{each_literal, name_value, literal_val
 module _ (q : Ask) where
   abbrev pub each_verb : Verb → Bool
   each_verb (v.Variable name) = true
-  each_verb (v.Name name) = q name
+  each_verb (v.Name name) = q.name name
   each_verb v.Type = true
 
   abbrev pub each_property_of : Property-F Bool Bool → Bool
@@ -35,7 +35,7 @@ module _ (q : Ask) where
 
   abbrev pub each_node_of : Node-F Bool Bool → Bool
   each_node_of (Node-F.Variable name) = true
-  each_node_of (Node-F.Name name) = q name
+  each_node_of (Node-F.Name name) = q.name name
   each_node_of (Node-F.Literal l) = each_literal q l
   each_node_of (Node-F.Label label) = true
   each_node_of (Node-F.Blank bracket properties) = list_all holds properties
@@ -52,7 +52,7 @@ module _ (q : Ask) where
 
   abbrev pub each_var_or_iri : VarOrIri → Bool
   each_var_or_iri (i.Variable name) = true
-  each_var_or_iri (i.Name name) = q name
+  each_var_or_iri (i.Name name) = q.name name
 
 -- ---- nodes by what they are
 
@@ -96,7 +96,7 @@ verb_value x q = each_verb q x
 variable_is : (name : Slice) (q : Ask) → true ≡ each_node q (n.Variable name)
 variable_is name q = sym (by-Variable (each_node_of q) (each_property_of q) name)
 
-name_is : (name : Name) (q : Ask) → q name ≡ each_node q (n.Name name)
+name_is : (name : Name) (q : Ask) → q.name name ≡ each_node q (n.Name name)
 name_is name q = sym (by-Name (each_node_of q) (each_property_of q) name)
 
 literal_is : (x : Literal) (q : Ask) → each_literal q x ≡ each_node q (n.Literal x)

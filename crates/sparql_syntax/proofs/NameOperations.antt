@@ -1,9 +1,10 @@
 -- Operations, and the names that their lexemes carry.
-use Rattle.std.proofs.Common.{◌≡◌, ◌∙◌, ap, refl, sym, ℕ, suc, Bool, true, ◌&&◌, List, [], ◌∷◌, map, Option, Some, None}
+use Rattle.std.proofs.Common.{◌≡◌, ◌∙◌, ap, refl, sym, ℕ, suc, Bool, true, false, ◌&&◌, List, [], ◌∷◌, map, Option, Some, None}
 use Rattle.std.proofs.Math.Bool.{and_assoc}
 use Rattle.std.specs.List.{list_all}
 use Rattle.rdf_grammar.specs.Derivations as grammar
 use Rattle.rdf_grammar.specs.Holds.{holds}
+use Rattle.rdf_grammar.specs.Terminals.{Slice}
 use Rattle.rdf_grammar.specs.declared.tree.Name.{Name}
 use Rattle.sparql_terminals.specs.declared.terminal.Terminal.{Terminal}
 use Rattle.sparql_terminals.specs.declared.terminal.Terminal.TheVariants as terminal
@@ -28,12 +29,12 @@ use Rattle.sparql_grammar.specs.OperationGrammar as g
 use Rattle.sparql_grammar.specs.OperationReading.{between_by, block, modify_with, on_graphs_by}
 use Rattle.sparql_grammar.specs.QueryGrammar as queries
 use Rattle.sparql_grammar.specs.Reading.{all_of}
-use Rattle.sparql_syntax.proofs.NameFronts.{Ask, Value, Gives, Sign, start, then_gives, pure_gives, or_gives, map_gives, behind_gives, closed_gives, sign_gives, maybe_gives, perhaps_gives, later_gives, lists, star_gives, one_gives, same_gives, and_true}
+use Rattle.sparql_syntax.proofs.NameFronts.{Ask, Value, Gives, Sign, start, is_plain, names, opening_gives, then_gives, pure_gives, or_gives, map_gives, behind_gives, closed_gives, sign_gives, maybe_gives, perhaps_gives, later_gives, lists, star_gives, one_gives, same_gives, and_true}
 use Rattle.sparql_syntax.proofs.NameWords.{name_value, iri_gives}
 use Rattle.sparql_syntax.proofs.NameNodes.{each_triples, each_var_or_iri, triples_value, place_value, place_gives, triples_give}
 use Rattle.sparql_syntax.proofs.NameGroups.{each_group, group_value, group_at_gives}
 
--- of each name in an operation
+-- of each name in an operation, and of its word INSERT or DELETE
 module _ (q : Ask) where
   abbrev pub each_graph : Option VarOrIri → Bool
   each_graph None = true
@@ -46,26 +47,26 @@ module _ (q : Ask) where
   each_blocks blocks = list_all holds (map each_block blocks)
 
   abbrev pub each_graph_ref_all : GraphRefAll → Bool
-  each_graph_ref_all (graphs.Graph name) = q name
+  each_graph_ref_all (graphs.Graph name) = q.name name
   each_graph_ref_all _ = true
 
   abbrev pub each_graph_or_default : GraphOrDefault → Bool
   each_graph_or_default place.Default = true
-  each_graph_or_default (place.Graph name) = q name
+  each_graph_or_default (place.Graph name) = q.name name
 
   abbrev pub each_with : Option Name → Bool
   each_with None = true
-  each_with (Some name) = q name
+  each_with (Some name) = q.name name
 
   abbrev pub each_modify : Modify → Bool
-  each_modify m = each_with m.with && (each_blocks m.delete && (each_blocks m.insert && each_group q m.group))
+  each_modify m = each_with m.with && (q.word && (each_blocks m.delete && (each_blocks m.insert && each_group q m.group)))
 
   abbrev pub each_operation : Operation → Bool
-  each_operation (o.InsertData blocks) = each_blocks blocks
-  each_operation (o.DeleteData blocks) = each_blocks blocks
-  each_operation (o.DeleteWhere blocks) = each_blocks blocks
+  each_operation (o.InsertData blocks) = q.word && each_blocks blocks
+  each_operation (o.DeleteData blocks) = q.word && each_blocks blocks
+  each_operation (o.DeleteWhere blocks) = q.word && each_blocks blocks
   each_operation (o.Modify m) = each_modify m
-  each_operation (o.Create silent graph) = q graph
+  each_operation (o.Create silent graph) = q.name graph
   each_operation (o.Clear silent graphs) = each_graph_ref_all graphs
   each_operation (o.Drop silent graphs) = each_graph_ref_all graphs
   each_operation (o.Copy silent from to) = each_graph_or_default from && each_graph_or_default to
@@ -185,32 +186,40 @@ module _ (Template Inner : Derives (List Triples)) (p : Gives start Template (li
       (λ blocks. closed_gives terminal.CloseBrace blocks (lists block_value blocks) (lists block_value) (refl, λ q text. refl) (λ q. refl)))
 
   -- two words, and quads in braces
-  quads_behind_give : (k l : Terminal) (operation : List Block → Operation) → Sign k → Sign l → ((blocks : List Block) (q : Ask) → lists block_value blocks q ≡ each_operation q (operation blocks))
+  quads_behind_give : (k l : Terminal) (operation : List Block → Operation) → is_plain k ≡ true → ((q : Ask) (text : Slice) → names q k text ≡ q.word) → Sign l
+      → ((blocks : List Block) (q : Ask) → q.word && lists block_value blocks q ≡ each_operation q (operation blocks))
       → Gives start (grammar.◌>>◌ (grammar.the k) (grammar.◌>>◌ (grammar.the l) (grammar.◌>>=◌ (g.QuadPattern Template Inner) (λ blocks. grammar.pure (operation blocks))))) operation_value
-  quads_behind_give k l operation at_k at_l is = behind_gives k _ start operation_value at_k (behind_gives l _ start operation_value at_l
-      (then_gives _ _ start (lists block_value) operation_value quad_pattern_gives
-      (λ blocks. pure_gives (operation blocks) (lists block_value blocks) operation_value (is blocks))))
+  quads_behind_give k l operation plain opens at_l is = opening_gives k _ operation_value plain opens (behind_gives l _ (λ q. q.word) operation_value at_l
+      (then_gives _ _ (λ q. q.word) (λ blocks q. q.word && lists block_value blocks q) operation_value (later_gives _ (λ q. q.word) (lists block_value) quad_pattern_gives)
+      (λ blocks. pure_gives (operation blocks) _ operation_value (is blocks))))
 
   -- ---- templates
 
   abbrev templates_value : List Block × List Block → Value
-  templates_value x q = lists block_value x.0 q && lists block_value x.1 q
+  templates_value x q = q.word && (lists block_value x.0 q && lists block_value x.1 q)
 
-  abbrev some_blocks : Option (List Block) → Value
-  some_blocks x q = lists block_value (all_of x) q
+  -- behind its word
+  abbrev clause_value : List Block → Value
+  clause_value blocks q = q.word && lists block_value blocks q
 
-  insert_clause_gives : Gives start (g.InsertClause Template Inner) (lists block_value)
-  insert_clause_gives = behind_gives terminal.Insert _ start (lists block_value) (refl, λ q text. refl) quad_pattern_gives
+  insert_clause_gives : Gives start (g.InsertClause Template Inner) clause_value
+  insert_clause_gives = opening_gives terminal.Insert _ clause_value refl (λ q text. refl) (later_gives _ (λ q. q.word) (lists block_value) quad_pattern_gives)
 
-  maybe_insert_gives : Gives start (grammar.◌<$>◌ all_of (grammar.maybe (g.InsertClause Template Inner))) (lists block_value)
-  maybe_insert_gives = map_gives all_of _ start some_blocks (lists block_value) (maybe_gives _ start (lists block_value) some_blocks insert_clause_gives (λ q. refl) (λ x q. refl)) (λ a q. refl)
+  once_more : (w d i : Bool) → (w && d) && (w && i) ≡ (w && d) && i
+  once_more true d i = refl
+  once_more false d i = refl
+
+  maybe_insert_gives : (delete : List Block) → Gives (clause_value delete) (grammar.◌<$>◌ all_of (grammar.maybe (g.InsertClause Template Inner))) (λ xs q. clause_value delete q && lists block_value xs q)
+  maybe_insert_gives delete = map_gives all_of _ (clause_value delete) (λ o q. clause_value delete q && lists block_value (all_of o) q) (λ xs q. clause_value delete q && lists block_value xs q)
+      (maybe_gives _ (clause_value delete) (λ xs q. clause_value delete q && clause_value xs q) (λ o q. clause_value delete q && lists block_value (all_of o) q) (later_gives _ (clause_value delete) clause_value insert_clause_gives)
+      (λ q. sym (and_true (clause_value delete q))) (λ x q. once_more q.word (lists block_value delete q) (lists block_value x q))) (λ a q. refl)
 
   templates_give : Gives start (grammar.◌∣◌ (g.DeleteAndInsert Template Inner) (g.InsertAlone Template Inner)) templates_value
   templates_give = or_gives _ _ start templates_value
-      (then_gives _ _ start (lists block_value) templates_value (behind_gives terminal.Delete _ start (lists block_value) (refl, λ q text. refl) quad_pattern_gives)
-      (λ delete. then_gives _ _ (lists block_value delete) (λ xs q. lists block_value delete q && lists block_value xs q) templates_value (later_gives _ (lists block_value delete) (lists block_value) maybe_insert_gives)
-      (λ insert. pure_gives (delete, insert) _ templates_value (λ q. refl))))
-      (then_gives _ _ start (lists block_value) templates_value insert_clause_gives (λ insert. pure_gives ([], insert) (lists block_value insert) templates_value (λ q. refl)))
+      (then_gives _ _ start clause_value templates_value (opening_gives terminal.Delete _ clause_value refl (λ q text. refl) (later_gives _ (λ q. q.word) (lists block_value) quad_pattern_gives))
+      (λ delete. then_gives _ _ (clause_value delete) (λ xs q. clause_value delete q && lists block_value xs q) templates_value (maybe_insert_gives delete)
+      (λ insert. pure_gives (delete, insert) _ templates_value (λ q. and_assoc q.word (lists block_value delete q) (lists block_value insert q)))))
+      (then_gives _ _ start clause_value templates_value insert_clause_gives (λ insert. pure_gives ([], insert) (clause_value insert) templates_value (λ q. refl)))
 
 module _ (Template Inner : Derives (List Triples)) (Group' : Derives Group) (p : Gives start Template (lists triples_value)) (i : Gives start Inner (lists triples_value))
     (k : Gives start Group' group_value) where
@@ -218,10 +227,11 @@ module _ (Template Inner : Derives (List Triples)) (Group' : Derives Group) (p :
   with_value x q = each_with q x
 
   modify_is : (name : Option Name) (templates : List Block × List Block) (group : Group) (q : Ask)
-      → (each_with q name && (lists block_value templates.0 q && lists block_value templates.1 q)) && each_group q group ≡ each_modify q (modify_with name templates group)
+      → (each_with q name && (q.word && (lists block_value templates.0 q && lists block_value templates.1 q))) && each_group q group ≡ each_modify q (modify_with name templates group)
   modify_is name templates group q =
-      and_assoc (each_with q name) (lists block_value templates.0 q && lists block_value templates.1 q) (each_group q group)
-      ∙ ap (λ (b : Bool). each_with q name && b) (and_assoc (lists block_value templates.0 q) (lists block_value templates.1 q) (each_group q group))
+      and_assoc (each_with q name) (q.word && (lists block_value templates.0 q && lists block_value templates.1 q)) (each_group q group)
+      ∙ ap (λ (b : Bool). each_with q name && b) (and_assoc q.word (lists block_value templates.0 q && lists block_value templates.1 q) (each_group q group))
+      ∙ ap (λ (b : Bool). each_with q name && (q.word && b)) (and_assoc (lists block_value templates.0 q) (lists block_value templates.1 q) (each_group q group))
 
   modify_gives : Gives start (g.AModify Template Inner Group') modify_value
   modify_gives = then_gives _ _ start with_value modify_value (maybe_gives _ start name_value with_value (behind_gives terminal.With _ start name_value (refl, λ q text. refl) iri_gives) (λ q. refl) (λ x q. refl))
@@ -234,9 +244,9 @@ module _ (Template Inner : Derives (List Triples)) (Group' : Derives Group) (p :
   pub operation_gives_with : Gives start (g.Update1 Template Inner Group') operation_value
   operation_gives_with =
       or_gives _ _ start operation_value graph_operation_gives
-      (or_gives _ _ start operation_value (quads_behind_give Template Inner p i terminal.Insert terminal.Data o.InsertData (refl, λ q text. refl) (refl, λ q text. refl) (λ blocks q. refl))
-      (or_gives _ _ start operation_value (quads_behind_give Template Inner p i terminal.Delete terminal.Data o.DeleteData (refl, λ q text. refl) (refl, λ q text. refl) (λ blocks q. refl))
-      (or_gives _ _ start operation_value (quads_behind_give Template Inner p i terminal.Delete terminal.Where o.DeleteWhere (refl, λ q text. refl) (refl, λ q text. refl) (λ blocks q. refl))
+      (or_gives _ _ start operation_value (quads_behind_give Template Inner p i terminal.Insert terminal.Data o.InsertData refl (λ q text. refl) (refl, λ q text. refl) (λ blocks q. refl))
+      (or_gives _ _ start operation_value (quads_behind_give Template Inner p i terminal.Delete terminal.Data o.DeleteData refl (λ q text. refl) (refl, λ q text. refl) (λ blocks q. refl))
+      (or_gives _ _ start operation_value (quads_behind_give Template Inner p i terminal.Delete terminal.Where o.DeleteWhere refl (λ q text. refl) (refl, λ q text. refl) (λ blocks q. refl))
       (map_gives o.Modify _ start modify_value operation_value modify_gives (λ m q. refl)))))
 
 pub operation_gives : (depth : ℕ) → Gives start (g.Update1 (TriplesTemplate (Nodes_at (suc depth))) (TriplesTemplate (Nodes_at depth)) (GroupAt (suc depth))) operation_value

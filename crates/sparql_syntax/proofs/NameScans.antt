@@ -14,7 +14,7 @@ use Rattle.sparql_terminals.specs.declared.terminal.Terminal.{Terminal}
 use Rattle.sparql_terminals.specs.declared.terminal.Terminal.TheVariants as terminal
 use Rattle.sparql_terminals.specs.Lexemes.{Lexemes}
 use Rattle.sparql_syntax.specs.FaultyNames.{declares_behind, is_unbound, bound_behind, unbound_from, lacks, moves_behind, is_lacking, base_behind, lacking_from}
-use Rattle.sparql_syntax.proofs.NameFronts.{Ask, names, all_named, is_plain, all_plain}
+use Rattle.sparql_syntax.proofs.NameFronts.{names, of_names, all_named, is_plain, all_plain}
 
 -- ---- how far a search goes
 
@@ -65,19 +65,19 @@ not_not false = refl
 
 -- what is asked of a lexeme that declares nothing
 bound_step : (bound : List (List ℕ)) (k : Terminal) (text : Slice) (rest : Bool → List (List ℕ) → Bool) → is_plain k ≡ true
-    → not (is_unbound false bound k text) && rest (declares_behind false k) (bound_behind false bound k text) ≡ names (knows bound) k text && rest false bound
+    → not (is_unbound false bound k text) && rest (declares_behind false k) (bound_behind false bound k text) ≡ names (of_names (knows bound)) k text && rest false bound
 bound_step bound terminal.Pname text rest p = ap (λ (b : Bool). b && rest false bound) (not_not (list_any (same_key (key_of (prefix_part text))) bound))
 bound_step bound terminal.Prefix text rest p = absurd (true≢false (sym p))
 bound_step bound terminal.Base text rest p = absurd (true≢false (sym p))
 bound_step bound _ text rest p = refl
 
-pub plain_bound : (bound : List (List ℕ)) (f h : Lexemes) → all_plain f ≡ true → all_bound false bound (f ++ h) ≡ all_named (knows bound) f && all_bound false bound h
+pub plain_bound : (bound : List (List ℕ)) (f h : Lexemes) → all_plain f ≡ true → all_bound false bound (f ++ h) ≡ all_named (of_names (knows bound)) f && all_bound false bound h
 plain_bound bound [] h p = refl
 plain_bound bound (t ∷ f) h p =
     let parts = and_parts (is_plain t.terminal) (all_plain f) p in
     bound_step bound t.terminal t.text (λ declares more. all_bound declares more (f ++ h)) parts.0
-    ∙ ap (λ (b : Bool). names (knows bound) t.terminal t.text && b) (plain_bound bound f h parts.1)
-    ∙ sym (and_assoc (names (knows bound) t.terminal t.text) (all_named (knows bound) f) (all_bound false bound h))
+    ∙ ap (λ (b : Bool). names (of_names (knows bound)) t.terminal t.text && b) (plain_bound bound f h parts.1)
+    ∙ sym (and_assoc (names (of_names (knows bound)) t.terminal t.text) (all_named (of_names (knows bound)) f) (all_bound false bound h))
 
 -- ---- references
 
@@ -92,32 +92,32 @@ lacking_ends (t ∷ ts) moves based =
     more_or_here (is_lacking based t.terminal t.text) _ _ (length ts) (lacking_ends ts (moves_behind moves t.terminal) (base_behind moves based t.terminal))
 
 -- a name that wants no base
-abbrev pub has_base : Bool → Ask
+abbrev pub has_base : Bool → Name → Bool
 has_base based (Full reference) = not (lacks based reference)
 has_base based (Prefixed prefix local) = true
 
 based_step : (based : Bool) (k : Terminal) (text : Slice) (rest : Bool → Bool → Bool) → is_plain k ≡ true
-    → not (is_lacking based k text) && rest (moves_behind false k) (base_behind false based k) ≡ names (has_base based) k text && rest false based
+    → not (is_lacking based k text) && rest (moves_behind false k) (base_behind false based k) ≡ names (of_names (has_base based)) k text && rest false based
 based_step based terminal.Iri text rest p = refl
 based_step based terminal.Prefix text rest p = absurd (true≢false (sym p))
 based_step based terminal.Base text rest p = absurd (true≢false (sym p))
 based_step based _ text rest p = refl
 
-pub plain_based : (based : Bool) (f h : Lexemes) → all_plain f ≡ true → all_based false based (f ++ h) ≡ all_named (has_base based) f && all_based false based h
+pub plain_based : (based : Bool) (f h : Lexemes) → all_plain f ≡ true → all_based false based (f ++ h) ≡ all_named (of_names (has_base based)) f && all_based false based h
 plain_based based [] h p = refl
 plain_based based (t ∷ f) h p =
     let parts = and_parts (is_plain t.terminal) (all_plain f) p in
     based_step based t.terminal t.text (λ moves in_force. all_based moves in_force (f ++ h)) parts.0
-    ∙ ap (λ (b : Bool). names (has_base based) t.terminal t.text && b) (plain_based based f h parts.1)
-    ∙ sym (and_assoc (names (has_base based) t.terminal t.text) (all_named (has_base based) f) (all_based false based h))
+    ∙ ap (λ (b : Bool). names (of_names (has_base based)) t.terminal t.text && b) (plain_based based f h parts.1)
+    ∙ sym (and_assoc (names (of_names (has_base based)) t.terminal t.text) (all_named (of_names (has_base based)) f) (all_based false based h))
 
 -- ---- questions together
 
-pub all_alike : (q r : Ask) → ((n : Name) → q n ≡ r n) → (f : Lexemes) → all_named q f ≡ all_named r f
+pub all_alike : (q r : Name → Bool) → ((n : Name) → q n ≡ r n) → (f : Lexemes) → all_named (of_names q) f ≡ all_named (of_names r) f
 all_alike q r h [] = refl
-all_alike q r h (t ∷ f) = ap (λ (b : Bool). b && all_named q f) (one t.terminal t.text) ∙ ap (λ (b : Bool). names r t.terminal t.text && b) (all_alike q r h f)
+all_alike q r h (t ∷ f) = ap (λ (b : Bool). b && all_named (of_names q) f) (one t.terminal t.text) ∙ ap (λ (b : Bool). names (of_names r) t.terminal t.text && b) (all_alike q r h f)
   where
-    one : (k : Terminal) (text : Slice) → names q k text ≡ names r k text
+    one : (k : Terminal) (text : Slice) → names (of_names q) k text ≡ names (of_names r) k text
     one terminal.Iri text = h (Full text)
     one terminal.Pname text = h (productions.prefixed text)
     one _ text = refl
@@ -128,13 +128,13 @@ crossed true false true d = refl
 crossed true false false d = refl
 crossed false b c d = refl
 
-pub all_both : (q r : Ask) (f : Lexemes) → all_named (λ n. q n && r n) f ≡ all_named q f && all_named r f
+pub all_both : (q r : Name → Bool) (f : Lexemes) → all_named (of_names (λ n. q n && r n)) f ≡ all_named (of_names q) f && all_named (of_names r) f
 all_both q r [] = refl
 all_both q r (t ∷ f) =
-    ap (λ (b : Bool). b && all_named (λ n. q n && r n) f) (one t.terminal t.text) ∙ ap (λ (b : Bool). (names q t.terminal t.text && names r t.terminal t.text) && b) (all_both q r f)
-    ∙ crossed (names q t.terminal t.text) (names r t.terminal t.text) (all_named q f) (all_named r f)
+    ap (λ (b : Bool). b && all_named (of_names (λ n. q n && r n)) f) (one t.terminal t.text) ∙ ap (λ (b : Bool). (names (of_names q) t.terminal t.text && names (of_names r) t.terminal t.text) && b) (all_both q r f)
+    ∙ crossed (names (of_names q) t.terminal t.text) (names (of_names r) t.terminal t.text) (all_named (of_names q) f) (all_named (of_names r) f)
   where
-    one : (k : Terminal) (text : Slice) → names (λ n. q n && r n) k text ≡ names q k text && names r k text
+    one : (k : Terminal) (text : Slice) → names (of_names (λ n. q n && r n)) k text ≡ names (of_names q) k text && names (of_names r) k text
     one terminal.Iri text = refl
     one terminal.Pname text = refl
     one _ text = refl

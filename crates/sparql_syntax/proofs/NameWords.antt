@@ -13,11 +13,11 @@ use Rattle.sparql_syntax.proofs.NameFronts.{Ask, Value, Gives, start, then_gives
 
 -- of the name of a literal's datatype
 abbrev pub each_literal : Ask → Literal → Bool
-each_literal q (l.Typed text name) = q name
+each_literal q (l.Typed text name) = q.name name
 each_literal q _ = true
 
 abbrev pub name_value : Name → Value
-name_value name q = q name
+name_value name q = q.name name
 
 abbrev pub literal_value : Literal → Value
 literal_value x q = each_literal q x

@@ -1,8 +1,9 @@
--- What a static rule asks of in the drafts of a request whose parts fit what it allows fits it too.
-use Rattle.std.proofs.Common.{◌≡◌, ap, refl, subst, ℕ, true, List, [], ◌∷◌, ◌++◌, Option, Some, None}
+-- The drafts of a request break a static rule just where a part of its tree does.
+use Rattle.std.proofs.Common.{◌≡◌, ◌∙◌, ap, refl, sym, subst, ℕ, Bool, true, false, ◌&&◌, ◌||◌, not, List, [], ◌∷◌, ◌++◌, append-nil, Option, Some, None}
 use Rattle.std.specs.Prelude.{Ok}
+use Rattle.std.proofs.lemmas.List.Folds.{list_any-append}
 use Rattle.std.proofs.lemmas.Option.{same_Some}
-use Rattle.std.specs.List.{AllByRecursion}
+use Rattle.std.specs.List.{list_any}
 use Rattle.std.specs.Option.{option_and_then, option_map}
 use Rattle.rdf_grammar.specs.Prologue as prologue
 use Rattle.rdf_grammar.specs.Prologue.{Prologue}
@@ -20,125 +21,127 @@ use Rattle.rdf_grammar.proofs.CallerLemmas.{then_parts}
 use Rattle.sparql_drafts.specs.declared.draft.Quads.{Quads}
 use Rattle.sparql_drafts.specs.Meaning.{quads_in, declaration}
 use Rattle.sparql_queries.specs.Groups.{Labels, group}
+use Rattle.sparql_syntax.specs.declared.clause.Clause.{Clause}
+use Rattle.sparql_syntax.specs.declared.clause.Clause.TheVariants as clause
 use Rattle.sparql_syntax.specs.declared.draft.Draft.{Draft}
 use Rattle.sparql_syntax.specs.declared.draft.Draft.TheVariants as d
 use Rattle.sparql_syntax.specs.Meaning.{answer, operation, part, listed, drafts, drafts_behind, drafts_of, modification, modification_of, templates, with_graph}
 use Rattle.sparql_syntax.specs.Known.{declares_first}
 use Rattle.sparql_trees.specs.declared.pattern.Pattern.{Pattern}
 use Rattle.sparql_syntax.proofs.DraftsNumbered.{answered}
-use Rattle.sparql_syntax.proofs.RuleMeanings.{FitsQuads, blocks_fit}
-use Rattle.sparql_syntax.proofs.RuleTrees.{Allows, Asks, fits_blocks}
+use Rattle.sparql_syntax.proofs.SharedLabels.{or_no, or_assoc}
 
-module _ (a : Allows) (asks : Asks) where
-  abbrev pub FitsDraft : Draft → Type 0
-  FitsDraft (d.InsertData q) = asks.insert ≡ true → FitsQuads a q
-  FitsDraft (d.DeleteData q) = asks.delete ≡ true → FitsQuads a q
-  FitsDraft (d.Modify m) = asks.template ≡ true → FitsQuads a m.delete
-  FitsDraft (d.Other operation) = Unit {0}
+-- a rule asks of these clauses, and breaks says of blocks that they break it where they stand in one
+module _ (asks : Clause → Bool) (breaks : List Block → Bool) where
+  abbrev pub operation_breaks : Operation → Bool
+  operation_breaks (o.InsertData blocks) = asks clause.InsertData && breaks blocks
+  operation_breaks (o.DeleteData blocks) = asks clause.DeleteData && breaks blocks
+  operation_breaks (o.DeleteWhere blocks) = asks clause.DeleteWhere && breaks blocks
+  operation_breaks (o.Modify m) = asks clause.DeleteTemplate && breaks m.delete
+  operation_breaks (o.Create silent graph) = false
+  operation_breaks (o.Clear silent graphs) = false
+  operation_breaks (o.Drop silent graphs) = false
+  operation_breaks (o.Copy silent from to) = false
+  operation_breaks (o.Move silent from to) = false
+  operation_breaks (o.Add silent from to) = false
 
-  -- what the rule asks of in an operation
-  abbrev pub FitsOperation : Operation → Type 0
-  FitsOperation (o.InsertData blocks) = asks.insert ≡ true → fits_blocks a blocks ≡ true
-  FitsOperation (o.DeleteData blocks) = asks.delete ≡ true → fits_blocks a blocks ≡ true
-  FitsOperation (o.DeleteWhere blocks) = asks.template ≡ true → fits_blocks a blocks ≡ true
-  FitsOperation (o.Modify m) = asks.template ≡ true → fits_blocks a m.delete ≡ true
-  FitsOperation (o.Create silent graph) = Unit {0}
-  FitsOperation (o.Clear silent graphs) = Unit {0}
-  FitsOperation (o.Drop silent graphs) = Unit {0}
-  FitsOperation (o.Copy silent from to) = Unit {0}
-  FitsOperation (o.Move silent from to) = Unit {0}
-  FitsOperation (o.Add silent from to) = Unit {0}
+  abbrev pub part_breaks : Part → Bool
+  part_breaks (w.Declaration declared) = false
+  part_breaks (w.Operation written) = operation_breaks written
 
-  abbrev pub FitsPart : Part → Type 0
-  FitsPart (w.Declaration declared) = Unit {0}
-  FitsPart (w.Operation written) = FitsOperation written
+-- the test of a rule on drafts, by one on quads
+abbrev pub test_by : (Clause → Bool) → (Quads → Bool) → Draft → Bool
+test_by asks test (d.InsertData q) = asks clause.InsertData && test q
+test_by asks test (d.DeleteData q) = asks clause.DeleteData && test q
+test_by asks test (d.Modify m) = asks clause.DeleteTemplate && test m.delete
+test_by asks test (d.Other operation) = false
 
-  other_fits : {A : Type 0} (f : A → Draft) (r : Option A) (draft : Draft) → ((y : A) → FitsDraft (f y)) → option_map f r ≡ Some draft → FitsDraft draft
-  other_fits f None draft h e = absurd (cc e)
-  other_fits f (Some y) draft h e = subst FitsDraft (same_Some _ _ e) (h y)
+module _ (asks : Clause → Bool) (alike : asks clause.DeleteTemplate ≡ asks clause.DeleteWhere) (breaks : List Block → Bool) (test : Quads → Bool)
+    (tested : (bs : List Block) (p : Prologue) (q : Quads) → quads_in bs p ≡ Some q → test q ≡ breaks bs) where
+  abbrev Test : Draft → Bool
+  Test = test_by asks test
 
-  some_data : (f : Quads → Draft) (r : Option Quads) (draft : Draft) → ((q : Quads) → r ≡ Some q → FitsDraft (f q)) → option_map f r ≡ Some draft → FitsDraft draft
-  some_data f None draft h e = absurd (cc e)
-  some_data f (Some q) draft h e = subst FitsDraft (same_Some _ _ e) (h q refl)
+  abbrev Breaks : Operation → Bool
+  Breaks = operation_breaks asks breaks
+
+  abbrev Parts : Part → Bool
+  Parts = part_breaks asks breaks
+
+  other_tested : {A : Type 0} (f : A → Draft) (r : Option A) (draft : Draft) → ((y : A) → Test (f y) ≡ false) → option_map f r ≡ Some draft → Test draft ≡ false
+  other_tested f None draft h e = absurd (cc e)
+  other_tested f (Some y) draft h e = subst (λ (z : Draft). Test z ≡ false) (same_Some _ _ e) (h y)
+
+  data_tested : (f : Quads → Draft) (asked : Bool) (blocks : List Block) (p : Prologue) (r : Option Quads) (draft : Draft) → ((q : Quads) → Test (f q) ≡ asked && test q) → quads_in blocks p ≡ r → option_map f r ≡ Some draft
+      → Test draft ≡ asked && breaks blocks
+  data_tested f asked blocks p None draft h is e = absurd (cc e)
+  data_tested f asked blocks p (Some q) draft h is e = subst (λ (z : Draft). Test z ≡ asked && breaks blocks) (same_Some _ _ e) (h q ∙ ap (λ (b : Bool). asked && b) (tested blocks p q is))
 
   -- ---- templates
 
-  both_fit : (x y : Option Quads) (quads : Quads × Quads) → ((q : Quads) → x ≡ Some q → asks.template ≡ true → FitsQuads a q)
-      → option_and_then (λ d. option_map {U = Quads × Quads} (λ i. (d, i)) y) x ≡ Some quads → asks.template ≡ true → FitsQuads a quads.0
-  both_fit None y quads h e asked = absurd (cc e)
-  both_fit (Some d) None quads h e asked = absurd (cc e)
-  both_fit (Some d) (Some i) quads h e asked = subst (λ (z : Quads × Quads). FitsQuads a z.0) (same_Some _ _ e) (h d refl asked)
+  both_deleted : (x y : Option Quads) (quads : Quads × Quads) → option_and_then (λ d. option_map {U = Quads × Quads} (λ i. (d, i)) y) x ≡ Some quads → x ≡ Some quads.0
+  both_deleted None y quads e = absurd (cc e)
+  both_deleted (Some d) None quads e = absurd (cc e)
+  both_deleted (Some d) (Some i) quads e = ap (λ (z : Quads × Quads). Some z.0) (same_Some _ _ e)
 
-  modified_by : (graph : Option (Option (List ℕ))) (both : Option (Quads × Quads)) (said : Option (Pattern × Labels)) (draft : Draft)
-      → ((quads : Quads × Quads) → both ≡ Some quads → asks.template ≡ true → FitsQuads a quads.0)
-      → option_map d.Modify (option_and_then (λ w. option_and_then (λ quads. option_map (modification_of w quads) said) both) graph) ≡ Some draft → FitsDraft draft
-  modified_by None both said draft h e = absurd (cc e)
-  modified_by (Some w) None said draft h e = absurd (cc e)
-  modified_by (Some w) (Some quads) None draft h e = absurd (cc e)
-  modified_by (Some w) (Some quads) (Some s) draft h e = subst FitsDraft (same_Some _ _ e) (h quads refl)
+  modified_by : (delete : List Block) (p : Prologue) (graph : Option (Option (List ℕ))) (both : Option (Quads × Quads)) (said : Option (Pattern × Labels)) (draft : Draft)
+      → ((quads : Quads × Quads) → both ≡ Some quads → quads_in delete p ≡ Some quads.0)
+      → option_map d.Modify (option_and_then (λ w. option_and_then (λ quads. option_map (modification_of w quads) said) both) graph) ≡ Some draft → Test draft ≡ asks clause.DeleteTemplate && breaks delete
+  modified_by delete p None both said draft h e = absurd (cc e)
+  modified_by delete p (Some w) None said draft h e = absurd (cc e)
+  modified_by delete p (Some w) (Some quads) None draft h e = absurd (cc e)
+  modified_by delete p (Some w) (Some quads) (Some s) draft h e =
+      subst (λ (z : Draft). Test z ≡ asks clause.DeleteTemplate && breaks delete) (same_Some _ _ e) (ap (λ (b : Bool). asks clause.DeleteTemplate && b) (tested delete p quads.0 (h quads refl)))
 
-  modification_fits : (with : Option Name) (delete insert : List Block) (g : Group) (p : Prologue) (draft : Draft) → (asks.template ≡ true → fits_blocks a delete ≡ true)
-      → option_map d.Modify (modification with delete insert g p) ≡ Some draft → FitsDraft draft
+  modification_tested : (with : Option Name) (delete insert : List Block) (g : Group) (p : Prologue) (draft : Draft) → option_map d.Modify (modification with delete insert g p) ≡ Some draft
+      → Test draft ≡ asks clause.DeleteTemplate && breaks delete
   unfolding modification
-  modification_fits with delete insert g p draft h e =
-      modified_by (with_graph with p) (templates delete insert p) (group p g []) draft
-      (λ quads is. both_fit (quads_in delete p) (quads_in insert p) quads (λ q there asked. blocks_fit a delete p q (h asked) there) is) e
+  modification_tested with delete insert g p draft e =
+      modified_by delete p (with_graph with p) (templates delete insert p) (group p g []) draft (λ quads is. both_deleted (quads_in delete p) (quads_in insert p) quads is) e
 
-  operation_fits : (written : Operation) (p : Prologue) (draft : Draft) → FitsOperation written → operation written p ≡ Some draft → FitsDraft draft
+  operation_tested : (written : Operation) (p : Prologue) (draft : Draft) → operation written p ≡ Some draft → Test draft ≡ Breaks written
   unfolding operation
-  operation_fits (o.InsertData blocks) p draft h e = some_data d.InsertData (quads_in blocks p) draft (λ q is asked. blocks_fit a blocks p q (h asked) is) e
-  operation_fits (o.DeleteData blocks) p draft h e = some_data d.DeleteData (quads_in blocks p) draft (λ q is asked. blocks_fit a blocks p q (h asked) is) e
-  operation_fits (o.DeleteWhere blocks) p draft h e = modification_fits None blocks [] (quads_group blocks) p draft h e
-  operation_fits (o.Modify m) p draft h e = modification_fits m.with m.delete m.insert m.group p draft h e
-  operation_fits (o.Create silent name) p draft h e = other_fits _ _ draft (λ _. tt) e
-  operation_fits (o.Clear silent graphs) p draft h e = other_fits _ _ draft (λ _. tt) e
-  operation_fits (o.Drop silent graphs) p draft h e = other_fits _ _ draft (λ _. tt) e
-  operation_fits (o.Copy silent from to) p draft h e = other_fits _ _ draft (λ _. tt) e
-  operation_fits (o.Move silent from to) p draft h e = other_fits _ _ draft (λ _. tt) e
-  operation_fits (o.Add silent from to) p draft h e = other_fits _ _ draft (λ _. tt) e
+  operation_tested (o.InsertData blocks) p draft e = data_tested d.InsertData (asks clause.InsertData) blocks p (quads_in blocks p) draft (λ q. refl) refl e
+  operation_tested (o.DeleteData blocks) p draft e = data_tested d.DeleteData (asks clause.DeleteData) blocks p (quads_in blocks p) draft (λ q. refl) refl e
+  operation_tested (o.DeleteWhere blocks) p draft e = modification_tested None blocks [] (quads_group blocks) p draft e ∙ ap (λ (b : Bool). b && breaks blocks) alike
+  operation_tested (o.Modify m) p draft e = modification_tested m.with m.delete m.insert m.group p draft e
+  operation_tested (o.Create silent name) p draft e = other_tested _ _ draft (λ _. refl) e
+  operation_tested (o.Clear silent graphs) p draft e = other_tested _ _ draft (λ _. refl) e
+  operation_tested (o.Drop silent graphs) p draft e = other_tested _ _ draft (λ _. refl) e
+  operation_tested (o.Copy silent from to) p draft e = other_tested _ _ draft (λ _. refl) e
+  operation_tested (o.Move silent from to) p draft e = other_tested _ _ draft (λ _. refl) e
+  operation_tested (o.Add silent from to) p draft e = other_tested _ _ draft (λ _. refl) e
 
   -- ---- parts
 
-  abbrev FitsSome : Option Draft → Type 0
-  FitsSome None = Unit {0}
-  FitsSome (Some draft) = FitsDraft draft
-
-  declared_fits : (declared : Declaration) (p u : Prologue) (y : Option Draft) → and_then (declaration declared p) (λ _ z. Some (None, z)) ≡ Some (y, u) → FitsSome y
-  declared_fits declared p u y e =
+  declared_tested : (declared : Declaration) (p u : Prologue) (y : Option Draft) → and_then (declaration declared p) (λ _ z. Some (None, z)) ≡ Some (y, u) → list_any Test (listed y) ≡ false
+  declared_tested declared p u y e =
       let parts = then_parts (declaration declared p) _ (y, u) e in
-      subst FitsSome (ap (λ q. q.0) (same_Some _ _ parts.3)) tt
+      subst (λ (z : Option Draft). list_any Test (listed z) ≡ false) (ap (λ q. q.0) (same_Some _ _ parts.3)) refl
 
-  drafted_fits : (r : Option Draft) (p : Prologue) (y : Option Draft) (u : Prologue) → ((draft : Draft) → r ≡ Some draft → FitsDraft draft) → option_map {U = Option Draft × Prologue} (λ z. (Some z, p)) r ≡ Some (y, u)
-      → FitsSome y
-  drafted_fits None p y u h e = absurd (cc e)
-  drafted_fits (Some z) p y u h e = subst FitsSome (ap (λ q. q.0) (same_Some _ _ e)) (h z refl)
+  drafted_tested : (it : Operation) (r : Option Draft) (p : Prologue) (y : Option Draft) (u : Prologue) → ((draft : Draft) → r ≡ Some draft → Test draft ≡ Breaks it)
+      → option_map {U = Option Draft × Prologue} (λ z. (Some z, p)) r ≡ Some (y, u) → list_any Test (listed y) ≡ Breaks it
+  drafted_tested it None p y u h e = absurd (cc e)
+  drafted_tested it (Some z) p y u h e = subst (λ (t : Option Draft). list_any Test (listed t) ≡ Breaks it) (ap (λ q. q.0) (same_Some _ _ e)) (or_no (Test z) ∙ h z refl)
 
-  part_fits : (one : Part) (p u : Prologue) (y : Option Draft) → FitsPart one → part one p ≡ Some (y, u) → FitsSome y
+  part_tested : (one : Part) (p u : Prologue) (y : Option Draft) → part one p ≡ Some (y, u) → list_any Test (listed y) ≡ Parts one
   unfolding part
-  part_fits (w.Declaration it) p u y h e = declared_fits it p u y e
-  part_fits (w.Operation it) p u y h e = drafted_fits (operation it p) p y u (λ draft. operation_fits it p draft h) e
+  part_tested (w.Declaration it) p u y e = declared_tested it p u y e
+  part_tested (w.Operation it) p u y e = drafted_tested it (operation it p) p y u (λ draft. operation_tested it p draft) e
 
-  joined_fit : (ds es : List Draft) → AllByRecursion FitsDraft ds → AllByRecursion FitsDraft es → AllByRecursion FitsDraft (ds ++ es)
-  joined_fit [] es all more = more
-  joined_fit (z ∷ ds) es all more = (all.0, joined_fit ds es all.1 more)
-
-  listed_fits : (y : Option Draft) → FitsSome y → AllByRecursion FitsDraft (listed y)
-  listed_fits None h = tt
-  listed_fits (Some z) h = (h, tt)
-
-  parts_fit : (ds : List Draft) (ps : List Part) (p u : Prologue) (es : List Draft) → AllByRecursion FitsDraft ds → AllByRecursion FitsPart ps → drafts_behind ds ps p ≡ Some (es, u) → AllByRecursion FitsDraft es
-  parts_fit ds [] p u es all h e = subst (AllByRecursion FitsDraft) (ap (λ q. q.0) (same_Some _ _ e)) all
-  parts_fit ds (one ∷ ps) p u es all h e =
+  parts_tested : (ds : List Draft) (ps : List Part) (p u : Prologue) (es : List Draft) → drafts_behind ds ps p ≡ Some (es, u) → list_any Test es ≡ (list_any Test ds || list_any Parts ps)
+  parts_tested ds [] p u es e = ap (list_any Test) (sym (ap (λ q. q.0) (same_Some _ _ e))) ∙ sym (or_no (list_any Test ds))
+  parts_tested ds (one ∷ ps) p u es e =
       let y = then_parts (part one p) _ (es, u) e in
-      parts_fit (ds ++ listed y.0) ps y.1 u es (joined_fit ds (listed y.0) all (listed_fits y.0 (part_fits one p y.1 y.0 h.0 y.2))) h.1 y.3
+      parts_tested (ds ++ listed y.0) ps y.1 u es y.3 ∙ ap (λ (b : Bool). b || list_any Parts ps) (list_any-append Test ds (listed y.0))
+      ∙ or_assoc (list_any Test ds) (list_any Test (listed y.0)) (list_any Parts ps) ∙ ap (λ (b : Bool). list_any Test ds || (b || list_any Parts ps)) (part_tested one p y.1 y.0 y.2)
 
-  request_fits : (base : Option (List ℕ)) (ps : List Part) (ds : List Draft) → AllByRecursion FitsPart ps → drafts_of base ps ≡ Some ds → AllByRecursion FitsDraft ds
+  request_tested : (base : Option (List ℕ)) (ps : List Part) (ds : List Draft) → drafts_of base ps ≡ Some ds → list_any Test ds ≡ list_any Parts ps
   unfolding drafts_of
-  request_fits base ps ds h e = by (drafts ps (prologue.start base)) refl e
+  request_tested base ps ds e = by (drafts ps (prologue.start base)) refl e
     where
-      by : (r : Outcome Prologue (List Draft)) → drafts ps (prologue.start base) ≡ r → option_map (λ z. z.0) r ≡ Some ds → AllByRecursion FitsDraft ds
+      by : (r : Outcome Prologue (List Draft)) → drafts ps (prologue.start base) ≡ r → option_map (λ z. z.0) r ≡ Some ds → list_any Test ds ≡ list_any Parts ps
       by None there e = absurd (cc e)
-      by (Some z) there e = subst (AllByRecursion FitsDraft) (same_Some _ _ e) (parts_fit [] ps (prologue.start base) z.1 z.0 tt h there)
+      by (Some z) there e = ap (list_any Test) (sym (same_Some _ _ e)) ∙ parts_tested [] ps (prologue.start base) z.1 z.0 there
 
-  pub drafts_fit : (base : Option (List ℕ)) (ps : List Part) (ds : List Draft) → AllByRecursion FitsPart ps → answer base ps ≡ Ok ds → AllByRecursion FitsDraft ds
-  drafts_fit base ps ds h e = request_fits base ps ds h (answered (declares_first [] ps) (drafts_of base ps) ds e)
+  pub drafts_tested : (base : Option (List ℕ)) (ps : List Part) (ds : List Draft) → answer base ps ≡ Ok ds → list_any Test ds ≡ list_any Parts ps
+  drafts_tested base ps ds e = request_tested base ps ds (answered (declares_first [] ps) (drafts_of base ps) ds e)

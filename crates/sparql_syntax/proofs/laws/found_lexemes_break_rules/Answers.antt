@@ -1,4 +1,4 @@
-use Rattle.sparql_syntax.proofs.BrokenFound as broken
+use Rattle.sparql_syntax.proofs.BrokenRuleLemmas as broken
 use Rattle.sparql_syntax.proofs.ReusedFound as found
 use Rattle.sparql_syntax.proofs.laws.found_lexemes_break_rules.Goals as goal
 
