@@ -3,7 +3,7 @@ use Rattle.std.proofs.Common.{◌≡◌, ◌<◌, ◌+◌, ◌∙◌, ap, refl, 
 use Rattle.std.proofs.lemmas.Bool.{and_parts}
 use Rattle.std.specs.List.{list_all, list_any}
 use Rattle.rdf_terms.specs.Term.{is_literal_term}
-use Rattle.rdf_grammar.specs.Prologue.{Prologue}
+use Rattle.rdf_grammar.specs.Prologue.{Prologue, start as begin}
 use Rattle.rdf_grammar.specs.Terminals.{Slice, next_terminal}
 use Rattle.sparql_grammar.specs.OperationGrammar.{IsRequest}
 use Rattle.sparql_grammar.specs.declared.tree.Block.{Block}
@@ -29,7 +29,7 @@ use Rattle.sparql_syntax.specs.BrokenRules.{breaks, breaking_from, first_breakin
 use Rattle.sparql_syntax.specs.Clauses.{clause_behind, is_data, is_deleted}
 use Rattle.sparql_syntax.specs.Meaning.{answer}
 use Rattle.sparql_syntax.specs.Rules as rules
-use Rattle.sparql_syntax.specs.Update.{meaning, ruled}
+use Rattle.sparql_syntax.specs.Update.{ruled}
 use Rattle.sparql_trees.specs.declared.operation.Operation.{Operation}
 use Rattle.sparql_syntax.proofs.QuestionFronts.{asked, opened}
 use Rattle.sparql_syntax.proofs.RequestLemmas.{answer_kind}
@@ -37,7 +37,7 @@ use Rattle.sparql_syntax.proofs.RuleDrafts.{drafts_tested, test_by}
 use Rattle.sparql_syntax.proofs.RuleLexemes.{Rule, Broken, opened_yes, searched}
 use Rattle.sparql_syntax.proofs.RuleRequests.{breaks_in, request_broken}
 use Rattle.sparql_syntax.proofs.SharedLabels.{or_no, or_yes}
-use Rattle.sparql_syntax.proofs.TripleQuestions.{Question, asks_blocks}
+use Rattle.sparql_syntax.proofs.TripleQuestions.{Question}
 use Rattle.sparql_syntax.proofs.TriplesSaid.{Sound, blocks_say, every, fits_around, fits_iri, fits_pattern, fits_place, fits_quads, fits_subject, iri_fits, pattern_by_subject}
 
 -- ---- which lexeme it comes to
@@ -96,10 +96,6 @@ literal_is_of_kind = of_kind fault.LiteralSubject (λ k _. is_literal k)
 
 -- ---- the rules
 
-and_no : (b : Bool) → (b && false) ≡ false
-and_no true = refl
-and_no false = refl
-
 abbrev blank_question : Question
 blank_question = record { name = λ _. true; variable = true; label = λ _. false; blank = false; literal = true; word = true }
 
@@ -109,14 +105,14 @@ variable_question = record { name = λ _. true; variable = false; label = λ _. 
 abbrev literal_question : Question
 literal_question = record { name = λ _. true; variable = true; label = λ _. true; blank = true; literal = false; word = true }
 
-blank_sound : Sound blank_question
-blank_sound = record { names = λ n. refl; alike = λ l o e. refl; labels = λ l e. e }
+abbrev blank_sound : Sound blank_question
+blank_sound = record { strict = false; against = begin None; names = λ e n. refl; there = λ e n. absurd (true≢false (sym e)); alike = λ l o e. refl; labels = λ l e. e }
 
-variable_sound : Sound variable_question
-variable_sound = record { names = λ n. refl; alike = λ l o e. refl; labels = λ l e. refl }
+abbrev variable_sound : Sound variable_question
+variable_sound = record { strict = false; against = begin None; names = λ e n. refl; there = λ e n. absurd (true≢false (sym e)); alike = λ l o e. refl; labels = λ l e. refl }
 
-literal_sound : Sound literal_question
-literal_sound = record { names = λ n. refl; alike = λ l o e. refl; labels = λ l e. refl }
+abbrev literal_sound : Sound literal_question
+literal_sound = record { strict = false; against = begin None; names = λ e n. refl; there = λ e n. absurd (true≢false (sym e)); alike = λ l o e. refl; labels = λ l e. refl }
 
 open_blank : (next : Option Terminal) → is_blank terminal.Open next ≡ not (opened false next)
 open_blank None = refl
@@ -143,6 +139,8 @@ blank_rule = record {
   asks = is_deleted;
   question = blank_question;
   sound = blank_sound;
+  lax = refl;
+  names = λ n. refl;
   words = refl;
   inserts = refl;
   patterns = refl;
@@ -156,6 +154,8 @@ variable_rule = record {
   asks = is_data;
   question = variable_question;
   sound = variable_sound;
+  lax = refl;
+  names = λ n. refl;
   words = refl;
   inserts = refl;
   patterns = refl;
@@ -169,6 +169,8 @@ literal_rule = record {
   asks = is_data;
   question = literal_question;
   sound = literal_sound;
+  lax = refl;
+  names = λ n. refl;
   words = refl;
   inserts = refl;
   patterns = refl;
@@ -295,7 +297,7 @@ same_any f g h (x ∷ xs) = ap (λ (b : Bool). b || list_any f xs) (h x) ∙ ap 
 module _ (r : Rule) (test : Draft → Bool) (said : Quads → Bool) (alike : (d : Draft) → test d ≡ test_by r.asks said d)
     (fits : (d : Quads) → (d.blanks ≡ 0 → d.labels ≡ []) → said d ≡ not (fits_quads r.question d)) where
   quads_tested : (bs : List Block) (p : Prologue) (d : Quads) → quads_in bs p ≡ Some d → said d ≡ breaks_in r bs
-  quads_tested bs p d e = (let a = blocks_say r.question r.sound bs p d e in fits d a.few ∙ ap not a.is)
+  quads_tested bs p d e = (let a = blocks_say r.question r.sound r.lax bs p d e in fits d a.few ∙ ap not a.is)
 
   -- some draft breaks it just where a lexeme does
   same_broken : (base : Option (List ℕ)) (ts : Lexemes) (tree : List Part) (drafts : List Draft) → IsRequest ts tree → answer base tree ≡ Ok drafts → list_any test drafts ≡ Broken r clause.Pattern false ts

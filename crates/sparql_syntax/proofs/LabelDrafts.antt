@@ -4,12 +4,9 @@ use Rattle.std.specs.Prelude.{Ok}
 use Rattle.std.proofs.lemmas.Option.{same_Some}
 use Rattle.std.proofs.lemmas.List.Folds.{list_any-append}
 use Rattle.std.specs.List.{flat_map, list_any}
-use Rattle.std.specs.Option.{option_and_then, option_map}
+use Rattle.std.specs.Option.{option_map}
 use Rattle.rdf_grammar.specs.Keys.{key_of, same_key}
-use Rattle.rdf_grammar.specs.Prologue as prologue
 use Rattle.rdf_grammar.specs.Prologue.{Prologue}
-use Rattle.rdf_grammar.specs.Steps.{Outcome, and_then}
-use Rattle.rdf_grammar.specs.declared.tree.Name.{Name}
 use Rattle.sparql_grammar.specs.QuadGroups.{members_by, quads_group}
 use Rattle.sparql_grammar.specs.GroupReading.{together}
 use Rattle.sparql_grammar.specs.declared.tree.Block.{Block}
@@ -23,20 +20,17 @@ use Rattle.sparql_grammar.specs.declared.tree.Part.{Part}
 use Rattle.sparql_grammar.specs.declared.tree.Part.TheVariants as w
 use Rattle.sparql_grammar.specs.declared.tree.Triples.{Triples}
 use Rattle.sparql_grammar.specs.declared.tree.VarOrIri.{VarOrIri}
-use Rattle.rdf_grammar.proofs.CallerLemmas.{then_parts}
 use Rattle.sparql_drafts.specs.declared.draft.Quads.{Quads}
-use Rattle.sparql_drafts.specs.Meaning.{quads_in, declaration}
+use Rattle.sparql_drafts.specs.Meaning.{quads_in}
 use Rattle.sparql_queries.specs.Groups.{Labels, group}
 use Rattle.sparql_syntax.specs.declared.clause.Clause.TheVariants as clause
 use Rattle.sparql_syntax.specs.declared.draft.Draft.{Draft}
 use Rattle.sparql_syntax.specs.declared.draft.Draft.TheVariants as d
-use Rattle.sparql_syntax.specs.declared.draft.Modification.{Modification}
-use Rattle.sparql_syntax.specs.Meaning.{answer, operation, part, listed, drafts, drafts_behind, drafts_of, modification, modification_of, templates, with_graph}
-use Rattle.sparql_syntax.specs.Known.{declares_first}
+use Rattle.sparql_syntax.specs.Meaning.{answer, operation, drafts}
 use Rattle.sparql_syntax.specs.RuleLaws.{stands_in}
 use Rattle.sparql_syntax.specs.Rules.{has_blank_in_delete, inserted_labels, pattern_labels}
 use Rattle.sparql_trees.specs.declared.pattern.Pattern.{Pattern}
-use Rattle.sparql_syntax.proofs.DraftsNumbered.{answered}
+use Rattle.sparql_syntax.proofs.DraftLists.{AreDrafted, Modifies, drafts_are, modifies}
 use Rattle.sparql_syntax.proofs.LabelFronts.{lists}
 use Rattle.sparql_syntax.proofs.LabelGroupMeanings.{group_says, no_group}
 use Rattle.sparql_syntax.proofs.LabelGroups.{group_count, group_count_of, member_count, member_count_of, total}
@@ -182,42 +176,21 @@ module _ (label : List ℕ) where
       subst (λ (z : Draft). One z (once (stands_in label (lists block_labels blocks)) 0) 0) (same_Some _ _ e)
       (record { inserted = ap (λ (b : Bool). once b 0) said; most = omega arith; same = λ none. refl })
 
-  -- what a modification says: its deletions, and its group
-  record Modifies (p : Prologue) (delete : List Block) (g : Group) (draft : Draft) : Type 0 where
-    change : Modification
-    is : d.Modify change ≡ draft
-    deleted : quads_in delete p ≡ Some change.delete
-    labels : times label change.labels ≡ in_group g
+  -- the lists of a group's basic graph patterns
+  listed_in : (p : Prologue) (delete insert : List Block) (g : Group) (draft : Draft) (m : Modifies p delete insert g draft) → times label m.change.labels ≡ in_group g
+  listed_in p delete insert g draft m = group_says p label g (m.change.pattern, m.change.labels) m.asked
 
-  both_deleted : (x y : Option Quads) (quads : Quads × Quads) → option_and_then (λ d. option_map {U = Quads × Quads} (λ i. (d, i)) y) x ≡ Some quads → x ≡ Some quads.0
-  both_deleted None y quads e = absurd (cc e)
-  both_deleted (Some d) None quads e = absurd (cc e)
-  both_deleted (Some d) (Some i) quads e = ap (λ (z : Quads × Quads). Some z.0) (same_Some _ _ e)
-
-  modified_by : (p : Prologue) (delete : List Block) (g : Group) (draft : Draft) (graph : Option (Option (List ℕ))) (both : Option (Quads × Quads)) (said : Option (Pattern × Labels))
-      → ((quads : Quads × Quads) → both ≡ Some quads → quads_in delete p ≡ Some quads.0) → ((s : Pattern × Labels) → said ≡ Some s → times label s.1 ≡ in_group g)
-      → option_map d.Modify (option_and_then (λ w. option_and_then (λ quads. option_map (modification_of w quads) said) both) graph) ≡ Some draft → Modifies p delete g draft
-  modified_by p delete g draft None both said h i e = absurd (cc e)
-  modified_by p delete g draft (Some w) None said h i e = absurd (cc e)
-  modified_by p delete g draft (Some w) (Some quads) None h i e = absurd (cc e)
-  modified_by p delete g draft (Some w) (Some quads) (Some s) h i e = record { change = modification_of w quads s; is = same_Some _ _ e; deleted = h quads refl; labels = i s refl }
-
-  modifies : (with : Option Name) (delete insert : List Block) (g : Group) (p : Prologue) (draft : Draft) → option_map d.Modify (modification with delete insert g p) ≡ Some draft → Modifies p delete g draft
-  unfolding modification
-  modifies with delete insert g p draft e =
-      modified_by p delete g draft (with_graph with p) (templates delete insert p) (group p g []) (λ quads is. both_deleted (quads_in delete p) (quads_in insert p) quads is) (λ s is. group_says p label g s is) e
-
-  modified_one : (p : Prologue) (delete : List Block) (g : Group) (draft : Draft) → Modifies p delete g draft → One draft 0 (in_group g)
+  modified_one : (p : Prologue) (delete insert : List Block) (g : Group) (draft : Draft) → Modifies p delete insert g draft → One draft 0 (in_group g)
   unfolding times
-  modified_one p delete g draft h =
+  modified_one p delete insert g draft h =
       subst (λ (z : Draft). One z 0 (in_group g)) h.is
-      (record { inserted = refl; most = (let e : times label h.change.labels ≡ in_group g = h.labels in omega (arith, e)); same = λ none. h.labels })
+      (record { inserted = refl; most = (let e : times label h.change.labels ≡ in_group g = listed_in p delete insert g draft h in omega (arith, e)); same = λ none. listed_in p delete insert g draft h })
 
   not_zero : (n : ℕ) → not (n == 0) ≡ false → n ≡ 0
   not_zero n e = grind arith
 
   -- what DELETE WHERE deletes is its group, which has no labels where no blank node is deleted
-  deleted_one : (p : Prologue) (blocks : List Block) (draft : Draft) → Modifies p blocks (quads_group blocks) draft → One draft 0 0
+  deleted_one : (p : Prologue) (blocks : List Block) (draft : Draft) → Modifies p blocks [] (quads_group blocks) draft → One draft 0 0
   unfolding times
   deleted_one p blocks draft h =
       subst (λ (z : Draft). One z 0 0) h.is
@@ -227,7 +200,7 @@ module _ (label : List ℕ) where
         same = λ none. (
             let said = blocks_say label blocks p h.change.delete h.deleted in
             let empty = said.few (not_zero h.change.delete.blanks none) in
-            h.labels ∙ no_quads_group blocks (sym said.says ∙ ap (stands_in label) empty)
+            listed_in p blocks [] (quads_group blocks) draft h ∙ no_quads_group blocks (sym said.says ∙ ap (stands_in label) empty)
             );
       })
 
@@ -237,7 +210,7 @@ module _ (label : List ℕ) where
   operation_one (o.DeleteData blocks) p draft e = nothing_one d.DeleteData (quads_in blocks p) draft (λ q. (refl, refl)) e
   operation_one (o.DeleteWhere blocks) p draft e = deleted_one p blocks draft (modifies None blocks [] (quads_group blocks) p draft e)
   operation_one (o.Modify m) p draft e =
-      subst (λ (k : ℕ). One draft k (pattern_count (o.Modify m))) (sym (no_group label m.group)) (modified_one p m.delete m.group draft (modifies m.with m.delete m.insert m.group p draft e))
+      subst (λ (k : ℕ). One draft k (pattern_count (o.Modify m))) (sym (no_group label m.group)) (modified_one p m.delete m.insert m.group draft (modifies m.with m.delete m.insert m.group p draft e))
   operation_one (o.Create silent name) p draft e = nothing_one _ _ draft (λ _. (refl, refl)) e
   operation_one (o.Clear silent graphs) p draft e = nothing_one _ _ draft (λ _. (refl, refl)) e
   operation_one (o.Drop silent graphs) p draft e = nothing_one _ _ draft (λ _. (refl, refl)) e
@@ -253,53 +226,18 @@ module _ (label : List ℕ) where
   abbrev patterns_of : Part → ℕ
   patterns_of = part_count clause.Pattern label
 
-  declared_whole : (declared : Declaration) (p u : Prologue) (y : Option Draft) → and_then (declaration declared p) (λ _ z. Some (None, z)) ≡ Some (y, u) → Whole (listed y) 0 0
-  declared_whole declared p u y e =
-      let parts = then_parts (declaration declared p) _ (y, u) e in
-      subst (λ (z : Option Draft). Whole (listed z) 0 0) (ap (λ q. q.0) (same_Some _ _ parts.3)) none_whole
+  zero_more : (n : ℕ) → n ≡ 0 + n
+  zero_more n = omega arith
 
-  drafted_whole : (it : Operation) (r : Option Draft) (p u : Prologue) (y : Option Draft) → ((draft : Draft) → r ≡ Some draft → One draft (data_count it) (pattern_count it))
-      → option_map {U = Option Draft × Prologue} (λ z. (Some z, p)) r ≡ Some (y, u) → Whole (listed y) (data_count it) (pattern_count it)
-  drafted_whole it None p u y h e = absurd (cc e)
-  drafted_whole it (Some z) p u y h e =
-      subst (λ (t : Option Draft). Whole (listed t) (data_count it) (pattern_count it)) (ap (λ q. q.0) (same_Some _ _ e)) (one_whole z (data_count it) (pattern_count it) (h z refl))
-
-  part_whole : (one : Part) (p u : Prologue) (y : Option Draft) → part one p ≡ Some (y, u) → Whole (listed y) (data_of one) (patterns_of one)
-  unfolding part
-  part_whole (w.Declaration it) p u y e = declared_whole it p u y e
-  part_whole (w.Operation it) p u y e = drafted_whole it (operation it p) p u y (λ draft. operation_one it p draft) e
-
-  parts_whole : (ds : List Draft) (ps : List Part) (p u : Prologue) (es : List Draft) (k n : ℕ) → Whole ds k n → drafts_behind ds ps p ≡ Some (es, u)
-      → Whole es (k + total (map data_of ps)) (n + total (map patterns_of ps))
-  parts_whole ds [] p u es k n h e =
-      subst (λ (z : List Draft). Whole z (k + 0) (n + 0)) (ap (λ q. q.0) (same_Some _ _ e)) (subst (λ (j : ℕ). Whole ds j (n + 0)) (by k) (subst (λ (j : ℕ). Whole ds k j) (by n) h))
-    where
-      by : (j : ℕ) → j ≡ j + 0
-      by j = omega arith
-  parts_whole ds (one ∷ ps) p u es k n h e =
-      let y = then_parts (part one p) _ (es, u) e in
-      let more = more_whole ds (listed y.0) k n (data_of one) (patterns_of one) h (part_whole one p y.1 y.0 y.2) in
-      let all = parts_whole (ds ++ listed y.0) ps y.1 u es (k + data_of one) (n + patterns_of one) more y.3 in
-      subst (λ (j : ℕ). Whole es j (n + total (map patterns_of (one ∷ ps)))) (by k (data_of one) (total (map data_of ps)))
-      (subst (λ (j : ℕ). Whole es ((k + data_of one) + total (map data_of ps)) j) (by n (patterns_of one) (total (map patterns_of ps))) all)
-    where
-      by : (a b c : ℕ) → (a + b) + c ≡ a + (b + c)
-      by a b c = omega arith
-
-  request_whole : (base : Option (List ℕ)) (ps : List Part) (ds : List Draft) → drafts_of base ps ≡ Some ds → Whole ds (total (map data_of ps)) (total (map patterns_of ps))
-  unfolding drafts_of
-  request_whole base ps ds e = by (drafts ps (prologue.start base)) refl e
-    where
-      zero_more : (n : ℕ) → 0 + n ≡ n
-      zero_more n = omega arith
-
-      by : (r : Outcome Prologue (List Draft)) → drafts ps (prologue.start base) ≡ r → option_map (λ z. z.0) r ≡ Some ds → Whole ds (total (map data_of ps)) (total (map patterns_of ps))
-      by None there e = absurd (cc e)
-      by (Some z) there e =
-          let all = parts_whole [] ps (prologue.start base) z.1 z.0 0 0 none_whole there in
-          subst (λ (t : List Draft). Whole t (total (map data_of ps)) (total (map patterns_of ps))) (same_Some _ _ e)
-          (subst (λ (j : ℕ). Whole z.0 j (total (map patterns_of ps))) (zero_more (total (map data_of ps)))
-          (subst (λ (j : ℕ). Whole z.0 (0 + total (map data_of ps)) j) (zero_more (total (map patterns_of ps))) all))
+  all_whole : (ps : List Part) (ds : List Draft) → AreDrafted ps ds → Whole ds (total (map data_of ps)) (total (map patterns_of ps))
+  all_whole [] ds are = subst (λ (z : List Draft). Whole z 0 0) (sym are) none_whole
+  all_whole (w.Declaration it ∷ ps) ds are =
+      subst (λ (k : ℕ). Whole ds k (0 + total (map patterns_of ps))) (zero_more (total (map data_of ps)))
+      (subst (λ (n : ℕ). Whole ds (total (map data_of ps)) n) (zero_more (total (map patterns_of ps))) (all_whole ps ds are))
+  all_whole (w.Operation it ∷ ps) ds are =
+      subst (λ (z : List Draft). Whole z (data_count it + total (map data_of ps)) (pattern_count it + total (map patterns_of ps))) (sym are.4)
+      (more_whole (are.1 ∷ []) are.2 (data_count it) (pattern_count it) (total (map data_of ps)) (total (map patterns_of ps))
+      (one_whole are.1 (data_count it) (pattern_count it) (operation_one it are.0 are.1 are.3)) (all_whole ps are.2 are.5))
 
   pub drafts_whole : (base : Option (List ℕ)) (ps : List Part) (ds : List Draft) → answer base ps ≡ Ok ds → Whole ds (total (map data_of ps)) (total (map patterns_of ps))
-  drafts_whole base ps ds e = request_whole base ps ds (answered (declares_first [] ps) (drafts_of base ps) ds e)
+  drafts_whole base ps ds e = all_whole ps ds (drafts_are base ps ds e)

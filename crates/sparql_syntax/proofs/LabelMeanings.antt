@@ -1,11 +1,11 @@
 -- What triples say: a blank node label is listed just where it stands among their labels.
-use Rattle.std.proofs.Common.{◌≡◌, ◌∙◌, ap, refl, sym, subst, ℕ, Bool, true, false, ◌&&◌, ◌||◌, not, ◌==◌, List, [], ◌∷◌, ◌++◌, map, Option, Some, None}
+use Rattle.std.proofs.Common.{◌≡◌, ◌∙◌, ap, refl, sym, subst, ℕ, Bool, true, false, ◌&&◌, ◌||◌, not, ◌==◌, List, [], ◌∷◌, ◌++◌, map, Option, Some, None, true≢false}
 use Rattle.std.proofs.lemmas.List.Folds.{list_any-append}
 use Rattle.std.proofs.lemmas.Slice.Eq.{bytes_eq-Decides}
 use Rattle.std.specs.List.{list_all, AllByRecursion}
 use Rattle.rdf_grammar.specs.Holds.{holds}
 use Rattle.rdf_grammar.specs.Keys.{key_of, same_key}
-use Rattle.rdf_grammar.specs.Prologue.{Prologue}
+use Rattle.rdf_grammar.specs.Prologue.{Prologue, start as begin}
 use Rattle.rdf_grammar.specs.Terminals.{Slice}
 use Rattle.rdf_grammar.specs.declared.tree.Literal.{Literal}
 use Rattle.rdf_grammar.specs.declared.tree.Literal.TheVariants as l
@@ -43,9 +43,12 @@ module _ (label : List ℕ) where
   abbrev question : Question
   question = record { name = λ _. true; variable = true; label = other; blank = true; literal = true; word = true }
 
-  sound : Sound question
+  abbrev sound : Sound question
   sound = record {
-    names = λ name. refl;
+    strict = false;
+    against = begin None;
+    names = λ e name. refl;
+    there = λ e name. absurd (true≢false (sym e));
     alike = λ one another e. ap (λ (key : List ℕ). not (same_key (key_of label) key)) ((bytes_eq-Decides (key_of one) (key_of another)).0 e);
     labels = λ l e. refl;
   }
@@ -187,8 +190,8 @@ module _ (label : List ℕ) where
 
   pub blocks_say : (bs : List Block) (p : Prologue) (d : Quads) → quads_in bs p ≡ Some d → SaysLabels (lists block_labels bs) d
   blocks_say bs p d e =
-      said_labels (asks_blocks question bs) (lists block_labels bs) d (said.blocks_say question sound bs p d e)
+      said_labels (asks_blocks question bs) (lists block_labels bs) d (said.blocks_say question sound refl bs p d e)
       (all_lack (asks_block question) block_labels bs (all_of (λ b. asks_block question b ≡ lacks (block_labels b)) block_lacks bs))
 
   pub pattern_says : (ts : List Triples) (p : Prologue) (d : Quads) → pattern_in ts p ≡ Some d → SaysLabels (lists triples_labels ts) d
-  pattern_says ts p d e = said_labels (list_all holds (map (asks_triples question) ts)) (lists triples_labels ts) d (said.pattern_says question sound ts p d e) (list_lacks ts)
+  pattern_says ts p d e = said_labels (list_all holds (map (asks_triples question) ts)) (lists triples_labels ts) d (said.pattern_says question sound refl ts p d e) (list_lacks ts)

@@ -1,6 +1,7 @@
 pub mod AnswerLemmas
 mod AtOnceLemmas
 mod BrokenRuleLemmas
+mod DraftLists
 pub mod DraftsNumbered
 mod FailLemmas
 mod FaultyNameLemmas
@@ -26,6 +27,7 @@ mod NameNodes
 mod NameOperations
 mod NameRequests
 mod NameScans
+mod NameTriples
 mod NameWalks
 mod NameWords
 mod PhaseLemmas

@@ -57,9 +57,10 @@ use Rattle.sparql_syntax.proofs.NameGroups.{each_group, each_group_of, each_memb
 use Rattle.sparql_syntax.proofs.NameOperations.{each_block, each_blocks, each_form, each_graph_or_default, each_graph_ref_all, each_operation, each_with}
 use Rattle.sparql_syntax.proofs.NameScans.{all_alike, all_based, all_both, all_bound, has_base, plain_based, plain_bound}
 use Rattle.sparql_syntax.proofs.NameRequests.{Declares, IsQueryFront, Walks, based_behind, based_declaration}
-use Rattle.sparql_syntax.proofs.NameMeanings.{has_iri, quads_there, some_map}
+use Rattle.sparql_syntax.proofs.NameMeanings.{has_iri, quads_there}
 use Rattle.sparql_syntax.proofs.NameGroupMeanings.{group_goes}
 use Rattle.sparql_syntax.proofs.NameMeanings as steps
+use Rattle.sparql_syntax.proofs.TriplesSaid.{some_map}
 
 -- ---- options
 

@@ -15,7 +15,8 @@ use Rattle.sparql_trees.specs.declared.expression.Expression.{Expression}
 use Rattle.sparql_trees.specs.declared.expression.Sign.{Sign}
 use Rattle.sparql_syntax.proofs.NameFronts.{Ask, of_names}
 use Rattle.sparql_syntax.proofs.NameExpressions.{each_expression, each_expression_of}
-use Rattle.sparql_syntax.proofs.NameMeanings.{has_iri, literal_there, some_map}
+use Rattle.sparql_syntax.proofs.NameMeanings.{has_iri, literal_there}
+use Rattle.sparql_syntax.proofs.TriplesSaid.{some_map}
 
 both_there : {A B C : Type 0} (make : A → B → C) (left : Option A) (right : Option B) → is_some (both make left right) ≡ is_some left && is_some right
 both_there make None right = refl

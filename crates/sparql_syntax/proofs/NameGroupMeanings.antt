@@ -29,7 +29,8 @@ use Rattle.sparql_syntax.proofs.NameFronts.{Ask, of_names}
 use Rattle.sparql_syntax.proofs.NameExpressions.{each_expression}
 use Rattle.sparql_syntax.proofs.NameNodes.{each_triples, each_var_or_iri}
 use Rattle.sparql_syntax.proofs.NameGroups.{each_group, each_group_of, each_member, each_member_of, passed}
-use Rattle.sparql_syntax.proofs.NameMeanings.{Comes, Goes, by_flag, has_iri, map_goes, pattern_there, pure_goes, some_map, then_goes}
+use Rattle.sparql_syntax.proofs.NameMeanings.{Comes, Goes, by_flag, has_iri, map_goes, pattern_there, pure_goes, then_goes}
+use Rattle.sparql_syntax.proofs.TriplesSaid.{some_map}
 use Rattle.sparql_syntax.proofs.NameExpressionMeanings.{all_there, expression_there}
 
 module _ (p : Prologue) where

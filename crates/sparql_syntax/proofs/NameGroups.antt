@@ -22,7 +22,8 @@ use Rattle.sparql_grammar.specs.GroupGrammar as groups
 use Rattle.sparql_grammar.specs.GroupReading.{filters_of, group_with, members_behind, together}
 use Rattle.sparql_syntax.proofs.NameFronts.{Ask, Value, Gives, start, then_gives, pure_gives, or_gives, map_gives, behind_gives, closed_gives, maybe_gives, perhaps_gives, later_gives, lists, lists-append, star_gives, each_gives, and_true}
 use Rattle.sparql_syntax.proofs.NameExpressions.{each_expression, expression_value, constraint_gives}
-use Rattle.sparql_syntax.proofs.NameNodes.{each_triples, each_var_or_iri, triples_value, place_value, place_gives, triples_give}
+use Rattle.sparql_syntax.proofs.NameNodes.{each_triples, each_var_or_iri, triples_value, place_value, place_gives}
+use Rattle.sparql_syntax.proofs.NameTriples.{triples_give}
 
 -- of each name in a group
 module _ (q : Ask) where

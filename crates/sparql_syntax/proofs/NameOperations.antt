@@ -31,7 +31,8 @@ use Rattle.sparql_grammar.specs.QueryGrammar as queries
 use Rattle.sparql_grammar.specs.Reading.{all_of}
 use Rattle.sparql_syntax.proofs.NameFronts.{Ask, Value, Gives, Sign, start, is_plain, names, opening_gives, then_gives, pure_gives, or_gives, map_gives, behind_gives, closed_gives, sign_gives, maybe_gives, perhaps_gives, later_gives, lists, star_gives, one_gives, same_gives, and_true}
 use Rattle.sparql_syntax.proofs.NameWords.{name_value, iri_gives}
-use Rattle.sparql_syntax.proofs.NameNodes.{each_triples, each_var_or_iri, triples_value, place_value, place_gives, triples_give}
+use Rattle.sparql_syntax.proofs.NameNodes.{each_triples, each_var_or_iri, triples_value, place_value, place_gives}
+use Rattle.sparql_syntax.proofs.NameTriples.{triples_give}
 use Rattle.sparql_syntax.proofs.NameGroups.{each_group, group_value, group_at_gives}
 
 -- of each name in an operation, and of its word INSERT or DELETE

@@ -1,20 +1,18 @@
 -- Quads in braces, and what is asked of their lexemes.
-use Rattle.std.proofs.Common.{◌≡◌, ap, refl, sym, ℕ, suc, Bool, true, false, ◌&&◌, List, [], ◌∷◌, Option, Some, None}
+use Rattle.std.proofs.Common.{ap, refl, sym, ℕ, suc, Bool, true, false, ◌&&◌, List, [], ◌∷◌, Option, Some, None}
 use Rattle.rdf_grammar.specs.Derivations as grammar
-use Rattle.rdf_grammar.specs.Derivations.{Star}
 use Rattle.sparql_terminals.specs.declared.terminal.Terminal.TheVariants as terminal
 use Rattle.sparql_terminals.specs.Lexemes.{Derives}
 use Rattle.sparql_grammar.specs.declared.tree.Block.{Block}
 use Rattle.sparql_grammar.specs.declared.tree.Triples.{Triples}
-use Rattle.sparql_grammar.specs.declared.tree.VarOrIri.{VarOrIri}
 use Rattle.sparql_grammar.specs.Grammar as g
 use Rattle.sparql_grammar.specs.OperationGrammar as operations
 use Rattle.sparql_grammar.specs.OperationReading.{block}
 use Rattle.sparql_grammar.specs.Reading.{all_of}
 use Rattle.sparql_syntax.proofs.NameFronts.{and_true}
-use Rattle.sparql_syntax.proofs.QuestionFronts.{Value, Gives, Ends, start, then_gives, then_ends, any_gives, any_ends, pure_gives, pure_ends, map_gives, map_ends, the_gives, behind_gives, closed_gives, maybe_gives, maybe_ends, later_gives, later_ends, lists, star_ends}
+use Rattle.sparql_syntax.proofs.QuestionFronts.{Value, Gives, Ends, start, then_gives, then_ends, any_gives, any_ends, pure_ends, map_gives, map_ends, the_gives, behind_gives, closed_gives, maybe_gives, maybe_ends, later_ends, lists, star_ends}
 use Rattle.sparql_syntax.proofs.TripleFronts.{triples_value, place_value, place_gives, triples_end}
-use Rattle.sparql_syntax.proofs.TripleQuestions.{Question, asks_block, asks_name}
+use Rattle.sparql_syntax.proofs.TripleQuestions.{asks_block, asks_name}
 
 abbrev pub block_value : Block → Value
 block_value x q = asks_block q x

@@ -1,7 +1,6 @@
 -- What a grammar derives, and what is asked of its lexemes: of a literal where a subject may stand, of `(` by the lexeme behind it.
 use Rattle.std.proofs.Common.{◌≡◌, ◌∙◌, ap, refl, sym, Bool, true, false, ◌&&◌, ◌||◌, not, List, [], ◌∷◌, ◌++◌, map, append_assoc, Option, Some, None, inl, inr, true≢false}
 use Rattle.std.proofs.Math.Bool.{and_assoc}
-use Rattle.std.specs.Prelude.{is_some}
 use Rattle.std.specs.List.{list_all}
 use Rattle.rdf_grammar.specs.Derivations as grammar
 use Rattle.rdf_grammar.specs.Derivations.{Then, Star, stop, more}

@@ -1,5 +1,5 @@
 -- The blank nodes of a request have numbers below their counts.
-use Rattle.std.proofs.Common.{◌≡◌, ap, refl, subst, ℕ, Bool, true, false, cond, not, ◌==◌, ◌||◌, List, [], ◌∷◌, ◌++◌, map, filter_map, Option, Some, None, Result, Ok, Err, arith, true≢false}
+use Rattle.std.proofs.Common.{◌≡◌, refl, subst, ℕ, Bool, true, false, cond, not, ◌==◌, ◌||◌, List, [], ◌∷◌, map, filter_map, Option, Some, None, Result, Ok, Err, arith, true≢false}
 use Rattle.std.proofs.lemmas.Option.{same_Some}
 use Rattle.std.specs.List.{AllByRecursion, list_any}
 use Rattle.std.specs.Option.{option_map}
@@ -7,17 +7,11 @@ use Rattle.rdf_terms.specs.Below.{AreBelow, IsQuadBelow}
 use Rattle.rdf_terms.specs.Quad.{QuadParts, has_right_kinds}
 use Rattle.rdf_terms.specs.declared.quad.GraphName.TheVariants.{Default, Named}
 use Rattle.rdf_terms.specs.declared.term.Term.TheVariants as term
-use Rattle.rdf_grammar.specs.Prologue as prologue
 use Rattle.rdf_grammar.specs.Prologue.{Prologue}
-use Rattle.rdf_grammar.specs.Steps.{Outcome, and_then}
-use Rattle.rdf_grammar.proofs.CallerLemmas.{then_parts}
-use Rattle.sparql_grammar.specs.declared.tree.Declaration.{Declaration}
 use Rattle.sparql_grammar.specs.declared.tree.Operation as written_operation
 use Rattle.sparql_grammar.specs.declared.tree.Operation.TheVariants as o
 use Rattle.sparql_grammar.specs.declared.tree.Part.{Part}
-use Rattle.sparql_grammar.specs.declared.tree.Part.TheVariants as w
 use Rattle.sparql_drafts.specs.Drafts as drafted
-use Rattle.sparql_drafts.specs.Meaning.{declaration}
 use Rattle.sparql_drafts.specs.declared.draft.QuadPattern as read
 use Rattle.sparql_drafts.specs.declared.draft.Quads.{Quads}
 use Rattle.sparql_drafts.specs.declared.draft.VarOrIri.{VarOrIri}
@@ -28,8 +22,7 @@ use Rattle.sparql_drafts.proofs.CallerLemmas.{numbered_below}
 use Rattle.sparql_queries.specs.Groups.{var_or_term}
 use Rattle.sparql_queries.specs.Templates.{quad_pattern, template}
 use Rattle.sparql_syntax.specs.Blanks.{IsDraftNumbered}
-use Rattle.sparql_syntax.specs.Known.{declares_first}
-use Rattle.sparql_syntax.specs.Meaning.{answer, operation, part, listed, drafts, drafts_behind, drafts_of}
+use Rattle.sparql_syntax.specs.Meaning.{answer, operation}
 use Rattle.sparql_syntax.specs.RequestBlanks.{IsOperationBelow, IsPatternBelow, IsPlaceBelow, IsTemplateBelow, RequestsStayBelow}
 use Rattle.sparql_syntax.specs.Rules as rules
 use Rattle.sparql_syntax.specs.Rules.{graph_of, operation_of, predicate_of, quad_of, term_of}
@@ -40,7 +33,8 @@ use Rattle.sparql_syntax.specs.declared.fault.SyntaxFaultKind.{SyntaxFaultKind}
 use Rattle.sparql_syntax.specs.declared.fault.SyntaxFaultKind.TheVariants as fault
 use Rattle.sparql_trees.specs.Quads.{quad_by}
 use Rattle.sparql_trees.specs.declared.operation.Operation.{Operation}
-use Rattle.sparql_syntax.proofs.DraftsNumbered.{answered, blank_numbers_are_below}
+use Rattle.sparql_syntax.proofs.DraftLists.{all_drafts}
+use Rattle.sparql_syntax.proofs.DraftsNumbered.{blank_numbers_are_below}
 
 -- ---- templates
 
@@ -113,47 +107,6 @@ operation_plain (o.Copy silent from to) p draft e = mapped_plain _ _ draft (λ _
 operation_plain (o.Move silent from to) p draft e = mapped_plain _ _ draft (λ _. tt) e
 operation_plain (o.Add silent from to) p draft e = mapped_plain _ _ draft (λ _. tt) e
 
-abbrev IsSomePlain : Option Draft → Type 0
-IsSomePlain None = Unit {0}
-IsSomePlain (Some draft) = IsPlain draft
-
-declared_plain : (declared : Declaration) (p u : Prologue) (y : Option Draft) → and_then (declaration declared p) (λ _ z. Some (None, z)) ≡ Some (y, u) → IsSomePlain y
-declared_plain declared p u y e =
-    let parts = then_parts (declaration declared p) _ (y, u) e in
-    subst IsSomePlain (ap (λ q. q.0) (same_Some _ _ parts.3)) tt
-
-drafted_plain : (r : Option Draft) (p : Prologue) (y : Option Draft) (u : Prologue) → ((draft : Draft) → r ≡ Some draft → IsPlain draft) → option_map {U = Option Draft × Prologue} (λ z. (Some z, p)) r ≡ Some (y, u)
-    → IsSomePlain y
-drafted_plain None p y u h e = absurd (cc e)
-drafted_plain (Some z) p y u h e = subst IsSomePlain (ap (λ q. q.0) (same_Some _ _ e)) (h z refl)
-
-part_plain : (one : Part) (p u : Prologue) (y : Option Draft) → part one p ≡ Some (y, u) → IsSomePlain y
-unfolding part
-part_plain (w.Declaration it) p u y e = declared_plain it p u y e
-part_plain (w.Operation it) p u y e = drafted_plain (operation it p) p y u (λ draft. operation_plain it p draft) e
-
-joined_plain : (ds es : List Draft) → AllByRecursion IsPlain ds → AllByRecursion IsPlain es → AllByRecursion IsPlain (ds ++ es)
-joined_plain [] es all more = more
-joined_plain (z ∷ ds) es all more = (all.0, joined_plain ds es all.1 more)
-
-listed_plain : (y : Option Draft) → IsSomePlain y → AllByRecursion IsPlain (listed y)
-listed_plain None h = tt
-listed_plain (Some z) h = (h, tt)
-
-parts_plain : (ds : List Draft) (ps : List Part) (p u : Prologue) (es : List Draft) → AllByRecursion IsPlain ds → drafts_behind ds ps p ≡ Some (es, u) → AllByRecursion IsPlain es
-parts_plain ds [] p u es all e = subst (AllByRecursion IsPlain) (ap (λ q. q.0) (same_Some _ _ e)) all
-parts_plain ds (one ∷ ps) p u es all e =
-    let y = then_parts (part one p) _ (es, u) e in
-    parts_plain (ds ++ listed y.0) ps y.1 u es (joined_plain ds (listed y.0) all (listed_plain y.0 (part_plain one p y.1 y.0 y.2))) y.3
-
-request_plain : (base : Option (List ℕ)) (ps : List Part) (ds : List Draft) → drafts_of base ps ≡ Some ds → AllByRecursion IsPlain ds
-unfolding drafts_of
-request_plain base ps ds e = by (drafts ps (prologue.start base)) refl e
-  where
-    by : (r : Outcome Prologue (List Draft)) → drafts ps (prologue.start base) ≡ r → option_map (λ z. z.0) r ≡ Some ds → AllByRecursion IsPlain ds
-    by None there e = absurd (cc e)
-    by (Some z) there e = subst (AllByRecursion IsPlain) (same_Some _ _ e) (parts_plain [] ps (prologue.start base) z.1 z.0 tt there)
-
 -- ---- requests
 
 not_zero : (n : ℕ) → not (n == 0) ≡ false → n ≡ 0
@@ -200,7 +153,7 @@ by_answer base tree (Err kind) operations is e = absurd (cc e)
 by_answer base tree (Ok ds) operations is e =
     let judged = judged_is (list_any rules.has_blank_in_delete ds) (list_any rules.has_variable_in_data ds) (list_any rules.has_literal_subject ds) (rules.reuses_label ds) (map operation_of ds) operations e in
     subst (AllByRecursion IsOperationBelow) judged.is
-    (all_below ds (blank_numbers_are_below base tree ds is) (request_plain base tree ds (answered (declares_first [] tree) (drafts_of base tree) ds is)) judged.none)
+    (all_below ds (blank_numbers_are_below base tree ds is) (all_drafts IsPlain operation_plain base tree ds is) judged.none)
 
 pub requests_stay_below : RequestsStayBelow
 requests_stay_below base text request update = by_answer base update.0 (answer base update.0) request.operations refl update.2

@@ -1,8 +1,9 @@
 -- The lexemes that break a static rule: one does just where what the rule asks of is answered with no.
-use Rattle.std.proofs.Common.{◌≡◌, ◌<◌, ◌+◌, ◌∙◌, ap, refl, sym, ℕ, suc, Bool, true, false, cond, ◌&&◌, ◌||◌, not, List, [], ◌∷◌, ◌++◌, length, Option, Some, None, arith, true≢false}
+use Rattle.std.proofs.Common.{◌≡◌, ◌<◌, ◌+◌, ◌∙◌, ap, refl, sym, ℕ, suc, Bool, true, false, cond, ◌&&◌, ◌||◌, not, [], ◌∷◌, ◌++◌, length, Option, Some, None, arith, true≢false}
 use Rattle.std.proofs.lemmas.Bool.{and_parts}
 use Rattle.std.specs.List.{list_all, AllByRecursion}
 use Rattle.rdf_grammar.specs.Terminals.{Slice, next_terminal}
+use Rattle.rdf_grammar.specs.declared.tree.Name.{Name}
 use Rattle.sparql_terminals.specs.declared.terminal.Terminal.{Terminal}
 use Rattle.sparql_terminals.specs.declared.terminal.Terminal.TheVariants as terminal
 use Rattle.sparql_terminals.specs.Lexemes.{Lexeme, Lexemes}
@@ -42,6 +43,8 @@ pub record Rule : Type 0 where
   pub asks : Clause → Bool
   pub question : Question
   pub sound : Sound question
+  pub lax : sound.strict ≡ false
+  pub names : (name : Name) → question.name name ≡ true
   pub words : question.word ≡ true
   pub inserts : asks clause.Insert ≡ false
   pub patterns : asks clause.Pattern ≡ false

@@ -6,7 +6,7 @@ use Rattle.std.specs.List.{list_any}
 use Rattle.rdf_grammar.specs.Derivations as grammar
 use Rattle.rdf_grammar.specs.Derivations.{Then, Star, stop, more}
 use Rattle.rdf_grammar.specs.Productions as productions
-use Rattle.rdf_grammar.specs.Terminals.{Slice, next_terminal}
+use Rattle.rdf_grammar.specs.Terminals.{Slice}
 use Rattle.rdf_grammar.specs.declared.tree.Name.{Name}
 use Rattle.rdf_grammar.specs.declared.tree.Name.TheVariants.{Full}
 use Rattle.rdf_grammar.specs.declared.word.Word.TheVariants as w
@@ -40,7 +40,6 @@ use Rattle.sparql_syntax.proofs.QuestionFronts as question
 use Rattle.sparql_syntax.proofs.QuestionFronts.{asked}
 use Rattle.sparql_syntax.proofs.RuleDrafts.{operation_breaks, part_breaks}
 use Rattle.sparql_syntax.proofs.RuleLexemes.{Rule, Broken, Stays, all_stay, front_broken, front_steady, quiet_front, step_broken}
-use Rattle.sparql_syntax.proofs.SharedLabels.{or_no, or_assoc}
 use Rattle.sparql_syntax.proofs.TripleQuestions.{asks_blocks}
 
 -- ---- groups, in which neither INSERT nor DELETE stands
@@ -109,10 +108,10 @@ module _ (r : Rule) where
   the_named k mute stays ts x us d v reads = lexeme_named k d.0 ts us v mute stays d.1 d.2 reads
 
   iri_mute : Mute terminal.Iri
-  iri_mute s text next = r.sound.names (Full text)
+  iri_mute s text next = r.names (Full text)
 
   pname_mute : Mute terminal.Pname
-  pname_mute s text next = r.sound.names (productions.prefixed text)
+  pname_mute s text next = r.names (productions.prefixed text)
 
   reference_named : Named (grammar.value terminal.Iri)
   unfolding Named

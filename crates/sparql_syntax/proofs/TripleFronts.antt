@@ -1,5 +1,5 @@
 -- Triples, and what is asked of their lexemes.
-use Rattle.std.proofs.Common.{◌≡◌, ◌∙◌, ap, refl, sym, ℕ, zero, suc, Bool, true, false, ◌&&◌, ◌||◌, not, List, [], ◌∷◌, map, Option, Some, None, inl, inr}
+use Rattle.std.proofs.Common.{◌≡◌, ◌∙◌, ap, refl, sym, ℕ, zero, suc, Bool, true, false, ◌&&◌, ◌||◌, not, List, [], ◌∷◌, Option, Some, inl, inr}
 use Rattle.std.proofs.Math.Bool.{and_assoc}
 use Rattle.std.specs.Prelude.{option_to_list}
 use Rattle.rdf_grammar.specs.Derivations as grammar
@@ -29,7 +29,7 @@ use Rattle.sparql_grammar.specs.Grammar as g
 use Rattle.sparql_grammar.specs.Reading as read
 use Rattle.sparql_syntax.proofs.NameFronts.{and_true, iri_only, pname_only}
 use Rattle.sparql_syntax.proofs.NameNodes.{by-Variable, by-Name, by-Literal, by-Label, by-Blank, by-Collection, by-property}
-use Rattle.sparql_syntax.proofs.QuestionFronts.{Value, Front, Gives, Ends, Sign, start, opened, asked, then_front, lexeme_front, then_gives, then_ends, any_ends, pure_gives, pure_ends, or_gives, map_gives, the_gives, value_gives, behind_gives, closed_gives, maybe_gives, maybe_ends, ends_there, later_gives, lists, star_gives, one_gives, first_gives, word_gives, sign_word_gives, the_word_gives, literal_word_gives}
+use Rattle.sparql_syntax.proofs.QuestionFronts.{Value, Gives, Ends, start, opened, asked, then_front, lexeme_front, then_gives, then_ends, any_ends, pure_gives, pure_ends, or_gives, map_gives, the_gives, value_gives, behind_gives, closed_gives, maybe_gives, maybe_ends, ends_there, later_gives, lists, star_gives, one_gives, first_gives, word_gives, sign_word_gives, the_word_gives, literal_word_gives}
 use Rattle.sparql_syntax.proofs.SharedLabels.{or_no, or_yes}
 use Rattle.sparql_syntax.proofs.TripleQuestions.{Question, literal_of, property_of, is_literal_node, asks_literal, asks_verb, asks_property_of, asks_node_of, asks_node, asks_property, asks_subject, asks_triples, asks_name}
 
