@@ -1,7 +1,9 @@
 //! Groups (SPARQL 1.1 Query, section 19.8). A group in a group is a recursion, and a list a loop.
 
-ghost use Rattle.std.specs.Prelude.{◌≡◌, ◌≤◌, ◌<◌, length, OnOk};
-ghost use Rattle.rdf_grammar.specs.Readings.{Reads};
+ghost use Rattle.std.specs.Prelude.{◌≡◌, ◌≤◌, ◌<◌, length, MatchResult, OnOk, Option, Some};
+ghost use Rattle.rdf_grammar.specs.Readings.{Fails, Reads};
+ghost use Rattle.sparql_grammar.specs.Bodies.{put, put_some};
+ghost use Rattle.sparql_grammar.specs.declared.tree.Element.{Element};
 ghost use Rattle.sparql_grammar.specs.GroupReading as spec;
 ghost use Rattle.sparql_grammar.specs.GroupReading.{group_within, in_filter};
 ghost use Rattle.sparql_grammar.specs.Reading.{in_data};
@@ -43,6 +45,20 @@ fn maybe_block<'a>(parser: &mut Parser<'_, 'a>) -> Result<Option<Element<'a>>, G
     Ok(Some(Element::Block(triples_template(parser, MAX_OPEN)?)))
 }
 
+// Puts the block that comes next, if one does, behind what has been read.
+fn put_block<'a>(parser: &mut Parser<'_, 'a>, body: &mut Body<'a>) -> Result<(), GrammarFault>
+    ensures puts { MatchResult result
+        (λ done. (block : Option Element)
+        × (spec.maybe_block in_data parser.old ≡ Some (block, parser.new))
+        × (body.new ≡ put_some block body.old))
+        (λ fault. Fails (spec.maybe_block in_data parser.old) fault) }
+    ensures shorter { OnOk result (length parser.new ≤ length parser.old) }
+{
+    let block = maybe_block(parser)?;
+    body.put_some(block)?;
+    Ok(())
+}
+
 /// A group (53: GroupGraphPattern). The depth is how many groups may be open from this one on.
 #[cycle(group)]
 #[tactic(auto, unfolding(crate::specs::GroupReading::group))]
@@ -82,13 +98,34 @@ fn contents<'a>(parser: &mut Parser<'_, 'a>, depth: usize) -> Result<Group<'a>, 
     ensures shorter { OnOk result (length parser.new ≤ length parser.old) }
 {
     let mut body = Body::new(parser.alloc());
-    body.put_some(maybe_block(parser)?)?;
+    put_block(parser, &mut body)?;
     while begins_pattern(parser.peek()) {
-        body.put(pattern_or_filter(parser, depth)?)?;
+        put_pattern(parser, depth, &mut body)?;
         parser.eat(Terminal::Dot);
-        body.put_some(maybe_block(parser)?)?;
+        put_block(parser, &mut body)?;
     }
     Ok(body.into_group()?)
+}
+
+// Puts the pattern or the filter that comes next behind what has been read.
+#[cycle(group)]
+fn put_pattern<'a>(
+    parser: &mut Parser<'_, 'a>,
+    depth: usize,
+    body: &mut Body<'a>,
+) -> Result<(), GrammarFault>
+    ensures puts { MatchResult result
+        (λ done. (element : Element)
+        × (spec.pattern_or_filter in_filter (group_within depth) parser.old
+        ≡ Some (element, parser.new))
+        × (body.new ≡ put element body.old))
+        (λ fault. Fails
+        (spec.pattern_or_filter in_filter (group_within depth) parser.old) fault) }
+    ensures shorter { OnOk result (length parser.new < length parser.old) }
+{
+    let element = pattern_or_filter(parser, depth)?;
+    body.put(element)?;
+    Ok(())
 }
 
 #[cycle(group)]

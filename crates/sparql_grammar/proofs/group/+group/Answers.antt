@@ -38,37 +38,46 @@ group_or_union-loop-groups-preserved t c =
 
 -- ---- what stands between the braces
 
-pub contents-loop-body-init : goal.contents-loop-body-init
-contents-loop-body-init t c = record { filled = filled_starts _ _ _ _ _; shorter = omega arith }
+pub contents-loop-parser-init : goal.contents-loop-parser-init
+contents-loop-parser-init t c = record { filled = filled_starts _ _ _ _ _; shorter = omega arith }
 
-pub contents-returns-in_err-pattern_or_filter-clause-reads : goal.contents-returns-in_err-pattern_or_filter-clause-reads
+pub contents-returns-in_err-put_block-clause-reads : goal.contents-returns-in_err-put_block-clause-reads
 unfolding contents
-contents-returns-in_err-pattern_or_filter-clause-reads t c =
-    let seen = ap begins_pattern (sym c.peek.ensures) ∙ sym c.loop-body-test.ensures in
-    let p = err_from_is_err_and c.from_residual-in_err-pattern_or_filter.result c.from_residual-in_err-pattern_or_filter.ensures.1 in
-    rw (p.1, p.2) (fails_then _ _ _ _ _ c.in_ok-maybe_block.ensures.reads (fails_first _ _ _ (fails_on _ c.in_err-pattern_or_filter.ensures.reads
-    (λ none. going_fails c.loop-body.invariant.filled.going (pattern_some _ seen) seen (pattern_fails in_data in_filter (group_within c.args.depth) _ none)))))
+contents-returns-in_err-put_block-clause-reads t c =
+    let p = err_from_is_err_and c.from_residual.result c.from_residual.ensures.1 in
+    rw (p.1, p.2) (fails_first _ _ _ c.in_err-put_block.ensures.puts)
 
-pub contents-returns-in_err-maybe_block-2-clause-reads : goal.contents-returns-in_err-maybe_block-2-clause-reads
+pub contents-returns-in_err-put_pattern-clause-reads : goal.contents-returns-in_err-put_pattern-clause-reads
 unfolding contents
-contents-returns-in_err-maybe_block-2-clause-reads t c =
-    let seen = ap begins_pattern (sym c.peek.ensures) ∙ sym c.loop-body-test.ensures in
-    let p = err_from_is_err_and c.from_residual-in_err-maybe_block-2.result c.from_residual-in_err-maybe_block-2.ensures.1 in
-    rw (p.1, p.2) (fails_then _ _ _ _ _ c.in_ok-maybe_block.ensures.reads (fails_first _ _ _ (fails_on _ c.in_err-maybe_block-2.ensures.reads
-    (λ none. going_fails c.loop-body.invariant.filled.going (pattern_some _ seen) seen
-    (block_fails in_data in_filter (group_within c.args.depth) _ _ _ _ _ c.in_ok-pattern_or_filter.ensures.reads c.eat.ensures.found c.eat.ensures.left none)))))
+contents-returns-in_err-put_pattern-clause-reads t c =
+    let seen = ap begins_pattern (sym c.peek.ensures) ∙ sym c.loop-parser-test.ensures in
+    let p = err_from_is_err_and c.from_residual-in_err-put_pattern.result c.from_residual-in_err-put_pattern.ensures.1 in
+    rw (p.1, p.2) (fails_then _ _ _ _ _ c.in_ok-put_block.ensures.puts.1 (fails_first _ _ _ (fails_on _ c.in_err-put_pattern.ensures.puts
+    (λ none. going_fails c.loop-parser.invariant.filled.going (pattern_some _ seen) seen (pattern_fails in_data in_filter (group_within c.args.depth) _ none)))))
 
-pub contents-loop-body-preserved : goal.contents-loop-body-preserved
-contents-loop-body-preserved t c =
-    let seen = ap begins_pattern (sym c.peek.ensures) ∙ sym c.loop-body-test.ensures in
-    let less = turn_shorter c.loop-body.parser c.pattern_or_filter.new.parser c.eat.new.self c.maybe_block-in-loop-body.new.parser c.eat.result c.in_ok-pattern_or_filter.ensures.shorter c.eat.ensures.left c.in_ok-maybe_block-2.ensures.shorter in
-    let read = turn_reads in_data in_filter (group_within c.args.depth) _ _ _ _ _ _ _ c.in_ok-pattern_or_filter.ensures.reads c.eat.ensures.found c.eat.ensures.left c.in_ok-maybe_block-2.ensures.reads in
+pub contents-returns-in_err-put_block-2-clause-reads : goal.contents-returns-in_err-put_block-2-clause-reads
+unfolding contents
+contents-returns-in_err-put_block-2-clause-reads t c =
+    let seen = ap begins_pattern (sym c.peek.ensures) ∙ sym c.loop-parser-test.ensures in
+    let p = err_from_is_err_and c.from_residual-in_err-put_block-2.result c.from_residual-in_err-put_block-2.ensures.1 in
+    rw (p.1, p.2) (fails_then _ _ _ _ _ c.in_ok-put_block.ensures.puts.1 (fails_first _ _ _ (fails_on _ c.in_err-put_block-2.ensures.puts
+    (λ none. going_fails c.loop-parser.invariant.filled.going (pattern_some _ seen) seen
+    (block_fails in_data in_filter (group_within c.args.depth) _ _ _ _ _ c.in_ok-put_pattern.ensures.puts.1 c.eat.ensures.found c.eat.ensures.left none)))))
+
+pub contents-loop-parser-preserved : goal.contents-loop-parser-preserved
+contents-loop-parser-preserved t c =
+    let seen = ap begins_pattern (sym c.peek.ensures) ∙ sym c.loop-parser-test.ensures in
+    let less = turn_shorter c.loop-parser.parser c.put_pattern.new.parser c.eat.new.self c.put_block-in-loop-parser.new.parser c.eat.result c.in_ok-put_pattern.ensures.shorter c.eat.ensures.left c.in_ok-put_block-2.ensures.shorter in
+    let read = turn_reads in_data in_filter (group_within c.args.depth) _ _ _ _ _ _ _ c.in_ok-put_pattern.ensures.puts.1 c.eat.ensures.found c.eat.ensures.left c.in_ok-put_block-2.ensures.puts.1 in
     record {
-      filled = filled_on in_data in_filter (group_within c.args.depth) _ _ _ _ _ c.loop-body.invariant.filled seen read less c.in_ok-put.ensures c.in_ok-put_some-2.ensures;
+      filled = filled_on in_data in_filter (group_within c.args.depth) _ _ _ _ _ c.loop-parser.invariant.filled seen read less c.in_ok-put_pattern.ensures.puts.2 c.in_ok-put_block-2.ensures.puts.2;
       shorter = omega (arith, less);
     }
 
 pub contents-returns-clause-reads : goal.contents-returns-clause-reads
 contents-returns-clause-reads t c =
-    let stops = ap begins_pattern (sym c.peek.ensures) ∙ sym c.loop-body-test.ensures in
-    contents_read in_data in_filter (group_within c.args.depth) _ _ _ _ _ _ _ _ c.in_ok-maybe_block.ensures.reads c.new-body.ensures c.in_ok-put_some.ensures c.loop-body.invariant.filled stops c.in_ok-into_group.ensures
+    let stops = ap begins_pattern (sym c.peek.ensures) ∙ sym c.loop-parser-test.ensures in
+    contents_read in_data in_filter (group_within c.args.depth) _ _ _ _ _ _ _ _ c.in_ok-put_block.ensures.puts.1 c.new-body.ensures c.in_ok-put_block.ensures.puts.2 c.loop-parser.invariant.filled stops c.in_ok-into_group.ensures
+
+pub put_pattern-returns-clause-puts : goal.put_pattern-returns-clause-puts
+put_pattern-returns-clause-puts t c = (_, c.in_ok-element.ensures.reads, c.in_ok-put.ensures)

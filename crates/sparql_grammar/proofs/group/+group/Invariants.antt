@@ -25,11 +25,14 @@ decreases-pattern l = 10 * l.depth + 3
 abbrev pub decreases-pattern_or_filter : goal.decreases-pattern_or_filter
 decreases-pattern_or_filter l = 10 * l.depth + 4
 
+abbrev pub decreases-put_pattern : goal.decreases-put_pattern
+decreases-put_pattern l = 10 * l.depth + 5
+
 abbrev pub decreases-contents : goal.decreases-contents
-decreases-contents l = 10 * l.depth + 5
+decreases-contents l = 10 * l.depth + 6
 
 abbrev pub decreases-group_graph_pattern : goal.decreases-group_graph_pattern
-decreases-group_graph_pattern l = 10 * l.depth + 6
+decreases-group_graph_pattern l = 10 * l.depth + 7
 
 abbrev pub invariant-group_or_union-loop-groups : goal.invariant-group_or_union-loop-groups
 invariant-group_or_union-loop-groups l = let p = one (the terminal.Union >> group_within l.depth) in record {
@@ -40,11 +43,11 @@ invariant-group_or_union-loop-groups l = let p = one (the terminal.Union >> grou
 abbrev pub decreases-group_or_union-loop-groups : goal.decreases-group_or_union-loop-groups
 decreases-group_or_union-loop-groups l = length l.parser
 
-abbrev pub invariant-contents-loop-body : goal.invariant-contents-loop-body
-invariant-contents-loop-body l = record {
+abbrev pub invariant-contents-loop-parser : goal.invariant-contents-loop-parser
+invariant-contents-loop-parser l = record {
   filled : Filled in_data in_filter (group_within l.depth) l.initial.parser l.initial.body l.body l.parser;
   shorter : length l.parser ≤ length l.initial.parser;
 }
 
-abbrev pub decreases-contents-loop-body : goal.decreases-contents-loop-body
-decreases-contents-loop-body l = length l.parser
+abbrev pub decreases-contents-loop-parser : goal.decreases-contents-loop-parser
+decreases-contents-loop-parser l = length l.parser
