@@ -26,6 +26,9 @@ data = lambda text: update(f"INSERT DATA {{ {text} }}")
 chain = lambda n: nquads(many(n, '<a:%> <a:p> <a:x%> .\n<a:x%> <a:q> "%" .', "\n"))
 graphs = lambda n: nquads(many(n, "<a:s> <a:p> <a:o%> <a:g%> .", "\n"))
 one_graph = lambda n: nquads(many(n, "<a:%> <a:p> <a:o> <a:g> .", "\n"))
+# a UNION of n arms with a variable of their own each
+unions = lambda n, text="": "{ } " + many(n, "UNION { ?s <a:p> ?o% " + text + " }")
+over_unions = lambda text, own="": lambda n: data("<a:s> <a:p> 1") + query(text.replace("$", unions(n, own)))
 over_chain = lambda text: lambda n: chain(n) + query(text)
 over_graphs = lambda text: lambda n: graphs(n) + update(text)
 levels = lambda n, opener, closer, inner="": " ".join([opener * 98 + inner + closer * 98] * (n // 98))
@@ -170,7 +173,13 @@ QUERIES = {
     "dots and groups": lambda n: query("ASK { " + "{ } . " * n + "}"),
     "OPTIONALs": lambda n: data("<a:s> <a:p> 1") + query("SELECT * { ?s ?p ?o " + many(n, "OPTIONAL { ?s <a:q> ?o% } ") + "}"),
     "OPTIONALs of one variable": lambda n: data("<a:s> <a:p> 1") + query("SELECT * { ?s ?p ?o " + "OPTIONAL { ?s <a:q> ?x } " * n + "}"),
-    "UNIONs": lambda n: data("<a:s> <a:p> 1") + query("SELECT ?s { { } " + many(n, "UNION { ?s <a:p> ?o% } ") + "}"),
+    "UNIONs": over_unions("SELECT ?s { $ }"),
+    "UNIONs with a FILTER each": over_unions("SELECT ?s { $ }", "FILTER(?o% > 0)"),
+    "UNIONs behind a triple pattern": over_unions("SELECT ?s { ?s ?p ?o $ }"),
+    "UNIONs before a triple pattern": over_unions("SELECT ?s { $ ?s ?p ?o }"),
+    "UNIONs in OPTIONAL": over_unions("SELECT ?s { ?s ?p ?o OPTIONAL { $ } }"),
+    "UNIONs in MINUS": over_unions("SELECT ?s { ?s ?p ?o MINUS { $ } }"),
+    "UNIONs in an update": lambda n: data("<a:s> <a:p> 1") + update("INSERT { ?s <a:q> 1 } WHERE { " + unions(n) + " }"),
     "UNIONs of one variable": lambda n: data("<a:s> <a:p> 1") + query("SELECT * { { } " + "UNION { ?s <a:p> ?o } " * n + "}"),
     "UNION behind UNION": lambda n: data("<a:s> <a:p> 1") + query("SELECT * { " + "{ ?s <a:p> ?o } UNION { ?s <a:q> ?o } " * n + "}"),
     "MINUS behind MINUS": lambda n: data("<a:s> <a:p> 1") + query("SELECT * { ?s ?p ?o " + many(n, "MINUS { ?s <a:q> ?o% } ") + "}"),

@@ -342,3 +342,13 @@ pub column_left_out : (p : ℕ → Bool) (n : ℕ) (b : Bool) (kept : List ℕ) 
     kept ≡ filter p (range_with_len 0 (n + 1))
 column_left_out p n b kept e t h =
     h ∙ sym (append-nil (filter p (range_with_len 0 n))) ∙ ap (λ (c : Bool). filter p (range_with_len 0 n) ++ cond c (n ∷ []) []) (sym t ∙ e) ∙ sym (kept_more p n)
+
+-- ---- the columns at which the first mapping has no term are left out
+
+pub skipped : (here : ℕ → Bool) (from k : ℕ) (kept : List ℕ) → ((i : ℕ) → from ≤ i → i < from + k → here i ≡ false) → kept ≡ filter here (range_with_len 0 from) →
+    kept ≡ filter here (range_with_len 0 (from + k))
+skipped here from zero kept h e = e ∙ ap (λ n. filter here (range_with_len 0 n)) (omega arith)
+skipped here from (suc k) kept h e =
+    let before = skipped here from k kept (λ i a b. h i a (omega (arith, b))) e in
+    column_left_out here (from + k) false kept (sym (h (from + k) (omega arith) (omega arith))) refl before
+    ∙ ap (λ n. filter here (range_with_len 0 n)) (omega arith)

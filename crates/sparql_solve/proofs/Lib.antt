@@ -32,4 +32,5 @@ pub mod StepLemmas
 pub mod GrownLemmas
 pub mod OnceLemmas
 pub mod EmptyLemmas
-pub mod NameLemmas
+pub mod BoundLemmas
+pub mod FlagLemmas

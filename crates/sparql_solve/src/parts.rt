@@ -11,7 +11,7 @@ ghost use Rattle.sparql_solve.specs.Parts.{merges_in, part_run};
 use crate::bins::bins_of;
 use crate::keyed::Part;
 use crate::keys::{Index, index_of, key_columns};
-use crate::rows::Row;
+use crate::mappings::Mapping;
 use rdf_terms::NoMemory;
 use std::alloc::Global;
 use std::cmp::Ordering;
@@ -20,19 +20,31 @@ use std::cmp::Ordering;
 const FEWEST: usize = 16;
 
 // By the columns that have a term. Nothing but time rests on it.
-fn compare_bound(row: &Row, other: &Row) -> Ordering {
-    let bound = row.values().iter().map(|value| value.is_some());
-    bound.cmp(other.values().iter().map(|value| value.is_some()))
+fn compare_bound(row: &Mapping, other: &Mapping) -> Ordering {
+    let mut from = 0;
+    while let Some(column) = row.next_bound(from) {
+        let Some(next) = other.next_bound(from) else {
+            return Ordering::Greater;
+        };
+        if column != next {
+            return next.cmp(&column);
+        }
+        from = column + 1;
+    }
+    match other.next_bound(from) {
+        Some(_) => Ordering::Less,
+        None => Ordering::Equal,
+    }
 }
 
-fn references<'r>(alloc: Global, rows: &'r [Row]) -> Result<Vec<&'r Row>, NoMemory>
+fn references<'r>(alloc: Global, rows: &'r [Mapping]) -> Result<Vec<&'r Mapping>, NoMemory>
     ensures { IfOk result (λ all. map (λ r. r.now) all.items ≡ rows.now) }
 {
     Ok(rows.iter().collect(alloc)?)
 }
 
 /// References to the rows, those that bind the same columns side by side.
-pub(crate) fn parted<'r>(alloc: Global, rows: &'r [Row]) -> Result<Vec<&'r Row>, NoMemory>
+pub(crate) fn parted<'r>(alloc: Global, rows: &'r [Mapping]) -> Result<Vec<&'r Mapping>, NoMemory>
     ensures { IfOk result (λ all. SameBag (map (λ r. r.now) all.items) rows.now) }
 {
     let mut all = references(alloc, rows)?;
@@ -41,7 +53,7 @@ pub(crate) fn parted<'r>(alloc: Global, rows: &'r [Row]) -> Result<Vec<&'r Row>,
 }
 
 // How many rows at the front bind the same columns as the first one.
-fn part_len(rows: &[&Row]) -> usize
+fn part_len(rows: &[&Mapping]) -> usize
     requires { 0 < length rows.now }
     ensures some { 0 < result }
     ensures within { result ≤ length rows.now }
@@ -54,8 +66,8 @@ fn part_len(rows: &[&Row]) -> usize
 /// The rows cut into parts, where those that bind the same columns stand side by side.
 pub(crate) fn cut_parts<'s, 'r>(
     alloc: Global,
-    rows: &'s [&'r Row],
-) -> Result<Vec<&'s [&'r Row]>, NoMemory>
+    rows: &'s [&'r Mapping],
+) -> Result<Vec<&'s [&'r Mapping]>, NoMemory>
     ensures { IfOk result (λ parts. flat_map (λ part. map (λ r. r.now) part.now) parts.items
         ≡ map (λ r. r.now) rows.now) }
 {
@@ -71,7 +83,7 @@ pub(crate) fn cut_parts<'s, 'r>(
 }
 
 // The key columns; none where there are few left rows.
-fn columns_for(alloc: Global, left: &[&Row], right: &[&Row]) -> Result<Vec<usize>, NoMemory>
+fn columns_for(alloc: Global, left: &[&Mapping], right: &[&Mapping]) -> Result<Vec<usize>, NoMemory>
     ensures { IfOk result (λ columns. IsKeyOf columns.items
         (map (λ r. r.now) left.now) (map (λ r. r.now) right.now)) }
 {
@@ -84,8 +96,8 @@ fn columns_for(alloc: Global, left: &[&Row], right: &[&Row]) -> Result<Vec<usize
 /// A part by the key that it shares with these left rows.
 pub(crate) fn part_of<'r>(
     alloc: Global,
-    left: &[&Row],
-    rows: &[&'r Row],
+    left: &[&Mapping],
+    rows: &[&'r Mapping],
 ) -> Result<Part<'r>, NoMemory>
     ensures { IfOk result (λ part. All
         (λ a. agreeing (part_run a part) a ≡ agreeing (map (λ r. r.now) rows.now) a)
@@ -102,8 +114,8 @@ pub(crate) fn part_of<'r>(
 /// The parts, each by the key that it shares with these left rows.
 pub(crate) fn parts_of<'r>(
     alloc: Global,
-    left: &[&Row],
-    right: &[&[&'r Row]],
+    left: &[&Mapping],
+    right: &[&[&'r Mapping]],
 ) -> Result<Vec<Part<'r>>, NoMemory>
     ensures { IfOk result (λ parts. All (λ a. merges_in parts.items a
         ≡ merges (flat_map (λ part. map (λ r. r.now) part.now) right.now) a)

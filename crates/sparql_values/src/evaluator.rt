@@ -8,10 +8,12 @@ ghost use Rattle.sparql_values.specs.Scopes.{value_in, truth_in, number_at, sign
 ghost use Rattle.sparql_values.specs.Values.{added, both, called, compared, either, is_satisfied, on_both, times};
 ghost use Rattle.sparql_values.specs.Mapping as mapping;
 
+use crate::columns::Columns;
 use crate::comparison::comparison;
 use crate::function::{are_same, called};
 use crate::mapping::value_of;
 use crate::number::{added, multiplied, signed};
+use crate::sorted_names::SortedNames;
 use crate::truth::{both, either, is_true, negated};
 use crate::value::{Value, number, of_number, of_term, of_truth, truth};
 use rdf_terms::{NoMemory, Term, Text, Vocabulary};
@@ -23,8 +25,8 @@ use std::alloc::Global;
 pub struct Scope<'a> {
     pub alloc: Global,
     pub vocabulary: &'a Vocabulary,
-    pub variables: &'a [Text],
-    pub row: &'a [Option<Term>],
+    pub variables: &'a SortedNames,
+    pub row: &'a Columns,
 }
 
 fn bound<'a>(scope: &Scope<'a>, name: &Text) -> Option<&'a Term>
@@ -182,8 +184,8 @@ fn product<'a>(scope: &Scope<'a>, factors: &'a [Expression]) -> Result<Option<i1
 /// [`NoMemory`] where memory is wanting.
 pub fn is_satisfied(
     alloc: Global,
-    variables: &[Text],
-    row: &[Option<Term>],
+    variables: &SortedNames,
+    row: &Columns,
     vocabulary: &Vocabulary,
     expression: &Expression,
 ) -> Result<bool, NoMemory>

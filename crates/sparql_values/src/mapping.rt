@@ -3,8 +3,10 @@ ghost use Rattle.std.specs.Prelude.{◌≡◌};
 ghost use Rattle.std.specs.Option.{option_map};
 ghost use Rattle.std.specs.Ordering.{eq_by_cmp};
 ghost use Rattle.rdf_terms.specs.Order.{text_cmp};
-ghost use Rattle.sparql_values.specs.Mapping.{column, value_at, value_of};
+ghost use Rattle.sparql_values.specs.Mapping.{column, value_of};
 
+use crate::columns::Columns;
+use crate::sorted_names::SortedNames;
 use rdf_terms::{Term, Text};
 
 fn is_same_text(a: &Text, b: &Text) -> bool
@@ -22,27 +24,16 @@ pub fn column(variables: &[Text], name: &Text) -> Option<usize>
         .position(|variable| is_same_text(name, variable))
 }
 
-// What a row has at a place.
-fn value_at(row: &[Option<Term>], place: usize) -> Option<&Term>
-    ensures { option_map (λ t. t.now) result ≡ value_at row.now place }
-{
-    if place < row.len() {
-        row[place].as_ref()
-    } else {
-        None
-    }
-}
-
 /// What a row has at a variable.
 pub(crate) fn value_of<'a>(
-    variables: &[Text],
-    row: &'a [Option<Term>],
+    variables: &SortedNames,
+    row: &'a Columns,
     name: &Text,
 ) -> Option<&'a Term>
     ensures { option_map (λ t. t.now) result ≡ value_of variables.now row.now name.now }
 {
-    match column(variables, name) {
-        Some(place) => value_at(row, place),
+    match variables.column(name) {
+        Some(place) => row.value(place),
         None => None,
     }
 }

@@ -33,7 +33,7 @@ loop-quad-preserved-in-Continue-branch-2 c =
       made = grown_by p m c.in-Some.quad rest items c.in-Some.ensures.steps.0 c.loop-quad.out.items (c.args.out.now.items ++ matches_of c.args.quads.items p m)
           c.loop-quad.invariant.made c.grows.new.row c.push.new.self.items
           (ap (λ (l : Mapping). matched p l c.in-Some.quad) (sym c.in_ok-found.ensures)
-          ∙ c.grows.ensures ∙ ap (λ b. cond b (Some c.grows.new.row) None) c.if-grows.true)
+          ∙ c.in_ok-grows.ensures ∙ ap (λ b. cond b (Some c.grows.new.row) None) c.if-branch.true)
           c.in_ok-push.ensures.items;
       held = held_rest p m c.in-Some.quad rest items c.in-Some.ensures.steps.0 c.loop-quad.invariant.held;
       count = omega (arith, ap length c.in-Some.ensures.steps.0, c.in-Some.ensures.steps.1, c.loop-quad.invariant.count);
@@ -49,7 +49,7 @@ loop-quad-preserved c =
       made = grown_by_none p m c.in-Some.quad rest items c.in-Some.ensures.steps.0 c.loop-quad.out.items
           (c.args.out.now.items ++ matches_of c.args.quads.items p m) c.loop-quad.invariant.made
           (ap (λ (l : Mapping). matched p l c.in-Some.quad) (sym c.in_ok-found.ensures)
-          ∙ c.grows.ensures ∙ ap (λ b. cond b (Some c.grows.new.row) None) c.if-grows.false);
+          ∙ c.in_ok-grows.ensures ∙ ap (λ b. cond b (Some c.grows.new.row) None) c.if-branch.false);
       held = held_rest p m c.in-Some.quad rest items c.in-Some.ensures.steps.0 c.loop-quad.invariant.held;
       count = omega (arith, ap length c.in-Some.ensures.steps.0, c.in-Some.ensures.steps.1, c.loop-quad.invariant.count);
     }

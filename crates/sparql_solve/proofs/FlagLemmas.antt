@@ -1,0 +1,141 @@
+-- Flags that are up at some columns, and what a mapping shows there.
+use Rattle.std.proofs.Common.{◌≡◌, ℕ, ◌+◌, ◌<◌, ◌≤◌, zero, suc, Bool, true, false, ◌||◌, List, [], ◌∷◌, ◌++◌, Option, Some, None, cond, refl, sym, ap, ◌∙◌, length, take, get_or, min, replicate, arith, nat_eq, nat_lt, add-one}
+use Rattle.std.specs.List.{list_any}
+use Rattle.std.proofs.Math.Dec.{eqb-zero-suc, eqb-suc-zero, eqb-suc-suc}
+use Rattle.std.proofs.lemmas.Bool.{ltb-false, ne_eqb}
+use Rattle.std.proofs.lemmas.List.{take_all}
+use Rattle.std.proofs.lemmas.List.Folds.{list_any-append}
+use Rattle.rdf_terms.specs.declared.term.Term.{Term}
+use Rattle.sparql_values.specs.Mapping.{Mapping, value_at}
+use Rattle.sparql_solve.specs.Flags.{raised}
+use Rattle.sparql_solve.specs.Matching.{has_column, is_place_at}
+use Rattle.sparql_solve.specs.Own.{marked}
+use Rattle.sparql_solve.specs.Pairs.{with_value}
+use Rattle.sparql_solve.specs.Under.{flags_where, masked, shown}
+use Rattle.sparql_solve.specs.declared.place.Place.{Place}
+use Rattle.sparql_solve.specs.declared.place.Place.TheVariants.{Fixed, Column, Nowhere}
+use Rattle.sparql_solve.specs.declared.place.Places.{Places}
+use Rattle.sparql_solve.proofs.OwnLemmas.{any_take, flags_same}
+
+pub length_flags : (t : ℕ → Bool) (n : ℕ) → length (flags_where t n) ≡ n
+length_flags t zero = refl
+length_flags t (suc n) = omega (arith, length_flags (λ at. t (suc at)) n)
+
+pub flags_same_below : (p q : ℕ → Bool) (n : ℕ) → ((c : ℕ) → c < n → p c ≡ q c) → flags_where p n ≡ flags_where q n
+flags_same_below p q zero e = refl
+flags_same_below p q (suc n) e =
+    ap (λ b. b ∷ flags_where (λ c. p (suc c)) n) (e zero (omega arith))
+    ∙ ap (λ (l : List Bool). q zero ∷ l) (flags_same_below (λ c. p (suc c)) (λ c. q (suc c)) n (λ c l. e (suc c) (omega (arith, l))))
+
+-- ---- the columns of places
+
+or_last : (a b : Bool) → (a || (b || false)) ≡ (b || a)
+or_last true true = refl
+or_last true false = refl
+or_last false true = refl
+or_last false false = refl
+
+any_marked : (n : ℕ) (p : Place) (cs : List ℕ) (at : ℕ) → at < n → list_any (nat_eq at) (marked n p cs) ≡ (is_place_at at p || list_any (nat_eq at) cs)
+any_marked n (Fixed t) cs at l = refl
+any_marked n Nowhere cs at l = refl
+any_marked n (Column c) cs at l = by_test (nat_lt c n) refl
+  where
+    by_test : (b : Bool) → nat_lt c n ≡ b → list_any (nat_eq at) (marked n (Column c) cs) ≡ (nat_eq at c || list_any (nat_eq at) cs)
+    by_test true e =
+        ap (λ b. list_any (nat_eq at) (cond b (cs ++ c ∷ []) cs)) e ∙ list_any-append (nat_eq at) cs (c ∷ []) ∙ or_last (list_any (nat_eq at) cs) (nat_eq at c)
+    by_test false e =
+        ap (λ b. list_any (nat_eq at) (cond b (cs ++ c ∷ []) cs)) e
+        ∙ sym (ap (λ b. b || list_any (nat_eq at) cs) (ne_eqb at c (omega (arith, l, ltb-false c n e))))
+
+or_three : (a b c t : Bool) → (c || (b || (a || t))) ≡ ((a || (b || c)) || t)
+or_three true b true t = refl
+or_three true true false t = refl
+or_three true false false t = refl
+or_three false true true t = refl
+or_three false true false t = refl
+or_three false false true t = refl
+or_three false false false t = refl
+
+-- no columns at first
+pub own_first : (ps : List Places) (n : ℕ) → raised false [] n ≡ flags_where (λ at. list_any (has_column at) (take zero ps)) n
+own_first ps n = refl
+
+-- those of one triple pattern more
+pub own_further : (ps : List Places) (i n : ℕ) (p : Places) (cs one two three : List ℕ) → i < length ps → p ≡ get_or ps i p →
+    raised false cs n ≡ flags_where (λ at. list_any (has_column at) (take i ps)) n → one ≡ marked n p.subject cs → two ≡ marked n p.predicate one →
+    three ≡ marked n p.object two → ((at : ℕ) → at < n → list_any (nat_eq at) cs ≡ list_any (has_column at) (take i ps)) →
+    (at : ℕ) → at < n → list_any (nat_eq at) three ≡ list_any (has_column at) (take (i + 1) ps)
+own_further ps i n p cs one two three lt here h e1 e2 e3 same at l =
+    ap (list_any (nat_eq at)) e3 ∙ any_marked n p.object two at l
+    ∙ ap (λ b. is_place_at at p.object || b) (ap (list_any (nat_eq at)) e2 ∙ any_marked n p.predicate one at l)
+    ∙ ap (λ b. is_place_at at p.object || (is_place_at at p.predicate || b)) (ap (list_any (nat_eq at)) e1 ∙ any_marked n p.subject cs at l ∙ ap (λ b. is_place_at at p.subject || b) (same at l))
+    ∙ or_three (is_place_at at p.subject) (is_place_at at p.predicate) (is_place_at at p.object) (list_any (has_column at) (take i ps))
+    ∙ any_take (has_column at) ps i p lt here ∙ ap (λ k. list_any (has_column at) (take k ps)) (sym (add-one i))
+
+pub own_all : (ps : List Places) (i n : ℕ) (cs : List ℕ) → length ps ≤ i → ((at : ℕ) → at < n → list_any (nat_eq at) cs ≡ list_any (has_column at) (take i ps)) →
+    raised false cs n ≡ flags_where (λ at. list_any (has_column at) ps) n
+own_all ps i n cs ge same =
+    flags_same_below (λ at. list_any (nat_eq at) cs) (λ at. list_any (has_column at) ps) n
+    (λ at l. same at l ∙ ap (λ (qs : List Places). list_any (has_column at) qs) (take_all i ps ge))
+
+-- ---- masks
+
+shown_none : (b : Bool) → None ≡ shown (None, b)
+shown_none true = refl
+shown_none false = refl
+
+with_value_later : (x : Option Term) (m : Mapping) (c : ℕ) (v : Option Term) → with_value (x ∷ m) (suc c) v ≡ x ∷ with_value m c v
+with_value_later x m c (Some t) = refl
+with_value_later x m c None = refl
+
+-- what stands at one column more
+mask_more : (t : ℕ → Bool) (n c : ℕ) (m : Mapping) → with_value (masked (flags_where t n) m) c (value_at m c) ≡ masked (flags_where (λ at. nat_eq at c || t at) n) m
+mask_more t zero c [] = refl
+mask_more t zero c (x ∷ m) = nowhere (value_at (x ∷ m) c)
+  where
+    nowhere : (v : Option Term) → with_value [] c v ≡ []
+    nowhere (Some u) = refl
+    nowhere None = refl
+mask_more t (suc n) c [] = refl
+mask_more t (suc n) zero (x ∷ m) =
+    first x
+    ∙ ap (λ (l : List Bool). shown (x, true) ∷ masked l m)
+    (flags_same (λ at. t (suc at)) (λ at. nat_eq (suc at) zero || t (suc at)) (λ at. ap (λ b. b || t (suc at)) (sym (eqb-suc-zero at))) n)
+  where
+    first : (y : Option Term) → with_value (shown (y, t zero) ∷ masked (flags_where (λ at. t (suc at)) n) m) zero y ≡ shown (y, true) ∷ masked (flags_where (λ at. t (suc at)) n) m
+    first (Some u) = refl
+    first None = ap (λ (v : Option Term). v ∷ masked (flags_where (λ at. t (suc at)) n) m) (sym (shown_none (t zero)))
+mask_more t (suc n) (suc c) (x ∷ m) =
+    with_value_later (shown (x, t zero)) (masked (flags_where (λ at. t (suc at)) n) m) c (value_at m c)
+    ∙ ap (λ (ms : Mapping). shown (x, t zero) ∷ ms)
+    (mask_more (λ at. t (suc at)) n c m
+    ∙ ap (λ (l : List Bool). masked l m) (flags_same (λ at. nat_eq at c || t (suc at)) (λ at. nat_eq (suc at) (suc c) || t (suc at)) (λ at. ap (λ b. b || t (suc at)) (sym (eqb-suc-suc at c))) n))
+    ∙ ap (λ b. shown (x, b || t zero) ∷ masked (flags_where (λ at. nat_eq (suc at) (suc c) || t (suc at)) n) m) (sym (eqb-zero-suc c))
+
+pub masked_first : (cs : List ℕ) (n k : ℕ) (m out : Mapping) → k ≡ min (length m) n → out ≡ replicate k None → out ≡ masked (raised false (take zero cs) n) m
+masked_first cs n k m out ek e = e ∙ ap (λ j. replicate j None) ek ∙ nothing n m
+  where
+    nothing : (n : ℕ) (m : Mapping) → replicate (min (length m) n) None ≡ masked (flags_where (λ at. false) n) m
+    nothing zero [] = refl
+    nothing zero (x ∷ m) = refl
+    nothing (suc n) [] = refl
+    nothing (suc n) (x ∷ m) = ap (λ (ms : Mapping). None ∷ ms) (nothing n m)
+
+pub masked_further : (cs : List ℕ) (i n c : ℕ) (m out new : Mapping) → i < length cs → c ≡ get_or cs i c → out ≡ masked (raised false (take i cs) n) m →
+    new ≡ with_value out c (value_at m c) → new ≡ masked (raised false (take (i + 1) cs) n) m
+masked_further cs i n c m out new lt here h e =
+    e ∙ ap (λ (z : Mapping). with_value z c (value_at m c)) h ∙ mask_more (λ at. list_any (nat_eq at) (take i cs)) n c m
+    ∙ ap (λ (l : List Bool). masked l m)
+    (flags_same (λ at. nat_eq at c || list_any (nat_eq at) (take i cs)) (λ at. list_any (nat_eq at) (take (i + 1) cs))
+    (λ at. any_take (nat_eq at) cs i c lt here ∙ ap (λ k. list_any (nat_eq at) (take k cs)) (sym (add-one i))) n)
+
+pub masked_last : (cs : List ℕ) (i n : ℕ) (flags : List Bool) (m out : Mapping) → length cs ≤ i → flags ≡ raised false cs n → out ≡ masked (raised false (take i cs) n) m →
+    out ≡ masked flags m
+masked_last cs i n flags m out ge e h = h ∙ ap (λ (ds : List ℕ). masked (raised false ds n) m) (take_all i cs ge) ∙ ap (λ (l : List Bool). masked l m) (sym e)
+
+-- where all are up
+pub masked_all_up : (n : ℕ) (m : Mapping) → take n m ≡ masked (raised true [] n) m
+masked_all_up zero [] = refl
+masked_all_up zero (x ∷ m) = refl
+masked_all_up (suc n) [] = refl
+masked_all_up (suc n) (x ∷ m) = ap (λ (ms : Mapping). x ∷ ms) (masked_all_up n m)
