@@ -234,10 +234,6 @@ QUERIES = {
     "an unknown prefix behind all: UnknownPrefix": lambda n: query("ASK { " + many(n, "?s <a:%> ?o", " . ") + " . ?s x:y ?o }"),
     "a word outside the profile behind all: NotInProfile": lambda n: query("ASK { " + many(n, "?s <a:%> ?o", " . ") + " } LIMIT 1"),
 }
-# what of these asks for a product, as docs/FORMATS.md states: it grows with the square of n
-STATED = {
-    "UNIONs",
-}
 SESSIONS = {
     "blank lines of a script": lambda n: " \n" * n,
     "comments of a script": lambda n: "# x\n" * n,
@@ -331,8 +327,7 @@ def main(rdfkeep=str(pathlib.Path(__file__).resolve().parent.parent / "rdfkeep")
             if len(ratios) == 2 and min(ratios) > 3 and times[-1] > FLOOR:
                 grows.append(name)
             print("%-68s %9d %28s   %s %s" % (name, found[-1][0], " ".join("%8.3f" % it for it in times), " ".join("%5.1f" % it for it in ratios), wrong), flush=True)
-    print("grow faster, as stated:", "; ".join(it for it in grows if it in STATED) or "none")
-    print("grow faster:", "; ".join(it for it in grows if it not in STATED) or "none")
+    print("grow faster:", "; ".join(grows) or "none")
 
 
 if __name__ == "__main__":

@@ -1,11 +1,11 @@
 -- Mappings by what they bind: walks from one column that has a term to the next.
-use Rattle.std.proofs.Common.{◌≡◌, ◌≢◌, ℕ, zero, suc, ◌+◌, ◌<◌, ◌≤◌, ◌⊎◌, inl, inr, min, Bool, true, false, ◌&&◌, not, List, [], ◌∷◌, length, take, set, get_or, map, replicate, Option, Some, None, is_none, is_some, refl, sym, ap, ◌∙◌, subst, arith, cond, ◌==◌, true≢false}
+use Rattle.std.proofs.Common.{◌≡◌, ◌≢◌, ℕ, zero, suc, ◌+◌, ◌<◌, ◌≤◌, ◌⊎◌, inl, inr, min, Bool, true, false, ◌&&◌, ◌||◌, not, List, [], ◌∷◌, length, take, set, get_or, map, replicate, Option, Some, None, is_none, is_some, refl, sym, ap, ◌∙◌, subst, arith, cond, ◌==◌, true≢false}
 use Rattle.std.proofs.lemmas.Bool.{and_from, both_ways, cases_lt, cases_order, eq-eqb, le-ltb, lt-ltb, ne_eqb}
 use Rattle.std.proofs.lemmas.List.{get_or-set_same, get_or-set_other, get_or_past, length-set}
 use Rattle.std.specs.List.{list_all, list_any, zip}
 use Rattle.std.specs.Option.{option_cmp}
 use Rattle.std.specs.Cmp.{tied_itself}
-use Rattle.std.specs.Ordering.{is_eq, match_ordering, nat_cmp, ordering_then}
+use Rattle.std.specs.Ordering.{is_eq, is_ne, match_ordering, nat_cmp, ordering_then}
 use Rattle.std.specs.declared.cmp.Ordering.{Ordering}
 use Rattle.std.specs.declared.cmp.Ordering.TheVariants.{Less, Equal, Greater}
 use Rattle.rdf_terms.specs.Order.{term_cmp}
@@ -82,13 +82,13 @@ module _ (p : Pair) where
         | inr m ↦ hold_where_none a b i (none i m)
       ])
 
+not_both : (t b : Bool) → not (not t && b) ≡ (t || not b)
+not_both true b = refl
+not_both false b = refl
+
 not_apart : (ps : List (Option Term × Option Term)) → not (list_all (holds Apart) ps) ≡ list_any both_have ps
 not_apart [] = refl
-not_apart (q ∷ ps) = by_test (both_have q) refl
-  where
-    by_test : (t : Bool) → both_have q ≡ t → not (list_all (holds Apart) (q ∷ ps)) ≡ list_any both_have (q ∷ ps)
-    by_test true e = rw e refl
-    by_test false e = rw e (not_apart ps)
+not_apart (q ∷ ps) = not_both (both_have q) (list_all (holds Apart) ps) ∙ ap (λ b. both_have q || b) (not_apart ps)
 
 -- they share a variable where not all are apart
 pub shares_not_apart : (a b : Mapping) → not (list_all (holds Apart) (zip a b)) ≡ shares a b
@@ -345,3 +345,21 @@ same_next a b from c h x y e i l =
     by_values (Some s) None k = absurd (greater_apart k)
     by_values None (Some t) k = absurd (less_apart k)
     by_values None None k = refl
+
+-- ---- nothing is bound where there is no first column that has a term
+
+pub unbound_by_next : (m : Mapping) (o : Option ℕ) (b : Bool) → IsNextBound m 0 o → is_some o ≡ not b → b ≡ binds_none m
+unbound_by_next m (Some c) true h e = absurd (both_ways false refl (sym e))
+unbound_by_next m (Some c) false h e = sym (binds_none_false m c h.bound)
+unbound_by_next m None true h e = sym (binds_none_true m (λ i. h i (omega arith)))
+unbound_by_next m None false h e = absurd (both_ways false refl e)
+
+-- ---- whether two values are equal
+
+pub ne_apart : (o : Ordering) (b : Bool) → b ≡ is_ne o → b ≡ true → o ≡ Equal → ⊥
+ne_apart o b e k q = true≢false (sym k ∙ e ∙ ap is_ne q)
+
+pub eq_from : (o : Ordering) (b : Bool) → b ≡ is_ne o → b ≡ false → o ≡ Equal
+eq_from Less b e k = absurd (true≢false (sym e ∙ k))
+eq_from Equal b e k = refl
+eq_from Greater b e k = absurd (true≢false (sym e ∙ k))

@@ -112,14 +112,18 @@ mask_more t (suc n) (suc c) (x ∷ m) =
     ∙ ap (λ (l : List Bool). masked l m) (flags_same (λ at. nat_eq at c || t (suc at)) (λ at. nat_eq (suc at) (suc c) || t (suc at)) (λ at. ap (λ b. b || t (suc at)) (sym (eqb-suc-suc at c))) n))
     ∙ ap (λ b. shown (x, b || t zero) ∷ masked (flags_where (λ at. nat_eq (suc at) (suc c) || t (suc at)) n) m) (sym (eqb-zero-suc c))
 
+nothing_masked : (n : ℕ) (m : Mapping) (k : ℕ) → k ≡ min (length m) n → replicate k None ≡ masked (flags_where (λ at. false) n) m
+nothing_masked zero [] zero e = refl
+nothing_masked zero [] (suc k) e = absurd (omega (arith, e))
+nothing_masked zero (x ∷ m) zero e = refl
+nothing_masked zero (x ∷ m) (suc k) e = absurd (omega (arith, e))
+nothing_masked (suc n) [] zero e = refl
+nothing_masked (suc n) [] (suc k) e = absurd (omega (arith, e))
+nothing_masked (suc n) (x ∷ m) zero e = absurd (omega (arith, e))
+nothing_masked (suc n) (x ∷ m) (suc k) e = ap (λ (ms : Mapping). None ∷ ms) (nothing_masked n m k (omega (arith, e)))
+
 pub masked_first : (cs : List ℕ) (n k : ℕ) (m out : Mapping) → k ≡ min (length m) n → out ≡ replicate k None → out ≡ masked (raised false (take zero cs) n) m
-masked_first cs n k m out ek e = e ∙ ap (λ j. replicate j None) ek ∙ nothing n m
-  where
-    nothing : (n : ℕ) (m : Mapping) → replicate (min (length m) n) None ≡ masked (flags_where (λ at. false) n) m
-    nothing zero [] = refl
-    nothing zero (x ∷ m) = refl
-    nothing (suc n) [] = refl
-    nothing (suc n) (x ∷ m) = ap (λ (ms : Mapping). None ∷ ms) (nothing n m)
+masked_first cs n k m out ek e = e ∙ nothing_masked n m k ek
 
 pub masked_further : (cs : List ℕ) (i n c : ℕ) (m out new : Mapping) → i < length cs → c ≡ get_or cs i c → out ≡ masked (raised false (take i cs) n) m →
     new ≡ with_value out c (value_at m c) → new ≡ masked (raised false (take (i + 1) cs) n) m
@@ -139,3 +143,20 @@ masked_all_up zero [] = refl
 masked_all_up zero (x ∷ m) = refl
 masked_all_up (suc n) [] = refl
 masked_all_up (suc n) (x ∷ m) = ap (λ (ms : Mapping). x ∷ ms) (masked_all_up n m)
+
+pub masked_cut : (flags : List Bool) (m copy out : Mapping) (n : ℕ) → out ≡ take n copy → copy ≡ m → n ≡ length flags → flags ≡ raised true [] (length flags) → out ≡ masked flags m
+masked_cut flags m copy out n h e en all =
+    h ∙ ap (take n) e ∙ ap (λ k. take k m) en ∙ masked_all_up (length flags) m ∙ ap (λ (l : List Bool). masked l m) (sym all)
+
+-- ---- what flags say of themselves
+
+pub flags_len : (flags : List Bool) (all : Bool) (cs : List ℕ) (n : ℕ) → raised all cs n ≡ flags → n ≡ length flags
+flags_len flags all cs n v = sym (length_flags (λ at. all || list_any (nat_eq at) cs) n) ∙ ap length v
+
+pub flags_all : (flags : List Bool) (all : Bool) (cs : List ℕ) (n : ℕ) → raised all cs n ≡ flags → all ≡ true → flags ≡ raised true [] (length flags)
+flags_all flags all cs n v e = sym v ∙ ap (λ b. raised b cs n) e ∙ ap (λ k. raised true [] k) (flags_len flags all cs n v)
+
+pub flags_some : (flags : List Bool) (all : Bool) (cs slice : List ℕ) (n : ℕ) → raised all cs n ≡ flags → all ≡ false → slice ≡ cs →
+    flags ≡ raised false slice (length flags)
+flags_some flags all cs slice n v e es =
+    sym v ∙ ap (λ b. raised b cs n) e ∙ ap (λ k. raised false cs k) (flags_len flags all cs n v) ∙ ap (λ (l : List ℕ). raised false l (length flags)) (sym es)

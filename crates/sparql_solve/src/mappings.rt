@@ -510,6 +510,7 @@ impl Mapping {
     fn compare_bound(&self, other: &Mapping) -> Ordering
         ensures { result ≡ mapping_cmp self.now other.now }
     {
+        let len = self.len();
         let mut from = 0;
         while let Some(column) = self.next_bound(from) {
             let Some(next) = other.next_bound(from) else {
@@ -526,7 +527,7 @@ impl Mapping {
         }
         match other.next_bound(from) {
             Some(_) => Ordering::Less,
-            None => self.len().cmp(&other.len()),
+            None => len.cmp(&other.len()),
         }
     }
 

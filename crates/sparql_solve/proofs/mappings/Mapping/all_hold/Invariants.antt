@@ -2,8 +2,8 @@ use Rattle.std.proofs.Common.{ℕ, ◌-◌, length}
 use Rattle.sparql_solve.proofs.BoundLemmas.{HoldBelow}
 use Rattle.sparql_solve.proofs.mappings.Mapping.all_hold.Given as goal
 
-abbrev pub invariant-loop-from : goal.invariant-loop-from
-invariant-loop-from l = HoldBelow l.pair l.self l.other l.from
+abbrev pub invariant-loop-column : goal.invariant-loop-column
+invariant-loop-column l = HoldBelow l.pair l.self l.other l.from
 
-abbrev pub decreases-loop-from : goal.decreases-loop-from
-decreases-loop-from l = length l.self - l.from
+abbrev pub decreases-loop-column : goal.decreases-loop-column
+decreases-loop-column l = length l.self - l.from
