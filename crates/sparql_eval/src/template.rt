@@ -69,7 +69,11 @@ fn term_under(
     }
 }
 
-fn name_under(variables: &SortedNames, row: &Mapping, name: &VarOrIri) -> Result<Option<Term>, NoMemory>
+fn name_under(
+    variables: &SortedNames,
+    row: &Mapping,
+    name: &VarOrIri,
+) -> Result<Option<Term>, NoMemory>
     ensures { IfOk result (λ found. found ≡ name_under variables.now row.now name.now) }
 {
     match name {

@@ -13,8 +13,8 @@ ghost use Rattle.sparql_solve.specs.Under.{AreUnder, binds_none, flags_where, ma
 use crate::above::Above;
 use crate::flags::Flags;
 use crate::look_ups::{Graphs, LookUp, found_rows, look_up_in};
-use crate::place::{Place, Places};
 use crate::mappings::Mapping;
+use crate::place::{Place, Places};
 use rdf_dataset::Source;
 use rdf_terms::{GraphName, NoMemory};
 use sparql_trees::BasicGraphPattern;

@@ -23,7 +23,11 @@ pub(crate) struct Bins<'r> {
 }
 
 // Puts the row into the bin at the place, if there is one.
-fn put_at<'r>(bins: &mut Vec<Vec<&'r Mapping>>, place: usize, row: &'r Mapping) -> Result<(), NoMemory>
+fn put_at<'r>(
+    bins: &mut Vec<Vec<&'r Mapping>>,
+    place: usize,
+    row: &'r Mapping,
+) -> Result<(), NoMemory>
     ensures { OnOk result (map (λ bin. map (λ r. r.now) bin.items) bins.new.items
         ≡ with_at place row.now (map (λ bin. map (λ r. r.now) bin.items) bins.old.items)) }
 {

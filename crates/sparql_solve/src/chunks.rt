@@ -17,12 +17,12 @@ use crate::above::Above;
 use crate::evaluator::rows_after;
 use crate::filters::some_satisfies;
 use crate::look_ups::{Graphs, LookUp};
+use crate::mappings::Mapping;
 use crate::matching::{
     all_patterns, copied, copies_matched, cut_rows, few_quads_of, next_pattern, quads_of, step,
 };
 use crate::members::{is_joined, look_up_of_joined};
 use crate::place::Places;
-use crate::mappings::Mapping;
 use crate::sides::compatible_rows;
 use rdf_dataset::Source;
 use rdf_terms::{GraphName, NoMemory, Quad, Vocabulary};

@@ -18,9 +18,9 @@ use crate::counted::Counted;
 use crate::filters::filtered_rows;
 use crate::flags::Flags;
 use crate::look_ups::{Graphs, LookUp, is_named, look_up_in};
+use crate::mappings::Mapping;
 use crate::members::{is_joined, is_removed, look_up_of, removed_basic};
 use crate::names::{names_under, rows_of_names};
-use crate::mappings::Mapping;
 use crate::shapes::{before_apart, group_reads};
 use crate::sharing::{asked_columns, gather, is_group, served_len, stops};
 use crate::sides::{

@@ -20,13 +20,7 @@ fn satisfies(
     ensures { IfOk result (λ b. b ≡ satisfies variables.now filters.now row.now) }
 {
     for filter in filters {
-        if !is_satisfied(
-            alloc,
-            variables,
-            row.columns(),
-            vocabulary,
-            filter,
-        )? {
+        if !is_satisfied(alloc, variables, row.columns(), vocabulary, filter)? {
             return Ok(false);
         }
     }

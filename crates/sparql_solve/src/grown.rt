@@ -3,19 +3,14 @@ ghost use Rattle.std.specs.Prelude.{◌≡◌, ◌++◌, IfOk, IsTrue, None, OnO
 ghost use Rattle.std.specs.List.{list_all};
 ghost use Rattle.sparql_solve.specs.Matching.{has_held, matched, matches_of};
 
-use crate::place::Places;
 use crate::mappings::Mapping;
+use crate::place::Places;
 use rdf_terms::{NoMemory, Quad};
 use std::alloc::Global;
 
 // Moves into the row what the triple binds, which was looked up under it, and answers whether it
 // fits; a variable that stands twice may still want two terms.
-fn grows(
-    alloc: Global,
-    row: &mut Mapping,
-    places: &Places,
-    quad: Quad,
-) -> Result<bool, NoMemory>
+fn grows(alloc: Global, row: &mut Mapping, places: &Places, quad: Quad) -> Result<bool, NoMemory>
     requires { IsTrue (has_held places.now row.old quad) }
     ensures { IfOk result (λ fits.
         matched places.now row.old quad ≡ cond fits (Some row.new) None) }

@@ -7,8 +7,8 @@ ghost use Rattle.sparql_solve.specs.Parts.{merges_in};
 
 use crate::filters::filtered_rows;
 use crate::keyed::{Part, part_run};
-use crate::parts::{cut_parts, parted, parts_of};
 use crate::mappings::Mapping;
+use crate::parts::{cut_parts, parted, parts_of};
 use rdf_terms::{NoMemory, Vocabulary};
 use sparql_trees::Expression;
 use sparql_values::SortedNames;
@@ -65,7 +65,11 @@ fn append_joins(
 }
 
 /// Join: the merges of all compatible pairs.
-pub(crate) fn join(alloc: Global, left: &[Mapping], right: &[Mapping]) -> Result<Vec<Mapping>, NoMemory>
+pub(crate) fn join(
+    alloc: Global,
+    left: &[Mapping],
+    right: &[Mapping],
+) -> Result<Vec<Mapping>, NoMemory>
     ensures { IfOk result (λ out. SameBag out.items (joins left.now right.now)) }
 {
     let left = parted(alloc, left)?;
@@ -81,7 +85,11 @@ pub(crate) fn join(alloc: Global, left: &[Mapping], right: &[Mapping]) -> Result
 }
 
 /// The row alone where it has no merge.
-pub(crate) fn or_alone(alloc: Global, row: &Mapping, mut merged: Vec<Mapping>) -> Result<Vec<Mapping>, NoMemory>
+pub(crate) fn or_alone(
+    alloc: Global,
+    row: &Mapping,
+    mut merged: Vec<Mapping>,
+) -> Result<Vec<Mapping>, NoMemory>
     ensures { IfOk result (λ out. out.items ≡ or_alone row.now merged.items) }
 {
     if merged.is_empty() {

@@ -86,7 +86,11 @@ pub(crate) fn index_of<'r>(
 }
 
 /// The rows of an index that have the key of a row.
-pub(crate) fn run_of<'i, 'r>(row: &Mapping, index: &'i [&'r Mapping], columns: &[usize]) -> &'i [&'r Mapping]
+pub(crate) fn run_of<'i, 'r>(
+    row: &Mapping,
+    index: &'i [&'r Mapping],
+    columns: &[usize],
+) -> &'i [&'r Mapping]
     requires { IsSortedByKey (key columns.now) mapping_cmp (map (λ r. r.now) index.now) }
     ensures { map (λ r. r.now) result.now ≡ run columns.now (map (λ r. r.now) index.now) row.now }
 {

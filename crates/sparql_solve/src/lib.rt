@@ -39,7 +39,7 @@ pub use keys::runs_give_merges;
 pub use laws::{look_ups_are_merges, rows_are_followed};
 pub use mappings::Mapping;
 pub use results::{
-    Solutions, SolutionMappings, ask, ask_with, select, select_with, solve, sorted_solutions,
+    SolutionMappings, Solutions, ask, ask_with, select, select_with, solve, sorted_solutions,
 };
 pub use rows::Row;
 pub use sparql_values::SortedNames;

@@ -13,11 +13,11 @@ ghost use Rattle.sparql_solve.specs.LookUps.{looked_up};
 ghost use Rattle.sparql_solve.specs.Sides.{found, found_in, found_under, graph_where, graphs_of, look_up_in, tried};
 ghost use Rattle.sparql_solve.specs.Members.{AreSolutions};
 
+use crate::mappings::Mapping;
 use crate::matching::{
     asks_same, cut_rows, few_of_one, matching_rows, moved_of_one, rows_of_one, some_of_one,
 };
 use crate::place::{Places, all_places};
-use crate::mappings::Mapping;
 use crate::values::copy_value;
 use rdf_dataset::Source;
 use rdf_terms::{GraphName, Items, NoMemory, Term, Text};

@@ -150,12 +150,7 @@ impl Mapping {
     }
 
     // Puts at the column what the other mapping has there, where this one has nothing.
-    fn put_missing(
-        &mut self,
-        alloc: Global,
-        column: usize,
-        other: &Mapping,
-    ) -> Result<(), NoMemory>
+    fn put_missing(&mut self, alloc: Global, column: usize, other: &Mapping) -> Result<(), NoMemory>
         ensures { OnOk result (PutsAt self.old self.new column
             (first_of (value_at self.old column, value_at other.now column))) }
     {
@@ -200,12 +195,7 @@ impl Mapping {
     }
 
     // Puts at the column, which has nothing or the same, what the other mapping has there.
-    fn put_copy(
-        &mut self,
-        alloc: Global,
-        column: usize,
-        other: &Mapping,
-    ) -> Result<(), NoMemory>
+    fn put_copy(&mut self, alloc: Global, column: usize, other: &Mapping) -> Result<(), NoMemory>
         ensures { OnOk result (self.new ≡ with_value self.old column (value_at other.now column)) }
     {
         match other.value(column) {

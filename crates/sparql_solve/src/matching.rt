@@ -10,8 +10,8 @@ ghost use Rattle.sparql_solve.specs.Matching.{AsksSame, has_held, matched, match
 ghost use Rattle.sparql_solve.specs.Members.{AreSolutions};
 
 use crate::grown::{copies_grown, row_grown};
-use crate::place::{Place, Places};
 use crate::mappings::Mapping;
+use crate::place::{Place, Places};
 use rdf_dataset::Source;
 use rdf_terms::{GraphName, NoMemory, Quad};
 use std::alloc::Global;
@@ -372,7 +372,11 @@ pub(crate) fn matching_rows<S: Source>(
 }
 
 /// The first columns of each row.
-pub(crate) fn cut_rows(alloc: Global, rows: Vec<Mapping>, columns: usize) -> Result<Vec<Mapping>, NoMemory>
+pub(crate) fn cut_rows(
+    alloc: Global,
+    rows: Vec<Mapping>,
+    columns: usize,
+) -> Result<Vec<Mapping>, NoMemory>
     ensures { IfOk result (λ out. out.items ≡ map (take columns) rows.items) }
 {
     let mut out = Vec::with_capacity(alloc, rows.len())?;

@@ -1,6 +1,6 @@
 //! Minus of rows, each part by its own key (SPARQL 1.1 Query, section 18.5). Rows are compared with
 //! no part with which they can't have a variable in common.
-ghost use Rattle.std.specs.Prelude.{◌≡◌, ◌++◌, All, IfOk, OnOk, false, map, true, ℕ};
+ghost use Rattle.std.specs.Prelude.{◌≡◌, ◌++◌, All, IfOk, OnOk, false, map, nat_eq, true, ℕ};
 ghost use Rattle.std.specs.List.{flat_map, list_any};
 ghost use Rattle.sparql_algebra.specs.Bags.{SameBag};
 ghost use Rattle.sparql_algebra.specs.Solutions.{minuses, shares};
@@ -28,7 +28,8 @@ fn append_bound(row: &Mapping, columns: &mut Vec<usize>) -> Result<(), NoMemory>
 // The columns at which one of the rows has a term, each once.
 fn bound_columns(alloc: Global, rows: &[&Mapping]) -> Result<Vec<usize>, NoMemory>
     ensures { IfOk result (λ columns. (column : ℕ) →
-        list_any (binds column) (map (λ r. r.now) rows.now) ≡ true → StandsIn columns.items column) }
+        list_any (binds column) (map (λ r. r.now) rows.now) ≡ true →
+        list_any (nat_eq column) columns.items ≡ true) }
 {
     let mut columns = Vec::new(alloc);
     for row in rows {
@@ -121,7 +122,11 @@ fn append_left(
 }
 
 /// Minus: the left rows with which no compatible right one has a variable in common.
-pub(crate) fn minus(alloc: Global, left: &[Mapping], right: &[Mapping]) -> Result<Vec<Mapping>, NoMemory>
+pub(crate) fn minus(
+    alloc: Global,
+    left: &[Mapping],
+    right: &[Mapping],
+) -> Result<Vec<Mapping>, NoMemory>
     ensures { IfOk result (λ out. SameBag out.items (minuses left.now right.now)) }
 {
     let left = parted(alloc, left)?;

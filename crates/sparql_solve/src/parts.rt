@@ -21,6 +21,7 @@ const FEWEST: usize = 16;
 
 // By the columns that have a term. Nothing but time rests on it.
 fn compare_bound(row: &Mapping, other: &Mapping) -> Ordering {
+    let len = row.len();
     let mut from = 0;
     while let Some(column) = row.next_bound(from) {
         let Some(next) = other.next_bound(from) else {
@@ -33,7 +34,7 @@ fn compare_bound(row: &Mapping, other: &Mapping) -> Ordering {
     }
     match other.next_bound(from) {
         Some(_) => Ordering::Less,
-        None => Ordering::Equal,
+        None => len.cmp(&other.len()),
     }
 }
 

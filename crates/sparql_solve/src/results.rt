@@ -8,9 +8,9 @@ ghost use Rattle.sparql_trees.specs.Visible.{visible};
 
 use crate::asking::has_solution;
 use crate::evaluator::group_rows;
+use crate::mappings::Mapping;
 use crate::order::{ordered, sort_mappings};
 use crate::rows::Row;
-use crate::mappings::Mapping;
 use crate::shapes::has_minus;
 use rdf_dataset::Source;
 use rdf_terms::{GraphName, NoMemory, Text, Vocabulary};

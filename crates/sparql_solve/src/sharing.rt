@@ -164,9 +164,7 @@ pub(crate) fn gather(rows: &mut Vec<Mapping>, flags: &Flags) -> Result<(), NoMem
 fn serves(asked: &Mapping, row: &Mapping, flags: &Flags) -> bool
     ensures { IsTrue result → is_served asked.now row.now ≡ true }
 {
-    asked.len() == row.len()
-        && asked.is_below(row)
-        && compare_at(asked, row, flags).is_eq()
+    asked.len() == row.len() && asked.is_below(row) && compare_at(asked, row, flags).is_eq()
 }
 
 /// How many rows at the front are served by what was found for the columns of the first one that

@@ -19,9 +19,9 @@ use crate::joins::{join, left_join, or_alone};
 use crate::look_ups::{
     Graphs, LookUp, asks_all_same, few_found, found_rows, grown_rows, some_found,
 };
+use crate::mappings::Mapping;
 use crate::members::{is_joined, is_removed};
 use crate::minus::minus;
-use crate::mappings::Mapping;
 use crate::sharing::{few_beside, look_ups_under, served_rows, stops_looking};
 use rdf_dataset::Source;
 use rdf_terms::{GraphName, NoMemory, Vocabulary};
@@ -124,7 +124,11 @@ pub(crate) fn compatible_rows(
 }
 
 /// The rows with what another one binds.
-pub(crate) fn rows_with(alloc: Global, rows: &[Mapping], bound: &Mapping) -> Result<Vec<Mapping>, NoMemory>
+pub(crate) fn rows_with(
+    alloc: Global,
+    rows: &[Mapping],
+    bound: &Mapping,
+) -> Result<Vec<Mapping>, NoMemory>
     ensures { IfOk result (λ out. out.items ≡ map (λ x. merge x bound.now) rows.now) }
 {
     let mut out = Vec::with_capacity(alloc, rows.len())?;
@@ -378,7 +382,11 @@ fn or_moved(row: Mapping, mut passed: Vec<Mapping>) -> Result<Vec<Mapping>, NoMe
 }
 
 // The row, which is moved on, where there is none of these.
-fn moved_where_none(alloc: Global, row: Mapping, found: &[Mapping]) -> Result<Vec<Mapping>, NoMemory>
+fn moved_where_none(
+    alloc: Global,
+    row: Mapping,
+    found: &[Mapping],
+) -> Result<Vec<Mapping>, NoMemory>
     ensures { IfOk result (λ out. out.items ≡ where_none row found.now) }
 {
     let mut out = Vec::new(alloc);

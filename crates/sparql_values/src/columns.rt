@@ -95,12 +95,7 @@ fn copied_all(alloc: Global, values: &[Option<Term>]) -> Result<Vec<Option<Term>
 }
 
 // So many columns, in a tree, with nothing in each but one.
-fn sprouted(
-    alloc: Global,
-    columns: usize,
-    column: usize,
-    term: Term,
-) -> Result<Columns, NoMemory>
+fn sprouted(alloc: Global, columns: usize, column: usize, term: Term) -> Result<Columns, NoMemory>
     ensures { IfOk result (λ c. c ≡ slice_set (replicate columns None) column (Some term)) }
 {
     if columns <= FEW {
@@ -121,12 +116,7 @@ fn sprouted(
 }
 
 // The first columns, so many, and the others.
-fn forked(
-    alloc: Global,
-    first: Columns,
-    many: usize,
-    others: Columns,
-) -> Result<Columns, NoMemory>
+fn forked(alloc: Global, first: Columns, many: usize, others: Columns) -> Result<Columns, NoMemory>
     requires many { many ≡ length first }
     requires some { 0 < length first }
     requires others { 0 < length others }
@@ -309,11 +299,7 @@ impl Columns {
     }
 
     // The columns and some more behind them.
-    fn followed_by(
-        self,
-        alloc: Global,
-        mut more: Vec<Option<Term>>,
-    ) -> Result<Columns, NoMemory>
+    fn followed_by(self, alloc: Global, mut more: Vec<Option<Term>>) -> Result<Columns, NoMemory>
         ensures { IfOk result (λ c. c ≡ self ++ more.items) }
     {
         let many = self.len();
