@@ -1,6 +1,7 @@
 -- Flags that are up at some columns, and what a mapping shows there.
 use Rattle.std.proofs.Common.{◌≡◌, ℕ, ◌+◌, ◌<◌, ◌≤◌, zero, suc, Bool, true, false, ◌||◌, List, [], ◌∷◌, ◌++◌, Option, Some, None, cond, refl, sym, ap, ◌∙◌, length, take, get_or, min, replicate, arith, nat_eq, nat_lt, add-one}
-use Rattle.std.specs.List.{list_any}
+use Rattle.std.specs.List.{dedup, list_any}
+use Rattle.std.specs.List.Sorted.{IsPermutation}
 use Rattle.std.proofs.Math.Dec.{eqb-zero-suc, eqb-suc-zero, eqb-suc-suc}
 use Rattle.std.proofs.lemmas.Bool.{ltb-false, ne_eqb}
 use Rattle.std.proofs.lemmas.List.{take_all}
@@ -15,6 +16,7 @@ use Rattle.sparql_solve.specs.Under.{flags_where, masked, shown}
 use Rattle.sparql_solve.specs.declared.place.Place.{Place}
 use Rattle.sparql_solve.specs.declared.place.Place.TheVariants.{Fixed, Column, Nowhere}
 use Rattle.sparql_solve.specs.declared.place.Places.{Places}
+use Rattle.sparql_solve.proofs.BoundColumnLemmas.{any_once}
 use Rattle.sparql_solve.proofs.OwnLemmas.{any_take, flags_same}
 
 pub length_flags : (t : ℕ → Bool) (n : ℕ) → length (flags_where t n) ≡ n
@@ -149,6 +151,11 @@ masked_cut flags m copy out n h e en all =
     h ∙ ap (take n) e ∙ ap (λ k. take k m) en ∙ masked_all_up (length flags) m ∙ ap (λ (l : List Bool). masked l m) (sym all)
 
 -- ---- what flags say of themselves
+
+-- the columns in order and without repeats have the same flags up
+pub raised_once : (cs sorted out : List ℕ) (n : ℕ) → IsPermutation cs sorted → out ≡ dedup nat_eq sorted → raised false out n ≡ raised false cs n
+raised_once cs sorted out n moved e =
+    flags_same (λ at. list_any (nat_eq at) out) (λ at. list_any (nat_eq at) cs) (λ at. any_once (nat_eq at) cs sorted out moved e) n
 
 pub flags_len : (flags : List Bool) (all : Bool) (cs : List ℕ) (n : ℕ) → raised all cs n ≡ flags → n ≡ length flags
 flags_len flags all cs n v = sym (length_flags (λ at. all || list_any (nat_eq at) cs) n) ∙ ap length v
