@@ -1,20 +1,17 @@
 -- Flags that are up at some columns, and what a mapping shows there.
-use Rattle.std.proofs.Common.{◌≡◌, ℕ, ◌+◌, ◌<◌, ◌≤◌, zero, suc, Bool, true, false, ◌||◌, List, [], ◌∷◌, ◌++◌, Option, Some, None, cond, refl, sym, ap, ◌∙◌, length, take, get_or, min, replicate, arith, nat_eq, nat_lt, add-one}
-use Rattle.std.specs.List.{list_any}
+use Rattle.std.proofs.Common.{◌≡◌, ℕ, ◌+◌, ◌<◌, ◌≤◌, zero, suc, Bool, true, false, ◌||◌, List, [], ◌∷◌, Option, Some, None, refl, sym, ap, ◌∙◌, length, take, get_or, min, replicate, arith, nat_eq, add-one}
+use Rattle.std.specs.List.{dedup, list_any}
+use Rattle.std.specs.List.Sorted.{IsPermutation}
 use Rattle.std.proofs.Math.Dec.{eqb-zero-suc, eqb-suc-zero, eqb-suc-suc}
-use Rattle.std.proofs.lemmas.Bool.{ltb-false, ne_eqb}
 use Rattle.std.proofs.lemmas.List.{take_all}
-use Rattle.std.proofs.lemmas.List.Folds.{list_any-append}
 use Rattle.rdf_terms.specs.declared.term.Term.{Term}
 use Rattle.sparql_values.specs.Mapping.{Mapping, value_at}
 use Rattle.sparql_solve.specs.Flags.{raised}
-use Rattle.sparql_solve.specs.Matching.{has_column, is_place_at}
-use Rattle.sparql_solve.specs.Own.{marked}
+use Rattle.sparql_solve.specs.Matching.{has_column}
 use Rattle.sparql_solve.specs.Pairs.{with_value}
 use Rattle.sparql_solve.specs.Under.{flags_where, masked, shown}
-use Rattle.sparql_solve.specs.declared.place.Place.{Place}
-use Rattle.sparql_solve.specs.declared.place.Place.TheVariants.{Fixed, Column, Nowhere}
 use Rattle.sparql_solve.specs.declared.place.Places.{Places}
+use Rattle.sparql_solve.proofs.BoundColumnLemmas.{any_once}
 use Rattle.sparql_solve.proofs.OwnLemmas.{any_take, flags_same}
 
 pub length_flags : (t : ℕ → Bool) (n : ℕ) → length (flags_where t n) ≡ n
@@ -28,49 +25,6 @@ flags_same_below p q (suc n) e =
     ∙ ap (λ (l : List Bool). q zero ∷ l) (flags_same_below (λ c. p (suc c)) (λ c. q (suc c)) n (λ c l. e (suc c) (omega (arith, l))))
 
 -- ---- the columns of places
-
-or_last : (a b : Bool) → (a || (b || false)) ≡ (b || a)
-or_last true true = refl
-or_last true false = refl
-or_last false true = refl
-or_last false false = refl
-
-any_marked : (n : ℕ) (p : Place) (cs : List ℕ) (at : ℕ) → at < n → list_any (nat_eq at) (marked n p cs) ≡ (is_place_at at p || list_any (nat_eq at) cs)
-any_marked n (Fixed t) cs at l = refl
-any_marked n Nowhere cs at l = refl
-any_marked n (Column c) cs at l = by_test (nat_lt c n) refl
-  where
-    by_test : (b : Bool) → nat_lt c n ≡ b → list_any (nat_eq at) (marked n (Column c) cs) ≡ (nat_eq at c || list_any (nat_eq at) cs)
-    by_test true e =
-        ap (λ b. list_any (nat_eq at) (cond b (cs ++ c ∷ []) cs)) e ∙ list_any-append (nat_eq at) cs (c ∷ []) ∙ or_last (list_any (nat_eq at) cs) (nat_eq at c)
-    by_test false e =
-        ap (λ b. list_any (nat_eq at) (cond b (cs ++ c ∷ []) cs)) e
-        ∙ sym (ap (λ b. b || list_any (nat_eq at) cs) (ne_eqb at c (omega (arith, l, ltb-false c n e))))
-
-or_three : (a b c t : Bool) → (c || (b || (a || t))) ≡ ((a || (b || c)) || t)
-or_three true b true t = refl
-or_three true true false t = refl
-or_three true false false t = refl
-or_three false true true t = refl
-or_three false true false t = refl
-or_three false false true t = refl
-or_three false false false t = refl
-
--- no columns at first
-pub own_first : (ps : List Places) (n : ℕ) → raised false [] n ≡ flags_where (λ at. list_any (has_column at) (take zero ps)) n
-own_first ps n = refl
-
--- those of one triple pattern more
-pub own_further : (ps : List Places) (i n : ℕ) (p : Places) (cs one two three : List ℕ) → i < length ps → p ≡ get_or ps i p →
-    raised false cs n ≡ flags_where (λ at. list_any (has_column at) (take i ps)) n → one ≡ marked n p.subject cs → two ≡ marked n p.predicate one →
-    three ≡ marked n p.object two → ((at : ℕ) → at < n → list_any (nat_eq at) cs ≡ list_any (has_column at) (take i ps)) →
-    (at : ℕ) → at < n → list_any (nat_eq at) three ≡ list_any (has_column at) (take (i + 1) ps)
-own_further ps i n p cs one two three lt here h e1 e2 e3 same at l =
-    ap (list_any (nat_eq at)) e3 ∙ any_marked n p.object two at l
-    ∙ ap (λ b. is_place_at at p.object || b) (ap (list_any (nat_eq at)) e2 ∙ any_marked n p.predicate one at l)
-    ∙ ap (λ b. is_place_at at p.object || (is_place_at at p.predicate || b)) (ap (list_any (nat_eq at)) e1 ∙ any_marked n p.subject cs at l ∙ ap (λ b. is_place_at at p.subject || b) (same at l))
-    ∙ or_three (is_place_at at p.subject) (is_place_at at p.predicate) (is_place_at at p.object) (list_any (has_column at) (take i ps))
-    ∙ any_take (has_column at) ps i p lt here ∙ ap (λ k. list_any (has_column at) (take k ps)) (sym (add-one i))
 
 pub own_all : (ps : List Places) (i n : ℕ) (cs : List ℕ) → length ps ≤ i → ((at : ℕ) → at < n → list_any (nat_eq at) cs ≡ list_any (has_column at) (take i ps)) →
     raised false cs n ≡ flags_where (λ at. list_any (has_column at) ps) n
@@ -133,10 +87,6 @@ masked_further cs i n c m out new lt here h e =
     (flags_same (λ at. nat_eq at c || list_any (nat_eq at) (take i cs)) (λ at. list_any (nat_eq at) (take (i + 1) cs))
     (λ at. any_take (nat_eq at) cs i c lt here ∙ ap (λ k. list_any (nat_eq at) (take k cs)) (sym (add-one i))) n)
 
-pub masked_last : (cs : List ℕ) (i n : ℕ) (flags : List Bool) (m out : Mapping) → length cs ≤ i → flags ≡ raised false cs n → out ≡ masked (raised false (take i cs) n) m →
-    out ≡ masked flags m
-masked_last cs i n flags m out ge e h = h ∙ ap (λ (ds : List ℕ). masked (raised false ds n) m) (take_all i cs ge) ∙ ap (λ (l : List Bool). masked l m) (sym e)
-
 -- where all are up
 pub masked_all_up : (n : ℕ) (m : Mapping) → take n m ≡ masked (raised true [] n) m
 masked_all_up zero [] = refl
@@ -149,6 +99,11 @@ masked_cut flags m copy out n h e en all =
     h ∙ ap (take n) e ∙ ap (λ k. take k m) en ∙ masked_all_up (length flags) m ∙ ap (λ (l : List Bool). masked l m) (sym all)
 
 -- ---- what flags say of themselves
+
+-- the columns in order and without repeats have the same flags up
+pub raised_once : (cs sorted out : List ℕ) (n : ℕ) → IsPermutation cs sorted → out ≡ dedup nat_eq sorted → raised false out n ≡ raised false cs n
+raised_once cs sorted out n moved e =
+    flags_same (λ at. list_any (nat_eq at) out) (λ at. list_any (nat_eq at) cs) (λ at. any_once (nat_eq at) cs sorted out moved e) n
 
 pub flags_len : (flags : List Bool) (all : Bool) (cs : List ℕ) (n : ℕ) → raised all cs n ≡ flags → n ≡ length flags
 flags_len flags all cs n v = sym (length_flags (λ at. all || list_any (nat_eq at) cs) n) ∙ ap length v

@@ -19,6 +19,7 @@ pub mod DistinctLemmas
 pub mod ColumnLemmas
 pub mod ResultLemmas
 pub mod KeyLemmas
+pub mod BoundColumnLemmas
 pub mod BinLemmas
 pub mod PartLemmas
 pub mod MinusLemmas

@@ -20,10 +20,6 @@ all_bind A B column = list_all (binds column) A && list_all (binds column) B
 abbrev pub columns_of : Mapping → List ℕ
 columns_of m = range_with_len 0 (length m)
 
--- those at which it has a term
-abbrev pub bound_columns : Mapping → List ℕ
-bound_columns m = filter (λ column. binds column m) (columns_of m)
-
 -- the columns at which each mapping of both lists has a term; none where there is no mapping on the left
 abbrev pub key_columns : List Mapping → List Mapping → List ℕ
 key_columns [] B = []

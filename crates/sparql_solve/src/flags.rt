@@ -32,7 +32,7 @@ impl Flags {
         ensures { IfOk result (λ flags. flags ≡ raised false columns.items len) }
     {
         columns.sort()?;
-        columns.dedup_by(|column, before| column == before);
+        columns.dedup();
         Ok(Flags {
             len,
             are_all: false,

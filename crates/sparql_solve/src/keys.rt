@@ -45,8 +45,12 @@ pub(crate) fn key_columns(
     let Some(first) = left.first() else {
         return Ok(columns);
     };
+    let len = first.len();
     let mut from = 0;
-    while let Some(column) = first.next_bound(from) {
+    while from < len {
+        let Some(column) = first.next_bound(from) else {
+            return Ok(columns);
+        };
         if all_bind(left, right, column) {
             columns.push(column)?;
         }

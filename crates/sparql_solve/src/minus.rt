@@ -1,10 +1,10 @@
 //! Minus of rows, each part by its own key (SPARQL 1.1 Query, section 18.5). Rows are compared with
 //! no part with which they can't have a variable in common.
-ghost use Rattle.std.specs.Prelude.{◌≡◌, ◌++◌, All, IfOk, OnOk, false, map, nat_eq, true, ℕ};
+ghost use Rattle.std.specs.Prelude.{◌≡◌, ◌++◌, ◌||◌, All, IfOk, OnOk, map, nat_eq, ℕ};
 ghost use Rattle.std.specs.List.{flat_map, list_any};
 ghost use Rattle.sparql_algebra.specs.Bags.{SameBag};
-ghost use Rattle.sparql_algebra.specs.Solutions.{minuses, shares};
-ghost use Rattle.sparql_solve.specs.Keys.{binds, bound_columns};
+ghost use Rattle.sparql_algebra.specs.Solutions.{minuses};
+ghost use Rattle.sparql_solve.specs.Keys.{binds};
 ghost use Rattle.sparql_solve.specs.Parts.{left_in, meets, meets_in};
 
 use crate::keyed::{Part, part_run};
@@ -15,10 +15,15 @@ use std::alloc::Global;
 
 // Appends the columns at which the row has a term.
 fn append_bound(row: &Mapping, columns: &mut Vec<usize>) -> Result<(), NoMemory>
-    ensures { OnOk result (columns.new.items ≡ columns.old.items ++ bound_columns row.now) }
+    ensures { OnOk result ((column : ℕ) → list_any (nat_eq column) columns.new.items
+        ≡ (list_any (nat_eq column) columns.old.items || binds column row.now)) }
 {
+    let len = row.len();
     let mut from = 0;
-    while let Some(column) = row.next_bound(from) {
+    while from < len {
+        let Some(column) = row.next_bound(from) else {
+            return Ok(());
+        };
         columns.push(column)?;
         from = column + 1;
     }
@@ -27,16 +32,15 @@ fn append_bound(row: &Mapping, columns: &mut Vec<usize>) -> Result<(), NoMemory>
 
 // The columns at which one of the rows has a term, each once.
 fn bound_columns(alloc: Global, rows: &[&Mapping]) -> Result<Vec<usize>, NoMemory>
-    ensures { IfOk result (λ columns. (column : ℕ) →
-        list_any (binds column) (map (λ r. r.now) rows.now) ≡ true →
-        list_any (nat_eq column) columns.items ≡ true) }
+    ensures { IfOk result (λ columns. (column : ℕ) → list_any (nat_eq column) columns.items
+        ≡ list_any (binds column) (map (λ r. r.now) rows.now)) }
 {
     let mut columns = Vec::new(alloc);
     for row in rows {
         append_bound(row, &mut columns)?;
     }
     columns.sort()?;
-    columns.dedup_by(|column, before| column == before);
+    columns.dedup();
     Ok(columns)
 }
 
@@ -49,8 +53,8 @@ fn one_binds(rows: &[&Mapping], column: usize) -> bool
 
 // Whether a row has a term at one of these columns, at which the left rows have one.
 fn one_column(columns: &[usize], right: &[&Mapping]) -> bool
-    ensures { result ≡ false → All (λ column.
-        list_any (binds column) (map (λ r. r.now) right.now) ≡ false) columns.now }
+    ensures { result ≡ list_any (λ column.
+        list_any (binds column) (map (λ r. r.now) right.now)) columns.now }
 {
     columns.iter().any(|column| one_binds(right, *column))
 }
