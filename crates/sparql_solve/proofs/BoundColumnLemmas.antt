@@ -1,10 +1,10 @@
 -- Lists of the columns that mappings bind, each column once.
-use Rattle.std.proofs.Common.{◌≡◌, ℕ, ◌+◌, ◌<◌, ◌≤◌, ◌⊎◌, inl, inr, Bool, true, false, ◌&&◌, ◌||◌, cond, List, [], ◌∷◌, ◌++◌, length, take, get_or, None, is_some, refl, sym, ap, ◌∙◌, subst, arith, nat_eq, nat_lt, Bor}
+use Rattle.std.proofs.Common.{◌≡◌, ℕ, ◌+◌, ◌<◌, ◌≤◌, inl, inr, Bool, true, false, ◌&&◌, ◌||◌, cond, List, [], ◌∷◌, ◌++◌, length, take, get_or, Option, Some, None, is_some, not, refl, sym, ap, ◌∙◌, subst, arith, nat_eq, nat_lt, true≢false, Bor}
 use Rattle.std.specs.List.{dedup, dedup_from, list_any}
 use Rattle.std.specs.List.Sorted.{IsPermutation}
 use Rattle.std.proofs.lemmas.Bool.{cases_lt, cases_order, eq-eqb, eqb-true, le-ltb, lt-ltb, ne_eqb}
 use Rattle.std.proofs.lemmas.List.{get_or_past, map-append, take_all, take_more}
-use Rattle.std.proofs.lemmas.List.Folds.{list_any-append}
+use Rattle.std.proofs.lemmas.List.Folds.{list_any-append, list_any_at}
 use Rattle.std.proofs.lemmas.List.Sorted.{list_any-IsPermutation}
 use Rattle.sparql_values.specs.Mapping.{Mapping, value_at}
 use Rattle.sparql_values.specs.NextBound.{IsFirstFrom, IsNextBound}
@@ -105,6 +105,34 @@ bound_all old columns m from h none at = h at ∙ ap (λ b. list_any (nat_eq at)
 pub none_past : (m : Mapping) (from : ℕ) → length m ≤ from → IsNextBound m from None
 none_past m from le i l = get_or_past m i None (omega (arith, le, l))
 
+-- those below this one that the mapping binds are among these
+abbrev pub AreSeenBelow : Mapping → List ℕ → ℕ → Type 0
+AreSeenBelow m columns from = (at : ℕ) → at < from → binds at m ≡ true → list_any (nat_eq at) columns ≡ true
+
+pub seen_next : (m : Mapping) (columns : List ℕ) (from c i : ℕ) → AreSeenBelow m columns from → IsFirstFrom m from c → i < length columns → c ≡ get_or columns i 0 →
+    AreSeenBelow m columns (c + 1)
+seen_next m columns from c i h first lt here at l e = elim (cases_lt at from) [
+  | inl less ↦ h at less e
+  | inr more ↦ elim (cases_lt at c) [
+    | inl before ↦ absurd (true≢false (sym e ∙ unbound_at m at (first.none_between at more before)))
+    | inr behind ↦
+        let is : at ≡ c = omega (arith, l, behind) in
+        list_any_at (nat_eq at) columns i 0 lt (eq-eqb at (get_or columns i 0) (is ∙ here))
+  ]
+]
+
+pub seen_all : (m : Mapping) (columns : List ℕ) (from : ℕ) → AreSeenBelow m columns from → IsNextBound m from None → (at : ℕ) → binds at m ≡ true →
+    list_any (nat_eq at) columns ≡ true
+seen_all m columns from h none at e = elim (cases_lt at from) [
+  | inl less ↦ h at less e
+  | inr more ↦ absurd (true≢false (sym e ∙ unbound_at m at (none at more)))
+]
+
+pub seen_last : (m : Mapping) (columns : List ℕ) (from : ℕ) (next : Option ℕ) (b : Bool) → AreSeenBelow m columns from → IsNextBound m from next → is_some next ≡ not b →
+    b ≡ true → (at : ℕ) → binds at m ≡ true → list_any (nat_eq at) columns ≡ true
+seen_last m columns from (Some c) b h none eb t at e = absurd (true≢false (eb ∙ ap not t))
+seen_last m columns from None b h none eb t at e = seen_all m columns from h none at e
+
 -- ---- the columns that one of some mappings binds
 
 abbrev pub AreBoundIn : List ℕ → List Mapping → Type 0
@@ -119,6 +147,18 @@ row_bound rows i x columns new lt here h e at =
     e at ∙ ap (λ b. b || binds at x.now) (h at)
     ∙ ap (λ b. list_any (binds at) (rows_of (take i rows)) || b) (or_none (binds at x.now))
     ∙ sym (list_any-append (binds at) (rows_of (take i rows)) (x.now ∷ [])) ∙ sym (ap (list_any (binds at)) more)
+
+had : (a b : Bool) → (b ≡ true → a ≡ true) → a ≡ (a || b)
+had true b h = refl
+had false true h = h refl
+had false false h = refl
+
+pub row_seen : (rows : List (Bor Mapping)) (i : ℕ) (x : Bor Mapping) (columns slice : List ℕ) → i < length rows → x ≡ get_or rows i x → slice ≡ columns →
+    AreBoundIn columns (rows_of (take i rows)) → ((at : ℕ) → binds at x.now ≡ true → list_any (nat_eq at) slice ≡ true) →
+    AreBoundIn columns (rows_of (take (i + 1) rows))
+row_seen rows i x columns slice lt here es h seen =
+    row_bound rows i x columns columns lt here h
+    (λ at. had (list_any (nat_eq at) columns) (binds at x.now) (λ e. ap (λ (l : List ℕ). list_any (nat_eq at) l) (sym es) ∙ seen at e))
 
 pub rows_bound : (rows : List (Bor Mapping)) (i : ℕ) (columns sorted out : List ℕ) → length rows ≤ i → AreBoundIn columns (rows_of (take i rows)) →
     IsPermutation columns sorted → out ≡ dedup nat_eq sorted → AreBoundIn out (rows_of rows)

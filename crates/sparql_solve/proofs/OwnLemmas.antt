@@ -1,5 +1,5 @@
 -- The columns of triple patterns, found by going over these.
-use Rattle.std.proofs.Common.{◌≡◌, ℕ, ◌+◌, ◌<◌, ◌≤◌, zero, suc, Bool, true, false, not, ◌&&◌, ◌||◌, List, [], ◌∷◌, ◌++◌, Option, Some, None, is_some, is_none, refl, sym, ap, ◌∙◌, length, take, drop, get_or, replicate, arith, nat_eq, nat_lt, add-one, append-nil}
+use Rattle.std.proofs.Common.{◌≡◌, ℕ, ◌+◌, ◌<◌, zero, suc, Bool, true, false, not, ◌&&◌, ◌||◌, List, [], ◌∷◌, Option, Some, None, is_some, is_none, refl, sym, ap, ◌∙◌, length, take, get_or, replicate, arith, nat_eq, nat_lt}
 use Rattle.std.specs.List.{list_any}
 use Rattle.std.proofs.Math.Dec.{eqb-zero-suc, eqb-suc-zero, eqb-suc-suc, leb-zero, leb-suc-zero, leb-suc-suc}
 use Rattle.rdf_terms.specs.declared.term.Term.{Term}

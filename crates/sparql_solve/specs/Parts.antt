@@ -1,5 +1,5 @@
 -- The right side of a join in parts, each by the key that it shares with some left rows.
-use Rattle.std.specs.Prelude.{ℕ, Bool, ◌&&◌, cond, List, [], ◌∷◌, map}
+use Rattle.std.specs.Prelude.{Bool, ◌&&◌, cond, List, [], ◌∷◌, map}
 use Rattle.std.specs.List.{flat_map, list_any}
 use Rattle.sparql_values.specs.Mapping.{Mapping, compatible, value_at}
 use Rattle.sparql_algebra.specs.Solutions.{merges, shares}

@@ -1,6 +1,6 @@
 //! Minus of rows, each part by its own key (SPARQL 1.1 Query, section 18.5). Rows are compared with
 //! no part with which they can't have a variable in common.
-ghost use Rattle.std.specs.Prelude.{◌≡◌, ◌++◌, ◌||◌, All, IfOk, OnOk, map, nat_eq, ℕ};
+ghost use Rattle.std.specs.Prelude.{◌≡◌, ◌++◌, ◌||◌, All, IfOk, OnOk, map, nat_eq, true, ℕ};
 ghost use Rattle.std.specs.List.{flat_map, list_any};
 ghost use Rattle.sparql_algebra.specs.Bags.{SameBag};
 ghost use Rattle.sparql_algebra.specs.Solutions.{minuses};
@@ -30,6 +30,28 @@ fn append_bound(row: &Mapping, columns: &mut Vec<usize>) -> Result<(), NoMemory>
     Ok(())
 }
 
+// Whether the row has terms at the first of these columns, and nowhere else.
+fn binds_first(row: &Mapping, columns: &[usize]) -> bool
+    ensures { result ≡ true → (column : ℕ) → binds column row.now ≡ true →
+        list_any (nat_eq column) columns.now ≡ true }
+{
+    let len = row.len();
+    let mut from = 0;
+    for next in columns {
+        let Some(column) = row.next_bound(from) else {
+            return true;
+        };
+        if column != *next {
+            return false;
+        }
+        from = column + 1;
+    }
+    if len <= from {
+        return true;
+    }
+    row.next_bound(from).is_none()
+}
+
 // The columns at which one of the rows has a term, each once.
 fn bound_columns(alloc: Global, rows: &[&Mapping]) -> Result<Vec<usize>, NoMemory>
     ensures { IfOk result (λ columns. (column : ℕ) → list_any (nat_eq column) columns.items
@@ -37,6 +59,9 @@ fn bound_columns(alloc: Global, rows: &[&Mapping]) -> Result<Vec<usize>, NoMemor
 {
     let mut columns = Vec::new(alloc);
     for row in rows {
+        if binds_first(row, &columns) {
+            continue;
+        }
         append_bound(row, &mut columns)?;
     }
     columns.sort()?;

@@ -1,4 +1,4 @@
-use Rattle.std.proofs.Common.{◌≤◌, length, arith}
+use Rattle.std.proofs.Common.{arith}
 use Rattle.sparql_solve.specs.Keys.{all_bind}
 use Rattle.sparql_solve.proofs.BoundColumnLemmas.{none_past}
 use Rattle.sparql_solve.proofs.KeyLemmas.{rows_of, column_kept, column_left_out, kept_all, kept_before}

@@ -1,4 +1,4 @@
-use Rattle.std.proofs.Common.{◌≡◌, ◌≤◌, ◌-◌, length, filter}
+use Rattle.std.proofs.Common.{◌≡◌, ◌≤◌, ◌-◌, filter}
 use Rattle.std.specs.List.{range_with_len}
 use Rattle.sparql_solve.specs.Keys.{all_bind}
 use Rattle.sparql_solve.proofs.KeyLemmas.{rows_of}

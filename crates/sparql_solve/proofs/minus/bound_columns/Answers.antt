@@ -1,6 +1,11 @@
 use Rattle.std.proofs.lemmas.List.Filters.{dedup_is}
-use Rattle.sparql_solve.proofs.BoundColumnLemmas.{row_bound, rows_bound}
+use Rattle.sparql_solve.proofs.BoundColumnLemmas.{row_bound, row_seen, rows_bound}
 use Rattle.sparql_solve.proofs.minus.bound_columns.Goals as goal
+
+pub loop-row-preserved-then-binds_first : goal.loop-row-preserved-then-binds_first
+loop-row-preserved-then-binds_first c =
+    row_seen c.args.rows.now c.loop-row.row-index c.row-item.result c.loop-row.columns.items c.deref.result.now c.loop-row-test.true c.row-item.is
+    c.deref.ensures.value c.loop-row.invariant (c.binds_first.ensures c.if-binds_first.true)
 
 pub loop-row-preserved : goal.loop-row-preserved
 loop-row-preserved c =

@@ -1,4 +1,4 @@
-use Rattle.std.proofs.Common.{ℕ, ◌-◌, length}
+use Rattle.std.proofs.Common.{◌-◌, length}
 use Rattle.sparql_solve.proofs.parts.compare_bound.Given as goal
 
 abbrev pub decreases-loop-column : goal.decreases-loop-column

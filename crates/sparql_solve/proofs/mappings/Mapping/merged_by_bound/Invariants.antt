@@ -1,4 +1,4 @@
-use Rattle.std.proofs.Common.{ℕ, ◌-◌, length}
+use Rattle.std.proofs.Common.{◌-◌, length}
 use Rattle.sparql_solve.proofs.BoundLemmas.{IsMergedBelow}
 use Rattle.sparql_solve.proofs.mappings.Mapping.merged_by_bound.Given as goal
 
