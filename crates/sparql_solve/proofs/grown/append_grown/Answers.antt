@@ -39,23 +39,8 @@ loop-quad-preserved-in-Continue-branch-3 c =
       count = omega (arith, ap length c.in-Some.ensures.steps.0, c.in-Some.ensures.steps.1, c.loop-quad.invariant.count);
     }
 
-pub loop-quad-preserved-else-branch : goal.loop-quad-preserved-else-branch
-loop-quad-preserved-else-branch c =
-    let m = c.args.row.now in
-    let p = c.args.places.now in
-    let rest = into_iter_items c.next.new.self in
-    let items = into_iter_items c.loop-quad.quad-iterator in
-    record {
-      made = grown_by_none p m c.in-Some.quad rest items c.in-Some.ensures.steps.0 c.loop-quad.out.items
-          (c.args.out.now.items ++ matches_of c.args.quads.items p m) c.loop-quad.invariant.made
-          (ap (λ (l : Mapping). matched p l c.in-Some.quad) (sym c.in_ok-found.ensures)
-          ∙ c.in_ok-grows.ensures ∙ ap (λ b. cond b (Some c.grows.new.row) None) c.if-branch.false);
-      held = held_rest p m c.in-Some.quad rest items c.in-Some.ensures.steps.0 c.loop-quad.invariant.held;
-      count = omega (arith, ap length c.in-Some.ensures.steps.0, c.in-Some.ensures.steps.1, c.loop-quad.invariant.count);
-    }
-
-pub loop-quad-preserved-else-branch-2 : goal.loop-quad-preserved-else-branch-2
-loop-quad-preserved-else-branch-2 c =
+pub loop-quad-preserved : goal.loop-quad-preserved
+loop-quad-preserved c =
     let m = c.args.row.now in
     let p = c.args.places.now in
     let rest = into_iter_items c.next.new.self in
