@@ -1,21 +1,27 @@
 //! Lists of what a store holds.
-ghost use Rattle.std.specs.Prelude.{◌≡◌, ◌≤◌, ◌+◌, ◌++◌, ◌∷◌, [], false, All, length, map, option_copied, IfOk, OnOk, OnErr};
+ghost use Rattle.std.specs.Prelude.{◌≡◌, ◌≤◌, ◌+◌, ◌-◌, ◌++◌, ◌∷◌, [], false, All, length, map, option_copied, IfOk, OnOk, OnErr};
 ghost use Rattle.std.specs.FinSet as set;
 ghost use Rattle.rdf_terms.specs.Table.{IsIdOf};
 ghost use Rattle.rdf_orders.specs.Quads.{quad_of};
+ghost use Rattle.rdf_orders.specs.Runs.{raised_by};
 ghost use Rattle.rdf_terms.specs.Lists.{AppendsOnce, ListsSorted};
 ghost use Rattle.rdf_store.specs.Stored.{AppendsSome, in_named, matches};
 ghost use Rattle.rdf_store.specs.Inside.Numbers.{HasTerms, parts_of, term_at};
+ghost use Rattle.rdf_store.specs.Inside.Runs.{GivesFront};
 
 use crate::numbers::{FIRST_NAMED, quad_from};
 use crate::pattern::{Pattern, pattern_of};
 use crate::ranks::quads_in_order;
 use crate::store::Store;
-use rdf_orders::{Key, KeyTree};
+use rdf_orders::{Key, KeyTree, Run};
 use rdf_terms::{
     GraphName, NoMemory, Quad, Term, TermId, TermTable, or_truncate, terms_are_held_once,
 };
+use std::alloc::Global;
 use std::collections::BTreeSet;
+
+// How many quads of a run are appended before the others are counted.
+const FEW: usize = 16;
 
 // Appends the quad that has a key in `Spo`.
 fn append_quad(table: &TermTable, key: &Key, out: &mut Vec<Quad>) -> Result<(), NoMemory>
@@ -41,21 +47,103 @@ fn append_term(table: &TermTable, number: u64, out: &mut Vec<Term>) -> Result<()
     Ok(())
 }
 
-// Appends the quads that have these keys in `Spo`, or changes nothing. An empty list gets just the
-// room that they take.
+// Appends the quads that have these keys in `Spo`, or changes nothing. A list of no more quads gets
+// just the room that they take.
 fn append_all(table: &TermTable, keys: &[Key], out: &mut Vec<Quad>) -> Result<(), NoMemory>
     requires { All (λ key. HasTerms table.now (quad_of key)) keys.now }
     ensures ok { OnOk result (out.new.items
         ≡ out.old.items ++ map (parts_of table.now) keys.now) }
     ensures err { OnErr result (out.new.items ≡ out.old.items) }
 {
-    if out.is_empty() {
+    if out.len() <= keys.len() {
         out.reserve_exact(keys.len())?;
     }
     let before = out.len();
     for key in keys {
         or_truncate(append_quad(table, key, out), out, before)?;
     }
+    Ok(())
+}
+
+// Appends the first quads of a run, at most so many, and answers whether these were all. The others
+// are left in it.
+fn append_front(
+    table: &TermTable,
+    run: &mut Run<'_>,
+    most: usize,
+    out: &mut Vec<Quad>,
+) -> Result<bool, NoMemory>
+    requires { All (λ key. HasTerms table.now (quad_of key)) run.old.left }
+    ensures front { IfOk result (λ all. GivesFront table.now all
+        run.old.left run.new.left out.old.items out.new.items) }
+    ensures counted { OnOk result (run.new.looked
+        ≡ raised_by (length out.new.items - length out.old.items) run.old.looked) }
+    ensures stopped { IfOk result (λ all. all ≡ false →
+        length out.new.items ≡ length out.old.items + most) }
+    ensures few { OnOk result (length out.new.items ≤ length out.old.items + most) }
+    ensures err { OnErr result (out.new.items ≡ out.old.items) }
+{
+    let before = out.len();
+    while out.len() - before < most {
+        match run.next_key() {
+            Some(key) => or_truncate(append_quad(table, &key, out), out, before)?,
+            None => return Ok(true),
+        }
+    }
+    Ok(false)
+}
+
+// The keys that are left of a run.
+fn rest_of(alloc: Global, run: &mut Run<'_>) -> Result<Vec<Key>, NoMemory>
+    ensures keys { IfOk result (λ keys. keys.items ≡ run.old.left) }
+    ensures counted { IfOk result (λ keys.
+        run.new.looked ≡ raised_by (length keys.items) run.old.looked) }
+{
+    let mut keys = Vec::new(alloc);
+    while let Some(key) = run.next_key() {
+        keys.push(key)?;
+    }
+    Ok(keys)
+}
+
+// Appends the quads that are left of a run, or changes nothing. They are counted before room is made
+// for them.
+fn append_rest(
+    alloc: Global,
+    table: &TermTable,
+    run: &mut Run<'_>,
+    out: &mut Vec<Quad>,
+) -> Result<(), NoMemory>
+    requires { All (λ key. HasTerms table.now (quad_of key)) run.old.left }
+    ensures ok { OnOk result (out.new.items
+        ≡ out.old.items ++ map (parts_of table.now) run.old.left) }
+    ensures counted { OnOk result (run.new.looked
+        ≡ raised_by (length out.new.items - length out.old.items) run.old.looked) }
+    ensures err { OnErr result (out.new.items ≡ out.old.items) }
+{
+    let keys = rest_of(alloc, run)?;
+    append_all(table, &keys, out)
+}
+
+// Appends the quads of a run, or changes nothing: a few of them at once, without a list of keys.
+fn append_run(
+    alloc: Global,
+    table: &TermTable,
+    run: &mut Run<'_>,
+    out: &mut Vec<Quad>,
+) -> Result<(), NoMemory>
+    requires { All (λ key. HasTerms table.now (quad_of key)) run.old.left }
+    ensures ok { OnOk result (out.new.items
+        ≡ out.old.items ++ map (parts_of table.now) run.old.left) }
+    ensures counted { OnOk result (run.new.looked
+        ≡ raised_by (length out.new.items - length out.old.items) run.old.looked) }
+    ensures err { OnErr result (out.new.items ≡ out.old.items) }
+{
+    let before = out.len();
+    if append_front(table, run, FEW, out)? {
+        return Ok(());
+    }
+    or_truncate(append_rest(alloc, table, run, out), out, before)?;
     Ok(())
 }
 
@@ -163,12 +251,9 @@ impl Store {
             predicate,
             object,
         } = pattern;
-        let mut keys = Vec::new(self.alloc);
-        let looked = self
-            .sets
-            .matches(self.alloc, graph, subject, predicate, object, &mut keys)?;
-        append_all(&self.table, &keys, out)?;
-        Ok(looked)
+        let mut run = self.sets.run(graph, subject, predicate, object);
+        append_run(self.alloc, &self.table, &mut run, out)?;
+        Ok(run.looked())
     }
     /// Appends some of the quads that [`matches`](Store::matches) appends, each once, and answers
     /// whether these are all; where they aren't, they are `most`. It looks at no others.
@@ -202,12 +287,8 @@ impl Store {
             predicate,
             object,
         } = pattern;
-        let mut keys = Vec::new(self.alloc);
-        let all = self.sets.some_matches(
-            self.alloc, graph, subject, predicate, object, most, &mut keys,
-        )?;
-        append_all(&self.table, &keys, out)?;
-        Ok(all)
+        let mut run = self.sets.run(graph, subject, predicate, object);
+        append_front(&self.table, &mut run, most, out)
     }
 
     /// Appends each quad of the named graphs once, in any order, and answers how many were looked at:
