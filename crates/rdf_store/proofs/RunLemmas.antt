@@ -1,12 +1,11 @@
 -- What is appended of a run so far, and what is left of it.
-use Rattle.std.proofs.Common.{◌≡◌, ℕ, ◌+◌, ◌-◌, ◌<◌, ◌≤◌, Bool, true, false, List, [], ◌∷◌, ◌++◌, map, length, get_or, refl, sym, ap, subst, ◌∙◌, arith, append_assoc, append-nil, length-append}
+use Rattle.std.proofs.Common.{◌≡◌, ℕ, ◌+◌, ◌<◌, Bool, true, false, List, [], ◌∷◌, ◌++◌, map, length, get_or, refl, sym, ap, subst, ◌∙◌, arith, append_assoc, append-nil, length-append}
 use mathlib.Core.Bool.{true≢false}
 use Rattle.std.specs.Prelude.{All}
 use Rattle.std.proofs.Math.Seq.{get_or-append_seam}
 use Rattle.std.proofs.lemmas.List.{get_or-append-add, map-append}
 use Rattle.rdf_terms.specs.declared.term.Term.{Term}
 use Rattle.rdf_terms.specs.Quad.{QuadParts}
-use Rattle.rdf_orders.specs.Runs.{raised_by}
 use Rattle.rdf_store.specs.Inside.Numbers.{parts_of}
 use Rattle.rdf_store.specs.Inside.Runs.{GivesFront}
 
@@ -43,17 +42,6 @@ module _ (table : List Term) (run : List (List ℕ)) (old : List QuadParts) wher
     whole_run all new g e =
         e ∙ ap (λ (qs : List QuadParts). qs ++ map (parts_of table) left) g.appended ∙ append_assoc old (map (parts_of table) g.keys) (map (parts_of table) left)
         ∙ ap (λ (qs : List QuadParts). old ++ qs) (sym (map-append (parts_of table) g.keys left) ∙ ap (map (parts_of table)) (sym g.parted))
-
-    pub run_ended : (all : Bool) → GivesFront table all run left old now → all ≡ true → now ≡ old ++ map (parts_of table) run
-    run_ended all g is = whole_run all now g (sym (ap (λ (ks : List (List ℕ)). now ++ map (parts_of table) ks) (g.whole is) ∙ append-nil now))
-
-    -- the quads that were appended, and then the others, are counted
-    pub counted_twice : (all : Bool) (new : List QuadParts) (from then to : ℕ) → GivesFront table all run left old now → new ≡ now ++ map (parts_of table) left
-        → then ≡ raised_by (length now - length old) from → to ≡ raised_by (length new - length now) then → to ≡ raised_by (length new - length old) from
-    counted_twice all new from then to g e counted more =
-        let long = ap length g.appended ∙ length-append old (map (parts_of table) g.keys) in
-        let longer = ap length e ∙ length-append now (map (parts_of table) left) in
-        omega arith
 
 -- one key more of those that are left
 pub rest_push : (keys left t run keys' : List (List ℕ)) (k : List ℕ) → keys ++ left ≡ run → left ≡ k ∷ t → keys' ≡ keys ++ k ∷ [] → keys' ++ t ≡ run
