@@ -3,6 +3,7 @@ use crate::command::{Command, answer};
 use crate::scene::MARKS;
 use rdf_dataset::Net;
 use rdf_keeper::Keeper;
+use rdf_terms::Term;
 use std::alloc::Global;
 
 // More than any session here has entries.
@@ -11,27 +12,59 @@ const MOST_STEPS: usize = 16;
 /// Whether quads, names, counter, net and entries are the same, and undo, redo and each mark lead to the
 /// same states. Both are then where they were.
 pub fn are_alike(alloc: Global, tried: &mut Keeper, twin: &mut Keeper) -> bool {
-    show_alike(alloc, tried, twin) == Some(true)
+    show_alike(alloc, tried, twin)
         && have_same_entries(tried, twin)
-        && lead_alike(alloc, tried, twin).is_some()
-        && show_alike(alloc, tried, twin) == Some(true)
+        && lead_alike(alloc, tried, twin)
+        && show_alike(alloc, tried, twin)
 }
 
-fn show_alike(alloc: Global, tried: &Keeper, twin: &Keeper) -> Option<bool> {
-    let names = tried.names().ok()?.as_slice() == twin.names().ok()?.as_slice();
-    let changes = are_same_nets(&tried.changes().ok()?, &twin.changes().ok()?);
-    let counter = tried.next_blank() == twin.next_blank();
-    Some(names && changes && counter && have_same_quads(alloc, tried, twin)?)
+fn show_alike(alloc: Global, tried: &Keeper, twin: &Keeper) -> bool {
+    have_same_names(tried, twin)
+        && have_same_changes(tried, twin)
+        && tried.next_blank() == twin.next_blank()
+        && have_same_quads(alloc, tried, twin)
 }
 
-fn have_same_quads(alloc: Global, tried: &Keeper, twin: &Keeper) -> Option<bool> {
-    Some(lines(alloc, tried)?.as_slice() == lines(alloc, twin)?.as_slice())
+fn have_same_names(tried: &Keeper, twin: &Keeper) -> bool {
+    match tried.names() {
+        Ok(names) => has_names(twin, names.as_slice()),
+        Err(_) => false,
+    }
 }
 
-fn lines(alloc: Global, keeper: &Keeper) -> Option<Vec<u8>> {
-    let mut text = Vec::new(alloc);
-    keeper.write_quads(&mut text).ok()?;
-    Some(text)
+/// Whether a session has these graph names.
+pub fn has_names(keeper: &Keeper, wanted: &[Term]) -> bool {
+    match keeper.names() {
+        Ok(names) => names.as_slice() == wanted,
+        Err(_) => false,
+    }
+}
+
+fn have_same_changes(tried: &Keeper, twin: &Keeper) -> bool {
+    match tried.changes() {
+        Ok(net) => has_changes(twin, &net),
+        Err(_) => false,
+    }
+}
+
+/// Whether this is what changed in a session.
+pub fn has_changes(keeper: &Keeper, wanted: &Net) -> bool {
+    match keeper.changes() {
+        Ok(net) => are_same_nets(&net, wanted),
+        Err(_) => false,
+    }
+}
+
+fn have_same_quads(alloc: Global, tried: &Keeper, twin: &Keeper) -> bool {
+    let mut found = Vec::new(alloc);
+    let mut wanted = Vec::new(alloc);
+    append_quads(tried, &mut found)
+        && append_quads(twin, &mut wanted)
+        && found.as_slice() == wanted.as_slice()
+}
+
+fn append_quads(keeper: &Keeper, text: &mut Vec<u8>) -> bool {
+    keeper.write_quads(text).is_ok()
 }
 
 fn have_same_entries(tried: &Keeper, twin: &Keeper) -> bool {
@@ -46,8 +79,8 @@ fn have_same_entries(tried: &Keeper, twin: &Keeper) -> bool {
     true
 }
 
-/// Whether two nets have the same quads, names and counters.
-pub fn are_same_nets(net: &Net, wanted: &Net) -> bool {
+// Whether two nets have the same quads, names and counters.
+fn are_same_nets(net: &Net, wanted: &Net) -> bool {
     net.added() == wanted.added()
         && net.removed() == wanted.removed()
         && net.names_added() == wanted.names_added()
@@ -56,21 +89,47 @@ pub fn are_same_nets(net: &Net, wanted: &Net) -> bool {
         && net.after() == wanted.after()
 }
 
-// Nothing where the sessions differ at a step.
-fn lead_alike(alloc: Global, tried: &mut Keeper, twin: &mut Keeper) -> Option<()> {
-    let back = steps(alloc, tried, twin, Command::Undo)?;
-    let entries = steps(alloc, tried, twin, Command::Redo)?;
-    for mark in MARKS {
-        step(alloc, tried, twin, Command::Rollback(mark))?;
-        steps(alloc, tried, twin, Command::Redo)?;
+fn lead_alike(alloc: Global, tried: &mut Keeper, twin: &mut Keeper) -> bool {
+    match (
+        steps(alloc, tried, twin, Command::Undo),
+        steps(alloc, tried, twin, Command::Redo),
+    ) {
+        (Some(back), Some(entries)) => {
+            marks_lead_alike(alloc, tried, twin) && go_back(alloc, tried, twin, back, entries)
+        }
+        _ => false,
     }
-    for _ in back..entries {
-        step(alloc, tried, twin, Command::Undo)?;
-    }
-    Some(())
 }
 
-// How often the command leads on. Both are then at an end.
+// Both are then at the end.
+fn marks_lead_alike(alloc: Global, tried: &mut Keeper, twin: &mut Keeper) -> bool {
+    for mark in &MARKS {
+        if step(alloc, tried, twin, Command::Rollback(*mark)).is_none()
+            || steps(alloc, tried, twin, Command::Redo).is_none()
+        {
+            return false;
+        }
+    }
+    true
+}
+
+// From the end to where so many steps led back.
+fn go_back(
+    alloc: Global,
+    tried: &mut Keeper,
+    twin: &mut Keeper,
+    back: usize,
+    entries: usize,
+) -> bool {
+    for _ in back..entries {
+        if step(alloc, tried, twin, Command::Undo).is_none() {
+            return false;
+        }
+    }
+    true
+}
+
+// How often the command leads on; nothing where the sessions differ at a step. Both are then at an end.
 fn steps(alloc: Global, tried: &mut Keeper, twin: &mut Keeper, command: Command) -> Option<usize> {
     for taken in 0..MOST_STEPS {
         if !step(alloc, tried, twin, command)? {
@@ -80,9 +139,12 @@ fn steps(alloc: Global, tried: &mut Keeper, twin: &mut Keeper, command: Command)
     None
 }
 
-// Whether the command leads on.
+// Whether the command leads on; nothing where the sessions differ then.
 fn step(alloc: Global, tried: &mut Keeper, twin: &mut Keeper, command: Command) -> Option<bool> {
     let found = answer(tried, command);
-    let is_same = found == answer(twin, command) && have_same_quads(alloc, tried, twin)?;
-    if is_same { Some(found.is_ok()) } else { None }
+    if found == answer(twin, command) && have_same_quads(alloc, tried, twin) {
+        Some(found.is_ok())
+    } else {
+        None
+    }
 }

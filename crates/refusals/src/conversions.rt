@@ -1,4 +1,5 @@
 //! Conversions from each format, tried where any request for memory may be refused.
+use crate::attempt::Attempt;
 use crate::signs::{memory_is_back, requests_count};
 use crate::told::Told;
 use rdf_keeper::{ConvertFault, Format, convert};
@@ -25,68 +26,86 @@ const TURTLE_OUT: &[u8] =
 // More than any of these conversions writes.
 const ROOM: usize = 1024;
 
-// What a conversion wrote, and what it answered.
-#[derive(Drop)]
-struct Attempt {
-    output: Vec<u8>,
-    answer: Result<(), ConvertFault>,
-}
-
-impl Attempt {
-    fn is_whole(&self, wanted: &[u8]) -> bool {
-        self.answer.is_ok() && self.output.as_slice() == wanted
-    }
-
-    // Lines were written up to the end of one that has room.
-    fn is_refused(&self, wanted: &[u8]) -> bool {
-        let output = self.output.as_slice();
-        matches!(self.answer, Err(ConvertFault::NoMemory(_)))
-            && wanted.starts_with(output)
-            && (output.is_empty() || output.ends_with(b"\n"))
-    }
-}
-
 /// Whether each line that a refused conversion of N-Quads wrote is right, and it writes the whole when it is
 /// made again.
 pub fn quads(alloc: Global) -> Told {
     let is_kept = is_kept(alloc, Format::NQuads, LINES, LINES_OUT, LINES_OUT);
-    Told::kept("conversion of N-Quads", is_kept == Some(true))
+    Told::kept("conversion of N-Quads", is_kept)
 }
 
 /// The same of N-Triples.
 pub fn triples(alloc: Global) -> Told {
     let is_kept = is_kept(alloc, Format::NTriples, TRIPLES, TRIPLES_OUT, TRIPLES_OUT);
-    Told::kept("conversion of N-Triples", is_kept == Some(true))
+    Told::kept("conversion of N-Triples", is_kept)
 }
 
 /// Whether a refused conversion of Turtle writes nothing, and the whole when it is made again.
 pub fn turtle(alloc: Global) -> Told {
     let is_kept = is_kept(alloc, Format::Turtle, TURTLE, TURTLE_OUT, b"");
-    Told::kept("conversion of Turtle", is_kept == Some(true))
+    Told::kept("conversion of Turtle", is_kept)
 }
 
 // Where it is refused it may have written a front of `before`.
-fn is_kept(
+fn is_kept(alloc: Global, format: Format, text: &[u8], wanted: &[u8], before: &[u8]) -> bool {
+    let first = attempt(alloc, format, text, wanted, before);
+    if first.is_refused() {
+        attempt(alloc, format, text, wanted, before).is_right()
+    } else {
+        first.is_right()
+    }
+}
+
+fn attempt(alloc: Global, format: Format, text: &[u8], wanted: &[u8], before: &[u8]) -> Attempt {
+    match Vec::with_capacity(alloc, ROOM) {
+        Ok(mut output) => {
+            let answer = converted(alloc, format, text, &mut output);
+            judged(answer, output.as_slice(), wanted, before)
+        }
+        Err(_) => Attempt::Wrong,
+    }
+}
+
+fn judged(
+    answer: Option<Result<(), ConvertFault>>,
+    output: &[u8],
+    wanted: &[u8],
+    before: &[u8],
+) -> Attempt {
+    match answer {
+        Some(Ok(())) => Attempt::judged(output == wanted),
+        Some(Err(ConvertFault::NoMemory(_))) if is_front(output, before) => Attempt::Refused,
+        _ => Attempt::Wrong,
+    }
+}
+
+// Whether these are lines of the text up to the end of one.
+fn is_front(output: &[u8], text: &[u8]) -> bool {
+    text.starts_with(output) && (output.is_empty() || output.ends_with(b"\n"))
+}
+
+// What a conversion answers that writes to the output.
+fn converted(
     alloc: Global,
     format: Format,
     text: &[u8],
-    wanted: &[u8],
-    before: &[u8],
-) -> Option<bool> {
-    let first = converted(alloc, format, text)?;
-    if first.is_whole(wanted) {
-        return Some(true);
+    output: &mut Vec<u8>,
+) -> Option<Result<(), ConvertFault>> {
+    match Iri::new(alloc, "a:b") {
+        Ok(base) => Some(converted_at(alloc, format, base, text, output)),
+        Err(_) => None,
     }
-    let again = converted(alloc, format, text)?;
-    Some(first.is_refused(before) && again.is_whole(wanted))
 }
 
-fn converted(alloc: Global, format: Format, text: &[u8]) -> Option<Attempt> {
-    let base = Iri::new(alloc, "a:b").ok()?;
+fn converted_at(
+    alloc: Global,
+    format: Format,
+    base: Iri,
+    text: &[u8],
+    output: &mut Vec<u8>,
+) -> Result<(), ConvertFault> {
     let mut reader = text;
-    let mut output = Vec::with_capacity(alloc, ROOM).ok()?;
     requests_count(alloc);
-    let answer = convert(alloc, format, Some(base), &mut reader, &mut output);
+    let answer = convert(alloc, format, Some(base), &mut reader, output);
     memory_is_back(alloc);
-    Some(Attempt { output, answer })
+    answer
 }

@@ -4,6 +4,7 @@
 ghost use Rattle.std.specs.Prelude.{◌≡◌, ℕ, IsTrue, IfSome, MatchBool};
 ghost use Rattle.rdf_dataset.specs.State.{IsTermBelow, IsQuadBelow, Begins, Ends};
 
+use crate::attempt::Attempt;
 use crate::signs::{memory_is_back, requests_count};
 use rdf_dataset::{Dataset, Net, Source, Staged};
 use rdf_terms::{GraphName, Iri, Quad, Term};
@@ -26,105 +27,84 @@ const BACK: Place = Place {
     next: 3,
 };
 
-// The terms of the quads of a graph: one of their subjects, their predicate, and their object, which is
-// also the graph's name.
-#[derive(Drop)]
-struct Asked {
-    graph: GraphName,
-    subject: Term,
-    predicate: Term,
-    object: Term,
-}
-
-// What is asked of a dataset at each place.
-#[derive(Drop)]
-struct Questions {
-    alloc: Global,
-    front: Asked,
-    back: Asked,
-}
-
-impl Asked {
-    fn new(alloc: Global, place: Place) -> Option<Asked> {
-        Some(Asked {
-            graph: GraphName::Named(iri(alloc, place.graph)?),
-            subject: iri(alloc, "a:s")?,
-            predicate: iri(alloc, "a:p")?,
-            object: iri(alloc, place.graph)?,
-        })
-    }
-}
-
 /// Whether a commit and a revert that are refused leave quads, names and counter, and do what they
 /// should when they are made again.
 pub fn outcome(alloc: Global) -> &'static str {
-    match session(alloc) {
-        Some(true) => "datasets: as without a refusal",
-        _ => "datasets: changed by a refusal",
+    requests_count(alloc);
+    if is_kept(alloc) {
+        "datasets: as without a refusal"
+    } else {
+        "datasets: changed by a refusal"
     }
 }
 
-fn session(alloc: Global) -> Option<bool> {
-    requests_count(alloc);
-    let questions = match Questions::new(alloc) {
-        None => {
-            memory_is_back(alloc);
-            Questions::new(alloc)?
-        }
-        Some(questions) => questions,
-    };
-    match begun(alloc) {
-        Some(both) => Some(survives(both, &questions)),
-        None => {
-            memory_is_back(alloc);
-            Some(survives(begun(alloc)?, &questions))
-        }
+fn is_kept(alloc: Global) -> bool {
+    let first = attempt(alloc);
+    if first.is_refused() {
+        memory_is_back(alloc);
+        attempt(alloc).is_right()
+    } else {
+        first.is_right()
+    }
+}
+
+// Refused where the dataset or the net isn't made.
+fn attempt(alloc: Global) -> Attempt {
+    let mut dataset = Dataset::new(alloc);
+    match begun(alloc, &mut dataset) {
+        Some(net) => Attempt::judged(survives(alloc, &mut dataset, &net)),
+        None => Attempt::Refused,
     }
 }
 
 // Whether the net leads the dataset there and back.
-fn survives(both: (Dataset, Net), questions: &Questions) -> bool
-    requires { Begins both.1 both.0 }
+fn survives(alloc: Global, dataset: &mut Dataset, net: &Net) -> bool
+    requires { Begins net.now dataset.old }
 {
-    let (mut dataset, net) = both;
-    if !questions.at_front(&dataset) {
-        return false;
-    }
-    if !goes(&mut dataset, &net, questions) {
-        return false;
-    }
-    if !questions.at_back(&dataset) {
-        return false;
-    }
-    comes_back(&mut dataset, &net, questions) && questions.at_front(&dataset)
+    at_front(alloc, dataset, net)
+        && goes(alloc, dataset, net)
+        && at_back(alloc, dataset, net)
+        && comes_back(alloc, dataset, net)
+        && at_front(alloc, dataset, net)
 }
 
-// The dataset at the front, and the net from there to the back.
-pub fn begun(alloc: Global) -> Option<(Dataset, Net)>
-    ensures { IfSome result (λ both. Begins both.1 both.0) }
+/// Brings an empty dataset to the front, and gives the net from there to the back.
+pub fn begun(alloc: Global, dataset: &mut Dataset) -> Option<Net>
+    ensures { IfSome result (λ net. Begins net dataset.new) }
 {
-    let dataset = Dataset::new(alloc);
-    let first = insertion(alloc, &dataset, FRONT)?;
-    let second = insertion(alloc, &dataset, BACK)?;
-    moved(dataset, first, &second)
+    match insertion(alloc, dataset, FRONT) {
+        Some(first) => moved(alloc, dataset, first),
+        None => None,
+    }
 }
 
-// The dataset where the first net ends, and the net from there to where the second ends.
-fn moved(mut dataset: Dataset, first: Net, second: &Net) -> Option<(Dataset, Net)>
-    requires first { Begins first dataset }
-    requires second { Begins second.now dataset }
-    ensures { IfSome result (λ both. Begins both.1 both.0) }
+// Brings the dataset to where the net ends, and gives the net from there to the back.
+fn moved(alloc: Global, dataset: &mut Dataset, first: Net) -> Option<Net>
+    requires { Begins first dataset.old }
+    ensures { IfSome result (λ net. Begins net dataset.new) }
+{
+    match insertion(alloc, dataset, BACK) {
+        Some(second) => moved_on(dataset, first, &second),
+        None => None,
+    }
+}
+
+// Brings the dataset to where the first net ends, and gives the net from there to where the second ends.
+fn moved_on(dataset: &mut Dataset, first: Net, second: &Net) -> Option<Net>
+    requires first { Begins first dataset.old }
+    requires second { Begins second.now dataset.old }
+    ensures { IfSome result (λ net. Begins net dataset.new) }
 {
     match dataset.commit(&first) {
         Ok(()) => match first.reversed().then(second) {
-            Ok(net) => Some((dataset, net)),
+            Ok(net) => Some(net),
             Err(_) => None,
         },
         Err(_) => None,
     }
 }
 
-pub fn iri(alloc: Global, text: &str) -> Option<Term>
+fn iri(alloc: Global, text: &str) -> Option<Term>
     ensures { IfSome result (λ t. (next : ℕ) → IsTermBelow next t) }
 {
     match Iri::new(alloc, text) {
@@ -133,7 +113,7 @@ pub fn iri(alloc: Global, text: &str) -> Option<Term>
     }
 }
 
-pub fn quad(alloc: Global, graph: &str, subject: &str) -> Option<Quad>
+fn quad(alloc: Global, graph: &str, subject: &str) -> Option<Quad>
     ensures { IfSome result (λ q. (next : ℕ) → IsQuadBelow next q) }
 {
     let name = iri(alloc, graph)?;
@@ -143,12 +123,25 @@ pub fn quad(alloc: Global, graph: &str, subject: &str) -> Option<Quad>
     Quad::new(GraphName::Named(name), subject, predicate, object)
 }
 
-fn insert(alloc: Global, view: &mut Staged<'_, Dataset>, graph: &str, subject: &str) -> Option<()>
+fn insert(alloc: Global, view: &mut Staged<'_, Dataset>, graph: &str, subject: &str) -> bool
     ensures { view.new.under ≡ view.old.under }
 {
-    let quad = quad(alloc, graph, subject)?;
-    view.insert(quad).ok()?;
-    Some(())
+    match quad(alloc, graph, subject) {
+        Some(quad) => match view.insert(quad) {
+            Ok(_) => true,
+            Err(_) => false,
+        },
+        None => false,
+    }
+}
+
+// Inserts the quads of the place, and takes its numbers.
+fn insert_both(alloc: Global, view: &mut Staged<'_, Dataset>, place: Place) -> bool
+    ensures { view.new.under ≡ view.old.under }
+{
+    insert(alloc, view, place.graph, "a:s")
+        && insert(alloc, view, place.graph, "a:t")
+        && view.take_blanks(place.next).is_some()
 }
 
 // The net from a dataset without quads to the place.
@@ -156,21 +149,12 @@ fn insertion(alloc: Global, dataset: &Dataset, place: Place) -> Option<Net>
     ensures { IfSome result (λ net. Begins net dataset.now) }
 {
     let mut view = Staged::over(alloc, dataset);
-    insert(alloc, &mut view, place.graph, "a:s")?;
-    insert(alloc, &mut view, place.graph, "a:t")?;
-    take_blanks(&mut view, place.next)?;
+    if !insert_both(alloc, &mut view, place) {
+        return None;
+    }
     match view.into_net() {
         Ok(net) => Some(net),
         Err(_) => None,
-    }
-}
-
-fn take_blanks(view: &mut Staged<'_, Dataset>, count: u64) -> Option<()>
-    ensures { view.new.under ≡ view.old.under }
-{
-    match view.take_blanks(count) {
-        Some(_) => Some(()),
-        None => None,
     }
 }
 
@@ -195,117 +179,152 @@ fn reverts(dataset: &mut Dataset, net: &Net) -> bool
 }
 
 // Commits the net, again where that was refused and has changed nothing.
-fn goes(dataset: &mut Dataset, net: &Net, questions: &Questions) -> bool
+fn goes(alloc: Global, dataset: &mut Dataset, net: &Net) -> bool
     requires { Begins net.now dataset.old }
     ensures { IsTrue result → Ends net.now dataset.new }
 {
     if commits(dataset, net) {
         return true;
     }
-    memory_is_back(questions.alloc);
-    questions.at_front(dataset) && commits(dataset, net)
+    memory_is_back(alloc);
+    at_front(alloc, dataset, net) && commits(dataset, net)
 }
 
 // Reverts it so.
-fn comes_back(dataset: &mut Dataset, net: &Net, questions: &Questions) -> bool
+fn comes_back(alloc: Global, dataset: &mut Dataset, net: &Net) -> bool
     requires { Ends net.now dataset.old }
 {
     if reverts(dataset, net) {
         return true;
     }
-    memory_is_back(questions.alloc);
-    questions.at_back(dataset) && reverts(dataset, net)
+    memory_is_back(alloc);
+    at_back(alloc, dataset, net) && reverts(dataset, net)
 }
 
-impl Questions {
-    fn new(alloc: Global) -> Option<Questions> {
-        let front = Asked::new(alloc, FRONT)?;
-        let back = Asked::new(alloc, BACK)?;
-        Some(Questions { alloc, front, back })
-    }
+// Whether the quads that the net takes out are there, and none that it brings in.
+fn at_front(alloc: Global, dataset: &Dataset, net: &Net) -> bool {
+    is_at(alloc, dataset, FRONT)
+        && are_found(alloc, dataset, net.removed(), true)
+        && are_found(alloc, dataset, net.added(), false)
+}
 
-    fn at_front(&self, dataset: &Dataset) -> bool {
-        is_at(self.alloc, dataset, FRONT)
-            && self.finds(dataset, &self.front, 1, 2)
-            && self.finds(dataset, &self.back, 0, 0)
-    }
+fn at_back(alloc: Global, dataset: &Dataset, net: &Net) -> bool {
+    is_at(alloc, dataset, BACK)
+        && are_found(alloc, dataset, net.removed(), false)
+        && are_found(alloc, dataset, net.added(), true)
+}
 
-    fn at_back(&self, dataset: &Dataset) -> bool {
-        is_at(self.alloc, dataset, BACK)
-            && self.finds(dataset, &self.front, 0, 0)
-            && self.finds(dataset, &self.back, 1, 2)
-    }
+// Whether two quads are found by the first's predicate and by its object, and one by its subject; or none.
+fn are_found(alloc: Global, dataset: &Dataset, quads: &[Quad], are_there: bool) -> bool {
+    let Some(asked) = quads.first() else {
+        return false;
+    };
+    let (one, two) = if are_there { (1, 2) } else { (0, 0) };
+    is_found(alloc, dataset, asked, Part::Subject, one)
+        && is_found(alloc, dataset, asked, Part::Predicate, two)
+        && is_found(alloc, dataset, asked, Part::Object, two)
+}
 
-    // Whether as many quads have the subject, and as many the predicate or the object.
-    fn finds(&self, dataset: &Dataset, asked: &Asked, of_subject: usize, all: usize) -> bool {
-        let subject = Some(&asked.subject);
-        let predicate = Some(&asked.predicate);
-        let object = Some(&asked.object);
-        self.found(dataset, &asked.graph, subject, None, None) == Some(of_subject)
-            && self.found(dataset, &asked.graph, None, predicate, None) == Some(all)
-            && self.found(dataset, &asked.graph, None, None, object) == Some(all)
-    }
+// A part of a quad by which it is looked up.
+#[derive(Clone, Copy)]
+enum Part {
+    Subject,
+    Predicate,
+    Object,
+}
 
-    // How many quads a look-up appends, made again where it is refused.
-    fn found(
-        &self,
-        dataset: &Dataset,
-        graph: &GraphName,
-        subject: Option<&Term>,
-        predicate: Option<&Term>,
-        object: Option<&Term>,
-    ) -> Option<usize> {
-        let mut quads = Vec::new(self.alloc);
-        if dataset
-            .matches(graph, subject, predicate, object, &mut quads)
-            .is_err()
-        {
-            memory_is_back(self.alloc);
-            if !quads.is_empty() {
-                return None;
-            }
-            dataset
-                .matches(graph, subject, predicate, object, &mut quads)
-                .ok()?;
-        }
-        Some(quads.len())
+// Whether a look-up appends so many quads.
+fn is_found(alloc: Global, dataset: &Dataset, asked: &Quad, part: Part, wanted: usize) -> bool {
+    let mut quads = Vec::new(alloc);
+    is_looked_up(alloc, dataset, asked, part, &mut quads) && quads.len() == wanted
+}
+
+// Looks up, again where that is refused and has appended nothing.
+fn is_looked_up(
+    alloc: Global,
+    dataset: &Dataset,
+    asked: &Quad,
+    part: Part,
+    quads: &mut Vec<Quad>,
+) -> bool {
+    if look_up(dataset, asked, part, quads) {
+        return true;
     }
+    memory_is_back(alloc);
+    quads.is_empty() && look_up(dataset, asked, part, quads)
+}
+
+fn look_up(dataset: &Dataset, asked: &Quad, part: Part, quads: &mut Vec<Quad>) -> bool {
+    let (subject, predicate, object) = match part {
+        Part::Subject => (Some(asked.subject()), None, None),
+        Part::Predicate => (None, Some(asked.predicate()), None),
+        Part::Object => (None, None, Some(asked.object())),
+    };
+    dataset
+        .matches(asked.graph(), subject, predicate, object, quads)
+        .is_ok()
 }
 
 // Whether what is listed is two quads of the place's graph and its name.
 fn is_at(alloc: Global, dataset: &Dataset, place: Place) -> bool {
-    let Some((quads, names)) = listed(alloc, dataset) else {
-        return false;
-    };
     dataset.next_blank() == place.next
-        && quads.len() == 2
-        && quads.iter().all(|quad| lies_in(quad, place.graph))
-        && names.len() == 1
-        && names.iter().all(|name| is_iri(name, place.graph))
+        && lists_quads(alloc, dataset, place.graph)
+        && lists_names(alloc, dataset, place.graph)
 }
 
-fn listed(alloc: Global, dataset: &Dataset) -> Option<(Vec<Quad>, Vec<Term>)> {
-    let quads = match dataset.quads() {
-        Err(_) => {
-            memory_is_back(alloc);
-            dataset.quads().ok()?
-        }
-        Ok(quads) => quads,
-    };
-    let names = match dataset.names_sorted() {
-        Err(_) => {
-            memory_is_back(alloc);
-            dataset.names_sorted().ok()?
-        }
-        Ok(names) => names,
-    };
-    Some((quads, names))
+// Each listing is made again where it is refused.
+fn lists_quads(alloc: Global, dataset: &Dataset, graph: &str) -> bool {
+    let first = quads_listed(dataset, graph);
+    if first.is_refused() {
+        memory_is_back(alloc);
+        quads_listed(dataset, graph).is_right()
+    } else {
+        first.is_right()
+    }
+}
+
+fn quads_listed(dataset: &Dataset, graph: &str) -> Attempt {
+    match dataset.quads() {
+        Ok(quads) => Attempt::judged(lie_in(quads.as_slice(), graph)),
+        Err(_) => Attempt::Refused,
+    }
+}
+
+fn lists_names(alloc: Global, dataset: &Dataset, graph: &str) -> bool {
+    let first = names_listed(dataset, graph);
+    if first.is_refused() {
+        memory_is_back(alloc);
+        names_listed(dataset, graph).is_right()
+    } else {
+        first.is_right()
+    }
+}
+
+fn names_listed(dataset: &Dataset, graph: &str) -> Attempt {
+    match dataset.names_sorted() {
+        Ok(names) => Attempt::judged(is_name(names.as_slice(), graph)),
+        Err(_) => Attempt::Refused,
+    }
+}
+
+fn lie_in(quads: &[Quad], graph: &str) -> bool {
+    match quads {
+        [first, second] => lies_in(first, graph) && lies_in(second, graph),
+        _ => false,
+    }
 }
 
 fn lies_in(quad: &Quad, graph: &str) -> bool {
     match quad.graph() {
         GraphName::Default => false,
         GraphName::Named(name) => is_iri(name, graph),
+    }
+}
+
+fn is_name(names: &[Term], text: &str) -> bool {
+    match names {
+        [name] => is_iri(name, text),
+        _ => false,
     }
 }
 

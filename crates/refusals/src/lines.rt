@@ -2,7 +2,7 @@
 //! part's place.
 use crate::signs::{memory_is_back, requests_count};
 use crate::told::Told;
-use rdf_lines::{FaultKind, LineFormat, read_lines};
+use rdf_lines::{FaultKind, LineFault, LineFormat, read_lines};
 use rdf_terms::{GraphName, Quad, Term};
 use std::alloc::Global;
 
@@ -24,27 +24,41 @@ fn read(alloc: Global) -> Option<Option<u64>> {
     let first = read_lines(alloc, LineFormat::NQuads, TEXT);
     memory_is_back(alloc);
     match first {
-        Ok(quads) => are_read(quads.as_slice(), None),
-        Err(fault) => match fault.kind {
-            FaultKind::NoMemory(_) => {
-                let again = read_lines(alloc, LineFormat::NQuads, TEXT).ok()?;
-                are_read(again.as_slice(), Some(fault.line))
+        Ok(quads) => {
+            if are_read(quads.as_slice()) {
+                Some(None)
+            } else {
+                None
             }
-            _ => None,
-        },
+        }
+        Err(fault) => refused_line(alloc, fault),
     }
 }
 
-// The same line, where the quads are those of the document.
-fn are_read(quads: &[Quad], line: Option<u64>) -> Option<Option<u64>> {
-    let mut number = 0u64;
-    for quad in quads {
-        if !is_read(quad, number) {
-            return None;
-        }
-        number = number.saturating_add(1);
+// The line, where it told a want of memory, and the document is read again.
+fn refused_line(alloc: Global, fault: LineFault) -> Option<Option<u64>> {
+    if matches!(fault.kind, FaultKind::NoMemory(_)) && is_read_again(alloc) {
+        Some(Some(fault.line))
+    } else {
+        None
     }
-    if number == 4 { Some(line) } else { None }
+}
+
+fn is_read_again(alloc: Global) -> bool {
+    match read_lines(alloc, LineFormat::NQuads, TEXT) {
+        Ok(quads) => are_read(quads.as_slice()),
+        Err(_) => false,
+    }
+}
+
+// Whether the quads are those of the document.
+fn are_read(quads: &[Quad]) -> bool {
+    match quads {
+        [first, second, third, fourth] => {
+            is_read(first, 0) && is_read(second, 1) && is_read(third, 2) && is_read(fourth, 3)
+        }
+        _ => false,
+    }
 }
 
 fn is_read(quad: &Quad, number: u64) -> bool {

@@ -5,6 +5,7 @@
 #![tactic(auto)]
 
 mod alike;
+mod attempt;
 mod checks;
 mod command;
 mod conversions;

@@ -53,40 +53,53 @@ const BOUNDED: [Command; 3] = [
 ];
 
 impl Scene {
-    /// The session, where memory isn't wanting.
-    pub fn session(self, alloc: Global) -> Option<Keeper> {
-        let mut keeper = match self {
+    /// The session before its first command.
+    pub fn begun(self, alloc: Global) -> Keeper {
+        match self {
             Scene::Begun | Scene::Between => Keeper::new(alloc, None),
             Scene::Bounded | Scene::BoundedBefore => Keeper::new(alloc, None).with_depth(1),
-        };
-        self.set(&mut keeper)?;
-        Some(keeper)
+        }
     }
 
-    fn set(self, keeper: &mut Keeper) -> Option<()> {
-        answer(keeper, Command::Load(Format::NQuads, BASE)).ok()?;
+    /// Brings such a session to where the call is tried, unless memory is wanting.
+    pub fn is_set(self, keeper: &mut Keeper) -> bool {
+        is_accepted(keeper, Command::Load(Format::NQuads, BASE)) && self.is_led(keeper)
+    }
+
+    fn is_led(self, keeper: &mut Keeper) -> bool {
         match self {
             Scene::Begun => {
                 keeper.commit();
-                Some(())
+                true
             }
             Scene::Between => goes_on(keeper, &BETWEEN),
             Scene::Bounded => goes_on(keeper, &BOUNDED),
             Scene::BoundedBefore => {
-                goes_on(keeper, &BOUNDED)?;
-                answer(keeper, Command::Undo).ok()?;
-                Some(())
+                goes_on(keeper, &BOUNDED) && is_accepted(keeper, Command::Undo)
             }
         }
     }
 }
 
 // Makes the base, and has the commands carried out.
-fn goes_on(keeper: &mut Keeper, commands: &[Command]) -> Option<()> {
-    answer(keeper, Command::Update(CREATE)).ok()?;
-    keeper.commit();
-    for command in commands {
-        answer(keeper, *command).ok()?;
+fn goes_on(keeper: &mut Keeper, commands: &[Command]) -> bool {
+    if !is_accepted(keeper, Command::Update(CREATE)) {
+        return false;
     }
-    Some(())
+    keeper.commit();
+    are_accepted(keeper, commands)
+}
+
+/// Has the commands carried out, one behind the other.
+pub fn are_accepted(keeper: &mut Keeper, commands: &[Command]) -> bool {
+    for command in commands {
+        if !is_accepted(keeper, *command) {
+            return false;
+        }
+    }
+    true
+}
+
+fn is_accepted(keeper: &mut Keeper, command: Command) -> bool {
+    answer(keeper, command).is_ok()
 }

@@ -57,13 +57,6 @@ impl Read for Commands {
     }
 }
 
-// What a script was answered, and how it ended.
-#[derive(Drop)]
-struct Session {
-    output: Vec<u8>,
-    status: Status,
-}
-
 /// Whether a script is answered as it should, and at which command it was refused.
 pub fn outcome(alloc: Global) -> Told {
     let name = "script, 10 places";
@@ -75,10 +68,19 @@ pub fn outcome(alloc: Global) -> Told {
 
 // Nothing where it isn't answered so.
 fn tried(alloc: Global) -> Option<Option<u64>> {
-    let found = ran(alloc, None)?;
-    memory_is_back(alloc);
-    let output = found.output.as_slice();
-    match found.status {
+    match Vec::with_capacity(alloc, ROOM) {
+        Ok(mut output) => {
+            let status = ran(alloc, None, &mut output);
+            memory_is_back(alloc);
+            place(alloc, status, output.as_slice())
+        }
+        Err(_) => None,
+    }
+}
+
+// The command at which it was refused, if it was.
+fn place(alloc: Global, status: Status, output: &[u8]) -> Option<Option<u64>> {
+    match status {
         Status::Accepted if output == ANSWERS => Some(None),
         Status::Refused => Some(Some(refused_command(alloc, output)?)),
         Status::NoMemory(_) if ends_with_answer(output) && ANSWERS.starts_with(output) => {
@@ -88,8 +90,8 @@ fn tried(alloc: Global) -> Option<Option<u64>> {
     }
 }
 
-fn ran(alloc: Global, left_out: Option<usize>) -> Option<Session> {
-    let mut output = Vec::with_capacity(alloc, ROOM).ok()?;
+// Runs the script, whose answers are appended.
+fn ran(alloc: Global, left_out: Option<usize>, output: &mut Vec<u8>) -> Status {
     let mut keeper = Keeper::new(alloc, None);
     let mut commands = Commands {
         alloc,
@@ -97,22 +99,35 @@ fn ran(alloc: Global, left_out: Option<usize>) -> Option<Session> {
         left_out,
     };
     let settings = Settings { stop: false };
-    let status = run(alloc, &mut keeper, &mut commands, &mut output, settings);
-    Some(Session { output, status })
+    run(alloc, &mut keeper, &mut commands, output, settings)
 }
 
 // The number of the one command that was refused, where the others are answered as without it.
 fn refused_command(alloc: Global, output: &[u8]) -> Option<u64> {
     let (before, behind) = parted(output)?;
     let number = answers_in(before);
-    let wanted = ran(alloc, Some(number as usize))?;
-    let wanted = wanted.output.as_slice();
-    let is_kept = wanted.starts_with(before) && wanted.ends_with(behind);
-    if is_kept && wanted.len() == before.len().saturating_add(behind.len()) {
+    if is_without(alloc, number as usize, before, behind) {
         Some(number.saturating_add(1))
     } else {
         None
     }
+}
+
+// Whether these two are what the script without a command is answered.
+fn is_without(alloc: Global, left_out: usize, before: &[u8], behind: &[u8]) -> bool {
+    match Vec::with_capacity(alloc, ROOM) {
+        Ok(mut wanted) => {
+            let _status = ran(alloc, Some(left_out), &mut wanted);
+            is_joined(wanted.as_slice(), before, behind)
+        }
+        Err(_) => false,
+    }
+}
+
+fn is_joined(whole: &[u8], front: &[u8], back: &[u8]) -> bool {
+    whole.starts_with(front)
+        && whole.ends_with(back)
+        && whole.len() == front.len().saturating_add(back.len())
 }
 
 // What stands before the refusal, and what behind it.

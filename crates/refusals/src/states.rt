@@ -1,4 +1,5 @@
 //! A session that is restored from a state text and saved again, by a call and by a script.
+use crate::attempt::Attempt;
 use crate::signs::{memory_is_back, requests_count};
 use rdf_keeper::{Keeper, Settings, StateFault, Status, run};
 use std::alloc::Global;
@@ -8,19 +9,27 @@ const TEXT: &[u8] =
 
 const COUNT: &[u8] = b"ok 9\n";
 
+const REFUSED: &[u8] = b"refused: NoMemory\n";
+
+// What stands before the text that is saved.
+const BEFORE: &[u8] = b"# ";
+
 /// Whether a state that isn't restored or saved is so for want of memory alone, and is restored and saved
 /// as it should when it is asked for again.
 pub fn outcome(alloc: Global) -> &'static str {
     requests_count(alloc);
-    match comes_back(alloc) {
-        Some(true) => "states: as without a refusal",
-        _ => "states: changed by a refusal",
+    if comes_back(alloc) {
+        "states: as without a refusal"
+    } else {
+        "states: changed by a refusal"
     }
 }
 
-fn comes_back(alloc: Global) -> Option<bool> {
-    let mut keeper = restored(alloc)?;
-    saved_and_shown(alloc, &mut keeper)
+fn comes_back(alloc: Global) -> bool {
+    match restored(alloc) {
+        Some(mut keeper) => is_saved(alloc, &keeper) && is_shown(alloc, &mut keeper),
+        None => false,
+    }
 }
 
 fn restored(alloc: Global) -> Option<Keeper> {
@@ -34,59 +43,54 @@ fn restored(alloc: Global) -> Option<Keeper> {
     }
 }
 
-fn saved_and_shown(alloc: Global, keeper: &mut Keeper) -> Option<bool> {
-    Some(is_saved(alloc, keeper)? && is_shown(alloc, keeper)?)
-}
-
-// Whether the text is appended; a refusal leaves what stands before it.
-fn is_saved(alloc: Global, keeper: &Keeper) -> Option<bool> {
-    let mut text = begun(alloc)?;
-    if keeper.dump(&mut text).is_err() {
-        if text.as_slice() != b"# ".as_slice() {
-            return None;
-        }
-        memory_is_back(alloc);
-        keeper.dump(&mut text).ok()?;
-    }
-    Some(text.as_slice().strip_prefix(b"# ") == Some(TEXT))
-}
-
-fn begun(alloc: Global) -> Option<Vec<u8>> {
+fn is_saved(alloc: Global, keeper: &Keeper) -> bool {
     let mut text = Vec::new(alloc);
-    if text.extend_from_slice(b"# ").is_err() {
-        memory_is_back(alloc);
-        text.extend_from_slice(b"# ").ok()?;
+    is_begun(alloc, &mut text)
+        && is_appended(alloc, keeper, &mut text)
+        && text.as_slice().strip_prefix(BEFORE) == Some(TEXT)
+}
+
+fn is_begun(alloc: Global, text: &mut Vec<u8>) -> bool {
+    if text.extend_from_slice(BEFORE).is_ok() {
+        return true;
     }
-    Some(text)
+    memory_is_back(alloc);
+    text.extend_from_slice(BEFORE).is_ok()
+}
+
+// Whether the state is appended; a refusal leaves what stands before it.
+fn is_appended(alloc: Global, keeper: &Keeper, text: &mut Vec<u8>) -> bool {
+    if keeper.dump(text).is_ok() {
+        return true;
+    }
+    memory_is_back(alloc);
+    text.as_slice() == BEFORE && keeper.dump(text).is_ok()
 }
 
 // Whether a script shows the text; where it is refused, it is run anew.
-fn is_shown(alloc: Global, keeper: &mut Keeper) -> Option<bool> {
-    let (output, status) = ran(alloc, keeper);
-    if status == Status::Accepted {
-        return Some(is_text_and_count(output.as_slice()));
+fn is_shown(alloc: Global, keeper: &mut Keeper) -> bool {
+    let first = shown(alloc, keeper);
+    if first.is_refused() {
+        memory_is_back(alloc);
+        shown(alloc, keeper).is_right()
+    } else {
+        first.is_right()
     }
-    let is_refusal = match status {
-        Status::Refused => output.as_slice() == b"refused: NoMemory\n".as_slice(),
-        Status::NoMemory(_) | Status::WriteFailed => true,
-        _ => false,
-    };
-    if !is_refusal {
-        return None;
-    }
-    memory_is_back(alloc);
-    let (output, status) = ran(alloc, keeper);
-    Some(status == Status::Accepted && is_text_and_count(output.as_slice()))
 }
 
-fn is_text_and_count(output: &[u8]) -> bool {
-    output.strip_prefix(TEXT) == Some(COUNT)
-}
-
-fn ran(alloc: Global, keeper: &mut Keeper) -> (Vec<u8>, Status) {
+fn shown(alloc: Global, keeper: &mut Keeper) -> Attempt {
     let mut reader = b"%state\n".as_slice();
     let mut output = Vec::new(alloc);
     let settings = Settings { stop: false };
     let status = run(alloc, keeper, &mut reader, &mut output, settings);
-    (output, status)
+    judged(status, output.as_slice())
+}
+
+fn judged(status: Status, output: &[u8]) -> Attempt {
+    match status {
+        Status::Accepted => Attempt::judged(output.strip_prefix(TEXT) == Some(COUNT)),
+        Status::Refused if output == REFUSED => Attempt::Refused,
+        Status::NoMemory(_) | Status::WriteFailed => Attempt::Refused,
+        _ => Attempt::Wrong,
+    }
 }

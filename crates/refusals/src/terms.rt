@@ -1,70 +1,100 @@
 //! One term of each kind: made, copied and written.
+use crate::attempt::Attempt;
 use crate::signs::{memory_is_back, requests_count};
-use rdf_terms::{Iri, IriFault, Literal, Term, Text, write_term};
+use rdf_terms::{Iri, Literal, Term, Text, write_term};
 use std::alloc::Global;
+
+#[derive(Clone, Copy)]
+enum Kind {
+    Blank,
+    Iri,
+    Typed,
+    Tagged,
+}
 
 /// Whether each term that is made, copied and written anew after a refusal is written as it should
 /// be, and the vector was as before after each refusal.
 pub fn outcome(alloc: Global) -> &'static str {
     requests_count(alloc);
-    let blank = is_kept(alloc, &Term::Blank(7), b"ab_:b7");
-    match (blank, iri(alloc), typed(alloc), tagged(alloc)) {
-        (true, Some(true), Some(true), Some(true)) => "terms: as without a refusal",
-        _ => "terms: changed by a refusal",
+    let are_kept = is_kept(alloc, Kind::Blank, b"ab_:b7")
+        && is_kept(alloc, Kind::Iri, b"ab<a:b>")
+        && is_kept(alloc, Kind::Typed, b"ab\"1\\n\"^^<a:d>")
+        && is_kept(alloc, Kind::Tagged, b"ab\"x\"@en");
+    if are_kept {
+        "terms: as without a refusal"
+    } else {
+        "terms: changed by a refusal"
     }
 }
 
-fn iri(alloc: Global) -> Option<bool> {
-    let made = match Iri::new(alloc, "a:b") {
-        Err(IriFault::NoMemory(_)) => {
-            memory_is_back(alloc);
-            Iri::new(alloc, "a:b")
-        }
-        made => made,
-    };
-    Some(is_kept(alloc, &Term::Iri(made.ok()?), b"ab<a:b>"))
+// Whether a copy of a term is written, made again where it is refused.
+fn is_kept(alloc: Global, kind: Kind, wanted: &[u8]) -> bool {
+    let first = attempt(alloc, kind, wanted);
+    if first.is_refused() {
+        memory_is_back(alloc);
+        attempt(alloc, kind, wanted).is_right()
+    } else {
+        first.is_right()
+    }
 }
 
-fn typed(alloc: Global) -> Option<bool> {
-    let literal = match typed_literal(alloc) {
-        None => {
-            memory_is_back(alloc);
-            typed_literal(alloc)?
-        }
-        Some(literal) => literal,
-    };
-    Some(is_kept(alloc, &Term::Literal(literal), b"ab\"1\\n\"^^<a:d>"))
+// Refused where the term isn't made or copied.
+fn attempt(alloc: Global, kind: Kind, wanted: &[u8]) -> Attempt {
+    match copied(alloc, kind) {
+        Some(copy) => Attempt::judged(is_written(alloc, &copy, wanted)),
+        None => Attempt::Refused,
+    }
 }
 
-fn typed_literal(alloc: Global) -> Option<Literal> {
-    let datatype = Iri::new(alloc, "a:d").ok()?;
-    let lexical = Text::new(alloc, "1\n").ok()?;
-    Literal::from_text(alloc, lexical, datatype).ok()
+fn copied(alloc: Global, kind: Kind) -> Option<Term> {
+    match made(alloc, kind) {
+        Some(term) => term.copy().ok(),
+        None => None,
+    }
 }
 
-fn tagged(alloc: Global) -> Option<bool> {
-    let made = match Literal::tagged(alloc, "x", "EN") {
-        Err(_) => {
-            memory_is_back(alloc);
-            Literal::tagged(alloc, "x", "EN").ok()?
-        }
-        Ok(made) => made,
-    };
-    Some(is_kept(alloc, &Term::Literal(made?), b"ab\"x\"@en"))
+fn made(alloc: Global, kind: Kind) -> Option<Term> {
+    match kind {
+        Kind::Blank => Some(Term::Blank(7)),
+        Kind::Iri => iri(alloc),
+        Kind::Typed => typed(alloc),
+        Kind::Tagged => tagged(alloc),
+    }
 }
 
-// Writes a copy of the term behind `ab`.
-fn is_kept(alloc: Global, term: &Term, wanted: &[u8]) -> bool {
-    let copied = match term.copy() {
-        Err(_) => {
-            memory_is_back(alloc);
-            term.copy()
-        }
-        copied => copied,
-    };
-    match (copied, begun(alloc)) {
-        (Ok(copy), Some(text)) => appends(alloc, &copy, text, wanted),
-        _ => false,
+fn iri(alloc: Global) -> Option<Term> {
+    match Iri::new(alloc, "a:b") {
+        Ok(iri) => Some(Term::Iri(iri)),
+        Err(_) => None,
+    }
+}
+
+fn typed(alloc: Global) -> Option<Term> {
+    match (Text::new(alloc, "1\n"), Iri::new(alloc, "a:d")) {
+        (Ok(lexical), Ok(datatype)) => typed_of(alloc, lexical, datatype),
+        _ => None,
+    }
+}
+
+fn typed_of(alloc: Global, lexical: Text, datatype: Iri) -> Option<Term> {
+    match Literal::from_text(alloc, lexical, datatype) {
+        Ok(literal) => Some(Term::Literal(literal)),
+        Err(_) => None,
+    }
+}
+
+fn tagged(alloc: Global) -> Option<Term> {
+    match Literal::tagged(alloc, "x", "EN") {
+        Ok(Some(literal)) => Some(Term::Literal(literal)),
+        _ => None,
+    }
+}
+
+// Whether the term is written behind `ab`.
+fn is_written(alloc: Global, term: &Term, wanted: &[u8]) -> bool {
+    match begun(alloc) {
+        Some(mut text) => is_appended(alloc, term, &mut text) && text.as_slice() == wanted,
+        None => false,
     }
 }
 
@@ -78,13 +108,10 @@ fn begun(alloc: Global) -> Option<Vec<u8>> {
     }
 }
 
-fn appends(alloc: Global, term: &Term, mut text: Vec<u8>, wanted: &[u8]) -> bool {
-    let before = text.len();
-    let written = write_term(term, &mut text);
-    if written.is_ok() {
-        return text.as_slice() == wanted;
+fn is_appended(alloc: Global, term: &Term, text: &mut Vec<u8>) -> bool {
+    if write_term(term, text).is_ok() {
+        return true;
     }
     memory_is_back(alloc);
-    let kept = text.len() == before;
-    kept && write_term(term, &mut text).is_ok() && text.as_slice() == wanted
+    text.as_slice() == b"ab".as_slice() && write_term(term, text).is_ok()
 }

@@ -68,63 +68,85 @@ const NAMED_ROWS: &[u8] =
 const ASK: &[u8] = b"ASK { <http://e/s> <http://e/p> \"1\" }";
 
 /// The trials, in the order of their lines.
-pub const TRIALS: [Trial; 35] = [
-    Trial("update of UNION", Scene::Between, Call::Update(UNION, 3, 0)),
+pub const TRIALS: [Trial; 37] = [
+    Trial(
+        "update of UNION",
+        Scene::Between,
+        Call::Command(Command::Update(UNION), 3, 0),
+    ),
     Trial(
         "update of two operations",
         Scene::Between,
-        Call::Update(TWO, 1, 1),
+        Call::Command(Command::Update(TWO), 1, 1),
     ),
     Trial(
         "update of OPTIONAL",
         Scene::Between,
-        Call::Update(OPTIONAL, 1, 1),
+        Call::Command(Command::Update(OPTIONAL), 1, 1),
     ),
     Trial(
         "update of GRAPH ?g",
         Scene::Between,
-        Call::Update(GRAPHS, 1, 0),
+        Call::Command(Command::Update(GRAPHS), 1, 0),
     ),
     Trial(
         "update of MINUS",
         Scene::Between,
-        Call::Update(LACKING, 1, 1),
+        Call::Command(Command::Update(LACKING), 1, 1),
     ),
     Trial(
         "update of each kind of term",
         Scene::Between,
-        Call::Update(TERMS, 4, 0),
+        Call::Command(Command::Update(TERMS), 4, 0),
     ),
     Trial(
         "COPY",
         Scene::Between,
-        Call::Update(b"COPY DEFAULT TO <http://e/g>", 7, 1),
+        Call::Command(Command::Update(b"COPY DEFAULT TO <http://e/g>"), 7, 1),
     ),
     Trial(
         "MOVE",
         Scene::Between,
-        Call::Update(b"MOVE <http://e/g> TO DEFAULT", 1, 9),
+        Call::Command(Command::Update(b"MOVE <http://e/g> TO DEFAULT"), 1, 9),
     ),
     Trial(
         "ADD",
         Scene::Between,
-        Call::Update(b"ADD <http://e/g> TO <http://e/h>", 2, 0),
+        Call::Command(Command::Update(b"ADD <http://e/g> TO <http://e/h>"), 2, 0),
     ),
-    Trial("first update", Scene::Begun, Call::Update(UNION, 3, 0)),
+    Trial(
+        "CLEAR",
+        Scene::Between,
+        Call::Command(Command::Update(b"CLEAR DEFAULT"), 0, 8),
+    ),
+    Trial(
+        "DELETE WHERE",
+        Scene::Between,
+        Call::Command(
+            Command::Update(b"DELETE WHERE { ?s <http://e/p> \"1\" }"),
+            0,
+            2,
+        ),
+    ),
+    Trial(
+        "first update",
+        Scene::Begun,
+        Call::Command(Command::Update(UNION), 3, 0),
+    ),
     Trial(
         "load of N-Quads",
         Scene::Between,
-        Call::Load(Format::NQuads, LINES, 1),
+        Call::Command(Command::Load(Format::NQuads, LINES), 1, 0),
     ),
     Trial(
         "load of N-Triples",
         Scene::Between,
-        Call::Load(Format::NTriples, TRIPLES, 2),
+        Call::Command(Command::Load(Format::NTriples, TRIPLES), 2, 0),
     ),
     Trial(
         "load of Turtle",
         Scene::Between,
-        Call::Load(Format::Turtle, TURTLE, 4),
+        Call::Command(Command::Load(Format::Turtle, TURTLE), 4, 0),
     ),
     Trial(
         "undo of a DELETE",
@@ -155,12 +177,12 @@ pub const TRIALS: [Trial; 35] = [
     Trial(
         "update that forgets",
         Scene::Bounded,
-        Call::Update(FORGETS, 1, 1),
+        Call::Command(Command::Update(FORGETS), 1, 1),
     ),
     Trial(
         "load that forgets",
         Scene::Bounded,
-        Call::Load(Format::NQuads, TRIPLES, 2),
+        Call::Command(Command::Load(Format::NQuads, TRIPLES), 2, 0),
     ),
     Trial(
         "rollback over one entry",

@@ -1,8 +1,9 @@
 //! A Turtle document, and a text that uses a prefix without its declaration, each read again where memory
 //! was wanting. What they are read to is known.
+use crate::attempt::Attempt;
 use crate::signs::{memory_is_back, requests_count};
 use rdf_lines::write_quad;
-use rdf_terms::{NoMemory, Quad};
+use rdf_terms::Quad;
 use rdf_turtle::{TurtleFault, TurtleFaultKind, read_turtle};
 use std::alloc::Global;
 
@@ -18,60 +19,64 @@ const UNDECLARED: &[u8] = b"PREFIX p: <a:>\n<a:s> p:p p:o .\n<a:s> p:p q:o .\n";
 /// Whether each text that is refused has no line, and is read as it should be when it is read again.
 pub fn outcome(alloc: Global) -> &'static str {
     requests_count(alloc);
-    if is_document_read(alloc) && is_fault_told(alloc) {
+    if is_kept(alloc, true) && is_kept(alloc, false) {
         "turtle: as without a refusal"
     } else {
         "turtle: changed by a refusal"
     }
 }
 
-fn is_document_read(alloc: Global) -> bool {
-    match read(alloc, DOCUMENT) {
-        Ok(quads) => are_lines(alloc, quads.as_slice()),
-        Err(_) => false,
+// Whether the document, or the text with the fault, is read as it should be, again where it was refused.
+fn is_kept(alloc: Global, is_document: bool) -> bool {
+    let first = attempt(alloc, is_document);
+    if first.is_refused() {
+        memory_is_back(alloc);
+        attempt(alloc, is_document).is_right()
+    } else {
+        first.is_right()
     }
 }
 
-fn is_fault_told(alloc: Global) -> bool {
-    match read(alloc, UNDECLARED) {
-        Ok(_) => false,
-        Err(fault) => fault.line == 3 && fault.kind == TurtleFaultKind::UnknownPrefix,
-    }
-}
-
-// What the text is read to, or where that was refused, what it is read to again.
-fn read(alloc: Global, text: &[u8]) -> Result<Vec<Quad>, TurtleFault> {
+fn attempt(alloc: Global, is_document: bool) -> Attempt {
+    let text = if is_document { DOCUMENT } else { UNDECLARED };
     match read_turtle(alloc, text, None) {
-        Err(fault) if is_refused(fault) => {
-            memory_is_back(alloc);
-            read_turtle(alloc, text, None)
-        }
-        answer => answer,
+        Ok(quads) => Attempt::judged(is_document && are_lines(alloc, quads.as_slice())),
+        Err(fault) => refusal(fault, is_document),
     }
 }
 
-fn is_refused(fault: TurtleFault) -> bool {
-    fault.line == 0 && matches!(fault.kind, TurtleFaultKind::NoMemory(_))
+fn refusal(fault: TurtleFault, is_document: bool) -> Attempt {
+    if fault.line == 0 && matches!(fault.kind, TurtleFaultKind::NoMemory(_)) {
+        return Attempt::Refused;
+    }
+    let is_told = fault.line == 3 && fault.kind == TurtleFaultKind::UnknownPrefix;
+    Attempt::judged(is_told && !is_document)
 }
 
 fn are_lines(alloc: Global, quads: &[Quad]) -> bool {
-    let text = match text_of(alloc, quads) {
-        Err(_) => {
-            memory_is_back(alloc);
-            text_of(alloc, quads)
-        }
-        text => text,
-    };
-    match text {
-        Ok(text) => text.as_slice() == LINES,
-        Err(_) => false,
+    let first = written(alloc, quads);
+    if first.is_refused() {
+        memory_is_back(alloc);
+        written(alloc, quads).is_right()
+    } else {
+        first.is_right()
     }
 }
 
-fn text_of(alloc: Global, quads: &[Quad]) -> Result<Vec<u8>, NoMemory> {
+fn written(alloc: Global, quads: &[Quad]) -> Attempt {
     let mut text = Vec::new(alloc);
-    for quad in quads {
-        write_quad(quad, &mut text)?;
+    if are_appended(quads, &mut text) {
+        Attempt::judged(text.as_slice() == LINES)
+    } else {
+        Attempt::Refused
     }
-    Ok(text)
+}
+
+fn are_appended(quads: &[Quad], text: &mut Vec<u8>) -> bool {
+    for quad in quads {
+        if write_quad(quad, text).is_err() {
+            return false;
+        }
+    }
+    true
 }

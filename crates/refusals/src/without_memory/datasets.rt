@@ -1,5 +1,5 @@
 //! Calls on datasets, staged views, nets, and keys in their orders.
-use crate::datasets::{begun, iri, quad};
+use crate::datasets::begun;
 use crate::signs::{memory_is_back, requests_count};
 use crate::told::Told;
 use rdf_dataset::{Dataset, Net, Source, Staged};
@@ -8,46 +8,38 @@ use rdf_terms::{Quad, Term};
 use std::alloc::Global;
 
 pub fn outcome(alloc: Global) -> Told {
-    Told::kept("datasets without memory", are_answered(alloc) == Some(true))
+    Told::kept("datasets without memory", are_answered(alloc))
 }
 
-fn are_answered(alloc: Global) -> Option<bool> {
-    let (dataset, net) = begun(alloc)?;
-    let asked = Asked::new(alloc)?;
-    Some(is_read(alloc, &dataset, &asked) && is_net(alloc, net) && is_walked(alloc)?)
-}
-
-// What is there, and what isn't.
-#[derive(Drop)]
-struct Asked {
-    quad: Quad,
-    name: Term,
-    other_quad: Quad,
-    other_name: Term,
-}
-
-impl Asked {
-    fn new(alloc: Global) -> Option<Asked> {
-        Some(Asked {
-            quad: quad(alloc, "a:g", "a:s")?,
-            name: iri(alloc, "a:g")?,
-            other_quad: quad(alloc, "a:h", "a:s")?,
-            other_name: iri(alloc, "a:h")?,
-        })
+fn are_answered(alloc: Global) -> bool {
+    let mut dataset = Dataset::new(alloc);
+    match begun(alloc, &mut dataset) {
+        Some(net) => is_read(alloc, &dataset, &net) && is_net(alloc, net) && is_walked(alloc),
+        None => false,
     }
+}
 
-    fn is_answered<D: Source>(&self, source: &D) -> bool {
-        let quads = source.contains(&self.quad) && !source.contains(&self.other_quad);
-        let names = source.has_name(&self.name) && !source.has_name(&self.other_name);
-        quads && names
+// Whether the dataset, which a net would leave, has what that takes out, and not what it brings in.
+fn is_answered<D: Source>(source: &D, net: &Net) -> bool {
+    holds(source, net.removed(), net.names_removed(), true)
+        && holds(source, net.added(), net.names_added(), false)
+}
+
+// Whether the first quad and the first name are there, or neither is.
+fn holds<D: Source>(source: &D, quads: &[Quad], names: &[Term], are_there: bool) -> bool {
+    match (quads.first(), names.first()) {
+        (Some(quad), Some(name)) => {
+            source.contains(quad) == are_there && source.has_name(name) == are_there
+        }
+        _ => false,
     }
 }
 
 // A dataset of two quads, and a view of it.
-fn is_read(alloc: Global, dataset: &Dataset, asked: &Asked) -> bool {
+fn is_read(alloc: Global, dataset: &Dataset, net: &Net) -> bool {
     requests_count(alloc);
     let mut view = Staged::over(alloc, dataset);
-    let finds = asked.is_answered(dataset) && asked.is_answered(&view);
+    let finds = is_answered(dataset, net) && is_answered(&view, net);
     let counts = dataset.next_blank() == 1 && view.next_blank() == 1;
     let takes = view.take_blanks(3) == Some(1) && view.next_blank() == 4;
     memory_is_back(alloc);
@@ -78,10 +70,10 @@ fn is_none(net: &Net) -> bool {
     quads && names && net.before() == 7 && net.after() == 7
 }
 
-fn is_walked(alloc: Global) -> Option<bool> {
+fn is_walked(alloc: Global) -> bool {
     let mut sets = QuadSets::new(alloc);
-    for quad in [[0, 1, 2, 3], [0, 1, 2, 4]] {
-        sets.insert(&quad).ok()?;
+    if sets.insert(&[0, 1, 2, 3]).is_err() || sets.insert(&[0, 1, 2, 4]).is_err() {
+        return false;
     }
     let mut walk = Walk::over(&sets);
     requests_count(alloc);
@@ -91,5 +83,5 @@ fn is_walked(alloc: Global) -> Option<bool> {
     let finds = first == Some([0, 2, 3, 1]) && second == Some([0, 2, 4, 1]) && third.is_none();
     let holds = sets.contains(&[0, 1, 2, 3]) && !sets.has_name(0);
     memory_is_back(alloc);
-    Some(finds && holds)
+    finds && holds
 }

@@ -13,11 +13,17 @@ use std::alloc::Global;
 const NO_MEMORY: &str = "NoMemory";
 
 pub fn outcome(alloc: Global) -> Told {
-    Told::kept("names without memory", are_answered(alloc) == Some(true))
+    Told::kept("names without memory", are_answered(alloc))
 }
 
-fn are_answered(alloc: Global) -> Option<bool> {
-    let refused = refused(alloc)?;
+fn are_answered(alloc: Global) -> bool {
+    match refused(alloc) {
+        Some(refused) => are_names(alloc, refused),
+        None => false,
+    }
+}
+
+fn are_names(alloc: Global, refused: NoMemory) -> bool {
     requests_count(alloc);
     let are_names = are_of_terms(refused)
         && are_of_lines(refused)
@@ -26,7 +32,7 @@ fn are_answered(alloc: Global) -> Option<bool> {
         && are_of_sessions(refused)
         && are_of_conversions(refused);
     memory_is_back(alloc);
-    Some(are_names)
+    are_names
 }
 
 // What a request is answered that is always refused: no memory has its size.

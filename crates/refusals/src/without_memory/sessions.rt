@@ -1,87 +1,114 @@
 //! Calls of a session, each over one that was made for it.
 use crate::alike::are_alike;
-use crate::command::{Command, answer, counts};
-use crate::scene::Scene;
+use crate::command::{Command, answer};
+use crate::scene::{Scene, are_accepted};
 use crate::signs::{memory_is_back, requests_count};
 use crate::told::Told;
 use rdf_keeper::{Counts, Keeper, KeeperFault};
 use std::alloc::Global;
 
+// Commands, and what the next one is answered behind them.
+#[derive(Clone, Copy)]
+struct Case(&'static [Command], Command, Result<Counts, KeeperFault>);
+
+const REMOVED: Counts = Counts {
+    added: 0,
+    removed: 1,
+};
+
+const UNCHANGED: Counts = Counts {
+    added: 0,
+    removed: 0,
+};
+
+// Entries that removed no quad and no name are undone, and such as added none made again. Behind these come
+// nothing to move over, and marks that aren't behind.
+const CASES: [Case; 9] = [
+    Case(&[Command::Redo], Command::Undo, Ok(REMOVED)),
+    Case(&[Command::Undo], Command::Undo, Ok(REMOVED)),
+    Case(&[Command::Undo], Command::Redo, Ok(REMOVED)),
+    Case(&[Command::Redo], Command::Redo, Ok(REMOVED)),
+    Case(
+        &[Command::Rollback(b"base")],
+        Command::Undo,
+        Err(KeeperFault::NothingToUndo),
+    ),
+    Case(
+        &[Command::Redo, Command::Redo],
+        Command::Redo,
+        Err(KeeperFault::NothingToRedo),
+    ),
+    Case(
+        &[],
+        Command::Rollback(b"ahead"),
+        Err(KeeperFault::MarkAhead),
+    ),
+    Case(
+        &[],
+        Command::Rollback(b"none"),
+        Err(KeeperFault::NoSuchMark),
+    ),
+    Case(&[], Command::Rollback(b"here"), Ok(UNCHANGED)),
+];
+
 pub fn outcome(alloc: Global) -> Told {
-    Told::kept("sessions without memory", are_answered(alloc) == Some(true))
+    let is_kept = are_answered(alloc) && is_committed(alloc) && is_made(alloc);
+    Told::kept("sessions without memory", is_kept)
 }
 
-fn are_answered(alloc: Global) -> Option<bool> {
-    Some(
-        are_undone(alloc)?
-            && are_redone(alloc)?
-            && are_refused(alloc)?
-            && is_committed(alloc)?
-            && is_made(alloc),
-    )
+fn are_answered(alloc: Global) -> bool {
+    for case in &CASES {
+        if !is_answered(alloc, *case) {
+            return false;
+        }
+    }
+    true
 }
 
-// Entries that removed no quad and no name.
-fn are_undone(alloc: Global) -> Option<bool> {
-    let last = is_same(alloc, &[Command::Redo], Command::Undo, Ok(counts(0, 1)))?;
-    let middle = is_same(alloc, &[Command::Undo], Command::Undo, Ok(counts(0, 1)))?;
-    Some(last && middle)
+// Whether the command is answered so, and as in a twin that has memory.
+fn is_answered(alloc: Global, case: Case) -> bool {
+    let Case(before, command, wanted) = case;
+    let mut tried = Scene::Between.begun(alloc);
+    let mut twin = Scene::Between.begun(alloc);
+    is_behind(&mut tried, before)
+        && is_behind(&mut twin, before)
+        && is_same(alloc, &mut tried, &mut twin, command, wanted)
+        && are_alike(alloc, &mut tried, &mut twin)
 }
 
-// Entries that added no quad and no name.
-fn are_redone(alloc: Global) -> Option<bool> {
-    let deleted = is_same(alloc, &[Command::Undo], Command::Redo, Ok(counts(0, 1)))?;
-    let last = is_same(alloc, &[Command::Redo], Command::Redo, Ok(counts(0, 1)))?;
-    Some(deleted && last)
+fn is_behind(keeper: &mut Keeper, before: &[Command]) -> bool {
+    Scene::Between.is_set(keeper) && are_accepted(keeper, before)
 }
 
-// Nothing to move over, and marks that aren't behind.
-fn are_refused(alloc: Global) -> Option<bool> {
-    let base = [Command::Rollback(b"base")];
-    let end = [Command::Redo, Command::Redo];
-    let undo = is_same(alloc, &base, Command::Undo, Err(KeeperFault::NothingToUndo))?;
-    let redo = is_same(alloc, &end, Command::Redo, Err(KeeperFault::NothingToRedo))?;
-    let ahead = Command::Rollback(b"ahead");
-    let ahead = is_same(alloc, &[], ahead, Err(KeeperFault::MarkAhead))?;
-    let none = Command::Rollback(b"none");
-    let none = is_same(alloc, &[], none, Err(KeeperFault::NoSuchMark))?;
-    let here = is_same(alloc, &[], Command::Rollback(b"here"), Ok(counts(0, 0)))?;
-    Some(undo && redo && ahead && none && here)
-}
-
-// Whether behind these commands the next one is answered so, and as in a twin that has memory.
 fn is_same(
     alloc: Global,
-    before: &[Command],
+    tried: &mut Keeper,
+    twin: &mut Keeper,
     command: Command,
     wanted: Result<Counts, KeeperFault>,
-) -> Option<bool> {
-    let mut tried = behind(alloc, before)?;
-    let mut twin = behind(alloc, before)?;
+) -> bool {
     requests_count(alloc);
-    let found = answer(&mut tried, command);
+    let found = answer(tried, command);
     memory_is_back(alloc);
-    let is_right = found == wanted && found == answer(&mut twin, command);
-    Some(is_right && are_alike(alloc, &mut tried, &mut twin))
+    found == wanted && found == answer(twin, command)
 }
 
-fn behind(alloc: Global, before: &[Command]) -> Option<Keeper> {
-    let mut keeper = Scene::Between.session(alloc)?;
-    for command in before {
-        answer(&mut keeper, *command).ok()?;
-    }
-    Some(keeper)
+fn is_committed(alloc: Global) -> bool {
+    let mut tried = Scene::Between.begun(alloc);
+    let mut twin = Scene::Between.begun(alloc);
+    is_behind(&mut tried, &[])
+        && is_behind(&mut twin, &[])
+        && is_base(alloc, &mut tried, &mut twin)
+        && are_alike(alloc, &mut tried, &mut twin)
 }
 
-fn is_committed(alloc: Global) -> Option<bool> {
-    let mut tried = behind(alloc, &[])?;
-    let mut twin = behind(alloc, &[])?;
+fn is_base(alloc: Global, tried: &mut Keeper, twin: &mut Keeper) -> bool {
     requests_count(alloc);
     tried.commit();
     let is_base = tried.entries().is_empty() && tried.next_blank() == 2;
     memory_is_back(alloc);
     twin.commit();
-    Some(is_base && are_alike(alloc, &mut tried, &mut twin))
+    is_base
 }
 
 // A session is made without memory, also one with a depth.

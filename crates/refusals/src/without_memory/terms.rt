@@ -2,36 +2,49 @@
 use crate::signs::{memory_is_back, requests_count};
 use crate::told::Told;
 use rdf_terms::{
-    GraphName, Iri, Literal, Quad, Term, TermTable, Text, integer_value, is_forbidden_in_iri,
+    GraphName, Iri, Literal, Quad, Term, TermTable, integer_value, is_forbidden_in_iri,
     is_pn_chars, is_pn_chars_base, is_pn_chars_u,
 };
 use std::alloc::Global;
 
 pub fn outcome(alloc: Global) -> Told {
-    Told::kept("terms without memory", are_answered(alloc) == Some(true))
+    Told::kept("terms without memory", are_answered(alloc))
 }
 
-fn are_answered(alloc: Global) -> Option<bool> {
-    let integers = are_integers(&typed(alloc, "-07")?, &typed(alloc, "x")?, alloc);
-    let classes = are_classes(alloc);
-    Some(integers && classes && is_table(alloc)? && is_quad(alloc)?)
+fn are_answered(alloc: Global) -> bool {
+    is_integer(alloc, "-07", Some(-7))
+        && is_integer(alloc, "x", None)
+        && are_classes(alloc)
+        && is_table(alloc)
+        && is_quad(alloc)
 }
 
-fn are_integers(number: &Literal, word: &Literal, alloc: Global) -> bool {
+fn is_integer(alloc: Global, text: &str, wanted: Option<i128>) -> bool {
+    match Iri::new(alloc, "http://www.w3.org/2001/XMLSchema#integer") {
+        Ok(datatype) => is_integer_of(alloc, text, datatype, wanted),
+        Err(_) => false,
+    }
+}
+
+fn is_integer_of(alloc: Global, text: &str, datatype: Iri, wanted: Option<i128>) -> bool {
+    match Literal::new(alloc, text, datatype) {
+        Ok(literal) => has_value(alloc, &literal, wanted),
+        Err(_) => false,
+    }
+}
+
+fn has_value(alloc: Global, literal: &Literal, wanted: Option<i128>) -> bool {
     requests_count(alloc);
-    let are_right = integer_value(number) == Some(-7) && integer_value(word).is_none();
+    let value = integer_value(literal);
     memory_is_back(alloc);
-    are_right
-}
-
-fn typed(alloc: Global, text: &str) -> Option<Literal> {
-    let datatype = Iri::new(alloc, "http://www.w3.org/2001/XMLSchema#integer").ok()?;
-    let lexical = Text::new(alloc, text).ok()?;
-    Literal::from_text(alloc, lexical, datatype).ok()
+    value == wanted
 }
 
 fn iri(alloc: Global, text: &str) -> Option<Term> {
-    Some(Term::Iri(Iri::new(alloc, text).ok()?))
+    match Iri::new(alloc, text) {
+        Ok(iri) => Some(Term::Iri(iri)),
+        Err(_) => None,
+    }
 }
 
 fn are_classes(alloc: Global) -> bool {
@@ -45,42 +58,68 @@ fn are_classes(alloc: Global) -> bool {
 }
 
 // A table of one term.
-fn is_table(alloc: Global) -> Option<bool> {
+fn is_table(alloc: Global) -> bool {
     let mut table = TermTable::new(alloc);
-    table.intern(iri(alloc, "a:s")?).ok()?;
-    Some(finds(alloc, &table, &iri(alloc, "a:s")?, &iri(alloc, "a:t")?))
+    is_interned(alloc, &mut table)
+        && is_found(alloc, &table, "a:s", true)
+        && is_found(alloc, &table, "a:t", false)
 }
 
-fn finds(alloc: Global, table: &TermTable, held: &Term, other: &Term) -> bool {
-    requests_count(alloc);
-    let finds = gives_back(table, held) && table.find(other).is_none();
-    memory_is_back(alloc);
-    finds
-}
-
-// Whether the table finds the term, and gives it back by its id.
-fn gives_back(table: &TermTable, term: &Term) -> bool {
-    match table.find(term) {
-        Some(id) => table.term(id) == term,
+fn is_interned(alloc: Global, table: &mut TermTable) -> bool {
+    match iri(alloc, "a:s") {
+        Some(term) => table.intern(term).is_ok(),
         None => false,
     }
 }
 
-fn is_quad(alloc: Global) -> Option<bool> {
-    let graph = GraphName::Named(iri(alloc, "a:g")?);
-    let subject = iri(alloc, "a:s")?;
-    let (predicate, object) = (iri(alloc, "a:p")?, iri(alloc, "a:o")?);
+fn is_found(alloc: Global, table: &TermTable, text: &str, is_there: bool) -> bool {
+    match iri(alloc, text) {
+        Some(term) => finds(alloc, table, &term) == is_there,
+        None => false,
+    }
+}
+
+// Whether the table finds the term, and gives it back by its id.
+fn finds(alloc: Global, table: &TermTable, term: &Term) -> bool {
     requests_count(alloc);
-    let is_made = is_made(graph, subject, predicate, object);
+    let finds = match table.find(term) {
+        Some(id) => table.term(id) == term,
+        None => false,
+    };
     memory_is_back(alloc);
-    Some(is_made)
+    finds
+}
+
+fn is_quad(alloc: Global) -> bool {
+    match iri(alloc, "a:p") {
+        Some(predicate) => is_quad_of(alloc, predicate),
+        None => false,
+    }
+}
+
+fn is_quad_of(alloc: Global, predicate: Term) -> bool {
+    match iri(alloc, "a:o") {
+        Some(object) => is_made(alloc, predicate, object),
+        None => false,
+    }
 }
 
 // Whether these are the places of a quad.
-fn is_made(graph: GraphName, subject: Term, predicate: Term, object: Term) -> bool {
-    let Some(quad) = Quad::new(graph, subject, predicate, object) else {
-        return false;
-    };
-    let is_named = matches!(quad.graph(), GraphName::Named(Term::Iri(_)));
-    is_named && quad.predicate() < quad.subject() && quad.object() < quad.predicate()
+fn is_made(alloc: Global, predicate: Term, object: Term) -> bool {
+    let graph = GraphName::Named(Term::Blank(1));
+    requests_count(alloc);
+    let quad = Quad::new(graph, Term::Blank(2), predicate, object);
+    memory_is_back(alloc);
+    match quad {
+        Some(quad) => are_places(alloc, &quad),
+        None => false,
+    }
+}
+
+fn are_places(alloc: Global, quad: &Quad) -> bool {
+    requests_count(alloc);
+    let is_named = matches!(quad.graph(), GraphName::Named(Term::Blank(1)));
+    let are_ordered = quad.subject() < quad.predicate() && quad.object() < quad.predicate();
+    memory_is_back(alloc);
+    is_named && are_ordered
 }
