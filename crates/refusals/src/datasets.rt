@@ -61,11 +61,16 @@ fn attempt(alloc: Global) -> Attempt {
 fn survives(alloc: Global, dataset: &mut Dataset, net: &Net) -> bool
     requires { Begins net.now dataset.old }
 {
-    at_front(alloc, dataset, net)
-        && goes(alloc, dataset, net)
-        && at_back(alloc, dataset, net)
-        && comes_back(alloc, dataset, net)
-        && at_front(alloc, dataset, net)
+    if !at_front(alloc, dataset, net) {
+        return false;
+    }
+    if !goes(alloc, dataset, net) {
+        return false;
+    }
+    if !at_back(alloc, dataset, net) {
+        return false;
+    }
+    comes_back(alloc, dataset, net) && at_front(alloc, dataset, net)
 }
 
 /// Brings an empty dataset to the front, and gives the net from there to the back.
