@@ -1,7 +1,7 @@
 """Edits of functions' bodies, and how a check of them is prepared. It relies on the layout of `rt fmt`."""
 import collections, os, re
 
-HEAD = re.compile(r"^( *)(?:pub(?:\([^)]*\))? )?((?:(?:const|unsafe|final) )*)fn (\w+)")
+HEAD = re.compile(r"^( *)(?:pub(?:\([^)]*\))? )?fn (\w+)")
 # its parameters, its trait and that one's argument, its type and that one's argument
 IMPL = re.compile(r"(?:unsafe )?impl(<[^{]*?>)? (?:(?:\w+::)*(\w+)(?:<(\w+).*?>)? for )?(?:\w+::)*(\w+)(?:<(\w+)>)?")
 # a trait, some of whose methods may have bodies
@@ -11,13 +11,11 @@ TRAIT = re.compile(r"(?:pub(?:\([^)]*\))? )?trait (\w+)")
 REFUSED = "untried"
 MARK = f"\n{REFUSED} : ⊥\n{REFUSED} = tt\n"
 # `names` has for the function, or for each of its cycle of calls, patterns of what a check calls it, the most exact first; `cycle` names that cycle
-Function = collections.namedtuple("Function", "file first opens last name names alone cycle")
-
-
-def is_whole(lines):
-    """Whether each bracket that these lines open is closed: a `;` inside a record of a clause ends no declaration."""
-    text = "".join(lines)
-    return text.count("{") == text.count("}")
+Function = collections.namedtuple("Function", "file first opens last name names cycle")
+# whether each bracket that a text opens is closed: a `;` inside a record of a clause ends no declaration
+is_whole = lambda text: text.count("{") == text.count("}")
+# whether what a check calls so is the function, or a closure in it
+is_of = lambda symbol, function: f"{symbol}::".replace("::fn::", "::").startswith(f"{function}::")
 
 
 def owner_of(outer):
@@ -40,17 +38,16 @@ def functions_of(crate, file, text):
             first -= 1
         if not line.endswith("}"):
             ends = re.compile(rf"{indent}(\S.*)?(\{{|\}})$")
-            opens = next(n for n in range(at, len(lines)) if ends.match(lines[n]) or lines[n].endswith(";") and is_whole(lines[at : n + 1]))
+            opens = next(n for n in range(at, len(lines)) if ends.match(lines[n]) or lines[n].endswith(";") and is_whole("".join(lines[at : n + 1])))
         if lines[opens].endswith(";"):
             continue
         last = opens if lines[opens].endswith("}") else lines.index(f"{indent}}}", opens)
         around = next((lines[n] for n in range(at, -1, -1) if re.match(r"\S.*\{$", lines[n])), "") if indent else ""
         outer, trait = IMPL.match(around), TRAIT.match(around)
         owner = f"::{owner_of(outer)}" if outer else f"::{trait[1]}" if trait else ""
-        names = [f"{module}{owner}::{head[3]}"] if owner or not indent else []
-        names += [rf"\S*{owner}::{head[3]}"] if indent else []
+        names = [f"{module}{owner}::{head[2]}"] * bool(owner or not indent) + [rf"\S*{owner}::{head[2]}"] * bool(indent)
         cycle = re.search(r"#\[cycle\((\w+)\)\]", "\n".join(lines[first:at]))
-        found.append(Function(file, first, opens, last, head[3], [names], "const" in head[2], (file, cycle[1]) if cycle else None))
+        found.append(Function(file, first, opens, last, head[2], [names], (file, cycle[1]) if cycle else None))
     # a cycle of calls has one proof, so what one of its functions does is judged at all of them
     mates = lambda it: [other for other in found if other is it or it.cycle and other.cycle == it.cycle]
     return [it._replace(names=[names for other in mates(it) for names in other.names]) for it in found]
@@ -74,10 +71,12 @@ class Edit:
             self.lines.update({(file, at): new for at, _, new in changed})
             self.take_law(file, folder) if self.is_definition else self.take(file, was, changed, folder.name)
         self.why = self.why or (None if self.functions and self.lines else "it changes nothing")
-        self.keys, self.alone = {(it.file, it.first) for it in self.functions}, self.is_definition or any(it.alone for it in self.functions)
-        self.cycles = {it.cycle for it in self.functions if it.cycle}
+        self.keys, self.cycles = {(it.file, it.first) for it in self.functions}, {it.cycle for it in self.functions if it.cycle}
         # what a check calls the first of them, whether its answers may be marked, and the goals that it leaves open
         self.at, self.may_be_marked, self.open = "", not self.is_definition, {}
+
+    # whether no check has both: each wrong definition comes alone, and each wrong body of a function
+    is_apart = lambda self, other: self.is_definition or other.is_definition or bool(self.keys & other.keys)
 
     def read(self, folder):
         """The files that it changes, each as it was and as it becomes."""
@@ -128,20 +127,16 @@ class Edit:
         own = [it.split("::", 1)[1].replace("::", "/") for it in self.symbols]
         return sorted({f"{it.rpartition('/')[0]}/+{cycle}".lstrip("/") for it in own for _, cycle in self.cycles} if self.cycles else {*own})
 
-    def is_marked(self, folder):
-        """Whether its functions' answers are marked: not where one has a proof by hand, which has no goals."""
-        return self.may_be_marked and not any((folder / "proofs" / it / "Proof.antt").is_file() for it in self.folders())
-
     def write(self, folder):
-        """Makes the edit in a copy of the crate, and marks the answers of its functions."""
+        """Makes the edit in a copy of the crate, and marks the answers of its functions, unless one has a proof by hand, which has no goals."""
         for file in {file for file, _ in self.lines}:
             lines = (folder / file).read_text().split("\n")
             (folder / file).write_text("\n".join(self.lines.get((file, number), line) for number, line in enumerate(lines)))
-        for it in self.folders() if self.is_marked(folder) else ():
-            at = folder / "proofs" / it / "Answers.antt"
+        answers = {folder / "proofs" / it / "Answers.antt": it for it in self.folders()}
+        is_marked = self.may_be_marked and not any(at.with_name("Proof.antt").is_file() for at in answers)
+        for at, it in answers.items() if is_marked else ():
             at.parent.mkdir(parents=True, exist_ok=True)
-            text = at.read_text() if at.is_file() else ""
-            at.write_text(self.marked(text, f"Rattle.{folder.name}.proofs.{it.replace('/', '.')}.Goals"))
+            at.write_text(self.marked(at.read_text() if at.is_file() else "", f"Rattle.{folder.name}.proofs.{it.replace('/', '.')}.Goals"))
 
     def marked(self, text, module):
         """Answers to the goals of a module with the mark. What need not be tried is answered by what antt refuses."""
@@ -162,11 +157,6 @@ def without_body(lines, function):
 
 
 def has_its_body_left_out(function, lines):
-    """Whether nothing but its own proof can see the function's body: what a `const fn` says is computed, and what an `impl` stands for is seen."""
+    """Whether nothing but its own proof can see the function's body: what an `impl` stands for is seen."""
     head = " ".join(lines[function.first : function.opens + 1])
-    return not function.alone and function.last - function.opens >= 2 and lines[function.opens].endswith("{") and "-> impl" not in head
-
-
-def is_of(symbol, function):
-    """Whether what a check calls so is the function, or a closure in it."""
-    return f"{symbol}::".replace("::fn::", "::").startswith(f"{function}::")
+    return function.last - function.opens >= 2 and lines[function.opens].endswith("{") and "-> impl" not in head

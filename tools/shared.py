@@ -1,6 +1,6 @@
 """What the tools of this folder share: the crates, copies of the repository, commands and their processor time, tasks side by side."""
-import argparse, collections, contextlib, hashlib, importlib.machinery, importlib.util, math, os, pathlib, re, shutil, signal, subprocess, sys, tempfile
-import threading, time, traceback
+import argparse, collections, contextlib, functools, hashlib, importlib.machinery, importlib.util, math, os, pathlib, re, shutil, signal, subprocess, sys
+import tempfile, threading, time, traceback
 from concurrent.futures import FIRST_COMPLETED, ThreadPoolExecutor, wait
 
 ROOT = pathlib.Path(__file__).resolve().parents[1]
@@ -55,13 +55,9 @@ def say_count(passed, failed, skipped=0):
     return int(failed > 0)
 
 
-def say_told():
-    return say_count(TOLD.count(True), TOLD.count(False))
-
-
-def program_given():
-    """The program that a tool's one word names, or else ./rdfkeep."""
-    return pathlib.Path(*sys.argv[1:2] or [ROOT / "rdfkeep"]).resolve()
+say_told = lambda: say_count(TOLD.count(True), TOLD.count(False))
+# the program that a tool's one word names, or else ./rdfkeep
+program_given = lambda: pathlib.Path(*sys.argv[1:2] or [ROOT / "rdfkeep"]).resolve()
 
 
 def said(*words, folder=ROOT, **streams):
@@ -89,31 +85,26 @@ def module_of(path):
     return found
 
 
-def sums_of(paths, root=ROOT):
-    """A sum of each file, by its name below a folder."""
-    return {str(it.relative_to(root)): hashlib.sha256(it.read_bytes()).hexdigest() for it in sorted(paths) if it.is_file()}
+# a sum of each file, by its name below a folder
+sums_of = lambda paths, root=ROOT: {str(it.relative_to(root)): hashlib.sha256(it.read_bytes()).hexdigest() for it in sorted(paths) if it.is_file()}
 
 
-def rows_of(root):
-    """The libraries that each crate of crates.txt uses."""
-    rows = [line.partition("#")[0].partition(":") for line in (root / "crates.txt").read_text().split("\n")]
-    return {head.strip(): tail.split() for head, _, tail in rows if head.strip()}
+# the libraries that each crate of crates.txt uses
+rows_of = lambda root: {name: used.split() for name, used in re.findall(r"(?m)^ *(\w+) *:([^#\n]*)", (root / "crates.txt").read_text())}
 
 
 def crates_below():
     """Each crate of crates.txt by name, with those that it stands on, lowest first and itself last."""
-    uses, found = rows_of(ROOT), {}
-
-    def below(name):
-        if name not in found:
-            found[name] = list(dict.fromkeys([it for use in uses[name] if use in uses for it in below(use)] + [name]))
-        return found[name]
-
+    uses = rows_of(ROOT)
+    below = functools.lru_cache(None)(lambda name: [*dict.fromkeys(it for use in uses[name] if use in uses for it in below(use)), name])
     return {name: below(name) for name in uses}
 
 
-def lines_of(crate, root=ROOT):
-    return sum(it.read_bytes().count(b"\n") for it in (root / "crates" / crate / "src").rglob("*.rt"))
+lines_of = lambda crate, root=ROOT: sum(it.read_bytes().count(b"\n") for it in (root / "crates" / crate / "src").rglob("*.rt"))
+# the most memory that a check of a crate is likely to take, in bytes
+need = lambda crate, root=ROOT: max(2.5e9, 1.2e9 + 0.8e6 * lines_of(crate, root))
+free_memory = lambda: 1024 * int(re.search(r"MemAvailable:\s+(\d+)", pathlib.Path("/proc/meminfo").read_text())[1])
+processors = lambda: len(os.sched_getaffinity(0))
 
 
 def linked(source, to):
@@ -200,24 +191,10 @@ def library_of(name, room):
     return made
 
 
-def processors():
-    return len(os.sched_getaffinity(0))
-
-
-def free_memory():
-    return 1024 * int(re.search(r"MemAvailable:\s+(\d+)", pathlib.Path("/proc/meminfo").read_text())[1])
-
-
-def need(crate, root=ROOT):
-    """The most memory that a check of a crate is likely to take, in bytes."""
-    return max(2.5e9, 1.2e9 + 0.8e6 * lines_of(crate, root))
-
-
 def idle_seconds():
     """How long this process's processors have stood idle since the machine began, all together."""
-    own = {f"cpu{it}" for it in os.sched_getaffinity(0)}
-    rows = [line.split() for line in pathlib.Path("/proc/stat").read_text().splitlines()]
-    return sum(int(it[4]) for it in rows if it[0] in own) / os.sysconf("SC_CLK_TCK")
+    idle = dict(re.findall(r"(?m)^cpu(\d+)(?: \d+){3} (\d+)", pathlib.Path("/proc/stat").read_text()))
+    return sum(int(idle[str(it)]) for it in os.sched_getaffinity(0)) / os.sysconf("SC_CLK_TCK")
 
 
 class Spare:
@@ -268,16 +245,18 @@ def ends(main):
     for it in (signal.SIGTERM, signal.SIGHUP):
         if signal.getsignal(it) != signal.SIG_IGN:
             signal.signal(it, signal.default_int_handler)
-    said = ""
     try:
         status = main() or 0
     except SystemExit as end:
-        status, said = (1, end.code) if isinstance(end.code, str) else (end.code or 0, "")
+        status = end.code or 0
     except KeyboardInterrupt:
-        status, said = 130, f"{TOOL}: interrupted"
+        print(f"{TOOL}: interrupted", file=sys.stderr)
+        status = 130
     except BaseException:
-        status, said = 1, traceback.format_exc()
-    print(said, end="\n" if said else "", file=sys.stderr, flush=True)
+        status = traceback.format_exc()
+    if isinstance(status, str):
+        print(status, file=sys.stderr)
+        status = 1
     sys.stdout.flush()
     with contextlib.suppress(OSError):
         (COPIES / str(os.getpid())).rmdir()
