@@ -8,6 +8,10 @@ COURSES = ("alone", "lasting")
 TOLD = re.compile(r"(\d+) (\d+) (\d+)\n\Z")
 # what a run wrote, its status, and how many requests counted, how many were refused and how many bytes were asked for, or -1 where that isn't told
 Run = collections.namedtuple("Run", "output errors status counted refused asked")
+# what a program is asked; `wrong` says what is wrong of its runs, the untouched one and those with a refusal, by course and number
+Case = collections.namedtuple("Case", "name words text wrong")
+# whether a run's refusal came
+is_refused = lambda course, it: it.refused == 1 if course == "alone" else it.refused >= 1
 
 
 class Program:
@@ -26,30 +30,15 @@ class Program:
         return Run(ran.stdout, TOLD.sub("", ran.stderr), ran.returncode, *(map(int, told.groups()) if told else (-1, -1, -1)))
 
 
-class Case:
-    """What a program is asked. `wrong` says what is wrong of its runs, the untouched one and those with a refusal, by course and number."""
-
-    def __init__(self, program, name, words, text):
-        self.program, self.name, self.words, self.text = program, name, words, text
-
-    def run(self, number, course):
-        return self.program.run(self.words, self.text, number, course)
-
-
-def is_refused(course, it):
-    """Whether a run's refusal came."""
-    return it.refused == 1 if course == "alone" else it.refused >= 1
-
-
-def report(tool, cases, kind=""):
+def report(tool, program, cases, kind=""):
     """Runs each case untouched and then with its refusals, side by side, says what is wrong and how many runs passed, and returns the exit status."""
     runs, faults, counts = 0, [], []
     with ThreadPoolExecutor(processors()) as lanes:
         for case in cases:
-            untouched = case.run(0, "alone")
+            untouched = program.run(case.words, case.text)
             # (what takes no memory is run with the first refused, which doesn't come)
             numbers = range(1, max(untouched.counted, 1) + 1)
-            made = {(course, number): lanes.submit(case.run, number, course) for course in COURSES for number in numbers}
+            made = {(course, number): lanes.submit(program.run, case.words, case.text, number, course) for course in COURSES for number in numbers}
             faults += [f"{kind}{case.name}: {it}" for it in case.wrong(untouched, {key: it.result() for key, it in made.items()})]
             runs += len(made)
             counts.append(f"{case.name} {untouched.counted}")
@@ -58,9 +47,10 @@ def report(tool, cases, kind=""):
     return say_count(max(0, runs - len(faults)), len(faults))
 
 
-def over_program(tool, judge, **environment):
-    """Runs `judge (program)` over a copy of the program that the tool's one word names, and ends with its status."""
-    if len(sys.argv) != 2:
-        sys.exit(f"usage: {tool} PROGRAM")
+def over_program(tool, judge, flag="", **environment):
+    """Runs `judge (program)` over a copy of the program that the tool's one word names, beside a flag, and ends with its status."""
+    words = [it for it in sys.argv[1:] if it != flag]
+    if len(words) != 1:
+        sys.exit(f"usage: {tool} PROGRAM {flag}")
     with tempfile.TemporaryDirectory(prefix=f"{tool}-") as room:
-        sys.exit(judge(Program(sys.argv[1], room, environment)))
+        sys.exit(judge(Program(*words, room, environment)))

@@ -15,16 +15,14 @@ extern int dprintf(int file, const char *format, ...);
 static unsigned long chosen, counted, refused, asked;
 static int lasts, counts, is_over;
 
-__attribute__((constructor)) static void begin(void)
-{
+__attribute__((constructor)) static void begin(void) {
     const char *number = getenv("REFUSED");
     chosen = number ? strtoul(number, 0, 10) : 0;
     lasts = getenv("LASTING") != 0;
     counts = getenv("ALL") != 0;
 }
 
-static int is_refused(unsigned long size)
-{
+static int is_refused(unsigned long size) {
     if (size == REQUESTS_COUNT || size == MEMORY_IS_BACK) {
         counts = size == REQUESTS_COUNT;
         is_over = is_over || refused;
@@ -34,24 +32,20 @@ static int is_refused(unsigned long size)
         return 0;
     ++counted;
     asked += size;
-    if (!chosen || is_over || (lasts ? counted < chosen : counted != chosen))
-        return 0;
-    ++refused;
-    return 1;
+    int is_chosen = chosen && !is_over && (lasts ? counted >= chosen : counted == chosen);
+    refused += is_chosen;
+    return is_chosen;
 }
 
-void *malloc(unsigned long size)
-{
+void *malloc(unsigned long size) {
     return is_refused(size) ? 0 : __libc_malloc(size);
 }
 
-void *realloc(void *memory, unsigned long size)
-{
+void *realloc(void *memory, unsigned long size) {
     return is_refused(size) ? 0 : __libc_realloc(memory, size);
 }
 
 // (dprintf asks for no memory)
-__attribute__((destructor)) static void end(void)
-{
+__attribute__((destructor)) static void end(void) {
     dprintf(2, "%lu %lu %lu\n", counted, refused, asked);
 }
