@@ -17,8 +17,6 @@ ANSWER = re.compile(r"(?:.*\n)*?(?:ok(?: .*)?|refused: .*)\n")
 TOOL = pathlib.Path(sys.argv[0]).name
 # what was checked: whether it holds
 TOLD = []
-
-
 count_of = lambda passed, failed, skipped: f"{passed} passed, {failed} failed" + (f", {skipped} skipped" if skipped else "")
 sum_of = lambda *told: hashlib.sha256(repr(told).encode()).hexdigest()
 
@@ -87,8 +85,6 @@ def module_of(path):
 
 # a sum of each file, by its name below a folder
 sums_of = lambda paths, root=ROOT: {str(it.relative_to(root)): hashlib.sha256(it.read_bytes()).hexdigest() for it in sorted(paths) if it.is_file()}
-
-
 # the libraries that each crate of crates.txt uses
 rows_of = lambda root: {name: used.split() for name, used in re.findall(r"(?m)^ *(\w+) *:([^#\n]*)", (root / "crates.txt").read_text())}
 
@@ -194,7 +190,7 @@ def library_of(name, room):
 def idle_seconds():
     """How long this process's processors have stood idle since the machine began, all together."""
     idle = dict(re.findall(r"(?m)^cpu(\d+)(?: \d+){3} (\d+)", pathlib.Path("/proc/stat").read_text()))
-    return sum(int(idle[str(it)]) for it in os.sched_getaffinity(0)) / os.sysconf("SC_CLK_TCK")
+    return sum(int(idle.get(str(it), 0)) for it in os.sched_getaffinity(0)) / os.sysconf("SC_CLK_TCK")
 
 
 class Spare:

@@ -16,8 +16,6 @@ NAMES = re.compile(r"has no field|is not in scope|has no `|was not admitted|reco
 DEPENDS = re.compile(r"declarations? that depends? on ")
 WAITS = "its goals wait for a callee's proof"
 UNCOVERED = "the borrow checker does not cover this function"
-
-
 complaint = lambda said: [*re.findall(r".*error.*", said), *filter(str.strip, said.split("\n")), "nothing was said"][0][:200]
 lines_of_functions = lambda said: dict(re.findall(r"(?m)^fn (\S+): (.*)", said))
 # what is wrong in files whose names begin so
