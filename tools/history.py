@@ -30,10 +30,7 @@ class Order:
         self.commit, self.files, self.contracts = git("rev-parse", "HEAD"), collections.defaultdict(list), set()
         ended = git("log", "-1", "--format=%ct") or "0"
         before = git("rev-list", "-1", f"--before={int(ended) - LAST}", "HEAD") if self.commit else ""
-        self.read(git("diff", "-U0", "--no-color", "--no-renames", before, "--", "crates") if before else "")
-
-    def read(self, difference):
-        file = crate = ""
+        difference, file, crate = git("diff", "-U0", "--no-color", "--no-renames", before, "--", "crates") if before else "", "", ""
         for line in difference.split("\n"):
             hunk = HUNK.match(line)
             if line.startswith(("--- a/crates/", "+++ b/crates/")):
