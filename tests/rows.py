@@ -1,4 +1,5 @@
 """What `tools/self-test` tries the tools on: rows, each with what is wrong with it, texts of edits and of checks, and a small crate."""
+from shared import ROOT, module_of
 from verdicts import AT_NAMES, BAD, PROVED, REFUTED, UNPROVED, UNTRIED
 
 # cases by files, each with what is wrong with it
@@ -91,6 +92,35 @@ SAID = {
     "a law that holds": (LAW, "fn small::laws::three_is_odd: proved\n", PROVED),
     "no definition": (LAW, f"./specs/Three.antt:2:1: error: no term\n{BROKEN}{OPEN}", BAD),
 }
+
+# ---- runs of a repository of one crate, with a toolchain that only says what a check would
+
+KIT = (ROOT / "tests" / "kit.py").read_text()
+PASSES = "#!/bin/sh\necho '1 passed, 0 failed'\n"
+PARTS = module_of(ROOT / "tools" / "test-all").PARTS
+LEAST = "# each\n" + "".join(f"{it} 1  # so many\n" for it in PARTS)
+STRAY = "crates/small/must-fail/stray"
+# what is shown of a run: the files that are written before, the words, what the kit is asked, the status, and what is said
+RUNS = [
+    ({}, "", "", 0, {"all parts pass, in a home that can't be entered": r"\n17 passed, 0 failed\Z", "a line says how many it judged": "4 of 4 wrong bodies"}),
+    ({}, "--minutes 0 --anew", "", 0, {"no wrong body begins past the time": r"\n13 passed, 0 failed, 4 skipped\Z"}),
+    ({}, "--anew", "anew", 1, {"a kit that can begin anew is asked to": "(?m)^proofs: anew, 0 passed$"}),
+    (
+        {}, "--anew", "names", 1,
+        {"names of answers alone fail": r"\n16 passed, 1 failed\Z", "and are named": r"(?m)^wrong bodies: wrong-bodies \[\S+ small/e0\.edit: names alone: "},
+    ),
+    (
+        {}, "--anew --end 0.1", "stalls", 1,
+        {"rt ci is ended, and what stalls is named": r"(?m)^proofs: rt: .* NOT PROVED: at work on small; not proved yet: small$"},
+    ),
+    ({STRAY: ""}, "", "", 1, {"a stray file among the edits fails": "stray: bad"}),
+    (
+        {STRAY: None, "tests/least": LEAST.replace("models 1", "models 2")}, "--minutes 0", "", 1,
+        {"a part that counts too few fails": "(?m)^models: it counts 1, and tests/least has 2 for it$"},
+    ),
+    ({"tests/least": LEAST.replace("proofs 1", "")}, "--minutes 0", "", 1, {"a part without a least number fails": "proofs: it counts 3, and .* has inf"}),
+    ({"tests/least": LEAST}, "--anew --minutes 0", "changes", 1, {"a tree that changes fails": "(?m)^README.md changed while the tree was judged$"}),
+]
 
 # ---- a small crate
 
