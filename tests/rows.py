@@ -1,4 +1,7 @@
 """What `tools/self-test` tries the tools on: rows, each with what is wrong with it, texts of edits and of checks, and a small crate."""
+import re
+
+from counted import Run
 from shared import ROOT, module_of
 from verdicts import AT_NAMES, BAD, PROVED, REFUTED, UNPROVED, UNTRIED
 
@@ -42,6 +45,35 @@ SPARES = {
     "no processor idle": (0.5, 9e9, False, False),
     "little memory": (1.0, 5e9, False, False),
     "nothing beside it": (0.0, 1e9, True, True),
+}
+# a tool, what it is asked, an untouched run, one with a request refused alone and one with all from it on, and how much is wrong with them
+LINE, TWO = "a part, 2 places: 1\n", '<a:s> <a:p> "1" .\n<a:s> <a:p> "2" .\n'
+PART, LINES = ["a part: 1\n"], [None, (), "lines"]
+run = lambda output, refused=1, status=0, errors="": Run(output, errors, status, 1, refused, 8)
+ENDED = run(TWO[:18], 1, 4, "rdfkeep: no memory\n")
+MISSED = run(4 * "ok\n" + "refused: NoMemory\n" + 6 * "ok\n", 1, 1)
+
+
+class Sessions:
+    """A program that answers each command of a session so."""
+
+    run = staticmethod(lambda _, text: run("ok\n" * len(re.findall("(?m)^%(?!end)", text))))
+
+
+SESSION = [Sessions, (), "answers"]
+GROWTHS = {
+    "nothing of a part": ("fail-alloc", PART, run(PART[0], 0), run(PART[0]), run(PART[0], 2), 0),
+    "the answer of a part": ("fail-alloc", PART, run(PART[0], 0), run("a part: 2\n"), run(PART[0]), 1),
+    "a refusal that doesn't come": ("fail-alloc", PART, run(PART[0], 0), run(PART[0], 0), run(PART[0], 0), 2),
+    "the end of a part": ("fail-alloc", PART, run(PART[0], 0), run(PART[0], 1, 1), run(PART[0]), 1),
+    "a place": ("fail-alloc", [LINE], run(LINE, 0), run(LINE.strip() + ", refused at 1\n"), run(LINE.strip() + ", refused at 2\n"), 2),
+    "nothing of lines": ("fail-program", LINES, run(TWO, 0), ENDED, ENDED, 0),
+    "half a line": ("fail-program", LINES, run(TWO, 0), ENDED._replace(output=TWO[:20]), ENDED, 1),
+    "what isn't said of memory": ("fail-program", LINES, run(TWO, 0), ENDED, ENDED._replace(errors=""), 1),
+    "the status, which is none of a refusal": ("fail-program", LINES, run(TWO, 0), run(TWO), run(TWO), 1),
+    "nothing of a session": ("fail-program", SESSION, run(11 * "ok\n", 0), MISSED, ENDED._replace(output=3 * "ok\n"), 0),
+    "a session behind a refusal": ("fail-program", SESSION, run(11 * "ok\n", 0), MISSED._replace(output=MISSED.output.replace("ok", "no", 1)), ENDED, 2),
+    "the end of a session": ("fail-program", SESSION, run(11 * "ok\n", 0), MISSED, ENDED._replace(output=3 * "ok\n", status=1), 2),
 }
 
 # ---- edits, and what checks say of them

@@ -43,14 +43,13 @@ def verdict(edit, own, lines, failures, said):
     if edit.is_definition:
         # a law fails by its lemmas, on which its answers depend
         errors = [it for it in errors_in("proofs/", said) if not DEPENDS.search(it)] or errors
-    names = {it.name for it in edit.functions}
     # (or a callee of its cycle isn't covered)
     unclear = [it for it in own if "could not tell" in failures[it] or failures[it].startswith("no proof") and "did not prove" not in failures[it]]
     if edit.is_definition and errors_in("specs/", said):
         return BAD, "the definition that it leaves is none"
     if not all(s in lines for s in edit.symbols):
         return UNTRIED, "the check has no line of this function"
-    if any(UNCOVERED in failures[it] and it.rpartition("::")[2] in names for it in own):
+    if any(UNCOVERED in failures[it] and any(it.endswith(f"::{of.name}") for of in edit.functions) for it in own):
         return BAD, "no goal is tried of a body in this form, which the borrow checker does not cover"
     if unclear:
         return UNTRIED, f"{unclear[0]}: {failures[unclear[0]]}"
