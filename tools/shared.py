@@ -246,12 +246,12 @@ def ends(main):
     except SystemExit as end:
         status = end.code or 0
     except KeyboardInterrupt:
-        print(f"{TOOL}: interrupted", file=sys.stderr)
+        print(f"{TOOL}: interrupted", file=sys.stderr, flush=True)
         status = 130
     except BaseException:
         status = traceback.format_exc()
     if isinstance(status, str):
-        print(status, file=sys.stderr)
+        print(status, file=sys.stderr, flush=True)
         status = 1
     sys.stdout.flush()
     with contextlib.suppress(OSError):
