@@ -8,7 +8,7 @@ from verdicts import AT_NAMES, BAD, PROVED, REFUTED, UNPROVED, UNTRIED
 # cases by files, each with what is wrong with it
 CASE = "== one\n-- args run\n"
 TABLES = {
-    "nothing": {"a.table": CASE, "least": "", "c.py": ""},
+    "nothing": {"a.table": f"{CASE}== two\n-- args ⟨FF⟩\n", "least": "", "c.py": ""},
     "an unknown key": {"a.table": f"{CASE}-- stdot x\n"},
     "an unknown device": {"a.table": f"{CASE}-- device ful\n"},
     "a device without its number": {"a.table": f"{CASE}-- device pieces\n"},
