@@ -51,6 +51,6 @@ def over_program(tool, judge, flag="", **environment):
     """Runs `judge (program)` over a copy of the program that the tool's one word names, beside a flag, and ends with its status."""
     words = [it for it in sys.argv[1:] if it != flag]
     if len(words) != 1:
-        sys.exit(f"usage: {tool} PROGRAM {flag}")
+        sys.exit(f"usage: {tool} PROGRAM" + (f" [{flag}]" if flag else ""))
     with tempfile.TemporaryDirectory(prefix=f"{tool}-") as room:
         sys.exit(judge(Program(*words, room, environment)))
