@@ -14,23 +14,24 @@ import sys
 import tempfile
 
 ROOT = pathlib.Path(__file__).resolve().parent.parent
-sys.path.insert(0, str(ROOT / "tools"))
-from shared import ANSWER, module_of, say_count
+sys.path[:0] = [str(ROOT / "tools"), str(ROOT / "tests")]
+import model
+import model_texts
+from shared import ANSWER, say_count
 
-models = module_of(ROOT / "tools" / "compare-models")
 QUERIES, UPDATES, EACH, SHOWN = 60, 60, 120, 5
-models.LITERALS[:] = [*map(models.number, (1, "01", 2))]
-models.VALUES[:] = [*map(models.number, (0, -3, "+2"))]
+model_texts.LITERALS[:] = [*map(model_texts.number, (1, "01", 2))]
+model_texts.VALUES[:] = [*map(model_texts.number, (0, -3, "+2"))]
 OF_TERMS = ("+", "-", "*")
 OTHERWISE = ("{ FILTER", "{  }", "COPY", "MOVE", "ADD ", "WITH <a:", "CLEAR")
 
 
-class Draw(models.Draw):
+class Draw(model_texts.Draw):
     """Updates that make no blank node, and operators that are asked of numbers and of nodes."""
 
     def operand(self, depth):
         found = super().operand(depth)
-        return found if models.is_simple(found) or found[0] in OF_TERMS else self.variable()
+        return found if model.is_simple(found) or found[0] in OF_TERMS else self.variable()
 
     def data(self, has_labels):
         return super().data(False)
@@ -40,9 +41,9 @@ class Draw(models.Draw):
 
 
 def quads_of(draw, count):
-    node = lambda: draw.among(*models.NODES, *models.GRAPHS[:2])
-    place = lambda: draw.among(models.DEFAULT, models.DEFAULT, *models.GRAPHS[:2])
-    return [(place(), node(), draw.among(*models.PREDICATES), node() if draw.chance(0.8) else draw.term()) for _ in range(count)]
+    node = lambda: draw.among(*model_texts.NODES, *model_texts.GRAPHS[:2])
+    place = lambda: draw.among(model_texts.DEFAULT, model_texts.DEFAULT, *model_texts.GRAPHS[:2])
+    return [(place(), node(), draw.among(*model_texts.PREDICATES), node() if draw.chance(0.8) else draw.term()) for _ in range(count)]
 
 
 def drawn(make, text_of, result_of):
@@ -53,7 +54,7 @@ def drawn(make, text_of, result_of):
         try:
             if not any(it in text for it in OTHERWISE) and not isinstance(result_of(found), str):
                 return text
-        except models.Crowded:
+        except model.Crowded:
             pass
 
 
@@ -62,9 +63,9 @@ def queries(seed):
     draw = Draw(f"{seed} queries", True)
     draw.variables = draw.among("abc", "abcd", "abcdefgh")
     quads, depth = quads_of(draw, draw.among(24, 50)), draw.among(2, 3)
-    state = models.act(models.EMPTY, ("INSERT DATA", False, quads))
+    state = model.act(model.EMPTY, ("INSERT DATA", False, quads))
     group = lambda: draw.group(depth, draw.chance(0.7))
-    texts = [drawn(group, models.group_text, lambda it: models.solutions(state, models.DEFAULT, it)) for _ in range(EACH)]
+    texts = [drawn(group, model.group_text, lambda it: model.solutions(state, model_texts.DEFAULT, it)) for _ in range(EACH)]
     columns = lambda: " ".join(sorted({draw.variable() for _ in range(4)}))
     return state.quads, [f"ASK {it}" if draw.chance(0.1) else f"SELECT {'DISTINCT ' * draw.chance(0.3)}{columns()} WHERE {it}" for it in texts]
 
@@ -72,15 +73,9 @@ def queries(seed):
 def updates(seed):
     """A dataset and updates of it."""
     draw = Draw(f"{seed} updates", True)
-    state = models.act(models.EMPTY, ("INSERT DATA", False, quads_of(draw, 30)))
-
-    def left(operations):
-        found = state
-        for it in operations:
-            found = found if isinstance(found, str) else models.act(found, it)
-        return found
-
-    make, text_of = lambda: draw.some(1, 3, draw.operation), lambda it: " ; ".join(map(models.operation_text, it))
+    state = model.act(model.EMPTY, ("INSERT DATA", False, quads_of(draw, 30)))
+    left = lambda operations: model.made(state, operations)
+    make, text_of = lambda: draw.some(1, 3, draw.operation), lambda it: " ; ".join(map(model.operation_text, it))
     return state.quads, [drawn(make, text_of, left) for _ in range(EACH // 2)]
 
 
@@ -118,7 +113,7 @@ def main():
         sys.exit(__doc__)
     program, seed = str(pathlib.Path(sys.argv[1]).resolve()), sys.argv[2] if len(sys.argv) == 3 else "1"
     made = [queries(f"{seed} {it}") for it in range(QUERIES)] + [updates(f"{seed} {it}") for it in range(UPDATES)]
-    asked = [("".join(models.quad_line(it) + "\n" for it in sorted(quads)), texts) for quads, texts in made]
+    asked = [("".join(model.quad_line(it) + "\n" for it in sorted(quads)), texts) for quads, texts in made]
     others, passed, failed, with_rows = other_answers(asked), 0, 0, 0
     for lines, texts in asked:
         for text, own in zip(texts, own_answers(program, lines, texts)):

@@ -2,20 +2,24 @@
 import collections, pathlib, re, shutil, subprocess, sys, tempfile
 from concurrent.futures import ThreadPoolExecutor
 
-from shared import library_of, processors, say_count
+from shared import ROOT, TOOL, processors, rt, say_count
 
 COURSES = ("alone", "lasting")
 TOLD = re.compile(r"(\d+) (\d+) (\d+)\n\Z")
 # what a run wrote, its status, and how many requests counted, how many were refused and how many bytes were asked for, or -1 where that isn't told
 Run = collections.namedtuple("Run", "output errors status counted refused asked")
+# what a program is asked; `wrong` says what is wrong of its runs, the untouched one and those with a refusal, by course and number
+Case = collections.namedtuple("Case", "name words text wrong")
 
 
 class Program:
     """A copy of a program, since rt ci may build it anew, in a folder of its own."""
 
     def __init__(self, path, room, environment):
-        self.path, self.room = shutil.copy2(path, room), pathlib.Path(room)
-        self.environment = {"LD_PRELOAD": str(library_of("refuse", room)), **environment}
+        self.path, self.room, library = shutil.copy2(path, room), pathlib.Path(room), pathlib.Path(room, "refuse.so")
+        clang = pathlib.Path(shutil.which(*rt())).resolve().parents[1] / "toolchain/bin/clang"
+        subprocess.run([clang, "-O1", "-shared", "-fPIC", "-nostdlib", "-fuse-ld=lld", "-o", library, ROOT / "tools/refuse.c"], check=True)
+        self.environment = {"LD_PRELOAD": str(library), **environment}
 
     def run(self, words=(), text="", number=0, course="alone", folder=None):
         """A run with a request refused, or with none, where the number is 0, in this folder, or in its own."""
@@ -26,41 +30,30 @@ class Program:
         return Run(ran.stdout, TOLD.sub("", ran.stderr), ran.returncode, *(map(int, told.groups()) if told else (-1, -1, -1)))
 
 
-class Case:
-    """What a program is asked. `wrong` says what is wrong of its runs, the untouched one and those with a refusal, by course and number."""
-
-    def __init__(self, program, name, words, text):
-        self.program, self.name, self.words, self.text = program, name, words, text
-
-    def run(self, number, course):
-        return self.program.run(self.words, self.text, number, course)
-
-
 def is_refused(course, it):
     """Whether a run's refusal came."""
     return it.refused == 1 if course == "alone" else it.refused >= 1
 
 
-def report(tool, cases, kind=""):
+def report(tool, program, cases, kind=""):
     """Runs each case untouched and then with its refusals, side by side, says what is wrong and how many runs passed, and returns the exit status."""
     runs, faults, counts = 0, [], []
     with ThreadPoolExecutor(processors()) as lanes:
-        for case in cases:
-            untouched = case.run(0, "alone")
+        for name, words, text, wrong in cases:
+            untouched = program.run(words, text)
             # (what takes no memory is run with the first refused, which doesn't come)
             numbers = range(1, max(untouched.counted, 1) + 1)
-            made = {(course, number): lanes.submit(case.run, number, course) for course in COURSES for number in numbers}
-            faults += [f"{kind}{case.name}: {it}" for it in case.wrong(untouched, {key: it.result() for key, it in made.items()})]
+            made = {(course, number): lanes.submit(program.run, words, text, number, course) for course in COURSES for number in numbers}
+            faults += [f"{kind}{name}: {it}" for it in wrong(untouched, {key: it.result() for key, it in made.items()})]
             runs += len(made)
-            counts.append(f"{case.name} {untouched.counted}")
+            counts.append(f"{name} {untouched.counted}")
     for it in [*faults, f"requests refused in turn, alone and lasting: {', '.join(counts)}; {f'{len(faults)} faults' if faults else 'all survived'}"]:
         print(f"{tool}: {it}")
     return say_count(max(0, runs - len(faults)), len(faults))
 
 
-def over_program(tool, judge, **environment):
-    """Runs `judge (program)` over a copy of the program that the tool's one word names, and ends with its status."""
-    if len(sys.argv) != 2:
-        sys.exit(f"usage: {tool} PROGRAM")
-    with tempfile.TemporaryDirectory(prefix=f"{tool}-") as room:
-        sys.exit(judge(Program(sys.argv[1], room, environment)))
+def over_program(parser, judge, **environment):
+    """Runs `judge (program, given)` over a copy of the program that the tool's words name, and ends with its status."""
+    given = parser.parse_args()
+    with tempfile.TemporaryDirectory(prefix=f"{TOOL}-") as room:
+        sys.exit(judge(Program(given.program, room, environment), given))

@@ -79,6 +79,10 @@ class Edit:
         # what a check calls the first of them, whether its answers may be marked, and the goals that it leaves open
         self.at, self.may_be_marked, self.open = "", not self.is_definition, {}
 
+    def is_apart(self, other):
+        """Whether no check has both edits."""
+        return self.alone or other.alone or bool(self.keys & other.keys)
+
     def read(self, folder):
         """The files that it changes, each as it was and as it becomes."""
         texts, file, old = {}, "", ""
@@ -128,20 +132,17 @@ class Edit:
         own = [it.split("::", 1)[1].replace("::", "/") for it in self.symbols]
         return sorted({f"{it.rpartition('/')[0]}/+{cycle}".lstrip("/") for it in own for _, cycle in self.cycles} if self.cycles else {*own})
 
-    def is_marked(self, folder):
-        """Whether its functions' answers are marked: not where one has a proof by hand, which has no goals."""
-        return self.may_be_marked and not any((folder / "proofs" / it / "Proof.antt").is_file() for it in self.folders())
-
     def write(self, folder):
-        """Makes the edit in a copy of the crate, and marks the answers of its functions."""
+        """Makes the edit in a copy of the crate, and marks the answers of its functions, unless one has a proof by hand, which has no goals."""
         for file in {file for file, _ in self.lines}:
             lines = (folder / file).read_text().split("\n")
             (folder / file).write_text("\n".join(self.lines.get((file, number), line) for number, line in enumerate(lines)))
-        for it in self.folders() if self.is_marked(folder) else ():
-            at = folder / "proofs" / it / "Answers.antt"
-            at.parent.mkdir(parents=True, exist_ok=True)
-            text = at.read_text() if at.is_file() else ""
-            at.write_text(self.marked(text, f"Rattle.{folder.name}.proofs.{it.replace('/', '.')}.Goals"))
+        answers = {it: folder / "proofs" / it / "Answers.antt" for it in self.folders()}
+        if self.may_be_marked and not any(at.with_name("Proof.antt").is_file() for at in answers.values()):
+            for it, at in answers.items():
+                at.parent.mkdir(parents=True, exist_ok=True)
+                text = at.read_text() if at.is_file() else ""
+                at.write_text(self.marked(text, f"Rattle.{folder.name}.proofs.{it.replace('/', '.')}.Goals"))
 
     def marked(self, text, module):
         """Answers to the goals of a module with the mark. What need not be tried is answered by what antt refuses."""

@@ -1,7 +1,7 @@
 """In which order wrong bodies are judged: what changed last by the repository's history, then the others, drawn anew by each commit."""
-import collections, hashlib, os, re, shutil, subprocess
+import collections, hashlib, os, re, shutil
 
-from shared import ROOT
+from shared import ROOT, said
 
 # how long before the last commit a change counts as one of the last, in seconds
 LAST = 12 * 3600
@@ -11,11 +11,9 @@ CLAUSE = re.compile(r"[-+].*\b(ensures|requires)\b")
 
 def git(*words):
     """What git says, and nothing where it fails, as in a folder without a history. It needs no home."""
-    if not shutil.which("git"):
-        return ""
     environment = {**os.environ, "HOME": str(ROOT), "GIT_CONFIG_NOSYSTEM": "1"}
-    ran = subprocess.run(["git", "-c", "safe.directory=*", *words], cwd=ROOT, env=environment, stdout=subprocess.PIPE, stderr=subprocess.DEVNULL)
-    return ran.stdout.decode(errors="replace").strip() if ran.returncode == 0 else ""
+    text, is_well = said("git", "-c", "safe.directory=*", *words, folder=ROOT, env=environment, timeout=None) if shutil.which("git") else ("", False)
+    return text.strip() if is_well else ""
 
 
 def commit():

@@ -2,7 +2,7 @@
 // and with LASTING each later one too, until memory is back. As the program ends it writes to its standard error how many requests
 // counted, how many of them were refused, and how many bytes they asked for.
 //
-// A program tells by requests of two sizes that no other request has (crates/refusals/src/signs.rt has them too) from where on
+// A program tells by requests of two sizes that no other request has (crates/told_parts/src/signs.rt has them too) from where on
 // requests count, and that memory is back, from where on none does. With ALL each counts, from the program's start on.
 enum { REQUESTS_COUNT = 7340033, MEMORY_IS_BACK = 7340035 };
 
@@ -34,10 +34,9 @@ static int is_refused(unsigned long size)
         return 0;
     ++counted;
     asked += size;
-    if (!chosen || is_over || (lasts ? counted < chosen : counted != chosen))
-        return 0;
-    ++refused;
-    return 1;
+    int is_chosen = chosen && !is_over && (lasts ? counted >= chosen : counted == chosen);
+    refused += is_chosen;
+    return is_chosen;
 }
 
 void *malloc(unsigned long size)

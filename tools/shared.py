@@ -1,10 +1,12 @@
 """What the tools of this folder share: the crates, copies of the repository, commands and their processor time, tasks side by side."""
-import argparse, collections, contextlib, hashlib, importlib.machinery, importlib.util, math, os, pathlib, re, shutil, signal, subprocess, sys, tempfile
-import threading, time, traceback
+import argparse, collections, contextlib, functools, hashlib, importlib.machinery, importlib.util, math, os, pathlib, re, shutil, signal, subprocess, sys
+import tempfile, threading, time, traceback
 from concurrent.futures import FIRST_COMPLETED, ThreadPoolExecutor, wait
 
 ROOT = pathlib.Path(__file__).resolve().parents[1]
 KEPT = ("out/rlib", "out/incremental")
+# what tools ask, and what the self-test tries them on, stands beside the cases
+sys.path.append(str(ROOT / "tests"))
 # copies stand beside what they link to, wherever /tmp is: those of each process in a folder of its own
 COPIES = ROOT / "out" / "copies"
 # has a command end where what waits for it does, however that ends
@@ -19,8 +21,14 @@ TOOL = pathlib.Path(sys.argv[0]).name
 TOLD = []
 
 
-count_of = lambda passed, failed, skipped: f"{passed} passed, {failed} failed" + (f", {skipped} skipped" if skipped else "")
-sum_of = lambda *told: hashlib.sha256(repr(told).encode()).hexdigest()
+def count_of(passed, failed, skipped):
+    """The last line of a tool."""
+    return f"{passed} passed, {failed} failed" + (f", {skipped} skipped" if skipped else "")
+
+
+def sum_of(*told):
+    """A sum of all that is told."""
+    return hashlib.sha256(repr(told).encode()).hexdigest()
 
 
 def check(what, holds, *shown):
@@ -38,11 +46,12 @@ def is_there(what, *programs):
     return not lost
 
 
-def reader(about, many=None, **options):
-    """What reads a tool's words: many of a name, as ("crates", "*"), and options, each with what argparse is told of it, or its default, or None for a flag."""
+def reader(about, *words, **options):
+    """What reads a tool's words: `program`, or `seed?` where it may be left out, or `crates*` for any number, and options, each with what argparse is told
+    of it, or its default, or None for a flag."""
     parser = argparse.ArgumentParser(description=about, formatter_class=argparse.RawDescriptionHelpFormatter)
-    if many:
-        parser.add_argument(many[0], nargs=many[1], metavar=many[0][:-1].upper())
+    for name, count in (re.fullmatch("(.*?)([?*]?)", it).groups() for it in words):
+        parser.add_argument(name, nargs=count or None, metavar=name.rstrip("s").upper())
     for name, told in options.items():
         told = {"action": "store_true"} if told is None else told if isinstance(told, dict) else {"type": type(told), "default": told}
         parser.add_argument(f"--{name}", **told)
@@ -56,12 +65,13 @@ def say_count(passed, failed, skipped=0):
 
 
 def say_told():
+    """Says how much of what was checked holds, and returns the exit status."""
     return say_count(TOLD.count(True), TOLD.count(False))
 
 
-def program_given():
+def program_given(about):
     """The program that a tool's one word names, or else ./rdfkeep."""
-    return pathlib.Path(*sys.argv[1:2] or [ROOT / "rdfkeep"]).resolve()
+    return pathlib.Path(reader(about, "program?").parse_args().program or ROOT / "rdfkeep").resolve()
 
 
 def said(*words, folder=ROOT, **streams):
@@ -96,23 +106,23 @@ def sums_of(paths, root=ROOT):
 
 def rows_of(root):
     """The libraries that each crate of crates.txt uses."""
-    rows = [line.partition("#")[0].partition(":") for line in (root / "crates.txt").read_text().split("\n")]
-    return {head.strip(): tail.split() for head, _, tail in rows if head.strip()}
+    rows = re.findall(r"(?m)^ *(\w+) *:([^#\n]*)", (root / "crates.txt").read_text())
+    return {name: uses.split() for name, uses in rows}
 
 
 def crates_below():
     """Each crate of crates.txt by name, with those that it stands on, lowest first and itself last."""
-    uses, found = rows_of(ROOT), {}
+    uses = rows_of(ROOT)
 
+    @functools.lru_cache(None)
     def below(name):
-        if name not in found:
-            found[name] = list(dict.fromkeys([it for use in uses[name] if use in uses for it in below(use)] + [name]))
-        return found[name]
+        return [*dict.fromkeys(it for use in uses[name] if use in uses for it in below(use)), name]
 
     return {name: below(name) for name in uses}
 
 
 def lines_of(crate, root=ROOT):
+    """How many lines of code a crate has."""
     return sum(it.read_bytes().count(b"\n") for it in (root / "crates" / crate / "src").rglob("*.rt"))
 
 
@@ -192,19 +202,13 @@ def rt(*words):
     return [RT, *words]
 
 
-def library_of(name, room):
-    """A C file of this folder as a library in the folder `room`, made by the toolchain's clang."""
-    kit, made = pathlib.Path(shutil.which(*rt())).resolve().parents[1], pathlib.Path(room, f"{name}.so")
-    words = [kit / "toolchain/bin/clang", "-O1", "-shared", "-fPIC", "-nostdlib", "-fuse-ld=lld", "-o", made, ROOT / f"tools/{name}.c"]
-    subprocess.run(words, check=True)
-    return made
-
-
 def processors():
+    """How many processors this process may use."""
     return len(os.sched_getaffinity(0))
 
 
 def free_memory():
+    """How much memory can be had, in bytes."""
     return 1024 * int(re.search(r"MemAvailable:\s+(\d+)", pathlib.Path("/proc/meminfo").read_text())[1])
 
 
@@ -215,9 +219,8 @@ def need(crate, root=ROOT):
 
 def idle_seconds():
     """How long this process's processors have stood idle since the machine began, all together."""
-    own = {f"cpu{it}" for it in os.sched_getaffinity(0)}
-    rows = [line.split() for line in pathlib.Path("/proc/stat").read_text().splitlines()]
-    return sum(int(it[4]) for it in rows if it[0] in own) / os.sysconf("SC_CLK_TCK")
+    idle = dict(re.findall(r"(?m)^cpu(\d+)(?: \d+){3} (\d+)", pathlib.Path("/proc/stat").read_text()))
+    return sum(int(idle.get(str(it), 0)) for it in os.sched_getaffinity(0)) / os.sysconf("SC_CLK_TCK")
 
 
 class Spare:
@@ -240,10 +243,10 @@ class Spare:
         return watched < 3 * self.SECONDS and idle >= 0.9 * watched
 
 
-def side_by_side(coming, lanes, may_begin=lambda left: True):
-    """Runs tasks, as many as there are lanes and free memory, the least order first: those that a call gives, until it gives None, and what tasks return.
-    `may_begin` is told of each how much memory it would leave free."""
-    pool, tasks, running, more = ThreadPoolExecutor(lanes), [], {}, []
+def side_by_side(tasks, lanes, coming=lambda: None, may_begin=lambda left: True):
+    """Runs tasks, as many as there are lanes and free memory, the least order first, those that they return, and those that `coming` gives until it gives
+    None. `may_begin` is told of each how much memory it would leave free."""
+    pool, running, more = ThreadPoolExecutor(lanes), {}, []
     while tasks or running or more is not None:
         more = coming() if more is not None else None
         tasks = sorted([*tasks, *(more or [])], key=lambda it: it.order)
@@ -268,17 +271,19 @@ def ends(main):
     for it in (signal.SIGTERM, signal.SIGHUP):
         if signal.getsignal(it) != signal.SIG_IGN:
             signal.signal(it, signal.default_int_handler)
-    said = ""
     try:
         status = main() or 0
     except SystemExit as end:
-        status, said = (1, end.code) if isinstance(end.code, str) else (end.code or 0, "")
+        status = end.code or 0
     except KeyboardInterrupt:
-        status, said = 130, f"{TOOL}: interrupted"
+        status = 130
+        print(f"{TOOL}: interrupted", file=sys.stderr)
     except BaseException:
-        status, said = 1, traceback.format_exc()
-    print(said, end="\n" if said else "", file=sys.stderr, flush=True)
+        status = traceback.format_exc()
+    if isinstance(status, str):
+        print(status, file=sys.stderr)
     sys.stdout.flush()
     with contextlib.suppress(OSError):
         (COPIES / str(os.getpid())).rmdir()
-    os._exit(status)
+    sys.stderr.flush()
+    os._exit(status if isinstance(status, int) else 1)

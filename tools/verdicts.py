@@ -18,10 +18,19 @@ WAITS = "its goals wait for a callee's proof"
 UNCOVERED = "the borrow checker does not cover this function"
 
 
-complaint = lambda said: [*re.findall(r".*error.*", said), *filter(str.strip, said.split("\n")), "nothing was said"][0][:200]
-lines_of_functions = lambda said: dict(re.findall(r"(?m)^fn (\S+): (.*)", said))
-# what is wrong in files whose names begin so
-errors_in = lambda place, said: re.findall(rf"(?m)^(?:\./)?{place}\S*: error(?:: )?(.*)", said)
+def complaint(said):
+    """The line that says best why a check says nothing of proofs."""
+    return [*re.findall(r".*error.*", said), *filter(str.strip, said.split("\n")), "nothing was said"][0][:200]
+
+
+def lines_of_functions(said):
+    """What a check says of each function, by name."""
+    return dict(re.findall(r"(?m)^fn (\S+): (.*)", said))
+
+
+def errors_in(place, said):
+    """What is wrong in files whose names begin so."""
+    return re.findall(rf"(?m)^(?:\./)?{place}\S*: error(?:: )?(.*)", said)
 
 
 def verdicts(batch, said):
@@ -72,7 +81,7 @@ def verdict(edit, own, lines, failures, said):
 
 def open_goals(edit, own, failures, said):
     """The goals of an edit's functions that a check leaves open, each with what it says of it, and the errors at their answers."""
-    found, errors, names = {}, [], {it.name for it in edit.functions}
+    found, names = {}, {it.name for it in edit.functions}
     for file, line, goal, rest in NOTE.findall(said):
         if any(it.file == file and it.first < int(line) <= it.last + 1 for it in edit.functions):
             found.setdefault(goal, rest)
@@ -80,15 +89,12 @@ def open_goals(edit, own, failures, said):
     answers = errors_in(rf"proofs/(?:{folders})/(?:Answers|Invariants|Proof)\.antt", said)
     named = [((re.findall(r"\A`(\S+?)`: ", text) or [""])[0], text) for text in answers]
     named += [(goal, "") for it in own for goal in re.findall(r"`(\S+?)`", failures[it].partition("did not prove")[2])]
+    # (the goals of a cycle of calls begin with the name of the function whose body asks for them)
+    named = [it for it in named if it[0] not in (REFUSED, *edit.beside) and (not edit.cycles or it[0].partition("-")[0] in names)]
     for goal, text in named:
-        # the goals of a cycle of calls begin with the name of the function whose body asks for them
-        if goal in (REFUSED, *edit.beside) or edit.cycles and goal.partition("-")[0] not in names:
-            continue
-        if goal:
-            found.setdefault(goal, text)
-        if text:
-            errors.append(text)
-    return found, errors
+        found.setdefault(goal, text)
+    found.pop("", None)
+    return found, [text for _, text in named if text]
 
 
 def failure(symbol, line, said):

@@ -4,10 +4,10 @@
 ghost use Rattle.std.specs.Prelude.{◌≡◌, ℕ, IsTrue, IfSome, MatchBool};
 ghost use Rattle.rdf_dataset.specs.State.{IsTermBelow, IsQuadBelow, Begins, Ends};
 
-use crate::signs::{memory_is_back, requests_count};
 use rdf_dataset::{Dataset, Net, Source, Staged};
 use rdf_terms::{GraphName, Iri, Quad, Term};
 use std::alloc::Global;
+use told_parts::{memory_is_back, requests_count};
 
 // A graph of two quads, and the number of the next blank node where it is there.
 #[derive(Clone, Copy)]
@@ -58,73 +58,104 @@ impl Asked {
 /// Whether a commit and a revert that are refused leave quads, names and counter, and do what they
 /// should when they are made again.
 pub fn outcome(alloc: Global) -> &'static str {
-    match session(alloc) {
-        Some(true) => "datasets: as without a refusal",
-        _ => "datasets: changed by a refusal",
+    requests_count(alloc);
+    if is_kept(alloc) {
+        "datasets: as without a refusal"
+    } else {
+        "datasets: changed by a refusal"
     }
 }
 
-fn session(alloc: Global) -> Option<bool> {
-    requests_count(alloc);
-    let questions = match Questions::new(alloc) {
+fn is_kept(alloc: Global) -> bool {
+    match made(alloc) {
+        Some(questions) => is_answered(&questions),
+        None => false,
+    }
+}
+
+// What is asked, made again where that is refused.
+fn made(alloc: Global) -> Option<Questions> {
+    match Questions::new(alloc) {
         None => {
             memory_is_back(alloc);
-            Questions::new(alloc)?
+            Questions::new(alloc)
         }
-        Some(questions) => questions,
-    };
-    match begun(alloc) {
-        Some(both) => Some(survives(both, &questions)),
+        made => made,
+    }
+}
+
+fn is_answered(questions: &Questions) -> bool {
+    match attempt(questions) {
+        Some(is_right) => is_right,
         None => {
-            memory_is_back(alloc);
-            Some(survives(begun(alloc)?, &questions))
+            memory_is_back(questions.alloc);
+            attempt(questions) == Some(true)
         }
+    }
+}
+
+// Whether all is answered as it should be; nothing where the dataset or the net isn't made.
+fn attempt(questions: &Questions) -> Option<bool> {
+    let mut dataset = Dataset::new(questions.alloc);
+    match begun(questions.alloc, &mut dataset) {
+        Some(net) => Some(survives(&mut dataset, &net, questions)),
+        None => None,
     }
 }
 
 // Whether the net leads the dataset there and back.
-fn survives(both: (Dataset, Net), questions: &Questions) -> bool
-    requires { Begins both.1 both.0 }
+fn survives(dataset: &mut Dataset, net: &Net, questions: &Questions) -> bool
+    requires { Begins net.now dataset.old }
 {
-    let (mut dataset, net) = both;
-    if !questions.at_front(&dataset) {
+    if !questions.at_front(dataset) {
         return false;
     }
-    if !goes(&mut dataset, &net, questions) {
+    if !goes(dataset, net, questions) {
         return false;
     }
-    if !questions.at_back(&dataset) {
+    if !questions.at_back(dataset) {
         return false;
     }
-    comes_back(&mut dataset, &net, questions) && questions.at_front(&dataset)
+    comes_back(dataset, net, questions) && questions.at_front(dataset)
 }
 
-// The dataset at the front, and the net from there to the back.
-pub fn begun(alloc: Global) -> Option<(Dataset, Net)>
-    ensures { IfSome result (λ both. Begins both.1 both.0) }
+/// Brings an empty dataset to the front, and gives the net from there to the back.
+pub fn begun(alloc: Global, dataset: &mut Dataset) -> Option<Net>
+    ensures { IfSome result (λ net. Begins net dataset.new) }
 {
-    let dataset = Dataset::new(alloc);
-    let first = insertion(alloc, &dataset, FRONT)?;
-    let second = insertion(alloc, &dataset, BACK)?;
-    moved(dataset, first, &second)
+    match insertion(alloc, dataset, FRONT) {
+        Some(first) => moved(alloc, dataset, first),
+        None => None,
+    }
 }
 
-// The dataset where the first net ends, and the net from there to where the second ends.
-fn moved(mut dataset: Dataset, first: Net, second: &Net) -> Option<(Dataset, Net)>
-    requires first { Begins first dataset }
-    requires second { Begins second.now dataset }
-    ensures { IfSome result (λ both. Begins both.1 both.0) }
+// Brings the dataset to where the net ends, and gives the net from there to the back.
+fn moved(alloc: Global, dataset: &mut Dataset, first: Net) -> Option<Net>
+    requires { Begins first dataset.old }
+    ensures { IfSome result (λ net. Begins net dataset.new) }
+{
+    match insertion(alloc, dataset, BACK) {
+        Some(second) => moved_on(dataset, first, &second),
+        None => None,
+    }
+}
+
+// Brings the dataset to where the first net ends, and gives the net from there to where the second ends.
+fn moved_on(dataset: &mut Dataset, first: Net, second: &Net) -> Option<Net>
+    requires first { Begins first dataset.old }
+    requires second { Begins second.now dataset.old }
+    ensures { IfSome result (λ net. Begins net dataset.new) }
 {
     match dataset.commit(&first) {
         Ok(()) => match first.reversed().then(second) {
-            Ok(net) => Some((dataset, net)),
+            Ok(net) => Some(net),
             Err(_) => None,
         },
         Err(_) => None,
     }
 }
 
-pub fn iri(alloc: Global, text: &str) -> Option<Term>
+fn iri(alloc: Global, text: &str) -> Option<Term>
     ensures { IfSome result (λ t. (next : ℕ) → IsTermBelow next t) }
 {
     match Iri::new(alloc, text) {
@@ -133,22 +164,51 @@ pub fn iri(alloc: Global, text: &str) -> Option<Term>
     }
 }
 
-pub fn quad(alloc: Global, graph: &str, subject: &str) -> Option<Quad>
+fn quad(alloc: Global, graph: &str, subject: &str) -> Option<Quad>
     ensures { IfSome result (λ q. (next : ℕ) → IsQuadBelow next q) }
 {
-    let name = iri(alloc, graph)?;
-    let subject = iri(alloc, subject)?;
-    let predicate = iri(alloc, "a:p")?;
-    let object = iri(alloc, graph)?;
-    Quad::new(GraphName::Named(name), subject, predicate, object)
+    match iri(alloc, graph) {
+        Some(name) => match iri(alloc, subject) {
+            Some(subject) => quad_of(alloc, name, subject, graph),
+            None => None,
+        },
+        None => None,
+    }
 }
 
-fn insert(alloc: Global, view: &mut Staged<'_, Dataset>, graph: &str, subject: &str) -> Option<()>
+fn quad_of(alloc: Global, name: Term, subject: Term, object: &str) -> Option<Quad>
+    requires name { (next : ℕ) → IsTermBelow next name }
+    requires subject { (next : ℕ) → IsTermBelow next subject }
+    ensures { IfSome result (λ q. (next : ℕ) → IsQuadBelow next q) }
+{
+    match iri(alloc, "a:p") {
+        Some(predicate) => match iri(alloc, object) {
+            Some(object) => Quad::new(GraphName::Named(name), subject, predicate, object),
+            None => None,
+        },
+        None => None,
+    }
+}
+
+fn insert(alloc: Global, view: &mut Staged<'_, Dataset>, graph: &str, subject: &str) -> bool
     ensures { view.new.under ≡ view.old.under }
 {
-    let quad = quad(alloc, graph, subject)?;
-    view.insert(quad).ok()?;
-    Some(())
+    match quad(alloc, graph, subject) {
+        Some(quad) => match view.insert(quad) {
+            Ok(_) => true,
+            Err(_) => false,
+        },
+        None => false,
+    }
+}
+
+// Inserts the quads of the place, and takes its numbers.
+fn insert_both(alloc: Global, view: &mut Staged<'_, Dataset>, place: Place) -> bool
+    ensures { view.new.under ≡ view.old.under }
+{
+    insert(alloc, view, place.graph, "a:s")
+        && insert(alloc, view, place.graph, "a:t")
+        && view.take_blanks(place.next).is_some()
 }
 
 // The net from a dataset without quads to the place.
@@ -156,21 +216,12 @@ fn insertion(alloc: Global, dataset: &Dataset, place: Place) -> Option<Net>
     ensures { IfSome result (λ net. Begins net dataset.now) }
 {
     let mut view = Staged::over(alloc, dataset);
-    insert(alloc, &mut view, place.graph, "a:s")?;
-    insert(alloc, &mut view, place.graph, "a:t")?;
-    take_blanks(&mut view, place.next)?;
+    if !insert_both(alloc, &mut view, place) {
+        return None;
+    }
     match view.into_net() {
         Ok(net) => Some(net),
         Err(_) => None,
-    }
-}
-
-fn take_blanks(view: &mut Staged<'_, Dataset>, count: u64) -> Option<()>
-    ensures { view.new.under ≡ view.old.under }
-{
-    match view.take_blanks(count) {
-        Some(_) => Some(()),
-        None => None,
     }
 }
 
@@ -274,38 +325,64 @@ impl Questions {
 
 // Whether what is listed is two quads of the place's graph and its name.
 fn is_at(alloc: Global, dataset: &Dataset, place: Place) -> bool {
-    let Some((quads, names)) = listed(alloc, dataset) else {
-        return false;
-    };
     dataset.next_blank() == place.next
-        && quads.len() == 2
-        && quads.iter().all(|quad| lies_in(quad, place.graph))
-        && names.len() == 1
-        && names.iter().all(|name| is_iri(name, place.graph))
+        && lists_quads(alloc, dataset, place.graph)
+        && lists_names(alloc, dataset, place.graph)
 }
 
-fn listed(alloc: Global, dataset: &Dataset) -> Option<(Vec<Quad>, Vec<Term>)> {
-    let quads = match dataset.quads() {
-        Err(_) => {
+// Each is listed again where that is refused.
+fn lists_quads(alloc: Global, dataset: &Dataset, graph: &str) -> bool {
+    match quads_listed(dataset, graph) {
+        Some(is_right) => is_right,
+        None => {
             memory_is_back(alloc);
-            dataset.quads().ok()?
+            quads_listed(dataset, graph) == Some(true)
         }
-        Ok(quads) => quads,
-    };
-    let names = match dataset.names_sorted() {
-        Err(_) => {
+    }
+}
+
+fn quads_listed(dataset: &Dataset, graph: &str) -> Option<bool> {
+    match dataset.quads() {
+        Ok(quads) => Some(lie_in(quads.as_slice(), graph)),
+        Err(_) => None,
+    }
+}
+
+fn lists_names(alloc: Global, dataset: &Dataset, graph: &str) -> bool {
+    match names_listed(dataset, graph) {
+        Some(is_right) => is_right,
+        None => {
             memory_is_back(alloc);
-            dataset.names_sorted().ok()?
+            names_listed(dataset, graph) == Some(true)
         }
-        Ok(names) => names,
-    };
-    Some((quads, names))
+    }
+}
+
+fn names_listed(dataset: &Dataset, graph: &str) -> Option<bool> {
+    match dataset.names_sorted() {
+        Ok(names) => Some(is_name(names.as_slice(), graph)),
+        Err(_) => None,
+    }
+}
+
+fn lie_in(quads: &[Quad], graph: &str) -> bool {
+    match quads {
+        [first, second] => lies_in(first, graph) && lies_in(second, graph),
+        _ => false,
+    }
 }
 
 fn lies_in(quad: &Quad, graph: &str) -> bool {
     match quad.graph() {
         GraphName::Default => false,
         GraphName::Named(name) => is_iri(name, graph),
+    }
+}
+
+fn is_name(names: &[Term], text: &str) -> bool {
+    match names {
+        [name] => is_iri(name, text),
+        _ => false,
     }
 }
 

@@ -1,10 +1,9 @@
 //! A document of four lines, read again where memory was wanting. The line at which that was told is the
 //! part's place.
-use crate::signs::{memory_is_back, requests_count};
-use crate::told::Told;
 use rdf_lines::{FaultKind, LineFormat, read_lines};
 use rdf_terms::{GraphName, Quad, Term};
 use std::alloc::Global;
+use told_parts::{Told, memory_is_back, requests_count};
 
 const TEXT: &[u8] =
     b"_:a <a:p> \"\\u0061\"@EN <a:e> .\n_:b <a:p> \"\\u0062\"@EN <a:f> .\n_:c <a:p> \"\\u0063\"@EN <a:g> .\n_:d <a:p> \"\\u0064\"@EN <a:h> .\n";

@@ -1,7 +1,7 @@
 //! One term of each kind: made, copied and written.
-use crate::signs::{memory_is_back, requests_count};
 use rdf_terms::{Iri, IriFault, Literal, Term, Text, write_term};
 use std::alloc::Global;
+use told_parts::{memory_is_back, requests_count};
 
 /// Whether each term that is made, copied and written anew after a refusal is written as it should
 /// be, and the vector was as before after each refusal.

@@ -1,10 +1,10 @@
 //! A Turtle document, and a text that uses a prefix without its declaration, each read again where memory
 //! was wanting. What they are read to is known.
-use crate::signs::{memory_is_back, requests_count};
 use rdf_lines::write_quad;
 use rdf_terms::{NoMemory, Quad};
 use rdf_turtle::{TurtleFault, TurtleFaultKind, read_turtle};
 use std::alloc::Global;
+use told_parts::{memory_is_back, requests_count};
 
 // It has a base, a prefix, three kinds of literals, a list, labelled nodes and nested ones without a label.
 const DOCUMENT: &[u8] =

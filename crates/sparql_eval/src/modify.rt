@@ -12,7 +12,7 @@ use crate::quads::{insert_all, remove_all};
 use crate::template::all_instances;
 use rdf_dataset::{Source, Staged};
 use rdf_terms::{GraphName, Iri, NoMemory, Quad, Term, Vocabulary};
-use sparql_solve::{Solutions, sorted_solutions};
+use sparql_solve::{SolutionMappings, sorted_solutions};
 use sparql_trees::Modify;
 use std::alloc::Global;
 
@@ -51,7 +51,7 @@ pub(crate) struct Exchange {
 fn instances<S: Source>(
     alloc: Global,
     operation: &Modify,
-    found: &Solutions,
+    found: &SolutionMappings,
     home: &GraphName,
     source: &S,
 ) -> Result<Exchange, ApplyFault>

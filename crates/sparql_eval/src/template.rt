@@ -6,37 +6,25 @@ ghost use Rattle.sparql_trees.specs.Quads.{quad_by};
 ghost use Rattle.sparql_values.specs.Mapping.{value_at, value_of};
 
 use rdf_terms::{GraphName, NoMemory, Quad, Term, Text};
-use sparql_solve::{Row, Solutions};
+use sparql_solve::{Mapping, SolutionMappings, SortedNames};
 use sparql_trees::{QuadPattern, VarOrIri, VarOrTerm};
-use sparql_values::column;
 use std::alloc::Global;
 
-fn copy_value(value: &Option<Term>) -> Result<Option<Term>, NoMemory>
-    ensures { IfOk result (λ copy. copy ≡ value.now) }
+// A copy of what stands at the column.
+fn value_at(row: &Mapping, column: usize) -> Result<Option<Term>, NoMemory>
+    ensures { IfOk result (λ value. value ≡ value_at row.now column) }
 {
-    Ok(match value {
+    Ok(match row.value(column) {
         Some(term) => Some(term.copy()?),
         None => None,
     })
 }
 
-// A copy of what stands at the column.
-fn value_at(row: &Row, column: usize) -> Result<Option<Term>, NoMemory>
-    ensures { IfOk result (λ value. value ≡ value_at row.now column) }
-{
-    let values = row.values();
-    if column < values.len() {
-        copy_value(&values[column])
-    } else {
-        Ok(None)
-    }
-}
-
 // A copy of what the row has at the variable.
-fn value_of(variables: &[Text], row: &Row, name: &Text) -> Result<Option<Term>, NoMemory>
+fn value_of(variables: &SortedNames, row: &Mapping, name: &Text) -> Result<Option<Term>, NoMemory>
     ensures { IfOk result (λ value. value ≡ value_of variables.now row.now name.now) }
 {
-    match column(variables, name) {
+    match variables.column(name) {
         Some(column) => value_at(row, column),
         None => Ok(None),
     }
@@ -64,10 +52,10 @@ fn constant(term: &Term) -> Result<Option<Term>, NoMemory>
 }
 
 fn term_under(
-    variables: &[Text],
+    variables: &SortedNames,
     blanks: u64,
     first: u64,
-    row: &Row,
+    row: &Mapping,
     term: &VarOrTerm,
 ) -> Result<Option<Term>, NoMemory>
     requires { first + blanks ≤ last_number }
@@ -81,7 +69,11 @@ fn term_under(
     }
 }
 
-fn name_under(variables: &[Text], row: &Row, name: &VarOrIri) -> Result<Option<Term>, NoMemory>
+fn name_under(
+    variables: &SortedNames,
+    row: &Mapping,
+    name: &VarOrIri,
+) -> Result<Option<Term>, NoMemory>
     ensures { IfOk result (λ found. found ≡ name_under variables.now row.now name.now) }
 {
     match name {
@@ -92,9 +84,9 @@ fn name_under(variables: &[Text], row: &Row, name: &VarOrIri) -> Result<Option<T
 
 // The graph of a quad pattern: the operation's default one, or what GRAPH names.
 fn graph_under(
-    variables: &[Text],
+    variables: &SortedNames,
     home: &GraphName,
-    row: &Row,
+    row: &Mapping,
     graph: &Option<VarOrIri>,
 ) -> Result<Option<GraphName>, NoMemory>
     ensures { IfOk result
@@ -123,11 +115,11 @@ fn quad_by(
 
 // The instance of a quad pattern, if there is one.
 fn instance(
-    variables: &[Text],
+    variables: &SortedNames,
     home: &GraphName,
     blanks: u64,
     first: u64,
-    row: &Row,
+    row: &Mapping,
     pattern: &QuadPattern,
 ) -> Result<Option<Quad>, NoMemory>
     requires { first + blanks ≤ last_number }
@@ -144,11 +136,11 @@ fn instance(
 
 // Adds the instances under one solution, whose new blank nodes are numbered from `first`.
 fn push_instances(
-    variables: &[Text],
+    variables: &SortedNames,
     home: &GraphName,
     blanks: u64,
     first: u64,
-    row: &Row,
+    row: &Mapping,
     quads: &[QuadPattern],
     out: &mut Vec<Quad>,
 ) -> Result<(), NoMemory>
@@ -168,7 +160,7 @@ fn push_instances(
 /// default graph. Each solution has `blanks` new blank nodes, numbered on from `first`.
 pub(crate) fn all_instances(
     alloc: Global,
-    found: &Solutions,
+    found: &SolutionMappings,
     home: &GraphName,
     blanks: u64,
     first: u64,
@@ -178,7 +170,7 @@ pub(crate) fn all_instances(
     ensures { IfOk result (λ out. out.items ≡ all_instances found.now.variables home.now blanks
         quads.now first found.now.rows.items) }
 {
-    let variables = found.variables.as_slice();
+    let variables = &found.variables;
     let mut out = Vec::new(alloc);
     let mut next = first;
     for row in found.rows.as_slice() {

@@ -6,3 +6,4 @@ mod JsonStringLemmas
 mod KeptLemmas
 mod RowLemmas
 mod SolutionLemmas
+mod TabLemmas

@@ -1,8 +1,9 @@
 //! The field of a value.
-ghost use Rattle.std.specs.Prelude.{◌≡◌, ◌++◌, take, length, OnOk};
-ghost use Rattle.std.specs.List.{flat_map};
+ghost use Rattle.std.specs.Prelude.{◌≡◌, ◌≤◌, ◌==◌, ◌++◌, drop, take, length, OnOk};
+ghost use Rattle.std.specs.List.{flat_map, list_any};
 ghost use Rattle.sparql_results.specs.ResultsText.{field_text, without_tab};
 
+use memchr::memchr;
 use rdf_terms::{NoMemory, Term, write_term};
 use std::alloc::Global;
 
@@ -18,9 +19,30 @@ pub(crate) fn append_field(
     let Some(term) = value else {
         return Ok(());
     };
-    let mut text = Vec::new(alloc);
-    write_term(term, &mut text)?;
+    let before = out.len();
+    write_term(term, out)?;
+    escape_tabs(alloc, before, out)
+}
+
+// Writes `\t` for each tab from a place on. Few texts have one.
+fn escape_tabs(alloc: Global, from: usize, out: &mut Vec<u8>) -> Result<(), NoMemory>
+    requires { from ≤ length out.old.items }
+    ensures ok { OnOk result (out.new.items
+        ≡ take from out.old.items ++ flat_map without_tab (drop from out.old.items)) }
+    ensures kept { take from out.new.items ≡ take from out.old.items }
+{
+    if !has_tab(&out[from..]) {
+        return Ok(());
+    }
+    let text = Vec::from_slice(alloc, &out[from..])?;
+    out.truncate(from);
     append_without_tabs(text.as_slice(), out)
+}
+
+fn has_tab(text: &[u8]) -> bool
+    ensures { result ≡ list_any (λ c. c == 9) text.now }
+{
+    memchr(b'\t', text).is_some()
 }
 
 // Appends the text, with `\t` for each tab.

@@ -1,6 +1,6 @@
 -- Rows by key: the rows of an index that have a key, and that no others are compatible.
 use Rattle.std.proofs.Common.{◌≡◌, ℕ, zero, suc, ◌+◌, ◌-◌, ◌<◌, ◌≤◌, Bool, true, false, cond, not, ◌&&◌, List, [], ◌∷◌, ◌++◌, map, filter, Option, Some, None, is_some, length, take, drop, get_or, refl, sym, ap, ◌∙◌, subst, arith, append-nil, nat_eq, Bor}
-use Rattle.std.specs.List.{list_all, range_with_len}
+use Rattle.std.specs.List.{list_all, range_with_len, slice_get}
 use Rattle.std.specs.List.Sorted.{IsSortedBy, IsStableBy, IsPermutation, IsPartitionPoint, IsPartitionedBy, ties}
 use Rattle.std.specs.Ordering.{is_lt, is_le, is_eq, ordering_index, ordering_reverse, ordering_then}
 use Rattle.std.specs.Cmp.{IsTotalOrder}
@@ -14,6 +14,7 @@ use Rattle.std.proofs.lemmas.List.FromFn.{filter_of_map_range_with_len_more}
 use Rattle.std.proofs.lemmas.List.Sorted.{searchable_from_sorted, length_permutation}
 use Rattle.rdf_terms.specs.declared.term.Term.{Term}
 use Rattle.sparql_values.specs.Mapping.{Mapping, agrees, value_at, compatible, merge}
+use Rattle.sparql_values.specs.NextBound.{IsFirstFrom, IsNextBound}
 use Rattle.sparql_algebra.specs.Order.{mapping_cmp}
 use Rattle.sparql_algebra.specs.Solutions.{merges}
 use Rattle.sparql_algebra.specs.Under.{agreeing}
@@ -342,3 +343,46 @@ pub column_left_out : (p : ℕ → Bool) (n : ℕ) (b : Bool) (kept : List ℕ) 
     kept ≡ filter p (range_with_len 0 (n + 1))
 column_left_out p n b kept e t h =
     h ∙ sym (append-nil (filter p (range_with_len 0 n))) ∙ ap (λ (c : Bool). filter p (range_with_len 0 n) ++ cond c (n ∷ []) []) (sym t ∙ e) ∙ sym (kept_more p n)
+
+-- ---- the columns at which the first mapping has no term are left out
+
+skipped : (here : ℕ → Bool) (from k : ℕ) (kept : List ℕ) → ((i : ℕ) → from ≤ i → i < from + k → here i ≡ false) → kept ≡ filter here (range_with_len 0 from) →
+    kept ≡ filter here (range_with_len 0 (from + k))
+skipped here from zero kept h e = e ∙ ap (λ n. filter here (range_with_len 0 n)) (omega arith)
+skipped here from (suc k) kept h e =
+    let before = skipped here from k kept (λ i a b. h i a (omega (arith, b))) e in
+    column_left_out here (from + k) false kept (sym (h (from + k) (omega arith) (omega arith))) refl before
+    ∙ ap (λ n. filter here (range_with_len 0 n)) (omega arith)
+
+skipped_to : (here : ℕ → Bool) (from to : ℕ) (kept : List ℕ) → from ≤ to → ((i : ℕ) → from ≤ i → i < to → here i ≡ false) →
+    kept ≡ filter here (range_with_len 0 from) → kept ≡ filter here (range_with_len 0 to)
+skipped_to here from to kept le h e =
+    skipped here from (to - from) kept (λ i a b. h i a (omega (arith, b, le))) e ∙ ap (λ n. filter here (range_with_len 0 n)) (omega (arith, le))
+
+module _ (ls : List (Bor Mapping)) (B : List Mapping) (x : Bor Mapping) (is_first : Some x ≡ slice_get ls 0) where
+  columns_of_first : key_columns (rows_of ls) B ≡ filter (all_bind (rows_of ls) B) (columns_of x.now)
+  columns_of_first = by_list ls is_first
+    where
+      by_list : (ys : List (Bor Mapping)) → Some x ≡ slice_get ys 0 → key_columns (rows_of ys) B ≡ filter (all_bind (rows_of ys) B) (columns_of x.now)
+      by_list [] e = cc
+      by_list (y ∷ ys) e = let is : y ≡ x = cc in ap (λ (z : Bor Mapping). filter (all_bind (rows_of (y ∷ ys)) B) (columns_of z.now)) is
+
+  unbound_in_first : (i : ℕ) → value_at x.now i ≡ None → all_bind (rows_of ls) B i ≡ false
+  unbound_in_first i none = by_list ls is_first
+    where
+      by_list : (ys : List (Bor Mapping)) → Some x ≡ slice_get ys 0 → all_bind (rows_of ys) B i ≡ false
+      by_list [] e = cc
+      by_list (y ∷ ys) e =
+          let is : y ≡ x = cc in
+          let no : binds i y.now ≡ false = ap (λ (z : Bor Mapping). binds i z.now) is ∙ ap is_some none in
+          ap (λ t. (t && list_all (binds i) (rows_of ys)) && list_all (binds i) B) no
+
+  pub kept_before : (from c : ℕ) (kept : List ℕ) → IsFirstFrom x.now from c → kept ≡ filter (all_bind (rows_of ls) B) (range_with_len 0 from) →
+      kept ≡ filter (all_bind (rows_of ls) B) (range_with_len 0 c)
+  kept_before from c kept first h =
+      skipped_to (all_bind (rows_of ls) B) from c kept first.after (λ i a b. unbound_in_first i (first.none_between i a b)) h
+
+  pub kept_all : (from : ℕ) (kept : List ℕ) → IsNextBound x.now from None → from ≤ length x.now →
+      kept ≡ filter (all_bind (rows_of ls) B) (range_with_len 0 from) → kept ≡ key_columns (rows_of ls) B
+  kept_all from kept none le h =
+      skipped_to (all_bind (rows_of ls) B) from (length x.now) kept le (λ i a b. unbound_in_first i (none i a)) h ∙ sym columns_of_first

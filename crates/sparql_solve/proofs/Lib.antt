@@ -19,6 +19,7 @@ pub mod DistinctLemmas
 pub mod ColumnLemmas
 pub mod ResultLemmas
 pub mod KeyLemmas
+pub mod BoundColumnLemmas
 pub mod BinLemmas
 pub mod PartLemmas
 pub mod MinusLemmas
@@ -32,4 +33,6 @@ pub mod StepLemmas
 pub mod GrownLemmas
 pub mod OnceLemmas
 pub mod EmptyLemmas
-pub mod NameLemmas
+pub mod BoundLemmas
+pub mod FlagLemmas
+pub mod TurnedLemmas

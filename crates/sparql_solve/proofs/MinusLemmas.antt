@@ -1,8 +1,9 @@
 -- Minus of rows, part by part.
-use Rattle.std.proofs.Common.{◌≡◌, ℕ, zero, suc, ◌+◌, ◌<◌, ◌≤◌, Bool, true, false, cond, not, ◌&&◌, ◌||◌, List, [], ◌∷◌, ◌++◌, map, filter, get_or, Some, None, refl, sym, ap, ◌∙◌, ◌⊎◌, inl, inr, subst, length, take, drop, arith, append_assoc, Bor}
+use Rattle.std.proofs.Common.{◌≡◌, ℕ, suc, ◌+◌, ◌<◌, ◌≤◌, Bool, true, false, cond, not, ◌&&◌, ◌||◌, List, [], ◌∷◌, ◌++◌, map, filter, get_or, Some, None, refl, sym, ap, ◌∙◌, subst, length, take, drop, arith, append_assoc, nat_eq, Bor}
 use mathlib.Core.Bool.{true≢false}
-use Rattle.std.specs.List.{All, AllByRecursion, flat_map, list_any, sum_by}
-use Rattle.std.proofs.lemmas.List.{drop_more, map-append, take_all, take_more}
+use Rattle.std.specs.List.{All, flat_map, list_any, sum_by}
+use Rattle.std.proofs.lemmas.Bool.{eqb-true}
+use Rattle.std.proofs.lemmas.List.{drop_more, take_all}
 use Rattle.std.proofs.lemmas.List.Folds.{list_any-append, list_any_at}
 use Rattle.sparql_values.specs.Mapping.{Mapping, compatible, merge}
 use Rattle.sparql_algebra.specs.Bags.{SameBag}
@@ -10,10 +11,11 @@ use Rattle.sparql_algebra.specs.Solutions.{merges, minuses, shares, left_by}
 use Rattle.sparql_algebra.specs.Under.{agreeing}
 use Rattle.sparql_algebra.proofs.CallerLemmas.{any_filtered, SameBag-minuses}
 use Rattle.sparql_solve.specs.Keys.{binds}
-use Rattle.sparql_solve.specs.Parts.{both_bind, left_in, meets, meets_in, part_run}
+use Rattle.sparql_solve.specs.Parts.{left_in, meets, meets_in, part_run}
 use Rattle.sparql_solve.specs.Under.{where_none}
 use Rattle.sparql_solve.specs.declared.keyed.Part.{Part}
 use Rattle.sparql_solve.proofs.KeyLemmas.{rows_of}
+use Rattle.sparql_solve.proofs.BoundColumnLemmas.{AreBoundIn}
 use Rattle.sparql_solve.proofs.PartLemmas.{Rows, all_rows, one_group, rows_more}
 
 -- ---- what stays
@@ -57,50 +59,6 @@ any_of_rows p (x ∷ xs) = ap (λ b. p x.now || b) (any_of_rows p xs)
 
 -- ---- columns
 
--- no column below this one
-abbrev pub NoneBelow : List Mapping → List Mapping → ℕ → Type 0
-NoneBelow L R n = (c : ℕ) → c < n → both_bind L R c ≡ false
-
-pub none_below : (L R : List Mapping) → NoneBelow L R 0
-none_below L R c h = absurd (omega (arith, h))
-
-before_or_at : (c n : ℕ) → c < n + 1 → (c < n) ⊎ (c ≡ n)
-before_or_at c n h = grind arith
-
-pub one_more_column : (L R : List Mapping) (n : ℕ) (b : Bool) → b ≡ both_bind L R n → b ≡ false → NoneBelow L R n → NoneBelow L R (n + 1)
-one_more_column L R n b e t h c lt = elim (before_or_at c n lt) [
-  | inl less ↦ h c less
-  | inr is ↦ ap (both_bind L R) is ∙ sym e ∙ t
-]
-
--- rows of at most so many columns
-abbrev pub AreNoWider : ℕ → List Mapping → Type 0
-AreNoWider n rows = AllByRecursion (λ a. length a ≤ n) rows
-
-wider : (n m : ℕ) (xs : List Mapping) → n ≤ m → AreNoWider n xs → AreNoWider m xs
-wider n m [] le h = tt
-wider n m (x ∷ xs) le h = ((let z : length x ≤ n = h.0 in omega (arith, z, le)), wider n m xs le h.1)
-
-pushed : (n : ℕ) (xs : List Mapping) (x : Mapping) → AreNoWider n xs → length x ≤ n → AreNoWider n (xs ++ x ∷ [])
-pushed n [] x h e = (e, tt)
-pushed n (y ∷ xs) x h e = (h.0, pushed n xs x h.1 e)
-
-at_most : (n : ℕ) (xs : List Mapping) (k : ℕ) (d : Mapping) → k < length xs → AreNoWider n xs → length (get_or xs k d) ≤ n
-at_most n [] k d lt h = absurd (omega (arith, lt))
-at_most n (x ∷ xs) zero d lt h = h.0
-at_most n (x ∷ xs) (suc k) d lt h = at_most n xs k d (omega arith) h.1
-
-pub most_more : (rows : Rows) (i : ℕ) (x : Bor Mapping) (most after : ℕ) (values : Mapping) → i < length rows → x ≡ get_or rows i x → values ≡ x.now → most ≤ after →
-    length values ≤ after → AreNoWider most (rows_of (take i rows)) → AreNoWider after (rows_of (take (i + 1) rows))
-most_more rows i x most after values lt here is le own h =
-    let more : rows_of (take (i + 1) rows) ≡ rows_of (take i rows) ++ x.now ∷ [] =
-    ap rows_of (take_more rows i x lt ∙ ap (λ (y : Bor Mapping). take i rows ++ y ∷ []) (sym here)) ∙ map-append (λ (r : Bor Mapping). r.now) (take i rows) (x ∷ []) in
-    subst (λ (xs : List Mapping). AreNoWider after xs) (sym more) (pushed after (rows_of (take i rows)) x.now (wider most after (rows_of (take i rows)) le h)
-    (subst (λ (m : Mapping). length m ≤ after) is own))
-
-pub most_all : (rows : Rows) (i most : ℕ) → length rows ≤ i → AreNoWider most (rows_of (take i rows)) → AreNoWider most (rows_of rows)
-most_all rows i most le h = subst (λ (xs : Rows). AreNoWider most (rows_of xs)) (take_all i rows le) h
-
 -- a column that both mappings bind
 shared_column : (a y : Mapping) → shares a y ≡ true → (c : ℕ) × ((c < length a) × ((binds c a ≡ true) × (binds c y ≡ true)))
 shared_column [] y h = cc
@@ -132,8 +90,9 @@ module _ {X : Type 0} (p : X → Bool) where
           (there.0, (there.1.0, λ q f. or_right (q x) (list_any q xs) (there.1.1 q f)))
 
 -- no column that a row of each side binds
-pub none_shared : (L R : List Mapping) (n m : ℕ) → AreNoWider n L → n ≤ m → NoneBelow L R m → All (λ a. list_any (shares a) R ≡ false) L
-none_shared L R n m wide le h k d lt = by_test (list_any (shares (get_or L k d)) R) refl
+pub none_shared : (L R : List Mapping) (columns : List ℕ) → AreBoundIn columns L → list_any (λ c. list_any (binds c) R) columns ≡ false →
+    All (λ a. list_any (shares a) R ≡ false) L
+none_shared L R columns h none k d lt = by_test (list_any (shares (get_or L k d)) R) refl
   where
     by_test : (b : Bool) → list_any (shares (get_or L k d)) R ≡ b → b ≡ false
     by_test false e = refl
@@ -141,10 +100,11 @@ none_shared L R n m wide le h k d lt = by_test (list_any (shares (get_or L k d))
         let a : Mapping = get_or L k d in
         let y : (y : Mapping) × ((shares a y ≡ true) × ((q : Mapping → Bool) → q y ≡ true → list_any q R ≡ true)) = passes (shares a) R e in
         let c : (c : ℕ) × ((c < length a) × ((binds c a ≡ true) × (binds c y.0 ≡ true))) = shared_column a y.0 y.1.0 in
-        let within : c.0 < m = (let z : c.0 < length a = c.1.0 in let w : length a ≤ n = at_most n L k d lt wide in omega (arith, z, w, le)) in
         let left : list_any (binds c.0) L ≡ true = list_any_at (binds c.0) L k d lt c.1.1.0 in
         let right : list_any (binds c.0) R ≡ true = y.1.1 (binds c.0) c.1.1.1 in
-        absurd (true≢false (sym (ap (λ t. t && list_any (binds c.0) R) left ∙ right) ∙ h c.0 within))
+        let there : (n : ℕ) × ((nat_eq c.0 n ≡ true) × ((q : ℕ → Bool) → q n ≡ true → list_any q columns ≡ true)) = passes (nat_eq c.0) columns (h c.0 ∙ left) in
+        let is : c.0 ≡ there.0 = eqb-true c.0 there.0 there.1.0 in
+        absurd (true≢false (sym (there.1.1 (λ n. list_any (binds n) R) (subst (λ n. list_any (binds n) R ≡ true) is right)) ∙ none))
 
 -- ---- parts
 

@@ -1,9 +1,7 @@
 -- The columns of triple patterns, found by going over these.
-use Rattle.std.proofs.Common.{◌≡◌, ℕ, ◌+◌, ◌<◌, ◌≤◌, zero, suc, Bool, true, false, not, ◌&&◌, ◌||◌, List, [], ◌∷◌, ◌++◌, Option, Some, None, is_some, is_none, refl, sym, ap, ◌∙◌, length, take, drop, get_or, replicate, arith, nat_eq, nat_lt, add-one, append-nil}
-use Rattle.std.specs.Prelude.{slice_set}
+use Rattle.std.proofs.Common.{◌≡◌, ℕ, ◌+◌, ◌<◌, zero, suc, Bool, true, false, not, ◌&&◌, ◌||◌, List, [], ◌∷◌, Option, Some, None, is_some, is_none, refl, sym, ap, ◌∙◌, length, take, get_or, replicate, arith, nat_eq, nat_lt}
 use Rattle.std.specs.List.{list_any}
 use Rattle.std.proofs.Math.Dec.{eqb-zero-suc, eqb-suc-zero, eqb-suc-suc, leb-zero, leb-suc-zero, leb-suc-suc}
-use Rattle.std.proofs.lemmas.List.{drop_all, take_all}
 use Rattle.rdf_terms.specs.declared.term.Term.{Term}
 use Rattle.sparql_values.specs.Mapping.{Variables, Mapping, empty_mapping, value_at}
 use Rattle.sparql_solve.specs.declared.look_ups.LookUp.{LookUp}
@@ -11,90 +9,26 @@ use Rattle.sparql_solve.specs.declared.place.Place.{Place}
 use Rattle.sparql_solve.specs.declared.place.Place.TheVariants.{Fixed, Column, Nowhere}
 use Rattle.sparql_solve.specs.declared.place.Places.{Places}
 use Rattle.sparql_solve.specs.Matching.{has_column, is_place_at}
-use Rattle.sparql_solve.specs.Own.{is_bound_at, is_bound_in, marked}
+use Rattle.sparql_solve.specs.Own.{is_bound_at, is_bound_in}
 use Rattle.sparql_solve.specs.Under.{binds_none, flags_where, masked, own_columns, shown}
 use Rattle.sparql_algebra.proofs.CallerLemmas.{and_false}
 
-flags_same : (p q : ℕ → Bool) → ((c : ℕ) → p c ≡ q c) → (n : ℕ) → flags_where p n ≡ flags_where q n
+pub flags_same : (p q : ℕ → Bool) → ((c : ℕ) → p c ≡ q c) → (n : ℕ) → flags_where p n ≡ flags_where q n
 flags_same p q e zero = refl
 flags_same p q e (suc n) =
     ap (λ b. b ∷ flags_where (λ c. p (suc c)) n) (e zero) ∙ ap (λ (l : List Bool). q zero ∷ l) (flags_same (λ c. p (suc c)) (λ c. q (suc c)) (λ c. e (suc c)) n)
-
--- ---- flags raised one by one
-
-set_flags : (t : ℕ → Bool) (n c : ℕ) → slice_set (flags_where t n) c true ≡ flags_where (λ at. nat_eq at c || t at) n
-set_flags t zero zero = refl
-set_flags t zero (suc c) = refl
-set_flags t (suc n) zero =
-    ap (λ (l : List Bool). true ∷ l)
-    (flags_same (λ at. t (suc at)) (λ at. nat_eq (suc at) zero || t (suc at)) (λ at. ap (λ b. b || t (suc at)) (sym (eqb-suc-zero at))) n)
-set_flags t (suc n) (suc c) =
-    ap (λ (l : List Bool). t zero ∷ l)
-    (set_flags (λ at. t (suc at)) n c
-    ∙ flags_same (λ at. nat_eq at c || t (suc at)) (λ at. nat_eq (suc at) (suc c) || t (suc at)) (λ at. ap (λ b. b || t (suc at)) (sym (eqb-suc-suc at c))) n)
-    ∙ ap (λ b. (b || t zero) ∷ flags_where (λ at. nat_eq (suc at) (suc c) || t (suc at)) n) (sym (eqb-zero-suc c))
-
-marked_flags : (p : Place) (t : ℕ → Bool) (n : ℕ) → marked p (flags_where t n) ≡ flags_where (λ at. is_place_at at p || t at) n
-marked_flags (Fixed u) t n = refl
-marked_flags (Column c) t n = set_flags t n c
-marked_flags Nowhere t n = refl
-
-or_three : (a b c t : Bool) → (a || (b || (c || t))) ≡ ((a || (b || c)) || t)
-or_three true b c t = refl
-or_three false true c t = refl
-or_three false false c t = refl
-
-all_marked : (p : Places) (t : ℕ → Bool) (n : ℕ) →
-    marked p.subject (marked p.predicate (marked p.object (flags_where t n))) ≡ flags_where (λ at. has_column at p || t at) n
-all_marked p t n =
-    ap (λ (l : List Bool). marked p.subject (marked p.predicate l)) (marked_flags p.object t n)
-    ∙ ap (marked p.subject) (marked_flags p.predicate (λ at. is_place_at at p.object || t at) n)
-    ∙ marked_flags p.subject (λ at. is_place_at at p.predicate || (is_place_at at p.object || t at)) n
-    ∙ flags_same (λ at. is_place_at at p.subject || (is_place_at at p.predicate || (is_place_at at p.object || t at))) (λ at. has_column at p || t at)
-    (λ at. or_three (is_place_at at p.subject) (is_place_at at p.predicate) (is_place_at at p.object) (t at)) n
 
 or_swap : (a b c : Bool) → (a || (b || c)) ≡ (b || (a || c))
 or_swap true true c = refl
 or_swap true false c = refl
 or_swap false b c = refl
 
-any_take : {X : Type 0} (q : X → Bool) (xs : List X) (i : ℕ) (x : X) → i < length xs → x ≡ get_or xs i x →
+pub any_take : {X : Type 0} (q : X → Bool) (xs : List X) (i : ℕ) (x : X) → i < length xs → x ≡ get_or xs i x →
     (q x || list_any q (take i xs)) ≡ list_any q (take (suc i) xs)
 any_take q [] i x lt e = absurd (omega arith)
 any_take q (y ∷ ys) zero x lt e = ap (λ z. q z || false) e
 any_take q (y ∷ ys) (suc i) x lt e =
     or_swap (q x) (q y) (list_any q (take i ys)) ∙ ap (λ b. q y || b) (any_take q ys i x (omega arith) e)
-
-no_flags : (n : ℕ) → replicate n false ≡ flags_where (λ _. false) n
-no_flags zero = refl
-no_flags (suc n) = ap (λ (l : List Bool). false ∷ l) (no_flags n)
-
--- flags that were written over
-pub written : (len : ℕ) (new old : List Bool) → length new ≡ length old → len ≡ length old → take len (new ++ drop (length new) old) ≡ new
-written len new old e el =
-    ap (λ (xs : List Bool). take len (new ++ xs)) (drop_all (length new) old (omega arith)) ∙ ap (take len) (append-nil new) ∙ take_all len new (omega arith)
-
--- before the first triple pattern
-pub own_none : (ps : List Places) (i n : ℕ) (out : List Bool) → out ≡ replicate i false → i ≤ n → n ≤ i →
-    out ≡ flags_where (λ at. list_any (has_column at) (take zero ps)) n
-own_none ps i n out e le ge =
-    let same : i ≡ n = omega (arith, le, ge) in
-    e ∙ ap (λ k. replicate k false) same ∙ no_flags n
-
--- one triple pattern more
-pub own_more : (ps : List Places) (i n : ℕ) (p : Places) (out after : List Bool) → i < length ps → p ≡ get_or ps i p →
-    out ≡ flags_where (λ at. list_any (has_column at) (take i ps)) n → after ≡ marked p.subject (marked p.predicate (marked p.object out)) →
-    after ≡ flags_where (λ at. list_any (has_column at) (take (i + 1) ps)) n
-own_more ps i n p out after lt here h e =
-    rw add-one
-    (e ∙ ap (λ (l : List Bool). marked p.subject (marked p.predicate (marked p.object l))) h
-    ∙ all_marked p (λ at. list_any (has_column at) (take i ps)) n
-    ∙ flags_same (λ at. has_column at p || list_any (has_column at) (take i ps)) (λ at. list_any (has_column at) (take (suc i) ps))
-    (λ at. any_take (has_column at) ps i p lt here) n)
-
-pub own_done : (ps : List Places) (i n : ℕ) (out : List Bool) → length ps ≤ i → out ≡ flags_where (λ at. list_any (has_column at) (take i ps)) n →
-    out ≡ flags_where (λ at. list_any (has_column at) ps) n
-own_done ps i n out ge h = h ∙ ap (λ (qs : List Places). flags_where (λ at. list_any (has_column at) qs) n) (take_all i ps ge)
 
 -- ---- what a mapping binds of them
 

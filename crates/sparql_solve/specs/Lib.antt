@@ -7,5 +7,7 @@ pub mod Matching
 pub mod Sides
 pub mod Members
 pub mod Under
+pub mod Flags
+pub mod Pairs
 pub mod Steps
 pub mod Ask

@@ -1,15 +1,15 @@
 -- The columns of triple patterns, found by going over these.
-use Rattle.std.specs.Prelude.{ℕ, Bool, true, false, ◌&&◌, ◌||◌, List, is_some, nat_lt, slice_set}
+use Rattle.std.specs.Prelude.{ℕ, Bool, false, ◌&&◌, ◌||◌, List, [], ◌∷◌, ◌++◌, cond, is_some, nat_lt}
 use Rattle.sparql_values.specs.Mapping.{Mapping, value_at}
 use Rattle.sparql_solve.specs.declared.place.Place.{Place}
 use Rattle.sparql_solve.specs.declared.place.Place.TheVariants.{Fixed, Column, Nowhere}
 use Rattle.sparql_solve.specs.declared.place.Places.{Places}
 
--- the flags with that of the place's column up
-abbrev pub marked : Place → List Bool → List Bool
-marked (Fixed t) flags = flags
-marked (Column c) flags = slice_set flags c true
-marked Nowhere flags = flags
+-- the columns with that of the place, where it is one of so many
+abbrev pub marked : ℕ → Place → List ℕ → List ℕ
+marked n (Fixed t) columns = columns
+marked n (Column c) columns = cond (nat_lt c n) (columns ++ c ∷ []) columns
+marked n Nowhere columns = columns
 
 -- the place is one of so many columns, and the mapping has a term there
 abbrev pub is_bound_at : ℕ → Mapping → Place → Bool

@@ -1,5 +1,5 @@
 -- The right side of a join in parts, each by the key that it shares with some left rows.
-use Rattle.std.specs.Prelude.{ℕ, Bool, ◌&&◌, cond, List, [], ◌∷◌, map}
+use Rattle.std.specs.Prelude.{Bool, ◌&&◌, cond, List, [], ◌∷◌, map}
 use Rattle.std.specs.List.{flat_map, list_any}
 use Rattle.sparql_values.specs.Mapping.{Mapping, compatible, value_at}
 use Rattle.sparql_algebra.specs.Solutions.{merges, shares}
@@ -7,7 +7,7 @@ use Rattle.sparql_solve.specs.declared.keyed.Part.{Part}
 use Rattle.sparql_solve.specs.declared.keyed.Part.TheVariants.{Binned, Sorted}
 use Rattle.sparql_solve.specs.declared.bins.Bins.{Bins}
 use Rattle.sparql_solve.specs.Bins.{binned_in}
-use Rattle.sparql_solve.specs.Keys.{binds, run}
+use Rattle.sparql_solve.specs.Keys.{run}
 
 -- those in the bin of the term that a mapping has at the column
 abbrev pub bin_of : Mapping → Bins → List Mapping
@@ -27,10 +27,6 @@ abbrev pub merges_in : List Part → Mapping → List Mapping
 merges_in parts a = flat_map (part_merges a) parts
 
 -- ---- Minus (SPARQL 1.1 Query, section 18.5)
-
--- a mapping of each list has a term at the column
-abbrev pub both_bind : List Mapping → List Mapping → ℕ → Bool
-both_bind A B column = list_any (binds column) A && list_any (binds column) B
 
 -- the mapping is compatible with another one, and has a variable in common with it
 abbrev pub meets : Mapping → Mapping → Bool

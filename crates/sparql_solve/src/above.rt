@@ -4,16 +4,16 @@ ghost use Rattle.std.specs.Option.{option_copied};
 ghost use Rattle.sparql_values.specs.Mapping.{compatible, empty_mapping, merge, value_in};
 ghost use Rattle.sparql_solve.specs.Under.{binds_none};
 
-use crate::rows::Row;
-use crate::sorted_names::SortedNames;
+use crate::mappings::Mapping;
 use rdf_terms::{NoMemory, Term};
+use sparql_values::SortedNames;
 use std::alloc::Global;
 use std::marker::Model;
 
 /// The row above a group. Whether it binds anything is found once, and then asked for each member.
 #[derive(Drop)]
 pub(crate) struct Above {
-    row: Row,
+    row: Mapping,
     is_unbound: bool,
 }
 
@@ -34,18 +34,18 @@ impl Above {
     pub(crate) fn nothing(alloc: Global, variables: &SortedNames) -> Result<Above, NoMemory>
         ensures { IfOk result (λ above. above ≡ empty_mapping variables.now) }
     {
-        Ok(Above::of(Row::unbound(alloc, variables)?))
+        Ok(Above::of(Mapping::unbound(alloc, variables)?))
     }
 
     /// A row as the one above.
-    pub(crate) fn of(row: Row) -> Above
+    pub(crate) fn of(row: Mapping) -> Above
         ensures { result ≡ row }
     {
         let is_unbound = row.is_unbound();
         Above { row, is_unbound }
     }
 
-    pub(crate) fn row(&self) -> &Row
+    pub(crate) fn row(&self) -> &Mapping
         ensures { result.now ≡ self.now }
     {
         &self.row
@@ -58,13 +58,13 @@ impl Above {
         self.is_unbound
     }
 
-    pub(crate) fn is_compatible(&self, row: &Row) -> bool
+    pub(crate) fn is_compatible(&self, row: &Mapping) -> bool
         ensures { result ≡ compatible self.now row.now }
     {
         self.row.is_compatible(row)
     }
 
-    pub(crate) fn merged(&self, alloc: Global, row: &Row) -> Result<Above, NoMemory>
+    pub(crate) fn merged(&self, alloc: Global, row: &Mapping) -> Result<Above, NoMemory>
         ensures { IfOk result (λ above. above ≡ merge self.now row.now) }
     {
         Ok(Above::of(self.row.merged(alloc, row)?))

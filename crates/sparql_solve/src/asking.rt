@@ -17,14 +17,14 @@ use crate::chunks::{first_rooms, some_after};
 use crate::counted::Counted;
 use crate::evaluator::{graph_under, unit_rows};
 use crate::look_ups::is_named;
+use crate::mappings::Mapping;
 use crate::members::lone_member;
 use crate::names::names_under;
-use crate::rows::Row;
 use crate::shapes::{before_apart, group_reads};
-use crate::sorted_names::SortedNames;
 use rdf_dataset::Source;
 use rdf_terms::{GraphName, NoMemory, Term, Text, Vocabulary};
 use sparql_trees::{Member, Pattern, VarOrIri};
+use sparql_values::SortedNames;
 use std::alloc::Global;
 use std::cell::Cell;
 
@@ -232,7 +232,7 @@ fn some_in_each<S: Source>(
         names.now)) }
 {
     for name in names {
-        let bound = Row::single(alloc, variables, variable, name)?;
+        let bound = Mapping::single(alloc, variables, variable, name)?;
         let both = under.merged(alloc, &bound)?;
         let graph = GraphName::Named(name.copy()?);
         if some_in_group(

@@ -1,8 +1,9 @@
 //! Basic graph patterns under a row (SPARQL 1.1 Query, section 18.3.1).
-ghost use Rattle.std.specs.Prelude.{◌≡◌, IfOk, map};
+ghost use Rattle.std.specs.Prelude.{◌≡◌, IfOk, OnOk, false, map};
 ghost use Rattle.std.specs.List.{list_any};
 ghost use Rattle.sparql_algebra.specs.Algebra.{basic};
 ghost use Rattle.sparql_algebra.specs.Solutions.{solutions};
+ghost use Rattle.sparql_solve.specs.Flags.{raised};
 ghost use Rattle.sparql_solve.specs.Matching.{has_column};
 ghost use Rattle.sparql_solve.specs.Members.{AreSolutions};
 ghost use Rattle.sparql_solve.specs.Sides.{found};
@@ -10,48 +11,40 @@ ghost use Rattle.sparql_solve.specs.Own.{is_bound_at, is_bound_in, marked};
 ghost use Rattle.sparql_solve.specs.Under.{AreUnder, binds_none, flags_where, masked, own_columns};
 
 use crate::above::Above;
+use crate::flags::Flags;
 use crate::look_ups::{Graphs, LookUp, found_rows, look_up_in};
+use crate::mappings::Mapping;
 use crate::place::{Place, Places};
-use crate::rows::Row;
-use crate::sorted_names::SortedNames;
 use rdf_dataset::Source;
 use rdf_terms::{GraphName, NoMemory};
 use sparql_trees::BasicGraphPattern;
+use sparql_values::SortedNames;
 use std::alloc::Global;
 
-// Raises the flag of the place's column, if it is one of these.
-fn mark(flags: &mut [bool], place: &Place)
-    ensures { flags.new ≡ marked place.now flags.old }
+// Adds the place's column, if it has one.
+fn mark(columns: &mut Vec<usize>, len: usize, place: &Place) -> Result<(), NoMemory>
+    ensures { OnOk result (columns.new.items ≡ marked len place.now columns.old.items) }
 {
     if let Place::Column(column) = place {
-        if *column < flags.len() as u128 {
-            flags[*column as usize] = true;
+        if *column < len as u128 {
+            columns.push(*column as usize)?;
         }
     }
+    Ok(())
 }
 
-fn mark_places(flags: &mut [bool], places: &Places)
-    ensures { flags.new ≡ marked places.now.subject
-        (marked places.now.predicate (marked places.now.object flags.old)) }
+// The columns, of so many, that the triple patterns have.
+fn columns_of(alloc: Global, len: usize, patterns: &[Places]) -> Result<Vec<usize>, NoMemory>
+    ensures { IfOk result (λ out. raised false out.items len
+        ≡ flags_where (λ at. list_any (has_column at) patterns.now) len) }
 {
-    mark(flags, &places.object);
-    mark(flags, &places.predicate);
-    mark(flags, &places.subject);
-}
-
-// For each of so many columns whether one of the triple patterns has it.
-fn flags_of(alloc: Global, columns: usize, patterns: &[Places]) -> Result<Vec<bool>, NoMemory>
-    ensures { IfOk result (λ out. out.items
-        ≡ flags_where (λ at. list_any (has_column at) patterns.now) columns) }
-{
-    let mut own = Vec::with_capacity(alloc, columns)?;
-    for _at in 0..columns {
-        own.push(false)?;
-    }
+    let mut columns = Vec::new(alloc);
     for places in patterns {
-        mark_places(&mut own, places);
+        mark(&mut columns, len, &places.subject)?;
+        mark(&mut columns, len, &places.predicate)?;
+        mark(&mut columns, len, &places.object)?;
     }
-    Ok(own)
+    Ok(columns)
 }
 
 /// For each column whether the look-ups have it.
@@ -59,14 +52,16 @@ pub(crate) fn own_columns(
     alloc: Global,
     variables: &SortedNames,
     look_up: &LookUp,
-) -> Result<Vec<bool>, NoMemory>
-    ensures { IfOk result (λ out. out.items ≡ own_columns variables.now look_up.now) }
+) -> Result<Flags, NoMemory>
+    ensures { IfOk result (λ out. out ≡ own_columns variables.now look_up.now) }
 {
-    flags_of(alloc, variables.len(), look_up.places.as_slice())
+    let len = variables.len();
+    let columns = columns_of(alloc, len, look_up.places.as_slice())?;
+    Flags::of(len, columns)
 }
 
 // Whether the place is one of so many columns, and the row has a term there.
-fn is_bound_at(row: &Row, width: usize, place: &Place) -> bool
+fn is_bound_at(row: &Mapping, width: usize, place: &Place) -> bool
     ensures { result ≡ is_bound_at width row.now place.now }
 {
     match place {
@@ -75,7 +70,7 @@ fn is_bound_at(row: &Row, width: usize, place: &Place) -> bool
     }
 }
 
-fn is_bound_in(row: &Row, width: usize, places: &Places) -> bool
+fn is_bound_in(row: &Mapping, width: usize, places: &Places) -> bool
     ensures { result ≡ is_bound_in width row.now places.now }
 {
     is_bound_at(row, width, &places.subject)
@@ -83,7 +78,7 @@ fn is_bound_in(row: &Row, width: usize, places: &Places) -> bool
         || is_bound_at(row, width, &places.object)
 }
 
-fn is_bound_in_any(row: &Row, width: usize, patterns: &[Places]) -> bool
+fn is_bound_in_any(row: &Mapping, width: usize, patterns: &[Places]) -> bool
     ensures { result ≡ list_any (is_bound_in width row.now) patterns.now }
 {
     patterns
@@ -92,14 +87,14 @@ fn is_bound_in_any(row: &Row, width: usize, patterns: &[Places]) -> bool
 }
 
 /// Whether the row has nothing at the look-ups' columns.
-pub(crate) fn is_unbound_in(variables: &SortedNames, look_up: &LookUp, row: &Row) -> bool
+pub(crate) fn is_unbound_in(variables: &SortedNames, look_up: &LookUp, row: &Mapping) -> bool
     ensures { result ≡ binds_none (masked (own_columns variables.now look_up.now) row.now) }
 {
     !is_bound_in_any(row, variables.len(), look_up.places.as_slice())
 }
 
 // The columns of each row whose flag is up.
-fn masked_rows(alloc: Global, rows: &[Row], flags: &[bool]) -> Result<Vec<Row>, NoMemory>
+fn masked_rows(alloc: Global, rows: &[Mapping], flags: &Flags) -> Result<Vec<Mapping>, NoMemory>
     ensures { IfOk result (λ out. out.items ≡ map (masked flags.now) rows.now) }
 {
     let mut out = Vec::with_capacity(alloc, rows.len())?;
@@ -115,9 +110,9 @@ pub(crate) fn own_rows<S: Source>(
     variables: &SortedNames,
     source: &S,
     look_up: &LookUp,
-    own: &[bool],
+    own: &Flags,
     under: &Above,
-) -> Result<Vec<Row>, NoMemory>
+) -> Result<Vec<Mapping>, NoMemory>
     ensures { IfOk result (λ out. AreSolutions (S.contents source.now) out.items
         (λ d. map (masked own.now) (found variables.now d look_up.now under.now))) }
 {
@@ -134,7 +129,7 @@ pub(crate) fn basic_under<S: Source>(
     source: &S,
     pattern: &BasicGraphPattern,
     under: &Above,
-) -> Result<Vec<Row>, NoMemory>
+) -> Result<Vec<Mapping>, NoMemory>
     ensures { IfOk result (λ out. AreUnder variables.now (S.contents source.now) under.now out.items
         (λ d. solutions variables.now d graph.now (basic pattern.now))) }
 {

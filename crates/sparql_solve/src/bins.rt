@@ -5,7 +5,7 @@ ghost use Rattle.rdf_terms.specs.declared.term.Term.{Term};
 ghost use Rattle.sparql_values.specs.Mapping.{same_term, value_at};
 ghost use Rattle.sparql_solve.specs.Bins.{binned, binned_in, has_at, with_at};
 
-use crate::rows::Row;
+use crate::mappings::Mapping;
 use rdf_terms::{NoMemory, Term, TermTable, terms_are_held_once};
 use std::alloc::Global;
 
@@ -15,15 +15,19 @@ pub(crate) struct Bins<'r> {
     pub(crate) column: usize,
     /// The terms, each of which has the bin at its own place.
     pub(crate) terms: TermTable,
-    pub(crate) bins: Vec<Vec<&'r Row>>,
+    pub(crate) bins: Vec<Vec<&'r Mapping>>,
     /// The bin of a term that no row has.
-    none: Vec<&'r Row>,
+    none: Vec<&'r Mapping>,
     ghost empty: { none.items ≡ [] },
     ghost paired: { length bins.items ≡ length terms },
 }
 
 // Puts the row into the bin at the place, if there is one.
-fn put_at<'r>(bins: &mut Vec<Vec<&'r Row>>, place: usize, row: &'r Row) -> Result<(), NoMemory>
+fn put_at<'r>(
+    bins: &mut Vec<Vec<&'r Mapping>>,
+    place: usize,
+    row: &'r Mapping,
+) -> Result<(), NoMemory>
     ensures { OnOk result (map (λ bin. map (λ r. r.now) bin.items) bins.new.items
         ≡ with_at place row.now (map (λ bin. map (λ r. r.now) bin.items) bins.old.items)) }
 {
@@ -37,9 +41,9 @@ fn put_at<'r>(bins: &mut Vec<Vec<&'r Row>>, place: usize, row: &'r Row) -> Resul
 fn put<'r>(
     alloc: Global,
     terms: &mut TermTable,
-    bins: &mut Vec<Vec<&'r Row>>,
+    bins: &mut Vec<Vec<&'r Mapping>>,
     term: &Term,
-    row: &'r Row,
+    row: &'r Mapping,
 ) -> Result<(), NoMemory>
     requires { length bins.old.items ≡ length terms.old }
     ensures paired { OnOk result (length bins.new.items ≡ length terms.new) }
@@ -59,7 +63,7 @@ fn put<'r>(
 /// The rows that have a term at the column, in bins, in each of them in the order in which they came.
 pub(crate) fn bins_of<'r>(
     alloc: Global,
-    rows: &[&'r Row],
+    rows: &[&'r Mapping],
     column: usize,
 ) -> Result<Bins<'r>, NoMemory>
     ensures column { IfOk result (λ b. b.column ≡ column) }
@@ -84,7 +88,7 @@ pub(crate) fn bins_of<'r>(
 
 impl<'r> Bins<'r> {
     // The bin of a term; none where no row has it.
-    fn bin(&self, term: &Term) -> &[&'r Row]
+    fn bin(&self, term: &Term) -> &[&'r Mapping]
         ensures { map (λ r. r.now) result.now ≡ binned self.now.terms
             (map (λ bin. map (λ r. r.now) bin.items) self.now.bins.items) term.now }
     {
@@ -99,7 +103,7 @@ impl<'r> Bins<'r> {
     }
 
     /// The rows that have the same term at the column as this row.
-    pub(crate) fn bin_of(&self, row: &Row) -> &[&'r Row]
+    pub(crate) fn bin_of(&self, row: &Mapping) -> &[&'r Mapping]
         ensures { map (λ r. r.now) result.now ≡ binned_in self.now.terms
             (map (λ bin. map (λ r. r.now) bin.items) self.now.bins.items)
             (value_at row.now self.now.column) }

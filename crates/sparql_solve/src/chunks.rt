@@ -17,17 +17,17 @@ use crate::above::Above;
 use crate::evaluator::rows_after;
 use crate::filters::some_satisfies;
 use crate::look_ups::{Graphs, LookUp};
+use crate::mappings::Mapping;
 use crate::matching::{
     all_patterns, copied, copies_matched, cut_rows, few_quads_of, next_pattern, quads_of, step,
 };
 use crate::members::{is_joined, look_up_of_joined};
 use crate::place::Places;
-use crate::rows::Row;
 use crate::sides::compatible_rows;
-use crate::sorted_names::SortedNames;
 use rdf_dataset::Source;
 use rdf_terms::{GraphName, NoMemory, Quad, Vocabulary};
 use sparql_trees::{Expression, Member};
+use sparql_values::SortedNames;
 use std::alloc::Global;
 use std::cell::Cell;
 use std::collections::VecDeque;
@@ -49,7 +49,7 @@ pub(crate) fn first_rooms(alloc: Global) -> Result<Vec<Cell<usize>>, NoMemory> {
 }
 
 // The only row, where not all that comes of it has to be followed at once.
-fn lone_row<'r>(rows: &'r [Row], rooms: &[Cell<usize>]) -> Option<&'r Row>
+fn lone_row<'r>(rows: &'r [Mapping], rooms: &[Cell<usize>]) -> Option<&'r Mapping>
     ensures lone { IfSome (option_copied result) (λ row. rows.now ≡ row ∷ []) }
     ensures room { IfSome result (λ _. 0 < length rooms.now) }
 {
@@ -77,7 +77,7 @@ fn first_len(len: usize, room: &Cell<usize>) -> usize
 }
 
 // Takes away the first rows where not all of them have room, which is twice as large then.
-fn first_rows(rows: &mut Vec<Row>, room: &Cell<usize>) -> Result<Option<Vec<Row>>, NoMemory>
+fn first_rows(rows: &mut Vec<Mapping>, room: &Cell<usize>) -> Result<Option<Vec<Mapping>>, NoMemory>
     ensures some { IfOk result (λ taken. IfSome taken (λ first.
         rows.old.items ≡ first.items ++ rows.new.items)) }
     ensures fewer { IfOk result (λ taken. IfSome taken (λ _.
@@ -94,7 +94,7 @@ fn first_rows(rows: &mut Vec<Row>, room: &Cell<usize>) -> Result<Option<Vec<Row>
 }
 
 // The rows with so many columns more, which have nothing.
-fn widened_rows(alloc: Global, rows: &[Row], hidden: u64) -> Result<Vec<Row>, NoMemory>
+fn widened_rows(alloc: Global, rows: &[Mapping], hidden: u64) -> Result<Vec<Mapping>, NoMemory>
     ensures { IfOk result (λ out. out.items ≡ map (widened hidden) rows.now) }
 {
     let mut out = Vec::with_capacity(alloc, rows.len())?;
@@ -113,7 +113,7 @@ pub(crate) fn some_after<S: Source>(
     graph: &GraphName,
     source: &S,
     looked: &Cell<u64>,
-    mut rows: Vec<Row>,
+    mut rows: Vec<Mapping>,
     members: &[Member],
     filters: &[Expression],
     rooms: &[Cell<usize>],
@@ -173,7 +173,7 @@ fn some_of_first<S: Source>(
     graph: &GraphName,
     source: &S,
     looked: &Cell<u64>,
-    rows: &mut Vec<Row>,
+    rows: &mut Vec<Mapping>,
     members: &[Member],
     filters: &[Expression],
     rooms: &[Cell<usize>],
@@ -214,7 +214,7 @@ fn some_looked_up<S: Source>(
     looked: &Cell<u64>,
     own: &GraphName,
     look_up: &LookUp,
-    rows: &[Row],
+    rows: &[Mapping],
     members: &[Member],
     filters: &[Expression],
     rooms: &[Cell<usize>],
@@ -245,7 +245,7 @@ fn some_matched<S: Source>(
     source: &S,
     looked: &Cell<u64>,
     own: &GraphName,
-    start: Vec<Row>,
+    start: Vec<Mapping>,
     patterns: VecDeque<&Places>,
     members: &[Member],
     filters: &[Expression],
@@ -298,7 +298,7 @@ fn some_of_first_matched<S: Source>(
     source: &S,
     looked: &Cell<u64>,
     own: &GraphName,
-    rows: &mut Vec<Row>,
+    rows: &mut Vec<Mapping>,
     patterns: &VecDeque<&Places>,
     members: &[Member],
     filters: &[Expression],
@@ -343,7 +343,7 @@ fn some_of_lone<S: Source>(
     source: &S,
     looked: &Cell<u64>,
     own: &GraphName,
-    row: &Row,
+    row: &Mapping,
     places: &Places,
     patterns: &VecDeque<&Places>,
     members: &[Member],
@@ -387,7 +387,7 @@ fn some_of_quads<S: Source>(
     source: &S,
     looked: &Cell<u64>,
     own: &GraphName,
-    row: &Row,
+    row: &Mapping,
     places: &Places,
     quads: &[Quad],
     patterns: &VecDeque<&Places>,

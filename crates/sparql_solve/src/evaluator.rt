@@ -16,20 +16,21 @@ use crate::above::Above;
 use crate::basic::basic_under;
 use crate::counted::Counted;
 use crate::filters::filtered_rows;
+use crate::flags::Flags;
 use crate::look_ups::{Graphs, LookUp, is_named, look_up_in};
+use crate::mappings::Mapping;
 use crate::members::{is_joined, is_removed, look_up_of, removed_basic};
 use crate::names::{names_under, rows_of_names};
-use crate::rows::Row;
 use crate::shapes::{before_apart, group_reads};
 use crate::sharing::{asked_columns, gather, is_group, served_len, stops};
 use crate::sides::{
     Begun, Found, Made, asked, nothing_begun, nothing_made, rows_beside, rows_looked_up,
     rows_served, rows_with,
 };
-use crate::sorted_names::SortedNames;
 use rdf_dataset::Source;
 use rdf_terms::{GraphName, NoMemory, Term, Text, Vocabulary};
 use sparql_trees::{Expression, Member, Pattern, VarOrIri};
+use sparql_values::SortedNames;
 use std::alloc::Global;
 use std::cell::Cell;
 
@@ -41,7 +42,7 @@ pub(crate) fn group_rows<S: Source>(
     graph: &GraphName,
     source: &S,
     pattern: &Pattern,
-) -> Result<Vec<Row>, NoMemory>
+) -> Result<Vec<Mapping>, NoMemory>
     ensures { IfOk result (λ out. AreSolutions (S.contents source.now) out.items
         (λ d. solutions variables.now d graph.now (translation pattern.now))) }
 {
@@ -57,16 +58,16 @@ pub(crate) fn group_rows<S: Source>(
 }
 
 /// The solution of the empty pattern: the row that binds nothing.
-pub(crate) fn unit_rows(alloc: Global, variables: &SortedNames) -> Result<Vec<Row>, NoMemory>
+pub(crate) fn unit_rows(alloc: Global, variables: &SortedNames) -> Result<Vec<Mapping>, NoMemory>
     ensures { IfOk result (λ out. out.items ≡ replicate (length variables.now) None ∷ []) }
 {
     let mut rows = Vec::new(alloc);
-    rows.push(Row::unbound(alloc, variables)?)?;
+    rows.push(Mapping::unbound(alloc, variables)?)?;
     Ok(rows)
 }
 
 // Whether there is one row alone, which binds nothing.
-fn is_unit(rows: &[Row]) -> bool
+fn is_unit(rows: &[Mapping]) -> bool
     ensures { result ≡ is_unit rows.now }
 {
     match rows {
@@ -76,7 +77,7 @@ fn is_unit(rows: &[Row]) -> bool
 }
 
 // Whether the member is joined to the row that binds nothing, as the first one of a group is.
-fn is_first(rows: &[Row], member: &Member) -> bool
+fn is_first(rows: &[Mapping], member: &Member) -> bool
     ensures { result ≡ (is_unit rows.now && is_joined (element member.now)) }
 {
     is_unit(rows) && is_joined(member)
@@ -118,7 +119,7 @@ fn begun_directly<S: Source>(
     graph: &GraphName,
     source: &S,
     looked: &Cell<u64>,
-    rows: Vec<Row>,
+    rows: Vec<Mapping>,
     member: &Member,
     under: &Above,
 ) -> Result<Begun, NoMemory>
@@ -144,7 +145,7 @@ fn group_under<S: Source>(
     looked: &Cell<u64>,
     pattern: &Pattern,
     under: &Above,
-) -> Result<Vec<Row>, NoMemory>
+) -> Result<Vec<Mapping>, NoMemory>
     ensures { IfOk result (λ out. AreUnder variables.now (S.contents source.now) under.now out.items
         (λ d. solutions variables.now d graph.now (translation pattern.now))) }
 {
@@ -167,7 +168,7 @@ fn members_under<S: Source>(
     looked: &Cell<u64>,
     members: &[Member],
     under: &Above,
-) -> Result<Vec<Row>, NoMemory>
+) -> Result<Vec<Mapping>, NoMemory>
     ensures { IfOk result (λ out. AreUnder variables.now (S.contents source.now) under.now out.items
         (λ d. solutions variables.now d graph.now (group_of (map element members.now)))) }
 {
@@ -189,7 +190,7 @@ fn first_under<S: Source>(
     members: &[Member],
     many: usize,
     under: &Above,
-) -> Result<Vec<Row>, NoMemory>
+) -> Result<Vec<Mapping>, NoMemory>
     requires { many ≤ length members.now }
     ensures { IfOk result (λ out. AreUnder variables.now (S.contents source.now) under.now out.items
         (λ d. solutions variables.now d graph.now
@@ -214,10 +215,10 @@ pub(crate) fn rows_after<S: Source>(
     graph: &GraphName,
     source: &S,
     looked: &Cell<u64>,
-    rows: Vec<Row>,
+    rows: Vec<Mapping>,
     member: &Member,
     under: &Above,
-) -> Result<Vec<Row>, NoMemory>
+) -> Result<Vec<Mapping>, NoMemory>
     ensures { IfOk result (λ out. AreMade variables.now (S.contents source.now) graph.now under.now
         (element member.now) rows.items out.items) }
 {
@@ -254,11 +255,11 @@ fn rows_left<S: Source>(
     graph: &GraphName,
     source: &S,
     looked: &Cell<u64>,
-    rows: Vec<Row>,
+    rows: Vec<Mapping>,
     is_slow: bool,
     member: &Member,
     under: &Above,
-) -> Result<Vec<Row>, NoMemory>
+) -> Result<Vec<Mapping>, NoMemory>
     ensures { IfOk result (λ out. AreMade variables.now (S.contents source.now) graph.now under.now
         (element member.now) rows.items out.items) }
 {
@@ -287,10 +288,10 @@ fn rows_gathered<S: Source>(
     graph: &GraphName,
     source: &S,
     looked: &Cell<u64>,
-    mut rows: Vec<Row>,
+    mut rows: Vec<Mapping>,
     member: &Member,
     under: &Above,
-) -> Result<Vec<Row>, NoMemory>
+) -> Result<Vec<Mapping>, NoMemory>
     ensures { IfOk result (λ out. AreMade variables.now (S.contents source.now) graph.now under.now
         (element member.now) rows.items out.items) }
 {
@@ -314,8 +315,8 @@ fn rows_followed<S: Source>(
     graph: &GraphName,
     source: &S,
     looked: &Cell<u64>,
-    rows: &[Row],
-    flags: &[bool],
+    rows: &[Mapping],
+    flags: &Flags,
     member: &Member,
     under: &Above,
 ) -> Result<Made, NoMemory>
@@ -361,8 +362,8 @@ fn found_for<S: Source>(
     graph: &GraphName,
     source: &S,
     looked: &Cell<u64>,
-    row: &Row,
-    flags: &[bool],
+    row: &Mapping,
+    flags: &Flags,
     member: &Member,
     under: &Above,
 ) -> Result<Found, NoMemory>
@@ -389,11 +390,11 @@ fn with_the_rest<S: Source>(
     graph: &GraphName,
     source: &S,
     looked: &Cell<u64>,
-    rows: &[Row],
+    rows: &[Mapping],
     made: Made,
     member: &Member,
     under: &Above,
-) -> Result<Vec<Row>, NoMemory>
+) -> Result<Vec<Mapping>, NoMemory>
     ensures { IfOk result (λ out.
         AreMade variables.now (S.contents source.now) graph.now under.now (element member.now)
         (take made.done rows.now) made.rows.items →
@@ -404,7 +405,7 @@ fn with_the_rest<S: Source>(
         return Ok(made.rows);
     }
     let rest = &rows[made.done..];
-    let nothing = Row::unbound(alloc, variables)?;
+    let nothing = Mapping::unbound(alloc, variables)?;
     let asked = asked(alloc, member, under, &nothing)?;
     let found = member_under(
         alloc, variables, vocabulary, graph, source, looked, member, &asked,
@@ -426,7 +427,7 @@ fn member_under<S: Source>(
     looked: &Cell<u64>,
     member: &Member,
     under: &Above,
-) -> Result<Vec<Row>, NoMemory>
+) -> Result<Vec<Mapping>, NoMemory>
     ensures { IfOk result (λ out. AreUnder variables.now (S.contents source.now) under.now out.items
         (λ d. element_solutions variables.now d graph.now (element member.now))) }
 {
@@ -464,7 +465,7 @@ fn union_under<S: Source>(
     looked: &Cell<u64>,
     groups: &[Pattern],
     under: &Above,
-) -> Result<Vec<Row>, NoMemory>
+) -> Result<Vec<Mapping>, NoMemory>
     ensures { IfOk result (λ out. AreUnder variables.now (S.contents source.now) under.now out.items
         (λ d. solutions variables.now d graph.now (union_of (map translation groups.now)))) }
 {
@@ -493,7 +494,7 @@ pub(crate) fn graph_under<S: Source>(
     looked: &Cell<u64>,
     pattern: &Pattern,
     under: &Above,
-) -> Result<Vec<Row>, NoMemory>
+) -> Result<Vec<Mapping>, NoMemory>
     ensures { IfOk result (λ out. (active : GraphName) →
         AreUnder variables.now (S.contents source.now) under.now out.items
         (λ d. solutions variables.now d active (graph name.now (translation pattern.now)))) }
@@ -532,7 +533,7 @@ fn named_under<S: Source>(
     looked: &Cell<u64>,
     pattern: &Pattern,
     under: &Above,
-) -> Result<Vec<Row>, NoMemory>
+) -> Result<Vec<Mapping>, NoMemory>
     ensures { IfOk result (λ out. AreUnder variables.now (S.contents source.now) under.now out.items
         (λ d. cond (list_any (same_term name) d.names)
         (solutions variables.now d (Named name) (translation pattern.now)) [])) }
@@ -558,7 +559,7 @@ fn reading_under<S: Source>(
     looked: &Cell<u64>,
     pattern: &Pattern,
     under: &Above,
-) -> Result<Vec<Row>, NoMemory>
+) -> Result<Vec<Mapping>, NoMemory>
     ensures { IfOk result (λ out. (active : GraphName) →
         AreUnder variables.now (S.contents source.now) under.now out.items
         (λ d. solutions variables.now d active
@@ -604,7 +605,7 @@ fn each_under<S: Source>(
     many: usize,
     filters: &[Expression],
     under: &Above,
-) -> Result<Vec<Row>, NoMemory>
+) -> Result<Vec<Mapping>, NoMemory>
     requires { many ≤ length members.now }
     ensures { IfOk result (λ out. length under.now ≡ length variables.now →
         AreSolutions (S.contents source.now) out.items (λ d. flat_map (under_name variables.now d
@@ -613,7 +614,7 @@ fn each_under<S: Source>(
 {
     let mut out = Vec::new(alloc);
     for name in names {
-        let bound = Row::single(alloc, variables, variable, name)?;
+        let bound = Mapping::single(alloc, variables, variable, name)?;
         let both = under.merged(alloc, &bound)?;
         let graph = GraphName::Named(name.copy()?);
         let found = first_under(

@@ -3,11 +3,10 @@ ghost use Rattle.std.specs.Prelude.{◌≡◌, IfOk, filter};
 ghost use Rattle.sparql_algebra.specs.Results.{is_some_solution};
 ghost use Rattle.sparql_algebra.specs.Solutions.{satisfies};
 
-use crate::rows::Row;
-use crate::sorted_names::SortedNames;
+use crate::mappings::Mapping;
 use rdf_terms::{NoMemory, Vocabulary};
 use sparql_trees::Expression;
-use sparql_values::is_satisfied;
+use sparql_values::{SortedNames, is_satisfied};
 use std::alloc::Global;
 
 // Whether each of the filters is true of the row.
@@ -15,19 +14,13 @@ fn satisfies(
     alloc: Global,
     variables: &SortedNames,
     vocabulary: &Vocabulary,
-    row: &Row,
+    row: &Mapping,
     filters: &[Expression],
 ) -> Result<bool, NoMemory>
     ensures { IfOk result (λ b. b ≡ satisfies variables.now filters.now row.now) }
 {
     for filter in filters {
-        if !is_satisfied(
-            alloc,
-            variables.as_slice(),
-            row.values(),
-            vocabulary,
-            filter,
-        )? {
+        if !is_satisfied(alloc, variables, row.columns(), vocabulary, filter)? {
             return Ok(false);
         }
     }
@@ -39,9 +32,9 @@ pub(crate) fn filtered_rows(
     alloc: Global,
     variables: &SortedNames,
     vocabulary: &Vocabulary,
-    rows: Vec<Row>,
+    rows: Vec<Mapping>,
     filters: &[Expression],
-) -> Result<Vec<Row>, NoMemory>
+) -> Result<Vec<Mapping>, NoMemory>
     ensures { IfOk result
         (λ out. out.items ≡ filter (satisfies variables.now filters.now) rows.items) }
 {
@@ -62,7 +55,7 @@ pub(crate) fn some_satisfies(
     alloc: Global,
     variables: &SortedNames,
     vocabulary: &Vocabulary,
-    rows: &[Row],
+    rows: &[Mapping],
     filters: &[Expression],
 ) -> Result<bool, NoMemory>
     ensures { IfOk result (λ answer. answer

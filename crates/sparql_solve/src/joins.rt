@@ -7,19 +7,19 @@ ghost use Rattle.sparql_solve.specs.Parts.{merges_in};
 
 use crate::filters::filtered_rows;
 use crate::keyed::{Part, part_run};
+use crate::mappings::Mapping;
 use crate::parts::{cut_parts, parted, parts_of};
-use crate::rows::Row;
-use crate::sorted_names::SortedNames;
 use rdf_terms::{NoMemory, Vocabulary};
 use sparql_trees::Expression;
+use sparql_values::SortedNames;
 use std::alloc::Global;
 
 // Appends the merges of a row with those that are compatible with it.
 fn append_merges(
     alloc: Global,
-    row: &Row,
-    others: &[&Row],
-    out: &mut Vec<Row>,
+    row: &Mapping,
+    others: &[&Mapping],
+    out: &mut Vec<Mapping>,
 ) -> Result<(), NoMemory>
     ensures { OnOk result (out.new.items
         ≡ out.old.items ++ merges (map (λ r. r.now) others.now) row.now) }
@@ -35,9 +35,9 @@ fn append_merges(
 // Appends the merges of a row with those of the parts that have its key.
 fn append_partners(
     alloc: Global,
-    row: &Row,
+    row: &Mapping,
     parts: &[Part],
-    out: &mut Vec<Row>,
+    out: &mut Vec<Mapping>,
 ) -> Result<(), NoMemory>
     ensures { OnOk result (out.new.items ≡ out.old.items ++ merges_in parts.now row.now) }
 {
@@ -51,9 +51,9 @@ fn append_partners(
 // Appends the merges of each row.
 fn append_joins(
     alloc: Global,
-    rows: &[&Row],
+    rows: &[&Mapping],
     parts: &[Part],
-    out: &mut Vec<Row>,
+    out: &mut Vec<Mapping>,
 ) -> Result<(), NoMemory>
     ensures { OnOk result (out.new.items
         ≡ out.old.items ++ flat_map (merges_in parts.now) (map (λ r. r.now) rows.now)) }
@@ -65,7 +65,11 @@ fn append_joins(
 }
 
 /// Join: the merges of all compatible pairs.
-pub(crate) fn join(alloc: Global, left: &[Row], right: &[Row]) -> Result<Vec<Row>, NoMemory>
+pub(crate) fn join(
+    alloc: Global,
+    left: &[Mapping],
+    right: &[Mapping],
+) -> Result<Vec<Mapping>, NoMemory>
     ensures { IfOk result (λ out. SameBag out.items (joins left.now right.now)) }
 {
     let left = parted(alloc, left)?;
@@ -81,7 +85,11 @@ pub(crate) fn join(alloc: Global, left: &[Row], right: &[Row]) -> Result<Vec<Row
 }
 
 /// The row alone where it has no merge.
-pub(crate) fn or_alone(alloc: Global, row: &Row, mut merged: Vec<Row>) -> Result<Vec<Row>, NoMemory>
+pub(crate) fn or_alone(
+    alloc: Global,
+    row: &Mapping,
+    mut merged: Vec<Mapping>,
+) -> Result<Vec<Mapping>, NoMemory>
     ensures { IfOk result (λ out. out.items ≡ or_alone row.now merged.items) }
 {
     if merged.is_empty() {
@@ -95,10 +103,10 @@ fn optional_merges(
     alloc: Global,
     variables: &SortedNames,
     vocabulary: &Vocabulary,
-    row: &Row,
+    row: &Mapping,
     parts: &[Part],
     filters: &[Expression],
-) -> Result<Vec<Row>, NoMemory>
+) -> Result<Vec<Mapping>, NoMemory>
     ensures { IfOk result (λ out. out.items ≡ or_alone row.now
         (filter (satisfies variables.now filters.now) (merges_in parts.now row.now))) }
 {
@@ -113,10 +121,10 @@ fn append_left_joins(
     alloc: Global,
     variables: &SortedNames,
     vocabulary: &Vocabulary,
-    rows: &[&Row],
+    rows: &[&Mapping],
     parts: &[Part],
     filters: &[Expression],
-    out: &mut Vec<Row>,
+    out: &mut Vec<Mapping>,
 ) -> Result<(), NoMemory>
     ensures { OnOk result (out.new.items ≡ out.old.items ++ flat_map (λ a. or_alone a
         (filter (satisfies variables.now filters.now) (merges_in parts.now a)))
@@ -135,10 +143,10 @@ pub(crate) fn left_join(
     alloc: Global,
     variables: &SortedNames,
     vocabulary: &Vocabulary,
-    left: &[Row],
-    right: &[Row],
+    left: &[Mapping],
+    right: &[Mapping],
     filters: &[Expression],
-) -> Result<Vec<Row>, NoMemory>
+) -> Result<Vec<Mapping>, NoMemory>
     ensures { IfOk result (λ out. SameBag out.items
         (left_joins left.now right.now (satisfies variables.now filters.now))) }
 {

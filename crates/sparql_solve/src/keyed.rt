@@ -4,7 +4,7 @@ ghost use Rattle.sparql_solve.specs.Parts.{part_run};
 
 use crate::bins::Bins;
 use crate::keys::{Index, run_of};
-use crate::rows::Row;
+use crate::mappings::Mapping;
 
 /// A part of the right side, by the key that it shares with some left rows.
 #[derive(Drop)]
@@ -16,7 +16,7 @@ pub(crate) enum Part<'r> {
 }
 
 /// The rows of a part that have the key of a row.
-pub(crate) fn part_run<'p, 'r>(row: &Row, part: &'p Part<'r>) -> &'p [&'r Row]
+pub(crate) fn part_run<'p, 'r>(row: &Mapping, part: &'p Part<'r>) -> &'p [&'r Mapping]
     ensures { map (λ r. r.now) result.now ≡ part_run row.now part.now }
 {
     match part {

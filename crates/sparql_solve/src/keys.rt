@@ -4,7 +4,7 @@ ghost use Rattle.std.specs.List.{list_all};
 ghost use Rattle.sparql_algebra.specs.Order.{mapping_cmp};
 ghost use Rattle.sparql_solve.specs.Keys.{IsIndex, RunsGiveMerges, all_bind, binds, key, key_cmp, key_columns, run};
 
-use crate::rows::Row;
+use crate::mappings::Mapping;
 use rdf_terms::NoMemory;
 use std::alloc::Global;
 use std::cmp::Ordering;
@@ -14,18 +14,18 @@ use std::cmp::Ordering;
 pub(crate) struct Index<'r> {
     /// The columns of the key.
     pub(crate) columns: Vec<usize>,
-    pub(crate) rows: Vec<&'r Row>,
+    pub(crate) rows: Vec<&'r Mapping>,
     ghost sorted: { IsSortedByKey (key columns.items) mapping_cmp (map (λ r. r.now) rows.items) },
 }
 
 // Whether each of the rows has a term at the column.
-fn each_binds(rows: &[&Row], column: usize) -> bool
+fn each_binds(rows: &[&Mapping], column: usize) -> bool
     ensures { result ≡ list_all (binds column) (map (λ r. r.now) rows.now) }
 {
     rows.iter().all(|row| row.value(column).is_some())
 }
 
-fn all_bind(left: &[&Row], right: &[&Row], column: usize) -> bool
+fn all_bind(left: &[&Mapping], right: &[&Mapping], column: usize) -> bool
     ensures { result
         ≡ all_bind (map (λ r. r.now) left.now) (map (λ r. r.now) right.now) column }
 {
@@ -35,25 +35,32 @@ fn all_bind(left: &[&Row], right: &[&Row], column: usize) -> bool
 /// The columns at which each row of both sides has a term.
 pub(crate) fn key_columns(
     alloc: Global,
-    left: &[&Row],
-    right: &[&Row],
+    left: &[&Mapping],
+    right: &[&Mapping],
 ) -> Result<Vec<usize>, NoMemory>
     ensures { IfOk result (λ columns. columns.items
         ≡ key_columns (map (λ r. r.now) left.now) (map (λ r. r.now) right.now)) }
 {
     let mut columns = Vec::new(alloc);
-    if let Some(first) = left.first() {
-        for column in 0..first.values().len() {
-            if all_bind(left, right, column) {
-                columns.push(column)?;
-            }
+    let Some(first) = left.first() else {
+        return Ok(columns);
+    };
+    let len = first.len();
+    let mut from = 0;
+    while from < len {
+        let Some(column) = first.next_bound(from) else {
+            return Ok(columns);
+        };
+        if all_bind(left, right, column) {
+            columns.push(column)?;
         }
+        from = column + 1;
     }
     Ok(columns)
 }
 
 // By the values at the columns from the left.
-fn compare_keys(row: &Row, other: &Row, columns: &[usize]) -> Ordering
+fn compare_keys(row: &Mapping, other: &Mapping, columns: &[usize]) -> Ordering
     ensures { result ≡ key_cmp columns.now row.now other.now }
 {
     for column in columns {
@@ -68,9 +75,9 @@ fn compare_keys(row: &Row, other: &Row, columns: &[usize]) -> Ordering
 /// The rows in the order of their keys, those of one key in the order in which they came.
 pub(crate) fn index_of<'r>(
     alloc: Global,
-    rows: &[&'r Row],
+    rows: &[&'r Mapping],
     columns: &[usize],
-) -> Result<Vec<&'r Row>, NoMemory>
+) -> Result<Vec<&'r Mapping>, NoMemory>
     ensures { IfOk result (λ index.
         IsIndex columns.now (map (λ r. r.now) rows.now) (map (λ r. r.now) index.items)) }
 {
@@ -83,7 +90,11 @@ pub(crate) fn index_of<'r>(
 }
 
 /// The rows of an index that have the key of a row.
-pub(crate) fn run_of<'i, 'r>(row: &Row, index: &'i [&'r Row], columns: &[usize]) -> &'i [&'r Row]
+pub(crate) fn run_of<'i, 'r>(
+    row: &Mapping,
+    index: &'i [&'r Mapping],
+    columns: &[usize],
+) -> &'i [&'r Mapping]
     requires { IsSortedByKey (key columns.now) mapping_cmp (map (λ r. r.now) index.now) }
     ensures { map (λ r. r.now) result.now ≡ run columns.now (map (λ r. r.now) index.now) row.now }
 {

@@ -13,12 +13,14 @@ mod chunks;
 mod counted;
 mod evaluator;
 mod filters;
+mod flags;
 mod grown;
 mod joins;
 mod keyed;
 mod keys;
 mod laws;
 mod look_ups;
+mod mappings;
 mod matching;
 mod members;
 mod minus;
@@ -31,10 +33,13 @@ mod rows;
 mod shapes;
 mod sharing;
 mod sides;
-mod sorted_names;
+mod values;
 
 pub use keys::runs_give_merges;
 pub use laws::{look_ups_are_merges, rows_are_followed};
-pub use results::{Solutions, ask, ask_with, select, select_with, solve, sorted_solutions};
+pub use mappings::Mapping;
+pub use results::{
+    SolutionMappings, Solutions, ask, ask_with, select, select_with, solve, sorted_solutions,
+};
 pub use rows::Row;
-pub use sorted_names::SortedNames;
+pub use sparql_values::SortedNames;

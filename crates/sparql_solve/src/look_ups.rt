@@ -13,15 +13,16 @@ ghost use Rattle.sparql_solve.specs.LookUps.{looked_up};
 ghost use Rattle.sparql_solve.specs.Sides.{found, found_in, found_under, graph_where, graphs_of, look_up_in, tried};
 ghost use Rattle.sparql_solve.specs.Members.{AreSolutions};
 
+use crate::mappings::Mapping;
 use crate::matching::{
     asks_same, cut_rows, few_of_one, matching_rows, moved_of_one, rows_of_one, some_of_one,
 };
 use crate::place::{Places, all_places};
-use crate::rows::{Row, copy_value};
-use crate::sorted_names::SortedNames;
+use crate::values::copy_value;
 use rdf_dataset::Source;
 use rdf_terms::{GraphName, Items, NoMemory, Term, Text};
 use sparql_trees::{BasicGraphPattern, VarOrIri};
+use sparql_values::SortedNames;
 use std::alloc::Global;
 
 /// Where a basic graph pattern is looked up.
@@ -105,7 +106,7 @@ pub(crate) fn look_up_in(
 }
 
 /// Whether the rows have the same at each place of the triple patterns. Nothing but time rests on it.
-pub(crate) fn asks_all_same(row: &Row, other: &Row, patterns: &[Places]) -> bool {
+pub(crate) fn asks_all_same(row: &Mapping, other: &Mapping, patterns: &[Places]) -> bool {
     patterns.iter().all(|places| asks_same(row, other, places))
 }
 
@@ -149,15 +150,15 @@ fn grown_in_graph<S: Source>(
     graph: &GraphName,
     source: &S,
     look_up: &LookUp,
-    row: Row,
-) -> Result<Vec<Row>, NoMemory>
+    row: Mapping,
+) -> Result<Vec<Mapping>, NoMemory>
     ensures { IfOk result (λ out. AreSolutions (S.contents source.now) out.items
         (λ d. found_in d look_up.now graph.now row)) }
 {
     if let Some(places) = lone_pattern(look_up) {
         return moved_of_one(alloc, graph, source, places, row);
     }
-    let columns = row.values().len();
+    let columns = row.len();
     let mut start = Vec::new(alloc);
     start.push(row.widen(alloc, look_up.hidden)?)?;
     let rows = matching_rows(alloc, graph, source, look_up.places.as_slice(), start)?;
@@ -170,8 +171,8 @@ fn rows_in_graph<S: Source>(
     graph: &GraphName,
     source: &S,
     look_up: &LookUp,
-    row: &Row,
-) -> Result<Vec<Row>, NoMemory>
+    row: &Mapping,
+) -> Result<Vec<Mapping>, NoMemory>
     ensures { IfOk result (λ out. AreSolutions (S.contents source.now) out.items
         (λ d. found_in d look_up.now graph.now row.now)) }
 {
@@ -210,12 +211,12 @@ fn rows_under_name<S: Source>(
     name: &Term,
     source: &S,
     look_up: &LookUp,
-    row: &Row,
-) -> Result<Vec<Row>, NoMemory>
+    row: &Mapping,
+) -> Result<Vec<Mapping>, NoMemory>
     ensures { IfOk result (λ out. AreSolutions (S.contents source.now) out.items
         (λ d. found_under variables.now d look_up.now variable.now row.now name.now)) }
 {
-    let bound = Row::single(alloc, variables, variable, name)?;
+    let bound = Mapping::single(alloc, variables, variable, name)?;
     if row.is_compatible(&bound) {
         let graph = GraphName::Named(name.copy()?);
         let row = row.merged(alloc, &bound)?;
@@ -232,8 +233,8 @@ fn rows_under_names<S: Source>(
     names: &[Term],
     source: &S,
     look_up: &LookUp,
-    row: &Row,
-) -> Result<Vec<Row>, NoMemory>
+    row: &Mapping,
+) -> Result<Vec<Mapping>, NoMemory>
     ensures { IfOk result (λ out. AreSolutions (S.contents source.now) out.items
         (λ d. flat_map (found_under variables.now d look_up.now variable.now row.now) names.now)) }
 {
@@ -251,8 +252,8 @@ pub(crate) fn found_rows<S: Source>(
     variables: &SortedNames,
     source: &S,
     look_up: &LookUp,
-    row: &Row,
-) -> Result<Vec<Row>, NoMemory>
+    row: &Mapping,
+) -> Result<Vec<Mapping>, NoMemory>
     ensures { IfOk result (λ out. AreSolutions (S.contents source.now) out.items
         (λ d. found variables.now d look_up.now row.now)) }
 {
@@ -275,13 +276,13 @@ fn grown_under_name<S: Source>(
     name: &Term,
     source: &S,
     look_up: &LookUp,
-    mut row: Row,
-) -> Result<Vec<Row>, NoMemory>
+    mut row: Mapping,
+) -> Result<Vec<Mapping>, NoMemory>
     ensures { IfOk result (λ out. length row ≡ length variables.now →
         AreSolutions (S.contents source.now) out.items
         (λ d. found_under variables.now d look_up.now variable.now row name.now)) }
 {
-    if !row.bind(variables.column(variable), name)? {
+    if !row.bind(alloc, variables.column(variable), name)? {
         return Ok(Vec::new(alloc));
     }
     let graph = GraphName::Named(name.copy()?);
@@ -296,8 +297,8 @@ fn grown_under_names<S: Source>(
     names: &[Term],
     source: &S,
     look_up: &LookUp,
-    row: Row,
-) -> Result<Vec<Row>, NoMemory>
+    row: Mapping,
+) -> Result<Vec<Mapping>, NoMemory>
     ensures { IfOk result (λ out. length row ≡ length variables.now →
         AreSolutions (S.contents source.now) out.items (λ d.
         flat_map (found_under variables.now d look_up.now variable.now row) names.now)) }
@@ -317,8 +318,8 @@ pub(crate) fn grown_rows<S: Source>(
     variables: &SortedNames,
     source: &S,
     look_up: &LookUp,
-    row: Row,
-) -> Result<Vec<Row>, NoMemory>
+    row: Mapping,
+) -> Result<Vec<Mapping>, NoMemory>
     ensures { IfOk result (λ out. length row ≡ length variables.now →
         AreSolutions (S.contents source.now) out.items
         (λ d. found variables.now d look_up.now row)) }
@@ -340,8 +341,8 @@ pub(crate) fn some_found<S: Source>(
     variables: &SortedNames,
     source: &S,
     look_up: &LookUp,
-    row: &Row,
-) -> Result<Vec<Row>, NoMemory>
+    row: &Mapping,
+) -> Result<Vec<Mapping>, NoMemory>
     ensures { IfOk result (λ out. (d : Listing) → Lists (S.contents source.now) d →
         is_some_solution out.items
         ≡ is_some_solution (found variables.now d look_up.now row.now)) }
@@ -362,7 +363,7 @@ pub(crate) fn few_found<S: Source>(
     source: &S,
     look_up: &LookUp,
     most: usize,
-) -> Result<Option<Vec<Row>>, NoMemory>
+) -> Result<Option<Vec<Mapping>>, NoMemory>
     ensures { IfOk result (λ few. IfSome few (λ out. AreSolutions (S.contents source.now) out.items
         (λ d. found variables.now d look_up.now (empty_mapping variables.now)))) }
 {
@@ -372,7 +373,7 @@ pub(crate) fn few_found<S: Source>(
     let Some(places) = only_pattern(look_up) else {
         return Ok(None);
     };
-    let unbound = Row::unbound(alloc, variables)?;
+    let unbound = Mapping::unbound(alloc, variables)?;
     let nothing = unbound.widen(alloc, look_up.hidden)?;
     let Some(rows) = few_of_one(alloc, graph, source, places, &nothing, most)? else {
         return Ok(None);

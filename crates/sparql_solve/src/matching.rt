@@ -10,8 +10,8 @@ ghost use Rattle.sparql_solve.specs.Matching.{AsksSame, has_held, matched, match
 ghost use Rattle.sparql_solve.specs.Members.{AreSolutions};
 
 use crate::grown::{copies_grown, row_grown};
+use crate::mappings::Mapping;
 use crate::place::{Place, Places};
-use crate::rows::Row;
 use rdf_dataset::Source;
 use rdf_terms::{GraphName, NoMemory, Quad};
 use std::alloc::Global;
@@ -22,7 +22,12 @@ const FEW: usize = 64;
 
 // Binds in the row what the triple binds, which was looked up under it, and answers whether it fits;
 // a variable that stands twice may still want two terms.
-fn matches_row(row: &mut Row, places: &Places, quad: &Quad) -> Result<bool, NoMemory>
+fn matches_row(
+    alloc: Global,
+    row: &mut Mapping,
+    places: &Places,
+    quad: &Quad,
+) -> Result<bool, NoMemory>
     requires { IsTrue (has_held places.now row.old quad.now) }
     ensures { IfOk result (λ fits.
         matched places.now row.old quad.now ≡ cond fits (Some row.new) None) }
@@ -30,22 +35,22 @@ fn matches_row(row: &mut Row, places: &Places, quad: &Quad) -> Result<bool, NoMe
     let has_predicate = row.has(&places.predicate);
     let has_subject = row.has(&places.subject);
     let has_object = row.has(&places.object);
-    if !row.take(&places.predicate, quad.predicate(), has_predicate)? {
+    if !row.take(alloc, &places.predicate, quad.predicate(), has_predicate)? {
         return Ok(false);
     }
-    if !row.take(&places.subject, quad.subject(), has_subject)? {
+    if !row.take(alloc, &places.subject, quad.subject(), has_subject)? {
         return Ok(false);
     }
-    row.take(&places.object, quad.object(), has_object)
+    row.take(alloc, &places.object, quad.object(), has_object)
 }
 
 // Appends the rows that the triples make of copies of a row under which they were looked up.
 fn append_copies(
     alloc: Global,
-    row: &Row,
+    row: &Mapping,
     places: &Places,
     quads: &[Quad],
-    out: &mut Vec<Row>,
+    out: &mut Vec<Mapping>,
 ) -> Result<(), NoMemory>
     requires { IsTrue (list_all (has_held places.now row.now) quads.now) }
     ensures { OnOk result (out.new.items
@@ -53,7 +58,7 @@ fn append_copies(
 {
     for quad in quads {
         let mut found = row.copy(alloc)?;
-        if matches_row(&mut found, places, quad)? {
+        if matches_row(alloc, &mut found, places, quad)? {
             out.push(found)?;
         }
     }
@@ -63,10 +68,10 @@ fn append_copies(
 /// The rows that triples make of copies of a row under which they were looked up.
 pub(crate) fn copies_matched(
     alloc: Global,
-    row: &Row,
+    row: &Mapping,
     places: &Places,
     quads: &[Quad],
-) -> Result<Vec<Row>, NoMemory>
+) -> Result<Vec<Mapping>, NoMemory>
     requires { IsTrue (list_all (has_held places.now row.now) quads.now) }
     ensures { IfOk result (λ out. out.items ≡ matches_of quads.now places.now row.now) }
 {
@@ -79,10 +84,10 @@ pub(crate) fn copies_matched(
 // the row itself.
 fn append_matches(
     alloc: Global,
-    mut row: Row,
+    mut row: Mapping,
     places: &Places,
     quads: &[Quad],
-    out: &mut Vec<Row>,
+    out: &mut Vec<Mapping>,
 ) -> Result<(), NoMemory>
     requires { IsTrue (list_all (has_held places.now row) quads.now) }
     ensures { OnOk result (out.new.items
@@ -92,14 +97,14 @@ fn append_matches(
         return Ok(());
     };
     append_copies(alloc, &row, places, others, out)?;
-    if matches_row(&mut row, places, last)? {
+    if matches_row(alloc, &mut row, places, last)? {
         out.push(row)?;
     }
     Ok(())
 }
 
 /// Whether the rows have the same at the places.
-pub(crate) fn asks_same(row: &Row, other: &Row, places: &Places) -> bool
+pub(crate) fn asks_same(row: &Mapping, other: &Mapping, places: &Places) -> bool
     ensures { IsTrue result → AsksSame places.now row.now other.now }
 {
     row.holds_same(other, &places.subject)
@@ -112,7 +117,7 @@ fn quads_under<S: Source>(
     graph: &GraphName,
     source: &S,
     places: &Places,
-    row: &Row,
+    row: &Mapping,
     quads: &mut Vec<Quad>,
 ) -> Result<(), NoMemory>
     ensures { OnOk result (ListsOnce (quads_under (S.contents source.now) graph.now
@@ -136,7 +141,7 @@ pub(crate) fn quads_of<S: Source>(
     graph: &GraphName,
     source: &S,
     places: &Places,
-    row: &Row,
+    row: &Mapping,
 ) -> Result<Vec<Quad>, NoMemory>
     ensures listed { IfOk result (λ quads. ListsOnce (quads_under (S.contents source.now) graph.now
         places.now row.now) quads.items) }
@@ -162,7 +167,7 @@ pub(crate) fn few_quads_of<S: Source>(
     graph: &GraphName,
     source: &S,
     places: &Places,
-    row: &Row,
+    row: &Mapping,
     most: usize,
 ) -> Result<FewQuads, NoMemory>
     ensures some { IfOk result (λ few. AppendsSome (quads_under (S.contents source.now) graph.now
@@ -184,8 +189,8 @@ pub(crate) fn rows_of_one<S: Source>(
     graph: &GraphName,
     source: &S,
     places: &Places,
-    row: &Row,
-) -> Result<Vec<Row>, NoMemory>
+    row: &Mapping,
+) -> Result<Vec<Mapping>, NoMemory>
     ensures { IfOk result (λ out. AreSolutions (S.contents source.now) out.items
         (λ d. matches_of (d.quads graph.now) places.now row.now)) }
 {
@@ -200,8 +205,8 @@ pub(crate) fn moved_of_one<S: Source>(
     graph: &GraphName,
     source: &S,
     places: &Places,
-    row: Row,
-) -> Result<Vec<Row>, NoMemory>
+    row: Mapping,
+) -> Result<Vec<Mapping>, NoMemory>
     ensures { IfOk result (λ out. AreSolutions (S.contents source.now) out.items
         (λ d. matches_of (d.quads graph.now) places.now row)) }
 {
@@ -216,9 +221,9 @@ pub(crate) fn few_of_one<S: Source>(
     graph: &GraphName,
     source: &S,
     places: &Places,
-    row: &Row,
+    row: &Mapping,
     most: usize,
-) -> Result<Option<Vec<Row>>, NoMemory>
+) -> Result<Option<Vec<Mapping>>, NoMemory>
     ensures { IfOk result (λ few. IfSome few (λ out. AreSolutions (S.contents source.now) out.items
         (λ d. matches_of (d.quads graph.now) places.now row.now))) }
 {
@@ -237,8 +242,8 @@ pub(crate) fn some_of_one<S: Source>(
     graph: &GraphName,
     source: &S,
     places: &Places,
-    row: &Row,
-) -> Result<Vec<Row>, NoMemory>
+    row: &Mapping,
+) -> Result<Vec<Mapping>, NoMemory>
     ensures { IfOk result (λ out. (d : Listing) → Lists (S.contents source.now) d →
         is_some_solution out.items
         ≡ is_some_solution (matches_of (d.quads graph.now) places.now row.now)) }
@@ -261,8 +266,8 @@ pub(crate) fn step<S: Source>(
     graph: &GraphName,
     source: &S,
     places: &Places,
-    rows: Vec<Row>,
-) -> Result<Vec<Row>, NoMemory>
+    rows: Vec<Mapping>,
+) -> Result<Vec<Mapping>, NoMemory>
     ensures { IfOk result (λ out. AreSolutions (S.contents source.now) out.items
         (λ d. stepped (d.quads graph.now) rows.items places.now)) }
 {
@@ -286,7 +291,7 @@ pub(crate) fn step<S: Source>(
 }
 
 // Whether the row binds a variable of the triple pattern, or there is none in it.
-fn is_linked(row: &Row, places: &Places) -> bool {
+fn is_linked(row: &Mapping, places: &Places) -> bool {
     let mut is_ground = true;
     for place in [&places.subject, &places.predicate, &places.object] {
         if let Place::Column(_) = place {
@@ -302,7 +307,7 @@ fn is_linked(row: &Row, places: &Places) -> bool {
 /// The place of the triple pattern that is looked up next under the rows: of the first few, the
 /// first that is linked to what the first row binds; where none is, the first. Nothing but time
 /// rests on it.
-pub(crate) fn next_pattern(rest: &VecDeque<&Places>, rows: &[Row]) -> usize
+pub(crate) fn next_pattern(rest: &VecDeque<&Places>, rows: &[Mapping]) -> usize
     ensures { 0 < length rest.now.items → result < length rest.now.items }
 {
     let Some(row) = rows.first() else {
@@ -349,8 +354,8 @@ pub(crate) fn matching_rows<S: Source>(
     graph: &GraphName,
     source: &S,
     patterns: &[Places],
-    start: Vec<Row>,
-) -> Result<Vec<Row>, NoMemory>
+    start: Vec<Mapping>,
+) -> Result<Vec<Mapping>, NoMemory>
     ensures { IfOk result (λ out. AreSolutions (S.contents source.now) out.items
         (λ d. matching (d.quads graph.now) patterns.now start.items)) }
 {
@@ -367,12 +372,16 @@ pub(crate) fn matching_rows<S: Source>(
 }
 
 /// The first columns of each row.
-pub(crate) fn cut_rows(alloc: Global, rows: Vec<Row>, columns: usize) -> Result<Vec<Row>, NoMemory>
+pub(crate) fn cut_rows(
+    alloc: Global,
+    rows: Vec<Mapping>,
+    columns: usize,
+) -> Result<Vec<Mapping>, NoMemory>
     ensures { IfOk result (λ out. out.items ≡ map (take columns) rows.items) }
 {
     let mut out = Vec::with_capacity(alloc, rows.len())?;
     for row in rows {
-        out.push(row.cut(columns))?;
+        out.push(row.cut(alloc, columns)?)?;
     }
     Ok(out)
 }

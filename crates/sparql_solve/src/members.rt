@@ -10,10 +10,10 @@ ghost use Rattle.sparql_solve.specs.Members.{element_solutions};
 ghost use Rattle.sparql_solve.specs.Under.{IsLookUpOf, is_joined, is_removed};
 
 use crate::look_ups::{Graphs, LookUp, graphs_of, look_up_in, look_up_of_names};
-use crate::sorted_names::SortedNames;
 use rdf_dataset::Source;
 use rdf_terms::{GraphName, NoMemory};
 use sparql_trees::{BasicGraphPattern, Member, Pattern, VarOrIri};
+use sparql_values::SortedNames;
 use std::alloc::Global;
 
 /// Whether the member is joined: all but OPTIONAL and MINUS are.

@@ -9,11 +9,12 @@ ghost use Rattle.sparql_values.specs.Mapping.{single, value_of};
 use crate::above::Above;
 use crate::joins::join;
 use crate::look_ups::tried_names;
-use crate::rows::{Row, copy_value};
+use crate::mappings::Mapping;
 use crate::sides::compatible_rows;
-use crate::sorted_names::SortedNames;
+use crate::values::copy_value;
 use rdf_dataset::Source;
 use rdf_terms::{NoMemory, Term, Text};
+use sparql_values::SortedNames;
 use std::alloc::Global;
 
 /// The names that the variable may have beside what the row has there.
@@ -37,13 +38,13 @@ fn single_rows(
     variables: &SortedNames,
     variable: &Text,
     names: &[Term],
-) -> Result<Vec<Row>, NoMemory>
+) -> Result<Vec<Mapping>, NoMemory>
     ensures { IfOk result (λ out. out.items
         ≡ map (single variables.now variable.now) names.now) }
 {
     let mut out = Vec::with_capacity(alloc, names.len())?;
     for name in names {
-        out.push(Row::single(alloc, variables, variable, name)?)?;
+        out.push(Mapping::single(alloc, variables, variable, name)?)?;
     }
     Ok(out)
 }
@@ -55,9 +56,9 @@ pub(crate) fn rows_of_names(
     variables: &SortedNames,
     variable: &Text,
     names: &[Term],
-    rows: &[Row],
+    rows: &[Mapping],
     under: &Above,
-) -> Result<Vec<Row>, NoMemory>
+) -> Result<Vec<Mapping>, NoMemory>
     ensures { IfOk result (λ out. SameBag out.items
         (agreeing (joins rows.now (map (single variables.now variable.now) names.now)) under.now)) }
 {

@@ -4,11 +4,21 @@ ghost use Rattle.sparql_values.specs.Mapping.{Mapping, same_mapping};
 ghost use Rattle.sparql_algebra.specs.Order.{mapping_cmp};
 ghost use Rattle.sparql_algebra.specs.Results.{times_selected};
 
+use crate::mappings::Mapping;
 use crate::rows::Row;
 use rdf_terms::NoMemory;
 
-/// Sorts rows by their values from the left, unbound first.
-pub(crate) fn sort_rows(rows: &mut Vec<Row>) -> Result<(), NoMemory>
+/// Sorts mappings by their values from the left, unbound first.
+pub(crate) fn sort_mappings(mappings: &mut Vec<Mapping>) -> Result<(), NoMemory>
+    ensures permutation { OnOk result (IsPermutation mappings.old.items mappings.new.items) }
+    ensures sorted { OnOk result (IsSorted mapping_cmp mappings.new.items) }
+{
+    mappings.sort_by(|left, right| left.compare(right))?;
+    Ok(())
+}
+
+// Sorts rows by their values from the left, unbound first.
+fn sort_rows(rows: &mut Vec<Row>) -> Result<(), NoMemory>
     ensures permutation { OnOk result (IsPermutation rows.old.items rows.new.items) }
     ensures sorted { OnOk result (IsSorted mapping_cmp rows.new.items) }
 {

@@ -11,28 +11,61 @@ ghost use Rattle.sparql_solve.specs.Parts.{merges_in, part_run};
 use crate::bins::bins_of;
 use crate::keyed::Part;
 use crate::keys::{Index, index_of, key_columns};
-use crate::rows::Row;
-use rdf_terms::NoMemory;
+use crate::mappings::Mapping;
+use rdf_terms::{NoMemory, Term};
 use std::alloc::Global;
 use std::cmp::Ordering;
 
 // Fewer left rows than these are compared with every right row: to sort the right ones costs more.
 const FEWEST: usize = 16;
 
-// By the columns that have a term. Nothing but time rests on it.
-fn compare_bound(row: &Row, other: &Row) -> Ordering {
-    let bound = row.values().iter().map(|value| value.is_some());
-    bound.cmp(other.values().iter().map(|value| value.is_some()))
+// By the columns that have a term, which stand side by side.
+fn compare_plain(values: &[Option<Term>], others: &[Option<Term>]) -> Ordering {
+    for (value, other) in values.iter().zip(others) {
+        if value.is_some() != other.is_some() {
+            return value.is_some().cmp(&other.is_some());
+        }
+    }
+    values.len().cmp(&others.len())
 }
 
-fn references<'r>(alloc: Global, rows: &'r [Row]) -> Result<Vec<&'r Row>, NoMemory>
+// By the columns that have a term, of many columns.
+fn compare_bound_ones(row: &Mapping, other: &Mapping) -> Ordering {
+    let len = row.len();
+    let mut from = 0;
+    while let Some(column) = row.next_bound(from) {
+        let Some(next) = other.next_bound(from) else {
+            return Ordering::Greater;
+        };
+        if column != next {
+            return next.cmp(&column);
+        }
+        from = column + 1;
+    }
+    match other.next_bound(from) {
+        Some(_) => Ordering::Less,
+        None => len.cmp(&other.len()),
+    }
+}
+
+// By the columns that have a term. Nothing but time rests on it.
+fn compare_bound(row: &Mapping, other: &Mapping) -> Ordering {
+    if let Some(values) = row.columns().as_plain() {
+        if let Some(others) = other.columns().as_plain() {
+            return compare_plain(values, others);
+        }
+    }
+    compare_bound_ones(row, other)
+}
+
+fn references<'r>(alloc: Global, rows: &'r [Mapping]) -> Result<Vec<&'r Mapping>, NoMemory>
     ensures { IfOk result (λ all. map (λ r. r.now) all.items ≡ rows.now) }
 {
     Ok(rows.iter().collect(alloc)?)
 }
 
 /// References to the rows, those that bind the same columns side by side.
-pub(crate) fn parted<'r>(alloc: Global, rows: &'r [Row]) -> Result<Vec<&'r Row>, NoMemory>
+pub(crate) fn parted<'r>(alloc: Global, rows: &'r [Mapping]) -> Result<Vec<&'r Mapping>, NoMemory>
     ensures { IfOk result (λ all. SameBag (map (λ r. r.now) all.items) rows.now) }
 {
     let mut all = references(alloc, rows)?;
@@ -41,7 +74,7 @@ pub(crate) fn parted<'r>(alloc: Global, rows: &'r [Row]) -> Result<Vec<&'r Row>,
 }
 
 // How many rows at the front bind the same columns as the first one.
-fn part_len(rows: &[&Row]) -> usize
+fn part_len(rows: &[&Mapping]) -> usize
     requires { 0 < length rows.now }
     ensures some { 0 < result }
     ensures within { result ≤ length rows.now }
@@ -54,8 +87,8 @@ fn part_len(rows: &[&Row]) -> usize
 /// The rows cut into parts, where those that bind the same columns stand side by side.
 pub(crate) fn cut_parts<'s, 'r>(
     alloc: Global,
-    rows: &'s [&'r Row],
-) -> Result<Vec<&'s [&'r Row]>, NoMemory>
+    rows: &'s [&'r Mapping],
+) -> Result<Vec<&'s [&'r Mapping]>, NoMemory>
     ensures { IfOk result (λ parts. flat_map (λ part. map (λ r. r.now) part.now) parts.items
         ≡ map (λ r. r.now) rows.now) }
 {
@@ -71,7 +104,7 @@ pub(crate) fn cut_parts<'s, 'r>(
 }
 
 // The key columns; none where there are few left rows.
-fn columns_for(alloc: Global, left: &[&Row], right: &[&Row]) -> Result<Vec<usize>, NoMemory>
+fn columns_for(alloc: Global, left: &[&Mapping], right: &[&Mapping]) -> Result<Vec<usize>, NoMemory>
     ensures { IfOk result (λ columns. IsKeyOf columns.items
         (map (λ r. r.now) left.now) (map (λ r. r.now) right.now)) }
 {
@@ -84,8 +117,8 @@ fn columns_for(alloc: Global, left: &[&Row], right: &[&Row]) -> Result<Vec<usize
 /// A part by the key that it shares with these left rows.
 pub(crate) fn part_of<'r>(
     alloc: Global,
-    left: &[&Row],
-    rows: &[&'r Row],
+    left: &[&Mapping],
+    rows: &[&'r Mapping],
 ) -> Result<Part<'r>, NoMemory>
     ensures { IfOk result (λ part. All
         (λ a. agreeing (part_run a part) a ≡ agreeing (map (λ r. r.now) rows.now) a)
@@ -102,8 +135,8 @@ pub(crate) fn part_of<'r>(
 /// The parts, each by the key that it shares with these left rows.
 pub(crate) fn parts_of<'r>(
     alloc: Global,
-    left: &[&Row],
-    right: &[&[&'r Row]],
+    left: &[&Mapping],
+    right: &[&[&'r Mapping]],
 ) -> Result<Vec<Part<'r>>, NoMemory>
     ensures { IfOk result (λ parts. All (λ a. merges_in parts.items a
         ≡ merges (flat_map (λ part. map (λ r. r.now) part.now) right.now) a)

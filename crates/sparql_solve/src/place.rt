@@ -4,9 +4,9 @@ ghost use Rattle.sparql_algebra.specs.Solutions.{var_or_term};
 ghost use Rattle.sparql_solve.specs.Matching.{place_of, places_of};
 ghost use Rattle.sparql_trees.specs.declared.pattern.VarOrTerm.TheVariants.{Variable};
 
-use crate::sorted_names::SortedNames;
 use rdf_terms::{NoMemory, Term, Text};
 use sparql_trees::{TriplePattern, VarOrIri, VarOrTerm};
+use sparql_values::SortedNames;
 use std::alloc::Global;
 
 /// Where a place of a triple pattern gets its term.

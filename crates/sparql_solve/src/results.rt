@@ -1,6 +1,8 @@
 //! The results of queries (SPARQL 1.1 Query, sections 16.1, 16.3 and 18.2.5).
 ghost use Rattle.std.specs.Prelude.{◌≡◌, ◌<◌, IfOk, IsTrue, Some, count_by, length, map};
 ghost use Rattle.std.specs.List.{range_with_len};
+ghost use Rattle.std.specs.List.Sorted.{IsStrictlySortedBy};
+ghost use Rattle.rdf_terms.specs.Order.{text_cmp};
 ghost use Rattle.sparql_values.specs.Mapping.{Mapping, column, same_mapping, value_in};
 ghost use Rattle.sparql_algebra.specs.Results.{HasSolution, IsSelection, Solves, times_selected};
 ghost use Rattle.sparql_algebra.specs.Sorted.{sorted_solutions};
@@ -8,15 +10,16 @@ ghost use Rattle.sparql_trees.specs.Visible.{visible};
 
 use crate::asking::has_solution;
 use crate::evaluator::group_rows;
-use crate::order::{ordered, sort_rows};
+use crate::mappings::Mapping;
+use crate::order::{ordered, sort_mappings};
 use crate::rows::Row;
 use crate::shapes::has_minus;
-use crate::sorted_names::SortedNames;
 use rdf_dataset::Source;
 use rdf_terms::{GraphName, NoMemory, Text, Vocabulary};
 use sparql_trees::{
     Pattern, Select, named_variables, one_list_of_visible_variables, visible_variables,
 };
+use sparql_values::SortedNames;
 use std::alloc::Global;
 
 /// The solutions of a pattern.
@@ -24,9 +27,19 @@ use std::alloc::Global;
 pub struct Solutions {
     /// The visible variables in the order of their names.
     pub variables: SortedNames,
-    /// The solutions, each as often as the algebra counts it, from [`solve`] in any order and from
-    /// [`sorted_solutions`] in theirs; the columns of a row are the variables.
+    /// The solutions, each as often as the algebra counts it, in any order; the columns of a row are
+    /// the variables.
     pub rows: Vec<Row>,
+}
+
+/// The solutions of a pattern as mappings, which take no room for what they don't bind.
+#[derive(Drop)]
+pub struct SolutionMappings {
+    /// The visible variables in the order of their names.
+    pub variables: SortedNames,
+    /// The solutions, each as often as the algebra counts it, from [`sorted_solutions`] in their order;
+    /// their columns are the variables.
+    pub rows: Vec<Mapping>,
 }
 
 /// The solutions of a pattern in a graph of a dataset, each as often as the algebra counts it.
@@ -43,10 +56,25 @@ pub fn solve<S: Source>(
         s.variables s.rows.items) }
 {
     let vocabulary = Vocabulary::new(alloc)?;
-    solve_with(alloc, &vocabulary, pattern, graph, source)
+    let found = solve_with(alloc, &vocabulary, pattern, graph, source)?;
+    Ok(Solutions {
+        variables: found.variables,
+        rows: rows_of(alloc, found.rows)?,
+    })
 }
 
-// What `solve` answers, with a vocabulary that is lent. Rows are found over all variables that the
+// The mappings as rows, which have a place for each column.
+fn rows_of(alloc: Global, mappings: Vec<Mapping>) -> Result<Vec<Row>, NoMemory>
+    ensures { IfOk result (λ rows. rows.items ≡ mappings.items) }
+{
+    let mut rows = Vec::with_capacity(alloc, mappings.len())?;
+    for mapping in mappings {
+        rows.push(mapping.into_row(alloc)?)?;
+    }
+    Ok(rows)
+}
+
+// What `solve` answers, with a vocabulary that is lent. Mappings are found over all variables that the
 // pattern names; those that stand in MINUS alone are left out at the end, where there are some.
 fn solve_with<S: Source>(
     alloc: Global,
@@ -54,7 +82,7 @@ fn solve_with<S: Source>(
     pattern: &Pattern,
     graph: &GraphName,
     source: &S,
-) -> Result<Solutions, NoMemory>
+) -> Result<SolutionMappings, NoMemory>
     ensures { IfOk result (λ s. Solves pattern.now graph.now (S.contents source.now)
         s.variables s.rows.items) }
 {
@@ -65,7 +93,7 @@ fn solve_with<S: Source>(
         return solve_minus(alloc, vocabulary, pattern, graph, source, variables);
     }
     let rows = group_rows(alloc, &variables, vocabulary, graph, source, pattern)?;
-    Ok(Solutions { variables, rows })
+    Ok(SolutionMappings { variables, rows })
 }
 
 // What `solve` answers, where MINUS stands in the pattern.
@@ -76,7 +104,7 @@ fn solve_minus<S: Source>(
     graph: &GraphName,
     source: &S,
     variables: SortedNames,
-) -> Result<Solutions, NoMemory>
+) -> Result<SolutionMappings, NoMemory>
     requires { variables ≡ visible pattern.now }
     ensures { IfOk result (λ s. Solves pattern.now graph.now (S.contents source.now)
         s.variables s.rows.items) }
@@ -86,26 +114,29 @@ fn solve_minus<S: Source>(
     let all = SortedNames::from_rising(listed);
     let rows = group_rows(alloc, &all, vocabulary, graph, source, pattern)?;
     if all.as_slice() == variables.as_slice() {
-        return Ok(Solutions { variables, rows });
+        return Ok(SolutionMappings { variables, rows });
     }
-    let rows = shown_rows(alloc, &all, variables.as_slice(), &rows)?;
-    Ok(Solutions { variables, rows })
+    let rows = shown_rows(alloc, &all, &variables, &rows)?;
+    Ok(SolutionMappings { variables, rows })
 }
 
-// What rows over these names have at the variables.
+// What rows over these names have at the variables. A row costs what it binds.
 fn shown_rows(
     alloc: Global,
     names: &SortedNames,
-    variables: &[Text],
-    rows: &[Row],
-) -> Result<Vec<Row>, NoMemory>
+    variables: &SortedNames,
+    rows: &[Mapping],
+) -> Result<Vec<Mapping>, NoMemory>
+    requires names { IsStrictlySortedBy text_cmp names.now }
+    requires variables { IsStrictlySortedBy text_cmp variables.now }
     ensures { IfOk result (λ out. out.items
         ≡ map (λ r. map (value_in r) (map (column names.now) variables.now)) rows.now) }
 {
-    let columns = columns_of(alloc, names, variables)?;
+    let columns = columns_of(alloc, names, variables.as_slice())?;
+    let places = columns_of(alloc, variables, names.as_slice())?;
     let mut out = Vec::with_capacity(alloc, rows.len())?;
     for row in rows {
-        out.push(row.projected(alloc, columns.as_slice())?)?;
+        out.push(row.shown(alloc, columns.as_slice(), places.as_slice())?)?;
     }
     Ok(out)
 }
@@ -122,13 +153,13 @@ pub fn sorted_solutions<S: Source>(
     pattern: &Pattern,
     graph: &GraphName,
     source: &S,
-) -> Result<Solutions, NoMemory>
+) -> Result<SolutionMappings, NoMemory>
     ensures variables { IfOk result (λ s. s.variables ≡ visible pattern.now) }
     ensures rows { IfOk result (λ s. s.rows.items
         ≡ sorted_solutions pattern.now graph.now (S.contents source.now)) }
 {
     let mut found = solve_with(alloc, vocabulary, pattern, graph, source)?;
-    sort_rows(&mut found.rows)?;
+    sort_mappings(&mut found.rows)?;
     Ok(found)
 }
 
@@ -148,7 +179,7 @@ fn columns_of(
 }
 
 // Whether the columns of the row are the last of these rows.
-fn is_repeat(row: &Row, columns: &[Option<usize>], before: &[Row]) -> bool
+fn is_repeat(row: &Mapping, columns: &[Option<usize>], before: &[Row]) -> bool
     ensures { IsTrue result →
         0 < count_by (same_mapping (map (value_in row.now) columns.now)) before.now }
 {
@@ -161,7 +192,7 @@ fn is_repeat(row: &Row, columns: &[Option<usize>], before: &[Row]) -> bool
 // The columns of each row, under DISTINCT without those that are the same as of the row before.
 fn projected_rows(
     alloc: Global,
-    rows: &[Row],
+    rows: &[Mapping],
     columns: &[Option<usize>],
     distinct: bool,
 ) -> Result<Vec<Row>, NoMemory>
@@ -204,14 +235,14 @@ fn are_in_place(columns: &[Option<usize>]) -> bool
     true
 }
 
-fn is_as_long(row: &Row, columns: &[Option<usize>]) -> bool
+fn is_as_long(row: &Mapping, columns: &[Option<usize>]) -> bool
     ensures { IsTrue result → length row.now ≡ length columns.now }
 {
-    row.values().len() == columns.len()
+    row.len() == columns.len()
 }
 
 // Whether the columns are all that each row has, in their order.
-fn are_all(columns: &[Option<usize>], rows: &[Row]) -> bool
+fn are_all(columns: &[Option<usize>], rows: &[Mapping]) -> bool
     ensures { IsTrue result → map (λ r. map (value_in r) columns.now) rows.now ≡ rows.now }
 {
     if !are_in_place(columns) {
@@ -229,7 +260,7 @@ fn are_all(columns: &[Option<usize>], rows: &[Row]) -> bool
 // are all of theirs.
 fn selected_rows(
     alloc: Global,
-    rows: Vec<Row>,
+    rows: Vec<Mapping>,
     columns: &[Option<usize>],
     distinct: bool,
 ) -> Result<Vec<Row>, NoMemory>
@@ -239,7 +270,7 @@ fn selected_rows(
         (map (λ r. map (value_in r) columns.now) rows.items))) }
 {
     if !distinct && are_all(columns, &rows) {
-        return Ok(rows);
+        return rows_of(alloc, rows);
     }
     projected_rows(alloc, &rows, columns, distinct)
 }

@@ -1,16 +1,17 @@
 //! Rows that share what is found for them: those that have the same at the columns whose variables
 //! a member names. Which columns these are is seen in nothing but time, and so is when rows are
 //! followed no further.
-ghost use Rattle.std.specs.Prelude.{◌≡◌, ◌++◌, ◌<◌, ◌≤◌, IfOk, IsPermutation, IsTrue, OnOk, drop, length, take, true};
+ghost use Rattle.std.specs.Prelude.{◌≡◌, ◌++◌, ◌<◌, ◌≤◌, IfOk, IfSome, IsPermutation, IsTrue, OnOk, drop, length, take, true};
 ghost use Rattle.std.specs.List.{list_all};
 ghost use Rattle.sparql_solve.specs.Under.{is_served};
 
+use crate::flags::Flags;
+use crate::mappings::Mapping;
 use crate::matching::asks_same;
 use crate::place::Places;
-use crate::rows::Row;
-use crate::sorted_names::SortedNames;
 use rdf_terms::{NoMemory, Text};
 use sparql_trees::{Member, Pattern, TriplePattern, VarOrIri, VarOrTerm};
+use sparql_values::SortedNames;
 use std::alloc::Global;
 use std::cmp::Ordering;
 use std::collections::VecDeque;
@@ -27,63 +28,95 @@ const AT_LEAST: u128 = 4096;
 // For how many look-ups at least it is asked whether a triple pattern has few triples.
 const MANY: usize = 64;
 
-// Raises the flag of the variable's column.
-fn mark(flags: &mut [bool], variables: &SortedNames, variable: &Text) {
+// Adds the variable's column.
+fn mark(
+    columns: &mut Vec<usize>,
+    variables: &SortedNames,
+    variable: &Text,
+) -> Result<(), NoMemory> {
     if let Some(column) = variables.column(variable) {
-        if column < flags.len() {
-            flags[column] = true;
-        }
+        columns.push(column)?;
+    }
+    Ok(())
+}
+
+fn mark_name(
+    columns: &mut Vec<usize>,
+    variables: &SortedNames,
+    name: &VarOrIri,
+) -> Result<(), NoMemory> {
+    match name {
+        VarOrIri::Variable(variable) => mark(columns, variables, variable),
+        VarOrIri::Iri(_) => Ok(()),
     }
 }
 
-fn mark_name(flags: &mut [bool], variables: &SortedNames, name: &VarOrIri) {
-    if let VarOrIri::Variable(variable) = name {
-        mark(flags, variables, variable);
+fn mark_place(
+    columns: &mut Vec<usize>,
+    variables: &SortedNames,
+    place: &VarOrTerm,
+) -> Result<(), NoMemory> {
+    match place {
+        VarOrTerm::Variable(variable) => mark(columns, variables, variable),
+        VarOrTerm::Hidden(_) | VarOrTerm::Term(_) => Ok(()),
     }
 }
 
-fn mark_place(flags: &mut [bool], variables: &SortedNames, place: &VarOrTerm) {
-    if let VarOrTerm::Variable(variable) = place {
-        mark(flags, variables, variable);
-    }
-}
-
-fn mark_triples(flags: &mut [bool], variables: &SortedNames, triples: &[TriplePattern]) {
+fn mark_triples(
+    columns: &mut Vec<usize>,
+    variables: &SortedNames,
+    triples: &[TriplePattern],
+) -> Result<(), NoMemory> {
     for triple in triples {
-        mark_place(flags, variables, &triple.subject);
-        mark_name(flags, variables, &triple.predicate);
-        mark_place(flags, variables, &triple.object);
+        mark_place(columns, variables, &triple.subject)?;
+        mark_name(columns, variables, &triple.predicate)?;
+        mark_place(columns, variables, &triple.object)?;
     }
+    Ok(())
 }
 
 #[cycle(names)]
-fn mark_groups(flags: &mut [bool], variables: &SortedNames, groups: &[Pattern]) {
+fn mark_groups(
+    columns: &mut Vec<usize>,
+    variables: &SortedNames,
+    groups: &[Pattern],
+) -> Result<(), NoMemory> {
     for group in groups {
-        mark_group(flags, variables, group);
+        mark_group(columns, variables, group)?;
     }
+    Ok(())
 }
 
 #[cycle(names)]
-fn mark_group(flags: &mut [bool], variables: &SortedNames, pattern: &Pattern) {
+fn mark_group(
+    columns: &mut Vec<usize>,
+    variables: &SortedNames,
+    pattern: &Pattern,
+) -> Result<(), NoMemory> {
     let members = pattern.members.as_slice();
     for member in members {
-        mark_member(flags, variables, member);
+        mark_member(columns, variables, member)?;
     }
+    Ok(())
 }
 
-// Raises the flags of the variables that stand in the member's triple patterns or as GRAPH's name, at
+// Adds the columns of the variables that stand in the member's triple patterns or as GRAPH's name, at
 // any depth.
 #[cycle(names)]
-fn mark_member(flags: &mut [bool], variables: &SortedNames, member: &Member) {
+fn mark_member(
+    columns: &mut Vec<usize>,
+    variables: &SortedNames,
+    member: &Member,
+) -> Result<(), NoMemory> {
     match member {
-        Member::Basic(basic) => mark_triples(flags, variables, basic.triples.as_slice()),
-        Member::Union(groups) => mark_groups(flags, variables, groups.as_slice()),
-        Member::Optional(pattern) => mark_group(flags, variables, pattern),
+        Member::Basic(basic) => mark_triples(columns, variables, basic.triples.as_slice()),
+        Member::Union(groups) => mark_groups(columns, variables, groups.as_slice()),
+        Member::Optional(pattern) => mark_group(columns, variables, pattern),
         Member::Graph(name, pattern) => {
-            mark_name(flags, variables, name);
-            mark_group(flags, variables, pattern);
+            mark_name(columns, variables, name)?;
+            mark_group(columns, variables, pattern)
         }
-        Member::Minus(pattern) => mark_group(flags, variables, pattern),
+        Member::Minus(pattern) => mark_group(columns, variables, pattern),
     }
 }
 
@@ -94,35 +127,66 @@ pub(crate) fn asked_columns(
     variables: &SortedNames,
     member: &Member,
     rows: usize,
-) -> Result<Vec<bool>, NoMemory>
-    ensures { IfOk result (λ flags. length flags.items ≡ length variables.now) }
+) -> Result<Flags, NoMemory>
+    ensures { IfOk result (λ flags. length flags ≡ length variables.now) }
 {
-    let is_alone = rows < 2;
-    let mut flags = Vec::with_capacity(alloc, variables.len())?;
-    for _column in 0..variables.len() {
-        flags.push(is_alone)?;
+    if rows < 2 {
+        return Ok(Flags::all(alloc, variables.len()));
     }
-    if !is_alone {
-        mark_member(&mut flags, variables, member);
-    }
-    Ok(flags)
+    let mut columns = Vec::new(alloc);
+    mark_member(&mut columns, variables, member)?;
+    Flags::of(variables.len(), columns)
 }
 
-// By the values at the columns whose flag is up, from the left.
-fn compare_at(row: &Row, other: &Row, flags: &[bool]) -> Ordering {
-    for column in 0..flags.len() {
-        if flags[column] {
-            let by_value = row.value(column).cmp(&other.value(column));
-            if by_value.is_ne() {
-                return by_value;
-            }
+// The first of these columns, which rise, from this one on at which the row has a term. It is found
+// by leaps over what only one of both has.
+fn next_asked(row: &Mapping, columns: &[usize], from: usize) -> Option<usize>
+    ensures after { IfSome result (λ column. from ≤ column) }
+    ensures within { IfSome result (λ column. column < length row.now) }
+{
+    let mut at = from;
+    while let Some(column) = row.next_bound(at) {
+        let place = columns.partition_point(|asked| *asked < column);
+        if columns.len() <= place {
+            return None;
         }
+        let asked = columns[place];
+        if asked <= column {
+            return Some(column);
+        }
+        at = asked;
     }
-    Ordering::Equal
+    None
+}
+
+// By what is bound at the columns whose flag is up, from the left. Nothing but time rests on it.
+fn compare_at(row: &Mapping, other: &Mapping, flags: &Flags) -> Ordering {
+    let Some(columns) = flags.columns() else {
+        return row.compare(other);
+    };
+    let len = row.len();
+    let mut from = 0;
+    while let Some(column) = next_asked(row, columns, from) {
+        let Some(next) = next_asked(other, columns, from) else {
+            return Ordering::Greater;
+        };
+        if column != next {
+            return next.cmp(&column);
+        }
+        let by_value = row.value(column).cmp(&other.value(column));
+        if by_value.is_ne() {
+            return by_value;
+        }
+        from = column + 1;
+    }
+    match next_asked(other, columns, from) {
+        Some(_) => Ordering::Less,
+        None => len.cmp(&other.len()),
+    }
 }
 
 /// Puts rows side by side that have the same at the columns whose flag is up.
-pub(crate) fn gather(rows: &mut Vec<Row>, flags: &[bool]) -> Result<(), NoMemory>
+pub(crate) fn gather(rows: &mut Vec<Mapping>, flags: &Flags) -> Result<(), NoMemory>
     ensures { OnOk result (IsPermutation rows.old.items rows.new.items) }
 {
     rows.sort_by(|row, other| compare_at(row, other, flags))?;
@@ -130,17 +194,15 @@ pub(crate) fn gather(rows: &mut Vec<Row>, flags: &[bool]) -> Result<(), NoMemory
 }
 
 // Whether what was found for the columns of a row that these are serves another row.
-fn serves(asked: &Row, row: &Row, flags: &[bool]) -> bool
+fn serves(asked: &Mapping, row: &Mapping, flags: &Flags) -> bool
     ensures { IsTrue result → is_served asked.now row.now ≡ true }
 {
-    asked.values().len() == row.values().len()
-        && asked.is_below(row)
-        && compare_at(asked, row, flags).is_eq()
+    asked.len() == row.len() && asked.is_below(row) && compare_at(asked, row, flags).is_eq()
 }
 
 /// How many rows at the front are served by what was found for the columns of the first one that
 /// these are.
-pub(crate) fn served_len(asked: &Row, rows: &[Row], flags: &[bool]) -> usize
+pub(crate) fn served_len(asked: &Mapping, rows: &[Mapping], flags: &Flags) -> usize
     requires { 0 < length rows.now }
     ensures some { 0 < result }
     ensures within { result ≤ length rows.now }
@@ -154,7 +216,7 @@ pub(crate) fn served_len(asked: &Row, rows: &[Row], flags: &[bool]) -> usize
 }
 
 /// How many look-ups of a triple pattern rows take: those side by side that ask the same share one.
-pub(crate) fn look_ups_under(rows: &[Row], places: &Places) -> usize {
+pub(crate) fn look_ups_under(rows: &[Mapping], places: &Places) -> usize {
     let mut many: usize = rows.len().min(1);
     for place in 1..rows.len() {
         if !asks_same(&rows[place - 1], &rows[place], places) {
@@ -176,10 +238,10 @@ pub(crate) fn few_beside(look_ups: usize) -> Option<usize> {
 /// Takes away the rows at the front that are served by what was found for these columns.
 pub(crate) fn served_rows(
     alloc: Global,
-    asked: &Row,
-    flags: &[bool],
-    rest: &mut VecDeque<Row>,
-) -> Result<Vec<Row>, NoMemory>
+    asked: &Mapping,
+    flags: &Flags,
+    rest: &mut VecDeque<Mapping>,
+) -> Result<Vec<Mapping>, NoMemory>
     ensures taken { IfOk result (λ served. rest.old.items ≡ served.items ++ rest.new.items) }
     ensures served { IfOk result (λ served.
         list_all (is_served asked.now) served.items ≡ true) }

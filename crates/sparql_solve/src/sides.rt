@@ -19,14 +19,14 @@ use crate::joins::{join, left_join, or_alone};
 use crate::look_ups::{
     Graphs, LookUp, asks_all_same, few_found, found_rows, grown_rows, some_found,
 };
+use crate::mappings::Mapping;
 use crate::members::{is_joined, is_removed};
 use crate::minus::minus;
-use crate::rows::Row;
 use crate::sharing::{few_beside, look_ups_under, served_rows, stops_looking};
-use crate::sorted_names::SortedNames;
 use rdf_dataset::Source;
 use rdf_terms::{GraphName, NoMemory, Vocabulary};
 use sparql_trees::Member;
+use sparql_values::SortedNames;
 use std::alloc::Global;
 use std::cell::Cell;
 use std::collections::VecDeque;
@@ -34,7 +34,7 @@ use std::collections::VecDeque;
 /// What was made of the first rows, where the others may have been left.
 #[derive(Drop)]
 pub(crate) struct Made {
-    pub(crate) rows: Vec<Row>,
+    pub(crate) rows: Vec<Mapping>,
     /// Of how many rows.
     pub(crate) done: usize,
 }
@@ -53,14 +53,14 @@ pub(crate) fn nothing_made(alloc: Global) -> Made
 /// What was made of the first rows by look-ups under each of them, and the rows that are left.
 #[derive(Drop)]
 pub(crate) struct Begun {
-    pub(crate) rows: Vec<Row>,
-    pub(crate) rest: Vec<Row>,
+    pub(crate) rows: Vec<Mapping>,
+    pub(crate) rest: Vec<Mapping>,
     /// Whether look-ups under each of these would be slow; else there are none.
     pub(crate) is_slow: bool,
 }
 
 /// Nothing is made: there are no look-ups.
-pub(crate) fn nothing_begun(alloc: Global, rows: Vec<Row>) -> Begun
+pub(crate) fn nothing_begun(alloc: Global, rows: Vec<Mapping>) -> Begun
     ensures made { result.rows.items ≡ [] }
     ensures rest { result.rest.items ≡ rows.items }
 {
@@ -72,7 +72,7 @@ pub(crate) fn nothing_begun(alloc: Global, rows: Vec<Row>) -> Begun
 }
 
 // All is made: no rows are left.
-fn all_made(alloc: Global, rows: Vec<Row>) -> Begun
+fn all_made(alloc: Global, rows: Vec<Mapping>) -> Begun
     ensures made { result.rows.items ≡ rows.items }
     ensures rest { result.rest.items ≡ [] }
 {
@@ -84,7 +84,7 @@ fn all_made(alloc: Global, rows: Vec<Row>) -> Begun
 }
 
 // What was made by look-ups, and the rows that are left.
-fn begun_with(rows: Vec<Row>, rest: VecDeque<Row>) -> Begun
+fn begun_with(rows: Vec<Mapping>, rest: VecDeque<Mapping>) -> Begun
     ensures made { result.rows.items ≡ rows.items }
     ensures rest { result.rest.items ≡ rest.items }
 {
@@ -99,16 +99,16 @@ fn begun_with(rows: Vec<Row>, rest: VecDeque<Row>) -> Begun
 #[derive(Drop)]
 pub(crate) struct Found {
     /// What they have there.
-    pub(crate) columns: Row,
-    pub(crate) rows: Vec<Row>,
+    pub(crate) columns: Mapping,
+    pub(crate) rows: Vec<Mapping>,
 }
 
 /// The rows that are compatible with this one.
 pub(crate) fn compatible_rows(
     alloc: Global,
     under: &Above,
-    rows: Vec<Row>,
-) -> Result<Vec<Row>, NoMemory>
+    rows: Vec<Mapping>,
+) -> Result<Vec<Mapping>, NoMemory>
     ensures { IfOk result (λ out. out.items ≡ agreeing rows.items under.now) }
 {
     if under.is_unbound() {
@@ -124,7 +124,11 @@ pub(crate) fn compatible_rows(
 }
 
 /// The rows with what another one binds.
-pub(crate) fn rows_with(alloc: Global, rows: &[Row], bound: &Row) -> Result<Vec<Row>, NoMemory>
+pub(crate) fn rows_with(
+    alloc: Global,
+    rows: &[Mapping],
+    bound: &Mapping,
+) -> Result<Vec<Mapping>, NoMemory>
     ensures { IfOk result (λ out. out.items ≡ map (λ x. merge x bound.now) rows.now) }
 {
     let mut out = Vec::with_capacity(alloc, rows.len())?;
@@ -140,7 +144,7 @@ pub(crate) fn asked(
     alloc: Global,
     member: &Member,
     under: &Above,
-    row: &Row,
+    row: &Mapping,
 ) -> Result<Above, NoMemory>
     ensures { IfOk result (λ out. out ≡ asked (element member.now) under.now row.now) }
 {
@@ -151,7 +155,7 @@ pub(crate) fn asked(
 }
 
 // The row, where there is none of these.
-fn where_none(alloc: Global, row: &Row, merged: &[Row]) -> Result<Vec<Row>, NoMemory>
+fn where_none(alloc: Global, row: &Mapping, merged: &[Mapping]) -> Result<Vec<Mapping>, NoMemory>
     ensures { IfOk result (λ out. out.items ≡ where_none row.now merged.now) }
 {
     let mut out = Vec::new(alloc);
@@ -167,10 +171,10 @@ fn passed_rows(
     alloc: Global,
     variables: &SortedNames,
     vocabulary: &Vocabulary,
-    row: &Row,
-    merged: Vec<Row>,
+    row: &Mapping,
+    merged: Vec<Mapping>,
     member: &Member,
-) -> Result<Vec<Row>, NoMemory>
+) -> Result<Vec<Mapping>, NoMemory>
     ensures { IfOk result (λ out. out.items
         ≡ kept variables.now (element member.now) row.now merged.items) }
 {
@@ -190,11 +194,11 @@ fn kept_rows(
     alloc: Global,
     variables: &SortedNames,
     vocabulary: &Vocabulary,
-    row: &Row,
-    merged: Vec<Row>,
+    row: &Mapping,
+    merged: Vec<Mapping>,
     member: &Member,
     under: &Above,
-) -> Result<Vec<Row>, NoMemory>
+) -> Result<Vec<Mapping>, NoMemory>
     ensures { IfOk result (λ out. out.items
         ≡ agreeing (kept variables.now (element member.now) row.now merged.items) under.now) }
 {
@@ -203,7 +207,7 @@ fn kept_rows(
 }
 
 // The merges of a row with those that are compatible with it.
-fn merges_of(alloc: Global, row: &Row, found: &[Row]) -> Result<Vec<Row>, NoMemory>
+fn merges_of(alloc: Global, row: &Mapping, found: &[Mapping]) -> Result<Vec<Mapping>, NoMemory>
     ensures { IfOk result (λ out. out.items ≡ merges found.now row.now) }
 {
     let mut out = Vec::new(alloc);
@@ -220,11 +224,11 @@ fn made_rows(
     alloc: Global,
     variables: &SortedNames,
     vocabulary: &Vocabulary,
-    row: &Row,
-    found: &[Row],
+    row: &Mapping,
+    found: &[Mapping],
     member: &Member,
     under: &Above,
-) -> Result<Vec<Row>, NoMemory>
+) -> Result<Vec<Mapping>, NoMemory>
     ensures { IfOk result (λ out. out.items ≡ agreeing (kept variables.now (element member.now)
         row.now (merges found.now row.now)) under.now) }
 {
@@ -237,10 +241,10 @@ fn joined_rows(
     alloc: Global,
     variables: &SortedNames,
     vocabulary: &Vocabulary,
-    rows: &[Row],
-    found: &[Row],
+    rows: &[Mapping],
+    found: &[Mapping],
     member: &Member,
-) -> Result<Vec<Row>, NoMemory>
+) -> Result<Vec<Mapping>, NoMemory>
     ensures { IfOk result (λ out. SameBag out.items (flat_map (λ x. kept variables.now
         (element member.now) x (merges (met (element member.now) x found.now) x)) rows.now)) }
 {
@@ -260,11 +264,11 @@ pub(crate) fn rows_beside(
     alloc: Global,
     variables: &SortedNames,
     vocabulary: &Vocabulary,
-    rows: &[Row],
-    found: &[Row],
+    rows: &[Mapping],
+    found: &[Mapping],
     member: &Member,
     under: &Above,
-) -> Result<Vec<Row>, NoMemory>
+) -> Result<Vec<Mapping>, NoMemory>
     ensures { IfOk result (λ out. SameBag out.items (flat_map (λ x. agreeing (kept variables.now
         (element member.now) x (merges (met (element member.now) x found.now) x)) under.now)
         rows.now)) }
@@ -278,11 +282,11 @@ fn rows_one_by_one(
     alloc: Global,
     variables: &SortedNames,
     vocabulary: &Vocabulary,
-    rows: &[Row],
-    found: &[Row],
+    rows: &[Mapping],
+    found: &[Mapping],
     member: &Member,
     under: &Above,
-) -> Result<Vec<Row>, NoMemory>
+) -> Result<Vec<Mapping>, NoMemory>
     ensures { IfOk result (λ out. out.items ≡ flat_map (λ x. agreeing (kept variables.now
         (element member.now) x (merges found.now x)) under.now) rows.now) }
 {
@@ -300,11 +304,11 @@ pub(crate) fn rows_served(
     alloc: Global,
     variables: &SortedNames,
     vocabulary: &Vocabulary,
-    rows: &[Row],
-    found: &[Row],
+    rows: &[Mapping],
+    found: &[Mapping],
     member: &Member,
     under: &Above,
-) -> Result<Vec<Row>, NoMemory>
+) -> Result<Vec<Mapping>, NoMemory>
     ensures { IfOk result (λ out. SameBag out.items (flat_map (λ x. agreeing (kept variables.now
         (element member.now) x (merges (met (element member.now) x found.now) x)) under.now)
         rows.now)) }
@@ -331,8 +335,8 @@ fn counting_rows<S: Source>(
     source: &S,
     look_up: &LookUp,
     member: &Member,
-    row: &Row,
-) -> Result<Vec<Row>, NoMemory>
+    row: &Mapping,
+) -> Result<Vec<Mapping>, NoMemory>
     ensures { IfOk result (λ out. AreEnough variables.now (S.contents source.now)
         (element member.now) row.now out.items
         (λ d. counting variables.now d look_up.now (element member.now) row.now)) }
@@ -350,8 +354,8 @@ fn counting_rows<S: Source>(
 // for MINUS not nothing alone, and none of GRAPH's names has to be tried.
 fn is_shared(
     variables: &SortedNames,
-    row: &Row,
-    next: Option<&Row>,
+    row: &Mapping,
+    next: Option<&Mapping>,
     look_up: &LookUp,
     member: &Member,
 ) -> bool
@@ -368,7 +372,7 @@ fn is_shared(
 }
 
 // The row alone, which is moved on, where it has no merge.
-fn or_moved(row: Row, mut passed: Vec<Row>) -> Result<Vec<Row>, NoMemory>
+fn or_moved(row: Mapping, mut passed: Vec<Mapping>) -> Result<Vec<Mapping>, NoMemory>
     ensures { IfOk result (λ out. out.items ≡ or_alone row passed.items) }
 {
     if passed.is_empty() {
@@ -378,7 +382,11 @@ fn or_moved(row: Row, mut passed: Vec<Row>) -> Result<Vec<Row>, NoMemory>
 }
 
 // The row, which is moved on, where there is none of these.
-fn moved_where_none(alloc: Global, row: Row, found: &[Row]) -> Result<Vec<Row>, NoMemory>
+fn moved_where_none(
+    alloc: Global,
+    row: Mapping,
+    found: &[Mapping],
+) -> Result<Vec<Mapping>, NoMemory>
     ensures { IfOk result (λ out. out.items ≡ where_none row found.now) }
 {
     let mut out = Vec::new(alloc);
@@ -394,10 +402,10 @@ fn moved_on(
     alloc: Global,
     variables: &SortedNames,
     vocabulary: &Vocabulary,
-    row: Row,
-    merged: Vec<Row>,
+    row: Mapping,
+    merged: Vec<Mapping>,
     member: &Member,
-) -> Result<Vec<Row>, NoMemory>
+) -> Result<Vec<Mapping>, NoMemory>
     ensures { IfOk result (λ out. out.items
         ≡ kept variables.now (element member.now) row merged.items) }
 {
@@ -419,11 +427,11 @@ fn looked_up_alone<S: Source>(
     vocabulary: &Vocabulary,
     _graph: &GraphName,
     source: &S,
-    row: Row,
+    row: Mapping,
     look_up: &LookUp,
     member: &Member,
     under: &Above,
-) -> Result<Vec<Row>, NoMemory>
+) -> Result<Vec<Mapping>, NoMemory>
     requires { IsLookUpFor variables.now (S.contents source.now) (element member.now)
         look_up.now (λ d. element_solutions variables.now d _graph.now (element member.now)) }
     ensures { IfOk result (λ out. AreMade variables.now (S.contents source.now) _graph.now
@@ -445,11 +453,11 @@ fn first_looked_up<S: Source>(
     vocabulary: &Vocabulary,
     graph: &GraphName,
     source: &S,
-    rest: &mut VecDeque<Row>,
+    rest: &mut VecDeque<Mapping>,
     look_up: &LookUp,
     member: &Member,
     under: &Above,
-) -> Result<Vec<Row>, NoMemory>
+) -> Result<Vec<Mapping>, NoMemory>
     requires rows { 0 < length rest.old.items }
     requires gives { IsLookUpOf variables.now (S.contents source.now) look_up.now
         (λ d. element_solutions variables.now d graph.now (element member.now)) }
@@ -484,8 +492,8 @@ fn found_once<S: Source>(
     variables: &SortedNames,
     source: &S,
     look_up: &LookUp,
-    rows: &[Row],
-) -> Result<Option<Vec<Row>>, NoMemory>
+    rows: &[Mapping],
+) -> Result<Option<Vec<Mapping>>, NoMemory>
     ensures { IfOk result (λ few. IfSome few (λ out. AreSolutions (S.contents source.now) out.items
         (λ d. found variables.now d look_up.now (empty_mapping variables.now)))) }
 {
@@ -505,12 +513,12 @@ fn rows_joined_once<S: Source>(
     vocabulary: &Vocabulary,
     _graph: &GraphName,
     _source: &S,
-    rows: &[Row],
-    all: &[Row],
+    rows: &[Mapping],
+    all: &[Mapping],
     _look_up: &LookUp,
     member: &Member,
     under: &Above,
-) -> Result<Vec<Row>, NoMemory>
+) -> Result<Vec<Mapping>, NoMemory>
     requires gives { IsLookUpOf variables.now (S.contents _source.now) _look_up.now
         (λ d. element_solutions variables.now d _graph.now (element member.now)) }
     requires found { AreSolutions (S.contents _source.now) all.now
@@ -530,7 +538,7 @@ pub(crate) fn rows_looked_up<S: Source>(
     graph: &GraphName,
     source: &S,
     looked: &Cell<u64>,
-    rows: Vec<Row>,
+    rows: Vec<Mapping>,
     look_up: &LookUp,
     member: &Member,
     under: &Above,

@@ -1,6 +1,9 @@
+pub mod Columns
+pub mod ColumnsFall
 pub mod Laws
 pub mod Mapping
 pub mod MappingLaws
+pub mod NextBound
 pub mod Operands
 pub mod Scopes
 pub mod Tables

@@ -8,10 +8,12 @@ ghost use Rattle.sparql_values.specs.Scopes.{value_in, truth_in, number_at, sign
 ghost use Rattle.sparql_values.specs.Values.{added, both, called, compared, either, is_satisfied, on_both, times};
 ghost use Rattle.sparql_values.specs.Mapping as mapping;
 
+use crate::columns::Columns;
 use crate::comparison::comparison;
 use crate::function::{are_same, called};
 use crate::mapping::value_of;
 use crate::number::{added, multiplied, signed};
+use crate::sorted_names::SortedNames;
 use crate::truth::{both, either, is_true, negated};
 use crate::value::{Value, number, of_number, of_term, of_truth, truth};
 use rdf_terms::{NoMemory, Term, Text, Vocabulary};
@@ -23,8 +25,8 @@ use std::alloc::Global;
 pub struct Scope<'a> {
     pub alloc: Global,
     pub vocabulary: &'a Vocabulary,
-    pub variables: &'a [Text],
-    pub row: &'a [Option<Term>],
+    pub variables: &'a SortedNames,
+    pub row: &'a Columns,
 }
 
 fn bound<'a>(scope: &Scope<'a>, name: &Text) -> Option<&'a Term>
@@ -120,7 +122,7 @@ fn number_at<'a>(scope: &Scope<'a>, expression: &'a Expression) -> Result<Option
     Ok(number(&value(scope, expression)?))
 }
 
-// `||` between these.
+// `||` between these; behind a true one nothing is worked out.
 #[cycle(value)]
 fn any<'a>(scope: &Scope<'a>, operands: &'a [Expression]) -> Result<Option<bool>, NoMemory>
     ensures { IfOk result (λ t. t ≡ fold either (Some false)
@@ -128,12 +130,15 @@ fn any<'a>(scope: &Scope<'a>, operands: &'a [Expression]) -> Result<Option<bool>
 {
     let mut so_far = Some(false);
     for operand in operands {
+        if is_true(so_far) {
+            break;
+        }
         so_far = either(so_far, truth_at(scope, operand)?);
     }
     Ok(so_far)
 }
 
-// `&&` between these.
+// `&&` between these; behind a false one nothing is worked out.
 #[cycle(value)]
 fn all<'a>(scope: &Scope<'a>, operands: &'a [Expression]) -> Result<Option<bool>, NoMemory>
     ensures { IfOk result (λ t. t ≡ fold both (Some true)
@@ -141,6 +146,9 @@ fn all<'a>(scope: &Scope<'a>, operands: &'a [Expression]) -> Result<Option<bool>
 {
     let mut so_far = Some(true);
     for operand in operands {
+        if is_true(negated(so_far)) {
+            break;
+        }
         so_far = both(so_far, truth_at(scope, operand)?);
     }
     Ok(so_far)
@@ -182,8 +190,8 @@ fn product<'a>(scope: &Scope<'a>, factors: &'a [Expression]) -> Result<Option<i1
 /// [`NoMemory`] where memory is wanting.
 pub fn is_satisfied(
     alloc: Global,
-    variables: &[Text],
-    row: &[Option<Term>],
+    variables: &SortedNames,
+    row: &Columns,
     vocabulary: &Vocabulary,
     expression: &Expression,
 ) -> Result<bool, NoMemory>

@@ -4,6 +4,7 @@
 //! Decimals, doubles and dates have no value here, and a whole number has 128 bits.
 #![tactic(auto)]
 
+mod columns;
 mod comparison;
 mod evaluator;
 mod function;
@@ -11,12 +12,14 @@ mod laws;
 mod literal;
 mod mapping;
 mod number;
+mod sorted_names;
 mod truth;
 mod value;
 
+pub use columns::Columns;
 pub use evaluator::is_satisfied;
 pub use laws::{
     comparison_tables_hold, comparisons_keep_their_laws, expression_tables_hold, logic_tables_hold,
     mappings_are_merged, results_are_read_back, term_tables_hold,
 };
-pub use mapping::column;
+pub use sorted_names::SortedNames;

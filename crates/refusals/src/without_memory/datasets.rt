@@ -1,57 +1,58 @@
 //! Calls on datasets, staged views, nets, and keys in their orders.
-use crate::datasets::{begun, iri, quad};
-use crate::signs::{memory_is_back, requests_count};
-use crate::told::Told;
+use crate::datasets::begun;
 use rdf_dataset::{Dataset, Net, Source, Staged};
 use rdf_orders::{Order, Orders, QuadSets, Walk};
 use rdf_terms::{Quad, Term};
 use std::alloc::Global;
+use told_parts::{Told, memory_is_back, requests_count};
 
 pub fn outcome(alloc: Global) -> Told {
-    Told::kept("datasets without memory", are_answered(alloc) == Some(true))
+    let mut dataset = Dataset::new(alloc);
+    let is_kept = match begun(alloc, &mut dataset) {
+        Some(net) => {
+            is_read(alloc, &dataset, &net) && is_net(alloc, net) && is_walked(alloc) == Some(true)
+        }
+        None => false,
+    };
+    Told::kept("datasets without memory", is_kept)
 }
 
-fn are_answered(alloc: Global) -> Option<bool> {
-    let (dataset, net) = begun(alloc)?;
-    let asked = Asked::new(alloc)?;
-    Some(is_read(alloc, &dataset, &asked) && is_net(alloc, net) && is_walked(alloc)?)
+// Whether what the net takes out is there, and what it brings in isn't.
+fn is_answered<D: Source>(source: &D, net: &Net) -> bool {
+    holds(source, net.removed(), net.names_removed(), true)
+        && holds(source, net.added(), net.names_added(), false)
 }
 
-// What is there, and what isn't.
-#[derive(Drop)]
-struct Asked {
-    quad: Quad,
-    name: Term,
-    other_quad: Quad,
-    other_name: Term,
-}
-
-impl Asked {
-    fn new(alloc: Global) -> Option<Asked> {
-        Some(Asked {
-            quad: quad(alloc, "a:g", "a:s")?,
-            name: iri(alloc, "a:g")?,
-            other_quad: quad(alloc, "a:h", "a:s")?,
-            other_name: iri(alloc, "a:h")?,
-        })
-    }
-
-    fn is_answered<D: Source>(&self, source: &D) -> bool {
-        let quads = source.contains(&self.quad) && !source.contains(&self.other_quad);
-        let names = source.has_name(&self.name) && !source.has_name(&self.other_name);
-        quads && names
+// Whether the first quad and the first name are there, or neither is.
+fn holds<D: Source>(source: &D, quads: &[Quad], names: &[Term], are_there: bool) -> bool {
+    match (quads.first(), names.first()) {
+        (Some(quad), Some(name)) => {
+            source.contains(quad) == are_there && source.has_name(name) == are_there
+        }
+        _ => false,
     }
 }
 
 // A dataset of two quads, and a view of it.
-fn is_read(alloc: Global, dataset: &Dataset, asked: &Asked) -> bool {
+fn is_read(alloc: Global, dataset: &Dataset, net: &Net) -> bool {
     requests_count(alloc);
-    let mut view = Staged::over(alloc, dataset);
-    let finds = asked.is_answered(dataset) && asked.is_answered(&view);
-    let counts = dataset.next_blank() == 1 && view.next_blank() == 1;
-    let takes = view.take_blanks(3) == Some(1) && view.next_blank() == 4;
+    let is_read = is_answered(dataset, net)
+        && dataset.next_blank() == 1
+        && is_viewed(alloc, dataset, net);
     memory_is_back(alloc);
-    finds && counts && takes
+    is_read
+}
+
+fn is_viewed(alloc: Global, dataset: &Dataset, net: &Net) -> bool {
+    let mut view = Staged::over(alloc, dataset);
+    reads_alike(&mut view, net)
+}
+
+fn reads_alike(view: &mut Staged<'_, Dataset>, net: &Net) -> bool {
+    is_answered(view, net)
+        && view.next_blank() == 1
+        && view.take_blanks(3) == Some(1)
+        && view.next_blank() == 4
 }
 
 // A net, the same the other way, and one of no change.

@@ -1,11 +1,10 @@
 //! Calls on terms.
-use crate::signs::{memory_is_back, requests_count};
-use crate::told::Told;
 use rdf_terms::{
     GraphName, Iri, Literal, Quad, Term, TermTable, Text, integer_value, is_forbidden_in_iri,
     is_pn_chars, is_pn_chars_base, is_pn_chars_u,
 };
 use std::alloc::Global;
+use told_parts::{Told, memory_is_back, requests_count};
 
 pub fn outcome(alloc: Global) -> Told {
     Told::kept("terms without memory", are_answered(alloc) == Some(true))
@@ -14,7 +13,7 @@ pub fn outcome(alloc: Global) -> Told {
 fn are_answered(alloc: Global) -> Option<bool> {
     let integers = are_integers(&typed(alloc, "-07")?, &typed(alloc, "x")?, alloc);
     let classes = are_classes(alloc);
-    Some(integers && classes && is_table(alloc)? && is_quad(alloc)?)
+    Some(integers && classes && is_table(alloc)? && is_quad(alloc))
 }
 
 fn are_integers(number: &Literal, word: &Literal, alloc: Global) -> bool {
@@ -66,21 +65,38 @@ fn gives_back(table: &TermTable, term: &Term) -> bool {
     }
 }
 
-fn is_quad(alloc: Global) -> Option<bool> {
-    let graph = GraphName::Named(iri(alloc, "a:g")?);
-    let subject = iri(alloc, "a:s")?;
-    let (predicate, object) = (iri(alloc, "a:p")?, iri(alloc, "a:o")?);
-    requests_count(alloc);
-    let is_made = is_made(graph, subject, predicate, object);
-    memory_is_back(alloc);
-    Some(is_made)
+fn is_quad(alloc: Global) -> bool {
+    match iri(alloc, "a:g") {
+        Some(name) => match iri(alloc, "a:s") {
+            Some(subject) => is_quad_of(alloc, GraphName::Named(name), subject),
+            None => false,
+        },
+        None => false,
+    }
+}
+
+fn is_quad_of(alloc: Global, graph: GraphName, subject: Term) -> bool {
+    match iri(alloc, "a:p") {
+        Some(predicate) => match iri(alloc, "a:o") {
+            Some(object) => is_made(alloc, graph, subject, predicate, object),
+            None => false,
+        },
+        None => false,
+    }
 }
 
 // Whether these are the places of a quad.
-fn is_made(graph: GraphName, subject: Term, predicate: Term, object: Term) -> bool {
-    let Some(quad) = Quad::new(graph, subject, predicate, object) else {
-        return false;
+fn is_made(alloc: Global, graph: GraphName, subject: Term, predicate: Term, object: Term) -> bool {
+    requests_count(alloc);
+    let is_made = match Quad::new(graph, subject, predicate, object) {
+        Some(quad) => are_in_place(&quad),
+        None => false,
     };
+    memory_is_back(alloc);
+    is_made
+}
+
+fn are_in_place(quad: &Quad) -> bool {
     let is_named = matches!(quad.graph(), GraphName::Named(Term::Iri(_)));
     is_named && quad.predicate() < quad.subject() && quad.object() < quad.predicate()
 }

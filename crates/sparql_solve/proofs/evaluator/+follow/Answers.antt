@@ -78,8 +78,8 @@ pub rows_gathered-returns : goal.rows_gathered-returns
 rows_gathered-returns g t c =
     IfOk-weaker c.with_the_rest.result _ _
     (λ out h. follow.gathered_follow c.args.variables.now (g.S.Source.contents c.args.source.now) c.args.graph.now c.args.under.now
-    (element c.args.member.now) c.args.rows.items c.gather.new.rows.items c.deref-2.result.now c.deref-4.result.now
-    c.in_ok-made.made.rows.items out.items c.in_ok-made.made.done c.in_ok-gather.ensures c.deref-2.ensures.value c.deref-4.ensures.value
+    (element c.args.member.now) c.args.rows.items c.gather.new.rows.items c.deref.result.now c.deref-2.result.now
+    c.in_ok-made.made.rows.items out.items c.in_ok-made.made.done c.in_ok-gather.ensures c.deref.ensures.value c.deref-2.ensures.value
     c.in_ok-made.ensures h)
     c.with_the_rest.ensures
 

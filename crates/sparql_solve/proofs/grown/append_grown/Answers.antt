@@ -23,8 +23,8 @@ grows-requires c =
     ∙ held_first c.args.places.now c.args.row.now c.in-Some.quad (into_iter_items c.next.new.self) (into_iter_items c.loop-quad.quad-iterator)
     c.in-Some.ensures.steps.0 c.loop-quad.invariant.held
 
-pub loop-quad-preserved-in-Continue-branch-2 : goal.loop-quad-preserved-in-Continue-branch-2
-loop-quad-preserved-in-Continue-branch-2 c =
+pub loop-quad-preserved-in-Continue-branch-3 : goal.loop-quad-preserved-in-Continue-branch-3
+loop-quad-preserved-in-Continue-branch-3 c =
     let m = c.args.row.now in
     let p = c.args.places.now in
     let rest = into_iter_items c.next.new.self in
@@ -33,7 +33,7 @@ loop-quad-preserved-in-Continue-branch-2 c =
       made = grown_by p m c.in-Some.quad rest items c.in-Some.ensures.steps.0 c.loop-quad.out.items (c.args.out.now.items ++ matches_of c.args.quads.items p m)
           c.loop-quad.invariant.made c.grows.new.row c.push.new.self.items
           (ap (λ (l : Mapping). matched p l c.in-Some.quad) (sym c.in_ok-found.ensures)
-          ∙ c.grows.ensures ∙ ap (λ b. cond b (Some c.grows.new.row) None) c.if-grows.true)
+          ∙ c.in_ok-grows.ensures ∙ ap (λ b. cond b (Some c.grows.new.row) None) c.if-branch.true)
           c.in_ok-push.ensures.items;
       held = held_rest p m c.in-Some.quad rest items c.in-Some.ensures.steps.0 c.loop-quad.invariant.held;
       count = omega (arith, ap length c.in-Some.ensures.steps.0, c.in-Some.ensures.steps.1, c.loop-quad.invariant.count);
@@ -49,7 +49,37 @@ loop-quad-preserved c =
       made = grown_by_none p m c.in-Some.quad rest items c.in-Some.ensures.steps.0 c.loop-quad.out.items
           (c.args.out.now.items ++ matches_of c.args.quads.items p m) c.loop-quad.invariant.made
           (ap (λ (l : Mapping). matched p l c.in-Some.quad) (sym c.in_ok-found.ensures)
-          ∙ c.grows.ensures ∙ ap (λ b. cond b (Some c.grows.new.row) None) c.if-grows.false);
+          ∙ c.in_ok-grows.ensures ∙ ap (λ b. cond b (Some c.grows.new.row) None) c.if-branch.false);
+      held = held_rest p m c.in-Some.quad rest items c.in-Some.ensures.steps.0 c.loop-quad.invariant.held;
+      count = omega (arith, ap length c.in-Some.ensures.steps.0, c.in-Some.ensures.steps.1, c.loop-quad.invariant.count);
+    }
+
+pub loop-quad-preserved-else-branch : goal.loop-quad-preserved-else-branch
+loop-quad-preserved-else-branch c =
+    let m = c.args.row.now in
+    let p = c.args.places.now in
+    let rest = into_iter_items c.next.new.self in
+    let items = into_iter_items c.loop-quad.quad-iterator in
+    record {
+      made = grown_by_none p m c.in-Some.quad rest items c.in-Some.ensures.steps.0 c.loop-quad.out.items
+          (c.args.out.now.items ++ matches_of c.args.quads.items p m) c.loop-quad.invariant.made
+          (ap (λ (l : Mapping). matched p l c.in-Some.quad) (sym c.in_ok-found.ensures)
+          ∙ c.in_ok-grows.ensures ∙ ap (λ b. cond b (Some c.grows.new.row) None) c.if-branch.false);
+      held = held_rest p m c.in-Some.quad rest items c.in-Some.ensures.steps.0 c.loop-quad.invariant.held;
+      count = omega (arith, ap length c.in-Some.ensures.steps.0, c.in-Some.ensures.steps.1, c.loop-quad.invariant.count);
+    }
+
+pub loop-quad-preserved-else-branch-2 : goal.loop-quad-preserved-else-branch-2
+loop-quad-preserved-else-branch-2 c =
+    let m = c.args.row.now in
+    let p = c.args.places.now in
+    let rest = into_iter_items c.next.new.self in
+    let items = into_iter_items c.loop-quad.quad-iterator in
+    record {
+      made = grown_by_none p m c.in-Some.quad rest items c.in-Some.ensures.steps.0 c.loop-quad.out.items
+          (c.args.out.now.items ++ matches_of c.args.quads.items p m) c.loop-quad.invariant.made
+          (ap (λ (l : Mapping). matched p l c.in-Some.quad) (sym c.in_ok-found.ensures)
+          ∙ c.in_ok-grows.ensures ∙ ap (λ b. cond b (Some c.grows.new.row) None) c.if-branch.false);
       held = held_rest p m c.in-Some.quad rest items c.in-Some.ensures.steps.0 c.loop-quad.invariant.held;
       count = omega (arith, ap length c.in-Some.ensures.steps.0, c.in-Some.ensures.steps.1, c.loop-quad.invariant.count);
     }

@@ -26,7 +26,7 @@ put-requires-2 c known =
     (ready_next m m c.put.new.self p.subject p.predicate c.into_parts-graph.result.1 c.into_parts-graph.result.2
     (ready_first m m p.subject c.into_parts-graph.result.1 refl
     (ap (fits_place (held m p.subject)) is ∙ and_left (fits_place (held m p.subject) q.subject) _ c.requires))
-    (c.put.ensures ∙ ap (λ b. cond b (Some c.put.new.self) None) c.if-not-put.false))
+    (c.in_ok-put.ensures ∙ ap (λ b. cond b (Some c.put.new.self) None) c.if-not-branch.false))
 
 pub put-requires-3 : goal.put-requires-3
 put-requires-3 c known =
@@ -40,5 +40,5 @@ put-requires-3 c known =
     (ready_first m m p.object c.into_parts-graph.result.3 refl
     (ap (fits_place (held m p.object)) is
     ∙ and_right (fits_place (held m p.predicate) q.predicate) _ (and_right (fits_place (held m p.subject) q.subject) _ c.requires)))
-    (c.put.ensures ∙ ap (λ b. cond b (Some c.put.new.self) None) c.if-not-put.false))
-    (c.put-2.ensures ∙ ap (λ b. cond b (Some c.put-2.new.self) None) c.if-not-put-2.false))
+    (c.in_ok-put.ensures ∙ ap (λ b. cond b (Some c.put.new.self) None) c.if-not-branch.false))
+    (c.in_ok-put-2.ensures ∙ ap (λ b. cond b (Some c.put-2.new.self) None) c.if-not-branch-2.false))

@@ -1,4 +1,4 @@
-use Rattle.std.proofs.Common.{length, refl}
+use Rattle.std.proofs.Common.{refl}
 use Rattle.std.proofs.lemmas.Result.{IfOk-weaker}
 use Rattle.sparql_solve.proofs.LengthLemmas.{lone_gives}
 use Rattle.sparql_solve.proofs.LookUpLemmas.{in_graph_gives}
@@ -8,8 +8,8 @@ pub returns : goal.returns
 returns g c =
     IfOk-weaker c.cut_rows.result _ _
     (λ out e. in_graph_gives (g.S.Source.contents c.args.source.now) c.args.graph.now c.args.look_up.now c.args.row c.in_ok-widen.field-0
-    c.values-columns.result.now (length c.values-columns.result.now) c.as_slice.result.now c.new-start.result.items c.push.new.self.items c.in_ok-rows.rows.items out.items
-    c.as_slice.ensures c.in_ok-push.ensures.items c.new-start.ensures.items c.in_ok-widen.ensures c.in_ok-rows.ensures e refl c.values-columns.ensures)
+    c.args.row c.len-columns.result c.as_slice.result.now c.new-start.result.items c.push.new.self.items c.in_ok-rows.rows.items out.items
+    c.as_slice.ensures c.in_ok-push.ensures.items c.new-start.ensures.items c.in_ok-widen.ensures c.in_ok-rows.ensures e c.len-columns.ensures refl)
     c.cut_rows.ensures
 
 pub returns-in-Some : goal.returns-in-Some

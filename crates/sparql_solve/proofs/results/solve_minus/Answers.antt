@@ -15,5 +15,5 @@ returns-then-eq g c =
 pub returns : goal.returns
 returns g c =
     solved_shown c.args.pattern.now c.args.graph.now (g.S.Source.contents c.args.source.now) c.args.variables c.from_rising-all.result
-    c.from_rising-all.result c.as_slice-3.result.now c.in_ok-rows.rows.items c.deref.result.now c.in_ok-rows-2.rows.items c.requires
-    (c.from_rising-all.ensures ∙ c.in_ok-listed.ensures) refl c.as_slice-3.ensures c.in_ok-rows.ensures c.deref.ensures.value c.in_ok-rows-2.ensures
+    c.from_rising-all.result c.args.variables c.in_ok-rows.rows.items c.deref.result.now c.in_ok-rows-2.rows.items c.requires
+    (c.from_rising-all.ensures ∙ c.in_ok-listed.ensures) refl refl c.in_ok-rows.ensures c.deref.ensures.value c.in_ok-rows-2.ensures

@@ -17,8 +17,8 @@ pub returns-clause-begins : goal.returns-clause-begins
 returns-clause-begins g c =
     let row = c.in-Some.row in
     let behind = c.in_ok-behind.behind.items in
-    let block = c.deref-3.result.now in
-    let is_block = c.deref-3.ensures.value ∙ c.in_ok-append.ensures.items
+    let block = c.deref.result.now in
+    let is_block = c.deref.ensures.value ∙ c.in_ok-append.ensures.items
     ∙ ap (λ (xs : List Mapping). xs ++ behind) (c.in_ok-push.ensures.items ∙ ap (λ (xs : List Mapping). xs ++ row ∷ []) c.new-served.ensures.items) in
     IfOk-weaker c.rows_one_by_one.result _ _
     (λ out e. begins_front c.args.variables.now (g.S.Source.contents c.args.source.now) c.args.graph.now c.args.under.now (element c.args.member.now)
@@ -27,8 +27,8 @@ returns-clause-begins g c =
     c.in_ok-behind.ensures.taken is_block)
     (served_made c.args.variables.now (g.S.Source.contents c.args.source.now) c.args.graph.now c.args.under.now (element c.args.member.now)
     c.args.look_up.now (own_columns c.args.variables.now c.args.look_up.now) c.in_ok-key.key row behind block c.in_ok-found.found.items
-    c.deref-4.result.now out.items refl
-    (c.in_ok-key.ensures ∙ ap (λ (flags : List Bool). masked flags row) (c.deref.ensures.value ∙ c.in_ok-own.ensures))
+    c.deref-2.result.now out.items refl
+    (c.in_ok-key.ensures ∙ ap (λ (flags : List Bool). masked flags row) c.in_ok-own.ensures)
     (c.is_shared.ensures c.if-not-is_shared.false) c.requires.gives c.requires.counts is_block c.in_ok-behind.ensures.served c.in_ok-found.ensures
-    c.deref-4.ensures.value e))
+    c.deref-2.ensures.value e))
     c.rows_one_by_one.ensures
