@@ -131,6 +131,15 @@ behind_first quads order start k t a = record {
       ];
 }
 
+-- the place moves on to the first key behind it, and stays where there is none
+pub behind_moved : (quads : IdQuads) (order : Order) (key k : List ℕ) (keys t : List (List ℕ)) → keys ≡ k ∷ t → AreKeysBehind quads order key keys
+    → AreKeysBehind quads order k t
+behind_moved quads order key k keys t e a = behind_first quads order (Excluded key) k t (subst (AreKeysBehind quads order key) e a)
+
+pub behind_last : (quads : IdQuads) (order : Order) (key : List ℕ) (keys t : List (List ℕ)) → keys ≡ [] → t ≡ [] → AreKeysBehind quads order key keys
+    → AreKeysBehind quads order key t
+behind_last quads order key keys t e n a = subst (AreKeysBehind quads order key) (e ∙ sym n) a
+
 -- where the run with the prefix goes on
 pub goes_on_behind : (quads : IdQuads) (order : Order) (prefix key : List ℕ) (keys : List (List ℕ)) → BeginsWith prefix key → AreKeysBehind quads order key keys
     → AreKeysAhead quads order prefix (Some key) keys

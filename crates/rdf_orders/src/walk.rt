@@ -1,10 +1,10 @@
 //! Look-ups in sets of quads, counted.
-ghost use Rattle.std.specs.Prelude.{◌≡◌, ◌+◌, ◌≤◌, length, ◌-◌, false, Some, IfOk, IsTrue, OnOk, OnErr, option_copied};
+ghost use Rattle.std.specs.Prelude.{◌≡◌, ◌+◌, ◌≤◌, length, ◌-◌, [], ◌∷◌, false, Some, IfNone, IfSome, IfOk, IsTrue, OnOk, OnErr, option_copied};
 ghost use Rattle.std.specs.FinSet as set;
 ghost use Rattle.rdf_orders.specs.Contents.{ListsKeys};
-ghost use Rattle.rdf_orders.specs.Quads.{is_from, matches};
+ghost use Rattle.rdf_orders.specs.Quads.{IdQuads, is_from, matches};
 ghost use Rattle.rdf_orders.specs.Runs.{AppendsKeysOnce, AppendsSomeKeys, BeginsWith};
-ghost use Rattle.rdf_orders.specs.Inside.Ahead.{AreKeysAhead};
+ghost use Rattle.rdf_orders.specs.Inside.Ahead.{AreKeysAhead, AreKeysBehind, IsFirstAhead};
 
 use crate::key_iters::KeyRange;
 use crate::look_ups::{look_up, look_up_some};
@@ -37,6 +37,20 @@ impl<'a> Place<'a> {
             }
             None => false,
         }
+    }
+
+    // The first of the keys behind, which becomes the place's own; where there is none it stays.
+    #[tactic(auto, using(crate::proofs::AheadLemmas::behind_last))]
+    fn next_key(&mut self) -> Option<Key>
+        ensures none { IfNone result (self.old.behind ≡ []) }
+        ensures first { IfSome result (λ key. self.old.behind ≡ key ∷ self.new.behind) }
+        ensures kept { (quads : IdQuads) →
+            AreKeysBehind quads self.old.order self.old.key self.old.behind →
+            AreKeysBehind quads self.new.order self.new.key self.new.behind }
+    {
+        let key = self.behind.next()?;
+        self.key = key;
+        Some(key)
     }
 }
 
@@ -82,19 +96,25 @@ impl<'a> Walk<'a> {
         self.count
     }
 
-    // The keys ahead: those behind the place, where the run goes on there.
-    fn keys_ahead(&mut self, order: Order, prefix: &[u64], after: Option<&Key>) -> KeyRange<'a>
+    // The first of the keys ahead, which becomes the place. Where the run goes on behind the place,
+    // that moves on as it stands.
+    fn key_ahead(&mut self, order: Order, prefix: &[u64], after: Option<&Key>) -> Option<Key>
         requires { length prefix.now ≤ 4 }
-        ensures ahead { AreKeysAhead self.old.quads order prefix.now
-            (option_copied after.entry) result }
+        ensures none { IfNone result (AreKeysAhead self.old.quads order prefix.now
+            (option_copied after.entry) []) }
+        ensures first { IfSome result (IsFirstAhead self.old.quads order prefix.now
+            (option_copied after.entry)) }
         ensures same { self.new ≡ self.old }
     {
-        if let Some(place) = self.place.take() {
+        if let Some(place) = &mut self.place {
             if place.goes_on(order, prefix, after) {
-                return place.behind;
+                return place.next_key();
             }
         }
-        self.sets.keys_ahead(order, prefix, after)
+        let mut behind = self.sets.keys_ahead(order, prefix, after);
+        let key = behind.next()?;
+        self.place = Some(Place { order, key, behind });
+        Some(key)
     }
 }
 
@@ -107,12 +127,10 @@ impl<'a> Orders for Walk<'a> {
         if prefix.len() > 4 {
             return None;
         }
-        let mut behind = self.keys_ahead(order, prefix, after);
-        let key = behind.next()?;
+        let key = self.key_ahead(order, prefix, after)?;
         if !key.starts_with(prefix) {
             return None;
         }
-        self.place = Some(Place { order, key, behind });
         self.count = self.count.saturating_add(1);
         Some(key)
     }

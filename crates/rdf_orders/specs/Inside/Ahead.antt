@@ -1,5 +1,5 @@
 -- The keys of an order from where a run begins, and from the key that was answered last.
-use Rattle.std.specs.Prelude.{◌≡◌, ℕ, true, List, Option}
+use Rattle.std.specs.Prelude.{◌≡◌, ℕ, true, List, ◌∷◌, Option}
 use Rattle.std.specs.declared.ops.Bound.{Bound}
 use Rattle.std.specs.declared.ops.Bound.TheVariants.{Excluded}
 use Rattle.std.specs.BTreeMap.Range.{IsFromStart}
@@ -27,6 +27,11 @@ pub record AreKeysAhead (quads : IdQuads) (order : Order) (prefix : List ℕ) (a
   pub start : Bound (List ℕ)
   pub starts : StartsRun prefix after start
   pub from : AreKeysFrom quads order start keys
+
+-- the key is the first of those
+pub record IsFirstAhead (quads : IdQuads) (order : Order) (prefix : List ℕ) (after : Option (List ℕ)) (key : List ℕ) : Type 0 where
+  pub behind : List (List ℕ)
+  pub ahead : AreKeysAhead quads order prefix after (key ∷ behind)
 
 -- the list has the keys behind this one
 abbrev pub AreKeysBehind : IdQuads → Order → List ℕ → List (List ℕ) → Type 0
