@@ -8,13 +8,14 @@ use Rattle.std.proofs.lemmas.List.Concat.{flat_map-append}
 use Rattle.std.proofs.lemmas.List.Folds.{list_any-append}
 use Rattle.rdf_terms.specs.Iri.{is_forbidden, has_forbidden, is_iri}
 use Rattle.rdf_terms.specs.Literal.{xsd_string, tag_fits}
-use Rattle.rdf_terms.specs.Term.{is_term}
+use Rattle.rdf_terms.specs.Term.{is_literal_term, is_term}
 use Rattle.rdf_terms.specs.TermText.{escaped, suffix_text, term_text}
 use Rattle.rdf_terms.specs.declared.term.Term.{Term}
 use Rattle.rdf_terms.specs.declared.term.Term.TheVariants.{Blank, Iri, Literal}
 use Rattle.rdf_terms.proofs.CallerLemmas.{AllPass, tag_name, is_tag_part, each_part, texts_differ, iri_allowed, is_digit, decimal_digits, tag_parts, literal_parts, by_escape}
 use Rattle.sparql_results.specs.ResultsText.{field_text, without_tab}
 use Rattle.sparql_results.specs.RowLaws.{is_value}
+use Rattle.sparql_results.proofs.TabLemmas.{no_tabs}
 
 -- what ends a field
 abbrev pub is_end : ℕ → Bool
@@ -159,6 +160,29 @@ term_tells (Literal l) h =
     (tells_both (34 ∷ []) (flat_map escaped l.lexical ++ 34 ∷ []) (plain (34 ∷ []) refl)
     (tells_both (flat_map escaped l.lexical) (34 ∷ []) (escapes_tell l.lexical) (plain (34 ∷ []) refl)))
     (suffix_tells l.datatype l.tag p.1 p.2)
+
+-- ---- texts in which nothing is written otherwise
+
+stays_both : (xs ys : List ℕ) → flat_map without_tab xs ≡ xs → flat_map without_tab ys ≡ ys → flat_map without_tab (xs ++ ys) ≡ xs ++ ys
+stays_both xs ys a b = flat_map-append without_tab xs ys ∙ (λ i. a i ++ b i)
+
+untabbed : (bs : List ℕ) → list_any is_special bs ≡ false → list_any (λ c. c == 9) bs ≡ false
+untabbed [] h = refl
+untabbed (b ∷ bs) h =
+    let parts = or_parts (is_special b) (list_any is_special bs) h in
+    or_from (b == 9) (list_any (λ c. c == 9) bs) (or_parts (b == 9) ((b == 10) || (b == 92)) parts.0).0 (untabbed bs parts.1)
+
+plain_stays : (bs : List ℕ) → list_any is_special bs ≡ false → flat_map without_tab bs ≡ bs
+plain_stays bs h = no_tabs bs (untabbed bs h)
+
+-- no tab stands in a blank node's label, or in an IRI
+pub term_stays : (t : Term) → is_term t ≡ true → is_literal_term t ≡ false → flat_map without_tab (term_text t) ≡ term_text t
+term_stays (Blank n) h other =
+    stays_both (95 ∷ 58 ∷ 98 ∷ []) (decimal n) refl
+    (plain_stays (decimal n) (from_each (decimal n) (digits_plain (decimal n) (decimal_digits n (ltb-true n 18446744073709551616 h)))))
+term_stays (Iri iri) h other =
+    stays_both (60 ∷ []) (iri ++ 62 ∷ []) refl (stays_both iri (62 ∷ []) (plain_stays iri (allowed_plain iri (iri_allowed iri h))) refl)
+term_stays (Literal l) h literal = absurd (true≢false literal)
 
 -- ---- fields
 

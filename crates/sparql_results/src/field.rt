@@ -1,10 +1,11 @@
 //! The field of a value.
-ghost use Rattle.std.specs.Prelude.{◌≡◌, ◌≤◌, ◌==◌, ◌++◌, drop, take, length, OnOk};
+ghost use Rattle.std.specs.Prelude.{◌≡◌, ◌≤◌, ◌==◌, ◌++◌, drop, false, take, length, OnOk};
 ghost use Rattle.std.specs.List.{flat_map, list_any};
+ghost use Rattle.rdf_terms.specs.TermText.{term_text};
 ghost use Rattle.sparql_results.specs.ResultsText.{field_text, without_tab};
 
 use memchr::memchr;
-use rdf_terms::{NoMemory, Term, write_term};
+use rdf_terms::{NoMemory, Term, term_is_one, write_term};
 use std::alloc::Global;
 
 /// Appends the field of a value. A refusal may leave a part of it.
@@ -21,7 +22,22 @@ pub(crate) fn append_field(
     };
     let before = out.len();
     write_term(term, out)?;
-    escape_tabs(alloc, before, out)
+    if may_have_tab(term) {
+        return escape_tabs(alloc, before, out);
+    }
+    Ok(())
+}
+
+// Whether a tab may stand in the term's text: none stands in an IRI, or in a blank node's label.
+fn may_have_tab(term: &Term) -> bool
+    ensures { result ≡ false → flat_map without_tab (term_text term.now) ≡ term_text term.now }
+{
+    term_is_one(term);
+    match term {
+        Term::Blank(_) => false,
+        Term::Iri(_) => false,
+        Term::Literal(_) => true,
+    }
 }
 
 // Writes `\t` for each tab from a place on. Few texts have one.
