@@ -1,7 +1,7 @@
 -- Where a name stands among names in order.
-use Rattle.std.proofs.Common.{◌≡◌, ℕ, ◌+◌, ◌<◌, true, false, cond, List, length, get_or, Some, None, Result, Ok, Err, inl, inr, sym, ap, ◌∙◌, subst, arith, nat_lt}
+use Rattle.std.proofs.Common.{◌≡◌, ℕ, ◌+◌, ◌<◌, true, false, cond, nat_eq, List, length, get_or, Some, None, Result, Ok, Err, inl, inr, sym, ap, ◌∙◌, subst, arith, nat_lt}
 use Rattle.std.specs.Cmp.{Equal-is, tied_itself}
-use Rattle.std.specs.Cmp.Lexicographic.{nat_list_cmp_total}
+use Rattle.std.specs.Cmp.Lexicographic.{nat_list_cmp_total, pointwise, texts_ties}
 use Rattle.std.specs.FinSet.{IsAntisymmetric, nat_cmp-IsAntisymmetric, slice_cmp-IsAntisymmetric}
 use Rattle.std.specs.List.{position_or_len}
 use Rattle.std.specs.List.Sorted.{IsStrictlySortedBy, IsSortedBy, IsBinarySearchResult, IsPartitionPoint, IsSearchInRange}
@@ -21,6 +21,10 @@ text_apart = slice_cmp-IsAntisymmetric nat_cmp-IsAntisymmetric
 
 turned : (x y : List ℕ) → text_cmp x y ≡ ordering_reverse (text_cmp y x)
 turned x y = nat_list_cmp_total.antisymm x y
+
+-- texts are the same where neither is less
+pub same_texts : (x y : List ℕ) → pointwise nat_eq x y ≡ eq_by_cmp text_cmp x y
+same_texts = texts_ties
 
 -- a name is neither one that is less nor one that is greater
 not_less : (x y : List ℕ) → text_cmp y x ≡ Less → eq_by_cmp text_cmp x y ≡ false

@@ -1,5 +1,5 @@
 //! The value of an expression (SPARQL 1.1 Query, section 17.2).
-ghost use Rattle.std.specs.Prelude.{◌≡◌, IfOk, Some, true, false, map, pos};
+ghost use Rattle.std.specs.Prelude.{◌≡◌, IfOk, IfSome, Some, true, false, map, pos};
 ghost use Rattle.std.specs.List.{fold};
 ghost use Rattle.std.specs.Option.{option_map, option_and_then};
 ghost use Rattle.sparql_values.specs.Mapping.{same_term};
@@ -34,6 +34,31 @@ fn bound<'a>(scope: &Scope<'a>, name: &Text) -> Option<&'a Term>
         ≡ mapping.value_of scope.now.variables.now scope.now.row.now name.now }
 {
     value_of(scope.variables, scope.row, name)
+}
+
+// What a variable or a constant stands for; `None` of any other expression.
+fn plain<'a>(scope: &Scope<'a>, expression: &'a Expression) -> Option<Option<&'a Term>>
+    ensures { IfSome result (λ t. option_map (λ t. t.now) t ≡ value_in scope.now expression.now) }
+{
+    match expression {
+        Expression::Variable(name) => Some(bound(scope, name)),
+        Expression::Term(term) => Some(Some(term)),
+        _ => None,
+    }
+}
+
+// What a comparison of variables and constants answers; `None` of any other expression.
+fn plain_comparison<'a>(scope: &Scope<'a>, expression: &'a Expression) -> Option<Option<bool>>
+    ensures { IfSome result (λ t. t ≡ truth_in scope.now expression.now) }
+{
+    match expression {
+        Expression::Compare(operator, x, y) => {
+            let x = plain(scope, x.get())?;
+            let y = plain(scope, y.get())?;
+            Some(comparison(*operator, &of_term(x), &of_term(y)))
+        }
+        _ => None,
+    }
 }
 
 #[cycle(value)]
@@ -112,7 +137,14 @@ fn called_at<'a>(
 fn truth_at<'a>(scope: &Scope<'a>, expression: &'a Expression) -> Result<Option<bool>, NoMemory>
     ensures { IfOk result (λ t. t ≡ truth_in scope.now expression.now) }
 {
-    Ok(truth(&value(scope, expression)?))
+    match expression {
+        Expression::Or(operands) => any(scope, operands.as_slice()),
+        Expression::And(operands) => all(scope, operands.as_slice()),
+        _ => match plain_comparison(scope, expression) {
+            Some(answer) => Ok(answer),
+            None => Ok(truth(&value(scope, expression)?)),
+        },
+    }
 }
 
 #[cycle(value)]

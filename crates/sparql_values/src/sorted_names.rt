@@ -1,11 +1,15 @@
 //! Names in order: the variables of a pattern, whose places are the columns of its rows.
 ghost use Rattle.std.specs.Prelude.{◌≡◌, length};
 ghost use Rattle.std.specs.List.Sorted.{IsStrictlySortedBy};
+ghost use Rattle.std.specs.Ordering.{eq_by_cmp};
 ghost use Rattle.rdf_terms.specs.Order.{text_cmp};
 ghost use Rattle.sparql_values.specs.Mapping.{column};
 
 use rdf_terms::{Items, Text};
 use std::marker::Model;
+
+// Up to so many names are looked at one by one, which costs less than halving them.
+const FEW: usize = 8;
 
 /// Names in strictly rising order, so that one is found among n of them by log n comparisons.
 #[derive(Drop)]
@@ -60,6 +64,23 @@ impl SortedNames {
     pub fn column(&self, name: &Text) -> Option<usize>
         ensures { result ≡ column self.now name.now }
     {
-        self.names.as_slice().binary_search(name).ok()
+        let names = self.names.as_slice();
+        if names.len() <= FEW {
+            return place_of(names, name);
+        }
+        names.binary_search(name).ok()
     }
+}
+
+#[tactic(auto, using(crate::proofs::NameLemmas::same_texts))]
+fn is_same(a: &Text, b: &Text) -> bool
+    ensures { result ≡ eq_by_cmp text_cmp a.now b.now }
+{
+    a == b
+}
+
+fn place_of(names: &[Text], name: &Text) -> Option<usize>
+    ensures { result ≡ column names.now name.now }
+{
+    names.iter().position(|it| is_same(name, it))
 }
