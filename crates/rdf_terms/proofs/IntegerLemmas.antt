@@ -1,6 +1,8 @@
 -- What `parse` reads is the number that a text writes, and `decimal` writes each number's canonical text.
-use Rattle.std.proofs.Common.{◌≡◌, ◌<◌, ◌≤◌, ◌+◌, ◌*◌, ◌/◌, ◌%◌, ◌^◌, ℕ, zero, suc, Bool, true, false, cond, ◌&&◌, ◌==◌, nat_eq, nat_lt, List, [], ◌∷◌, ◌++◌, length, drop, get_or, refl, sym, ap, subst, inl, inr, ◌∙◌, arith, append_assoc, Result, Ok, Err, Option, Some, None}
+use Rattle.std.proofs.Common.{◌≡◌, ◌<◌, ◌≤◌, ◌+◌, ◌*◌, ◌/◌, ◌%◌, ◌^◌, ℕ, zero, suc, Bool, true, false, cond, ◌&&◌, ◌==◌, nat_eq, nat_lt, List, [], ◌∷◌, ◌++◌, length, drop, get_or, refl, sym, ap, subst, inl, inr, ◌∙◌, arith, append_assoc, Result, Ok, Err, Option, Some, None, of_z, to_z}
 use Rattle.std.proofs.Math.IntN.{ℤ, pos, negsuc, neg_ℤ}
+use Rattle.std.proofs.Math.ListN.{drop_of_length-le}
+use Rattle.std.proofs.Math.Nat.{pow-le-pow_right}
 use Rattle.std.specs.Prelude.{◌≢◌, ◌⊎◌, codes, FitsSigned}
 use Rattle.std.specs.Bool.{Decides}
 use Rattle.std.specs.Char.{digit_value}
@@ -14,6 +16,7 @@ use Rattle.std.specs.Str.Parse.{AllDigits, IsNumeral, ParsesSigned, digits_value
 use Rattle.std.proofs.lemmas.Bool.{and_from, and_left, and_parts, cases_lt, eqb-false, not_from_false, cases_Bool, cond-true, cond-false, eqb-true, false_from_ne_true, ne_eqb, or_right, or_left, not-true, or_cases}
 use Rattle.std.proofs.lemmas.Bool.Decides.{Decides-and, Decides-ltb, nat_tests}
 use Rattle.std.proofs.lemmas.Fmt.{decimal_is_IsNumeral_wide, decimal_by_steps_wide, decimal_step_wide, decimal_digit}
+use Rattle.std.proofs.lemmas.Int.{to_z-of_z}
 use Rattle.std.proofs.lemmas.List.{append-nil}
 use Rattle.std.proofs.lemmas.Str.{digit_value_digit}
 use Rattle.std.proofs.lemmas.Slice.Eq.{bytes_eq-Decides}
@@ -58,12 +61,17 @@ pub other_datatype : (l : LiteralParts) (datatype : List ℕ) (same : Bool) → 
 unfolding integer_of
 other_datatype l datatype same d is differs = sym (cond-false _ _ _ (and_left _ _ (sym (is ∙ ap (λ t. pointwise nat_eq t xsd_integer) d) ∙ differs)))
 
+-- a value of a text, where the datatype is that of integers
+integer_is : (l : LiteralParts) (datatype text : List ℕ) (same : Bool) (value : Option ℤ) → value ≡ cond (is_value l.lexical) (Some (written_integer l.lexical)) None → datatype ≡ l.datatype
+    → same ≡ pointwise nat_eq datatype xsd_integer → same ≡ true → value ≡ integer_of l
+unfolding integer_of
+integer_is l datatype text same value v d is agrees =
+    v ∙ ap (λ b. cond (b && is_value l.lexical) (Some (written_integer l.lexical)) None) (sym (sym (is ∙ ap (λ t. pointwise nat_eq t xsd_integer) d) ∙ agrees))
+
 pub integer_parsed : {E : Type 0} (l : LiteralParts) (datatype text : List ℕ) (same : Bool) (r : Result ℤ E) (value : Option ℤ) → value ≡ result_ok r → ParsesSigned w128 10 text r → datatype ≡ l.datatype → text ≡ l.lexical → same ≡ pointwise nat_eq datatype xsd_integer → same ≡ true
     → value ≡ integer_of l
-unfolding integer_of
 integer_parsed l datatype text same r value v h d e is agrees =
-    v ∙ parsed l.lexical r (subst (λ t. ParsesSigned w128 10 t r) e h)
-    ∙ ap (λ b. cond (b && is_value l.lexical) (Some (written_integer l.lexical)) None) (sym (sym (is ∙ ap (λ t. pointwise nat_eq t xsd_integer) d) ∙ agrees))
+    integer_is l datatype text same value (v ∙ parsed l.lexical r (subst (λ t. ParsesSigned w128 10 t r) e h)) d is agrees
 
 -- ---- the canonical text of a number below 10^64, and that it is one
 
@@ -138,6 +146,56 @@ plain (c ∷ cs) d =
     let plus = no_sign c 43 d.1.0 (omega arith) in
     let k = digit_from_value c d.1.0 in
     record { digits = unsigned c cs minus plus; value = unsigned_value c cs minus plus; no_plus = λ e. omega (arith, k.0, k.1) }
+
+-- ---- a number of few digits
+
+-- the digits up to the i-th have been read, and write n
+pub record IsReadSoFar (text : List ℕ) (i n : ℕ) : Type 0 where
+  pub digits : AllDigits 10 (drop i text) → AllDigits 10 text
+  pub value : digits_value_after 10 n (drop i text) ≡ digits_value 10 text
+  pub bound : n < 10 ^ i
+
+pub nothing_read : (text : List ℕ) → IsReadSoFar text 0 0
+nothing_read text = record { digits = λ d. d; value = refl; bound = omega arith }
+
+-- a few digits more, and the number has 64 bits
+pub stays_small : (text : List ℕ) (i n : ℕ) → i < length text → length text ≤ 18 → IsReadSoFar text i n → n < 10 ^ 17
+stays_small text i n l few h =
+    let at_most : i ≤ 17 = omega arith in
+    omega (arith, h.bound, pow-le-pow_right {n = 10} (omega arith) at_most)
+
+record IsRead (text : List ℕ) (n : ℕ) : Type 0 where
+  form : is_integer_form text ≡ true
+  value : written_integer text ≡ pos n
+
+all_read : (text : List ℕ) (i n : ℕ) → 0 < length text → length text ≤ i → IsReadSoFar text i n → IsRead text n
+unfolding written_integer
+all_read text i n some whole h =
+    let gone : drop i text ≡ [] = drop_of_length-le text whole in
+    let numeral : IsNumeral 10 text = (some, h.digits (subst (AllDigits 10) (sym gone) tt)) in
+    let is : digits_value 10 text ≡ n = sym h.value ∙ ap (digits_value_after 10 n) gone in
+    let p = plain text numeral in
+    record { form = (form_decides text).1 (subst (IsNumeral 10) (sym p.digits) numeral); value = p.value ∙ ap pos is }
+
+is_some : (text : List ℕ) → (length text == 0) ≡ false → 0 < length text
+is_some [] h = absurd (let k : ⊥ = cc in k)
+is_some (c ∷ cs) h = omega arith
+
+pub read_form : (text : List ℕ) (i n : ℕ) → (length text == 0) ≡ false → length text ≤ i → IsReadSoFar text i n → is_integer_form text ≡ true
+read_form text i n some whole h = (all_read text i n (is_some text some) whole h).form
+
+pub read_value : (text : List ℕ) (i n : ℕ) → (length text == 0) ≡ false → length text ≤ i → IsReadSoFar text i n → written_integer text ≡ pos n
+read_value text i n some whole h = (all_read text i n (is_some text some) whole h).value
+
+pub short_integer_read : (l : LiteralParts) (datatype text bytes : List ℕ) (same : Bool) (number : ℕ) (value : ℤ) → value ≡ pos number → number < 2 ^ 64 → is_integer_form bytes ≡ true → written_integer bytes ≡ pos number
+    → bytes ≡ text → text ≡ l.lexical → datatype ≡ l.datatype → same ≡ pointwise nat_eq datatype xsd_integer → same ≡ true → Some (to_z w128 (of_z w128 value)) ≡ integer_of l
+short_integer_read l datatype text bytes same number value v small form written b e d is agrees =
+    let fits : FitsSigned w128 (pos number) = record { sfits = omega arith } in
+    let form_there : is_integer_form l.lexical ≡ true = subst (λ t. is_integer_form t ≡ true) (b ∙ e) form in
+    let written_there : written_integer l.lexical ≡ pos number = subst (λ t. written_integer t ≡ pos number) (b ∙ e) written in
+    let fits_there : fits_128_bits (written_integer l.lexical) ≡ true = ap fits_128_bits written_there ∙ (fits_decides (pos number)).1 fits in
+    ap (λ n. Some (to_z w128 (of_z w128 n))) v ∙ ap Some (to_z-of_z w128 (pos number) fits)
+    ∙ integer_is l datatype text same (Some (pos number)) (ap Some (sym written_there) ∙ sym (cond-true _ _ _ (and_from _ _ form_there fits_there))) d is agrees
 
 -- ---- the laws
 

@@ -1,7 +1,7 @@
 //! The whole numbers that literals stand for (XML Schema 1.1 Part 2, section 3.4.13).
 ghost use Rattle.std.specs.Cmp.Lexicographic.{pointwise};
-ghost use Rattle.std.specs.Prelude.{◌≡◌, nat_eq, IfOk};
-ghost use Rattle.rdf_terms.specs.Integers.{integer_literal, integer_of};
+ghost use Rattle.std.specs.Prelude.{◌≡◌, nat_eq, pos, IfOk, IfSome, IsTrue};
+ghost use Rattle.rdf_terms.specs.Integers.{integer_literal, integer_of, is_integer_form, written_integer};
 ghost use Rattle.rdf_terms.specs.IntegerLaws.{CanonicalTextsAreDecimals, DecimalsAreCanonical, DecimalsAreRead, IntegersComeBack};
 ghost use Rattle.rdf_terms.specs.Vocabulary.{xsd_integer};
 
@@ -21,7 +21,33 @@ pub fn integer_value(literal: &Literal) -> Option<i128>
     if !is_xsd_integer(literal.datatype()) {
         return None;
     }
-    literal.lexical().parse().ok()
+    let text = literal.lexical();
+    match short_number(text.as_bytes()) {
+        Some(number) => Some(i128::from(number)),
+        None => text.parse().ok(),
+    }
+}
+
+// A number of so many digits has 64 bits.
+const FEW: usize = 18;
+
+// The number that a few digits write, which costs less than one of 128 bits; `None` of any other
+// text.
+fn short_number(text: &[u8]) -> Option<u64>
+    ensures form { IfSome result (λ _. IsTrue (is_integer_form text.now)) }
+    ensures value { IfSome result (λ n. written_integer text.now ≡ pos n) }
+{
+    if text.is_empty() || FEW < text.len() {
+        return None;
+    }
+    let mut number = 0;
+    for digit in text {
+        if *digit < b'0' || b'9' < *digit {
+            return None;
+        }
+        number = number * 10 + u64::from(*digit - b'0');
+    }
+    Some(number)
 }
 
 /// The literal of datatype xsd:integer that is the number's own, in canonical form: without a plus
