@@ -1,11 +1,14 @@
 -- What stays of a list that only grows, step by step.
-use Rattle.std.proofs.Common.{◌≡◌, ◌∙◌, ap, sym, ℕ, List, ◌++◌, length, take, drop, take-append-drop, append_assoc}
+use Rattle.std.proofs.Common.{◌≡◌, ◌∙◌, ap, sym, ℕ, List, [], ◌++◌, length, take, drop, take-append-drop, append_assoc, append-nil}
 use Rattle.std.proofs.Math.Seq.{take-append_seam}
 use Rattle.rdf_terms.proofs.CallerLemmas.{kept_on}
 
--- `new` is `old` and what came behind it, in one step, and in two
+-- `new` is `old` and what came behind it, in one step, in none, and in two
 pub kept_before : (old xs new : List ℕ) → new ≡ old ++ xs → take (length old) new ≡ old
 kept_before old xs new e = ap (λ (t : List ℕ). take (length old) t) e ∙ take-append_seam old xs
+
+pub kept_same : (old new : List ℕ) → new ≡ old → take (length old) new ≡ old
+kept_same old new e = kept_before old [] new (e ∙ sym (append-nil old))
 
 pub kept_before_two : (old xs ys a new : List ℕ) → a ≡ old ++ xs → new ≡ a ++ ys → take (length old) new ≡ old
 kept_before_two old xs ys a new first second = kept_on old xs a new first (kept_before a ys new second)
@@ -29,6 +32,9 @@ pub kept_over_three : (old xs ys zs a b d new : List ℕ) → a ≡ old ++ xs �
 kept_over_three old xs ys zs a b d new first second third kept = kept_over_two old xs ys a b new first second (kept_on b zs d new third kept)
 
 -- ---- what was written, step by step
+
+pub in_two : (old xs ys a new : List ℕ) → a ≡ old ++ xs → new ≡ a ++ ys → new ≡ old ++ (xs ++ ys)
+in_two old xs ys a new first second = second ∙ ap (λ (t : List ℕ). t ++ ys) first ∙ append_assoc old xs ys
 
 pub in_three : (old xs ys zs a b new : List ℕ) → a ≡ old ++ xs → b ≡ a ++ ys → new ≡ b ++ zs → new ≡ old ++ ((xs ++ ys) ++ zs)
 in_three old xs ys zs a b new first second third =

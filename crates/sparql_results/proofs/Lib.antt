@@ -1,6 +1,7 @@
 mod CsvLemmas
 mod FieldLemmas
 mod FormatLemmas
+mod ItemLemmas
 mod JsonLemmas
 mod JsonStringLemmas
 mod KeptLemmas

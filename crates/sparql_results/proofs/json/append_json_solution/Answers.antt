@@ -6,7 +6,7 @@ use Rattle.std.proofs.lemmas.Grind.{common_steps}
 use Rattle.std.proofs.lemmas.Slice.Zip.{Zip-more, either_empty_from_Zip}
 use Rattle.rdf_terms.specs.declared.term.Term.{Term}
 use Rattle.sparql_results.specs.JsonText.{bound, json_member}
-use Rattle.sparql_results.proofs.KeptLemmas.{in_three, kept_over_two}
+use Rattle.sparql_results.proofs.KeptLemmas.{in_three, kept_before, kept_before_two, kept_over_two, kept_same}
 use Rattle.sparql_results.proofs.SolutionLemmas.{all_written, bound_written, none_written}
 use Rattle.sparql_results.proofs.json.append_json_solution.Goals as goal
 
@@ -30,6 +30,17 @@ loop-name-preserved c =
     (iter_rest (zip_second c.next.new.self)) c.in-Some.name.now c.in-Some.value.now c.in-Some-value.term c.loop-name.invariant names values is_some
     (c.in_ok-append_json_member.ensures.ok
     ∙ append_assoc c.loop-name.out.items (if c.loop-name.is_first then [] else codes ",") (json_member (c.in-Some.name.now, c.in-Some-value.term)))
+
+pub returns-in_err-push-clause-kept : goal.returns-in_err-push-clause-kept
+returns-in_err-push-clause-kept c = kept_same _ _ c.in_err-push.ensures.items
+
+pub returns-in_err-push-2-clause-kept : goal.returns-in_err-push-2-clause-kept
+returns-in_err-push-2-clause-kept c =
+    kept_before_two _ _ _ _ _ c.in_ok-push.ensures.items (c.in_err-push-2.ensures.items ∙ c.loop-name.invariant.so_far)
+
+pub returns-clause-kept : goal.returns-clause-kept
+returns-clause-kept c =
+    kept_over_two _ _ _ _ _ _ c.in_ok-push.ensures.items c.loop-name.invariant.so_far (kept_before _ _ _ c.in_ok-push-2.ensures.items)
 
 pub returns-in_err-append_json_member-clause-kept : goal.returns-in_err-append_json_member-clause-kept
 returns-in_err-append_json_member-clause-kept c =
