@@ -1,5 +1,5 @@
 -- Operations one after another, the last of which act on no view.
-use Rattle.std.proofs.Common.{arith, ◌≡◌, ℕ, ◌+◌, ◌<◌, ◌≤◌, ◌||◌, List, [], ◌∷◌, ◌++◌, drop, get_or, length, Result, Ok, Err, refl, sym, ap, ◌∙◌, subst, IsTrue}
+use Rattle.std.proofs.Common.{arith, ◌≡◌, ℕ, ◌+◌, ◌<◌, ◌≤◌, ◌||◌, List, [], ◌∷◌, ◌++◌, drop, get_or, length, Result, Ok, Err, refl, sym, ap, ◌∙◌, subst, IsTrue, Option, Some, None, IfNone, IfSome}
 use Rattle.std.proofs.lemmas.List.{drop_all}
 use Rattle.rdf_terms.specs.Below.{AreBelow}
 use Rattle.rdf_terms.specs.Quad.{QuadParts}
@@ -85,6 +85,13 @@ pub view_composed : (s : State) (v w : Staging) (xs ys : List Operation) (first 
     → ((s t u : State) → first ≡ net_between s t → last ≡ net_between t u → both ≡ net_between s u) → IsNetOf s (xs ++ ys) both
 view_composed s v w xs ys first last both begins h beneath is made f =
     composed s w.now xs ys first last both (view_leads s v w xs begins h) (view_between s v w first begins beneath is) made f
+
+-- others follow, or none
+pub view_joined : (s : State) (v w : Staging) (xs ys : List Operation) (first : Change) (after : Option Change) (net : Change) → v ≡ record { under = s; now = s } → steps v.now xs ≡ Ok w.now → w.under ≡ v.under
+    → IsSound w.now → first ≡ net_between w.under w.now → IfNone after (ys ≡ []) → IfSome after (IsNetOf w.now ys) → IfNone after (net ≡ first)
+    → IfSome after (λ last. (s t u : State) → first ≡ net_between s t → last ≡ net_between t u → net ≡ net_between s u) → IsNetOf s (xs ++ ys) net
+view_joined s v w xs ys first None net begins h beneath sound is none made alone both = view_net s v w xs ys net begins h beneath none sound (alone ∙ is)
+view_joined s v w xs ys first (Some last) net begins h beneath sound is none made alone both = view_composed s v w xs ys first last net begins h beneath is made both
 
 -- ---- a view whose state is known
 

@@ -1,7 +1,8 @@
 //! What a request makes of what a source holds, as a net. A view is staged for operations whose outcome a later one
 //! reads, and for no others, such as those of an editor: terms that these bring are numbered by whoever commits the net,
 //! and not before.
-ghost use Rattle.std.specs.Prelude.{◌≡◌, [], ◌∷◌, ◌++◌, IfErr, IfOk};
+ghost use Rattle.std.specs.Prelude.{◌≡◌, [], ◌∷◌, ◌++◌, Ok, IfErr, IfNone, IfOk, IfSome, OnOk};
+ghost use Rattle.rdf_dataset.specs.State.{State, net_between};
 ghost use Rattle.sparql_eval.specs.Inside.Unread.{AreUnread};
 ghost use Rattle.sparql_eval.specs.Nets.{IsNetOf};
 ghost use Rattle.sparql_eval.specs.Operations.{Tells, steps};
@@ -13,7 +14,7 @@ use crate::operations::copies;
 use crate::request::apply_each;
 use crate::unread::{net_of_unread, unread_from};
 use rdf_dataset::{Net, Source, Staged, sources_are_sound};
-use rdf_terms::Vocabulary;
+use rdf_terms::{NoMemory, Vocabulary};
 use sparql_trees::{Data, GroundData, Modify, Operation, Request};
 use std::alloc::Global;
 
@@ -82,7 +83,42 @@ fn net_of_last<S: Source>(
     }
 }
 
-// The net of operations that act on a staged view, and then of those whose outcome none reads.
+// Lets the first operations act on the view, and answers the net of the others over it, if there are any.
+fn net_behind<S: Source>(
+    alloc: Global,
+    vocabulary: &Vocabulary,
+    read: &[Operation],
+    last: &[Operation],
+    staged: &mut Staged<'_, S>,
+) -> Result<Option<Net>, ApplyFault>
+    requires { AreUnread last.now }
+    ensures leads { OnOk result (steps staged.old.now read.now ≡ Ok staged.new.now) }
+    ensures none { IfOk result (λ after. IfNone after (last.now ≡ [])) }
+    ensures made { IfOk result (λ after. IfSome after (IsNetOf staged.new.now last.now)) }
+    ensures refused { IfErr result (Tells (steps staged.old.now (read.now ++ last.now))) }
+    ensures beneath { staged.new.under ≡ staged.old.under }
+{
+    apply_each(alloc, vocabulary, read, staged)?;
+    if last.is_empty() {
+        return Ok(None);
+    }
+    Ok(Some(net_of_last(alloc, vocabulary, last, &*staged)?))
+}
+
+// A net, and behind it one that begins where it ends, if there is one.
+fn joined(before: Net, after: Option<Net>) -> Result<Net, NoMemory>
+    ensures alone { IfNone after (IfOk result (λ net. net ≡ before)) }
+    ensures both { IfSome after (λ last. IfOk result (λ both. (s t u : State) →
+        before ≡ net_between s t → last ≡ net_between t u → both ≡ net_between s u)) }
+{
+    match after {
+        Some(after) => before.joined(after),
+        None => Ok(before),
+    }
+}
+
+// The net of operations that act on a staged view, and then of those whose outcome none reads. The view ends before it is
+// asked how these went: where a function drops one its proof takes minutes.
 fn net_in_parts<S: Source>(
     alloc: Global,
     vocabulary: &Vocabulary,
@@ -98,12 +134,12 @@ fn net_in_parts<S: Source>(
         return net_of_last(alloc, vocabulary, last, under);
     }
     let mut staged = Staged::over(alloc, under);
-    apply_each(alloc, vocabulary, read, &mut staged)?;
-    if last.is_empty() {
-        return Ok(staged.into_net()?);
+    let after = net_behind(alloc, vocabulary, read, last, &mut staged);
+    let before = staged.into_net();
+    match after {
+        Ok(after) => Ok(joined(before?, after)?),
+        Err(fault) => Err(fault),
     }
-    let after = net_of_last(alloc, vocabulary, last, &staged)?;
-    Ok(staged.into_net()?.joined(after)?)
 }
 
 // The net of any operations. Only those are staged whose outcome a later one reads.
