@@ -29,8 +29,21 @@ fn count_over(
     parts: &[Part],
 ) -> Option<(u64, u64)> {
     let mut view = Staged::over(alloc, dataset);
-    if answer(alloc, &mut view, insertion) == "ok" {
-        count_groups(alloc, &view, parts)
+    let counts = count_in(alloc, &mut view, insertion, parts);
+    // (a view that a function drops itself makes its proof dear)
+    let _ = view.into_net();
+    counts
+}
+
+// The same over what an insertion brings to a view.
+fn count_in(
+    alloc: Global,
+    view: &mut Staged<'_, Dataset>,
+    insertion: &Request,
+    parts: &[Part],
+) -> Option<(u64, u64)> {
+    if answer(alloc, view, insertion) == "ok" {
+        count_groups(alloc, view, parts)
     } else {
         None
     }
