@@ -1,5 +1,5 @@
 -- Rows in bins: what one row more makes of them, and that a bin has all that are compatible.
-use Rattle.std.proofs.Common.{◌≡◌, ℕ, zero, suc, ◌+◌, ◌<◌, ◌≤◌, Bool, true, false, cond, ◌&&◌, ◌||◌, List, [], ◌∷◌, ◌++◌, map, filter, Option, Some, None, refl, sym, ap, ◌∙◌, subst, length, take, get_or, set, is_some, arith, append-nil, append_assoc, Bor, Vec, Global, if◌then◌else◌}
+use Rattle.std.proofs.Common.{◌≡◌, ℕ, zero, suc, ◌+◌, ◌<◌, ◌≤◌, Bool, true, false, cond, ◌&&◌, ◌||◌, List, [], ◌∷◌, ◌++◌, map, filter, Option, Some, None, refl, sym, ap, ◌∙◌, subst, length, take, get_or, set, is_some, arith, append-nil, append_assoc, Bor, if◌then◌else◌}
 use Rattle.std.specs.List.{list_any, All}
 use Rattle.std.specs.Prelude.{slice_get}
 use Rattle.std.proofs.lemmas.List.{get_or_default, length-append, map-append, take_more}
@@ -10,13 +10,14 @@ use Rattle.sparql_values.specs.Mapping.{Mapping, compatible, same_term, value_at
 use Rattle.sparql_algebra.proofs.CallerLemmas.{same_term_is}
 use Rattle.sparql_values.proofs.CallerLemmas.{same_term_own}
 use Rattle.sparql_algebra.specs.Under.{agreeing}
-use Rattle.sparql_solve.specs.Bins.{binned, binned_in, has_at, is_term, with_at}
+use Rattle.sparql_solve.specs.declared.bins.Bin.{Bin}
+use Rattle.sparql_solve.specs.Bins.{bin_rows, binned, binned_in, has_at, is_term, with_at}
 use Rattle.sparql_solve.specs.Keys.{IsKeyOf, all_bind, binds}
 use Rattle.sparql_solve.proofs.KeyLemmas.{agree_at, filter_within, left_has, right_has, rows_of}
 
 -- what stands in each bin
-abbrev pub bins_in : List (Vec (Bor Mapping) Global) → List (List Mapping)
-bins_in bins = map (λ (bin : Vec (Bor Mapping) Global). map (λ (r : Bor Mapping). r.now) bin.items) bins
+abbrev pub bins_in : List Bin → List (List Mapping)
+bins_in bins = map bin_rows bins
 
 -- ---- terms
 
@@ -191,6 +192,21 @@ module _ (us new : List Term) (old bins after : List (List Mapping)) (t : Term) 
   put_gives s =
       ap (λ (l : List (List Mapping)). binned new l s) e ∙ one_put new bins k t m s o i (sym r.paired)
       ∙ ap (λ (l : List Mapping). l ++ cond (same_term s t) (m ∷ []) []) (r.same s)
+
+-- a bin that is new has the row
+with_at_end : (bins : List (List Mapping)) (k : ℕ) (m : Mapping) → k ≡ length bins → bins ++ (m ∷ []) ∷ [] ≡ with_at k m (bins ++ [] ∷ [])
+with_at_end [] zero m e = refl
+with_at_end [] (suc k) m e = absurd (omega (arith, e))
+with_at_end (bin ∷ bins) zero m e = absurd (omega (arith, e))
+with_at_end (bin ∷ bins) (suc k) m e = ap (λ (l : List (List Mapping)). bin ∷ l) (with_at_end bins k m (omega (arith, e)))
+
+module _ (us new : List Term) (old after : List (List Mapping)) (t : Term) (k : ℕ) (m : Mapping) (n : new ≡ with_term us t) (i : IsIdOf new k t)
+    (p : length old ≡ length us) (o : AreHeldOnce new) (e : k ≡ length old) (a : after ≡ old ++ (m ∷ []) ∷ []) where
+  readied : IsReady us new old (old ++ [] ∷ [])
+  readied = ready_new us new old (old ++ [] ∷ []) t k n i p e refl
+
+  pub new_gives : (s : Term) → binned new after s ≡ binned us old s ++ cond (same_term s t) (m ∷ []) []
+  new_gives = put_gives us new old (old ++ [] ∷ []) after t k m readied o i (a ∙ with_at_end old k m e)
 
 -- ---- the loop over the rows
 

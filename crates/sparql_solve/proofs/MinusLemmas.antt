@@ -7,11 +7,12 @@ use Rattle.std.proofs.lemmas.List.{drop_more, take_all}
 use Rattle.std.proofs.lemmas.List.Folds.{list_any-append, list_any_at}
 use Rattle.sparql_values.specs.Mapping.{Mapping, compatible, merge}
 use Rattle.sparql_algebra.specs.Bags.{SameBag}
+use Rattle.sparql_algebra.proofs.CallerLemmas.{SameBag-refl}
 use Rattle.sparql_algebra.specs.Solutions.{merges, minuses, shares, left_by}
 use Rattle.sparql_algebra.specs.Under.{agreeing}
 use Rattle.sparql_algebra.proofs.CallerLemmas.{any_filtered, SameBag-minuses}
 use Rattle.sparql_solve.specs.Keys.{binds}
-use Rattle.sparql_solve.specs.Parts.{left_in, meets, meets_in, part_run}
+use Rattle.sparql_solve.specs.Parts.{is_left, left_in, meets, meets_in, part_run}
 use Rattle.sparql_solve.specs.Under.{where_none}
 use Rattle.sparql_solve.specs.declared.keyed.Part.{Part}
 use Rattle.sparql_solve.proofs.KeyLemmas.{rows_of}
@@ -200,3 +201,25 @@ module _ (L R : List Mapping) (ls rs used seen : Rows) (groups others : List (Bo
       (h ∙ ap (λ (A : List Mapping). minuses A (all_rows others)) (ap all_rows (take_all i groups lt) ∙ gl ∙ ap rows_of el)
       ∙ ap (minuses (rows_of ls)) (gr ∙ ap rows_of er))
       ∙ SameBag-minuses (rows_of ls) L (rows_of rs) R bl br f
+
+-- ---- rows that are moved on
+
+filter_where : (p q : Mapping → Bool) (xs : List Mapping) → All (λ a. p a ≡ q a) xs → filter p xs ≡ filter q xs
+filter_where p q [] h = refl
+filter_where p q (x ∷ xs) h =
+    ap (λ b. cond b (x ∷ filter p xs) (filter p xs)) (h 0 x (omega arith))
+    ∙ ap (λ (l : List Mapping). cond (q x) (x ∷ l) l) (filter_where p q xs (λ k d lt. h (suc k) d (omega arith)))
+
+module _ (L R : List Mapping) (lent rs seen : Rows) (others given : List (Bor Rows)) (parts used : List Part) (out : List Mapping) (el : rows_of lent ≡ L)
+    (br : SameBag (rows_of rs) R) (es : seen ≡ rs) (go : all_rows others ≡ rows_of seen) (eg : given ≡ others) (eu : used ≡ parts) where
+  pub moved_left : All (λ a. list_any (meets_in a) parts ≡ list_any (meets a) (all_rows given)) (rows_of lent) → out ≡ filter (is_left used) L →
+      SameBag out (minuses L R)
+  moved_left r e f =
+      let stays : All (λ a. is_left parts a ≡ left_by shares (all_rows others) a) (rows_of lent) =
+      λ k d l. ap not (r k d l) ∙ ap (λ (ps : List (Bor Rows)). left_by shares (all_rows ps) (get_or (rows_of lent) k d)) eg in
+      ap (sum_by f)
+      (e ∙ ap (λ (ps : List Part). filter (is_left ps) L) eu
+      ∙ filter_where (is_left parts) (left_by shares (all_rows others)) L
+      (subst (λ (A : List Mapping). All (λ a. is_left parts a ≡ left_by shares (all_rows others) a) A) el stays)
+      ∙ ap (minuses L) (go ∙ ap rows_of es))
+      ∙ SameBag-minuses L L (rows_of rs) R (SameBag-refl L) br f

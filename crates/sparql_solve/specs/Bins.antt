@@ -1,7 +1,14 @@
 -- The right side of a join in bins: its rows by the one term that they have at the one column of the key.
-use Rattle.std.specs.Prelude.{ℕ, Bool, false, cond, List, [], ◌∷◌, ◌++◌, Option, Some, None, zero, suc}
+use Rattle.std.specs.Prelude.{ℕ, Bool, false, cond, List, [], ◌∷◌, ◌++◌, map, Option, Some, None, zero, suc}
 use Rattle.rdf_terms.specs.declared.term.Term.{Term}
 use Rattle.sparql_values.specs.Mapping.{Mapping, same_term, value_at}
+use Rattle.sparql_solve.specs.declared.bins.Bin.{Bin}
+use Rattle.sparql_solve.specs.declared.bins.Bin.TheVariants.{One, Many}
+
+-- the rows of a bin
+abbrev pub bin_rows : Bin → List Mapping
+bin_rows (One r) = r.now ∷ []
+bin_rows (Many rows) = map (λ r. r.now) rows.items
 
 abbrev pub is_term : Term → Option Term → Bool
 is_term t (Some u) = same_term t u

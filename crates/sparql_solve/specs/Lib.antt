@@ -4,6 +4,7 @@ pub mod Own
 pub mod Parts
 pub mod LookUps
 pub mod Matching
+pub mod Grown
 pub mod Sides
 pub mod Members
 pub mod Under

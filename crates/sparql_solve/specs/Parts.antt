@@ -1,17 +1,17 @@
 -- The right side of a join in parts, each by the key that it shares with some left rows.
-use Rattle.std.specs.Prelude.{Bool, ◌&&◌, cond, List, [], ◌∷◌, map}
+use Rattle.std.specs.Prelude.{Bool, ◌&&◌, not, cond, List, [], ◌∷◌, map}
 use Rattle.std.specs.List.{flat_map, list_any}
 use Rattle.sparql_values.specs.Mapping.{Mapping, compatible, value_at}
 use Rattle.sparql_algebra.specs.Solutions.{merges, shares}
 use Rattle.sparql_solve.specs.declared.keyed.Part.{Part}
 use Rattle.sparql_solve.specs.declared.keyed.Part.TheVariants.{Binned, Sorted}
 use Rattle.sparql_solve.specs.declared.bins.Bins.{Bins}
-use Rattle.sparql_solve.specs.Bins.{binned_in}
+use Rattle.sparql_solve.specs.Bins.{bin_rows, binned_in}
 use Rattle.sparql_solve.specs.Keys.{run}
 
 -- those in the bin of the term that a mapping has at the column
 abbrev pub bin_of : Mapping → Bins → List Mapping
-bin_of a b = binned_in b.terms (map (λ bin. map (λ r. r.now) bin.items) b.bins.items) (value_at a b.column)
+bin_of a b = binned_in b.terms (map bin_rows b.bins.items) (value_at a b.column)
 
 -- those of a part that have the key of a mapping
 abbrev pub part_run : Mapping → Part → List Mapping
@@ -35,6 +35,10 @@ meets a b = compatible a b && shares a b
 -- it meets one of a part that has its key
 abbrev pub meets_in : Mapping → Part → Bool
 meets_in a p = list_any (meets a) (part_run a p)
+
+-- it meets none of the parts
+abbrev pub is_left : List Part → Mapping → Bool
+is_left parts a = not (list_any (meets_in a) parts)
 
 -- the mapping, where it meets none of the parts
 abbrev pub left_in : List Part → Mapping → List Mapping

@@ -1,15 +1,15 @@
 //! Minus of rows, each part by its own key (SPARQL 1.1 Query, section 18.5). Rows are compared with
 //! no part with which they can't have a variable in common.
-ghost use Rattle.std.specs.Prelude.{◌≡◌, ◌++◌, ◌||◌, All, IfOk, OnOk, map, nat_eq, true, ℕ};
+ghost use Rattle.std.specs.Prelude.{◌≡◌, ◌++◌, ◌||◌, All, IfOk, OnOk, filter, map, nat_eq, true, ℕ};
 ghost use Rattle.std.specs.List.{flat_map, list_any};
 ghost use Rattle.sparql_algebra.specs.Bags.{SameBag};
 ghost use Rattle.sparql_algebra.specs.Solutions.{minuses};
 ghost use Rattle.sparql_solve.specs.Keys.{binds};
-ghost use Rattle.sparql_solve.specs.Parts.{left_in, meets, meets_in};
+ghost use Rattle.sparql_solve.specs.Parts.{is_left, left_in, meets, meets_in};
 
 use crate::keyed::{Part, part_run};
 use crate::mappings::Mapping;
-use crate::parts::{cut_parts, part_of, parted};
+use crate::parts::{cut_parts, is_one_part, part_of, parted, references};
 use rdf_terms::NoMemory;
 use std::alloc::Global;
 
@@ -150,6 +150,14 @@ fn append_left(
     Ok(())
 }
 
+// The rows that meet none of the parts, where they stand.
+fn rows_left(mut rows: Vec<Mapping>, parts: &[Part]) -> Vec<Mapping>
+    ensures { result.items ≡ filter (is_left parts.now) rows.items }
+{
+    rows.retain(|row| !meets_any(row, parts));
+    rows
+}
+
 /// Minus: the left rows with which no compatible right one has a variable in common.
 pub(crate) fn minus(
     alloc: Global,
@@ -168,4 +176,23 @@ pub(crate) fn minus(
         append_left(alloc, group, parts.as_slice(), &mut out)?;
     }
     Ok(out)
+}
+
+/// Minus of left rows that are moved on: those stay where they stand that bind the same columns.
+pub(crate) fn minus_moved(
+    alloc: Global,
+    left: Vec<Mapping>,
+    right: &[Mapping],
+) -> Result<Vec<Mapping>, NoMemory>
+    ensures { IfOk result (λ out. SameBag out.items (minuses left.items right.now)) }
+{
+    if !is_one_part(&left) {
+        return minus(alloc, &left, right);
+    }
+    let right = parted(alloc, right)?;
+    let others = cut_parts(alloc, right.as_slice())?;
+    let all = references(alloc, &left)?;
+    let parts = met_parts(alloc, all.as_slice(), others.as_slice())?;
+    drop(all);
+    Ok(rows_left(left, parts.as_slice()))
 }

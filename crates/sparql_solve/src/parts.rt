@@ -58,7 +58,16 @@ fn compare_bound(row: &Mapping, other: &Mapping) -> Ordering {
     compare_bound_ones(row, other)
 }
 
-fn references<'r>(alloc: Global, rows: &'r [Mapping]) -> Result<Vec<&'r Mapping>, NoMemory>
+/// Whether all rows bind the same columns. Nothing but time rests on it.
+pub(crate) fn is_one_part(rows: &[Mapping]) -> bool {
+    let Some(first) = rows.first() else {
+        return true;
+    };
+    rows.iter().all(|row| compare_bound(row, first).is_eq())
+}
+
+/// References to the rows.
+pub(crate) fn references<'r>(alloc: Global, rows: &'r [Mapping]) -> Result<Vec<&'r Mapping>, NoMemory>
     ensures { IfOk result (λ all. map (λ r. r.now) all.items ≡ rows.now) }
 {
     Ok(rows.iter().collect(alloc)?)

@@ -21,7 +21,7 @@ use crate::look_ups::{
 };
 use crate::mappings::Mapping;
 use crate::members::{is_joined, is_removed};
-use crate::minus::minus;
+use crate::minus::{minus, minus_moved};
 use crate::sharing::{few_beside, look_ups_under, served_rows, stops_looking};
 use rdf_dataset::Source;
 use rdf_terms::{GraphName, NoMemory, Vocabulary};
@@ -258,6 +258,24 @@ fn joined_rows(
     }
 }
 
+// The same of rows that are moved on where they stay.
+fn joined_moved(
+    alloc: Global,
+    variables: &SortedNames,
+    vocabulary: &Vocabulary,
+    rows: Vec<Mapping>,
+    found: &[Mapping],
+    member: &Member,
+) -> Result<Vec<Mapping>, NoMemory>
+    ensures { IfOk result (λ out. SameBag out.items (flat_map (λ x. kept variables.now
+        (element member.now) x (merges (met (element member.now) x found.now) x)) rows.items)) }
+{
+    match member {
+        Member::Minus(_) => minus_moved(alloc, rows, found),
+        _ => joined_rows(alloc, variables, vocabulary, &rows, found, member),
+    }
+}
+
 /// What a member makes of rows, joined by key with what was found for all of them; of that what is
 /// compatible with the row above.
 pub(crate) fn rows_beside(
@@ -275,6 +293,25 @@ pub(crate) fn rows_beside(
 {
     let joined = joined_rows(alloc, variables, vocabulary, rows, found, member)?;
     compatible_rows(alloc, under, joined)
+}
+
+// What a member makes of rows that are moved on, joined by key with what was found for all of them;
+// of that what is compatible with the row above.
+fn rows_moved_beside(
+    alloc: Global,
+    variables: &SortedNames,
+    vocabulary: &Vocabulary,
+    rows: Vec<Mapping>,
+    found: &[Mapping],
+    member: &Member,
+    under: &Above,
+) -> Result<Vec<Mapping>, NoMemory>
+    ensures { IfOk result (λ out. SameBag out.items (flat_map (λ x. agreeing (kept variables.now
+        (element member.now) x (merges (met (element member.now) x found.now) x)) under.now)
+        rows.items)) }
+{
+    let made = joined_moved(alloc, variables, vocabulary, rows, found, member)?;
+    compatible_rows(alloc, under, made)
 }
 
 // What a member makes of rows one by one.
@@ -513,7 +550,7 @@ fn rows_joined_once<S: Source>(
     vocabulary: &Vocabulary,
     _graph: &GraphName,
     _source: &S,
-    rows: &[Mapping],
+    rows: Vec<Mapping>,
     all: &[Mapping],
     _look_up: &LookUp,
     member: &Member,
@@ -524,9 +561,9 @@ fn rows_joined_once<S: Source>(
     requires found { AreSolutions (S.contents _source.now) all.now
         (λ d. found variables.now d _look_up.now (empty_mapping variables.now)) }
     ensures { IfOk result (λ out. AreMade variables.now (S.contents _source.now) _graph.now under.now
-        (element member.now) rows.now out.items) }
+        (element member.now) rows.items out.items) }
 {
-    rows_beside(alloc, variables, vocabulary, rows, all, member, under)
+    rows_moved_beside(alloc, variables, vocabulary, rows, all, member, under)
 }
 
 /// What a member makes of rows by look-ups under each of them, or by one for all of them where it is
@@ -552,7 +589,7 @@ pub(crate) fn rows_looked_up<S: Source>(
 {
     if let Some(found) = found_once(alloc, variables, source, look_up, &rows)? {
         let once = rows_joined_once(
-            alloc, variables, vocabulary, graph, source, &rows, &found, look_up, member, under,
+            alloc, variables, vocabulary, graph, source, rows, &found, look_up, member, under,
         )?;
         return Ok(all_made(alloc, once));
     }

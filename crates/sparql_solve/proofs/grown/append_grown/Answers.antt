@@ -1,8 +1,9 @@
-use Rattle.std.proofs.Common.{rules, ◌≡◌, List, [], ◌++◌, Some, None, cond, sym, ap, ◌∙◌, arith, length, append-nil}
+use Rattle.std.proofs.Common.{rules, ◌≡◌, List, [], ◌++◌, Some, None, cond, sym, ap, ◌∙◌, subst, arith, length, append-nil}
 use Rattle.std.specs.List.{list_all}
 use Rattle.std.specs.Vec.Iter.{into_iter_items}
 use Rattle.rdf_terms.specs.Quad.{QuadParts}
 use Rattle.sparql_values.specs.Mapping.{Mapping}
+use Rattle.sparql_solve.specs.Grown.{TellsHeld}
 use Rattle.sparql_solve.specs.Matching.{has_held, matched, matches_of}
 use Rattle.sparql_solve.proofs.MemberLemmas.{none_left}
 use Rattle.sparql_solve.proofs.OnceLemmas.{held_first, held_rest, grown_by, grown_by_none}
@@ -13,15 +14,18 @@ loop-quad-init c =
     let is : into_iter_items c.into_iter-quad-iterator.result ≡ c.args.quads.items = search rules in
     record {
       made = ap (λ (qs : List QuadParts). c.args.out.now.items ++ matches_of qs c.args.places.now c.args.row.now) is;
-      held = ap (list_all (has_held c.args.places.now c.args.row.now)) is ∙ c.requires;
+      held = ap (list_all (has_held c.args.places.now c.args.row.now)) is ∙ c.requires.held;
       count = search rules;
     }
 
 pub grows-requires : goal.grows-requires
 grows-requires c =
-    ap (λ (m : Mapping). has_held c.args.places.now m c.in-Some.quad) c.in_ok-found.ensures
-    ∙ held_first c.args.places.now c.args.row.now c.in-Some.quad (into_iter_items c.next.new.self) (into_iter_items c.loop-quad.quad-iterator)
-    c.in-Some.ensures.steps.0 c.loop-quad.invariant.held
+    record {
+      known = subst (λ (m : Mapping). TellsHeld c.args.places.now m c.args.known) (sym c.in_ok-found.ensures) c.requires.known;
+      held = ap (λ (m : Mapping). has_held c.args.places.now m c.in-Some.quad) c.in_ok-found.ensures
+          ∙ held_first c.args.places.now c.args.row.now c.in-Some.quad (into_iter_items c.next.new.self) (into_iter_items c.loop-quad.quad-iterator)
+          c.in-Some.ensures.steps.0 c.loop-quad.invariant.held;
+    }
 
 pub loop-quad-preserved-in-Continue-branch-3 : goal.loop-quad-preserved-in-Continue-branch-3
 loop-quad-preserved-in-Continue-branch-3 c =

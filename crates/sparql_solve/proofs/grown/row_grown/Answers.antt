@@ -9,13 +9,19 @@ use Rattle.sparql_solve.proofs.grown.row_grown.Goals as goal
 
 pub append_grown-requires : goal.append_grown-requires
 append_grown-requires c =
-    held_others c.args.places.now c.args.row c.args.quads.items c.pop.new.self.items c.in-Some.last
-    (split_off c.args.quads.items c.pop.new.self.items c.in-Some.last c.in-Some.ensures.items) c.requires
+    record {
+      known = c.known_in-known.ensures;
+      held = held_others c.args.places.now c.args.row c.args.quads.items c.pop.new.self.items c.in-Some.last
+          (split_off c.args.quads.items c.pop.new.self.items c.in-Some.last c.in-Some.ensures.items) c.requires;
+    }
 
 pub grows-requires : goal.grows-requires
 grows-requires c =
-    held_last c.args.places.now c.args.row c.args.quads.items c.pop.new.self.items c.in-Some.last
-    (split_off c.args.quads.items c.pop.new.self.items c.in-Some.last c.in-Some.ensures.items) c.requires
+    record {
+      known = c.known_in-known.ensures;
+      held = held_last c.args.places.now c.args.row c.args.quads.items c.pop.new.self.items c.in-Some.last
+          (split_off c.args.quads.items c.pop.new.self.items c.in-Some.last c.in-Some.ensures.items) c.requires;
+    }
 
 pub returns : goal.returns
 returns c =

@@ -1,3 +1,4 @@
+use Rattle.std.proofs.Common.{refl}
 use Rattle.sparql_algebra.specs.Algebra.{element}
 use Rattle.sparql_solve.proofs.StepLemmas.{begins_further, begins_nothing, begins_whole}
 use Rattle.sparql_solve.proofs.sides.rows_looked_up.Goals as goal
@@ -5,7 +6,7 @@ use Rattle.sparql_solve.proofs.sides.rows_looked_up.Goals as goal
 pub returns-in-Some : goal.returns-in-Some
 returns-in-Some g c =
     begins_whole c.args.variables.now (g.S.Source.contents c.args.source.now) c.args.graph.now c.args.under.now (element c.args.member.now)
-    c.args.rows.items c.deref-in-Some.result.now c.in_ok-once.once.items c.all_made.result.rows.items c.all_made.result.rest.items c.deref-in-Some.ensures.value
+    c.args.rows.items c.args.rows.items c.in_ok-once.once.items c.all_made.result.rows.items c.all_made.result.rest.items refl
     c.all_made.ensures.made c.all_made.ensures.rest c.in_ok-once.ensures
 
 pub loop-alloc-init : goal.loop-alloc-init

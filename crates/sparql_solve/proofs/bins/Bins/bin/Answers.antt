@@ -1,6 +1,7 @@
-use Rattle.std.proofs.Common.{◌≡◌, ◌<◌, ap, sym, subst, ◌∙◌, arith, length, get_or, List, Bor, Vec, Global}
+use Rattle.std.proofs.Common.{◌≡◌, ◌<◌, ap, sym, subst, ◌∙◌, arith, length, get_or, List}
 use Rattle.std.proofs.lemmas.List.{length-map}
-use Rattle.sparql_values.specs.Mapping.{Mapping}
+use Rattle.sparql_solve.specs.declared.bins.Bin.{Bin}
+use Rattle.sparql_solve.specs.Bins.{bin_rows}
 use Rattle.sparql_solve.proofs.KeyLemmas.{rows_of}
 use Rattle.sparql_solve.proofs.BinLemmas.{bins_in, bin_found, bin_missing, get_found, id_below}
 use Rattle.sparql_solve.proofs.bins.Bins.bin.Goals as goal
@@ -11,15 +12,14 @@ returns-in_default c =
 
 pub returns-in-Some-get : goal.returns-in-Some-get
 returns-in-Some-get c =
-    let bins : List (Vec (Bor Mapping) Global) = c.args.self.now.bins.items in
-    let rows_in = λ (bin : Vec (Bor Mapping) Global). rows_of bin.items in
+    let bins : List Bin = c.args.self.now.bins.items in
     let id = c.in-Some.id.0 in
-    let found : Vec (Bor Mapping) Global = c.in-Some-get.bin.now in
-    let below : id < length bins = subst (λ (l : List (Vec (Bor Mapping) Global)). id < length l) c.deref.ensures.value c.in-Some-get.ensures.lookup.3.0 in
-    let here : found ≡ get_or bins id found = subst (λ (l : List (Vec (Bor Mapping) Global)). found ≡ get_or l id found) c.deref.ensures.value c.in-Some-get.ensures.lookup.1 in
-    ap rows_of c.as_slice-in-Some-get.ensures.value
-    ∙ sym (bin_found c.args.self.now.terms (bins_in bins) id c.args.term.now (rows_of found.items) c.terms_are_held_once.ensures.once c.in-Some.ensures.found
-    (sym (length-map bins rows_in ∙ c.args.self.now.paired)) (get_found rows_in bins id found below here))
+    let found : Bin = c.in-Some-get.bin.now in
+    let below : id < length bins = subst (λ (l : List Bin). id < length l) c.deref.ensures.value c.in-Some-get.ensures.lookup.3.0 in
+    let here : found ≡ get_or bins id found = subst (λ (l : List Bin). found ≡ get_or l id found) c.deref.ensures.value c.in-Some-get.ensures.lookup.1 in
+    c.as_slice-in-Some-get.ensures
+    ∙ sym (bin_found c.args.self.now.terms (bins_in bins) id c.args.term.now (bin_rows found) c.terms_are_held_once.ensures.once c.in-Some.ensures.found
+    (sym (length-map bins bin_rows ∙ c.args.self.now.paired)) (get_found bin_rows bins id found below here))
 
 pub returns-in-None : goal.returns-in-None
 returns-in-None c =

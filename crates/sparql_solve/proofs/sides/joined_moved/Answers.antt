@@ -1,0 +1,30 @@
+use Rattle.std.proofs.Common.{List, ap, sym, ◌∙◌}
+use Rattle.std.specs.List.{flat_map, sum_by}
+use Rattle.std.proofs.lemmas.Result.{IfOk-weaker}
+use Rattle.sparql_algebra.specs.Algebra.{Element, element}
+use Rattle.sparql_algebra.specs.Solutions.{merges}
+use Rattle.sparql_algebra.proofs.CallerLemmas.{element-Minus}
+use Rattle.sparql_values.specs.Mapping.{Mapping}
+use Rattle.sparql_solve.specs.Under.{kept, met}
+use Rattle.sparql_solve.proofs.MinusLemmas.{all_left}
+use Rattle.sparql_solve.proofs.sides.joined_moved.Goals as goal
+
+pub returns-in-Minus : goal.returns-in-Minus
+returns-in-Minus c =
+    let vs = c.args.variables.now in
+    let rows = c.args.rows.items in
+    let found = c.args.found.now in
+    IfOk-weaker c.minus_moved.result _ _
+    (λ out h f. h f ∙ ap (sum_by f) (sym (all_left found rows))
+    ∙ ap (λ (k : Element). sum_by f (flat_map (λ x. kept vs k x (merges (met k x found) x)) rows))
+    (sym (ap element c.in-Minus.is ∙ element-Minus _)))
+    c.minus_moved.ensures
+
+pub returns : goal.returns
+returns c =
+    let vs = c.args.variables.now in
+    let found = c.args.found.now in
+    IfOk-weaker c.joined_rows.result _ _
+    (λ out h f. h f ∙ ap (λ (rows : List Mapping). sum_by f (flat_map (λ x. kept vs (element c.args.member.now) x (merges (met (element c.args.member.now) x found) x)) rows))
+    c.deref.ensures.value)
+    c.joined_rows.ensures
