@@ -1,6 +1,7 @@
 pub mod RowLemmas
 pub mod FilterLemmas
 pub mod FitLemmas
+pub mod SpotLemmas
 pub mod GrowthLemmas
 pub mod LengthLemmas
 pub mod MatchingLemmas

@@ -2,7 +2,7 @@
 use Rattle.std.proofs.Common.{◌≡◌, ℕ, suc, ◌+◌, ◌<◌, ◌≤◌, Bool, List, [], ◌∷◌, ◌++◌, map, filter, refl, sym, ap, ◌∙◌, subst, length, take, drop, get_or, arith, append_assoc, append-nil, Bor}
 use Rattle.std.specs.List.{All, flat_map, sum_by}
 use Rattle.std.specs.List.Sorted.{IsPermutation}
-use Rattle.std.proofs.lemmas.List.{get_or_default, map-append, take_all, take_more, take-append-drop}
+use Rattle.std.proofs.lemmas.List.{get_or_default, length-append, map-append, take_all, take_more, take-append-drop}
 use Rattle.std.proofs.lemmas.List.Concat.{flat_map-append}
 use Rattle.std.proofs.lemmas.List.Elements.{filter-append}
 use Rattle.std.proofs.lemmas.List.Sorted.{sum_by-IsPermutation}
@@ -10,7 +10,7 @@ use Rattle.sparql_values.specs.Mapping.{Mapping, compatible, merge}
 use Rattle.sparql_algebra.specs.Bags.{SameBag}
 use Rattle.sparql_algebra.specs.Solutions.{merges, joins, left_joins, or_alone}
 use Rattle.sparql_algebra.specs.Under.{agreeing}
-use Rattle.sparql_algebra.proofs.CallerLemmas.{sum_by-map, SameBag-joins, SameBag-left_joins}
+use Rattle.sparql_algebra.proofs.CallerLemmas.{sum_by-map, SameBag-joins, SameBag-left_joins, SameBag-refl}
 use Rattle.sparql_solve.specs.declared.keyed.Part.{Part}
 use Rattle.sparql_solve.specs.Keys.{IsIndex, IsKeyOf, run}
 use Rattle.sparql_solve.specs.Parts.{merges_in, part_merges, part_run}
@@ -141,3 +141,36 @@ module _ (L R : List Mapping) (ls rs used seen : Rows) (groups others : List (Bo
   all_left_joined T h f =
       ap (sum_by f) (h ∙ ap (λ (A : List Mapping). left_joins A (all_rows others) T) left_is ∙ ap (λ (B : List Mapping). left_joins (rows_of ls) B T) right_is)
       ∙ SameBag-left_joins T (rows_of ls) L (rows_of rs) R bl br f
+
+-- ---- rows that are moved on
+
+module _ (row : Mapping) (out M after : List Mapping) (e : after ≡ out ++ M) where
+  pub some_merged : (length after ≡ length out → ⊥) → after ≡ out ++ or_alone row M
+  some_merged n = by_merges M e
+    where
+      by_merges : (l : List Mapping) → after ≡ out ++ l → after ≡ out ++ or_alone row l
+      by_merges [] k = absurd (n (ap length (k ∙ append-nil out)))
+      by_merges (x ∷ l) k = k
+
+  pub none_merged : (last : List Mapping) → length after ≡ length out → last ≡ after ++ row ∷ [] → last ≡ out ++ or_alone row M
+  none_merged last n k = by_merges M e
+    where
+      by_merges : (l : List Mapping) → after ≡ out ++ l → last ≡ out ++ or_alone row l
+      by_merges [] h = k ∙ ap (λ (xs : List Mapping). xs ++ row ∷ []) (h ∙ append-nil out)
+      by_merges (x ∷ l) h = absurd (omega (arith, ap length h, length-append out (x ∷ l), n))
+
+module _ (L R : List Mapping) (lent rs seen : Rows) (others given : List (Bor Rows)) (parts used : List Part) (out : List Mapping) (el : rows_of lent ≡ L)
+    (br : SameBag (rows_of rs) R) (es : seen ≡ rs) (go : all_rows others ≡ rows_of seen) (eg : given ≡ others) (eu : used ≡ parts) (T : Mapping → Bool) where
+  pub moved_left_joined : All (λ a. merges_in parts a ≡ merges (all_rows given) a) (rows_of lent) →
+      out ≡ flat_map (λ a. or_alone a (filter T (merges_in used a))) L → SameBag out (left_joins L R T)
+  moved_left_joined r e f =
+      let same : All (λ a. merges_in used a ≡ merges (all_rows others) a) (rows_of lent) =
+      λ k d l. let a : Mapping = get_or (rows_of lent) k d in
+      ap (λ (ps : List Part). merges_in ps a) eu ∙ r k d l ∙ ap (λ (ps : List (Bor Rows)). merges (all_rows ps) a) eg in
+      let here : All (λ a. merges_in used a ≡ merges (all_rows others) a) L =
+      subst (λ (A : List Mapping). All (λ a. merges_in used a ≡ merges (all_rows others) a) A) el same in
+      ap (sum_by f)
+      (e ∙ flat_map_where (λ a. or_alone a (filter T (merges_in used a))) (λ a. or_alone a (filter T (merges (all_rows others) a))) L
+      (λ k d l. ap (λ (m : List Mapping). or_alone (get_or L k d) (filter T m)) (here k d l))
+      ∙ ap (λ (B : List Mapping). left_joins L B T) (go ∙ ap rows_of es))
+      ∙ SameBag-left_joins T L L (rows_of rs) R (SameBag-refl L) br f

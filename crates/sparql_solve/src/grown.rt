@@ -1,30 +1,95 @@
 //! Rows that grow from a row by the triples that were looked up under it, whose terms move into them.
 ghost use Rattle.std.specs.Prelude.{◌≡◌, ◌++◌, IfOk, IsTrue, None, OnOk, Some, cond};
 ghost use Rattle.std.specs.List.{list_all};
-ghost use Rattle.sparql_solve.specs.Grown.{TellsHeld};
-ghost use Rattle.sparql_solve.specs.Matching.{has_held, matched, matches_of};
+ghost use Rattle.sparql_solve.specs.Grown.{IsPut, behind, spot_of, spots_in};
+ghost use Rattle.sparql_solve.specs.Matching.{assigned, has_held, matched, matches_of};
 
 use crate::mappings::Mapping;
-use crate::place::Places;
-use rdf_terms::{NoMemory, Quad};
+use crate::place::{Place, Places};
+use rdf_terms::{NoMemory, Quad, Term};
 use std::alloc::Global;
 
-// Which places have a term in the row under which triples were looked up: asked once for all of them.
+// What a place has in the row under which triples were looked up: asked once for all of them.
 #[derive(Clone, Copy)]
-struct Known {
-    subject: bool,
-    predicate: bool,
-    object: bool,
+enum Spot {
+    /// The term that each of the triples has there.
+    Known,
+    /// Nothing at this column, into which the term of no other place comes before.
+    Free(usize),
+    /// Something else: the row is asked for each triple.
+    Asked,
 }
 
-// Which places have a term in the row.
-fn known_in(row: &Mapping, places: &Places) -> Known
-    ensures { TellsHeld places.now row.now result }
+// What the places of a triple pattern have.
+#[derive(Clone, Copy)]
+struct Spots {
+    subject: Spot,
+    predicate: Spot,
+    object: Spot,
+}
+
+// What the place has in the row.
+fn spot_of(row: &Mapping, place: &Place) -> Spot
+    ensures { result ≡ spot_of row.now place.now }
 {
-    Known {
-        subject: row.has(&places.subject),
-        predicate: row.has(&places.predicate),
-        object: row.has(&places.object),
+    if row.has(place) {
+        return Spot::Known;
+    }
+    match row.vacant(place) {
+        Some(column) => Spot::Free(column),
+        None => Spot::Asked,
+    }
+}
+
+// The same where the term of another place comes before.
+fn behind(spot: Spot, other: &Place) -> Spot
+    ensures { result ≡ behind spot other.now }
+{
+    let Spot::Free(column) = spot else {
+        return spot;
+    };
+    let Place::Column(own) = other else {
+        return spot;
+    };
+    if column as u128 == *own {
+        return Spot::Asked;
+    }
+    spot
+}
+
+// What the places have in the row, into which the terms come in this order: predicate, subject and
+// object.
+fn spots_in(row: &Mapping, places: &Places) -> Spots
+    ensures { result ≡ spots_in places.now row.now }
+{
+    let subject = spot_of(row, &places.subject);
+    let object = behind(spot_of(row, &places.object), &places.predicate);
+    Spots {
+        predicate: spot_of(row, &places.predicate),
+        subject: behind(subject, &places.predicate),
+        object: behind(object, &places.subject),
+    }
+}
+
+// Moves the term to the place, and answers whether it may stand there: nothing else does.
+fn put(
+    alloc: Global,
+    row: &mut Mapping,
+    place: &Place,
+    spot: Spot,
+    term: Term,
+) -> Result<bool, NoMemory>
+    requires { IsPut spot row.old place.now term }
+    ensures { IfOk result (λ fits.
+        assigned row.old place.now term ≡ cond fits (Some row.new) None) }
+{
+    match spot {
+        Spot::Known => Ok(true),
+        Spot::Free(column) => {
+            row.set(alloc, column, term)?;
+            Ok(true)
+        }
+        Spot::Asked => row.put(alloc, place, term),
     }
 }
 
@@ -34,22 +99,22 @@ fn grows(
     alloc: Global,
     row: &mut Mapping,
     places: &Places,
-    known: Known,
+    spots: Spots,
     quad: Quad,
 ) -> Result<bool, NoMemory>
-    requires known { TellsHeld places.now row.old known }
+    requires told { spots ≡ spots_in places.now row.old }
     requires held { IsTrue (has_held places.now row.old quad) }
     ensures { IfOk result (λ fits.
         matched places.now row.old quad ≡ cond fits (Some row.new) None) }
 {
     let (_graph, subject, predicate, object) = quad.into_parts();
-    if !row.put(alloc, &places.predicate, predicate, known.predicate)? {
+    if !put(alloc, row, &places.predicate, spots.predicate, predicate)? {
         return Ok(false);
     }
-    if !row.put(alloc, &places.subject, subject, known.subject)? {
+    if !put(alloc, row, &places.subject, spots.subject, subject)? {
         return Ok(false);
     }
-    row.put(alloc, &places.object, object, known.object)
+    put(alloc, row, &places.object, spots.object, object)
 }
 
 // Appends the rows that the triples make of copies of a row under which they were looked up.
@@ -57,18 +122,18 @@ fn append_grown(
     alloc: Global,
     row: &Mapping,
     places: &Places,
-    known: Known,
+    spots: Spots,
     quads: Vec<Quad>,
     out: &mut Vec<Mapping>,
 ) -> Result<(), NoMemory>
-    requires known { TellsHeld places.now row.now known }
+    requires told { spots ≡ spots_in places.now row.now }
     requires held { IsTrue (list_all (has_held places.now row.now) quads.items) }
     ensures { OnOk result (out.new.items
         ≡ out.old.items ++ matches_of quads.items places.now row.now) }
 {
     for quad in quads {
         let mut found = row.copy(alloc)?;
-        if grows(alloc, &mut found, places, known, quad)? {
+        if grows(alloc, &mut found, places, spots, quad)? {
             out.push(found)?;
         }
     }
@@ -86,8 +151,8 @@ pub(crate) fn copies_grown(
     ensures { IfOk result (λ out. out.items ≡ matches_of quads.items places.now row.now) }
 {
     let mut rows = Vec::with_capacity(alloc, quads.len())?;
-    let known = known_in(row, places);
-    append_grown(alloc, row, places, known, quads, &mut rows)?;
+    let spots = spots_in(row, places);
+    append_grown(alloc, row, places, spots, quads, &mut rows)?;
     Ok(rows)
 }
 
@@ -106,9 +171,9 @@ pub(crate) fn row_grown(
     let Some(last) = quads.pop() else {
         return Ok(out);
     };
-    let known = known_in(&row, places);
-    append_grown(alloc, &row, places, known, quads, &mut out)?;
-    if grows(alloc, &mut row, places, known, last)? {
+    let spots = spots_in(&row, places);
+    append_grown(alloc, &row, places, spots, quads, &mut out)?;
+    if grows(alloc, &mut row, places, spots, last)? {
         out.push(row)?;
     }
     Ok(out)

@@ -8,7 +8,7 @@ ghost use Rattle.sparql_solve.specs.Parts.{merges_in};
 use crate::filters::filtered_rows;
 use crate::keyed::{Part, part_run};
 use crate::mappings::Mapping;
-use crate::parts::{cut_parts, parted, parts_of};
+use crate::parts::{cut_parts, is_one_part, parted, parts_of, references};
 use rdf_terms::{NoMemory, Vocabulary};
 use sparql_trees::Expression;
 use sparql_values::SortedNames;
@@ -162,5 +162,95 @@ pub(crate) fn left_join(
             alloc, variables, vocabulary, group, parts, filters, &mut out,
         )?;
     }
+    Ok(out)
+}
+
+// Appends the merges of a row of which each of the filters is true.
+fn append_kept(
+    alloc: Global,
+    variables: &SortedNames,
+    vocabulary: &Vocabulary,
+    row: &Mapping,
+    parts: &[Part],
+    filters: &[Expression],
+    out: &mut Vec<Mapping>,
+) -> Result<(), NoMemory>
+    ensures { OnOk result (out.new.items ≡ out.old.items
+        ++ filter (satisfies variables.now filters.now) (merges_in parts.now row.now)) }
+{
+    if filters.is_empty() {
+        return append_partners(alloc, row, parts, out);
+    }
+    let mut merged = Vec::new(alloc);
+    append_partners(alloc, row, parts, &mut merged)?;
+    let mut kept = filtered_rows(alloc, variables, vocabulary, merged, filters)?;
+    out.append(&mut kept)?;
+    Ok(())
+}
+
+// Appends a row's part of LeftJoin: the row itself, which is moved on, where it has no merge.
+fn append_moved(
+    alloc: Global,
+    variables: &SortedNames,
+    vocabulary: &Vocabulary,
+    row: Mapping,
+    parts: &[Part],
+    filters: &[Expression],
+    out: &mut Vec<Mapping>,
+) -> Result<(), NoMemory>
+    ensures { OnOk result (out.new.items ≡ out.old.items ++ or_alone row
+        (filter (satisfies variables.now filters.now) (merges_in parts.now row))) }
+{
+    let before = out.len();
+    append_kept(alloc, variables, vocabulary, &row, parts, filters, out)?;
+    if out.len() != before {
+        return Ok(());
+    }
+    out.push(row)?;
+    Ok(())
+}
+
+// Appends each row's part of LeftJoin.
+fn append_all_moved(
+    alloc: Global,
+    variables: &SortedNames,
+    vocabulary: &Vocabulary,
+    rows: Vec<Mapping>,
+    parts: &[Part],
+    filters: &[Expression],
+    out: &mut Vec<Mapping>,
+) -> Result<(), NoMemory>
+    ensures { OnOk result (out.new.items ≡ out.old.items ++ flat_map (λ a. or_alone a
+        (filter (satisfies variables.now filters.now) (merges_in parts.now a))) rows.items) }
+{
+    for row in rows {
+        append_moved(alloc, variables, vocabulary, row, parts, filters, out)?;
+    }
+    Ok(())
+}
+
+/// LeftJoin of left rows that are moved on: those that bind the same columns where they have no merge.
+pub(crate) fn left_join_moved(
+    alloc: Global,
+    variables: &SortedNames,
+    vocabulary: &Vocabulary,
+    left: Vec<Mapping>,
+    right: &[Mapping],
+    filters: &[Expression],
+) -> Result<Vec<Mapping>, NoMemory>
+    ensures { IfOk result (λ out. SameBag out.items
+        (left_joins left.items right.now (satisfies variables.now filters.now))) }
+{
+    if !is_one_part(&left) {
+        return left_join(alloc, variables, vocabulary, &left, right, filters);
+    }
+    let right = parted(alloc, right)?;
+    let others = cut_parts(alloc, right.as_slice())?;
+    let all = references(alloc, &left)?;
+    let parts = parts_of(alloc, all.as_slice(), others.as_slice())?;
+    drop(all);
+    let mut out = Vec::new(alloc);
+    let parts = parts.as_slice();
+    append_all_moved(alloc, variables, vocabulary, left, parts, filters, &mut out)?;
     Ok(out)
 }

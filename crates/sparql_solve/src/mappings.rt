@@ -289,8 +289,8 @@ impl Mapping {
         Ok(mapping)
     }
 
-    // Puts the term at the column, if there is one.
-    fn set(&mut self, alloc: Global, column: usize, term: Term) -> Result<(), NoMemory>
+    /// Puts the term at the column, if there is one.
+    pub(crate) fn set(&mut self, alloc: Global, column: usize, term: Term) -> Result<(), NoMemory>
         ensures { OnOk result (self.new ≡ slice_set self.old column (Some term)) }
     {
         self.columns.set(alloc, column, term)
@@ -307,8 +307,8 @@ impl Mapping {
         }
     }
 
-    // The column of the place, where it has nothing.
-    fn vacant(&self, place: &Place) -> Option<usize>
+    /// The column of the place, where it has nothing.
+    pub(crate) fn vacant(&self, place: &Place) -> Option<usize>
         ensures { result ≡ vacant self.now place.now }
     {
         let Place::Column(column) = place else {
@@ -393,22 +393,11 @@ impl Mapping {
         Ok(true)
     }
 
-    /// Moves the term to the place, and answers whether it may stand there: nothing else does. Where the
-    /// place is known to have it, no term is compared.
-    pub(crate) fn put(
-        &mut self,
-        alloc: Global,
-        place: &Place,
-        term: Term,
-        is_known: bool,
-    ) -> Result<bool, NoMemory>
-        requires { IsTrue is_known → assigned self.old place.now term ≡ Some self.old }
+    /// Moves the term to the place, and answers whether it may stand there: nothing else does.
+    pub(crate) fn put(&mut self, alloc: Global, place: &Place, term: Term) -> Result<bool, NoMemory>
         ensures { IfOk result (λ fits.
             assigned self.old place.now term ≡ cond fits (Some self.new) None) }
     {
-        if is_known {
-            return Ok(true);
-        }
         let Some(column) = self.vacant(place) else {
             return Ok(self.admits(place, &term));
         };

@@ -67,7 +67,10 @@ pub(crate) fn is_one_part(rows: &[Mapping]) -> bool {
 }
 
 /// References to the rows.
-pub(crate) fn references<'r>(alloc: Global, rows: &'r [Mapping]) -> Result<Vec<&'r Mapping>, NoMemory>
+pub(crate) fn references<'r>(
+    alloc: Global,
+    rows: &'r [Mapping],
+) -> Result<Vec<&'r Mapping>, NoMemory>
     ensures { IfOk result (λ all. map (λ r. r.now) all.items ≡ rows.now) }
 {
     Ok(rows.iter().collect(alloc)?)

@@ -15,7 +15,7 @@ ghost use Rattle.sparql_solve.specs.Under.{AreEnough, AreMade, IsLookUpFor, IsLo
 use crate::above::Above;
 use crate::basic::{is_unbound_in, own_columns};
 use crate::filters::filtered_rows;
-use crate::joins::{join, left_join, or_alone};
+use crate::joins::{join, left_join, left_join_moved, or_alone};
 use crate::look_ups::{
     Graphs, LookUp, asks_all_same, few_found, found_rows, grown_rows, some_found,
 };
@@ -271,6 +271,10 @@ fn joined_moved(
         (element member.now) x (merges (met (element member.now) x found.now) x)) rows.items)) }
 {
     match member {
+        Member::Optional(pattern) => {
+            let conditions = pattern.filters.as_slice();
+            left_join_moved(alloc, variables, vocabulary, rows, found, conditions)
+        }
         Member::Minus(_) => minus_moved(alloc, rows, found),
         _ => joined_rows(alloc, variables, vocabulary, &rows, found, member),
     }

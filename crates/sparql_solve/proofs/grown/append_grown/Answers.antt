@@ -1,9 +1,9 @@
-use Rattle.std.proofs.Common.{rules, ◌≡◌, List, [], ◌++◌, Some, None, cond, sym, ap, ◌∙◌, subst, arith, length, append-nil}
+use Rattle.std.proofs.Common.{rules, ◌≡◌, List, [], ◌++◌, Some, None, cond, sym, ap, ◌∙◌, arith, length, append-nil}
 use Rattle.std.specs.List.{list_all}
 use Rattle.std.specs.Vec.Iter.{into_iter_items}
 use Rattle.rdf_terms.specs.Quad.{QuadParts}
 use Rattle.sparql_values.specs.Mapping.{Mapping}
-use Rattle.sparql_solve.specs.Grown.{TellsHeld}
+use Rattle.sparql_solve.specs.Grown.{spots_in}
 use Rattle.sparql_solve.specs.Matching.{has_held, matched, matches_of}
 use Rattle.sparql_solve.proofs.MemberLemmas.{none_left}
 use Rattle.sparql_solve.proofs.OnceLemmas.{held_first, held_rest, grown_by, grown_by_none}
@@ -21,7 +21,7 @@ loop-quad-init c =
 pub grows-requires : goal.grows-requires
 grows-requires c =
     record {
-      known = subst (λ (m : Mapping). TellsHeld c.args.places.now m c.args.known) (sym c.in_ok-found.ensures) c.requires.known;
+      told = c.requires.told ∙ ap (spots_in c.args.places.now) (sym c.in_ok-found.ensures);
       held = ap (λ (m : Mapping). has_held c.args.places.now m c.in-Some.quad) c.in_ok-found.ensures
           ∙ held_first c.args.places.now c.args.row.now c.in-Some.quad (into_iter_items c.next.new.self) (into_iter_items c.loop-quad.quad-iterator)
           c.in-Some.ensures.steps.0 c.loop-quad.invariant.held;

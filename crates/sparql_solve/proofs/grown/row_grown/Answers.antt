@@ -10,7 +10,7 @@ use Rattle.sparql_solve.proofs.grown.row_grown.Goals as goal
 pub append_grown-requires : goal.append_grown-requires
 append_grown-requires c =
     record {
-      known = c.known_in-known.ensures;
+      told = c.spots_in-spots.ensures;
       held = held_others c.args.places.now c.args.row c.args.quads.items c.pop.new.self.items c.in-Some.last
           (split_off c.args.quads.items c.pop.new.self.items c.in-Some.last c.in-Some.ensures.items) c.requires;
     }
@@ -18,7 +18,7 @@ append_grown-requires c =
 pub grows-requires : goal.grows-requires
 grows-requires c =
     record {
-      known = c.known_in-known.ensures;
+      told = c.spots_in-spots.ensures;
       held = held_last c.args.places.now c.args.row c.args.quads.items c.pop.new.self.items c.in-Some.last
           (split_off c.args.quads.items c.pop.new.self.items c.in-Some.last c.in-Some.ensures.items) c.requires;
     }

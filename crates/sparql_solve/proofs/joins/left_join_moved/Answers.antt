@@ -1,0 +1,21 @@
+use Rattle.std.proofs.Common.{List, ap, ◌∙◌}
+use Rattle.std.specs.List.{sum_by}
+use Rattle.std.proofs.lemmas.Result.{IfOk-weaker}
+use Rattle.sparql_values.specs.Mapping.{Mapping}
+use Rattle.sparql_algebra.specs.Solutions.{left_joins, satisfies}
+use Rattle.sparql_solve.proofs.PartLemmas.{moved_left_joined}
+use Rattle.sparql_solve.proofs.joins.left_join_moved.Goals as goal
+
+pub returns-then-not-is_one_part : goal.returns-then-not-is_one_part
+returns-then-not-is_one_part c =
+    IfOk-weaker c.left_join.result _ _
+    (λ out h f. h f
+    ∙ ap (λ (A : List Mapping). sum_by f (left_joins A c.args.right.now (satisfies c.args.variables.now c.args.filters.now))) c.deref-then-not-is_one_part.ensures.value)
+    c.left_join.ensures
+
+pub returns : goal.returns
+returns c =
+    moved_left_joined c.args.left.items c.args.right.now c.in_ok-all.all.items c.in_ok-right.right.items c.as_slice.result.now c.in_ok-others.others.items
+    c.as_slice-3.result.now c.in_ok-parts.parts.items c.as_slice-parts.result.now c.append_all_moved.new.out.items
+    (c.in_ok-all.ensures ∙ c.deref-2.ensures.value) c.in_ok-right.ensures c.as_slice.ensures.value c.in_ok-others.ensures c.as_slice-3.ensures.value
+    c.as_slice-parts.ensures.value (satisfies c.args.variables.now c.args.filters.now) c.in_ok-parts.ensures c.in_ok-append_all_moved.ensures
