@@ -1,5 +1,6 @@
 -- What a place had in a mapping when triples were looked up, it has when its term comes.
-use Rattle.std.proofs.Common.{◌≡◌, ℕ, zero, suc, Bool, true, false, cond, not, List, [], ◌∷◌, Option, Some, None, refl, sym, ap, ◌∙◌, is_some, subst, nat_eq}
+use Rattle.std.proofs.Common.{◌≡◌, ℕ, zero, suc, Bool, true, false, cond, List, [], ◌∷◌, Option, Some, None, refl, sym, ap, ◌∙◌, is_some, subst, nat_eq}
+use Rattle.std.proofs.lemmas.Bool.{eqb-false}
 use Rattle.std.specs.Prelude.{slice_get, slice_set, ⊤}
 use Rattle.rdf_terms.specs.declared.term.Term.{Term}
 use Rattle.rdf_dataset.specs.State.{fits_place}
@@ -29,12 +30,12 @@ vacant_put m (Column d) c u h = at (slice_get m d) h
     at None e = cc
 vacant_put m Nowhere c u h = cc
 
-set_elsewhere : (m : Mapping) (c d : ℕ) (v : Term) → nat_eq c d ≡ false → slice_get (slice_set m d (Some v)) c ≡ slice_get m c
+set_elsewhere : (m : Mapping) (c d : ℕ) (v : Term) → (c ≡ d → ⊥) → slice_get (slice_set m d (Some v)) c ≡ slice_get m c
 set_elsewhere [] c d v n = refl
-set_elsewhere (x ∷ m) zero zero v n = cc
+set_elsewhere (x ∷ m) zero zero v n = absurd (n refl)
 set_elsewhere (x ∷ m) (suc c) zero v n = refl
 set_elsewhere (x ∷ m) zero (suc d) v n = refl
-set_elsewhere (x ∷ m) (suc c) (suc d) v n = set_elsewhere m c d v n
+set_elsewhere (x ∷ m) (suc c) (suc d) v n = set_elsewhere m c d v (λ e. n (ap suc e))
 
 module _ (k l : Mapping) (c : ℕ) (r : slice_get k c ≡ Some None) where
   free_same : (b : Bool) → cond b (Some k) None ≡ Some l → slice_get l c ≡ Some None
@@ -43,7 +44,7 @@ module _ (k l : Mapping) (c : ℕ) (r : slice_get k c ≡ Some None) where
 
   free_column : (d : ℕ) (v : Term) (o : Option (Option Term)) → nat_eq c d ≡ false → assigned_at k d v o ≡ Some l → slice_get l c ≡ Some None
   free_column d v (Some (Some t)) n e = free_same (same_term t v) e
-  free_column d v (Some None) n e = subst (λ (w : Mapping). slice_get w c ≡ Some None) (is_it e) (set_elsewhere k c d v n ∙ r)
+  free_column d v (Some None) n e = subst (λ (w : Mapping). slice_get w c ≡ Some None) (is_it e) (set_elsewhere k c d v (eqb-false c d n) ∙ r)
   free_column d v None n e = cc
 
   free_place : (y : Place) (v : Term) → is_place_at c y ≡ false → assigned k y v ≡ Some l → slice_get l c ≡ Some None

@@ -8,8 +8,8 @@ use Rattle.sparql_solve.proofs.grown.put.Goals as goal
 pub returns-in-Known : goal.returns-in-Known
 returns-in-Known c = subst (λ (s : Spot). IsPut s c.args.row.now c.args.place.now c.args.term) c.in-Known.is c.requires
 
-pub returns-in-Free : goal.returns-in-Free
-returns-in-Free c =
+pub returns-in_ok-set-in-Free : goal.returns-in_ok-set-in-Free
+returns-in_ok-set-in-Free c =
     vacant_put c.args.row.now c.args.place.now c.in-Free.column c.args.term
     (subst (λ (s : Spot). IsPut s c.args.row.now c.args.place.now c.args.term) c.in-Free.is c.requires)
-    ∙ ap (λ (m : Mapping). Some m) (sym c.in_ok-set.ensures)
+    ∙ ap (λ (m : Mapping). Some m) (sym c.in_ok-set-in-Free.ensures)
