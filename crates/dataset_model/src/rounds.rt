@@ -1,9 +1,9 @@
 //! Rounds of changes on a dataset through views, each ended by a commit and perhaps taken back.
 ghost use Rattle.std.specs.Prelude.{◌≡◌, IsTrue, IfSome};
-ghost use Rattle.rdf_dataset.specs.State.{Begins, Ends};
+ghost use Rattle.rdf_dataset.specs.State.{State, Begins, Ends, net_between};
 
 use crate::model::Model;
-use crate::steps::{net_of, step};
+use crate::steps::{net_where, step};
 use crate::table::Table;
 use crate::trial::Trial;
 use rdf_dataset::{Dataset, Net, Source, Staged};
@@ -91,10 +91,8 @@ fn changed(trial: &mut Trial, dataset: &Dataset, model: &mut Model) -> Option<Ne
     ensures { IfSome result (λ net. Begins net dataset.now) }
 {
     let mut staged = Staged::over(trial.alloc, dataset);
-    match changed_twice(trial, &mut staged, model) {
-        Some(upper) => joined(staged, &upper),
-        None => None,
-    }
+    let upper = changed_twice(trial, &mut staged, model);
+    joined(staged, &upper)
 }
 
 // The changes on a view, and the net of those on a view over it.
@@ -112,16 +110,26 @@ fn changed_twice<D: Source>(
     changed_above(trial, staged, model)
 }
 
-// The net of a view, and behind it one that begins where the view ends.
-fn joined<D: Source>(staged: Staged<'_, D>, upper: &Net) -> Option<Net>
-    requires { Begins upper.now staged.now }
+// The net of a view, and behind it one that begins where the view ends. The view ends either way: to
+// drop one where there is no second net takes the proof minutes.
+fn joined<D: Source>(staged: Staged<'_, D>, upper: &Option<Net>) -> Option<Net>
+    requires { IfSome upper.now (λ net. Begins net staged.now) }
     ensures { IfSome result (λ both. Begins both staged.entry.under) }
 {
-    match staged.into_net() {
-        Ok(lower) => match lower.then(upper) {
-            Ok(both) => Some(both),
-            Err(_) => None,
-        },
+    let lower = staged.into_net();
+    match (&lower, upper) {
+        (Ok(lower), Some(upper)) => composed(lower, upper),
+        _ => None,
+    }
+}
+
+// A net, and behind it one that begins where it ends.
+fn composed(lower: &Net, upper: &Net) -> Option<Net>
+    ensures { (under : State) (now : State) → lower.now ≡ net_between under now →
+        Begins upper.now now → IfSome result (λ both. Begins both under) }
+{
+    match lower.then(upper) {
+        Ok(both) => Some(both),
         Err(_) => None,
     }
 }
@@ -130,10 +138,8 @@ fn changed_above<D: Source>(trial: &mut Trial, source: &D, model: &mut Model) ->
     ensures { IfSome result (λ net. Begins net (D.contents source.now)) }
 {
     let mut staged = Staged::over(trial.alloc, source);
-    if !change(trial, &mut staged, model, 7) {
-        return None;
-    }
-    net_of(staged)
+    let agrees = change(trial, &mut staged, model, 7);
+    net_where(agrees, staged)
 }
 
 fn commit(trial: &mut Trial, dataset: &mut Dataset, model: &Model, net: &Net) -> bool

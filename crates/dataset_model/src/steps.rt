@@ -154,12 +154,13 @@ pub fn step<D: Source>(trial: &mut Trial, staged: &mut Staged<'_, D>, model: &mu
     }
 }
 
-/// The net of the changes on a view.
-pub fn net_of<D: Source>(staged: Staged<'_, D>) -> Option<Net>
+/// The net of the changes on a view that agree. The view ends either way: to drop one takes the
+/// proof minutes.
+pub fn net_where<D: Source>(agree: bool, staged: Staged<'_, D>) -> Option<Net>
     ensures { IfSome result (λ net. Begins net staged.entry.under) }
 {
     match staged.into_net() {
-        Ok(net) => Some(net),
-        Err(_) => None,
+        Ok(net) if agree => Some(net),
+        _ => None,
     }
 }

@@ -4,7 +4,7 @@ ghost use Rattle.rdf_dataset.specs.State.{Begins, Ends};
 
 use crate::compare::agree;
 use crate::model::Model;
-use crate::steps::{net_of, step};
+use crate::steps::{net_where, step};
 use crate::table::Table;
 use crate::trial::Trial;
 use plain_dataset::PlainDataset;
@@ -104,10 +104,8 @@ fn changes(trial: &mut Trial, dataset: &Dataset, model: &mut Model) -> Option<Ne
     ensures { IfSome result (λ net. Begins net dataset.now) }
 {
     let mut staged = Staged::over(trial.alloc, dataset);
-    if !vary(trial, &mut staged, model) {
-        return None;
-    }
-    net_of(staged)
+    let agrees = vary(trial, &mut staged, model);
+    net_where(agrees, staged)
 }
 
 impl Twins {

@@ -4,5 +4,5 @@ use Rattle.dataset_model.proofs.twins.changes.Goals as goal
 
 pub returns : goal.returns
 returns c =
-    let under = c.vary.ensures ∙ ap (λ s. s.under) c.over-staged.ensures in
-    subst (λ (s : State). IfSome c.net_of.result (λ net. Begins net s)) under c.net_of.ensures
+    let under = c.vary-agrees.ensures ∙ ap (λ s. s.under) c.over-staged.ensures in
+    subst (λ (s : State). IfSome c.net_where.result (λ net. Begins net s)) under c.net_where.ensures
