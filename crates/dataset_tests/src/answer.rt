@@ -26,15 +26,23 @@ impl fmt::Display for Answer {
             Answer::NoNumber => write!(f, "none"),
             Answer::Looked(count, looked) => write!(f, "{count} of {looked}"),
             Answer::Some(count, all) => write!(f, "{count} {all}"),
-            Answer::Net([quads, names, gone, names_gone], before, after) => {
-                write!(
-                    f,
-                    "+{quads} +{names} -{gone} -{names_gone}, {before} to {after}"
-                )
-            }
+            Answer::Net(sizes, before, after) => write_net(f, sizes, *before, *after),
             Answer::Text(text) => write!(f, "{text}"),
         }
     }
+}
+
+fn write_net<W: fmt::Write>(
+    f: &mut fmt::Formatter<W>,
+    sizes: &[usize; 4],
+    before: u64,
+    after: u64,
+) -> fmt::Result {
+    let [quads, names, gone, names_gone] = sizes;
+    write!(
+        f,
+        "+{quads} +{names} -{gone} -{names_gone}, {before} to {after}"
+    )
 }
 
 /// The first line of a case that isn't answered as it should be.

@@ -54,24 +54,28 @@ fn done(answer: Result<(), NoMemory>) -> Option<Answer> {
     Some(Answer::Flag(answer.is_ok()))
 }
 
+fn flag(answer: Result<bool, NoMemory>) -> Option<Answer> {
+    match answer {
+        Ok(flag) => Some(Answer::Flag(flag)),
+        Err(_) => None,
+    }
+}
+
 fn insert<D: Source>(alloc: Global, view: &mut Staged<'_, D>, text: &str) -> Option<Answer>
     ensures { view.new.under ≡ view.old.under }
 {
-    let quad = quad(alloc, text)?;
     if view.next_blank() < NUMBERS {
         return None;
     }
-    Some(Answer::Flag(view.insert(quad).ok()?))
+    let quad = quad(alloc, text)?;
+    flag(view.insert(quad))
 }
 
 fn remove<D: Source>(alloc: Global, view: &mut Staged<'_, D>, text: &str) -> Option<Answer>
     ensures { view.new.under ≡ view.old.under }
 {
     let quad = quad(alloc, text)?;
-    match view.remove(&quad) {
-        Ok(was) => Some(Answer::Flag(was)),
-        Err(_) => None,
-    }
+    flag(view.remove(&quad))
 }
 
 // The name is a blank node.
@@ -83,21 +87,31 @@ fn add_name<D: Source>(view: &mut Staged<'_, D>, text: &str) -> Option<Answer>
         return None;
     }
     let name = Term::Blank(number % 4);
-    Some(Answer::Flag(view.add_name(name).ok()?))
+    flag(view.add_name(name))
 }
 
-// Only the name of an empty graph is dropped.
 fn drop_name<D: Source>(alloc: Global, view: &mut Staged<'_, D>, text: &str) -> Option<Answer>
     ensures { view.new.under ≡ view.old.under }
 {
     let graph = graph(alloc, text)?;
-    if !is_empty_graph(alloc, view, &graph) {
+    drop_name_of(alloc, view, &graph)
+}
+
+// Only the name of an empty graph is dropped.
+fn drop_name_of<D: Source>(
+    alloc: Global,
+    view: &mut Staged<'_, D>,
+    graph: &GraphName,
+) -> Option<Answer>
+    ensures { view.new.under ≡ view.old.under }
+{
+    if !is_empty_graph(alloc, view, graph) {
         return None;
     }
-    let GraphName::Named(name) = &graph else {
-        return None;
-    };
-    Some(Answer::Flag(view.drop_name(name).ok()?))
+    match graph {
+        GraphName::Named(name) => flag(view.drop_name(name)),
+        GraphName::Default => None,
+    }
 }
 
 fn is_empty_graph<D: Source>(alloc: Global, source: &D, graph: &GraphName) -> bool

@@ -20,8 +20,12 @@ pub(crate) fn judge<'a>(alloc: Global, case: Case<'a>, verdict: &mut Verdict<'a>
     let mut dataset = begun(alloc, case);
     load(alloc, &mut dataset, case, verdict);
     ask_dataset(alloc, &dataset, case.lines("dataset"), verdict);
-    match viewed(alloc, &dataset, case, verdict) {
-        Some(net) => there_and_back(alloc, &mut dataset, &net, case, verdict),
+    judge_view(alloc, &mut dataset, case, verdict);
+}
+
+fn judge_view<'a>(alloc: Global, dataset: &mut Dataset, case: Case<'a>, verdict: &mut Verdict<'a>) {
+    match viewed(alloc, dataset, case, verdict) {
+        Some(net) => there_and_back(alloc, dataset, &net, case, verdict),
         None => verdict.fail("no memory"),
     }
 }
@@ -56,10 +60,8 @@ fn net_of_change(alloc: Global, dataset: &Dataset, text: &str) -> Option<Net>
     ensures { IfSome result (λ net. Begins net dataset.now) }
 {
     let mut view = Staged::over(alloc, dataset);
-    if change(alloc, &mut view, Line::new(text)).is_none() {
-        return None;
-    }
-    net_of(view)
+    let is_made = change(alloc, &mut view, Line::new(text)).is_some();
+    net_where(is_made, view)
 }
 
 // The net of what is changed in the view.
@@ -76,7 +78,7 @@ fn viewed<'a>(
     look_above(alloc, &view, case, verdict);
     ask_view(alloc, &view, case.lines("beneath"), verdict);
     ask_view(alloc, dataset, case.lines("under"), verdict);
-    net_of(view)
+    net_where(true, view)
 }
 
 fn look_above<'a, D: Source>(
@@ -87,14 +89,19 @@ fn look_above<'a, D: Source>(
 ) {
     let mut above = Staged::over(alloc, beneath);
     change_all(alloc, &mut above, case.lines("above"), verdict);
+    if net_where(true, above).is_none() {
+        verdict.fail("no memory");
+    }
 }
 
-fn net_of(view: Staged<'_, Dataset>) -> Option<Net>
+// The net of what is changed in the view, where it is wanted. The view ends either way: to drop one
+// takes the proof minutes.
+fn net_where<D: Source>(is_wanted: bool, view: Staged<'_, D>) -> Option<Net>
     ensures { IfSome result (λ net. Begins net view.entry.under) }
 {
     match view.into_net() {
-        Ok(net) => Some(net),
-        Err(_) => None,
+        Ok(net) if is_wanted => Some(net),
+        _ => None,
     }
 }
 

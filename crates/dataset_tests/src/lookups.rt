@@ -1,6 +1,6 @@
 //! Look-ups by a text `GRAPH SUBJECT PREDICATE OBJECT`, in which `*` stands for a free place.
 use crate::answer::Answer;
-use crate::terms::{graph, term};
+use crate::terms::{graph, places_of, term};
 use rdf_dataset::Source;
 use rdf_terms::{GraphName, Quad, Term, write_term};
 use std::alloc::Global;
@@ -16,14 +16,44 @@ struct Wanted {
 
 impl Wanted {
     fn new(alloc: Global, text: &str) -> Option<Wanted> {
-        let mut words = text.split(' ');
-        let graph = graph(alloc, words.next()?)?;
+        let places = places_of(text)?;
         Some(Wanted {
-            graph,
-            subject: place(alloc, words.next()?),
-            predicate: place(alloc, words.next()?),
-            object: place(alloc, words.next()?),
+            graph: graph(alloc, places.graph)?,
+            subject: place(alloc, places.subject),
+            predicate: place(alloc, places.predicate),
+            object: place(alloc, places.object),
         })
+    }
+
+    // The quads that are found, and how many were looked at.
+    fn found<D: Source>(&self, alloc: Global, source: &D) -> Option<(Vec<Quad>, usize)> {
+        let mut quads = Vec::new(alloc);
+        match source.matches(
+            &self.graph,
+            self.subject.as_ref(),
+            self.predicate.as_ref(),
+            self.object.as_ref(),
+            &mut quads,
+        ) {
+            Ok(looked) => Some((quads, looked)),
+            Err(_) => None,
+        }
+    }
+
+    // How many quads are found, and whether these are all.
+    fn some<D: Source>(&self, alloc: Global, source: &D, most: usize) -> Option<Answer> {
+        let mut quads = Vec::new(alloc);
+        match source.some_matches(
+            &self.graph,
+            self.subject.as_ref(),
+            self.predicate.as_ref(),
+            self.object.as_ref(),
+            most,
+            &mut quads,
+        ) {
+            Ok(all) => Some(Answer::Some(quads.len(), all)),
+            Err(_) => None,
+        }
     }
 }
 
@@ -32,20 +62,9 @@ fn place(alloc: Global, text: &str) -> Option<Term> {
     if text == "*" { None } else { term(alloc, text) }
 }
 
-// The quads that are found, and how many were looked at.
 fn found<D: Source>(alloc: Global, source: &D, text: &str) -> Option<(Vec<Quad>, usize)> {
     let wanted = Wanted::new(alloc, text)?;
-    let mut quads = Vec::new(alloc);
-    let looked = source
-        .matches(
-            &wanted.graph,
-            wanted.subject.as_ref(),
-            wanted.predicate.as_ref(),
-            wanted.object.as_ref(),
-            &mut quads,
-        )
-        .ok()?;
-    Some((quads, looked))
+    wanted.found(alloc, source)
 }
 
 /// The objects of the quads that are found, in order.
@@ -77,18 +96,7 @@ pub(crate) fn some<D: Source>(alloc: Global, source: &D, text: &str) -> Option<A
     let (most, text) = text.split_once(' ')?;
     let most = most.parse::<usize>().ok()?;
     let wanted = Wanted::new(alloc, text)?;
-    let mut quads = Vec::new(alloc);
-    let all = source
-        .some_matches(
-            &wanted.graph,
-            wanted.subject.as_ref(),
-            wanted.predicate.as_ref(),
-            wanted.object.as_ref(),
-            most,
-            &mut quads,
-        )
-        .ok()?;
-    Some(Answer::Some(quads.len(), all))
+    wanted.some(alloc, source, most)
 }
 
 /// How many quads of named graphs are found, and how many were looked at.

@@ -26,8 +26,14 @@ fn ask(alloc: Global, net: &Net, line: Line<'_>) -> Option<Answer> {
 
 fn there_and_back(net: &Net) -> Option<Answer> {
     let back = net.copy().ok()?.reversed();
-    let both = net.then(&back).ok()?;
-    Some(all_of(&both))
+    behind(net, &back)
+}
+
+fn behind(net: &Net, next: &Net) -> Option<Answer> {
+    match net.then(next) {
+        Ok(both) => Some(all_of(&both)),
+        Err(_) => None,
+    }
 }
 
 fn all_of(net: &Net) -> Answer {

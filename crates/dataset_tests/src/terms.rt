@@ -8,6 +8,26 @@ use std::alloc::Global;
 /// A counter from which on each term here has its number.
 pub(crate) const NUMBERS: u64 = 4;
 
+/// The texts of a quad's places.
+#[derive(Clone, Copy)]
+pub(crate) struct Places<'a> {
+    pub(crate) graph: &'a str,
+    pub(crate) subject: &'a str,
+    pub(crate) predicate: &'a str,
+    pub(crate) object: &'a str,
+}
+
+/// The places of a text `GRAPH SUBJECT PREDICATE OBJECT`.
+pub(crate) fn places_of(text: &str) -> Option<Places<'_>> {
+    let mut words = text.split(' ');
+    Some(Places {
+        graph: words.next()?,
+        subject: words.next()?,
+        predicate: words.next()?,
+        object: words.next()?,
+    })
+}
+
 pub(crate) fn term(alloc: Global, text: &str) -> Option<Term>
     ensures { IfSome result (λ t. (next : ℕ) → 4 ≤ next → IsTermBelow next t) }
 {
@@ -65,10 +85,27 @@ pub(crate) fn graph(alloc: Global, text: &str) -> Option<GraphName>
 pub(crate) fn quad(alloc: Global, text: &str) -> Option<Quad>
     ensures { IfSome result (λ q. (next : ℕ) → 4 ≤ next → IsQuadBelow next q) }
 {
-    let mut words = text.split(' ');
-    let graph = graph(alloc, words.next()?)?;
-    let subject = term(alloc, words.next()?)?;
-    let predicate = term(alloc, words.next()?)?;
-    let object = term(alloc, words.next()?)?;
-    Quad::new(graph, subject, predicate, object)
+    let places = places_of(text)?;
+    match graph(alloc, places.graph) {
+        Some(graph) => match term(alloc, places.subject) {
+            Some(subject) => quad_of(alloc, graph, subject, places),
+            None => None,
+        },
+        None => None,
+    }
+}
+
+// The quad in this graph and of this subject.
+fn quad_of(alloc: Global, graph: GraphName, subject: Term, places: Places<'_>) -> Option<Quad>
+    requires graph { (next : ℕ) → 4 ≤ next → IsGraphBelow next graph }
+    requires subject { (next : ℕ) → 4 ≤ next → IsTermBelow next subject }
+    ensures { IfSome result (λ q. (next : ℕ) → 4 ≤ next → IsQuadBelow next q) }
+{
+    match term(alloc, places.predicate) {
+        Some(predicate) => match term(alloc, places.object) {
+            Some(object) => Quad::new(graph, subject, predicate, object),
+            None => None,
+        },
+        None => None,
+    }
 }

@@ -5,4 +5,4 @@ use Rattle.dataset_tests.proofs.datasets.viewed.Goals as goal
 pub returns : goal.returns
 returns c =
     let under = c.change_all.ensures ∙ ap (λ s. s.under) c.over-view.ensures in
-    subst (λ (s : State). IfSome c.net_of.result (λ net. Begins net s)) under c.net_of.ensures
+    subst (λ (s : State). IfSome c.net_where.result (λ net. Begins net s)) under c.net_where.ensures
