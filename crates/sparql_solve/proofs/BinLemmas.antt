@@ -1,8 +1,8 @@
 -- Rows in bins: what one row more makes of them, and that a bin has all that are compatible.
-use Rattle.std.proofs.Common.{◌≡◌, ℕ, zero, suc, ◌+◌, ◌<◌, ◌≤◌, Bool, true, false, cond, ◌&&◌, ◌||◌, List, [], ◌∷◌, ◌++◌, map, filter, Option, Some, None, refl, sym, ap, ◌∙◌, subst, length, take, get_or, set, is_some, arith, append-nil, append_assoc, Bor, if◌then◌else◌}
-use Rattle.std.specs.List.{list_any, All}
+use Rattle.std.proofs.Common.{◌≡◌, ℕ, zero, suc, ◌+◌, ◌<◌, ◌≤◌, Bool, true, false, cond, ◌&&◌, ◌||◌, List, [], ◌∷◌, ◌++◌, map, filter, Option, Some, None, refl, sym, ap, ◌∙◌, subst, length, take, get_or, set, is_some, arith, append-nil, Bor, if◌then◌else◌}
+use Rattle.std.specs.List.{All}
 use Rattle.std.specs.Prelude.{slice_get}
-use Rattle.std.proofs.lemmas.List.{get_or_default, length-append, map-append, take_more}
+use Rattle.std.proofs.lemmas.List.{length-append, map-append, take_more}
 use Rattle.std.proofs.lemmas.List.Elements.{filter-append}
 use Rattle.rdf_terms.specs.declared.term.Term.{Term}
 use Rattle.rdf_terms.specs.Table.{AreHeldOnce, IsIdOf, is_held, with_term}
@@ -12,7 +12,7 @@ use Rattle.sparql_values.proofs.CallerLemmas.{same_term_own}
 use Rattle.sparql_algebra.specs.Under.{agreeing}
 use Rattle.sparql_solve.specs.declared.bins.Bin.{Bin}
 use Rattle.sparql_solve.specs.Bins.{bin_rows, binned, binned_in, has_at, is_term, with_at}
-use Rattle.sparql_solve.specs.Keys.{IsKeyOf, all_bind, binds}
+use Rattle.sparql_solve.specs.Keys.{IsKeyOf, binds}
 use Rattle.sparql_solve.proofs.KeyLemmas.{agree_at, filter_within, left_has, right_has, rows_of}
 
 -- what stands in each bin

@@ -1,9 +1,7 @@
-use Rattle.std.proofs.Common.{rules, ◌≡◌, ap, sym, ◌∙◌, ◌∷◌, ◌++◌, [], List, Some, length, refl}
+use Rattle.std.proofs.Common.{rules, ◌≡◌, ap, sym, ◌∙◌, ◌∷◌, [], Some, length, refl}
 use Rattle.std.proofs.lemmas.List.{length-map, map-append}
 use Rattle.std.proofs.lemmas.Result.{IfOk-weaker}
-use Rattle.rdf_terms.specs.Table.{IsIdOf, with_term}
-use Rattle.sparql_values.specs.Mapping.{Mapping}
-use Rattle.sparql_solve.specs.declared.bins.Bin.{Bin}
+use Rattle.rdf_terms.specs.Table.{with_term}
 use Rattle.sparql_solve.specs.declared.bins.Bin.TheVariants.{One}
 use Rattle.sparql_solve.specs.Bins.{bin_rows}
 use Rattle.sparql_solve.proofs.BinLemmas.{IsReady, bins_in, new_gives, ready_held, put_paired, put_gives}
