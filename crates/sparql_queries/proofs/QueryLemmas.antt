@@ -1,5 +1,6 @@
 -- Why a query says nothing.
-use Rattle.std.proofs.Common.{◌≡◌, ap, subst, ℕ, List, [], true, Option, None}
+use Rattle.std.proofs.Common.{◌≡◌, refl, ap, subst, ℕ, List, [], true, Option, Some, None, Result, Ok, Err}
+use Rattle.std.specs.Prelude.{MatchResult}
 use Rattle.std.specs.Option.{option_and_then}
 use Rattle.rdf_grammar.specs.Prologue as prologue
 use Rattle.rdf_grammar.specs.Prologue.{Prologue}
@@ -11,6 +12,7 @@ use Rattle.sparql_trees.specs.declared.query.Query.{Query}
 use Rattle.sparql_queries.specs.Groups.{Labels}
 use Rattle.sparql_queries.specs.Known.{known_query}
 use Rattle.sparql_queries.specs.Queries.{said_from, query_in, IsFaultOf}
+use Rattle.sparql_queries.specs.declared.query.Said.{Said}
 
 -- where the first step fails, both do
 pub then_fails : {A B : Type 0} (f : A → Option B) (o : Option A) (e : PrologueFault) → Fails o e → Fails (option_and_then f o) e
@@ -30,3 +32,11 @@ pub query_fails : (base : Option (List ℕ)) (q : written.Query) (p : Prologue) 
 query_fails base q p l (NoMemory refused) at none known h = tt
 query_fails base q p l (UnknownPrefix start) at none known h = absurd h
 query_fails base q p l (Relative start) at none known h = (known, from_start base q p l None at none h)
+
+-- so it is with what is answered in the scope that the start makes
+pub query_said : (base : Option (List ℕ)) (q : written.Query) (p : Prologue) (r : Result Said PrologueFault)
+    → p ≡ prologue.start base → known_query q ≡ true
+    → MatchResult r (λ said. said_from p q [] ≡ Some (said.query, said.labels)) (λ fault. Fails (said_from p q []) fault)
+    → MatchResult r (λ said. (known_query q ≡ true) × (query_in base q ≡ Some (said.query, said.labels))) (λ fault. IsFaultOf base q fault)
+query_said base q p (Ok said) at known h = (known, from_start base q p [] (Some (said.query, said.labels)) at refl h)
+query_said base q p (Err fault) at known h = query_fails base q p [] fault at refl known h

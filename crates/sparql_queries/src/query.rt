@@ -4,7 +4,7 @@ ghost use Rattle.std.specs.Option.{option_copied};
 ghost use Rattle.rdf_grammar.specs.Prologue as prologue;
 ghost use Rattle.rdf_grammar.specs.Prologue.{declared};
 ghost use Rattle.rdf_grammar.specs.Steps.{each};
-ghost use Rattle.rdf_grammar.specs.Kept.{Gives};
+ghost use Rattle.rdf_grammar.specs.Kept.{Fails, Gives};
 ghost use Rattle.sparql_drafts.specs.Meaning.{declaration};
 ghost use Rattle.sparql_queries.specs.Variables.{variable_name as named};
 ghost use Rattle.sparql_queries.specs.Known as known;
@@ -131,6 +131,28 @@ fn begun<'a>(
     Scope::new(alloc, vocabulary, copied(base)?)
 }
 
+// What a query says in a scope that its caller lets go, without labels before it.
+fn said_in_scope<'a>(
+    alloc: Global,
+    scope: &mut Scope<'a>,
+    query: &Written<'a>,
+) -> Result<Said<'a>, PrologueFault>
+    requires known { let behind = known.declared_by
+        (declared scope.old.prologue) query.now.prologue in
+        IsTrue (known.known_form behind query.now.form) }
+    requires proper { IsTrue (proper.proper_form query.now.form) }
+    ensures { let outcome = spec.said_from scope.old.prologue query.now [] in
+        MatchResult result
+        (λ said. outcome ≡ Some (said.query, said.labels))
+        (λ fault. Fails outcome fault) }
+{
+    let mut labels = Items::new(alloc);
+    match said_in(alloc, scope, &mut labels, query) {
+        Err(fault) => Err(fault),
+        Ok(query) => Ok(Said { query, labels }),
+    }
+}
+
 // What a query says whose prefixes are declared.
 fn said_where_known<'a>(
     alloc: Global,
@@ -146,11 +168,7 @@ fn said_where_known<'a>(
         (λ fault. spec.IsFaultOf (option_copied base.entry) query.now fault) }
 {
     let mut scope = begun(alloc, vocabulary, base)?;
-    let mut labels = Items::new(alloc);
-    match said_in(alloc, &mut scope, &mut labels, query) {
-        Err(fault) => Err(fault),
-        Ok(query) => Ok(Said { query, labels }),
-    }
+    said_in_scope(alloc, &mut scope, query)
 }
 
 /// What a query says: names have their IRIs, and the blank nodes of each basic graph pattern are
