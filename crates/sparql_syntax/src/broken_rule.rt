@@ -2,6 +2,7 @@
 ghost use Rattle.std.specs.Prelude.{◌≡◌, IfOk, OnOk};
 ghost use Rattle.sparql_syntax.specs.BrokenRules as spec;
 ghost use Rattle.sparql_syntax.specs.NamePlaces.{StartsAt};
+ghost use Rattle.sparql_syntax.specs.SeenLabels.{none_seen};
 ghost use Rattle.sparql_syntax.specs.declared.clause.Clause.TheVariants.{InsertData, Pattern};
 
 use crate::clause::{Clause, clause_behind, is_data, is_deleted, is_same};
@@ -173,6 +174,51 @@ fn see<'a>(
     }
 }
 
+// Takes a lexeme, for an INSERT DATA and for a basic graph pattern.
+fn see_both<'a>(
+    clause: Clause,
+    inserted: &mut Seen<'a>,
+    patterns: &mut Seen<'a>,
+    terminal: Terminal,
+    text: &Slice<'a>,
+) -> Result<(), NoMemory>
+    ensures inserted { let behind = spec.seen_behind InsertData clause inserted.old in
+        OnOk result (inserted.new ≡ behind terminal text.now) }
+    ensures patterns { let behind = spec.seen_behind Pattern clause patterns.old in
+        OnOk result (patterns.new ≡ behind terminal text.now) }
+{
+    see(Clause::InsertData, clause, inserted, terminal, text)?;
+    see(Clause::Pattern, clause, patterns, terminal, text)
+}
+
+// The byte where such a label starts: what was seen is kept by the caller.
+fn first_reused_in<'a>(
+    text: &'a str,
+    inserted: &mut Seen<'a>,
+    patterns: &mut Seen<'a>,
+) -> Result<usize, NoMemory>
+    requires inserted { inserted.old ≡ none_seen }
+    requires patterns { patterns.old ≡ none_seen }
+    ensures { IfOk result (λ place. StartsAt text.now spec.first_reused place) }
+{
+    let mut walk = TokenWalk::over(text);
+    let mut clause = Clause::Pattern;
+    while let Some(found) = walk.next() {
+        match found {
+            Found::Token(start, kind, slice) => {
+                let terminal = terminal_of(kind, &slice);
+                if is_reused(clause, inserted, patterns, terminal, &slice) {
+                    return Ok(start);
+                }
+                see_both(clause, inserted, patterns, terminal, &slice)?;
+                clause = clause_behind(clause, terminal);
+            }
+            Found::NoToken(_) => return Ok(text.len()),
+        }
+    }
+    Ok(text.len())
+}
+
 /// The byte where the first label starts, in an INSERT DATA or a basic graph pattern, that stood in another
 /// one, or the end of the text where none does.
 ///
@@ -181,23 +227,7 @@ fn see<'a>(
 pub(crate) fn first_reused(alloc: Global, text: &str) -> Result<usize, NoMemory>
     ensures { IfOk result (λ place. StartsAt text.now spec.first_reused place) }
 {
-    let mut walk = TokenWalk::over(text);
-    let mut clause = Clause::Pattern;
     let mut inserted = Seen::new(alloc);
     let mut patterns = Seen::new(alloc);
-    while let Some(found) = walk.next() {
-        match found {
-            Found::Token(start, kind, slice) => {
-                let terminal = terminal_of(kind, &slice);
-                if is_reused(clause, &inserted, &patterns, terminal, &slice) {
-                    return Ok(start);
-                }
-                see(Clause::InsertData, clause, &mut inserted, terminal, &slice)?;
-                see(Clause::Pattern, clause, &mut patterns, terminal, &slice)?;
-                clause = clause_behind(clause, terminal);
-            }
-            Found::NoToken(_) => return Ok(text.len()),
-        }
-    }
-    Ok(text.len())
+    first_reused_in(text, &mut inserted, &mut patterns)
 }

@@ -4,7 +4,7 @@ use Rattle.sparql_terminals.specs.declared.terminal.Terminal.{Terminal}
 use Rattle.sparql_terminals.specs.Terminals.{terminal_of}
 use Rattle.sparql_syntax.proofs.NameWalks.{here}
 use Rattle.sparql_syntax.proofs.RuleWalks.{reused_start, reused_starts}
-use Rattle.sparql_syntax.proofs.broken_rule.first_reused.Goals as goal
+use Rattle.sparql_syntax.proofs.broken_rule.first_reused_in.Goals as goal
 
 pub returns-then-is_reused : goal.returns-then-is_reused
 returns-then-is_reused c =
