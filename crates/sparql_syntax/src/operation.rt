@@ -1,5 +1,5 @@
 //! The drafts of a request's operations.
-ghost use Rattle.std.specs.Prelude.{◌≡◌, ◌&&◌, ◌++◌, [], IfOk, OnOk, MatchResult, IsTrue, None, Ok, map};
+ghost use Rattle.std.specs.Prelude.{◌≡◌, ◌&&◌, ◌++◌, [], IfOk, OnOk, MatchResult, IsTrue, Some, None, Ok, map};
 ghost use Rattle.std.specs.List.{list_all};
 ghost use Rattle.std.specs.Option.{option_copied, option_map};
 ghost use Rattle.rdf_grammar.specs.Prologue as prologue;
@@ -8,7 +8,7 @@ ghost use Rattle.sparql_grammar.specs.Proper as proper;
 ghost use Rattle.sparql_grammar.specs.Proper.{holds};
 ghost use Rattle.sparql_grammar.specs.QuadGroups.{quads_group};
 ghost use Rattle.sparql_syntax.specs.Blanks.{BlankNumbersAreBelow};
-ghost use Rattle.rdf_grammar.specs.Kept.{Gives, Tells};
+ghost use Rattle.rdf_grammar.specs.Kept.{Fails, Gives, Tells};
 ghost use Rattle.sparql_syntax.specs.Kept.{IsFaultOf};
 ghost use Rattle.sparql_syntax.specs.Known as known;
 ghost use Rattle.sparql_syntax.specs.Known.{declared_behind, declares_first};
@@ -269,7 +269,42 @@ fn part_draft<'a>(
     }
 }
 
-// Each part's tree is let go when its draft is there.
+// The draft of a part, whose tree is then let go.
+fn part_taken<'a>(
+    alloc: Global,
+    scope: &mut Scope<'a>,
+    part: Part<'a>,
+) -> Result<Option<Draft<'a>>, PrologueFault>
+    requires known { IsTrue (known.known_part (declared scope.old.prologue) part) }
+    requires proper { IsTrue (proper.proper_part part) }
+    ensures gives { Gives (spec.part part.entry scope.old.prologue) result scope.new.prologue }
+    ensures declares { let before = declared scope.old.prologue in
+        OnOk result (declared scope.new.prologue ≡ declared_behind before part.entry) }
+{
+    part_draft(alloc, scope, &part)
+}
+
+// Puts the drafts of the parts behind the others.
+fn add_all<'a>(
+    alloc: Global,
+    scope: &mut Scope<'a>,
+    drafts: &mut Items<Draft<'a>>,
+    parts: Vec<Part<'a>>,
+) -> Result<(), PrologueFault>
+    requires known { IsTrue (declares_first (declared scope.old.prologue) parts.items) }
+    requires proper { IsTrue (list_all holds (map proper.proper_part parts.items)) }
+    ensures { let drafts_behind = spec.drafts_behind drafts.old parts.entry.items in
+        let behind = option_map (λ r. r.0) (drafts_behind scope.old.prologue) in
+        MatchResult result (λ done. behind ≡ Some drafts.new) (λ fault. Fails behind fault) }
+{
+    for part in parts {
+        let draft = part_taken(alloc, scope, part)?;
+        add(drafts, draft)?;
+    }
+    Ok(())
+}
+
+// The drafts of the parts, whose trees are let go.
 fn all_drafts<'a>(
     alloc: Global,
     scope: &mut Scope<'a>,
@@ -281,11 +316,30 @@ fn all_drafts<'a>(
         Tells (option_map (λ r. r.0) drafts) result }
 {
     let mut drafts = Items::new(alloc);
-    for part in parts {
-        let draft = part_draft(alloc, scope, &part)?;
-        add(&mut drafts, draft)?;
+    match add_all(alloc, scope, &mut drafts, parts) {
+        Err(fault) => Err(fault),
+        Ok(()) => Ok(drafts),
     }
-    Ok(drafts)
+}
+
+// The scope in which parts begin that use no prefix before it is declared.
+fn begun<'a>(
+    alloc: Global,
+    vocabulary: &Vocabulary,
+    base: Option<&Iri>,
+    parts: &[Part<'a>],
+) -> Result<Scope<'a>, PrologueFault>
+    ensures known { let answer = spec.answer (option_copied base.entry) parts.now in
+        MatchResult result
+        (λ scope. IsTrue (declares_first [] parts.now))
+        (λ fault. IsFaultOf answer fault) }
+    ensures prologue { let start = prologue.start (option_copied base.entry) in
+        IfOk result (λ scope. scope.prologue ≡ start) }
+{
+    if let Some(start) = first_unknown(alloc, parts)? {
+        return Err(PrologueFault::UnknownPrefix(start));
+    }
+    Ok(Scope::new(alloc, vocabulary, copied(base)?)?)
 }
 
 /// The drafts of a request's operations in order: names have their IRIs, and blank nodes are numbered
@@ -306,10 +360,7 @@ pub(crate) fn drafts_of<'a>(
         (λ drafts. spec.answer (option_copied base.entry) parts.entry.items ≡ Ok drafts)
         (λ fault. IsFaultOf (spec.answer (option_copied base.entry) parts.entry.items) fault) }
 {
-    if let Some(start) = first_unknown(alloc, parts.as_slice())? {
-        return Err(PrologueFault::UnknownPrefix(start));
-    }
-    let mut scope = Scope::new(alloc, vocabulary, copied(base)?)?;
+    let mut scope = begun(alloc, vocabulary, base, parts.as_slice())?;
     all_drafts(alloc, &mut scope, parts)
 }
 

@@ -5,13 +5,13 @@ use Rattle.rdf_grammar.specs.Prologue.{declared}
 use Rattle.sparql_grammar.specs.Proper.{holds, proper_part}
 use Rattle.sparql_syntax.specs.Known.{declares_first}
 use Rattle.sparql_syntax.specs.Meaning as spec
-use Rattle.sparql_syntax.proofs.operation.all_drafts.Given as goal
+use Rattle.sparql_syntax.proofs.operation.add_all.Given as goal
 
 abbrev pub invariant-loop-part : goal.invariant-loop-part
 invariant-loop-part l = record {
   steps : (goal.iterator-loop-part).can_next l.part-iterator;
   ends : (goal.iterator-loop-part).is_finite l.part-iterator;
-  rest : spec.drafts l.fn.parts.items l.fn.scope.prologue ≡ spec.drafts_behind l.drafts (into_iter_items l.part-iterator) l.scope.prologue;
+  rest : spec.drafts_behind l.fn.drafts l.fn.parts.items l.fn.scope.prologue ≡ spec.drafts_behind l.drafts (into_iter_items l.part-iterator) l.scope.prologue;
   known : IsTrue (declares_first (declared l.scope.prologue) (into_iter_items l.part-iterator));
   proper : IsTrue (list_all holds (map proper_part (into_iter_items l.part-iterator)));
 }
