@@ -72,7 +72,14 @@ impl<'a, D: Source> Staged<'a, D> {
         ensures net { IfOk result (λ net. net ≡ net_between self.entry.under self.entry.now) }
         ensures sound { IsSound self.entry.now }
     {
-        self.edits.into_net(self.alloc)
+        let Staged {
+            edits,
+            emptied,
+            alloc,
+            ..
+        } = self;
+        drop(emptied);
+        edits.into_net(alloc)
     }
 
     /// Adds the name of a graph, and answers whether it is new.
@@ -133,9 +140,17 @@ impl<'a, D: Source> Staged<'a, D> {
     {
         let beneath = self.under.contains(&quad);
         let named = self.knows(quad.graph());
-        let inserted = self.edits.insert(beneath, named, &quad)?;
-        self.emptied.insert(&quad);
-        Ok(inserted)
+        match self.edits.insert(beneath, named, &quad) {
+            Ok(inserted) => {
+                self.emptied.insert(&quad);
+                drop(quad);
+                Ok(inserted)
+            }
+            Err(refused) => {
+                drop(quad);
+                Err(refused)
+            }
+        }
     }
 
     /// Takes a quad out, and answers whether it was there. Its graph keeps the name.
