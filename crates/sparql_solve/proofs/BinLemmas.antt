@@ -1,18 +1,18 @@
 -- Rows in bins: what one row more makes of them, and that a bin has all that are compatible.
 use Rattle.std.proofs.Common.{◌≡◌, ℕ, zero, suc, ◌+◌, ◌<◌, ◌≤◌, Bool, true, false, cond, ◌&&◌, ◌||◌, List, [], ◌∷◌, ◌++◌, map, filter, Option, Some, None, refl, sym, ap, ◌∙◌, subst, length, take, get_or, set, is_some, arith, append-nil, Bor, if◌then◌else◌}
-use Rattle.std.specs.List.{All}
+use Rattle.std.specs.List.{All, list_all}
 use Rattle.std.specs.Prelude.{slice_get}
 use Rattle.std.proofs.lemmas.List.{length-append, map-append, take_more}
 use Rattle.std.proofs.lemmas.List.Elements.{filter-append}
 use Rattle.rdf_terms.specs.declared.term.Term.{Term}
 use Rattle.rdf_terms.specs.Table.{AreHeldOnce, IsIdOf, is_held, with_term}
 use Rattle.sparql_values.specs.Mapping.{Mapping, compatible, same_term, value_at}
-use Rattle.sparql_algebra.proofs.CallerLemmas.{same_term_is}
+use Rattle.sparql_algebra.proofs.CallerLemmas.{and_left, same_term_is}
 use Rattle.sparql_values.proofs.CallerLemmas.{same_term_own}
 use Rattle.sparql_algebra.specs.Under.{agreeing}
 use Rattle.sparql_solve.specs.declared.bins.Bin.{Bin}
 use Rattle.sparql_solve.specs.Bins.{bin_rows, binned, binned_in, has_at, is_term, with_at}
-use Rattle.sparql_solve.specs.Keys.{IsKeyOf, binds}
+use Rattle.sparql_solve.specs.Keys.{IsKeyOf, all_bind, binds}
 use Rattle.sparql_solve.proofs.KeyLemmas.{agree_at, filter_within, left_has, right_has, rows_of}
 
 -- what stands in each bin
@@ -276,3 +276,14 @@ pub bins_give : (columns used : List ℕ) (column : ℕ) (A B : List Mapping) (t
 bins_give columns used column A B terms bins e some few own k h =
     subst (λ (n : ℕ). All (λ a. agreeing (binned_in terms bins (value_at a n)) a ≡ agreeing B a) A) (sym own)
     (bin_gives columns (get_or used 0 0) A B terms bins (sym e ∙ one_only used some few) k h)
+
+-- the bins by the first of several columns
+pub first_gives : (columns : List ℕ) (column at : ℕ) (A B : List Mapping) (terms : List Term) (bins : List (List Mapping)) → Some column ≡ slice_get columns 0 →
+    at ≡ column → IsKeyOf columns A B → ((t : Term) → binned terms bins t ≡ filter (has_at column t) B) →
+    All (λ a. agreeing (binned_in terms bins (value_at a at)) a ≡ agreeing B a) A
+first_gives [] column at A B terms bins first own k h = cc
+first_gives (x ∷ xs) column at A B terms bins first own k h =
+    let same : column ≡ x = cc in
+    subst (λ (n : ℕ). All (λ a. agreeing (binned_in terms bins (value_at a n)) a ≡ agreeing B a) A) (sym own)
+    (bin_gives (x ∷ []) column A B terms bins (ap (λ (n : ℕ). n ∷ []) (sym same))
+    (ap (λ (b : Bool). b && true) (and_left (all_bind A B x) (list_all (all_bind A B) xs) k)) h)

@@ -1,5 +1,5 @@
 -- The parts of a join's sides: that all of them together are the sides, and each by its key gives its merges.
-use Rattle.std.proofs.Common.{◌≡◌, ℕ, suc, ◌+◌, ◌<◌, ◌≤◌, Bool, List, [], ◌∷◌, ◌++◌, map, filter, refl, sym, ap, ◌∙◌, subst, length, take, drop, get_or, arith, append_assoc, append-nil, Bor}
+use Rattle.std.proofs.Common.{◌≡◌, ℕ, suc, ◌+◌, ◌<◌, ◌≤◌, Bool, true, false, cond, List, [], ◌∷◌, ◌++◌, map, filter, refl, sym, ap, ◌∙◌, subst, length, take, drop, get_or, arith, append_assoc, append-nil, Bor}
 use Rattle.std.specs.List.{All, flat_map, sum_by}
 use Rattle.std.specs.List.Sorted.{IsPermutation}
 use Rattle.std.proofs.lemmas.List.{get_or_default, length-append, map-append, take_all, take_more, take-append-drop}
@@ -174,3 +174,27 @@ module _ (L R : List Mapping) (lent rs seen : Rows) (others given : List (Bor Ro
       (λ k d l. ap (λ (m : List Mapping). or_alone (get_or L k d) (filter T m)) (here k d l))
       ∙ ap (λ (B : List Mapping). left_joins L B T) (go ∙ ap rows_of es))
       ∙ SameBag-left_joins T L L (rows_of rs) R (SameBag-refl L) br f
+
+module _ (L R : List Mapping) (lent rs seen : Rows) (others given : List (Bor Rows)) (parts used : List Part) (out : List Mapping) (el : rows_of lent ≡ L)
+    (br : SameBag (rows_of rs) R) (es : seen ≡ rs) (go : all_rows others ≡ rows_of seen) (eg : given ≡ others) (eu : used ≡ parts) where
+  pub moved_joined : All (λ a. merges_in parts a ≡ merges (all_rows given) a) (rows_of lent) → out ≡ flat_map (merges_in used) L → SameBag out (joins L R)
+  moved_joined r e f =
+      let same : All (λ a. merges_in used a ≡ merges (all_rows others) a) (rows_of lent) =
+      λ k d l. let a : Mapping = get_or (rows_of lent) k d in
+      ap (λ (ps : List Part). merges_in ps a) eu ∙ r k d l ∙ ap (λ (ps : List (Bor Rows)). merges (all_rows ps) a) eg in
+      let here : All (λ a. merges_in used a ≡ merges (all_rows others) a) L =
+      subst (λ (A : List Mapping). All (λ a. merges_in used a ≡ merges (all_rows others) a) A) el same in
+      ap (sum_by f) (e ∙ flat_map_where (merges_in used) (merges (all_rows others)) L here ∙ ap (λ (B : List Mapping). joins L B) (go ∙ ap rows_of es))
+      ∙ SameBag-joins L L (rows_of rs) R (SameBag-refl L) br f
+
+-- ---- a row and its only partner
+
+pub lone_merges : (parts : List Part) (p : Part) (row other : Mapping) → parts ≡ p ∷ [] → part_run row p ≡ other ∷ [] → merges_in parts row ≡ merges (other ∷ []) row
+lone_merges parts p row other e h =
+    ap (λ (ps : List Part). merges_in ps row) e ∙ append-nil (part_merges row p) ∙ ap (λ (l : List Mapping). merges l row) h
+
+pub one_merge : (row other : Mapping) → compatible row other ≡ true → merges (other ∷ []) row ≡ merge row other ∷ []
+one_merge row other h = ap (λ (b : Bool). map (merge row) (cond b (other ∷ []) [])) h
+
+pub no_merge : (row other : Mapping) → compatible row other ≡ false → merges (other ∷ []) row ≡ []
+no_merge row other h = ap (λ (b : Bool). map (merge row) (cond b (other ∷ []) [])) h

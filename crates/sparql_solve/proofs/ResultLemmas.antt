@@ -1,8 +1,9 @@
 -- Results of queries from the rows of the evaluator.
-use Rattle.std.proofs.Common.{◌≡◌, ℕ, ◌+◌, ◌<◌, Bool, true, false, not, cond, List, [], ◌∷◌, ◌++◌, map, get_or, Option, refl, sym, ap, ◌∙◌, subst, length, drop, append_assoc, nat_eq}
+use Rattle.std.proofs.Common.{◌≡◌, ℕ, zero, suc, ◌+◌, ◌<◌, Bool, true, false, not, cond, List, [], ◌∷◌, ◌++◌, map, get_or, Option, Some, None, refl, sym, ap, ◌∙◌, subst, length, drop, append_assoc, nat_eq}
 use Rattle.std.proofs.Math.Dec.{eqb-suc-zero}
 use Rattle.std.specs.Cmp.{Equal-is}
 use Rattle.std.specs.Cmp.Lexicographic.{pointwise, texts_ties}
+use Rattle.std.specs.Prelude.{slice_index_or}
 use Rattle.std.specs.List.{count_by}
 use Rattle.std.specs.List.Sorted.{IsSorted, IsPermutation}
 use Rattle.std.proofs.lemmas.List.{drop_more}
@@ -18,13 +19,14 @@ use Rattle.sparql_trees.specs.declared.query.Select.{Select}
 use Rattle.sparql_algebra.specs.Algebra.{translation}
 use Rattle.sparql_algebra.specs.Bags.{SameBag}
 use Rattle.sparql_algebra.specs.Listing.{Listing, Lists}
-use Rattle.sparql_values.specs.Mapping.{Variables, Mapping, same_mapping, column, value_in, value_of}
+use Rattle.sparql_values.specs.Mapping.{Variables, Mapping, same_mapping, column, value_at, value_in, value_of}
 use Rattle.sparql_algebra.specs.Order.{mapping_cmp}
 use Rattle.sparql_algebra.specs.Results.{Solves, IsSelection, HasSolution, pattern_solutions, projected, projections, times_selected, is_some_solution}
 use Rattle.sparql_algebra.specs.Solutions.{solutions}
 use Rattle.sparql_algebra.specs.Sorted.{sorted_solutions}
 use Rattle.sparql_algebra.proofs.CallerLemmas.{and_left, and_right, sums_from_counts, same_mapping_is, same_mapping_own, SameBag-map, nothing_left_out, some_solution_list, one_solution_list}
 use Rattle.sparql_solve.specs.Members.{AreSolutions}
+use Rattle.sparql_solve.specs.Pairs.{through}
 
 project_is : (vs names : Variables) (m : Mapping) → map (value_in m) (map (column vs) names) ≡ projected vs names m
 project_is vs [] m = refl
@@ -148,3 +150,39 @@ pub answered : (P : Pattern) (s : State) (all names : Variables) (answer : Bool)
 answered P s all names answer e en h d l =
     h d l ∙ ap (λ (ns : Variables). is_some_solution (solutions ns d Default (translation P))) (en ∙ e)
     ∙ sym (some_shown (projected (named P) (visible P)) (solutions (named P) d Default (translation P)))
+
+-- ---- columns of columns
+
+through_one : (m : Mapping) (cs : List (Option ℕ)) (j : ℕ) → value_at (map (value_in m) cs) j ≡ value_in m (slice_index_or cs j None)
+through_one m [] j = refl
+through_one m (c ∷ cs) zero = refl
+through_one m (c ∷ cs) (suc j) = through_one m cs j
+
+through_any : (m : Mapping) (cs : List (Option ℕ)) (o : Option ℕ) → value_in (map (value_in m) cs) o ≡ value_in m (through cs o)
+through_any m cs None = refl
+through_any m cs (Some j) = through_one m cs j
+
+through_all : (m : Mapping) (cs os : List (Option ℕ)) → map (value_in (map (value_in m) cs)) os ≡ map (value_in m) (map (through cs) os)
+through_all m cs [] = refl
+through_all m cs (o ∷ os) = λ i. through_any m cs o i ∷ through_all m cs os i
+
+through_rows : (cs os : List (Option ℕ)) (rows : List Mapping) →
+    map (λ r. map (value_in r) os) (map (λ r. map (value_in r) cs) rows) ≡ map (λ r. map (value_in r) (map (through cs) os)) rows
+through_rows cs os [] = refl
+through_rows cs os (m ∷ rows) = λ i. through_all m cs os i ∷ through_rows cs os rows i
+
+pub selected_through : (q : Select) (s : State) (vs all : Variables) (found fewer out : List Mapping) (columns : List (Option ℕ)) → vs ≡ visible q.pattern →
+    all ≡ named q.pattern → AreSolutions s found (λ d. solutions all d Default (translation q.pattern)) →
+    columns ≡ map (through (map (column all) vs)) (map (column vs) q.columns) →
+    ((m : Mapping) → times_selected q.distinct (count_by (same_mapping m) fewer)
+    ≡ times_selected q.distinct (count_by (same_mapping m) (map (λ r. map (value_in r) columns) found))) → IsSorted mapping_cmp out →
+    ((m : Mapping) → count_by (same_mapping m) out ≡ times_selected q.distinct (count_by (same_mapping m) fewer)) → IsSelection q s out
+selected_through q s vs all found fewer out columns ev ea h ec kept sorted counted =
+    let cs : List (Option ℕ) = map (column all) vs in
+    let os : List (Option ℕ) = map (column vs) q.columns in
+    let shown : List Mapping = map (λ r. map (value_in r) cs) found in
+    selected q s vs vs q.columns shown shown fewer out os os (solved_shown q.pattern Default s vs all all vs found found shown ev ea refl refl h refl refl) refl refl refl
+    refl refl
+    (λ m. kept m ∙ ap (λ (ks : List (Option ℕ)). times_selected q.distinct (count_by (same_mapping m) (map (λ r. map (value_in r) ks) found))) ec
+    ∙ ap (λ (ms : List Mapping). times_selected q.distinct (count_by (same_mapping m) ms)) (sym (through_rows cs os found)))
+    sorted counted

@@ -1,12 +1,13 @@
 -- What a place had in a mapping when triples were looked up, it has when its term comes.
 use Rattle.std.proofs.Common.{◌≡◌, ℕ, zero, suc, Bool, true, false, cond, [], ◌∷◌, Option, Some, None, refl, sym, ap, ◌∙◌, is_some, subst, nat_eq}
 use Rattle.std.proofs.lemmas.Bool.{eqb-false}
-use Rattle.std.specs.Prelude.{slice_get, slice_set, ⊤}
+use Rattle.std.specs.Prelude.{option_and_then, slice_get, slice_set, ⊤}
 use Rattle.rdf_terms.specs.declared.term.Term.{Term}
+use Rattle.rdf_terms.specs.Quad.{QuadParts}
 use Rattle.rdf_dataset.specs.State.{fits_place}
 use Rattle.sparql_values.specs.Mapping.{Mapping, same_term}
 use Rattle.sparql_solve.specs.Grown.{IsPut, behind, free_or_asked, spot_of, spots_in}
-use Rattle.sparql_solve.specs.Matching.{assigned, assigned_at, held, is_place_at, vacant, vacant_at}
+use Rattle.sparql_solve.specs.Matching.{assigned, assigned_at, held, is_place_at, matched, vacant, vacant_at}
 use Rattle.sparql_solve.specs.declared.grown.Spot.{Spot}
 use Rattle.sparql_solve.specs.declared.grown.Spot.TheVariants.{Known, Free, Asked}
 use Rattle.sparql_solve.specs.declared.grown.Spots.{Spots}
@@ -133,3 +134,10 @@ module _ (m : Mapping) (p : Places) (s : Spots) (e : s ≡ spots_in p m) where
       (put_of m l p.object u (behind next p.subject) (λ h. known_first m p.object (known_behind first p.predicate (known_behind next p.subject h)))
       (open_next next k l p.object p.subject w (open_next first m k p.object p.predicate v (open_first m p.object) a) b)
       (ready_next m k l p.object p.subject u w (ready_next m m k p.object p.predicate u v (ready_first m m p.object u refl f) a) b))
+
+-- what three places take one after another matches
+pub all_put : (m k l n : Mapping) (p : Places) (q : QuadParts) → assigned m p.predicate q.predicate ≡ Some k → assigned k p.subject q.subject ≡ Some l →
+    assigned l p.object q.object ≡ Some n → matched p m q ≡ Some n
+all_put m k l n p q a b c =
+    ap (option_and_then (λ (j : Mapping). option_and_then (λ (i : Mapping). assigned i p.object q.object) (assigned j p.subject q.subject))) a
+    ∙ ap (option_and_then (λ (i : Mapping). assigned i p.object q.object)) b ∙ c

@@ -1,5 +1,5 @@
 -- What the places of a triple pattern have in a mapping under which triples were looked up.
-use Rattle.std.specs.Prelude.{◌≡◌, ℕ, cond, Option, Some, None, is_some, ⊤}
+use Rattle.std.specs.Prelude.{◌≡◌, ℕ, Bool, true, false, cond, Option, Some, None, is_some, ⊤}
 use Rattle.rdf_terms.specs.declared.term.Term.{Term}
 use Rattle.sparql_values.specs.Mapping.{Mapping}
 use Rattle.sparql_solve.specs.Matching.{assigned, held, is_place_at, vacant}
@@ -36,3 +36,14 @@ abbrev pub IsPut : Spot → Mapping → Place → Term → Type 0
 IsPut Known m x u = assigned m x u ≡ Some m
 IsPut (Free c) m x u = vacant m x ≡ Some c
 IsPut Asked m x u = ⊤
+
+-- the row needn't be asked for each triple
+abbrev pub is_told : Spot → Bool
+is_told Known = true
+is_told (Free c) = true
+is_told Asked = false
+
+pub record AreTold (s : Spots) : Type 0 where
+  pub predicate : is_told s.predicate ≡ true
+  pub subject : is_told s.subject ≡ true
+  pub object : is_told s.object ≡ true

@@ -28,6 +28,11 @@ abbrev pub with_value_in : Mapping → Option ℕ → Option Term → Mapping
 with_value_in m (Some column) value = with_value m column value
 with_value_in m None value = m
 
+-- the column that stands at this place of these
+abbrev pub through : List (Option ℕ) → Option ℕ → Option ℕ
+through columns (Some place) = slice_index_or columns place None
+through columns None = None
+
 -- Each list has what the other one says of its columns: where the first has this column at a place, the second has this place at the column.
 pub record AreTurned (columns places : List (Option ℕ)) : Type 0 where
   pub there : (column place : ℕ) → slice_index_or columns place None ≡ Some column → slice_index_or places column None ≡ Some place

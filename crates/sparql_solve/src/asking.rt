@@ -13,128 +13,116 @@ ghost use Rattle.sparql_solve.specs.Under.{under_name};
 ghost use Rattle.sparql_values.specs.Mapping.{same_term};
 
 use crate::above::Above;
-use crate::chunks::{first_rooms, some_after};
+use crate::chunks::{Behind, Group, first_rooms, some_after};
 use crate::counted::Counted;
+use crate::evaluation::{Evaluation, Scope};
 use crate::evaluator::{graph_under, unit_rows};
 use crate::look_ups::is_named;
-use crate::mappings::Mapping;
 use crate::members::lone_member;
-use crate::names::names_under;
+use crate::names::{named_graph, names_under};
 use crate::shapes::{before_apart, group_reads};
 use rdf_dataset::Source;
-use rdf_terms::{GraphName, NoMemory, Term, Text, Vocabulary};
+use rdf_terms::{GraphName, NoMemory, Term, Text};
 use sparql_trees::{Member, Pattern, VarOrIri};
-use sparql_values::SortedNames;
-use std::alloc::Global;
 use std::cell::Cell;
 
 /// Whether a group has a solution in a graph.
 pub(crate) fn has_solution<S: Source>(
-    alloc: Global,
-    variables: &SortedNames,
-    vocabulary: &Vocabulary,
+    scope: Scope,
     graph: &GraphName,
     source: &S,
     pattern: &Pattern,
 ) -> Result<bool, NoMemory>
-    ensures { IfOk result (λ answer. (d : Listing) → Lists (S.contents source.now) d → answer
-        ≡ is_some_solution (solutions variables.now d graph.now (translation pattern.now))) }
+    ensures { IfOk result (λ answer. (d : Listing) → Lists (S.contents source.now) d →
+        answer ≡ is_some_solution
+        (solutions scope.entry.variables.now d graph.now (translation pattern.now))) }
 {
-    let nothing = Above::nothing(alloc, variables)?;
+    let nothing = Above::nothing(scope.alloc, scope.variables)?;
     let looked = Cell::new(0);
     let counted = Counted {
         source,
         looked: &looked,
     };
-    some_in_group(
-        alloc, variables, vocabulary, graph, &counted, &looked, pattern, &nothing,
-    )
+    let evaluation = Evaluation {
+        scope,
+        source: &counted,
+        looked: &looked,
+    };
+    some_in_group(&evaluation, graph, pattern, &nothing)
 }
 
 // Whether a group has a solution, its members being followed in chunks.
 fn some_in_members<S: Source>(
-    alloc: Global,
-    variables: &SortedNames,
-    vocabulary: &Vocabulary,
+    evaluation: &Evaluation<S>,
     graph: &GraphName,
-    source: &S,
-    looked: &Cell<u64>,
     pattern: &Pattern,
     under: &Above,
 ) -> Result<bool, NoMemory>
     ensures { IfOk result (λ answer.
-        SaysWhether variables.now (S.contents source.now) under.now answer
-        (λ d. solutions variables.now d graph.now (translation pattern.now))) }
+        SaysWhether evaluation.now.scope.variables.now (S.contents evaluation.now.source.now)
+        under.now answer
+        (λ d. solutions evaluation.now.scope.variables.now d graph.now (translation pattern.now))) }
 {
-    let rows = unit_rows(alloc, variables)?;
-    let rooms = first_rooms(alloc)?;
-    let members = pattern.members.as_slice();
-    let filters = pattern.filters.as_slice();
-    some_after(
-        alloc, variables, vocabulary, graph, source, looked, rows, members, filters, &rooms, under,
-    )
+    let rows = unit_rows(evaluation.scope.alloc, evaluation.scope.variables)?;
+    let rooms = first_rooms(evaluation.scope.alloc)?;
+    let group = Group {
+        evaluation,
+        graph,
+        filters: pattern.filters.as_slice(),
+        under,
+    };
+    let behind = Behind {
+        members: pattern.members.as_slice(),
+        rooms: rooms.as_slice(),
+    };
+    some_after(&group, rows, behind)
 }
 
 // Whether a group has a solution.
 #[cycle(some)]
 fn some_in_group<S: Source>(
-    alloc: Global,
-    variables: &SortedNames,
-    vocabulary: &Vocabulary,
+    evaluation: &Evaluation<S>,
     graph: &GraphName,
-    source: &S,
-    looked: &Cell<u64>,
     pattern: &Pattern,
     under: &Above,
 ) -> Result<bool, NoMemory>
     ensures { IfOk result (λ answer.
-        SaysWhether variables.now (S.contents source.now) under.now answer
-        (λ d. solutions variables.now d graph.now (translation pattern.now))) }
+        SaysWhether evaluation.now.scope.variables.now (S.contents evaluation.now.source.now)
+        under.now answer
+        (λ d. solutions evaluation.now.scope.variables.now d graph.now (translation pattern.now))) }
 {
     let Some(member) = lone_member(pattern) else {
-        return some_in_members(
-            alloc, variables, vocabulary, graph, source, looked, pattern, under,
-        );
+        return some_in_members(evaluation, graph, pattern, under);
     };
     match member {
         Member::Union(groups) => {
             let groups = groups.as_slice();
-            some_in_union(
-                alloc, variables, vocabulary, graph, source, looked, groups, under,
-            )
+            some_in_union(evaluation, graph, groups, under)
         }
-        Member::Graph(name, inner) => some_in_graph(
-            alloc, variables, vocabulary, name, source, looked, inner, under,
-        ),
-        _ => some_in_members(
-            alloc, variables, vocabulary, graph, source, looked, pattern, under,
-        ),
+        Member::Graph(name, inner) => some_in_graph(evaluation, name, inner, under),
+        _ => some_in_members(evaluation, graph, pattern, under),
     }
 }
 
 // Whether one of the groups with UNION between them has a solution: others aren't looked at then.
 #[cycle(some)]
 fn some_in_union<S: Source>(
-    alloc: Global,
-    variables: &SortedNames,
-    vocabulary: &Vocabulary,
+    evaluation: &Evaluation<S>,
     graph: &GraphName,
-    source: &S,
-    looked: &Cell<u64>,
     groups: &[Pattern],
     under: &Above,
 ) -> Result<bool, NoMemory>
     ensures { IfOk result (λ answer.
-        SaysWhether variables.now (S.contents source.now) under.now answer
-        (λ d. solutions variables.now d graph.now (union_of (map translation groups.now)))) }
+        SaysWhether evaluation.now.scope.variables.now (S.contents evaluation.now.source.now)
+        under.now answer
+        (λ d. solutions evaluation.now.scope.variables.now d graph.now
+        (union_of (map translation groups.now)))) }
 {
     if groups.is_empty() {
         return Ok(true);
     }
     for group in groups {
-        if some_in_group(
-            alloc, variables, vocabulary, graph, source, looked, group, under,
-        )? {
+        if some_in_group(evaluation, graph, group, under)? {
             return Ok(true);
         }
     }
@@ -151,36 +139,28 @@ fn is_found_by_name(pattern: &Pattern) -> bool {
 // Whether GRAPH has a solution, whichever graph is the active one.
 #[cycle(some)]
 fn some_in_graph<S: Source>(
-    alloc: Global,
-    variables: &SortedNames,
-    vocabulary: &Vocabulary,
+    evaluation: &Evaluation<S>,
     name: &VarOrIri,
-    source: &S,
-    looked: &Cell<u64>,
     pattern: &Pattern,
     under: &Above,
 ) -> Result<bool, NoMemory>
     ensures { IfOk result (λ answer. (active : GraphName) →
-        SaysWhether variables.now (S.contents source.now) under.now answer
-        (λ d. solutions variables.now d active (graph name.now (translation pattern.now)))) }
+        SaysWhether evaluation.now.scope.variables.now (S.contents evaluation.now.source.now)
+        under.now answer
+        (λ d. solutions evaluation.now.scope.variables.now d active (graph name.now
+        (translation pattern.now)))) }
 {
     match name {
         VarOrIri::Iri(iri) => {
             let name = Term::Iri(iri.copy()?);
-            some_in_named(
-                alloc, variables, vocabulary, name, source, looked, pattern, under,
-            )
+            some_in_named(evaluation, name, pattern, under)
         }
         VarOrIri::Variable(variable) if is_found_by_name(pattern) => {
-            let names = names_under(alloc, variables, variable, source, under)?;
-            some_in_each(
-                alloc, variables, vocabulary, variable, &names, source, looked, pattern, under,
-            )
+            let names = names_under(evaluation, variable, under)?;
+            some_in_each(evaluation, variable, &names, pattern, under)
         }
         VarOrIri::Variable(_) => {
-            let rows = graph_under(
-                alloc, variables, vocabulary, name, source, looked, pattern, under,
-            )?;
+            let rows = graph_under(evaluation, name, pattern, under)?;
             Ok(!rows.as_slice().is_empty())
         }
     }
@@ -189,55 +169,43 @@ fn some_in_graph<S: Source>(
 // Whether GRAPH with an IRI has a solution: none where no graph has that name.
 #[cycle(some)]
 fn some_in_named<S: Source>(
-    alloc: Global,
-    variables: &SortedNames,
-    vocabulary: &Vocabulary,
+    evaluation: &Evaluation<S>,
     name: Term,
-    source: &S,
-    looked: &Cell<u64>,
     pattern: &Pattern,
     under: &Above,
 ) -> Result<bool, NoMemory>
     ensures { IfOk result (λ answer.
-        SaysWhether variables.now (S.contents source.now) under.now answer
+        SaysWhether evaluation.now.scope.variables.now (S.contents evaluation.now.source.now)
+        under.now answer
         (λ d. cond (list_any (same_term name) d.names)
-        (solutions variables.now d (Named name) (translation pattern.now)) [])) }
+        (solutions evaluation.now.scope.variables.now d (Named name) (translation pattern.now)) [])) }
 {
-    if !is_named(source, &name) {
+    if !is_named(evaluation.source, &name) {
         return Ok(false);
     }
     let graph = GraphName::Named(name);
-    some_in_group(
-        alloc, variables, vocabulary, &graph, source, looked, pattern, under,
-    )
+    some_in_group(evaluation, &graph, pattern, under)
 }
 
 // Whether the group has a solution in one of the graphs of these names, under the row and the name,
 // to which the variable is bound.
 #[cycle(some)]
 fn some_in_each<S: Source>(
-    alloc: Global,
-    variables: &SortedNames,
-    vocabulary: &Vocabulary,
+    evaluation: &Evaluation<S>,
     variable: &Text,
     names: &[Term],
-    source: &S,
-    looked: &Cell<u64>,
     pattern: &Pattern,
     under: &Above,
 ) -> Result<bool, NoMemory>
-    ensures { IfOk result (λ answer. length under.now ≡ length variables.now →
-        (d : Listing) → Lists (S.contents source.now) d → answer ≡ is_some_solution
-        (flat_map (under_name variables.now d variable.now (translation pattern.now) under.now)
+    ensures { IfOk result (λ answer. length under.now ≡ length evaluation.now.scope.variables.now →
+        (d : Listing) → Lists (S.contents evaluation.now.source.now) d → answer ≡ is_some_solution
+        (flat_map (under_name evaluation.now.scope.variables.now d variable.now
+        (translation pattern.now) under.now)
         names.now)) }
 {
     for name in names {
-        let bound = Mapping::single(alloc, variables, variable, name)?;
-        let both = under.merged(alloc, &bound)?;
-        let graph = GraphName::Named(name.copy()?);
-        if some_in_group(
-            alloc, variables, vocabulary, &graph, source, looked, pattern, &both,
-        )? {
+        let named = named_graph(&evaluation.scope, variable, name, under)?;
+        if some_in_group(evaluation, &named.graph, pattern, &named.above)? {
             return Ok(true);
         }
     }

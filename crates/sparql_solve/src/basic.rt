@@ -11,6 +11,7 @@ ghost use Rattle.sparql_solve.specs.Own.{is_bound_at, is_bound_in, marked};
 ghost use Rattle.sparql_solve.specs.Under.{AreUnder, binds_none, flags_where, masked, own_columns};
 
 use crate::above::Above;
+use crate::evaluation::Evaluation;
 use crate::flags::Flags;
 use crate::look_ups::{Graphs, LookUp, found_rows, look_up_in};
 use crate::mappings::Mapping;
@@ -106,34 +107,37 @@ fn masked_rows(alloc: Global, rows: &[Mapping], flags: &Flags) -> Result<Vec<Map
 
 /// What look-ups find under a row, in these columns alone.
 pub(crate) fn own_rows<S: Source>(
-    alloc: Global,
-    variables: &SortedNames,
-    source: &S,
+    evaluation: &Evaluation<S>,
     look_up: &LookUp,
     own: &Flags,
     under: &Above,
 ) -> Result<Vec<Mapping>, NoMemory>
-    ensures { IfOk result (λ out. AreSolutions (S.contents source.now) out.items
-        (λ d. map (masked own.now) (found variables.now d look_up.now under.now))) }
+    ensures { IfOk result (λ out. AreSolutions (S.contents evaluation.now.source.now) out.items
+        (λ d. map (masked own.now) (found evaluation.now.scope.variables.now d look_up.now
+        under.now))) }
 {
-    let rows = found_rows(alloc, variables, source, look_up, under.row())?;
-    masked_rows(alloc, &rows, own)
+    let rows = found_rows(evaluation, look_up, under.row())?;
+    masked_rows(evaluation.scope.alloc, &rows, own)
 }
 
 /// A basic graph pattern: what is looked up under the row, without the columns that are the row's
 /// alone.
 pub(crate) fn basic_under<S: Source>(
-    alloc: Global,
-    variables: &SortedNames,
+    evaluation: &Evaluation<S>,
     graph: &GraphName,
-    source: &S,
     pattern: &BasicGraphPattern,
     under: &Above,
 ) -> Result<Vec<Mapping>, NoMemory>
-    ensures { IfOk result (λ out. AreUnder variables.now (S.contents source.now) under.now out.items
-        (λ d. solutions variables.now d graph.now (basic pattern.now))) }
+    ensures { IfOk result (λ out. AreUnder evaluation.now.scope.variables.now
+        (S.contents evaluation.now.source.now) under.now out.items
+        (λ d. solutions evaluation.now.scope.variables.now d graph.now (basic pattern.now))) }
 {
-    let look_up = look_up_in(alloc, variables, Graphs::One(graph.copy()?), pattern)?;
-    let own = own_columns(alloc, variables, &look_up)?;
-    own_rows(alloc, variables, source, &look_up, &own, under)
+    let look_up = look_up_in(
+        evaluation.scope.alloc,
+        evaluation.scope.variables,
+        Graphs::One(graph.copy()?),
+        pattern,
+    )?;
+    let own = own_columns(evaluation.scope.alloc, evaluation.scope.variables, &look_up)?;
+    own_rows(evaluation, &look_up, &own, under)
 }

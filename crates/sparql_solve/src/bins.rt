@@ -10,6 +10,9 @@ use rdf_terms::{NoMemory, Term, TermTable, terms_are_held_once};
 use std::alloc::Global;
 use std::slice;
 
+// So many rows of a bin are compared faster than they are put in order.
+const SMALL: usize = 4;
+
 /// The rows of a bin: most often one, which takes no memory of its own.
 #[derive(Drop)]
 pub(crate) enum Bin<'r> {
@@ -136,6 +139,11 @@ impl<'r> Bins<'r> {
             Some(bin) => bin.as_slice(),
             None => self.none.as_slice(),
         }
+    }
+
+    /// Whether none of the bins has more rows than a few.
+    pub(crate) fn are_small(&self) -> bool {
+        self.bins.iter().all(|bin| bin.as_slice().len() <= SMALL)
     }
 
     /// The rows that have the same term at the column as this row.

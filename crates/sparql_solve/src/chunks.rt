@@ -14,6 +14,7 @@ ghost use Rattle.sparql_solve.specs.Matching.{has_held, matches_of, matching};
 ghost use Rattle.sparql_solve.specs.Under.{is_wide};
 
 use crate::above::Above;
+use crate::evaluation::{Evaluation, Scope};
 use crate::evaluator::rows_after;
 use crate::filters::some_satisfies;
 use crate::look_ups::{Graphs, LookUp};
@@ -25,9 +26,8 @@ use crate::members::{is_joined, look_up_of_joined};
 use crate::place::Places;
 use crate::sides::compatible_rows;
 use rdf_dataset::Source;
-use rdf_terms::{GraphName, NoMemory, Quad, Vocabulary};
+use rdf_terms::{GraphName, NoMemory, Quad};
 use sparql_trees::{Expression, Member};
-use sparql_values::SortedNames;
 use std::alloc::Global;
 use std::cell::Cell;
 use std::collections::VecDeque;
@@ -38,6 +38,23 @@ const LEVELS: usize = 64;
 
 // How many quads of a lone row are followed before all of them are looked up.
 const FEW: usize = 16;
+
+/// A group that is asked for a solution in a graph, under a row and under its filters.
+#[derive(Drop)]
+pub(crate) struct Group<'a, S: Source> {
+    pub(crate) evaluation: &'a Evaluation<'a, S>,
+    pub(crate) graph: &'a GraphName,
+    pub(crate) filters: &'a [Expression],
+    pub(crate) under: &'a Above,
+}
+
+/// What comes behind rows that are followed.
+#[derive(Clone, Copy)]
+pub(crate) struct Behind<'a> {
+    pub(crate) members: &'a [Member],
+    /// For each level how many rows have room there.
+    pub(crate) rooms: &'a [Cell<usize>],
+}
 
 /// For each level of followed rows how many have room there, first one.
 pub(crate) fn first_rooms(alloc: Global) -> Result<Vec<Cell<usize>>, NoMemory> {
@@ -104,98 +121,89 @@ fn widened_rows(alloc: Global, rows: &[Mapping], hidden: u64) -> Result<Vec<Mapp
     Ok(out)
 }
 
+// The columns of the variables of each row, where they are compatible with the row above.
+fn cut_compatible(
+    scope: &Scope,
+    rows: Vec<Mapping>,
+    under: &Above,
+) -> Result<Vec<Mapping>, NoMemory>
+    ensures { IfOk result (λ out. out.items
+        ≡ cut_under scope.now.variables.now under.now rows.items) }
+{
+    let cut = cut_rows(scope.alloc, rows, scope.variables.len())?;
+    compatible_rows(scope.alloc, under, cut)
+}
+
 /// Whether the members make of these rows one of which the filters are true.
 #[cycle(ask)]
 pub(crate) fn some_after<S: Source>(
-    alloc: Global,
-    variables: &SortedNames,
-    vocabulary: &Vocabulary,
-    graph: &GraphName,
-    source: &S,
-    looked: &Cell<u64>,
+    group: &Group<S>,
     mut rows: Vec<Mapping>,
-    members: &[Member],
-    filters: &[Expression],
-    rooms: &[Cell<usize>],
-    under: &Above,
+    behind: Behind,
 ) -> Result<bool, NoMemory>
-    ensures { IfOk result (λ answer. (d : Listing) → Lists (S.contents source.now) d →
-        length under.now ≡ length variables.now →
-        list_all (is_wide variables.now) rows.items ≡ true →
-        answer ≡ is_some_solution (followed variables.now d graph.now under.now
-        (map element members.now) filters.now rows.items)) }
+    ensures { IfOk result (λ answer.
+        let vs = group.now.evaluation.now.scope.variables.now in
+        let s = S.contents group.now.evaluation.now.source.now in let a = group.now.under.now in
+        (d : Listing) → Lists s d → length a ≡ length vs →
+        list_all (is_wide vs) rows.items ≡ true →
+        answer ≡ is_some_solution (followed vs d group.now.graph.now a
+        (map element behind.entry.members.now) group.now.filters.now rows.items)) }
 {
+    let members = behind.members;
     for place in 0..members.len() {
         let member = &members[place];
         let rest = &members[place + 1..];
-        if !rooms.is_empty() && is_joined(member) {
-            let look_up = look_up_of_joined(alloc, variables, graph, source, member)?;
+        if !behind.rooms.is_empty() && is_joined(member) {
+            let look_up = look_up_of_joined(group.evaluation, group.graph, member)?;
             if let Some(look_up) = look_up {
                 if let Graphs::One(own) = &look_up.graphs {
-                    return some_looked_up(
-                        alloc,
-                        variables,
-                        vocabulary,
-                        graph,
-                        source,
-                        looked,
-                        own,
-                        &look_up,
-                        &rows,
-                        rest,
-                        filters,
-                        &rooms[1..],
-                        under,
-                    );
+                    let rooms = &behind.rooms[1..];
+                    let deeper = Behind {
+                        members: rest,
+                        rooms,
+                    };
+                    return some_looked_up(group, own, &look_up, &rows, deeper);
                 }
             }
         }
-        rows = rows_after(
-            alloc, variables, vocabulary, graph, source, looked, rows, member, under,
-        )?;
-        if some_of_first(
-            alloc, variables, vocabulary, graph, source, looked, &mut rows, rest, filters, rooms,
-            under,
-        )? {
+        rows = rows_after(group.evaluation, group.graph, rows, member, group.under)?;
+        let after = Behind {
+            members: rest,
+            rooms: behind.rooms,
+        };
+        if some_of_first(group, &mut rows, after)? {
             return Ok(true);
         }
     }
-    some_satisfies(alloc, variables, vocabulary, &rows, filters)
+    some_satisfies(&group.evaluation.scope, &rows, group.filters)
 }
 
 // Whether the members make of the first rows one of which the filters are true; the rows that are
 // left where they don't.
 #[cycle(ask)]
 fn some_of_first<S: Source>(
-    alloc: Global,
-    variables: &SortedNames,
-    vocabulary: &Vocabulary,
-    graph: &GraphName,
-    source: &S,
-    looked: &Cell<u64>,
+    group: &Group<S>,
     rows: &mut Vec<Mapping>,
-    members: &[Member],
-    filters: &[Expression],
-    rooms: &[Cell<usize>],
-    under: &Above,
+    behind: Behind,
 ) -> Result<bool, NoMemory>
-    ensures some { IfOk result (λ answer. (d : Listing) → Lists (S.contents source.now) d →
-        length under.now ≡ length variables.now →
-        list_all (is_wide variables.now) rows.old.items ≡ true →
-        (answer || is_some_solution (followed variables.now d graph.now under.now
-        (map element members.now) filters.now rows.new.items)) ≡ is_some_solution (followed
-        variables.now d graph.now under.now (map element members.now) filters.now rows.old.items)) }
-    ensures wide { IfOk result (λ _. list_all (is_wide variables.now) rows.old.items ≡ true →
-        list_all (is_wide variables.now) rows.new.items ≡ true) }
+    ensures some { IfOk result (λ answer.
+        let vs = group.now.evaluation.now.scope.variables.now in
+        let s = S.contents group.now.evaluation.now.source.now in let a = group.now.under.now in
+        (d : Listing) → Lists s d → length a ≡ length vs →
+        list_all (is_wide vs) rows.old.items ≡ true →
+        (answer || is_some_solution (followed vs d group.now.graph.now a
+        (map element behind.entry.members.now) group.now.filters.now rows.new.items))
+        ≡ is_some_solution (followed vs d group.now.graph.now a
+        (map element behind.entry.members.now) group.now.filters.now rows.old.items)) }
+    ensures wide { IfOk result (λ _. let vs = group.now.evaluation.now.scope.variables.now in
+        list_all (is_wide vs) rows.old.items ≡ true → list_all (is_wide vs) rows.new.items ≡ true) }
 {
-    let Some((room, deeper)) = rooms.split_first() else {
+    let Some((room, rooms)) = behind.rooms.split_first() else {
         return Ok(false);
     };
+    let members = behind.members;
     while let Some(first) = first_rows(rows, room)? {
-        if some_after(
-            alloc, variables, vocabulary, graph, source, looked, first, members, filters, deeper,
-            under,
-        )? {
+        if some_after(group, first, Behind { members, rooms })? {
             return Ok(true);
         }
     }
@@ -206,57 +214,43 @@ fn some_of_first<S: Source>(
 // a graph.
 #[cycle(ask)]
 fn some_looked_up<S: Source>(
-    alloc: Global,
-    variables: &SortedNames,
-    vocabulary: &Vocabulary,
-    graph: &GraphName,
-    source: &S,
-    looked: &Cell<u64>,
+    group: &Group<S>,
     own: &GraphName,
     look_up: &LookUp,
     rows: &[Mapping],
-    members: &[Member],
-    filters: &[Expression],
-    rooms: &[Cell<usize>],
-    under: &Above,
+    behind: Behind,
 ) -> Result<bool, NoMemory>
-    ensures { IfOk result (λ answer. (d : Listing) → Lists (S.contents source.now) d →
-        length under.now ≡ length variables.now → list_all (is_wide variables.now) rows.now ≡ true →
-        answer ≡ is_some_solution (followed variables.now d graph.now under.now
-        (map element members.now) filters.now
-        (flat_map (looked_up_under d look_up.now own.now under.now) rows.now))) }
+    ensures { IfOk result (λ answer.
+        let vs = group.now.evaluation.now.scope.variables.now in
+        let s = S.contents group.now.evaluation.now.source.now in let a = group.now.under.now in
+        (d : Listing) → Lists s d → length a ≡ length vs →
+        list_all (is_wide vs) rows.now ≡ true →
+        answer ≡ is_some_solution (followed vs d group.now.graph.now a
+        (map element behind.entry.members.now) group.now.filters.now
+        (flat_map (looked_up_under d look_up.now own.now a) rows.now))) }
 {
-    let start = widened_rows(alloc, rows, look_up.hidden)?;
-    let patterns = all_patterns(alloc, look_up.places.as_slice())?;
-    some_matched(
-        alloc, variables, vocabulary, graph, source, looked, own, start, patterns, members,
-        filters, rooms, under,
-    )
+    let start = widened_rows(group.evaluation.scope.alloc, rows, look_up.hidden)?;
+    let patterns = all_patterns(group.evaluation.scope.alloc, look_up.places.as_slice())?;
+    some_matched(group, own, start, patterns, behind)
 }
 
 // Whether the members make one of which the filters are true of what grows in a graph from the rows
 // of all columns.
 #[cycle(ask)]
 fn some_matched<S: Source>(
-    alloc: Global,
-    variables: &SortedNames,
-    vocabulary: &Vocabulary,
-    graph: &GraphName,
-    source: &S,
-    looked: &Cell<u64>,
+    group: &Group<S>,
     own: &GraphName,
     start: Vec<Mapping>,
     patterns: VecDeque<&Places>,
-    members: &[Member],
-    filters: &[Expression],
-    rooms: &[Cell<usize>],
-    under: &Above,
+    behind: Behind,
 ) -> Result<bool, NoMemory>
-    ensures { IfOk result (λ answer. (d : Listing) → Lists (S.contents source.now) d →
-        length under.now ≡ length variables.now →
-        list_all (has_columns variables.now) start.items ≡ true →
-        answer ≡ is_some_solution (followed variables.now d graph.now under.now
-        (map element members.now) filters.now (cut_under variables.now under.now
+    ensures { IfOk result (λ answer.
+        let vs = group.now.evaluation.now.scope.variables.now in
+        let s = S.contents group.now.evaluation.now.source.now in let a = group.now.under.now in
+        (d : Listing) → Lists s d → length a ≡ length vs →
+        list_all (has_columns vs) start.items ≡ true →
+        answer ≡ is_some_solution (followed vs d group.now.graph.now a
+        (map element behind.entry.members.now) group.now.filters.now (cut_under vs a
         (matching (d.quads own.now) (map (λ r. r.now) patterns.entry.items) start.items)))) }
 {
     let mut rows = start;
@@ -266,66 +260,56 @@ fn some_matched<S: Source>(
         let Some(places) = rest.remove(next) else {
             unreachable!()
         };
-        if let Some(row) = lone_row(&rows, rooms) {
-            return some_of_lone(
-                alloc, variables, vocabulary, graph, source, looked, own, row, places, &rest,
-                members, filters, rooms, under,
-            );
+        if let Some(row) = lone_row(&rows, behind.rooms) {
+            return some_of_lone(group, own, row, places, &rest, behind);
         }
-        rows = step(alloc, own, source, places, rows)?;
-        if some_of_first_matched(
-            alloc, variables, vocabulary, graph, source, looked, own, &mut rows, &rest, members,
-            filters, rooms, under,
-        )? {
+        rows = step(
+            group.evaluation.scope.alloc,
+            own,
+            group.evaluation.source,
+            places,
+            rows,
+        )?;
+        if some_of_first_matched(group, own, &mut rows, &rest, behind)? {
             return Ok(true);
         }
     }
-    let cut = cut_rows(alloc, rows, variables.len())?;
-    let rows = compatible_rows(alloc, under, cut)?;
-    some_after(
-        alloc, variables, vocabulary, graph, source, looked, rows, members, filters, rooms, under,
-    )
+    let rows = cut_compatible(&group.evaluation.scope, rows, group.under)?;
+    some_after(group, rows, behind)
 }
 
 // Whether the members make one of which the filters are true of what grows from the first rows; the
 // rows that are left where they don't.
 #[cycle(ask)]
 fn some_of_first_matched<S: Source>(
-    alloc: Global,
-    variables: &SortedNames,
-    vocabulary: &Vocabulary,
-    graph: &GraphName,
-    source: &S,
-    looked: &Cell<u64>,
+    group: &Group<S>,
     own: &GraphName,
     rows: &mut Vec<Mapping>,
     patterns: &VecDeque<&Places>,
-    members: &[Member],
-    filters: &[Expression],
-    rooms: &[Cell<usize>],
-    under: &Above,
+    behind: Behind,
 ) -> Result<bool, NoMemory>
-    ensures some { IfOk result (λ answer. (d : Listing) → Lists (S.contents source.now) d →
-        length under.now ≡ length variables.now →
-        list_all (has_columns variables.now) rows.old.items ≡ true →
-        (answer || is_some_solution (followed variables.now d graph.now under.now
-        (map element members.now) filters.now (cut_under variables.now under.now
+    ensures some { IfOk result (λ answer.
+        let vs = group.now.evaluation.now.scope.variables.now in
+        let s = S.contents group.now.evaluation.now.source.now in let a = group.now.under.now in
+        (d : Listing) → Lists s d → length a ≡ length vs →
+        list_all (has_columns vs) rows.old.items ≡ true →
+        (answer || is_some_solution (followed vs d group.now.graph.now a
+        (map element behind.entry.members.now) group.now.filters.now (cut_under vs a
         (matching (d.quads own.now) (map (λ r. r.now) patterns.now.items) rows.new.items))))
-        ≡ is_some_solution (followed variables.now d graph.now under.now
-        (map element members.now) filters.now (cut_under variables.now under.now
+        ≡ is_some_solution (followed vs d group.now.graph.now a
+        (map element behind.entry.members.now) group.now.filters.now (cut_under vs a
         (matching (d.quads own.now) (map (λ r. r.now) patterns.now.items) rows.old.items)))) }
-    ensures wide { IfOk result (λ _. list_all (has_columns variables.now) rows.old.items ≡ true →
-        list_all (has_columns variables.now) rows.new.items ≡ true) }
+    ensures wide { IfOk result (λ _. let vs = group.now.evaluation.now.scope.variables.now in
+        list_all (has_columns vs) rows.old.items ≡ true →
+        list_all (has_columns vs) rows.new.items ≡ true) }
 {
-    let Some((room, deeper)) = rooms.split_first() else {
+    let Some((room, rooms)) = behind.rooms.split_first() else {
         return Ok(false);
     };
+    let members = behind.members;
     while let Some(first) = first_rows(rows, room)? {
-        let patterns = copied(alloc, patterns)?;
-        if some_matched(
-            alloc, variables, vocabulary, graph, source, looked, own, first, patterns, members,
-            filters, deeper, under,
-        )? {
+        let patterns = copied(group.evaluation.scope.alloc, patterns)?;
+        if some_matched(group, own, first, patterns, Behind { members, rooms })? {
             return Ok(true);
         }
     }
@@ -336,96 +320,72 @@ fn some_of_first_matched<S: Source>(
 // pattern being looked up first and these behind it: of a few of its quads, then of all.
 #[cycle(ask)]
 fn some_of_lone<S: Source>(
-    alloc: Global,
-    variables: &SortedNames,
-    vocabulary: &Vocabulary,
-    graph: &GraphName,
-    source: &S,
-    looked: &Cell<u64>,
+    group: &Group<S>,
     own: &GraphName,
     row: &Mapping,
     places: &Places,
     patterns: &VecDeque<&Places>,
-    members: &[Member],
-    filters: &[Expression],
-    rooms: &[Cell<usize>],
-    under: &Above,
+    behind: Behind,
 ) -> Result<bool, NoMemory>
-    requires { 0 < length rooms.now }
-    ensures { IfOk result (λ answer. (d : Listing) → Lists (S.contents source.now) d →
-        length under.now ≡ length variables.now → has_columns variables.now row.now ≡ true →
-        answer ≡ is_some_solution (followed variables.now d graph.now under.now
-        (map element members.now) filters.now (cut_under variables.now under.now
+    requires { 0 < length behind.rooms.now }
+    ensures { IfOk result (λ answer.
+        let vs = group.now.evaluation.now.scope.variables.now in
+        let s = S.contents group.now.evaluation.now.source.now in let a = group.now.under.now in
+        (d : Listing) → Lists s d → length a ≡ length vs →
+        has_columns vs row.now ≡ true →
+        answer ≡ is_some_solution (followed vs d group.now.graph.now a
+        (map element behind.entry.members.now) group.now.filters.now (cut_under vs a
         (matching (d.quads own.now) (map (λ r. r.now) patterns.now.items)
         (matches_of (d.quads own.now) places.now row.now))))) }
 {
+    let alloc = group.evaluation.scope.alloc;
+    let source = group.evaluation.source;
     let few = few_quads_of(alloc, own, source, places, row, FEW)?;
-    if some_of_quads(
-        alloc, variables, vocabulary, graph, source, looked, own, row, places, &few.quads,
-        patterns, members, filters, rooms, under,
-    )? {
+    if some_of_quads(group, own, row, places, &few.quads, patterns, behind)? {
         return Ok(true);
     }
     if few.are_all {
         return Ok(false);
     }
     let quads = quads_of(alloc, own, source, places, row)?;
-    some_of_quads(
-        alloc, variables, vocabulary, graph, source, looked, own, row, places, &quads, patterns,
-        members, filters, rooms, under,
-    )
+    some_of_quads(group, own, row, places, &quads, patterns, behind)
 }
 
 // Whether the members make one of which the filters are true of what grows from a row by these quads,
 // which were looked up under it, and by the triple patterns behind them.
 #[cycle(ask)]
 fn some_of_quads<S: Source>(
-    alloc: Global,
-    variables: &SortedNames,
-    vocabulary: &Vocabulary,
-    graph: &GraphName,
-    source: &S,
-    looked: &Cell<u64>,
+    group: &Group<S>,
     own: &GraphName,
     row: &Mapping,
     places: &Places,
     quads: &[Quad],
     patterns: &VecDeque<&Places>,
-    members: &[Member],
-    filters: &[Expression],
-    rooms: &[Cell<usize>],
-    under: &Above,
+    behind: Behind,
 ) -> Result<bool, NoMemory>
-    requires room { 0 < length rooms.now }
+    requires room { 0 < length behind.rooms.now }
     requires held { IsTrue (list_all (has_held places.now row.now) quads.now) }
-    ensures { IfOk result (λ answer. (d : Listing) → Lists (S.contents source.now) d →
-        length under.now ≡ length variables.now → has_columns variables.now row.now ≡ true →
-        answer ≡ is_some_solution (followed variables.now d graph.now under.now
-        (map element members.now) filters.now (cut_under variables.now under.now
+    ensures { IfOk result (λ answer.
+        let vs = group.now.evaluation.now.scope.variables.now in
+        let s = S.contents group.now.evaluation.now.source.now in let a = group.now.under.now in
+        (d : Listing) → Lists s d → length a ≡ length vs →
+        has_columns vs row.now ≡ true →
+        answer ≡ is_some_solution (followed vs d group.now.graph.now a
+        (map element behind.entry.members.now) group.now.filters.now (cut_under vs a
         (matching (d.quads own.now) (map (λ r. r.now) patterns.now.items)
         (matches_of quads.now places.now row.now))))) }
 {
     let mut done = 0;
     while done < quads.len() {
         let rest = &quads[done..];
-        let len = first_len(rest.len(), &rooms[0]);
-        let rows = copies_matched(alloc, row, places, &rest[..len])?;
-        let patterns = copied(alloc, patterns)?;
-        if some_matched(
-            alloc,
-            variables,
-            vocabulary,
-            graph,
-            source,
-            looked,
-            own,
-            rows,
-            patterns,
-            members,
-            filters,
-            &rooms[1..],
-            under,
-        )? {
+        let len = first_len(rest.len(), &behind.rooms[0]);
+        let deeper = Behind {
+            members: behind.members,
+            rooms: &behind.rooms[1..],
+        };
+        let rows = copies_matched(group.evaluation.scope.alloc, row, places, &rest[..len])?;
+        let patterns = copied(group.evaluation.scope.alloc, patterns)?;
+        if some_matched(group, own, rows, patterns, deeper)? {
             return Ok(true);
         }
         done += len;

@@ -1,11 +1,12 @@
 //! Rows that grow from a row by the triples that were looked up under it, whose terms move into them.
-ghost use Rattle.std.specs.Prelude.{◌≡◌, ◌++◌, IfOk, IsTrue, None, OnOk, Some, cond};
+ghost use Rattle.std.specs.Prelude.{◌≡◌, ◌++◌, IfOk, IsTrue, None, OnOk, Some, cond, slice_set, true};
 ghost use Rattle.std.specs.List.{list_all};
-ghost use Rattle.sparql_solve.specs.Grown.{IsPut, behind, spot_of, spots_in};
+ghost use Rattle.sparql_solve.specs.Grown.{AreTold, IsPut, behind, is_told, spot_of, spots_in};
 ghost use Rattle.sparql_solve.specs.Matching.{assigned, has_held, matched, matches_of};
 
 use crate::mappings::Mapping;
 use crate::place::{Place, Places};
+use crate::values::copy_value;
 use rdf_terms::{NoMemory, Quad, Term};
 use std::alloc::Global;
 
@@ -117,6 +118,96 @@ fn grows(
     put(alloc, row, &places.object, spots.object, object)
 }
 
+fn is_told(spot: Spot) -> bool
+    ensures { result ≡ is_told spot }
+{
+    !matches!(spot, Spot::Asked)
+}
+
+// Whether no place has to be asked for each triple.
+fn are_told(spots: Spots) -> bool
+    ensures { IsTrue result → AreTold spots }
+{
+    is_told(spots.predicate) && is_told(spots.subject) && is_told(spots.object)
+}
+
+// A copy of each value.
+fn copied_all(alloc: Global, values: &[Option<Term>]) -> Result<Vec<Option<Term>>, NoMemory>
+    ensures { IfOk result (λ copy. copy.items ≡ values.now) }
+{
+    let mut copy = Vec::with_capacity(alloc, values.len())?;
+    for value in values {
+        copy.push(copy_value(value.as_ref())?)?;
+    }
+    Ok(copy)
+}
+
+// Moves the term to the column of these, if there is one.
+fn set(values: &mut Vec<Option<Term>>, column: usize, term: Term)
+    ensures { values.new.items ≡ slice_set values.old.items column (Some term) }
+{
+    if let Some(value) = values.get_mut(column) {
+        let _ = value.replace(term);
+    }
+}
+
+// Moves the term to the place, which has it or nothing.
+fn set_at(values: &mut Vec<Option<Term>>, _place: &Place, spot: Spot, term: Term)
+    requires put { IsPut spot values.old.items _place.now term }
+    requires told { is_told spot ≡ true }
+    ensures { assigned values.old.items _place.now term ≡ Some values.new.items }
+{
+    match spot {
+        Spot::Free(column) => set(values, column, term),
+        Spot::Known | Spot::Asked => {}
+    }
+}
+
+// A copy of what stands side by side, with what the triple binds, which was looked up under it.
+fn grown_plainly(
+    alloc: Global,
+    values: &[Option<Term>],
+    places: &Places,
+    spots: Spots,
+    quad: Quad,
+) -> Result<Mapping, NoMemory>
+    requires told { spots ≡ spots_in places.now values.now }
+    requires all { AreTold spots }
+    requires held { IsTrue (has_held places.now values.now quad) }
+    ensures { IfOk result (λ found. matched places.now values.now quad ≡ Some found) }
+{
+    let mut out = copied_all(alloc, values)?;
+    let (_, subject, predicate, object) = quad.into_parts();
+    set_at(&mut out, &places.predicate, spots.predicate, predicate);
+    set_at(&mut out, &places.subject, spots.subject, subject);
+    set_at(&mut out, &places.object, spots.object, object);
+    Ok(Mapping::plain(out))
+}
+
+// A copy of the row with what the triple binds, which was looked up under it, if that fits.
+fn grown_copy(
+    alloc: Global,
+    row: &Mapping,
+    places: &Places,
+    spots: Spots,
+    quad: Quad,
+) -> Result<Option<Mapping>, NoMemory>
+    requires told { spots ≡ spots_in places.now row.now }
+    requires held { IsTrue (has_held places.now row.now quad) }
+    ensures { IfOk result (λ found. matched places.now row.now quad ≡ found) }
+{
+    if are_told(spots) {
+        if let Some(values) = row.columns().as_plain() {
+            return Ok(Some(grown_plainly(alloc, values, places, spots, quad)?));
+        }
+    }
+    let mut found = row.copy(alloc)?;
+    if grows(alloc, &mut found, places, spots, quad)? {
+        return Ok(Some(found));
+    }
+    Ok(None)
+}
+
 // Appends the rows that the triples make of copies of a row under which they were looked up.
 fn append_grown(
     alloc: Global,
@@ -132,8 +223,7 @@ fn append_grown(
         ≡ out.old.items ++ matches_of quads.items places.now row.now) }
 {
     for quad in quads {
-        let mut found = row.copy(alloc)?;
-        if grows(alloc, &mut found, places, spots, quad)? {
+        if let Some(found) = grown_copy(alloc, row, places, spots, quad)? {
             out.push(found)?;
         }
     }

@@ -13,6 +13,7 @@ ghost use Rattle.sparql_solve.specs.LookUps.{looked_up};
 ghost use Rattle.sparql_solve.specs.Sides.{found, found_in, found_under, graph_where, graphs_of, look_up_in, tried};
 ghost use Rattle.sparql_solve.specs.Members.{AreSolutions};
 
+use crate::evaluation::Evaluation;
 use crate::mappings::Mapping;
 use crate::matching::{
     asks_same, cut_rows, few_of_one, matching_rows, moved_of_one, rows_of_one, some_of_one,
@@ -205,42 +206,51 @@ pub(crate) fn tried_names<S: Source>(
 
 // What is found under the row in the graph of the name, to which the variable is bound first.
 fn rows_under_name<S: Source>(
-    alloc: Global,
-    variables: &SortedNames,
+    evaluation: &Evaluation<S>,
     variable: &Text,
     name: &Term,
-    source: &S,
     look_up: &LookUp,
     row: &Mapping,
 ) -> Result<Vec<Mapping>, NoMemory>
-    ensures { IfOk result (λ out. AreSolutions (S.contents source.now) out.items
-        (λ d. found_under variables.now d look_up.now variable.now row.now name.now)) }
+    ensures { IfOk result (λ out. AreSolutions (S.contents evaluation.now.source.now) out.items
+        (λ d. found_under evaluation.now.scope.variables.now d look_up.now variable.now row.now
+        name.now)) }
 {
-    let bound = Mapping::single(alloc, variables, variable, name)?;
+    let bound = Mapping::single(
+        evaluation.scope.alloc,
+        evaluation.scope.variables,
+        variable,
+        name,
+    )?;
     if row.is_compatible(&bound) {
         let graph = GraphName::Named(name.copy()?);
-        let row = row.merged(alloc, &bound)?;
-        return rows_in_graph(alloc, &graph, source, look_up, &row);
+        let row = row.merged(evaluation.scope.alloc, &bound)?;
+        return rows_in_graph(
+            evaluation.scope.alloc,
+            &graph,
+            evaluation.source,
+            look_up,
+            &row,
+        );
     }
-    Ok(Vec::new(alloc))
+    Ok(Vec::new(evaluation.scope.alloc))
 }
 
 // What is found under the row in the graphs of these names.
 fn rows_under_names<S: Source>(
-    alloc: Global,
-    variables: &SortedNames,
+    evaluation: &Evaluation<S>,
     variable: &Text,
     names: &[Term],
-    source: &S,
     look_up: &LookUp,
     row: &Mapping,
 ) -> Result<Vec<Mapping>, NoMemory>
-    ensures { IfOk result (λ out. AreSolutions (S.contents source.now) out.items
-        (λ d. flat_map (found_under variables.now d look_up.now variable.now row.now) names.now)) }
+    ensures { IfOk result (λ out. AreSolutions (S.contents evaluation.now.source.now) out.items
+        (λ d. flat_map (found_under evaluation.now.scope.variables.now d look_up.now variable.now
+        row.now) names.now)) }
 {
-    let mut out = Vec::new(alloc);
+    let mut out = Vec::new(evaluation.scope.alloc);
     for name in names {
-        let mut found = rows_under_name(alloc, variables, variable, name, source, look_up, row)?;
+        let mut found = rows_under_name(evaluation, variable, name, look_up, row)?;
         out.append(&mut found)?;
     }
     Ok(out)
@@ -248,136 +258,175 @@ fn rows_under_names<S: Source>(
 
 /// What is found under the row.
 pub(crate) fn found_rows<S: Source>(
-    alloc: Global,
-    variables: &SortedNames,
-    source: &S,
+    evaluation: &Evaluation<S>,
     look_up: &LookUp,
     row: &Mapping,
 ) -> Result<Vec<Mapping>, NoMemory>
-    ensures { IfOk result (λ out. AreSolutions (S.contents source.now) out.items
-        (λ d. found variables.now d look_up.now row.now)) }
+    ensures { IfOk result (λ out. AreSolutions (S.contents evaluation.now.source.now) out.items
+        (λ d. found evaluation.now.scope.variables.now d look_up.now row.now)) }
 {
     match &look_up.graphs {
-        Graphs::One(graph) => rows_in_graph(alloc, graph, source, look_up, row),
-        Graphs::Missing => Ok(Vec::new(alloc)),
+        Graphs::One(graph) => rows_in_graph(
+            evaluation.scope.alloc,
+            graph,
+            evaluation.source,
+            look_up,
+            row,
+        ),
+        Graphs::Missing => Ok(Vec::new(evaluation.scope.alloc)),
         Graphs::Each(variable) => {
-            let value = copy_value(row.value_in(variables.column(variable)))?;
-            let names = tried_names(alloc, source, value)?;
-            rows_under_names(alloc, variables, variable, &names, source, look_up, row)
+            let value = copy_value(row.value_in(evaluation.scope.variables.column(variable)))?;
+            let names = tried_names(evaluation.scope.alloc, evaluation.source, value)?;
+            rows_under_names(evaluation, variable, &names, look_up, row)
         }
     }
 }
 
 // What is found in the graph of the name under the row, which is moved on, the variable bound first.
 fn grown_under_name<S: Source>(
-    alloc: Global,
-    variables: &SortedNames,
+    evaluation: &Evaluation<S>,
     variable: &Text,
     name: &Term,
-    source: &S,
     look_up: &LookUp,
     mut row: Mapping,
 ) -> Result<Vec<Mapping>, NoMemory>
-    ensures { IfOk result (λ out. length row ≡ length variables.now →
-        AreSolutions (S.contents source.now) out.items
-        (λ d. found_under variables.now d look_up.now variable.now row name.now)) }
+    ensures { IfOk result (λ out. length row ≡ length evaluation.now.scope.variables.now →
+        AreSolutions (S.contents evaluation.now.source.now) out.items
+        (λ d. found_under evaluation.now.scope.variables.now d look_up.now variable.now row
+        name.now)) }
 {
-    if !row.bind(alloc, variables.column(variable), name)? {
-        return Ok(Vec::new(alloc));
+    if !row.bind(
+        evaluation.scope.alloc,
+        evaluation.scope.variables.column(variable),
+        name,
+    )? {
+        return Ok(Vec::new(evaluation.scope.alloc));
     }
     let graph = GraphName::Named(name.copy()?);
-    grown_in_graph(alloc, &graph, source, look_up, row)
+    grown_in_graph(
+        evaluation.scope.alloc,
+        &graph,
+        evaluation.source,
+        look_up,
+        row,
+    )
 }
 
 // What is found in the graphs of these names under the row, which is moved on to the last one.
 fn grown_under_names<S: Source>(
-    alloc: Global,
-    variables: &SortedNames,
+    evaluation: &Evaluation<S>,
     variable: &Text,
     names: &[Term],
-    source: &S,
     look_up: &LookUp,
     row: Mapping,
 ) -> Result<Vec<Mapping>, NoMemory>
-    ensures { IfOk result (λ out. length row ≡ length variables.now →
-        AreSolutions (S.contents source.now) out.items (λ d.
-        flat_map (found_under variables.now d look_up.now variable.now row) names.now)) }
+    ensures { IfOk result (λ out. length row ≡ length evaluation.now.scope.variables.now →
+        AreSolutions (S.contents evaluation.now.source.now) out.items (λ d.
+        flat_map (found_under evaluation.now.scope.variables.now d look_up.now variable.now row)
+        names.now)) }
 {
     let Some((last, others)) = names.split_last() else {
-        return Ok(Vec::new(alloc));
+        return Ok(Vec::new(evaluation.scope.alloc));
     };
-    let mut out = rows_under_names(alloc, variables, variable, others, source, look_up, &row)?;
-    let mut more = grown_under_name(alloc, variables, variable, last, source, look_up, row)?;
+    let mut out = rows_under_names(evaluation, variable, others, look_up, &row)?;
+    let mut more = grown_under_name(evaluation, variable, last, look_up, row)?;
     out.append(&mut more)?;
     Ok(out)
 }
 
 /// What is found under the row, which is moved on.
 pub(crate) fn grown_rows<S: Source>(
-    alloc: Global,
-    variables: &SortedNames,
-    source: &S,
+    evaluation: &Evaluation<S>,
     look_up: &LookUp,
     row: Mapping,
 ) -> Result<Vec<Mapping>, NoMemory>
-    ensures { IfOk result (λ out. length row ≡ length variables.now →
-        AreSolutions (S.contents source.now) out.items
-        (λ d. found variables.now d look_up.now row)) }
+    ensures { IfOk result (λ out. length row ≡ length evaluation.now.scope.variables.now →
+        AreSolutions (S.contents evaluation.now.source.now) out.items
+        (λ d. found evaluation.now.scope.variables.now d look_up.now row)) }
 {
     match &look_up.graphs {
-        Graphs::One(graph) => grown_in_graph(alloc, graph, source, look_up, row),
-        Graphs::Missing => found_rows(alloc, variables, source, look_up, &row),
+        Graphs::One(graph) => grown_in_graph(
+            evaluation.scope.alloc,
+            graph,
+            evaluation.source,
+            look_up,
+            row,
+        ),
+        Graphs::Missing => found_rows(evaluation, look_up, &row),
         Graphs::Each(variable) => {
-            let value = copy_value(row.value_in(variables.column(variable)))?;
-            let names = tried_names(alloc, source, value)?;
-            grown_under_names(alloc, variables, variable, &names, source, look_up, row)
+            let value = copy_value(row.value_in(evaluation.scope.variables.column(variable)))?;
+            let names = tried_names(evaluation.scope.alloc, evaluation.source, value)?;
+            grown_under_names(evaluation, variable, &names, look_up, row)
         }
     }
 }
 
 /// Some of what is found under the row, one at least where there is any.
 pub(crate) fn some_found<S: Source>(
-    alloc: Global,
-    variables: &SortedNames,
-    source: &S,
+    evaluation: &Evaluation<S>,
     look_up: &LookUp,
     row: &Mapping,
 ) -> Result<Vec<Mapping>, NoMemory>
-    ensures { IfOk result (λ out. (d : Listing) → Lists (S.contents source.now) d →
+    ensures { IfOk result (λ out. (d : Listing) → Lists (S.contents evaluation.now.source.now) d →
         is_some_solution out.items
-        ≡ is_some_solution (found variables.now d look_up.now row.now)) }
+        ≡ is_some_solution (found evaluation.now.scope.variables.now d look_up.now row.now)) }
 {
     if let Graphs::One(graph) = &look_up.graphs {
         if let Some(places) = lone_pattern(look_up) {
-            return some_of_one(alloc, graph, source, places, row);
+            return some_of_one(
+                evaluation.scope.alloc,
+                graph,
+                evaluation.source,
+                places,
+                row,
+            );
         }
     }
-    found_rows(alloc, variables, source, look_up, row)
+    found_rows(evaluation, look_up, row)
 }
 
 /// What is looked up by itself, whatever rows bind, where it is one triple pattern in one graph that
 /// has fewer triples than so many: no more of them are looked at.
 pub(crate) fn few_found<S: Source>(
-    alloc: Global,
-    variables: &SortedNames,
-    source: &S,
+    evaluation: &Evaluation<S>,
     look_up: &LookUp,
     most: usize,
 ) -> Result<Option<Vec<Mapping>>, NoMemory>
-    ensures { IfOk result (λ few. IfSome few (λ out. AreSolutions (S.contents source.now) out.items
-        (λ d. found variables.now d look_up.now (empty_mapping variables.now)))) }
+    ensures { IfOk result (λ few. IfSome few (λ out. AreSolutions
+        (S.contents evaluation.now.source.now) out.items
+        (λ d. found evaluation.now.scope.variables.now d look_up.now
+        (empty_mapping evaluation.now.scope.variables.now)))) }
 {
     let Graphs::One(graph) = &look_up.graphs else {
         return Ok(None);
     };
+    let unbound = Mapping::unbound(evaluation.scope.alloc, evaluation.scope.variables)?;
+    if let Some(places) = lone_pattern(look_up) {
+        return few_of_one(
+            evaluation.scope.alloc,
+            graph,
+            evaluation.source,
+            places,
+            &unbound,
+            most,
+        );
+    }
     let Some(places) = only_pattern(look_up) else {
         return Ok(None);
     };
-    let unbound = Mapping::unbound(alloc, variables)?;
-    let nothing = unbound.widen(alloc, look_up.hidden)?;
-    let Some(rows) = few_of_one(alloc, graph, source, places, &nothing, most)? else {
+    let nothing = unbound.widen(evaluation.scope.alloc, look_up.hidden)?;
+    let Some(rows) = few_of_one(
+        evaluation.scope.alloc,
+        graph,
+        evaluation.source,
+        places,
+        &nothing,
+        most,
+    )?
+    else {
         return Ok(None);
     };
-    let shown = cut_rows(alloc, rows, variables.len())?;
+    let columns = evaluation.scope.variables.len();
+    let shown = cut_rows(evaluation.scope.alloc, rows, columns)?;
     Ok(Some(shown))
 }

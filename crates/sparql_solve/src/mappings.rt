@@ -39,8 +39,8 @@ impl Model for Mapping {
     ghost view = { λ m. m.columns };
 }
 
-// The place of a column, where it has one.
-fn place_of(places: &[Option<usize>], column: usize) -> Option<usize>
+/// The place of a column, where it has one.
+pub(crate) fn place_of(places: &[Option<usize>], column: usize) -> Option<usize>
     ensures { result ≡ slice_index_or places.now column None }
 {
     if column < places.len() {
@@ -51,6 +51,15 @@ fn place_of(places: &[Option<usize>], column: usize) -> Option<usize>
 }
 
 impl Mapping {
+    /// The mapping of these values.
+    pub(crate) fn plain(values: Vec<Option<Term>>) -> Mapping
+        ensures { result ≡ values.items }
+    {
+        Mapping {
+            columns: Columns::plain(values),
+        }
+    }
+
     /// What stands at the column; past the last one nothing does.
     pub fn value(&self, column: usize) -> Option<&Term>
         ensures { option_map (λ t. t.now) result ≡ value_at self.now column }
@@ -175,11 +184,11 @@ impl Mapping {
         }
     }
 
-    // The merge, by what each of them binds.
-    fn merged_by_bound(&self, alloc: Global, other: &Mapping) -> Result<Mapping, NoMemory>
-        ensures { IfOk result (λ mapping. mapping ≡ merge self.now other.now) }
+    /// The mapping with what the other one has where this one has nothing.
+    pub(crate) fn filled(self, alloc: Global, other: &Mapping) -> Result<Mapping, NoMemory>
+        ensures { IfOk result (λ mapping. mapping ≡ merge self other.now) }
     {
-        let mut out = self.copy(alloc)?.cut(alloc, other.len())?;
+        let mut out = self.cut(alloc, other.len())?;
         let mut from = 0;
         while let Some(column) = other.next_bound(from) {
             out.put_missing(alloc, column, other)?;
@@ -197,7 +206,7 @@ impl Mapping {
                 return Mapping::merged_plainly(alloc, own, others);
             }
         }
-        self.merged_by_bound(alloc, other)
+        self.copy(alloc)?.filled(alloc, other)
     }
 
     /// Whether it binds nothing.

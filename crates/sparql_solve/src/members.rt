@@ -9,12 +9,11 @@ ghost use Rattle.sparql_solve.specs.Sides.{HoldsJust, HoldsNone, HoldsOnly, Remo
 ghost use Rattle.sparql_solve.specs.Members.{element_solutions};
 ghost use Rattle.sparql_solve.specs.Under.{IsLookUpOf, is_joined, is_removed};
 
+use crate::evaluation::Evaluation;
 use crate::look_ups::{Graphs, LookUp, graphs_of, look_up_in, look_up_of_names};
 use rdf_dataset::Source;
 use rdf_terms::{GraphName, NoMemory};
 use sparql_trees::{BasicGraphPattern, Member, Pattern, VarOrIri};
-use sparql_values::SortedNames;
-use std::alloc::Global;
 
 /// Whether the member is joined: all but OPTIONAL and MINUS are.
 pub(crate) fn is_joined(member: &Member) -> bool
@@ -96,25 +95,29 @@ fn holds_none(pattern: &Pattern) -> bool
 // The look-ups of GRAPH with a basic graph pattern or with nothing, whichever graph is the active
 // one.
 fn look_up_of_graph<S: Source>(
-    alloc: Global,
-    variables: &SortedNames,
-    source: &S,
+    evaluation: &Evaluation<S>,
     name: &VarOrIri,
     pattern: &Pattern,
 ) -> Result<Option<LookUp>, NoMemory>
     ensures { IfOk result (λ found. IfSome found (λ look_up. (active : GraphName) →
-        IsLookUpOf variables.now (S.contents source.now) look_up
-        (λ d. solutions variables.now d active (graph name.now (translation pattern.now))))) }
+        IsLookUpOf evaluation.now.scope.variables.now (S.contents evaluation.now.source.now) look_up
+        (λ d. solutions evaluation.now.scope.variables.now d active (graph name.now
+        (translation pattern.now))))) }
 {
     if holds_none(pattern) {
-        let named = graphs_of(source, name)?;
-        return Ok(Some(look_up_of_names(alloc, named)));
+        let named = graphs_of(evaluation.source, name)?;
+        return Ok(Some(look_up_of_names(evaluation.scope.alloc, named)));
     }
     let Some(basic) = lone_basic(pattern) else {
         return Ok(None);
     };
-    let graphs = graphs_of(source, name)?;
-    Ok(Some(look_up_in(alloc, variables, graphs, basic)?))
+    let graphs = graphs_of(evaluation.source, name)?;
+    Ok(Some(look_up_in(
+        evaluation.scope.alloc,
+        evaluation.scope.variables,
+        graphs,
+        basic,
+    )?))
 }
 
 // The only group, where there is no UNION.
@@ -129,15 +132,14 @@ fn lone_group(groups: &[Pattern]) -> Option<&Pattern>
 
 // The look-ups of a group that stands alone, without UNION, and holds just a basic graph pattern.
 fn look_up_of_groups<S: Source>(
-    alloc: Global,
-    variables: &SortedNames,
+    evaluation: &Evaluation<S>,
     graph: &GraphName,
-    _source: &S,
     groups: &[Pattern],
 ) -> Result<Option<LookUp>, NoMemory>
     ensures { IfOk result (λ found. IfSome found (λ look_up.
-        IsLookUpOf variables.now (S.contents _source.now) look_up
-        (λ d. solutions variables.now d graph.now (union_of (map translation groups.now))))) }
+        IsLookUpOf evaluation.now.scope.variables.now (S.contents evaluation.now.source.now) look_up
+        (λ d. solutions evaluation.now.scope.variables.now d graph.now
+        (union_of (map translation groups.now))))) }
 {
     let Some(group) = lone_group(groups) else {
         return Ok(None);
@@ -146,32 +148,37 @@ fn look_up_of_groups<S: Source>(
         return Ok(None);
     };
     let own = Graphs::One(graph.copy()?);
-    Ok(Some(look_up_in(alloc, variables, own, basic)?))
+    Ok(Some(look_up_in(
+        evaluation.scope.alloc,
+        evaluation.scope.variables,
+        own,
+        basic,
+    )?))
 }
 
 /// The look-ups of a member that is a basic graph pattern, by itself, in GRAPH or in a group.
 pub(crate) fn look_up_of_joined<S: Source>(
-    alloc: Global,
-    variables: &SortedNames,
+    evaluation: &Evaluation<S>,
     graph: &GraphName,
-    source: &S,
     member: &Member,
 ) -> Result<Option<LookUp>, NoMemory>
     ensures { IfOk result (λ found. IfSome found (λ look_up.
-        IsLookUpOf variables.now (S.contents source.now) look_up
-        (λ d. element_solutions variables.now d graph.now (element member.now)))) }
+        IsLookUpOf evaluation.now.scope.variables.now (S.contents evaluation.now.source.now) look_up
+        (λ d. element_solutions evaluation.now.scope.variables.now d graph.now
+        (element member.now)))) }
 {
     match member {
         Member::Basic(basic) => {
             let graphs = Graphs::One(graph.copy()?);
-            Ok(Some(look_up_in(alloc, variables, graphs, basic)?))
+            Ok(Some(look_up_in(
+                evaluation.scope.alloc,
+                evaluation.scope.variables,
+                graphs,
+                basic,
+            )?))
         }
-        Member::Graph(name, pattern) => {
-            look_up_of_graph(alloc, variables, source, name, pattern)
-        }
-        Member::Union(groups) => {
-            look_up_of_groups(alloc, variables, graph, source, groups.as_slice())
-        }
+        Member::Graph(name, pattern) => { look_up_of_graph(evaluation, name, pattern) }
+        Member::Union(groups) => { look_up_of_groups(evaluation, graph, groups.as_slice()) }
         Member::Optional(_) | Member::Minus(_) => Ok(None),
     }
 }
@@ -179,21 +186,20 @@ pub(crate) fn look_up_of_joined<S: Source>(
 /// The look-ups of a member that is a basic graph pattern, by itself, in GRAPH, in a group, or in
 /// OPTIONAL.
 pub(crate) fn look_up_of<S: Source>(
-    alloc: Global,
-    variables: &SortedNames,
+    evaluation: &Evaluation<S>,
     graph: &GraphName,
-    source: &S,
     member: &Member,
 ) -> Result<Option<LookUp>, NoMemory>
     ensures { IfOk result (λ found. IfSome found (λ look_up.
-        IsLookUpOf variables.now (S.contents source.now) look_up
-        (λ d. element_solutions variables.now d graph.now (element member.now)))) }
+        IsLookUpOf evaluation.now.scope.variables.now (S.contents evaluation.now.source.now) look_up
+        (λ d. element_solutions evaluation.now.scope.variables.now d graph.now
+        (element member.now)))) }
 {
     match member {
         Member::Optional(pattern) => match lone_joined(pattern.members.as_slice()) {
-            Some(inner) => look_up_of_joined(alloc, variables, graph, source, inner),
+            Some(inner) => look_up_of_joined(evaluation, graph, inner),
             None => Ok(None),
         },
-        _ => look_up_of_joined(alloc, variables, graph, source, member),
+        _ => look_up_of_joined(evaluation, graph, member),
     }
 }

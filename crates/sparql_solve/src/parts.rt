@@ -1,6 +1,6 @@
 //! The rows of a join in parts: of rows that bind the same columns, and so have a key of their own
 //! with each part of the other side.
-ghost use Rattle.std.specs.Prelude.{◌≡◌, ◌<◌, ◌≤◌, All, IfOk, length, map};
+ghost use Rattle.std.specs.Prelude.{IfSome, List, ◌≡◌, ◌<◌, ◌≤◌, All, IfOk, length, map};
 ghost use Rattle.std.specs.List.{flat_map};
 ghost use Rattle.sparql_algebra.specs.Bags.{SameBag};
 ghost use Rattle.sparql_algebra.specs.Solutions.{merges};
@@ -126,6 +126,27 @@ fn columns_for(alloc: Global, left: &[&Mapping], right: &[&Mapping]) -> Result<V
     key_columns(alloc, left, right)
 }
 
+// A part in bins by the first column of its key; none where there is no column, or where a bin would
+// have more rows than are compared faster than put in order.
+fn binned_part<'r>(
+    alloc: Global,
+    rows: &[&'r Mapping],
+    columns: &[usize],
+) -> Result<Option<Part<'r>>, NoMemory>
+    ensures { IfOk result (λ found. IfSome found (λ part. (A : List Mapping) →
+        IsKeyOf columns.now A (map (λ r. r.now) rows.now) →
+        All (λ a. agreeing (part_run a part) a ≡ agreeing (map (λ r. r.now) rows.now) a) A)) }
+{
+    let Some(column) = columns.first() else {
+        return Ok(None);
+    };
+    let bins = bins_of(alloc, rows, *column)?;
+    if columns.len() == 1 || bins.are_small() {
+        return Ok(Some(Part::Binned(bins)));
+    }
+    Ok(None)
+}
+
 /// A part by the key that it shares with these left rows.
 pub(crate) fn part_of<'r>(
     alloc: Global,
@@ -137,8 +158,8 @@ pub(crate) fn part_of<'r>(
         (map (λ r. r.now) left.now)) }
 {
     let columns = columns_for(alloc, left, rows)?;
-    if let [column] = columns.as_slice() {
-        return Ok(Part::Binned(bins_of(alloc, rows, *column)?));
+    if let Some(part) = binned_part(alloc, rows, columns.as_slice())? {
+        return Ok(part);
     }
     let rows = index_of(alloc, rows, columns.as_slice())?;
     Ok(Part::Sorted(Index { columns, rows }))

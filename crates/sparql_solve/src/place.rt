@@ -59,7 +59,10 @@ fn place_of_predicate(variables: &SortedNames, predicate: &VarOrIri) -> Result<P
 }
 
 // The places of a triple pattern, whose variables have the first columns.
-fn places_of(variables: &SortedNames, pattern: &TriplePattern) -> Result<Places, NoMemory>
+pub(crate) fn places_of(
+    variables: &SortedNames,
+    pattern: &TriplePattern,
+) -> Result<Places, NoMemory>
     ensures { IfOk result (λ places. places ≡ places_of variables.now pattern.now) }
 {
     Ok(Places {

@@ -6,11 +6,13 @@ ghost use Rattle.rdf_terms.specs.Order.{text_cmp};
 ghost use Rattle.sparql_values.specs.Mapping.{Mapping, column, same_mapping, value_in};
 ghost use Rattle.sparql_algebra.specs.Results.{HasSolution, IsSelection, Solves, times_selected};
 ghost use Rattle.sparql_algebra.specs.Sorted.{sorted_solutions};
+ghost use Rattle.sparql_solve.specs.Pairs.{through};
 ghost use Rattle.sparql_trees.specs.Visible.{visible};
 
 use crate::asking::has_solution;
+use crate::evaluation::Scope;
 use crate::evaluator::group_rows;
-use crate::mappings::Mapping;
+use crate::mappings::{Mapping, place_of};
 use crate::order::{ordered, sort_mappings};
 use crate::rows::Row;
 use crate::shapes::has_minus;
@@ -92,7 +94,12 @@ fn solve_with<S: Source>(
     if has_minus(pattern) {
         return solve_minus(alloc, vocabulary, pattern, graph, source, variables);
     }
-    let rows = group_rows(alloc, &variables, vocabulary, graph, source, pattern)?;
+    let scope = Scope {
+        alloc,
+        variables: &variables,
+        vocabulary,
+    };
+    let rows = group_rows(scope, graph, source, pattern)?;
     Ok(SolutionMappings { variables, rows })
 }
 
@@ -112,11 +119,19 @@ fn solve_minus<S: Source>(
     let listed = named_variables(alloc, pattern)?;
     one_list_of_visible_variables();
     let all = SortedNames::from_rising(listed);
-    let rows = group_rows(alloc, &all, vocabulary, graph, source, pattern)?;
+    let scope = Scope {
+        alloc,
+        variables: &all,
+        vocabulary,
+    };
+    let found = group_rows(scope, graph, source, pattern)?;
     if all.as_slice() == variables.as_slice() {
-        return Ok(SolutionMappings { variables, rows });
+        return Ok(SolutionMappings {
+            variables,
+            rows: found,
+        });
     }
-    let rows = shown_rows(alloc, &all, &variables, &rows)?;
+    let rows = shown_rows(alloc, &all, &variables, &found)?;
     Ok(SolutionMappings { variables, rows })
 }
 
@@ -275,6 +290,74 @@ fn selected_rows(
     projected_rows(alloc, &rows, columns, distinct)
 }
 
+// The column that stands at this one of these.
+fn column_through(columns: &[Option<usize>], column: Option<usize>) -> Option<usize>
+    ensures { result ≡ through columns.now column }
+{
+    match column {
+        Some(column) => place_of(columns, column),
+        None => None,
+    }
+}
+
+// The columns that stand at these places of others.
+fn columns_through(
+    alloc: Global,
+    columns: &[Option<usize>],
+    places: &[Option<usize>],
+) -> Result<Vec<Option<usize>>, NoMemory>
+    ensures { IfOk result (λ out. out.items ≡ map (through columns.now) places.now) }
+{
+    let mut out = Vec::new(alloc);
+    for place in places {
+        out.push(column_through(columns, *place))?;
+    }
+    Ok(out)
+}
+
+// Where the columns of a SELECT stand among all names of its pattern; those that stand in MINUS alone
+// are none of its solutions'.
+fn selected_columns(
+    alloc: Global,
+    query: &Select,
+    variables: &SortedNames,
+    all: &SortedNames,
+) -> Result<Vec<Option<usize>>, NoMemory>
+    ensures { IfOk result (λ out. out.items ≡ map (through (map (column all.now) variables.now))
+        (map (column variables.now) query.now.columns)) }
+{
+    let columns = columns_of(alloc, all, variables.as_slice())?;
+    let places = columns_of(alloc, variables, query.columns.as_slice())?;
+    columns_through(alloc, columns.as_slice(), places.as_slice())
+}
+
+// What [`select_with`] answers, where MINUS stands in the pattern: the rows over all names that it has
+// are shown once.
+fn select_minus<S: Source>(
+    alloc: Global,
+    vocabulary: &Vocabulary,
+    query: &Select,
+    source: &S,
+) -> Result<Vec<Row>, NoMemory>
+    ensures { IfOk result (λ rows. IsSelection query.now (S.contents source.now) rows.items) }
+{
+    let visible = visible_variables(alloc, &query.pattern)?;
+    let named = named_variables(alloc, &query.pattern)?;
+    one_list_of_visible_variables();
+    let variables = SortedNames::from_rising(visible);
+    let all = SortedNames::from_rising(named);
+    let columns = selected_columns(alloc, query, &variables, &all)?;
+    let scope = Scope {
+        alloc,
+        variables: &all,
+        vocabulary,
+    };
+    let found = group_rows(scope, &GraphName::Default, source, &query.pattern)?;
+    let distinct = query.distinct;
+    let fewer = selected_rows(alloc, found, columns.as_slice(), distinct)?;
+    Ok(ordered(fewer, distinct)?)
+}
+
 /// The rows of a SELECT over a dataset, whose default graph is the active one. They stand in their
 /// order: by the columns from the left, unbound first.
 ///
@@ -299,6 +382,9 @@ pub fn select_with<S: Source>(
 ) -> Result<Vec<Row>, NoMemory>
     ensures { IfOk result (λ rows. IsSelection query.now (S.contents source.now) rows.items) }
 {
+    if has_minus(&query.pattern) {
+        return select_minus(alloc, vocabulary, query, source);
+    }
     let found = solve_with(
         alloc,
         vocabulary,
@@ -338,5 +424,10 @@ pub fn ask_with<S: Source>(
     one_list_of_visible_variables();
     let names = SortedNames::from_rising(listed);
     let graph = GraphName::Default;
-    has_solution(alloc, &names, vocabulary, &graph, source, pattern)
+    let scope = Scope {
+        alloc,
+        variables: &names,
+        vocabulary,
+    };
+    has_solution(scope, &graph, source, pattern)
 }

@@ -25,6 +25,9 @@ const A_ROW_ALONE: u128 = 4;
 
 const AT_LEAST: u128 = 4096;
 
+// So many columns are compared one after another; of more, those alone that are bound.
+const FEW: usize = 16;
+
 // For how many look-ups at least it is asked whether a triple pattern has few triples.
 const MANY: usize = 64;
 
@@ -159,11 +162,25 @@ fn next_asked(row: &Mapping, columns: &[usize], from: usize) -> Option<usize>
     None
 }
 
+// By what stands at these columns, unbound first. Nothing but time rests on it.
+fn compare_each(row: &Mapping, other: &Mapping, columns: &[usize]) -> Ordering {
+    for column in columns {
+        let by_value = row.value(*column).cmp(&other.value(*column));
+        if by_value.is_ne() {
+            return by_value;
+        }
+    }
+    row.len().cmp(&other.len())
+}
+
 // By what is bound at the columns whose flag is up, from the left. Nothing but time rests on it.
 fn compare_at(row: &Mapping, other: &Mapping, flags: &Flags) -> Ordering {
     let Some(columns) = flags.columns() else {
         return row.compare(other);
     };
+    if columns.len() <= FEW {
+        return compare_each(row, other, columns);
+    }
     let len = row.len();
     let mut from = 0;
     while let Some(column) = next_asked(row, columns, from) {
@@ -226,13 +243,13 @@ pub(crate) fn look_ups_under(rows: &[Mapping], places: &Places) -> usize {
     many
 }
 
-/// Fewer triples than these are found once, and aren't looked up so many times: three for each four
-/// look-ups. To find a triple and to join it costs nearly a look-up.
+/// Fewer triples than these are found once, and aren't looked up so many times: no more than there are
+/// look-ups. To find a triple and to join it costs less than a look-up.
 pub(crate) fn few_beside(look_ups: usize) -> Option<usize> {
     if look_ups < MANY {
         return None;
     }
-    Some(look_ups.saturating_sub(look_ups / 4))
+    Some(look_ups.saturating_add(1))
 }
 
 /// Takes away the rows at the front that are served by what was found for these columns.

@@ -7,6 +7,6 @@ use Rattle.sparql_solve.proofs.asking.has_solution.Goals as goal
 pub returns : goal.returns
 returns g c =
     IfOk-weaker c.some_in_group.result _ _
-    (λ answer h. whole_says c.args.variables.now (g.S.Source.contents c.args.source.now) c.args.graph.now (translation c.args.pattern.now)
-    c.in_ok-nothing.nothing answer (nothing_is c.args.variables.now c.in_ok-nothing.nothing c.in_ok-nothing.ensures) h)
+    (λ answer h. whole_says c.args.scope.variables.now (g.S.Source.contents c.args.source.now) c.args.graph.now (translation c.args.pattern.now)
+    c.in_ok-nothing.nothing answer (nothing_is c.args.scope.variables.now c.in_ok-nothing.nothing c.in_ok-nothing.ensures) h)
     c.some_in_group.ensures

@@ -12,11 +12,11 @@ use Rattle.sparql_solve.proofs.evaluator.+follow.Given as goal
 
 abbrev pub invariant-first_under-loop-place : goal.invariant-first_under-loop-place
 invariant-first_under-loop-place g l =
-    AreUnder l.variables (g.S.Source.contents l.source) l.under l.rows.items (λ d. solutions l.variables d l.graph (group_of (map element (take l.place l.members))))
+    AreUnder l.evaluation.scope.variables.now (g.S.Source.contents l.evaluation.source.now) l.under l.rows.items (λ d. solutions l.evaluation.scope.variables.now d l.graph (group_of (map element (take l.place l.members))))
 
 abbrev pub invariant-rows_followed-loop-done : goal.invariant-rows_followed-loop-done
 invariant-rows_followed-loop-done g l = record {
-  made : AreMade l.variables (g.S.Source.contents l.source) l.graph l.under (element l.member) (take l.done l.rows) l.out.items;
+  made : AreMade l.evaluation.scope.variables.now (g.S.Source.contents l.evaluation.source.now) l.graph l.under (element l.member) (take l.done l.rows) l.out.items;
   within : l.done ≤ length l.rows;
 }
 
@@ -25,18 +25,19 @@ decreases-rows_followed-loop-done g l = length l.rows - l.done
 
 abbrev pub invariant-union_under-loop-group : goal.invariant-union_under-loop-group
 invariant-union_under-loop-group g l =
-    length l.under ≡ length l.variables →
-    AreMoreSolutions (g.S.Source.contents l.source) l.out.items (λ d. flat_map (λ p. under l.variables d l.graph (translation p) l.under) (drop l.group-index l.groups))
-    (λ d. flat_map (λ p. under l.variables d l.graph (translation p) l.under) l.groups)
+    length l.under ≡ length l.evaluation.scope.variables.now →
+    AreMoreSolutions (g.S.Source.contents l.evaluation.source.now) l.out.items (λ d. flat_map (λ p. under l.evaluation.scope.variables.now d l.graph (translation p) l.under) (drop l.group-index l.groups))
+    (λ d. flat_map (λ p. under l.evaluation.scope.variables.now d l.graph (translation p) l.under) l.groups)
 
-abbrev pub invariant-reading_under-loop-place : goal.invariant-reading_under-loop-place
-invariant-reading_under-loop-place g l =
-    (d : Listing) → Lists (g.S.Source.contents l.source) d → length l.under ≡ length l.variables → list_all (is_wide l.variables) l.initial.rows.items ≡ true →
-    Follows l.variables d Default l.under (drop l.first l.members) (drop l.place l.members) l.initial.rows.items l.rows.items
+abbrev pub invariant-apart_under-loop-place : goal.invariant-apart_under-loop-place
+invariant-apart_under-loop-place g l =
+    (d : Listing) → Lists (g.S.Source.contents l.evaluation.source.now) d → length l.under ≡ length l.evaluation.scope.variables.now →
+    list_all (is_wide l.evaluation.scope.variables.now) l.fn.rows.items ≡ true →
+    Follows l.evaluation.scope.variables.now d Default l.under (drop l.first l.members) (drop l.place l.members) l.fn.rows.items l.rows.items
 
 abbrev pub invariant-each_under-loop-name : goal.invariant-each_under-loop-name
 invariant-each_under-loop-name g l =
-    length l.under ≡ length l.variables →
-    AreMoreSolutions (g.S.Source.contents l.source) l.out.items
-    (λ d. flat_map (under_name l.variables d l.variable (filtered l.filters (group_of (map element (take l.many l.members)))) l.under) (drop l.name-index l.names))
-    (λ d. flat_map (under_name l.variables d l.variable (filtered l.filters (group_of (map element (take l.many l.members)))) l.under) l.names)
+    length l.under ≡ length l.evaluation.scope.variables.now →
+    AreMoreSolutions (g.S.Source.contents l.evaluation.source.now) l.out.items
+    (λ d. flat_map (under_name l.evaluation.scope.variables.now d l.variable (filtered l.filters (group_of (map element (take l.many l.members)))) l.under) (drop l.name-index l.names))
+    (λ d. flat_map (under_name l.evaluation.scope.variables.now d l.variable (filtered l.filters (group_of (map element (take l.many l.members)))) l.under) l.names)

@@ -5,7 +5,7 @@ use Rattle.sparql_solve.proofs.filters.satisfies.Goals as goal
 
 pub returns-then-not-branch : goal.returns-then-not-branch
 returns-then-not-branch c =
-    let vs = c.args.variables.now in
+    let vs = c.args.scope.now.variables.now in
     let rest = satisfies vs (drop (c.loop-filter.filter-index + 1) c.args.filters.now) c.args.row.now in
     let fails : c.in_ok-is_satisfied.field-0 ≡ false = cc in
     ap (λ b. b && rest) (sym fails)
@@ -15,7 +15,7 @@ returns-then-not-branch c =
 
 pub loop-filter-preserved : goal.loop-filter-preserved
 loop-filter-preserved c =
-    let vs = c.args.variables.now in
+    let vs = c.args.scope.now.variables.now in
     let rest = satisfies vs (drop (c.loop-filter.filter-index + 1) c.args.filters.now) c.args.row.now in
     let holds : c.in_ok-is_satisfied.field-0 ≡ true = cc in
     ap (λ b. b && rest) (sym holds)

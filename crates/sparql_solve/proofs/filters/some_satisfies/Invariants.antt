@@ -5,4 +5,4 @@ use Rattle.sparql_solve.proofs.filters.some_satisfies.Given as goal
 
 abbrev pub invariant-loop-row : goal.invariant-loop-row
 invariant-loop-row l =
-    is_some_solution (filter (satisfies l.variables l.filters) (drop l.row-index l.rows)) ≡ is_some_solution (filter (satisfies l.variables l.filters) l.rows)
+    is_some_solution (filter (satisfies l.scope.variables.now l.filters) (drop l.row-index l.rows)) ≡ is_some_solution (filter (satisfies l.scope.variables.now l.filters) l.rows)

@@ -1,10 +1,8 @@
-use Rattle.std.proofs.Common.{rules, ◌≡◌, List, [], ◌++◌, Some, None, cond, sym, ap, ◌∙◌, arith, length, append-nil}
+use Rattle.std.proofs.Common.{rules, ◌≡◌, List, [], ◌++◌, sym, ap, ◌∙◌, arith, length, append-nil}
 use Rattle.std.specs.List.{list_all}
 use Rattle.std.specs.Vec.Iter.{into_iter_items}
 use Rattle.rdf_terms.specs.Quad.{QuadParts}
-use Rattle.sparql_values.specs.Mapping.{Mapping}
-use Rattle.sparql_solve.specs.Grown.{spots_in}
-use Rattle.sparql_solve.specs.Matching.{has_held, matched, matches_of}
+use Rattle.sparql_solve.specs.Matching.{has_held, matches_of}
 use Rattle.sparql_solve.proofs.MemberLemmas.{none_left}
 use Rattle.sparql_solve.proofs.OnceLemmas.{held_first, held_rest, grown_by, grown_by_none}
 use Rattle.sparql_solve.proofs.grown.append_grown.Goals as goal
@@ -18,12 +16,11 @@ loop-quad-init c =
       count = search rules;
     }
 
-pub grows-requires : goal.grows-requires
-grows-requires c =
+pub grown_copy-requires : goal.grown_copy-requires
+grown_copy-requires c =
     record {
-      told = c.requires.told ∙ ap (spots_in c.args.places.now) (sym c.in_ok-found.ensures);
-      held = ap (λ (m : Mapping). has_held c.args.places.now m c.in-Some.quad) c.in_ok-found.ensures
-          ∙ held_first c.args.places.now c.args.row.now c.in-Some.quad (into_iter_items c.next.new.self) (into_iter_items c.loop-quad.quad-iterator)
+      told = c.requires.told;
+      held = held_first c.args.places.now c.args.row.now c.in-Some.quad (into_iter_items c.next.new.self) (into_iter_items c.loop-quad.quad-iterator)
           c.in-Some.ensures.steps.0 c.loop-quad.invariant.held;
     }
 
@@ -35,10 +32,7 @@ loop-quad-preserved-in-Continue-branch-3 c =
     let items = into_iter_items c.loop-quad.quad-iterator in
     record {
       made = grown_by p m c.in-Some.quad rest items c.in-Some.ensures.steps.0 c.loop-quad.out.items (c.args.out.now.items ++ matches_of c.args.quads.items p m)
-          c.loop-quad.invariant.made c.grows.new.row c.push.new.self.items
-          (ap (λ (l : Mapping). matched p l c.in-Some.quad) (sym c.in_ok-found.ensures)
-          ∙ c.in_ok-grows.ensures ∙ ap (λ b. cond b (Some c.grows.new.row) None) c.if-branch.true)
-          c.in_ok-push.ensures.items;
+          c.loop-quad.invariant.made c.in-Some-2.found c.push.new.self.items (c.in_ok-found.ensures ∙ c.in-Some-2.is) c.in_ok-push.ensures.items;
       held = held_rest p m c.in-Some.quad rest items c.in-Some.ensures.steps.0 c.loop-quad.invariant.held;
       count = omega (arith, ap length c.in-Some.ensures.steps.0, c.in-Some.ensures.steps.1, c.loop-quad.invariant.count);
     }
@@ -51,39 +45,7 @@ loop-quad-preserved c =
     let items = into_iter_items c.loop-quad.quad-iterator in
     record {
       made = grown_by_none p m c.in-Some.quad rest items c.in-Some.ensures.steps.0 c.loop-quad.out.items
-          (c.args.out.now.items ++ matches_of c.args.quads.items p m) c.loop-quad.invariant.made
-          (ap (λ (l : Mapping). matched p l c.in-Some.quad) (sym c.in_ok-found.ensures)
-          ∙ c.in_ok-grows.ensures ∙ ap (λ b. cond b (Some c.grows.new.row) None) c.if-branch.false);
-      held = held_rest p m c.in-Some.quad rest items c.in-Some.ensures.steps.0 c.loop-quad.invariant.held;
-      count = omega (arith, ap length c.in-Some.ensures.steps.0, c.in-Some.ensures.steps.1, c.loop-quad.invariant.count);
-    }
-
-pub loop-quad-preserved-else-branch : goal.loop-quad-preserved-else-branch
-loop-quad-preserved-else-branch c =
-    let m = c.args.row.now in
-    let p = c.args.places.now in
-    let rest = into_iter_items c.next.new.self in
-    let items = into_iter_items c.loop-quad.quad-iterator in
-    record {
-      made = grown_by_none p m c.in-Some.quad rest items c.in-Some.ensures.steps.0 c.loop-quad.out.items
-          (c.args.out.now.items ++ matches_of c.args.quads.items p m) c.loop-quad.invariant.made
-          (ap (λ (l : Mapping). matched p l c.in-Some.quad) (sym c.in_ok-found.ensures)
-          ∙ c.in_ok-grows.ensures ∙ ap (λ b. cond b (Some c.grows.new.row) None) c.if-branch.false);
-      held = held_rest p m c.in-Some.quad rest items c.in-Some.ensures.steps.0 c.loop-quad.invariant.held;
-      count = omega (arith, ap length c.in-Some.ensures.steps.0, c.in-Some.ensures.steps.1, c.loop-quad.invariant.count);
-    }
-
-pub loop-quad-preserved-else-branch-2 : goal.loop-quad-preserved-else-branch-2
-loop-quad-preserved-else-branch-2 c =
-    let m = c.args.row.now in
-    let p = c.args.places.now in
-    let rest = into_iter_items c.next.new.self in
-    let items = into_iter_items c.loop-quad.quad-iterator in
-    record {
-      made = grown_by_none p m c.in-Some.quad rest items c.in-Some.ensures.steps.0 c.loop-quad.out.items
-          (c.args.out.now.items ++ matches_of c.args.quads.items p m) c.loop-quad.invariant.made
-          (ap (λ (l : Mapping). matched p l c.in-Some.quad) (sym c.in_ok-found.ensures)
-          ∙ c.in_ok-grows.ensures ∙ ap (λ b. cond b (Some c.grows.new.row) None) c.if-branch.false);
+          (c.args.out.now.items ++ matches_of c.args.quads.items p m) c.loop-quad.invariant.made (c.in_ok-found.ensures ∙ c.in_default.is);
       held = held_rest p m c.in-Some.quad rest items c.in-Some.ensures.steps.0 c.loop-quad.invariant.held;
       count = omega (arith, ap length c.in-Some.ensures.steps.0, c.in-Some.ensures.steps.1, c.loop-quad.invariant.count);
     }

@@ -7,5 +7,5 @@ use Rattle.sparql_solve.proofs.joins.append_all_moved.Given as goal
 
 abbrev pub invariant-loop-row : goal.invariant-loop-row
 invariant-loop-row l =
-    l.out.items ++ flat_map (λ a. or_alone a (filter (satisfies l.variables l.filters) (merges_in l.parts a))) (into_iter_items l.row-iterator)
-    ≡ l.fn.out.items ++ flat_map (λ a. or_alone a (filter (satisfies l.variables l.filters) (merges_in l.parts a))) l.fn.rows.items
+    l.out.items ++ flat_map (λ a. or_alone a (filter (satisfies l.scope.variables.now l.filters) (merges_in l.parts a))) (into_iter_items l.row-iterator)
+    ≡ l.fn.out.items ++ flat_map (λ a. or_alone a (filter (satisfies l.scope.variables.now l.filters) (merges_in l.parts a))) l.fn.rows.items

@@ -9,5 +9,5 @@ pub returns-then-is_empty : goal.returns-then-is_empty
 returns-then-is_empty c =
     IfOk-weaker c.append_partners.result _ _
     (λ x e. e ∙ ap (λ (l : List Mapping). c.args.out.now.items ++ l)
-    (no_filters c.args.variables.now c.args.filters.now (merges_in c.args.parts.now c.args.row.now) c.is_empty.result c.is_empty.ensures c.if-is_empty.true))
+    (no_filters c.args.scope.now.variables.now c.args.filters.now (merges_in c.args.parts.now c.args.row.now) c.is_empty.result c.is_empty.ensures c.if-is_empty.true))
     c.append_partners.ensures

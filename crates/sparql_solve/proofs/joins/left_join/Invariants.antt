@@ -5,4 +5,4 @@ use Rattle.sparql_solve.proofs.joins.left_join.Given as goal
 
 abbrev pub invariant-loop-group : goal.invariant-loop-group
 invariant-loop-group l =
-    l.out.items ≡ left_joins (all_rows (take l.group-index l.group-items)) (all_rows l.others.items) (satisfies l.variables l.filters)
+    l.out.items ≡ left_joins (all_rows (take l.group-index l.group-items)) (all_rows l.others.items) (satisfies l.scope.variables.now l.filters)

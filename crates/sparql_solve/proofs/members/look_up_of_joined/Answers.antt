@@ -6,7 +6,7 @@ use Rattle.sparql_solve.proofs.members.look_up_of_joined.Goals as goal
 
 pub returns-in_ok-look_up_in-in-Basic : goal.returns-in_ok-look_up_in-in-Basic
 returns-in_ok-look_up_in-in-Basic g c =
-    basic_look_up c.args.variables.now (g.S.Source.contents c.args.source.now) c.args.graph.now c.args.member.now c.in-Basic.basic
+    basic_look_up c.args.evaluation.now.scope.variables.now (g.S.Source.contents c.args.evaluation.now.source.now) c.args.graph.now c.args.member.now c.in-Basic.basic
     (One c.in_ok-copy-in-Basic.field-0) c.in_ok-copy-in-Basic.field-0 c.in_ok-look_up_in-in-Basic.field-0 c.in-Basic.is refl c.in_ok-copy-in-Basic.ensures
     c.in_ok-look_up_in-in-Basic.ensures
 
@@ -14,7 +14,7 @@ pub returns-in-Graph : goal.returns-in-Graph
 returns-in-Graph g c =
     IfOk-weaker c.look_up_of_graph.result _ _
     (λ found h. some_weaker found _ _
-    (λ l r. look_up_member c.args.variables.now (g.S.Source.contents c.args.source.now) c.args.graph.now c.args.member.now c.in-Graph.name
+    (λ l r. look_up_member c.args.evaluation.now.scope.variables.now (g.S.Source.contents c.args.evaluation.now.source.now) c.args.graph.now c.args.member.now c.in-Graph.name
     c.in-Graph.pattern l c.in-Graph.is r) h)
     c.look_up_of_graph.ensures
 
@@ -22,6 +22,6 @@ pub returns-in-Union : goal.returns-in-Union
 returns-in-Union g c =
     IfOk-weaker c.look_up_of_groups.result _ _
     (λ found h. some_weaker found _ _
-    (λ l r. union_look_up c.args.variables.now (g.S.Source.contents c.args.source.now) c.args.graph.now c.args.member.now c.in-Union.groups
+    (λ l r. union_look_up c.args.evaluation.now.scope.variables.now (g.S.Source.contents c.args.evaluation.now.source.now) c.args.graph.now c.args.member.now c.in-Union.groups
     c.as_slice.result.now l c.in-Union.is c.as_slice.ensures r) h)
     c.look_up_of_groups.ensures

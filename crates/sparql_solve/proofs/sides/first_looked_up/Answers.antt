@@ -9,7 +9,7 @@ use Rattle.sparql_solve.proofs.sides.first_looked_up.Goals as goal
 pub returns-then-not-is_shared-clause-begins : goal.returns-then-not-is_shared-clause-begins
 returns-then-not-is_shared-clause-begins g c =
     IfOk-weaker c.looked_up_alone.result _ _
-    (λ out h. begins_front c.args.variables.now (g.S.Source.contents c.args.source.now) c.args.graph.now c.args.under.now (element c.args.member.now)
+    (λ out h. begins_front c.args.evaluation.now.scope.variables.now (g.S.Source.contents c.args.evaluation.now.source.now) c.args.graph.now c.args.under.now (element c.args.member.now)
     c.args.rest.now.items (c.in-Some.row ∷ []) c.pop_front.new.self.items out.items c.in-Some.ensures.items h)
     c.looked_up_alone.ensures
 
@@ -21,12 +21,12 @@ returns-clause-begins g c =
     let is_block = c.deref.ensures.value ∙ c.in_ok-append.ensures.items
     ∙ ap (λ (xs : List Mapping). xs ++ behind) (c.in_ok-push.ensures.items ∙ ap (λ (xs : List Mapping). xs ++ row ∷ []) c.new-served.ensures.items) in
     IfOk-weaker c.rows_one_by_one.result _ _
-    (λ out e. begins_front c.args.variables.now (g.S.Source.contents c.args.source.now) c.args.graph.now c.args.under.now (element c.args.member.now)
+    (λ out e. begins_front c.args.evaluation.now.scope.variables.now (g.S.Source.contents c.args.evaluation.now.source.now) c.args.graph.now c.args.under.now (element c.args.member.now)
     c.args.rest.now.items block c.served_rows.new.rest.items out.items
     (front_block c.args.rest.now.items c.pop_front.new.self.items behind c.served_rows.new.rest.items block row c.in-Some.ensures.items
     c.in_ok-behind.ensures.taken is_block)
-    (served_made c.args.variables.now (g.S.Source.contents c.args.source.now) c.args.graph.now c.args.under.now (element c.args.member.now)
-    c.args.look_up.now (own_columns c.args.variables.now c.args.look_up.now) c.in_ok-key.key row behind block c.in_ok-found.found.items
+    (served_made c.args.evaluation.now.scope.variables.now (g.S.Source.contents c.args.evaluation.now.source.now) c.args.graph.now c.args.under.now (element c.args.member.now)
+    c.args.look_up.now (own_columns c.args.evaluation.now.scope.variables.now c.args.look_up.now) c.in_ok-key.key row behind block c.in_ok-found.found.items
     c.deref-2.result.now out.items refl
     (c.in_ok-key.ensures ∙ ap (λ (flags : List Bool). masked flags row) c.in_ok-own.ensures)
     (c.is_shared.ensures c.if-not-is_shared.false) c.requires.gives c.requires.counts is_block c.in_ok-behind.ensures.served c.in_ok-found.ensures

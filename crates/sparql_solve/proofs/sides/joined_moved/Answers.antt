@@ -12,7 +12,7 @@ use Rattle.sparql_solve.proofs.sides.joined_moved.Goals as goal
 
 pub returns-in-Optional : goal.returns-in-Optional
 returns-in-Optional c =
-    let vs = c.args.variables.now in
+    let vs = c.args.scope.now.variables.now in
     let rows = c.args.rows.items in
     let found = c.args.found.now in
     IfOk-weaker c.left_join_moved.result _ _
@@ -23,7 +23,7 @@ returns-in-Optional c =
 
 pub returns-in-Minus : goal.returns-in-Minus
 returns-in-Minus c =
-    let vs = c.args.variables.now in
+    let vs = c.args.scope.now.variables.now in
     let rows = c.args.rows.items in
     let found = c.args.found.now in
     IfOk-weaker c.minus_moved.result _ _
@@ -31,12 +31,3 @@ returns-in-Minus c =
     ∙ ap (λ (k : Element). sum_by f (flat_map (λ x. kept vs k x (merges (met k x found) x)) rows))
     (sym (ap element c.in-Minus.is ∙ element-Minus _)))
     c.minus_moved.ensures
-
-pub returns-in_default : goal.returns-in_default
-returns-in_default c =
-    let vs = c.args.variables.now in
-    let found = c.args.found.now in
-    IfOk-weaker c.joined_rows.result _ _
-    (λ out h f. h f ∙ ap (λ (rows : List Mapping). sum_by f (flat_map (λ x. kept vs (element c.args.member.now) x (merges (met (element c.args.member.now) x found) x)) rows))
-    c.deref.ensures.value)
-    c.joined_rows.ensures

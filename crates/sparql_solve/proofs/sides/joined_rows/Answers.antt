@@ -11,7 +11,7 @@ use Rattle.sparql_solve.proofs.sides.joined_rows.Goals as goal
 
 pub returns-in-Optional : goal.returns-in-Optional
 returns-in-Optional c =
-    let vs = c.args.variables.now in
+    let vs = c.args.scope.now.variables.now in
     let rows = c.args.rows.now in
     let found = c.args.found.now in
     IfOk-weaker c.left_join.result _ _
@@ -22,7 +22,7 @@ returns-in-Optional c =
 
 pub returns-in-Minus : goal.returns-in-Minus
 returns-in-Minus c =
-    let vs = c.args.variables.now in
+    let vs = c.args.scope.now.variables.now in
     let rows = c.args.rows.now in
     let found = c.args.found.now in
     IfOk-weaker c.minus.result _ _

@@ -11,7 +11,7 @@ use Rattle.sparql_solve.proofs.sides.rows_beside.Goals as goal
 pub returns : goal.returns
 returns c =
     let F : Mapping → List Mapping = λ x.
-    kept c.args.variables.now (element c.args.member.now) x (merges (met (element c.args.member.now) x c.args.found.now) x) in
+    kept c.args.scope.now.variables.now (element c.args.member.now) x (merges (met (element c.args.member.now) x c.args.found.now) x) in
     IfOk-weaker c.compatible_rows.result _ _
     (λ out e f. ap (sum_by f) e
     ∙ SameBag-filter (compatible c.args.under.now) c.in_ok-joined.joined.items (flat_map F c.args.rows.now) c.in_ok-joined.ensures f
