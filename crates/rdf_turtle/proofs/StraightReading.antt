@@ -203,15 +203,6 @@ pub read_stops : {depth : ℕ} {before : ParserState} {whole now : Lexemes} {pen
     → is_more now ≡ true → StopsReading (statement (node depth) (node (depth + 1)) now) kind → StopsReading (document depth whole) kind
 read_stops {depth = depth} {whole = whole} {now = now} kind r is_left h = stops_by depth whole now r.tree kind r.going is_left h
 
-pub stops_with : (depth : ℕ) (lexemes : Lexemes) (base : Option (List ℕ)) (kind : TurtleFaultKind) → StopsReading (document depth lexemes) kind → StopsWith depth lexemes base kind
-stops_with depth lexemes base fault.UnknownPrefix h = absurd h
-stops_with depth lexemes base fault.Relative h = absurd h
-stops_with depth lexemes base fault.Syntax h = h
-stops_with depth lexemes base (fault.NoMemory refusal) h = h
-stops_with depth lexemes base fault.NotUtf8 h = h
-stops_with depth lexemes base fault.Token h = h
-stops_with depth lexemes base fault.TooDeep h = h
-
 -- ---- what is answered
 
 -- what is said from the start is the answer

@@ -1,5 +1,5 @@
 //! Where the first name of a document stands that has no IRI.
-ghost use Rattle.std.specs.Prelude.{◌≡◌, IfOk, OnOk};
+ghost use Rattle.std.specs.Prelude.{◌≡◌, [], IfOk, OnOk};
 ghost use Rattle.rdf_turtle.specs.FaultyNames as spec;
 ghost use Rattle.rdf_turtle.specs.Inside.NamePlaces.{StartsAt};
 ghost use Rattle.rdf_turtle.specs.Leaves.{takes_tag};
@@ -74,6 +74,32 @@ fn bind<'a>(
     }
 }
 
+// The byte where such a name starts: what is bound is kept by the caller.
+fn first_unbound_in<'a>(text: &'a str, bound: &mut IndexSet<Key<'a>>) -> Result<usize, NoMemory>
+    requires { bound.old.keys ≡ [] }
+    ensures { IfOk result (λ place. StartsAt text.now spec.first_unbound place) }
+{
+    let mut walk = TokenWalk::over(text);
+    let mut behind = false;
+    let mut declares = false;
+    while let Some(found) = walk.next() {
+        match found {
+            Found::Token(start, kind, name) => {
+                let read = terminal_of(kind, &name);
+                let terminal = taken(behind, read);
+                if is_unbound(declares, bound, terminal, &name) {
+                    return Ok(start);
+                }
+                bind(declares, bound, terminal, &name)?;
+                declares = declares_behind(declares, terminal);
+                behind = is_text(read);
+            }
+            Found::NoToken(_) => return Ok(text.len()),
+        }
+    }
+    Ok(text.len())
+}
+
 /// The byte where the first prefixed name starts whose prefix isn't declared before it, or the end of the
 /// text where none is such a name.
 ///
@@ -82,26 +108,8 @@ fn bind<'a>(
 pub(crate) fn first_unbound(alloc: Global, text: &str) -> Result<usize, NoMemory>
     ensures { IfOk result (λ place. StartsAt text.now spec.first_unbound place) }
 {
-    let mut walk = TokenWalk::over(text);
     let mut bound = IndexSet::new(alloc);
-    let mut behind = false;
-    let mut declares = false;
-    while let Some(found) = walk.next() {
-        match found {
-            Found::Token(start, kind, name) => {
-                let read = terminal_of(kind, &name);
-                let terminal = taken(behind, read);
-                if is_unbound(declares, &bound, terminal, &name) {
-                    return Ok(start);
-                }
-                bind(declares, &mut bound, terminal, &name)?;
-                declares = declares_behind(declares, terminal);
-                behind = is_text(read);
-            }
-            Found::NoToken(_) => return Ok(text.len()),
-        }
-    }
-    Ok(text.len())
+    first_unbound_in(text, &mut bound)
 }
 
 fn moves_behind(moves: bool, terminal: Terminal) -> bool

@@ -63,7 +63,17 @@ impl<'a, S: TripleSink> Scope<'a, S> {
     pub(crate) fn into_sink(self) -> S
         ensures { S.taken result ≡ self.entry.quads }
     {
-        let Scope { sink, .. } = self;
+        let Scope {
+            vocabulary,
+            prologue,
+            numbering,
+            sink,
+            ..
+        } = self;
+        // (let go in one call each, which is proved sooner)
+        drop(vocabulary);
+        drop(prologue);
+        drop(numbering);
         sink
     }
 

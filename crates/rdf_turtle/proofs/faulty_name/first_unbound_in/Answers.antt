@@ -3,7 +3,7 @@ use Rattle.rdf_turtle.specs.FaultyNames.{taken, is_unbound}
 use Rattle.rdf_turtle.specs.Inside.Walks.{unbound_start}
 use Rattle.rdf_turtle.specs.Terminals.{terminal_of}
 use Rattle.rdf_turtle.proofs.SurveyLemmas.{unbound_starts, here}
-use Rattle.rdf_turtle.proofs.faulty_name.first_unbound.Goals as goal
+use Rattle.rdf_turtle.proofs.faulty_name.first_unbound_in.Goals as goal
 
 pub returns-then-is_unbound : goal.returns-then-is_unbound
 returns-then-is_unbound c =
