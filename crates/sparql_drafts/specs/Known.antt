@@ -19,10 +19,6 @@ use Rattle.sparql_grammar.specs.declared.tree.VarOrIri.TheVariants as place
 use Rattle.sparql_grammar.specs.declared.tree.Verb.{Verb}
 use Rattle.sparql_grammar.specs.declared.tree.Verb.TheVariants as v
 
-abbrev pub is_none : {A : Type 0} → Option A → Bool
-is_none None = true
-is_none (Some a) = false
-
 -- each prefix that stands in the tree is one of these
 module _ (declared : List (List ℕ)) where
   abbrev pub known_verb : Verb → Bool
