@@ -4,7 +4,7 @@ use Rattle.std.specs.List.{list_any}
 use Rattle.std.specs.Map.{lookup}
 use Rattle.std.specs.Option.{option_map}
 use Rattle.rdf_grammar.specs.Keys.{key_of, same_key}
-use Rattle.rdf_grammar.specs.Literals.{ExplainsLiteral, known_literal, literal_of, untagged}
+use Rattle.rdf_grammar.specs.Literals.{ExplainsLiteral, literal_of, untagged}
 use Rattle.rdf_grammar.specs.Prologue.{Prologue, declared, iri_of, knows, moves_base, prefixed, resolved}
 use Rattle.rdf_grammar.specs.PrologueFaults.{Explains}
 use Rattle.rdf_grammar.specs.declared.prologue.PrologueFault.{PrologueFault}

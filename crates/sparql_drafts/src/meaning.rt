@@ -365,10 +365,7 @@ impl<'a> Scope<'a> {
     /// # Errors
     /// [`DraftFault::NoIri`] where a name has no IRI; [`DraftFault::NoMemory`] where memory is wanting.
     #[tactic(auto, unfolding(crate::specs::Meaning::pattern_in))]
-    pub fn basic_graph_pattern(
-        &mut self,
-        triples: &[Triples<'a>],
-    ) -> Result<Quads<'a>, DraftFault>
+    pub fn basic_graph_pattern(&mut self, triples: &[Triples<'a>]) -> Result<Quads<'a>, DraftFault>
         requires proper { IsTrue (list_all holds (map proper.proper_triples triples.now)) }
         ensures tells { Tells (spec.pattern_in triples.now self.old.prologue) result }
         ensures prologue { self.new.prologue ≡ self.old.prologue }

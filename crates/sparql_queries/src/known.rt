@@ -20,10 +20,7 @@ use std::alloc::Global;
 
 #[cycle(known_expression)]
 #[tactic(auto, using(crate::proofs::KnownLemmas::sum_tested))]
-fn knows_expression<'a>(
-    declared: &IndexSet<Key<'a>>,
-    expression: &Expression<'a>,
-) -> bool
+fn knows_expression<'a>(declared: &IndexSet<Key<'a>>, expression: &Expression<'a>) -> bool
     ensures { result ≡ spec.known_expression declared.now.keys expression.now }
 {
     match expression {
@@ -48,10 +45,7 @@ fn knows_expression<'a>(
 }
 
 #[cycle(known_expression)]
-fn knows_expressions<'a>(
-    declared: &IndexSet<Key<'a>>,
-    expressions: &[Expression<'a>],
-) -> bool
+fn knows_expressions<'a>(declared: &IndexSet<Key<'a>>, expressions: &[Expression<'a>]) -> bool
     ensures { let knows = spec.known_expression declared.now.keys in
         result ≡ list_all holds (map knows expressions.now) }
 {
@@ -64,10 +58,7 @@ fn knows_expressions<'a>(
 }
 
 #[cycle(known_expression)]
-fn knows_addends<'a>(
-    declared: &IndexSet<Key<'a>>,
-    addends: &[(Sign, Expression<'a>)],
-) -> bool
+fn knows_addends<'a>(declared: &IndexSet<Key<'a>>, addends: &[(Sign, Expression<'a>)]) -> bool
     ensures { let knows = known_addend declared.now.keys in
         result ≡ list_all holds (map knows addends.now) }
 {

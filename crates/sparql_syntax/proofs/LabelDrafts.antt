@@ -24,8 +24,8 @@ use Rattle.sparql_drafts.specs.declared.draft.Quads.{Quads}
 use Rattle.sparql_drafts.specs.Meaning.{quads_in}
 use Rattle.sparql_queries.specs.Groups.{Labels, group}
 use Rattle.sparql_syntax.specs.declared.clause.Clause.TheVariants as clause
-use Rattle.sparql_syntax.specs.declared.draft.Draft.{Draft}
-use Rattle.sparql_syntax.specs.declared.draft.Draft.TheVariants as d
+use Rattle.sparql_syntax.specs.declared.drafts.Draft.{Draft}
+use Rattle.sparql_syntax.specs.declared.drafts.Draft.TheVariants as d
 use Rattle.sparql_syntax.specs.Meaning.{answer, operation, drafts}
 use Rattle.sparql_syntax.specs.RuleLaws.{stands_in}
 use Rattle.sparql_syntax.specs.Rules.{has_blank_in_delete, inserted_labels, pattern_labels}

@@ -19,9 +19,9 @@ use Rattle.sparql_drafts.specs.Meaning.{quads_in}
 use Rattle.sparql_queries.specs.Groups.{group}
 use Rattle.sparql_syntax.specs.declared.clause.Clause.{Clause}
 use Rattle.sparql_syntax.specs.declared.clause.Clause.TheVariants as clause
-use Rattle.sparql_syntax.specs.declared.draft.Draft.{Draft}
-use Rattle.sparql_syntax.specs.declared.draft.Draft.TheVariants as d
-use Rattle.sparql_syntax.specs.Meaning.{answer, operation, part, drafts, modification, templates}
+use Rattle.sparql_syntax.specs.declared.drafts.Draft.{Draft}
+use Rattle.sparql_syntax.specs.declared.drafts.Draft.TheVariants as d
+use Rattle.sparql_syntax.specs.Meaning.{answer, operation, part, drafts, modification}
 use Rattle.sparql_syntax.proofs.DraftLists.{AreDrafted, drafts_are, modifies}
 
 -- a rule asks of these clauses, and breaks says of blocks that they break it where they stand in one

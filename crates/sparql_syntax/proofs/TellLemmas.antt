@@ -1,6 +1,7 @@
 -- What a reader answers before a tree stands is what the text says.
-use Rattle.std.proofs.Common.{◌≡◌, ◌∙◌, ◌-◌, ℕ, List, length, Option, Some, Result, Ok, Err, refl, sym, ap, subst}
+use Rattle.std.proofs.Common.{◌≡◌, ◌∙◌, ◌-◌, ℕ, Bool, List, length, Option, Some, is_some, Result, Ok, Err, refl, sym, ap, subst}
 use Rattle.std.specs.List.{slice_get}
+use Rattle.std.specs.Prelude.{MatchResult}
 use Rattle.std.specs.Str.{chars, IsUtf8}
 use Rattle.rdf_grammar.specs.declared.fault.GrammarFault.{GrammarFault}
 use Rattle.rdf_grammar.specs.declared.fault.GrammarFault.TheVariants as grammar
@@ -16,14 +17,20 @@ use Rattle.sparql_terminals.specs.Lexemes.{Lexeme, Lexemes}
 use Rattle.sparql_grammar.specs.Nesting.{IsTooDeep, IsTooDeepAt}
 use Rattle.sparql_terminals.specs.Profile.{AreInside, IsFirstOutside}
 use Rattle.sparql_terminals.specs.Terminals.{terminal_by}
+use Rattle.sparql_drafts.specs.Kept.{Fails}
+use Rattle.sparql_drafts.specs.declared.fault.DraftFault.{DraftFault}
+use Rattle.sparql_drafts.specs.declared.fault.DraftFault.TheVariants as draft
 use Rattle.sparql_syntax.specs.declared.fault.SyntaxFault.{SyntaxFault}
 use Rattle.sparql_syntax.specs.declared.fault.SyntaxFaultKind.{SyntaxFaultKind}
 use Rattle.sparql_syntax.specs.declared.fault.SyntaxFaultKind.TheVariants as fault
 use Rattle.sparql_syntax.specs.Phases as phases
-use Rattle.sparql_syntax.specs.NamePlaces.{IsAtFirst}
+use Rattle.sparql_syntax.specs.BrokenRules.{first_broken}
+use Rattle.sparql_syntax.specs.FaultyNames.{first_unbound, first_lacking}
+use Rattle.sparql_syntax.specs.NamePlaces.{IsAtFirst, IsDraftFault}
 use Rattle.sparql_syntax.specs.Phases.{HasTokens, IsLineAt, StopsEarly, TellsEarly}
+use Rattle.sparql_syntax.specs.Readers.{Explains, IsMeant, IsRule}
 use Rattle.sparql_syntax.specs.Survey.{IsReadable, IsStop}
-use Rattle.sparql_syntax.specs.Told.{fault_at, wants_memory, IsStopFault}
+use Rattle.sparql_syntax.specs.Told.{fault_at, wants_memory, IsStopFault, TellsRule}
 
 -- ---- in every language
 
@@ -69,6 +76,15 @@ pub stop_at : (text : List ℕ) (ts : Lexemes) (left number place : ℕ) → Are
 stop_at text ts left number place read e at tokens list =
     at tokens list ∙ ap (start_of text tokens) (e ∙ ap (λ (n : ℕ). n - left) (same_lengths terminal_by (chars text) tokens ts (listed (chars text) tokens ts list read)))
 
+-- ---- what a tree means by what it says
+
+pub meant_is : {Drafted Answer : Type 0} (ruled : Drafted → Result Answer SyntaxFaultKind) (o : Option Drafted) (m : Result Answer SyntaxFaultKind) (said : Drafted) → o ≡ Some said → IsMeant ruled o m → m ≡ ruled said
+meant_is {Drafted = Drafted} ruled o m said e h = subst (λ (x : Option Drafted). IsMeant ruled x m) e h
+
+pub lacks_iri : {Drafted Answer : Type 0} (ruled : Drafted → Result Answer SyntaxFaultKind) (o : Option Drafted) (m : Result Answer SyntaxFaultKind) (e : DraftFault) → Fails o e → IsMeant ruled o m → e ≡ draft.NoIri → m ≡ Err fault.Relative
+lacks_iri ruled o m (draft.NoMemory refused) fails h is = absurd (cc is)
+lacks_iri {Drafted = Drafted} ruled o m draft.NoIri fails h is = subst (λ (x : Option Drafted). IsMeant ruled x m) fails h
+
 -- ---- in one language
 
 module _ {Tree Said : Type 0} (Derives : List Lexeme → Tree → Type 0) (meaning : Option (List ℕ) → Tree → Result Said SyntaxFaultKind) where
@@ -95,6 +111,43 @@ module _ {Tree Said : Type 0} (Derives : List Lexeme → Tree → Type 0) (meani
       told_at base text f k (line_of text start) told (is (line_of text start) (tokens, lexemes, held, ap (line_of text) (starts tokens lexemes held)))
   first_told base text tokens lexemes f k number held is (Err refused, starts, told) = memory_told base text f refused told
 
+  -- the fault of a prefix, told at its first name
+  pub prefix_told : (base : Option (List ℕ)) (text : List ℕ) (tree : Tree) (f : SyntaxFault) → phases.HasTree Derives text tree → meaning base tree ≡ Err fault.UnknownPrefix
+      → IsAtFirst text fault.UnknownPrefix first_unbound f → Tells base text f
+  prefix_told base text tree f h none told =
+      first_told base text h.tokens h.lexemes f fault.UnknownPrefix first_unbound h.list (λ line at. ((tree, h, none), at)) told
+
+  -- that of a name without an IRI
+  relative_told : (base : Option (List ℕ)) (text : List ℕ) (tree : Tree) (e : DraftFault) (f : SyntaxFault) → phases.HasTree Derives text tree → (e ≡ draft.NoIri → meaning base tree ≡ Err fault.Relative)
+      → IsDraftFault text (is_some base) e f → Tells base text f
+  relative_told base text tree (draft.NoMemory refused) f h none told = memory_told base text f refused told
+  relative_told base text tree draft.NoIri f h none told =
+      first_told base text h.tokens h.lexemes f fault.Relative (first_lacking (is_some base)) h.list (λ line at. ((tree, h, none refl), at)) told
+
+  pub draft_told : (base : Option (List ℕ)) (based : Bool) (text : List ℕ) (tree : Tree) (e : DraftFault) (f : SyntaxFault) → is_some base ≡ based → phases.HasTree Derives text tree
+      → (e ≡ draft.NoIri → meaning base tree ≡ Err fault.Relative) → IsDraftFault text based e f → Tells base text f
+  draft_told base based text tree e f same h none told = relative_told base text tree e f h none (subst (λ (b : Bool). IsDraftFault text b e f) (sym same) told)
+
+  -- that of a static rule
+  rule_line : (base : Option (List ℕ)) (text : List ℕ) (rule : SyntaxFaultKind) (line : ℕ) → IsRule rule → phases.IsRefused Derives meaning base text rule → IsLineAt text (first_broken rule) line
+      → phases.FaultIs Derives meaning base text rule line
+  rule_line base text fault.BlankInDelete line is refused at = (refused, at)
+  rule_line base text fault.VariableInData line is refused at = (refused, at)
+  rule_line base text fault.LiteralSubject line is refused at = (refused, at)
+  rule_line base text fault.BlankReused line is refused at = (refused, at)
+  rule_line base text _ line is refused at = absurd is
+
+  pub rule_told : (base : Option (List ℕ)) (text : List ℕ) (tree : Tree) (rule : SyntaxFaultKind) (f : SyntaxFault) → phases.HasTree Derives text tree → meaning base tree ≡ Err rule → IsRule rule
+      → IsAtFirst text rule (first_broken rule) f → Tells base text f
+  rule_told base text tree rule f h none is told =
+      first_told base text h.tokens h.lexemes f rule (first_broken rule) h.list (λ line at. rule_line base text rule line is (tree, h, none) at) told
+
+  -- what a reader answers by the rules
+  pub all_told : (base : Option (List ℕ)) (text : List ℕ) (tree : Tree) (judged : Result Said SyntaxFaultKind) (r : Result Said SyntaxFault) → phases.HasTree Derives text tree → meaning base tree ≡ judged
+      → MatchResult r (λ answer. judged ≡ Ok answer) (λ f. TellsRule Derives meaning text judged f) → MatchResult r (λ answer. phases.IsSaid Derives meaning base text answer) (λ f. Tells base text f)
+  all_told base text tree judged (Ok answer) h is e = (tree, h, is ∙ e)
+  all_told base text tree judged (Err f) h is e = e base tree h is
+
   -- a fault that stops the text in every language
   early_is : (base : Option (List ℕ)) (text : List ℕ) (k : SyntaxFaultKind) (line : ℕ) → StopsEarly text k line → phases.FaultIs Derives meaning base text k line
   early_is base text fault.NotUtf8 line h = h
@@ -111,12 +164,16 @@ module _ {Tree Said : Type 0} (Derives : List Lexeme → Tree → Type 0) (meani
   early_told text f h base = early_tells base text f f.kind h
 
   -- the parser's fault is the text's
-  module _ (Why : Lexemes → GrammarFault → Type 0) (no_tree : (ls : Lexemes) → Why ls grammar.Syntax → ¬ (IsTooDeep ls) → (tree : Tree) → ¬ (Derives ls tree)) where
-    pub stop_told : (text : List ℕ) (ls : Lexemes) (k : GrammarFault) (left : ℕ) (f : SyntaxFault) → IsReadable text → AreReadOf terminal_by (chars text) ls → Why ls k → IsStopFault text k left f
-        → (base : Option (List ℕ)) → Tells base text f
-    stop_told text ls grammar.Syntax left f r read why e base =
-        let none = no_tree r.lexemes (subst (λ (x : Lexemes). Why x grammar.Syntax) (read_lexemes text ls r read) why) r.shallow in
-        let number = length r.tokens - left in
-        let line : line_of text e.0 ≡ line_of text (start_of text r.tokens number) = ap (line_of text) (e.1 r.tokens r.list.list) in
-        told_at base text f fault.Syntax (line_of text e.0) e.2 (r.tokens, r.lexemes, r.list, r.inside, r.shallow, none, (number, line))
-    stop_told text ls (grammar.NoMemory refused) left f r read why e base = memory_told base text f refused e
+  pub stop_told : (text : List ℕ) (ls : Lexemes) (k : GrammarFault) (left : ℕ) (f : SyntaxFault) → IsReadable text → AreReadOf terminal_by (chars text) ls → Explains Derives ls k → IsStopFault text k left f
+      → (base : Option (List ℕ)) → Tells base text f
+  stop_told text ls grammar.Syntax left f r read why e base =
+      let none = subst (λ (x : Lexemes). Explains Derives x grammar.Syntax) (read_lexemes text ls r read) why r.shallow in
+      let number = length r.tokens - left in
+      let line : line_of text e.0 ≡ line_of text (start_of text r.tokens number) = ap (line_of text) (e.1 r.tokens r.list.list) in
+      told_at base text f fault.Syntax (line_of text e.0) e.2 (r.tokens, r.lexemes, r.list, r.inside, r.shallow, none, (number, line))
+  stop_told text ls (grammar.NoMemory refused) left f r read why e base = memory_told base text f refused e
+
+  -- and its tree
+  pub tree_read : (text : List ℕ) (ls : Lexemes) (tree : Tree) → IsReadable text → AreReadOf terminal_by (chars text) ls → Derives ls tree → phases.HasTree Derives text tree
+  tree_read text ls tree r read is =
+      record { tokens = r.tokens; lexemes = r.lexemes; list = r.list; inside = r.inside; shallow = r.shallow; reads = subst (λ (x : Lexemes). Derives x tree) (read_lexemes text ls r read) is }

@@ -1,16 +1,15 @@
 -- Where the first lexeme stands that shows a fault, a name without an IRI or what breaks a static rule, and the fault that is told of it.
-use Rattle.std.specs.Prelude.{◌≡◌, ◌⊎◌, ℕ, Bool, List, Result, Ok, Err, IfOk}
+use Rattle.std.specs.Prelude.{◌≡◌, ℕ, Bool, List, Result, Ok, Err, IfOk}
 use Rattle.rdf_grammar.specs.Walks.{start_of}
-use Rattle.rdf_grammar.specs.declared.prologue.PrologueFault.{PrologueFault}
-use Rattle.rdf_grammar.specs.declared.prologue.PrologueFault.TheVariants as name
 use Rattle.rdf_terms.specs.declared.fault.NoMemory.{NoMemory}
 use Rattle.rdf_tokens.specs.declared.token.Token.{Token}
+use Rattle.sparql_drafts.specs.declared.fault.DraftFault.{DraftFault}
+use Rattle.sparql_drafts.specs.declared.fault.DraftFault.TheVariants as draft
 use Rattle.sparql_terminals.specs.Lexemes.{Lexemes}
 use Rattle.sparql_syntax.specs.declared.fault.SyntaxFault.{SyntaxFault}
 use Rattle.sparql_syntax.specs.declared.fault.SyntaxFaultKind.{SyntaxFaultKind}
 use Rattle.sparql_syntax.specs.declared.fault.SyntaxFaultKind.TheVariants as kind
-use Rattle.sparql_syntax.specs.BrokenRules.{first_broken}
-use Rattle.sparql_syntax.specs.FaultyNames.{first_unbound, first_lacking}
+use Rattle.sparql_syntax.specs.FaultyNames.{first_lacking}
 use Rattle.sparql_syntax.specs.Phases.{HasTokens}
 use Rattle.sparql_syntax.specs.Told.{fault_at, wants_memory}
 
@@ -27,13 +26,7 @@ at_place text k (Err refused) = wants_memory refused
 abbrev pub IsAtFirst : List ℕ → SyntaxFaultKind → (Lexemes → ℕ) → SyntaxFault → Type 0
 IsAtFirst text k number f = (place : Result ℕ NoMemory) × IfOk place (λ start. StartsAt text number start) × (f ≡ at_place text k place)
 
--- the fault of a text for that of a name, against a base or none
-abbrev pub IsNameFault : List ℕ → Bool → PrologueFault → SyntaxFault → Type 0
-IsNameFault text based (name.UnknownPrefix start) f = IsAtFirst text kind.UnknownPrefix first_unbound f
-IsNameFault text based (name.Relative start) f = IsAtFirst text kind.Relative (first_lacking based) f
-IsNameFault text based (name.NoMemory refused) f = f ≡ wants_memory refused
-
--- the answer is the fault of a rule, told at the first lexeme that breaks it, or memory was wanting
-abbrev pub IsRuleFault : {Said : Type 0} → List ℕ → Result Said SyntaxFaultKind → SyntaxFault → Type 0
-IsRuleFault text answer f =
-    ((rule : SyntaxFaultKind) × (answer ≡ Err rule) × IsAtFirst text rule (first_broken rule) f) ⊎ ((refused : NoMemory) × (f ≡ wants_memory refused))
+-- the fault of a text in which a name has no IRI and each prefix is declared, against a base or none
+abbrev pub IsDraftFault : List ℕ → Bool → DraftFault → SyntaxFault → Type 0
+IsDraftFault text based draft.NoIri f = IsAtFirst text kind.Relative (first_lacking based) f
+IsDraftFault text based (draft.NoMemory refused) f = f ≡ wants_memory refused

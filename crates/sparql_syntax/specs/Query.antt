@@ -1,10 +1,12 @@
 -- What the bytes of a text say as a query (SPARQL 1.1 Query, section 19): a query, or a fault.
 use Rattle.std.specs.Prelude.{ℕ, List, [], Option, Some, None, Result, Ok, Err, if◌then◌else◌}
+use Rattle.std.specs.Option.{option_map}
 use Rattle.sparql_grammar.specs.declared.tree.Query as written
 use Rattle.sparql_grammar.specs.QueryGrammar as grammar
 use Rattle.sparql_queries.specs.Groups.{Labels}
 use Rattle.sparql_queries.specs.Known.{known_query}
 use Rattle.sparql_queries.specs.Queries.{query_in}
+use Rattle.sparql_queries.specs.declared.query.Said.{Said}
 use Rattle.sparql_syntax.specs.Labels.{repeats_label}
 use Rattle.sparql_syntax.specs.Phases as phases
 use Rattle.sparql_syntax.specs.declared.fault.SyntaxFault.{SyntaxFault}
@@ -20,6 +22,13 @@ ruled (Some said) = if repeats_label [] said.1 then Err BlankReused else Ok said
 -- Against the base, the query of a tree, or why it has none: each prefix is declared, each name has its IRI, and the rule on labels is kept.
 abbrev pub meaning : Option (List ℕ) → written.Query → Result Query SyntaxFaultKind
 meaning base tree = if known_query tree then ruled (query_in base tree) else Err UnknownPrefix
+
+-- what is said, as the reader has it, and what it is read as
+abbrev pub said_in : Option (List ℕ) → written.Query → Option Said
+said_in base tree = option_map (λ said. record { query = said.0; labels = said.1 }) (query_in base tree)
+
+abbrev pub judged : Said → Result Query SyntaxFaultKind
+judged said = ruled (Some (said.query, said.labels))
 
 -- The text is a query of the grammar with this tree.
 abbrev pub HasTree : List ℕ → written.Query → Type 0

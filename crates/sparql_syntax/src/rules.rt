@@ -1,11 +1,12 @@
 //! The static rules of data, templates and labels, asked of a whole request (SPARQL 1.1 Update,
 //! section 3.1; SPARQL 1.1 Query, sections 4.1.4, 19.6 and 19.8).
-ghost use Rattle.std.specs.Prelude.{◌≡◌, [], ◌==◌, false, map, not, Ok, Err, IfOk, MatchOption};
+ghost use Rattle.std.specs.Prelude.{◌≡◌, [], ◌==◌, false, map, not, Ok, Err, IfOk, IfSome, MatchOption};
 ghost use Rattle.std.specs.List.{flat_map, list_any};
 ghost use Rattle.sparql_syntax.specs.Labels.{all_known_behind, repeats_label};
+ghost use Rattle.sparql_syntax.specs.Readers.{IsRule};
 ghost use Rattle.sparql_syntax.specs.Rules as spec;
 
-use crate::draft::Draft;
+use crate::drafts::Draft;
 use crate::fault::SyntaxFaultKind;
 use crate::labels::{know, knows_one, repeats_label as repeats};
 use indexmap::IndexSet;
@@ -234,9 +235,10 @@ pub(crate) fn first_broken(
     alloc: Global,
     drafts: &[Draft<'_>],
 ) -> Result<Option<SyntaxFaultKind>, NoMemory>
-    ensures { IfOk result (λ broken. MatchOption broken
+    ensures judged { IfOk result (λ broken. MatchOption broken
         (spec.judged drafts.now ≡ Ok (map spec.operation_of drafts.now))
         (λ rule. spec.judged drafts.now ≡ Err rule)) }
+    ensures kind { IfOk result (λ broken. IfSome broken IsRule) }
 {
     if deletes_blank(drafts) {
         return Ok(Some(SyntaxFaultKind::BlankInDelete));

@@ -2,16 +2,19 @@
 ghost use Rattle.std.specs.Prelude.{◌≡◌, IfOk};
 ghost use Rattle.sparql_syntax.specs.NamePlaces as places;
 ghost use Rattle.sparql_syntax.specs.BrokenRules.{first_broken};
-ghost use Rattle.sparql_syntax.specs.NamePlaces.{IsAtFirst, IsNameFault, StartsAt};
+ghost use Rattle.sparql_syntax.specs.NamePlaces.{IsAtFirst, IsDraftFault, StartsAt};
+ghost use Rattle.sparql_syntax.specs.FaultyNames as names;
 ghost use Rattle.sparql_syntax.specs.Survey.{IsStop};
 ghost use Rattle.sparql_syntax.specs.Told as spec;
+ghost use Rattle.sparql_syntax.specs.declared.fault.SyntaxFaultKind.TheVariants.{UnknownPrefix};
 
 use crate::broken_rule::{first_breaking, first_reused};
 use crate::fault::{SyntaxFault, SyntaxFaultKind};
 use crate::faulty_name::{first_lacking, first_unbound};
-use rdf_grammar::{GrammarFault, PrologueFault, start_of};
+use rdf_grammar::{GrammarFault, start_of};
 use rdf_terms::NoMemory;
 use rdf_tokens::line_at;
+use sparql_drafts::DraftFault;
 use sparql_terminals::Parser;
 use std::alloc::Global;
 
@@ -56,26 +59,26 @@ fn at_place(text: &str, kind: SyntaxFaultKind, place: Result<usize, NoMemory>) -
     }
 }
 
-/// The fault of a text that has a name without an IRI, in the line of the first such name, against a base or
-/// none; or want of memory.
-pub(crate) fn name_fault(
-    alloc: Global,
-    text: &str,
-    based: bool,
-    fault: PrologueFault,
-) -> SyntaxFault
-    ensures { IsNameFault text.now based fault result }
+/// The fault of a text that has a prefixed name whose prefix isn't declared before it, in the line of the
+/// first such name; or want of memory.
+pub(crate) fn prefix_fault(alloc: Global, text: &str) -> SyntaxFault
+    ensures { IsAtFirst text.now UnknownPrefix names.first_unbound result }
+{
+    let place = first_unbound(alloc, text);
+    at_place(text, SyntaxFaultKind::UnknownPrefix, place)
+}
+
+/// The fault of a text whose prefixes are declared and that has a name without an IRI, in the line of the
+/// first such name, against a base or none; or want of memory.
+pub(crate) fn draft_fault(alloc: Global, text: &str, based: bool, fault: DraftFault) -> SyntaxFault
+    ensures { IsDraftFault text.now based fault result }
 {
     match fault {
-        PrologueFault::UnknownPrefix(_) => {
-            let place = first_unbound(alloc, text);
-            at_place(text, SyntaxFaultKind::UnknownPrefix, place)
-        }
-        PrologueFault::Relative(_) => {
+        DraftFault::NoIri => {
             let place = first_lacking(alloc, based, text);
             at_place(text, SyntaxFaultKind::Relative, place)
         }
-        PrologueFault::NoMemory(refused) => SyntaxFault::from(refused),
+        DraftFault::NoMemory(refused) => SyntaxFault::from(refused),
     }
 }
 

@@ -1,8 +1,7 @@
-use Rattle.std.proofs.Common.{◌≡◌, ◌∙◌, sym, subst, true, map, drop, ◌+◌, arith, rules}
+use Rattle.std.proofs.Common.{◌≡◌, ◌∙◌, arith, rules}
 use Rattle.std.proofs.lemmas.List.{take_rest}
-use Rattle.std.specs.List.{list_all}
 use Rattle.sparql_drafts.specs.Meaning as spec
-use Rattle.sparql_grammar.specs.Proper.{holds, proper_node, proper_property}
+use Rattle.sparql_grammar.specs.Proper.{proper_node, proper_property}
 use Rattle.rdf_grammar.proofs.CallerLemmas.{next_member, next_step}
 use Rattle.sparql_drafts.proofs.ScopeLoops.{next_in_list}
 use Rattle.sparql_drafts.proofs.scope.Scope.+inside.Goals as goal

@@ -1,6 +1,5 @@
-use Rattle.std.proofs.Common.{◌≡◌, ◌∙◌, sym, subst, true, map, drop, ◌+◌}
-use Rattle.std.specs.List.{list_all}
-use Rattle.sparql_grammar.specs.Proper.{holds, proper_block}
+use Rattle.std.proofs.Common.{◌≡◌, ◌∙◌}
+use Rattle.sparql_grammar.specs.Proper.{proper_block}
 use Rattle.sparql_drafts.specs.Meaning as spec
 use Rattle.sparql_drafts.specs.Drafting.{Does}
 use Rattle.rdf_grammar.proofs.CallerLemmas.{next_member, next_step}
