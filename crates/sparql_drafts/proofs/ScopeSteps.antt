@@ -1,5 +1,6 @@
 -- What the prologue tells is a step of the reading.
-use Rattle.std.proofs.Common.{◌≡◌, ◌∙◌, ap, refl, sym, subst, ℕ, Bool, true, false, cond, ◌||◌, List, [], ◌∷◌, ◌++◌, map, Option, Some, None, true≢false}
+use Rattle.std.proofs.Common.{◌≡◌, ◌∙◌, ap, refl, sym, subst, ℕ, Bool, true, false, cond, ◌||◌, List, [], ◌∷◌, ◌++◌, map, Option, Some, None, Result, Ok, Err, IfOk, true≢false}
+use Rattle.std.specs.Prelude.{IfErr, OnOk}
 use Rattle.std.specs.List.{list_any}
 use Rattle.std.specs.Map.{lookup}
 use Rattle.std.specs.Option.{option_map}
@@ -8,7 +9,7 @@ use Rattle.rdf_grammar.specs.Literals.{ExplainsLiteral, literal_of, untagged}
 use Rattle.rdf_grammar.specs.Prologue.{Prologue, declared, iri_of, knows, moves_base, prefixed, resolved}
 use Rattle.rdf_grammar.specs.PrologueFaults.{Explains}
 use Rattle.rdf_grammar.specs.declared.prologue.PrologueFault.{PrologueFault}
-use Rattle.rdf_grammar.specs.declared.prologue.PrologueFault.TheVariants as name
+use Rattle.rdf_grammar.specs.declared.prologue.PrologueFault.TheVariants as why
 use Rattle.rdf_grammar.specs.declared.tree.Literal.{Literal}
 use Rattle.rdf_grammar.specs.declared.tree.Literal.TheVariants as l
 use Rattle.rdf_grammar.specs.declared.tree.Name.{Name}
@@ -19,7 +20,7 @@ use Rattle.rdf_terms.specs.Literal.{LiteralParts}
 use Rattle.rdf_tokens.specs.Values.{local_value, text_value}
 use Rattle.sparql_grammar.specs.declared.tree.Declaration.TheVariants as d
 use Rattle.sparql_drafts.specs.Drafting.{Drafting, told}
-use Rattle.sparql_drafts.specs.Kept.{Fails, fault_of}
+use Rattle.sparql_drafts.specs.Kept.{Fails, Gives, Tells, fault_of, or_fault}
 use Rattle.sparql_drafts.specs.Meaning.{declaration, iri, literal}
 use Rattle.sparql_drafts.specs.declared.fault.DraftFault.{DraftFault}
 use Rattle.sparql_drafts.specs.declared.fault.DraftFault.TheVariants.{NoIri, NoMemory}
@@ -41,7 +42,7 @@ name_unknown (Full reference) p h = absurd (true≢false h)
 name_unknown (Prefixed prefix local) p h =
     ap (λ (o : Option (List ℕ)). option_map {U = List ℕ} (λ iri. iri ++ local_value local) o) (unlisted (same_key (key_of prefix)) p.prefixes h)
 
-literal_unknown : (w : Literal) (p : Prologue) (place : ℕ) → ExplainsLiteral p w (name.UnknownPrefix place) → literal_of w p ≡ None
+literal_unknown : (w : Literal) (p : Prologue) (place : ℕ) → ExplainsLiteral p w (why.UnknownPrefix place) → literal_of w p ≡ None
 unfolding literal_of
 literal_unknown (l.Typed text name) p place h = ap (λ (o : Option (List ℕ)). option_map {U = LiteralParts} (untagged (text_value text)) o) (name_unknown name p h)
 literal_unknown (l.Plain text) p place h = absurd h
@@ -51,56 +52,50 @@ literal_unknown (l.Decimal text) p place h = absurd h
 literal_unknown (l.Double text) p place h = absurd h
 literal_unknown (l.Boolean value word) p place h = absurd h
 
--- ---- why nothing is told
+-- ---- what is told
 
-reference_by : (reference : List ℕ) (p : Prologue) (e : PrologueFault) → Explains p (Full reference) e → Fails (resolved reference p) (fault_of e)
-reference_by reference p (name.NoMemory refused) h = tt
-reference_by reference p (name.UnknownPrefix place) h = absurd (true≢false h)
-reference_by reference p (name.Relative place) h = reference_lacking reference p place h
+reference_fails : (reference : List ℕ) (p : Prologue) (e : PrologueFault) → Explains p (Full reference) e → Fails (resolved reference p) (fault_of e)
+reference_fails reference p (why.NoMemory refused) h = tt
+reference_fails reference p (why.UnknownPrefix place) h = absurd (true≢false h)
+reference_fails reference p (why.Relative place) h = reference_lacking reference p place h
 
-pub reference_fails : (reference : List ℕ) (p : Prologue) (e : PrologueFault) (f : DraftFault) → Explains p (Full reference) e → f ≡ fault_of e → Fails (resolved reference p) f
-reference_fails reference p e f h same = subst (λ (x : DraftFault). Fails (resolved reference p) x) (sym same) (reference_by reference p e h)
+pub reference_tells : (reference : List ℕ) (p : Prologue) (r : Result (List ℕ) PrologueFault) (o : Result (List ℕ) DraftFault) → IfOk r (λ i. resolved reference p ≡ Some i) → IfErr r (λ e. Explains p (Full reference) e) → o ≡ or_fault r
+    → Tells (resolved reference p) o
+reference_tells reference p (Ok i) o value fault is = subst (Tells (resolved reference p)) (sym is) value
+reference_tells reference p (Err e) o value fault is = subst (Tells (resolved reference p)) (sym is) (reference_fails reference p e fault)
 
-name_by : (name : Name) (p : Prologue) (e : PrologueFault) → Explains p name e → Fails (iri_of name p) (fault_of e)
-name_by name p (name.NoMemory refused) h = tt
-name_by name p (name.UnknownPrefix place) h = name_unknown name p h
-name_by name p (name.Relative place) h = name_lacking name p place h
+name_fails : (n : Name) (p : Prologue) (e : PrologueFault) → Explains p n e → Fails (iri_of n p) (fault_of e)
+name_fails n p (why.NoMemory refused) h = tt
+name_fails n p (why.UnknownPrefix place) h = name_unknown n p h
+name_fails n p (why.Relative place) h = name_lacking n p place h
 
-pub name_fails : (name : Name) (p : Prologue) (e : PrologueFault) (f : DraftFault) → Explains p name e → f ≡ fault_of e → Fails (iri_of name p) f
-name_fails name p e f h same = subst (λ (x : DraftFault). Fails (iri_of name p) x) (sym same) (name_by name p e h)
+pub iri_tells : (n : Name) (p : Prologue) (r : Result (List ℕ) PrologueFault) (o : Result (List ℕ) DraftFault) → IfOk r (λ i. iri_of n p ≡ Some i) → IfErr r (λ e. Explains p n e) → o ≡ or_fault r → Tells (iri_of n p) o
+iri_tells n p (Ok i) o value fault is = subst (Tells (iri_of n p)) (sym is) value
+iri_tells n p (Err e) o value fault is = subst (Tells (iri_of n p)) (sym is) (name_fails n p e fault)
 
-literal_by : (w : Literal) (p : Prologue) (e : PrologueFault) → ExplainsLiteral p w e → Fails (literal_of w p) (fault_of e)
-literal_by w p (name.NoMemory refused) h = tt
-literal_by w p (name.UnknownPrefix place) h = literal_unknown w p place h
-literal_by w p (name.Relative place) h = literal_lacking w p place h
+literal_fails : (w : Literal) (p : Prologue) (e : PrologueFault) → ExplainsLiteral p w e → Fails (literal_of w p) (fault_of e)
+literal_fails w p (why.NoMemory refused) h = tt
+literal_fails w p (why.UnknownPrefix place) h = literal_unknown w p place h
+literal_fails w p (why.Relative place) h = literal_lacking w p place h
 
-pub literal_fails : (w : Literal) (p : Prologue) (e : PrologueFault) (f : DraftFault) → ExplainsLiteral p w e → f ≡ fault_of e → Fails (literal_of w p) f
-literal_fails w p e f h same = subst (λ (x : DraftFault). Fails (literal_of w p) x) (sym same) (literal_by w p e h)
+pub literal_tells : (w : Literal) (p : Prologue) (r : Result LiteralParts PrologueFault) (o : Result LiteralParts DraftFault) → IfOk r (λ i. literal_of w p ≡ Some i) → IfErr r (λ e. ExplainsLiteral p w e) → o ≡ or_fault r → Tells (literal_of w p) o
+literal_tells w p (Ok i) o value fault is = subst (Tells (literal_of w p)) (sym is) value
+literal_tells w p (Err e) o value fault is = subst (Tells (literal_of w p)) (sym is) (literal_fails w p e fault)
 
--- ---- what is told, as a step
+-- ---- and given as a step
 
-told_is : {A : Type 0} (f : Prologue → Option A) (s u : Drafting) (a : A) → f s.prologue ≡ Some a → u ≡ s → told f s ≡ Some (a, u)
-told_is {A = A} f s u a e same = ap (λ (o : Option A). option_map {U = A × Drafting} (λ b. (b, s)) o) e ∙ ap (λ (z : Drafting). Some (a, z)) (sym same)
+told_gives : {A : Type 0} (f : Prologue → Option A) (s u : Drafting) (o : Result A DraftFault) → Tells (f s.prologue) o → u ≡ s → Gives (told f s) o u
+told_gives {A = A} f s u (Ok a) tells same = ap (λ (x : Option A). option_map {U = A × Drafting} (λ b. (b, s)) x) tells ∙ ap (λ (z : Drafting). Some (a, z)) (sym same)
+told_gives f s u (Err (NoMemory refused)) tells same = tt
+told_gives {A = A} f s u (Err NoIri) tells same = ap (λ (x : Option A). option_map {U = A × Drafting} (λ b. (b, s)) x) tells
 
-told_fails : {A : Type 0} (f : Prologue → Option A) (s : Drafting) (e : DraftFault) → Fails (f s.prologue) e → Fails (told f s) e
-told_fails f s (NoMemory refused) h = tt
-told_fails {A = A} f s NoIri h = ap (λ (o : Option A). option_map {U = A × Drafting} (λ b. (b, s)) o) h
-
-pub iri_is : (name : Name) (s u : Drafting) (i : List ℕ) → iri_of name s.prologue ≡ Some i → u ≡ s → iri name s ≡ Some (i, u)
+pub iri_gives : (n : Name) (s u : Drafting) (o : Result (List ℕ) DraftFault) → Tells (iri_of n s.prologue) o → u ≡ s → Gives (iri n s) o u
 unfolding iri
-iri_is name s u i e same = told_is (iri_of name) s u i e same
+iri_gives n s u o tells same = told_gives (iri_of n) s u o tells same
 
-pub iri_fails : (name : Name) (s : Drafting) (e : DraftFault) → Fails (iri_of name s.prologue) e → Fails (iri name s) e
-unfolding iri
-iri_fails name s e h = told_fails (iri_of name) s e h
-
-pub literal_is : (w : Literal) (s u : Drafting) (i : LiteralParts) → literal_of w s.prologue ≡ Some i → u ≡ s → literal w s ≡ Some (i, u)
+pub literal_gives : (w : Literal) (s u : Drafting) (o : Result LiteralParts DraftFault) → Tells (literal_of w s.prologue) o → u ≡ s → Gives (literal w s) o u
 unfolding literal
-literal_is w s u i e same = told_is (literal_of w) s u i e same
-
-pub literal_step_fails : (w : Literal) (s : Drafting) (e : DraftFault) → Fails (literal_of w s.prologue) e → Fails (literal w s) e
-unfolding literal
-literal_step_fails w s e h = told_fails (literal_of w) s e h
+literal_gives w s u o tells same = told_gives (literal_of w) s u o tells same
 
 -- ---- a base that is moved
 
@@ -108,14 +103,18 @@ moved_step : (o : Option (List ℕ)) (p u : Prologue) → option_map (λ i. move
 moved_step None p u e = absurd (cc)
 moved_step (Some i) p u e = ap (λ (x : Prologue). Some (tt, x)) (some_is (moves_base i p) u e)
 
-pub base_moved : (reference : List ℕ) (p u : Prologue) → option_map (λ i. moves_base i p) (resolved reference p) ≡ Some u → declaration (d.Base reference) p ≡ Some (tt, u)
+base_fails : (reference : List ℕ) (p : Prologue) (f : DraftFault) → Fails (resolved reference p) f → Fails (declaration (d.Base reference) p) f
 unfolding declaration
-base_moved reference p u e = moved_step (resolved reference p) p u e
+base_fails reference p (NoMemory refused) h = tt
+base_fails reference p NoIri h = ap (λ (o : Option (List ℕ)). option_map {U = (Unit {0}) × Prologue} (λ i. (tt, moves_base i p)) o) h
 
-base_by : (reference : List ℕ) (p : Prologue) (f : DraftFault) → Fails (resolved reference p) f → Fails (declaration (d.Base reference) p) f
+base_by : (reference : List ℕ) (p u : Prologue) (r : Result (Unit {0}) PrologueFault) → OnOk r (option_map (λ i. moves_base i p) (resolved reference p) ≡ Some u) → IfErr r (λ e. Explains p (Full reference) e)
+    → Gives (declaration (d.Base reference) p) (or_fault r) u
 unfolding declaration
-base_by reference p (NoMemory refused) h = tt
-base_by reference p NoIri h = ap (λ (o : Option (List ℕ)). option_map {U = (Unit {0}) × Prologue} (λ i. (tt, moves_base i p)) o) h
+base_by reference p u (Ok tt) value fault = moved_step (resolved reference p) p u value
+base_by reference p u (Err e) value fault = base_fails reference p (fault_of e) (reference_fails reference p e fault)
 
-pub base_fails : (reference : List ℕ) (p : Prologue) (e : PrologueFault) (f : DraftFault) → Explains p (Full reference) e → f ≡ fault_of e → Fails (declaration (d.Base reference) p) f
-base_fails reference p e f h same = base_by reference p f (reference_fails reference p e f h same)
+pub base_gives : (reference : List ℕ) (p u : Prologue) (r : Result (Unit {0}) PrologueFault) (o : Result (Unit {0}) DraftFault) → OnOk r (option_map (λ i. moves_base i p) (resolved reference p) ≡ Some u)
+    → IfErr r (λ e. Explains p (Full reference) e) → o ≡ or_fault r → Gives (declaration (d.Base reference) p) o u
+base_gives reference p u r o value fault is =
+    subst (λ (x : Result (Unit {0}) DraftFault). Gives (declaration (d.Base reference) p) x u) (sym is) (base_by reference p u r value fault)

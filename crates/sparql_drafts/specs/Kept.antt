@@ -2,15 +2,19 @@
 use Rattle.std.specs.Prelude.{◌≡◌, Option, Some, None, Result, Ok, Err}
 use Rattle.rdf_grammar.specs.Steps.{Outcome}
 use Rattle.rdf_grammar.specs.declared.prologue.PrologueFault.{PrologueFault}
-use Rattle.rdf_grammar.specs.declared.prologue.PrologueFault.TheVariants as name
+use Rattle.rdf_grammar.specs.declared.prologue.PrologueFault.TheVariants as why
 use Rattle.sparql_drafts.specs.declared.fault.DraftFault.{DraftFault}
 use Rattle.sparql_drafts.specs.declared.fault.DraftFault.TheVariants.{NoIri, NoMemory}
 
--- the fault of what holds a name, for that of the name
 abbrev pub fault_of : PrologueFault → DraftFault
-fault_of (name.UnknownPrefix start) = NoIri
-fault_of (name.Relative start) = NoIri
-fault_of (name.NoMemory refused) = NoMemory refused
+fault_of (why.UnknownPrefix start) = NoIri
+fault_of (why.Relative start) = NoIri
+fault_of (why.NoMemory refused) = NoMemory refused
+
+-- what the prologue told, or the fault of what asked it
+abbrev pub or_fault : {A : Type 0} → Result A PrologueFault → Result A DraftFault
+or_fault (Ok a) = Ok a
+or_fault (Err fault) = Err (fault_of fault)
 
 -- the outcome is missing, unless memory was wanting
 abbrev pub Fails : {A : Type 0} → Option A → DraftFault → Type 0

@@ -28,12 +28,21 @@ impl From<NoMemory> for DraftFault {
     }
 }
 
-/// The fault of what holds a name, for that of the name.
-pub(crate) fn fault_of(fault: PrologueFault) -> DraftFault
+fn fault_of(fault: PrologueFault) -> DraftFault
     ensures { result ≡ spec.fault_of fault }
 {
     match fault {
         PrologueFault::UnknownPrefix(_) | PrologueFault::Relative(_) => DraftFault::NoIri,
         PrologueFault::NoMemory(refused) => DraftFault::NoMemory(refused),
+    }
+}
+
+/// What the prologue told, or the fault of what asked it.
+pub(crate) fn or_fault<T: Drop>(told: Result<T, PrologueFault>) -> Result<T, DraftFault>
+    ensures { result ≡ spec.or_fault told }
+{
+    match told {
+        Ok(value) => Ok(value),
+        Err(fault) => Err(fault_of(fault)),
     }
 }

@@ -176,6 +176,20 @@ impl<'a> Scope<'a> {
         self.object(cell, &first, item)
     }
 
+    // The element of a list's first cell, and what is inside it.
+    #[cycle(inside)]
+    fn first_element(&mut self, cell: &VarOrTerm<'a>, item: &Node<'a>) -> Result<(), DraftFault>
+        requires proper { IsTrue (proper.proper_node item.now) }
+        requires room { HasRoom 0 self.old }
+        ensures gives { let says = spec.object cell.now spec.first (spec.meaning item.now) in
+            Gives (says self.old) result self.new }
+        ensures prologue { self.new.prologue ≡ self.old.prologue }
+        ensures room { OnOk result (TakesAtMost 0 self.old self.new) }
+        ensures says { OnOk result (SaysAtLeast 1 self.old self.new) }
+    {
+        self.element(cell, item)
+    }
+
     // The triples of a list, from its first cell on.
     #[cycle(inside)]
     fn elements(&mut self, cell: &VarOrTerm<'a>, items: &[Node<'a>]) -> Result<(), DraftFault>
@@ -191,7 +205,7 @@ impl<'a> Scope<'a> {
         match items {
             [] => Ok(()),
             [first, rest @ ..] => {
-                self.element(cell, first)?;
+                self.first_element(cell, first)?;
                 self.behind(cell, rest)
             }
         }

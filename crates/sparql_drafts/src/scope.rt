@@ -10,7 +10,7 @@ ghost use Rattle.sparql_drafts.specs.Meaning as meaning;
 ghost use Rattle.sparql_drafts.specs.Room.{HasRoom, IsPaired, TakesAtMost, SaysAtLeast};
 
 use crate::draft::{QuadPattern, Quads, VarOrIri, VarOrTerm};
-use crate::fault::{DraftFault, fault_of};
+use crate::fault::{DraftFault, or_fault};
 use rdf_grammar::{Literal as Written, Name, Numbering, Prologue};
 use rdf_terms::{Iri, Items, Literal, NoMemory, Term, Vocabulary};
 use rdf_tokens::Slice;
@@ -243,10 +243,7 @@ impl<'a> Scope<'a> {
                 let iri = self.resolved(reference)?;
                 Ok(self.prologue.declare(prefix, iri)?)
             }
-            Declaration::Base(reference) => match self.prologue.move_base(reference) {
-                Ok(()) => Ok(()),
-                Err(fault) => Err(fault_of(fault)),
-            },
+            Declaration::Base(reference) => or_fault(self.prologue.move_base(reference)),
         }
     }
 
@@ -262,10 +259,7 @@ impl<'a> Scope<'a> {
         ensures tells { Tells (prologue.iri_of name.now self.old.prologue) result }
         ensures same { self.new ≡ self.old }
     {
-        match self.prologue.iri(name) {
-            Ok(iri) => Ok(iri),
-            Err(fault) => Err(fault_of(fault)),
-        }
+        or_fault(self.prologue.iri(name))
     }
 
     /// What a literal stands for (SPARQL 1.1 Query, section 4.1.2).
@@ -279,19 +273,13 @@ impl<'a> Scope<'a> {
         ensures tells { Tells (literal_of literal.now self.old.prologue) result }
         ensures same { self.new ≡ self.old }
     {
-        match self.prologue.literal(&self.vocabulary, literal) {
-            Ok(literal) => Ok(literal),
-            Err(fault) => Err(fault_of(fault)),
-        }
+        or_fault(self.prologue.literal(&self.vocabulary, literal))
     }
 
     /// The IRI of a reference.
     pub(crate) fn resolved(&self, reference: &Slice<'a>) -> Result<Iri, DraftFault>
         ensures { Tells (prologue.resolved reference.now self.now.prologue) result }
     {
-        match self.prologue.resolve(reference) {
-            Ok(iri) => Ok(iri),
-            Err(fault) => Err(fault_of(fault)),
-        }
+        or_fault(self.prologue.resolve(reference))
     }
 }

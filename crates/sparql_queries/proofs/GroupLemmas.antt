@@ -56,14 +56,17 @@ unfolding said
 members_fail members filters (NoMemory refused) h = tt
 members_fail members filters NoIri h = ap (λ o. said o filters) h
 
+none_some : {A : Type 0} (a : A) → ◌≡◌ {A = Option A} None (Some a) → ⊥
+none_some a e = cc
+
 filters_say : (members : Outcome Labels (List Member)) (filters : Option (List Expression)) (ms : List Member) (u : Labels) (r : Result Pattern DraftFault) → members ≡ Some (ms, u)
     → Tells (option_map (pattern_with ms) filters) r → Gives (said members filters) r u
 unfolding said
-filters_say members None ms u (Ok pattern) h k = absurd (cc k)
+filters_say members None ms u (Ok pattern) h k = absurd (none_some pattern k)
 filters_say members (Some es) ms u (Ok pattern) h k = ap (λ o. said o (Some es)) h ∙ ap (λ (o : Option Pattern). option_map {U = Pattern × Labels} (λ made. (made, u)) o) k
 filters_say members filters ms u (Err (NoMemory refused)) h k = tt
 filters_say members None ms u (Err NoIri) h k = none_asked members
-filters_say members (Some es) ms u (Err NoIri) h k = absurd (cc k)
+filters_say members (Some es) ms u (Err NoIri) h k = absurd (none_some (pattern_with ms es) (sym k))
 
 group_is : (p : Prologue) (g : Group) (s : Labels) → group p g s ≡ said (collected (map (member_in p) g.members) s) (all (map (expression_in p) g.filters))
 unfolding said asked

@@ -1,5 +1,5 @@
 -- What a reader answers before a tree stands is what the text says.
-use Rattle.std.proofs.Common.{◌≡◌, ◌∙◌, ◌-◌, ℕ, Bool, List, length, Option, Some, is_some, Result, Ok, Err, refl, sym, ap, subst}
+use Rattle.std.proofs.Common.{◌≡◌, ◌∙◌, ◌-◌, ℕ, Bool, true, false, List, length, Option, Some, is_some, Result, Ok, Err, refl, sym, ap, subst}
 use Rattle.std.specs.List.{slice_get}
 use Rattle.std.specs.Prelude.{MatchResult}
 use Rattle.std.specs.Str.{chars, IsUtf8}
@@ -28,7 +28,7 @@ use Rattle.sparql_syntax.specs.BrokenRules.{first_broken}
 use Rattle.sparql_syntax.specs.FaultyNames.{first_unbound, first_lacking}
 use Rattle.sparql_syntax.specs.NamePlaces.{IsAtFirst, IsDraftFault}
 use Rattle.sparql_syntax.specs.Phases.{HasTokens, IsLineAt, StopsEarly, TellsEarly}
-use Rattle.sparql_syntax.specs.Readers.{Explains, IsMeant, IsRule}
+use Rattle.sparql_syntax.specs.Readers.{Explains, IsMeant, IsRule, MeansBySaying}
 use Rattle.sparql_syntax.specs.Survey.{IsReadable, IsStop}
 use Rattle.sparql_syntax.specs.Told.{fault_at, wants_memory, IsStopFault, TellsRule}
 
@@ -77,6 +77,14 @@ stop_at text ts left number place read e at tokens list =
     at tokens list ∙ ap (start_of text tokens) (e ∙ ap (λ (n : ℕ). n - left) (same_lengths terminal_by (chars text) tokens ts (listed (chars text) tokens ts list read)))
 
 -- ---- what a tree means by what it says
+
+module _ {Tree Drafted Answer : Type 0} (said_in : Option (List ℕ) → Tree → Option Drafted) (ruled : Drafted → Result Answer SyntaxFaultKind) (meaning : Option (List ℕ) → Tree → Result Answer SyntaxFaultKind)
+    (tree : Tree) (b : Bool) where
+  pub unknown_means : b ≡ false → MeansBySaying said_in ruled meaning tree b → (base : Option (List ℕ)) → meaning base tree ≡ Err fault.UnknownPrefix
+  unknown_means is h = subst (MeansBySaying said_in ruled meaning tree) is h
+
+  pub known_means : b ≡ true → MeansBySaying said_in ruled meaning tree b → (base : Option (List ℕ)) → IsMeant ruled (said_in base tree) (meaning base tree)
+  known_means is h = subst (MeansBySaying said_in ruled meaning tree) is h
 
 pub meant_is : {Drafted Answer : Type 0} (ruled : Drafted → Result Answer SyntaxFaultKind) (o : Option Drafted) (m : Result Answer SyntaxFaultKind) (said : Drafted) → o ≡ Some said → IsMeant ruled o m → m ≡ ruled said
 meant_is {Drafted = Drafted} ruled o m said e h = subst (λ (x : Option Drafted). IsMeant ruled x m) e h
@@ -167,7 +175,8 @@ module _ {Tree Said : Type 0} (Derives : List Lexeme → Tree → Type 0) (meani
   pub stop_told : (text : List ℕ) (ls : Lexemes) (k : GrammarFault) (left : ℕ) (f : SyntaxFault) → IsReadable text → AreReadOf terminal_by (chars text) ls → Explains Derives ls k → IsStopFault text k left f
       → (base : Option (List ℕ)) → Tells base text f
   stop_told text ls grammar.Syntax left f r read why e base =
-      let none = subst (λ (x : Lexemes). Explains Derives x grammar.Syntax) (read_lexemes text ls r read) why r.shallow in
+      let explained : Explains Derives r.lexemes grammar.Syntax = subst (λ (x : Lexemes). Explains Derives x grammar.Syntax) (read_lexemes text ls r read) why in
+      let none = explained r.shallow in
       let number = length r.tokens - left in
       let line : line_of text e.0 ≡ line_of text (start_of text r.tokens number) = ap (line_of text) (e.1 r.tokens r.list.list) in
       told_at base text f fault.Syntax (line_of text e.0) e.2 (r.tokens, r.lexemes, r.list, r.inside, r.shallow, none, (number, line))

@@ -74,10 +74,12 @@ fn said_of<'a, T: SyntaxTree<'a>>(
         × (T.meaning against tree ≡ T.ruled said))
         (λ fault. TellsFault T.derives T.meaning against text.now fault fault.kind) }
 {
-    match tree.knows_prefixes(alloc) {
-        Ok(true) => {}
-        Ok(false) => return Err(prefix_fault(alloc, text)),
+    let knows = match tree.knows_prefixes(alloc) {
+        Ok(knows) => knows,
         Err(refused) => return Err(SyntaxFault::from(refused)),
+    };
+    if !knows {
+        return Err(prefix_fault(alloc, text));
     }
     match tree.say(alloc, vocabulary, base) {
         Ok(said) => Ok(said),

@@ -58,4 +58,4 @@ properties-loop-property-preserved t c =
 
 pub elements-behind-requires : goal.elements-behind-requires
 elements-behind-requires t c =
-    (rw (take_rest c.args.items.now 1) (search rules), (rw (take_rest c.args.items.now 1) c.requires.proper_rest, omega (arith, c.requires.room, c.in_ok-element-in-len1-up.ensures.room)))
+    (rw (take_rest c.args.items.now 1) (search rules), (rw (take_rest c.args.items.now 1) c.requires.proper_rest, omega (arith, c.requires.room, c.in_ok-first_element-in-len1-up.ensures.room)))

@@ -1,14 +1,21 @@
-use Rattle.std.proofs.Common.{rules}
-use Rattle.sparql_drafts.proofs.ScopeSteps.{iri_fails, iri_is, name_fails}
+use Rattle.std.proofs.Common.{◌≡◌, IfOk, Some, rules}
+use Rattle.std.specs.Prelude.{IfErr}
+use Rattle.rdf_grammar.specs.Prologue.{iri_of}
+use Rattle.rdf_grammar.specs.PrologueFaults.{Explains}
+use Rattle.sparql_drafts.specs.Kept.{Tells}
+use Rattle.sparql_drafts.proofs.ScopeSteps.{iri_tells, iri_gives}
 use Rattle.sparql_drafts.proofs.scope.Scope.iri.Goals as goal
 
-pub returns-in-Ok-clause-gives : goal.returns-in-Ok-clause-gives
-returns-in-Ok-clause-gives c = iri_is c.args.name.now c.args.self.now _ c.in-Ok.iri (search rules) (search rules)
+pub returns-clause-tells : goal.returns-clause-tells
+returns-clause-tells c =
+    let value : IfOk c.iri.result (λ i. iri_of c.args.name.now c.args.self.now.prologue ≡ Some i) = search rules in
+    let fault : IfErr c.iri.result (λ e. Explains c.args.self.now.prologue c.args.name.now e) = search rules in
+    iri_tells c.args.name.now c.args.self.now.prologue c.iri.result c.or_fault.result value fault c.or_fault.ensures
 
-pub returns-in-Err-clause-tells : goal.returns-in-Err-clause-tells
-returns-in-Err-clause-tells c = name_fails c.args.name.now c.args.self.now.prologue c.in-Err.fault c.fault_of.result (search rules) c.fault_of.ensures
-
-pub returns-in-Err-clause-gives : goal.returns-in-Err-clause-gives
-returns-in-Err-clause-gives c =
-    iri_fails c.args.name.now c.args.self.now c.fault_of.result
-    (name_fails c.args.name.now c.args.self.now.prologue c.in-Err.fault c.fault_of.result (search rules) c.fault_of.ensures)
+pub returns-clause-gives : goal.returns-clause-gives
+returns-clause-gives c =
+    let value : IfOk c.iri.result (λ i. iri_of c.args.name.now c.args.self.now.prologue ≡ Some i) = search rules in
+    let fault : IfErr c.iri.result (λ e. Explains c.args.self.now.prologue c.args.name.now e) = search rules in
+    let tells : Tells (iri_of c.args.name.now c.args.self.now.prologue) c.or_fault.result =
+    iri_tells c.args.name.now c.args.self.now.prologue c.iri.result c.or_fault.result value fault c.or_fault.ensures in
+    iri_gives c.args.name.now c.args.self.now _ c.or_fault.result tells (search rules)

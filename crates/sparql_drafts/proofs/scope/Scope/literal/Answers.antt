@@ -1,14 +1,20 @@
-use Rattle.std.proofs.Common.{rules}
-use Rattle.sparql_drafts.proofs.ScopeSteps.{literal_fails, literal_is, literal_step_fails}
+use Rattle.std.proofs.Common.{◌≡◌, IfOk, Some, rules}
+use Rattle.std.specs.Prelude.{IfErr}
+use Rattle.rdf_grammar.specs.Literals.{ExplainsLiteral, literal_of}
+use Rattle.sparql_drafts.specs.Kept.{Tells}
+use Rattle.sparql_drafts.proofs.ScopeSteps.{literal_tells, literal_gives}
 use Rattle.sparql_drafts.proofs.scope.Scope.literal.Goals as goal
 
-pub returns-in-Ok-clause-gives : goal.returns-in-Ok-clause-gives
-returns-in-Ok-clause-gives c = literal_is c.args.literal.now c.args.self.now _ c.in-Ok.literal (search rules) (search rules)
+pub returns-clause-tells : goal.returns-clause-tells
+returns-clause-tells c =
+    let value : IfOk c.literal.result (λ l. literal_of c.args.literal.now c.args.self.now.prologue ≡ Some l) = search rules in
+    let fault : IfErr c.literal.result (λ e. ExplainsLiteral c.args.self.now.prologue c.args.literal.now e) = search rules in
+    literal_tells c.args.literal.now c.args.self.now.prologue c.literal.result c.or_fault.result value fault c.or_fault.ensures
 
-pub returns-in-Err-clause-tells : goal.returns-in-Err-clause-tells
-returns-in-Err-clause-tells c = literal_fails c.args.literal.now c.args.self.now.prologue c.in-Err.fault c.fault_of.result (search rules) c.fault_of.ensures
-
-pub returns-in-Err-clause-gives : goal.returns-in-Err-clause-gives
-returns-in-Err-clause-gives c =
-    literal_step_fails c.args.literal.now c.args.self.now c.fault_of.result
-    (literal_fails c.args.literal.now c.args.self.now.prologue c.in-Err.fault c.fault_of.result (search rules) c.fault_of.ensures)
+pub returns-clause-gives : goal.returns-clause-gives
+returns-clause-gives c =
+    let value : IfOk c.literal.result (λ l. literal_of c.args.literal.now c.args.self.now.prologue ≡ Some l) = search rules in
+    let fault : IfErr c.literal.result (λ e. ExplainsLiteral c.args.self.now.prologue c.args.literal.now e) = search rules in
+    let tells : Tells (literal_of c.args.literal.now c.args.self.now.prologue) c.or_fault.result =
+    literal_tells c.args.literal.now c.args.self.now.prologue c.literal.result c.or_fault.result value fault c.or_fault.ensures in
+    literal_gives c.args.literal.now c.args.self.now _ c.or_fault.result tells (search rules)
