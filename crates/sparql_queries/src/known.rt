@@ -72,7 +72,6 @@ fn knows_addends<'a>(declared: &IndexSet<Key<'a>>, addends: &[(Sign, Expression<
 
 /// Whether each prefix of a group is one of these.
 #[cycle(known)]
-#[tactic(auto, using(crate::proofs::KnownLemmas::group_known))]
 pub fn knows_group<'a>(declared: &IndexSet<Key<'a>>, group: &Group<'a>) -> bool
     ensures { result ≡ spec.known_group declared.now.keys group.now }
 {

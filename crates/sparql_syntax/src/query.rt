@@ -19,7 +19,8 @@ use sparql_terminals::Parser;
 use sparql_trees::Query;
 use std::alloc::Global;
 
-impl<'a> SyntaxTree<'a> for Tree<'a> {
+// The tree of a query, which is read as the query that it says.
+impl<'a> SyntaxTree<'a> for sparql_grammar::Query<'a> {
     type Said = Said<'a>;
 
     type Answer = Query;

@@ -16,9 +16,9 @@ pub pattern_of-returns-clause-gives : goal.pattern_of-returns-clause-gives
 pattern_of-returns-clause-gives t c =
     let p = c.args.scope.now.prologue in
     let group = c.args.group.now in
-    let members : collected (map (spec.member_in p) group.members) c.args.labels.now ≡ Some (c.in_ok-members.members, c.members_of-members.new.labels) = search rules in
-    let filters : Tells (option_map (spec.pattern_with c.in_ok-members.members) (all (map (expression_in c.members_of-members.new.scope.prologue) group.filters))) c.with_filters.result = search rules in
-    group_gives p c.members_of-members.new.scope.prologue group c.args.labels.now c.members_of-members.new.labels c.in_ok-members.members c.with_filters.result
+    let members : collected (map (spec.member_in p) group.members) c.args.labels.now ≡ Some (c.in_ok-members.members, c.members_of.new.labels) = search rules in
+    let filters : Tells (option_map (spec.pattern_with c.in_ok-members.members) (all (map (expression_in c.members_of.new.scope.prologue) group.filters))) c.with_filters.result = search rules in
+    group_gives p c.members_of.new.scope.prologue group c.args.labels.now c.members_of.new.labels c.in_ok-members.members c.with_filters.result
     c.in_ok-members.ensures.prologue members filters
 
 pub pattern_of-returns-in_err-members-clause-gives : goal.pattern_of-returns-in_err-members-clause-gives
