@@ -20,8 +20,8 @@ returns-in-Ok-clause-does g c =
     let opens = subst (λ path. OpensOrInput g.F.Folder.step (option_copied path) input c.args.folder.now (Ok bytes) c.open.new.self) (sym c.in-Some.is) c.in-Ok.ensures in
     inr (bytes, c.open.new.self, opens, (c.run_all-in-Ok.ensures.ran, refl))
 
-pub returns-clause-does : goal.returns-clause-does
-returns-clause-does g c =
+pub returns-in-Err-clause-does : goal.returns-in-Err-clause-does
+returns-in-Err-clause-does g c =
     let input = g.R.Read.remaining c.args.reader.now in
     let opens = subst (λ path. OpensOrInput g.F.Folder.step (option_copied path) input c.args.folder.now (Err ReadFailed) c.open.new.self) (sym c.in-Some.is) (c.in-Err.ensures, refl) in
     inl (opens, Appends-none _)

@@ -17,8 +17,8 @@ returns-in-Ok g c =
       ),
     )
 
-pub returns : goal.returns
-returns g c =
+pub returns-in-Err : goal.returns-in-Err
+returns-in-Err g c =
     let folder = c.args.folder.now in
     inr (
       c.in_ok-depth.depth,

@@ -7,5 +7,5 @@ use Rattle.rdf_keeper.proofs.program.data.loaded.Goals as goal
 pub returns-in-Ok : goal.returns-in-Ok
 returns-in-Ok c = begun_by_loading c.args.format c.args.base c.args.text.items _ c.load_start.new.keeper c.new-keeper.ensures c.in-Ok.ensures
 
-pub returns : goal.returns
-returns c = subst (λ (s : Session). RefusesLoad c.args.format c.args.text.items s c.in-Err.outcome) c.new-keeper.ensures c.in-Err.ensures
+pub returns-in-Err : goal.returns-in-Err
+returns-in-Err c = subst (λ (s : Session). RefusesLoad c.args.format c.args.text.items s c.in-Err.outcome) c.new-keeper.ensures c.in-Err.ensures

@@ -9,5 +9,5 @@ returns-in-Ok-clause-does g c =
     let answers = subst (λ text. AnswersQuery c.args.words.now c.args.keeper.now text (g.W.Write.contents c.args.writer.now) (g.W.Write.contents c.write_reply.new.writer) c.write_reply.result) c.as_slice.ensures.value c.write_reply.ensures.answers in
     inr (c.in-Ok.text.items, end, c.in-Ok.ensures.read, (answers, refl))
 
-pub returns-clause-does : goal.returns-clause-does
-returns-clause-does g c = inl (c.in-Err.ensures.read, Appends-none _)
+pub returns-in-Err-clause-does : goal.returns-in-Err-clause-does
+returns-in-Err-clause-does g c = inl (c.in-Err.ensures.read, Appends-none _)

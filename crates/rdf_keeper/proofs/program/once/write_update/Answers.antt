@@ -13,8 +13,8 @@ returns-in-Ok-clause-applies g c = (
   c.write_topic.ensures.shows c.in-Ok.field-0,
 )
 
-pub returns-clause-applies : goal.returns-clause-applies
-returns-clause-applies g c = (
+pub returns-in-Err-clause-applies : goal.returns-in-Err-clause-applies
+returns-in-Err-clause-applies g c = (
   Err c.in-Err.fault,
   c.update.new.self,
   subst (λ r. Transition c.args.keeper.now (Do (Update c.args.text.now)) (reply_of r) c.update.new.self) c.in-Err.is c.update.ensures,

@@ -4,8 +4,8 @@ use Rattle.rdf_keeper.specs.Program.Texts.{ReadsNamed}
 use Rattle.rdf_keeper.proofs.ProgramLemmas.{begun_over_read}
 use Rattle.rdf_keeper.proofs.program.several.begun_first.Goals as goal
 
-pub returns : goal.returns
-returns g c =
+pub returns-in-Some : goal.returns-in-Some
+returns-in-Some g c =
     let start : g.row.F.Denot × Option (List ℕ) = (c.args.folder.now, g.R.Read.remaining c.args.reader.now) in
     let end : g.row.F.Denot × Option (List ℕ) = (c.text_named-read.new.folder, g.R.Read.remaining c.text_named-read.new.reader) in
     subst (λ first. BeginsFirst g.F.Folder.step first c.args.base start c.over_read.result end) (sym c.in-Some.is)

@@ -8,5 +8,5 @@ returns-in-Ok g c =
     let end : g.row.F.Denot × Option (List ℕ) = (c.with_further.new.folder, g.R.Read.remaining c.with_further.new.reader) in
     inr (c.in-Ok.start, mid, c.in-Ok.ensures, subst (λ words. LoadsFurther g.F.Folder.step words c.in-Ok.start mid c.with_further.result end) c.as_slice.ensures.value c.with_further.ensures)
 
-pub returns : goal.returns
-returns g c = inl (c.in-Err.outcome, c.in-Err.ensures, refl)
+pub returns-in-Err : goal.returns-in-Err
+returns-in-Err g c = inl (c.in-Err.outcome, c.in-Err.ensures, refl)
