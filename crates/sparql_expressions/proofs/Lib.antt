@@ -7,3 +7,4 @@ pub mod ExpressionUses
 pub mod Expressions
 pub mod ExpressionsRead
 pub mod Follow
+pub mod Operands

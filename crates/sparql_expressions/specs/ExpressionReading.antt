@@ -99,6 +99,12 @@ same_term_of left right = do
   the terminal.Close
   pure (e.SameTerm left right)
 
+-- ")", behind an expression in parentheses
+abbrev pub closed : Expression → Reading Expression
+closed inner = do
+  the terminal.Close
+  pure inner
+
 -- expression is the rule for what stands in parentheses
 module _ (expression : Reading Expression) where
   -- BrackettedExpression = "(" Expression ")"
@@ -106,8 +112,7 @@ module _ (expression : Reading Expression) where
   bracketted = do
     the terminal.Open
     inner ← expression
-    the terminal.Close
-    pure inner
+    closed inner
 
   -- "," Expression ")", behind the first operand of SAMETERM
   unfoldable pub second_term : Expression → Reading Expression

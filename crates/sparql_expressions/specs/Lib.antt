@@ -2,3 +2,4 @@ pub mod ExpressionGrammar
 pub mod ExpressionLaws
 pub mod ExpressionReading
 pub mod ProperExpressions
+pub mod Operators

@@ -1,32 +1,21 @@
 //! Expressions (SPARQL 1.1 Query, section 19.8), a reader for each production. What stands in
-//! parentheses is a recursion, and operands between equal operators are a loop.
+//! parentheses is a recursion. Operands between equal operators are a loop, which puts them into a
+//! list of its caller's.
 
-ghost use Rattle.std.specs.Prelude.{◌≡◌, ◌≢◌, ◌≤◌, ◌<◌, [], ◌∷◌, length, OnOk, MatchResult};
-ghost use Rattle.rdf_grammar.specs.Readings.{Reads};
+ghost use Rattle.std.specs.Prelude.{◌≡◌, ◌++◌, ◌≤◌, ◌<◌, List, [], Some, length, OnOk, IfOk, MatchResult};
+ghost use Rattle.rdf_grammar.specs.Readings.{Fails, Reads};
+ghost use Rattle.sparql_expressions.specs.declared.tree.Expression.{Expression};
 ghost use Rattle.sparql_expressions.specs.ExpressionReading as spec;
+ghost use Rattle.sparql_expressions.specs.Operators as operators;
 
 use crate::choice::{begins_addend, comparison, function, sign};
+use crate::operator::Operator;
 use crate::tree::{Expression, Literal};
 use rdf_grammar::{GrammarFault, iri, literal};
-use rdf_terms::Items;
+use rdf_terms::{Items, NoMemory};
 use sparql_terminals::{Parser, Terminal};
 use sparql_trees::{Boxed, Sign};
-
-// The only one of these operands, or all of them where there are more.
-fn alone<'a>(operands: Items<Expression<'a>>) -> Result<Expression<'a>, Items<Expression<'a>>>
-    ensures { MatchResult result
-        (λ only. operands.entry ≡ only ∷ [])
-        (λ all. (all ≡ operands.entry) × (length all ≢ 1)) }
-{
-    let mut all = operands.into_vec();
-    if all.len() != 1 {
-        return Err(Items::from_vec(all));
-    }
-    match all.pop() {
-        Some(only) => Ok(only),
-        None => Err(Items::from_vec(all)),
-    }
-}
+use std::alloc::Global;
 
 // "(" Var ")", behind BOUND
 #[tactic(auto, unfolding(crate::specs::ExpressionReading::bound))]
@@ -74,6 +63,32 @@ fn signed_number<'a>(parser: &mut Parser<'_, 'a>) -> Result<Literal<'a>, Grammar
     }
 }
 
+// ")", behind an expression in parentheses
+fn closed<'a>(
+    parser: &mut Parser<'_, 'a>,
+    inner: Expression<'a>,
+) -> Result<Expression<'a>, GrammarFault>
+    ensures reads { Reads (spec.closed inner.entry parser.old) result parser.new }
+    ensures shorter { OnOk result (length parser.new < length parser.old) }
+{
+    parser.expect(Terminal::Close)?;
+    Ok(inner)
+}
+
+// One value, or a sum where something is added to it or taken from it.
+fn sum<'a>(
+    alloc: Global,
+    first: Expression<'a>,
+    others: Items<(Sign, Expression<'a>)>,
+) -> Result<Expression<'a>, NoMemory>
+    ensures { IfOk result (λ whole. whole ≡ spec.sum first.entry others.entry) }
+{
+    if others.is_empty() {
+        return Ok(first);
+    }
+    Ok(Expression::Sum(Boxed::new(alloc, first)?, others))
+}
+
 // 110: Expression. The depth is how many parentheses may be open from the one around it on.
 #[cycle(expression)]
 #[tactic(auto, unfolding(crate::specs::ExpressionReading::expression))]
@@ -98,15 +113,8 @@ fn conditional_or<'a>(
         (spec.conditional_or (spec.expression depth) parser.old) result parser.new }
     ensures shorter { OnOk result (length parser.new < length parser.old) }
 {
-    let mut operands = Items::new(parser.alloc());
-    operands.push(conditional_and(parser, depth)?)?;
-    while parser.eat(Terminal::Or) {
-        operands.push(conditional_and(parser, depth)?)?;
-    }
-    match alone(operands) {
-        Ok(only) => Ok(only),
-        Err(operands) => Ok(Expression::Or(operands)),
-    }
+    let first = conditional_and(parser, depth)?;
+    joined(parser, depth, Operator::Or, first)
 }
 
 // 112: ConditionalAndExpression
@@ -120,15 +128,8 @@ fn conditional_and<'a>(
         (spec.conditional_and (spec.expression depth) parser.old) result parser.new }
     ensures shorter { OnOk result (length parser.new < length parser.old) }
 {
-    let mut operands = Items::new(parser.alloc());
-    operands.push(relational(parser, depth)?)?;
-    while parser.eat(Terminal::And) {
-        operands.push(relational(parser, depth)?)?;
-    }
-    match alone(operands) {
-        Ok(only) => Ok(only),
-        Err(operands) => Ok(Expression::And(operands)),
-    }
+    let first = relational(parser, depth)?;
+    joined(parser, depth, Operator::And, first)
 }
 
 // 114: RelationalExpression
@@ -159,19 +160,48 @@ fn additive<'a>(parser: &mut Parser<'_, 'a>, depth: usize) -> Result<Expression<
     ensures shorter { OnOk result (length parser.new < length parser.old) }
 {
     let first = multiplicative(parser, depth)?;
+    summed(parser, depth, first)
+}
+
+// A value, and what is added to it or taken from it.
+#[cycle(expression)]
+fn summed<'a>(
+    parser: &mut Parser<'_, 'a>,
+    depth: usize,
+    first: Expression<'a>,
+) -> Result<Expression<'a>, GrammarFault>
+    ensures reads { Reads
+        (operators.summed (spec.expression depth) first.entry parser.old) result parser.new }
+    ensures shorter { OnOk result (length parser.new ≤ length parser.old) }
+{
     let mut others = Items::new(parser.alloc());
+    addends(parser, depth, &mut others)?;
+    Ok(sum(parser.alloc(), first, others)?)
+}
+
+// What is added or taken, put into a list with nothing in it.
+#[cycle(expression)]
+fn addends<'a>(
+    parser: &mut Parser<'_, 'a>,
+    depth: usize,
+    others: &mut Items<(Sign, Expression<'a>)>,
+) -> Result<(), GrammarFault>
+    requires { others.old ≡ [] }
+    ensures puts { let outcome = operators.addends (spec.expression depth) parser.old in
+        MatchResult result
+        (λ done. outcome ≡ Some (others.new, parser.new))
+        (λ fault. Fails outcome fault) }
+    ensures shorter { OnOk result (length parser.new ≤ length parser.old) }
+{
     while begins_addend(parser.peek()) {
         others.push(addend(parser, depth)?)?;
     }
-    if others.is_empty() {
-        return Ok(first);
-    }
-    Ok(Expression::Sum(Boxed::new(parser.alloc(), first)?, others))
+    Ok(())
 }
 
 // What is added or taken: a product behind its sign, or a number with its sign, and its factors.
 #[cycle(expression)]
-#[tactic(auto, unfolding(crate::specs::ExpressionReading::addend, crate::specs::ExpressionReading::signed_product, rdf_grammar::specs::Readings::any))]
+#[tactic(auto, unfolding(crate::specs::ExpressionReading::addend, crate::specs::ExpressionReading::signed_product, crate::specs::ExpressionReading::product, rdf_grammar::specs::Readings::any))]
 fn addend<'a>(
     parser: &mut Parser<'_, 'a>,
     depth: usize,
@@ -188,7 +218,7 @@ fn addend<'a>(
             let number = signed_number(parser)?;
             Ok((
                 Sign::Plus,
-                product(parser, depth, Expression::Literal(number))?,
+                joined(parser, depth, Operator::Times, Expression::Literal(number))?,
             ))
         }
     }
@@ -196,7 +226,7 @@ fn addend<'a>(
 
 // 117: MultiplicativeExpression
 #[cycle(expression)]
-#[tactic(auto, unfolding(crate::specs::ExpressionReading::multiplicative))]
+#[tactic(auto, unfolding(crate::specs::ExpressionReading::multiplicative, crate::specs::ExpressionReading::product))]
 fn multiplicative<'a>(
     parser: &mut Parser<'_, 'a>,
     depth: usize,
@@ -206,29 +236,65 @@ fn multiplicative<'a>(
     ensures shorter { OnOk result (length parser.new < length parser.old) }
 {
     let first = unary(parser, depth)?;
-    product(parser, depth, first)
+    joined(parser, depth, Operator::Times, first)
 }
 
-// ( "*" UnaryExpression )*, behind the first factor
+// The first operand of a list, and those that stand behind it, each behind the operator.
 #[cycle(expression)]
-#[tactic(auto, unfolding(crate::specs::ExpressionReading::product))]
-fn product<'a>(
+fn joined<'a>(
     parser: &mut Parser<'_, 'a>,
     depth: usize,
+    operator: Operator,
     first: Expression<'a>,
 ) -> Result<Expression<'a>, GrammarFault>
     ensures reads { Reads
-        (spec.product (spec.expression depth) first.entry parser.old) result parser.new }
+        (operators.joined (spec.expression depth) operator first.entry parser.old)
+        result parser.new }
     ensures shorter { OnOk result (length parser.new ≤ length parser.old) }
 {
-    let mut factors = Items::new(parser.alloc());
-    factors.push(first)?;
-    while parser.eat(Terminal::Star) {
-        factors.push(unary(parser, depth)?)?;
+    let mut operands = Items::new(parser.alloc());
+    operands.push(first)?;
+    others(parser, depth, operator, &mut operands)?;
+    Ok(operator.joined(operands))
+}
+
+// The operands behind the first, put behind it.
+#[cycle(expression)]
+fn others<'a>(
+    parser: &mut Parser<'_, 'a>,
+    depth: usize,
+    operator: Operator,
+    operands: &mut Items<Expression<'a>>,
+) -> Result<(), GrammarFault>
+    ensures puts { let outcome = operators.others (spec.expression depth) operator parser.old in
+        MatchResult result
+        (λ done. (found : List Expression) × (outcome ≡ Some (found, parser.new))
+        × (operands.new ≡ operands.old ++ found))
+        (λ fault. Fails outcome fault) }
+    ensures shorter { OnOk result (length parser.new ≤ length parser.old) }
+{
+    let separator = operator.terminal();
+    while parser.eat(separator) {
+        operands.push(operand(parser, depth, operator)?)?;
     }
-    match alone(factors) {
-        Ok(only) => Ok(only),
-        Err(factors) => Ok(Expression::Product(factors)),
+    Ok(())
+}
+
+// One operand.
+#[cycle(expression)]
+fn operand<'a>(
+    parser: &mut Parser<'_, 'a>,
+    depth: usize,
+    operator: Operator,
+) -> Result<Expression<'a>, GrammarFault>
+    ensures reads { Reads
+        (operators.operand (spec.expression depth) operator parser.old) result parser.new }
+    ensures shorter { OnOk result (length parser.new < length parser.old) }
+{
+    match operator {
+        Operator::Or => conditional_and(parser, depth),
+        Operator::And => relational(parser, depth),
+        Operator::Times => unary(parser, depth),
     }
 }
 
@@ -366,6 +432,5 @@ pub fn bracketted<'a>(
 {
     parser.expect(Terminal::Open)?;
     let inner = expression(parser, depth)?;
-    parser.expect(Terminal::Close)?;
-    Ok(inner)
+    closed(parser, inner)
 }

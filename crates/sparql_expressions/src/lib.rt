@@ -9,6 +9,7 @@ mod choice;
 mod expression;
 mod filter;
 mod laws;
+mod operator;
 mod tree;
 
 pub use filter::constraint;

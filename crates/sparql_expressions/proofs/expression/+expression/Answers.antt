@@ -1,9 +1,12 @@
-use Rattle.std.proofs.Common.{arith, sym, ap, ◌∙◌, refl}
+use Rattle.std.proofs.Common.{◌≡◌, List, [], ◌∷◌, ◌++◌, arith, sym, ap, ◌∙◌}
 use Rattle.std.proofs.lemmas.Result.{err_from_is_err_and}
-use Rattle.rdf_grammar.proofs.CallerLemmas.{going_starts, going_on, one_reads, grown_starts, fails_first, fails_then, deeper, grown_behind, grown_fails_behind}
-use Rattle.sparql_terminals.specs.declared.terminal.Terminal.TheVariants as terminal
+use Rattle.rdf_grammar.proofs.CallerLemmas.{going_starts, going_on, going_done, one_reads, grown_starts, deeper, grown_behind, grown_fails_behind}
 use Rattle.sparql_terminals.specs.Terminals.{same_terminal}
-use Rattle.sparql_expressions.specs.ExpressionReading.{begins_addend, addend, expression, conditional_or, conditional_and, product}
+use Rattle.sparql_expressions.specs.ExpressionReading.{begins_addend, addend, expression}
+use Rattle.sparql_expressions.specs.Operators.{terminal_of}
+use Rattle.sparql_expressions.specs.declared.tree.Expression.{Expression}
+use Rattle.sparql_expressions.proofs.Operands.{left_at, operands_read, seen_as}
+use Rattle.sparql_expressions.proofs.expression.+expression.Invariants.{rank}
 use Rattle.sparql_expressions.proofs.expression.+expression.Goals as goal
 
 -- ---- how deep
@@ -12,79 +15,59 @@ pub expression-returns-clause-reads : goal.expression-returns-clause-reads
 unfolding expression
 expression-returns-clause-reads t c = rw (deeper (λ n. expression n c.args.parser.now) c.args.depth (omega arith)) c.conditional_or.ensures.reads
 
--- ---- conditional_or
+-- ---- operands between equal operators
 
-pub conditional_or-loop-operands-init : goal.conditional_or-loop-operands-init
-conditional_or-loop-operands-init t c = record { grown = grown_starts _ _ _ _; shorter = omega arith }
+pub operand-conditional_and-requires : goal.operand-conditional_and-requires
+operand-conditional_and-requires t c = let e : rank c.args.operator ≡ 19 = ap rank c.in-Or.is in omega arith
 
-pub conditional_or-returns-in_err-conditional_and-2-clause-reads : goal.conditional_or-returns-in_err-conditional_and-2-clause-reads
-unfolding conditional_or
-conditional_or-returns-in_err-conditional_and-2-clause-reads t c =
-    let seen = sym c.loop-operands-test.ensures.found in
-    let p = err_from_is_err_and c.from_residual-in_err-conditional_and-2.result c.from_residual-in_err-conditional_and-2.ensures.1 in
-    rw (p.1, p.2) (fails_then _ _ _ _ _ c.in_ok-conditional_and.ensures.reads (fails_first _ _ _
-    (grown_fails_behind same_terminal _ terminal.Or _ _ _ c.loop-operands.invariant.grown seen seen c.loop-operands-test.ensures.left c.in_err-conditional_and-2.ensures.reads)))
+pub operand-relational-requires : goal.operand-relational-requires
+operand-relational-requires t c = let e : rank c.args.operator ≡ 15 = ap rank c.in-And.is in omega arith
 
-pub conditional_or-loop-operands-preserved : goal.conditional_or-loop-operands-preserved
-conditional_or-loop-operands-preserved t c =
-    let seen = sym c.loop-operands-test.ensures.found in
+pub operand-unary-requires : goal.operand-unary-requires
+operand-unary-requires t c = let e : rank c.args.operator ≡ 6 = ap rank c.in-Times.is in omega arith
+
+pub others-loop-operator-init : goal.others-loop-operator-init
+others-loop-operator-init t c = record { grown = grown_starts _ _ _ _; shorter = omega arith }
+
+pub others-loop-operator-preserved : goal.others-loop-operator-preserved
+others-loop-operator-preserved t c =
+    let seen = seen_as _ _ _ _ c.terminal-separator.ensures c.loop-operator-test.ensures.found in
     record {
-      grown = grown_behind same_terminal _ terminal.Or _ _ _ _ _ c.loop-operands.invariant.grown seen seen c.loop-operands-test.ensures.left c.in_ok-conditional_and-2.ensures.reads (omega (arith, c.in_ok-conditional_and-2.ensures.shorter)) c.in_ok-push-2.ensures.ok;
-      shorter = omega (arith, c.in_ok-conditional_and-2.ensures.shorter, c.loop-operands-test.ensures.shorter);
+      grown = grown_behind same_terminal _ (terminal_of c.args.operator) _ _ _ _ _ c.loop-operator.invariant.grown seen seen c.loop-operator-test.ensures.left c.in_ok-operand.ensures.reads (omega (arith, c.in_ok-operand.ensures.shorter)) c.in_ok-push.ensures.ok;
+      shorter = omega (arith, c.in_ok-operand.ensures.shorter, c.loop-operator-test.ensures.shorter);
     }
 
--- ---- conditional_and
+pub others-returns-in_err-operand-clause-puts : goal.others-returns-in_err-operand-clause-puts
+others-returns-in_err-operand-clause-puts t c =
+    let seen = seen_as _ _ _ _ c.terminal-separator.ensures c.loop-operator-test.ensures.found in
+    let p = err_from_is_err_and c.from_residual.result c.from_residual.ensures.1 in
+    rw (p.1, p.2) (grown_fails_behind same_terminal _ (terminal_of c.args.operator) _ _ _ c.loop-operator.invariant.grown seen seen c.loop-operator-test.ensures.left c.in_err-operand.ensures.reads)
 
-pub conditional_and-loop-operands-init : goal.conditional_and-loop-operands-init
-conditional_and-loop-operands-init t c = record { grown = grown_starts _ _ _ _; shorter = omega arith }
+pub others-returns-clause-puts : goal.others-returns-clause-puts
+others-returns-clause-puts t c =
+    let g = c.loop-operator.invariant.grown in
+    let stops = seen_as _ _ _ _ c.terminal-separator.ensures c.loop-operator-test.ensures.found in
+    (g.found, left_at _ _ _ _ (going_done g.going stops) c.loop-operator-test.ensures.left, g.all_is)
 
-pub conditional_and-returns-in_err-relational-2-clause-reads : goal.conditional_and-returns-in_err-relational-2-clause-reads
-unfolding conditional_and
-conditional_and-returns-in_err-relational-2-clause-reads t c =
-    let seen = sym c.loop-operands-test.ensures.found in
-    let p = err_from_is_err_and c.from_residual-in_err-relational-2.result c.from_residual-in_err-relational-2.ensures.1 in
-    rw (p.1, p.2) (fails_then _ _ _ _ _ c.in_ok-relational.ensures.reads (fails_first _ _ _
-    (grown_fails_behind same_terminal _ terminal.And _ _ _ c.loop-operands.invariant.grown seen seen c.loop-operands-test.ensures.left c.in_err-relational-2.ensures.reads)))
+pub joined-returns-clause-reads : goal.joined-returns-clause-reads
+joined-returns-clause-reads t c =
+    operands_read (expression c.args.depth) c.args.operator c.args.first _ _ _ _ _ _
+    (c.in_ok-push.ensures.ok ∙ ap (λ (l : List Expression). l ++ c.args.first ∷ []) c.new-operands.ensures) c.in_ok-others.ensures.puts.1 c.in_ok-others.ensures.puts.2 c.joined.ensures
 
-pub conditional_and-loop-operands-preserved : goal.conditional_and-loop-operands-preserved
-conditional_and-loop-operands-preserved t c =
-    let seen = sym c.loop-operands-test.ensures.found in
-    record {
-      grown = grown_behind same_terminal _ terminal.And _ _ _ _ _ c.loop-operands.invariant.grown seen seen c.loop-operands-test.ensures.left c.in_ok-relational-2.ensures.reads (omega (arith, c.in_ok-relational-2.ensures.shorter)) c.in_ok-push-2.ensures.ok;
-      shorter = omega (arith, c.in_ok-relational-2.ensures.shorter, c.loop-operands-test.ensures.shorter);
-    }
+-- ---- what is added to a value
 
--- ---- product
+pub addends-loop-others-init : goal.addends-loop-others-init
+addends-loop-others-init t c = rw c.requires record { going = going_starts _ _ _; shorter = omega arith }
 
-pub product-loop-factors-init : goal.product-loop-factors-init
-product-loop-factors-init t c = record { grown = grown_starts _ _ _ _; shorter = omega arith }
-
-pub product-returns-in_err-unary-clause-reads : goal.product-returns-in_err-unary-clause-reads
-unfolding product
-product-returns-in_err-unary-clause-reads t c =
-    let seen = sym c.loop-factors-test.ensures.found in
-    let p = err_from_is_err_and c.from_residual-in_err-unary.result c.from_residual-in_err-unary.ensures.1 in
-    rw (p.1, p.2) (fails_first _ _ _
-    (grown_fails_behind same_terminal _ terminal.Star _ _ _ c.loop-factors.invariant.grown seen seen c.loop-factors-test.ensures.left c.in_err-unary.ensures.reads))
-
-pub product-loop-factors-preserved : goal.product-loop-factors-preserved
-product-loop-factors-preserved t c =
-    let seen = sym c.loop-factors-test.ensures.found in
-    record {
-      grown = grown_behind same_terminal _ terminal.Star _ _ _ _ _ c.loop-factors.invariant.grown seen seen c.loop-factors-test.ensures.left c.in_ok-unary.ensures.reads (omega (arith, c.in_ok-unary.ensures.shorter)) c.in_ok-push-2.ensures.ok;
-      shorter = omega (arith, c.in_ok-unary.ensures.shorter, c.loop-factors-test.ensures.shorter);
-    }
-
--- ---- additive
-
-pub additive-loop-others-init : goal.additive-loop-others-init
-additive-loop-others-init t c = rw c.new-others.ensures record { going = going_starts _ _ _; shorter = omega arith; kept = refl }
-
-pub additive-loop-others-preserved : goal.additive-loop-others-preserved
-additive-loop-others-preserved t c =
+pub addends-loop-others-preserved : goal.addends-loop-others-preserved
+addends-loop-others-preserved t c =
     let seen = ap begins_addend (sym c.peek.ensures) ∙ sym c.loop-others-test.ensures in
     rw c.in_ok-push.ensures.ok record {
       going = going_on _ _ c.loop-others.invariant.going seen (one_reads (addend (expression c.args.depth)) c.loop-others.parser _ _ c.in_ok-addend.ensures.reads) c.in_ok-addend.ensures.shorter;
       shorter = omega (arith, c.in_ok-addend.ensures.shorter);
-      kept = c.loop-others.invariant.kept;
     }
+
+pub addends-returns-clause-puts : goal.addends-returns-clause-puts
+addends-returns-clause-puts t c =
+    let stops = ap begins_addend (sym c.peek.ensures) ∙ sym c.loop-others-test.ensures in
+    going_done c.loop-others.invariant.going stops
