@@ -1,5 +1,6 @@
 -- The value of an expression of each kind.
-use Rattle.std.proofs.Common.{◌≡◌, ◌∙◌, ℕ, true, false, List, [], ◌∷◌, map, Option, Some, is_some, ap, sym, refl}
+use Rattle.std.proofs.Common.{◌≡◌, ◌∙◌, ℕ, true, false, List, [], ◌∷◌, map, Option, Some, is_some, Result, Ok, Err, ap, sym, refl}
+use Rattle.std.specs.Prelude.{IfOk, IsOkAnd}
 use Rattle.std.proofs.Math.IntN.{ℤ, pos}
 use Rattle.std.specs.List.{fold}
 use Rattle.std.specs.Option.{option_and_then, option_map}
@@ -71,15 +72,30 @@ module _ (b : Bindings) where
   pub value-Call : (function : Function) (x : Expression) → value b (e.Call function x) ≡ option_and_then (called function) (value b x)
   value-Call function x = ap (value b) (sym (e.rolls-Call function x)) ∙ fold-roll-Expression Value (value_by b) (Expression-F.Call function x)
 
-  pub sum_step : (x : Expression) (ys : List (Sign × Expression)) (whole got : Expression) (first : Option ℤ) (gots : List (Sign × Expression)) (n : Option ℤ) (v : Value) →
-      whole ≡ e.Sum x ys → got ≡ x → first ≡ number_of got → gots ≡ ys → n ≡ fold added first (map (λ y. (y.0, value b y.1)) gots) → v ≡ of_number n →
-      v ≡ value b whole
-  sum_step x ys whole got first gots n v is gx f gy s r =
-      r ∙ ap of_number (s ∙ ap (λ m. fold added m (map (λ y. (y.0, value b y.1)) gots)) (f ∙ ap number_of gx)
-      ∙ ap (λ zs. fold added (number_of x) (map (λ y. (y.0, value b y.1)) zs)) gy)
-      ∙ sym (value-Sum x ys) ∙ ap (value b) (sym is)
+  -- the value that is said, where a number is worked out
+  abbrev Said : {V E : Type 0} → (V → Value) → Result (Option ℤ) E → Result V E → Type 0
+  Said as_value answer result = IfOk result (λ v. IsOkAnd answer (λ n. as_value v ≡ of_number n))
 
-  pub product_step : (xs : List Expression) (whole : Expression) (gots : List Expression) (n : Option ℤ) (v : Value) →
-      whole ≡ e.Product xs → gots ≡ xs → n ≡ fold (on_both times) (Some (pos 1)) (map number_of gots) → v ≡ of_number n → v ≡ value b whole
-  product_step xs whole gots n v is gx s r =
-      r ∙ ap of_number (s ∙ ap (λ zs. fold (on_both times) (Some (pos 1)) (map number_of zs)) gx) ∙ sym (value-Product xs) ∙ ap (value b) (sym is)
+  said : {V E : Type 0} (as_value : V → Value) (answer : Result (Option ℤ) E) (result : Result V E) (n : Option ℤ) (whole : Value)
+      → IfOk answer (λ m. m ≡ n) → Said as_value answer result → of_number n ≡ whole → IfOk result (λ v. as_value v ≡ whole)
+  said as_value (Ok m) (Ok v) n whole a s e = s ∙ ap of_number a ∙ e
+  said as_value (Err d) (Ok v) n whole a s e = absurd s
+  said as_value answer (Err d) n whole a s e = tt
+
+  pub sum_said : {V E : Type 0} (as_value : V → Value) (x : Expression) (ys : List (Sign × Expression)) (whole got : Expression) (first : Option ℤ)
+      (gots : List (Sign × Expression)) (answer : Result (Option ℤ) E) (result : Result V E)
+      → whole ≡ e.Sum x ys → got ≡ x → first ≡ number_of got → gots ≡ ys → IfOk answer (λ n. n ≡ fold added first (map (λ y. (y.0, value b y.1)) gots))
+      → Said as_value answer result → IfOk result (λ v. as_value v ≡ value b whole)
+  sum_said as_value x ys whole got first gots answer result is gx f gy a s =
+      said as_value answer result _ _ a s
+      (ap of_number (ap (λ m. fold added m (map (λ y. (y.0, value b y.1)) gots)) (f ∙ ap number_of gx)
+      ∙ ap (λ zs. fold added (number_of x) (map (λ y. (y.0, value b y.1)) zs)) gy)
+      ∙ sym (value-Sum x ys) ∙ ap (value b) (sym is))
+
+  pub product_said : {V E : Type 0} (as_value : V → Value) (xs : List Expression) (whole : Expression) (gots : List Expression)
+      (answer : Result (Option ℤ) E) (result : Result V E)
+      → whole ≡ e.Product xs → gots ≡ xs → IfOk answer (λ n. n ≡ fold (on_both times) (Some (pos 1)) (map number_of gots))
+      → Said as_value answer result → IfOk result (λ v. as_value v ≡ value b whole)
+  product_said as_value xs whole gots answer result is gx a s =
+      said as_value answer result _ _ a s
+      (ap of_number (ap (λ zs. fold (on_both times) (Some (pos 1)) (map number_of zs)) gx) ∙ sym (value-Product xs) ∙ ap (value b) (sym is))

@@ -5,7 +5,7 @@ ghost use Rattle.std.specs.Option.{option_map, option_and_then};
 ghost use Rattle.sparql_values.specs.Mapping.{same_term};
 ghost use Rattle.sparql_values.specs.Operands.{term_of};
 ghost use Rattle.sparql_values.specs.Scopes.{value_in, truth_in, number_at, signed_values};
-ghost use Rattle.sparql_values.specs.Values.{added, both, called, compared, either, is_satisfied, on_both, times};
+ghost use Rattle.sparql_values.specs.Values.{added, both, called, compared, either, is_satisfied, negated, on_both, signed, times};
 ghost use Rattle.sparql_values.specs.Mapping as mapping;
 
 use crate::columns::Columns;
@@ -15,7 +15,7 @@ use crate::mapping::value_of;
 use crate::number::{added, multiplied, signed};
 use crate::sorted_names::SortedNames;
 use crate::truth::{both, either, is_true, negated};
-use crate::value::{Value, number, of_number, of_term, of_truth, truth};
+use crate::value::{Value, number, number_value, of_term, truth, truth_value};
 use rdf_terms::{NoMemory, Term, Text, Vocabulary};
 use sparql_trees::{Comparison, Expression, Function, Sign};
 use std::alloc::Global;
@@ -66,25 +66,25 @@ fn value<'a>(scope: &Scope<'a>, expression: &'a Expression) -> Result<Option<Val
     ensures { IfOk result (λ v. option_map term_of v ≡ value_in scope.now expression.now) }
 {
     match expression {
-        Expression::Or(operands) => Ok(of_truth(any(scope, operands.as_slice())?)),
-        Expression::And(operands) => Ok(of_truth(all(scope, operands.as_slice())?)),
+        Expression::Or(operands) => truth_value(any(scope, operands.as_slice())),
+        Expression::And(operands) => truth_value(all(scope, operands.as_slice())),
         Expression::Compare(operator, x, y) => {
             let x = value(scope, x.get())?;
-            Ok(of_truth(compared_with(scope, *operator, x, y.get())?))
+            truth_value(compared_with(scope, *operator, x, y.get()))
         }
         Expression::Sum(first, others) => {
             let first = number_at(scope, first.get())?;
-            Ok(of_number(sum(scope, first, others.as_slice())?))
+            number_value(sum(scope, first, others.as_slice()))
         }
-        Expression::Product(factors) => Ok(of_number(product(scope, factors.as_slice())?)),
-        Expression::Not(x) => Ok(of_truth(negated(truth_at(scope, x.get())?))),
-        Expression::Signed(sign, x) => Ok(of_number(signed(*sign, number_at(scope, x.get())?))),
+        Expression::Product(factors) => number_value(product(scope, factors.as_slice())),
+        Expression::Not(x) => truth_value(negated_at(scope, x.get())),
+        Expression::Signed(sign, x) => number_value(signed_at(scope, *sign, x.get())),
         Expression::Variable(name) => Ok(of_term(bound(scope, name))),
         Expression::Term(term) => Ok(Some(Value::Held(term))),
         Expression::Bound(name) => Ok(Some(Value::Truth(bound(scope, name).is_some()))),
         Expression::SameTerm(x, y) => {
             let x = value(scope, x.get())?;
-            Ok(of_truth(same_as(scope, x, y.get())?))
+            truth_value(same_as(scope, x, y.get()))
         }
         Expression::Call(function, x) => called_at(scope, *function, x.get()),
     }
@@ -148,10 +148,29 @@ fn truth_at<'a>(scope: &Scope<'a>, expression: &'a Expression) -> Result<Option<
 }
 
 #[cycle(value)]
+fn negated_at<'a>(scope: &Scope<'a>, expression: &'a Expression) -> Result<Option<bool>, NoMemory>
+    ensures { IfOk result (λ t. t ≡ negated (truth_in scope.now expression.now)) }
+{
+    Ok(negated(truth_at(scope, expression)?))
+}
+
+#[cycle(value)]
 fn number_at<'a>(scope: &Scope<'a>, expression: &'a Expression) -> Result<Option<i128>, NoMemory>
     ensures { IfOk result (λ n. n ≡ number_at scope.now expression.now) }
 {
     Ok(number(&value(scope, expression)?))
+}
+
+#[cycle(value)]
+fn signed_at<'a>(
+    scope: &Scope<'a>,
+    sign: Sign,
+    expression: &'a Expression,
+) -> Result<Option<i128>, NoMemory>
+    ensures { IfOk result (λ n. n ≡ option_and_then (signed sign)
+        (number_at scope.now expression.now)) }
+{
+    Ok(signed(sign, number_at(scope, expression)?))
 }
 
 // `||` between these; behind a true one nothing is worked out.

@@ -1,6 +1,6 @@
 //! What an expression is while it is worked out: a term is made of a number or of a truth value
 //! only where it is wanted as one.
-ghost use Rattle.std.specs.Prelude.{◌≡◌, IfOk};
+ghost use Rattle.std.specs.Prelude.{◌≡◌, IfOk, IsOkAnd};
 ghost use Rattle.std.specs.Option.{option_map};
 ghost use Rattle.sparql_values.specs.Operands.{IsOf, held, operand_of, term_of};
 ghost use Rattle.sparql_values.specs.Values.{boolean_term, boolean_text, effective, number_in, of_number, of_truth, operand, truth};
@@ -125,8 +125,8 @@ pub(crate) fn of_term(term: Option<&Term>) -> Option<Value<'_>>
     }
 }
 
-/// The value that is this truth.
-pub(crate) fn of_truth<'a>(truth: Option<bool>) -> Option<Value<'a>>
+// The value that is this truth.
+fn of_truth<'a>(truth: Option<bool>) -> Option<Value<'a>>
     ensures { option_map term_of result ≡ of_truth truth }
 {
     match truth {
@@ -135,12 +135,36 @@ pub(crate) fn of_truth<'a>(truth: Option<bool>) -> Option<Value<'a>>
     }
 }
 
-/// The value that is this number.
-pub(crate) fn of_number<'a>(number: Option<i128>) -> Option<Value<'a>>
+// The value that is this number.
+fn of_number<'a>(number: Option<i128>) -> Option<Value<'a>>
     ensures { option_map term_of result ≡ of_number number }
 {
     match number {
         Some(number) => Some(Value::Number(number)),
         None => None,
     }
+}
+
+/// The value that is this answer, where there is one.
+///
+/// # Errors
+/// That of the answer.
+pub(crate) fn truth_value<'a>(
+    answer: Result<Option<bool>, NoMemory>,
+) -> Result<Option<Value<'a>>, NoMemory>
+    ensures { IfOk result (λ v. IsOkAnd answer (λ t. option_map term_of v ≡ of_truth t)) }
+{
+    Ok(of_truth(answer?))
+}
+
+/// The value that is this number, where there is one.
+///
+/// # Errors
+/// That of the number.
+pub(crate) fn number_value<'a>(
+    number: Result<Option<i128>, NoMemory>,
+) -> Result<Option<Value<'a>>, NoMemory>
+    ensures { IfOk result (λ v. IsOkAnd number (λ n. option_map term_of v ≡ of_number n)) }
+{
+    Ok(of_number(number?))
 }

@@ -1,19 +1,20 @@
 use Rattle.std.proofs.Common.{drop, map}
+use Rattle.std.specs.Option.{option_map}
+use Rattle.sparql_values.specs.Operands.{term_of}
 use Rattle.sparql_values.specs.Scopes.{bindings, truth_in}
 use Rattle.sparql_values.proofs.FoldLemmas.{both_ends, either_ends}
-use Rattle.sparql_values.proofs.ValueLemmas.{product_step, sum_step}
+use Rattle.sparql_values.proofs.ValueLemmas.{product_said, sum_said}
 use Rattle.sparql_values.proofs.evaluator.+value.Goals as goal
 
-pub value-returns-in_ok-sum-in-Sum : goal.value-returns-in_ok-sum-in-Sum
-value-returns-in_ok-sum-in-Sum t c =
-    sum_step (bindings c.args.scope.now) c.in-Sum.first c.in-Sum.others c.args.expression.now c.get-in-Sum.result.now c.in_ok-first-in-Sum.first
-    c.as_slice-in-Sum.result.now c.in_ok-sum-in-Sum.field-0 _ c.in-Sum.is c.get-in-Sum.ensures c.in_ok-first-in-Sum.ensures c.as_slice-in-Sum.ensures
-    c.in_ok-sum-in-Sum.ensures c.of_number.ensures
+pub value-returns-in_ok-first-in-Sum : goal.value-returns-in_ok-first-in-Sum
+value-returns-in_ok-first-in-Sum t c =
+    sum_said (bindings c.args.scope.now) (option_map term_of) c.in-Sum.first c.in-Sum.others c.args.expression.now _ _ _ c.sum.result c.number_value.result
+    c.in-Sum.is c.get-in-Sum.ensures c.in_ok-first-in-Sum.ensures c.as_slice-in-Sum.ensures c.sum.ensures c.number_value.ensures
 
-pub value-returns-in_ok-product-in-Product : goal.value-returns-in_ok-product-in-Product
-value-returns-in_ok-product-in-Product t c =
-    product_step (bindings c.args.scope.now) c.in-Product.factors c.args.expression.now c.as_slice-in-Product.result.now c.in_ok-product-in-Product.field-0 _
-    c.in-Product.is c.as_slice-in-Product.ensures c.in_ok-product-in-Product.ensures c.of_number-in-Product.ensures
+pub value-returns-in-Product : goal.value-returns-in-Product
+value-returns-in-Product t c =
+    product_said (bindings c.args.scope.now) (option_map term_of) c.in-Product.factors c.args.expression.now _ c.product.result c.number_value-in-Product.result
+    c.in-Product.is c.as_slice-in-Product.ensures c.product.ensures c.number_value-in-Product.ensures
 
 pub any-returns-then-is_true : goal.any-returns-then-is_true
 any-returns-then-is_true t c =
