@@ -4,6 +4,7 @@ mod Combinators
 mod Decides
 mod Depths
 mod KeyEntries
+mod KnownWords
 mod LexemeLemmas
 mod LexemeReadings
 mod Lists

@@ -1,5 +1,5 @@
 //! A cursor over lexemes.
-ghost use Rattle.std.specs.Prelude.{◌≡◌, ◌≤◌, ◌<◌, length, OnOk, OnErr, IfErr, if◌then◌else◌};
+ghost use Rattle.std.specs.Prelude.{◌≡◌, ◌≤◌, ◌<◌, length, Some, OnOk, OnErr, IfErr, if◌then◌else◌};
 ghost use Rattle.std.specs.Bool.{OnTrue};
 ghost use Rattle.std.specs.Str.{chars};
 ghost use Rattle.rdf_grammar.specs.Inside.LexemeReading.{most};
@@ -258,6 +258,19 @@ impl<'l, 'a, T: Words> Parser<'l, 'a, T> {
         let spelled = self.text();
         self.pass();
         Ok(spelled)
+    }
+
+    // Takes the next lexeme, which is known to be of this word, for its characters.
+    #[tactic(auto, using(crate::proofs::KnownWords::word_taken, crate::proofs::KnownWords::word_shortens))]
+    #[inline(always)]
+    pub(crate) fn take(&mut self, word: Word) -> Slice<'a>
+        requires { words.next_word T.word self.old ≡ Some word }
+        ensures reads { words.value T.word word self.old ≡ Some (result, self.new) }
+        ensures shorter { length self.new < length self.old }
+    {
+        let characters = self.text();
+        self.pass();
+        characters
     }
 
     /// Takes the next lexeme, a prefixed name with no local part, for its prefix.

@@ -24,9 +24,9 @@ pub fn iri<'a, T: Words>(parser: &mut Parser<'_, 'a, T>) -> Result<Name<'a>, Gra
     ensures shorter { OnOk result (length parser.new < length parser.old) }
 {
     match parser.peek_word() {
-        Some(Word::Iri) => Ok(Name::Full(parser.word(Word::Iri)?)),
+        Some(Word::Iri) => Ok(Name::Full(parser.take(Word::Iri))),
         Some(Word::Pname) => {
-            let name = parser.word(Word::Pname)?;
+            let name = parser.take(Word::Pname);
             let (prefix, local) = name_parts(&name);
             Ok(Name::Prefixed(prefix, local))
         }
@@ -44,7 +44,7 @@ fn text<'a, T: Words>(parser: &mut Parser<'_, 'a, T>) -> Result<Literal<'a>, Gra
 {
     let form = parser.word(Word::Text)?;
     match parser.peek_word() {
-        Some(Word::Tag) => Ok(Literal::Tagged(form, parser.word(Word::Tag)?)),
+        Some(Word::Tag) => Ok(Literal::Tagged(form, parser.take(Word::Tag))),
         Some(Word::Caret) => {
             parser.pass();
             Ok(Literal::Typed(form, iri(parser)?))
@@ -65,11 +65,11 @@ pub fn literal<'a, T: Words>(parser: &mut Parser<'_, 'a, T>) -> Result<Literal<'
     ensures shorter { OnOk result (length parser.new < length parser.old) }
 {
     match parser.peek_word() {
-        Some(Word::Integer) => Ok(Literal::Integer(parser.word(Word::Integer)?)),
-        Some(Word::Decimal) => Ok(Literal::Decimal(parser.word(Word::Decimal)?)),
-        Some(Word::Double) => Ok(Literal::Double(parser.word(Word::Double)?)),
-        Some(Word::True) => Ok(Literal::Boolean(true, parser.word(Word::True)?)),
-        Some(Word::False) => Ok(Literal::Boolean(false, parser.word(Word::False)?)),
+        Some(Word::Integer) => Ok(Literal::Integer(parser.take(Word::Integer))),
+        Some(Word::Decimal) => Ok(Literal::Decimal(parser.take(Word::Decimal))),
+        Some(Word::Double) => Ok(Literal::Double(parser.take(Word::Double))),
+        Some(Word::True) => Ok(Literal::Boolean(true, parser.take(Word::True))),
+        Some(Word::False) => Ok(Literal::Boolean(false, parser.take(Word::False))),
         _ => text(parser),
     }
 }

@@ -116,7 +116,9 @@ fn turn<'a, S: TripleSink>(
         (spec.statement (spec.node depth) (spec.node (depth + 1)) parser.old) kind) }
 {
     let statement = statement(parser, depth)?;
-    Ok(behind(scope, declared, pending, &statement)?)
+    let later = behind(scope, declared, pending, &statement);
+    drop(statement);
+    Ok(later?)
 }
 
 // Reads one statement after the other, to the end of the lexemes.
@@ -177,6 +179,8 @@ pub(crate) fn triples_of<S: TripleSink>(
 {
     let base = copied(base)?;
     let mut scope = Scope::new(parser.alloc(), base)?;
-    let pending = turns(parser, &mut scope, depth)?;
-    told(pending, scope.into_sink())
+    let read = turns(parser, &mut scope, depth);
+    let sink = scope.into_sink();
+    let pending = read?;
+    told(pending, sink)
 }
