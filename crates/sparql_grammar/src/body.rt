@@ -41,10 +41,13 @@ impl<'a> Body<'a> {
         match element {
             Element::Block(triples) => self.join(triples),
             Element::Filter(expression) => self.filters.push(expression),
-            Element::Pattern(member) => {
-                self.close()?;
-                self.members.push(member)
-            }
+            Element::Pattern(member) => match self.close() {
+                Ok(()) => self.members.push(member),
+                Err(fault) => {
+                    drop(member);
+                    Err(fault)
+                }
+            },
         }
     }
 

@@ -322,7 +322,10 @@ fn ended_operation<'a>(parser: &mut Parser<'_, 'a>) -> Result<Part<'a>, GrammarF
 {
     let operation = operation(parser)?;
     if parser.is_more() {
-        parser.expect(Terminal::Semicolon)?;
+        if let Err(fault) = parser.expect(Terminal::Semicolon) {
+            drop(operation);
+            return Err(fault);
+        }
     }
     Ok(Part::Operation(operation))
 }
