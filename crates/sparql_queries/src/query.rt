@@ -168,7 +168,10 @@ fn said_where_known<'a>(
         (λ fault. spec.IsFaultOf (option_copied base.entry) query.now fault) }
 {
     let mut scope = begun(alloc, vocabulary, base)?;
-    said_in_scope(alloc, &mut scope, query)
+    let said = said_in_scope(alloc, &mut scope, query);
+    // (Let go in one call, which is proved sooner.)
+    drop(scope);
+    said
 }
 
 /// What a query says: names have their IRIs, and the blank nodes of each basic graph pattern are

@@ -4,5 +4,5 @@ use Rattle.sparql_queries.proofs.query.said_where_known.Goals as goal
 
 pub returns : goal.returns
 returns c =
-    query_said (option_copied c.args.base) c.args.query.now c.in_ok-scope.scope.prologue c.said_in_scope.result
-    c.in_ok-scope.ensures c.requires.known c.said_in_scope.ensures
+    query_said (option_copied c.args.base) c.args.query.now c.in_ok-scope.scope.prologue c.said_in_scope-said.result
+    c.in_ok-scope.ensures c.requires.known c.said_in_scope-said.ensures
