@@ -5,6 +5,7 @@ mod FromLemmas
 mod KeyLemmas
 mod LookUpLemmas
 mod NextLemmas
+mod RunLemmas
 mod SetLemmas
 mod TestLemmas
 mod TreeLemmas

@@ -1,4 +1,5 @@
 pub mod Contents
 pub mod Inside
 pub mod Quads
+pub mod Running
 pub mod Runs

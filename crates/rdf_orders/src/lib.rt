@@ -15,6 +15,7 @@ mod next;
 mod order;
 mod orders;
 mod quad_sets;
+mod run;
 mod trees;
 mod walk;
 
@@ -25,4 +26,5 @@ pub use look_ups::{look_up, look_up_some};
 pub use order::{Key, Order};
 pub use orders::Orders;
 pub use quad_sets::QuadSets;
+pub use run::Run;
 pub use walk::Walk;

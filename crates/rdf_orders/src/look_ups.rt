@@ -11,15 +11,15 @@ use std::alloc::Global;
 
 /// The numbers that the keys of a run begin with.
 #[derive(Drop)]
-struct Prefix {
-    order: Order,
-    numbers: Key,
-    len: usize,
+pub(crate) struct Prefix {
+    pub(crate) order: Order,
+    pub(crate) numbers: Key,
+    pub(crate) len: usize,
     ghost fits: { len ≤ 4 },
 }
 
-// Where the quads with these numbers stand together.
-fn prefix_of(
+/// Where the quads with these numbers stand together.
+pub(crate) fn prefix_of(
     graph: u64,
     subject: Option<u64>,
     predicate: Option<u64>,

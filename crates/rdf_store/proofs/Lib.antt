@@ -6,5 +6,6 @@ mod OrderLemmas
 mod PatternLemmas
 mod RankLemmas
 mod ResultLemmas
+mod RunLemmas
 mod GrowthLemmas
 mod StoreLemmas
