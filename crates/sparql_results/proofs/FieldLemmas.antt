@@ -163,7 +163,7 @@ term_tells (Literal l) h =
 
 -- ---- texts in which nothing is written otherwise
 
-stays_both : (xs ys : List ℕ) → flat_map without_tab xs ≡ xs → flat_map without_tab ys ≡ ys → flat_map without_tab (xs ++ ys) ≡ xs ++ ys
+pub stays_both : (xs ys : List ℕ) → flat_map without_tab xs ≡ xs → flat_map without_tab ys ≡ ys → flat_map without_tab (xs ++ ys) ≡ xs ++ ys
 stays_both xs ys a b = flat_map-append without_tab xs ys ∙ (λ i. a i ++ b i)
 
 untabbed : (bs : List ℕ) → list_any is_special bs ≡ false → list_any (λ c. c == 9) bs ≡ false
@@ -174,6 +174,20 @@ untabbed (b ∷ bs) h =
 
 plain_stays : (bs : List ℕ) → list_any is_special bs ≡ false → flat_map without_tab bs ≡ bs
 plain_stays bs h = no_tabs bs (untabbed bs h)
+
+-- no tab stands behind the quotes of a literal
+pub suffix_stays : (datatype : List ℕ) (tag : Option (List ℕ)) → is_iri datatype ≡ true → tag_fits datatype tag ≡ true →
+    flat_map without_tab (suffix_text datatype tag) ≡ suffix_text datatype tag
+suffix_stays datatype (Some tag) h k =
+    stays_both (64 ∷ []) tag refl
+    (plain_stays tag (from_each tag (each_part (λ c. is_special c ≡ false) part_plain tag (tag_name tag (tag_parts datatype tag k).1))))
+suffix_stays datatype None h k = by (pointwise nat_eq datatype xsd_string)
+  where
+    by : (b : Bool) → flat_map without_tab (if b then [] else codes "^^<" ++ datatype ++ codes ">") ≡ (if b then [] else codes "^^<" ++ datatype ++ codes ">")
+    by true = refl
+    by false =
+        stays_both (94 ∷ 94 ∷ 60 ∷ []) (datatype ++ 62 ∷ []) refl
+        (stays_both datatype (62 ∷ []) (plain_stays datatype (allowed_plain datatype (iri_allowed datatype h))) refl)
 
 -- no tab stands in a blank node's label, or in an IRI
 pub term_stays : (t : Term) → is_term t ≡ true → is_literal_term t ≡ false → flat_map without_tab (term_text t) ≡ term_text t

@@ -5,6 +5,7 @@ mod ItemLemmas
 mod JsonLemmas
 mod JsonStringLemmas
 mod KeptLemmas
+mod PlainLemmas
 mod RowLemmas
 mod SolutionLemmas
 mod TabLemmas

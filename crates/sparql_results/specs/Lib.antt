@@ -4,5 +4,6 @@ pub mod FormLaws
 pub mod Formats
 pub mod JsonReading
 pub mod JsonText
+pub mod Plain
 pub mod ResultsText
 pub mod RowLaws

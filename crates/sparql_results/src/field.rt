@@ -4,6 +4,7 @@ ghost use Rattle.std.specs.List.{flat_map, list_any};
 ghost use Rattle.rdf_terms.specs.TermText.{term_text};
 ghost use Rattle.sparql_results.specs.ResultsText.{field_text, without_tab};
 
+use crate::plain::{append_plain, is_plain};
 use memchr::memchr;
 use rdf_terms::{NoMemory, Term, term_is_one, write_term};
 use std::alloc::Global;
@@ -20,6 +21,11 @@ pub(crate) fn append_field(
     let Some(term) = value else {
         return Ok(());
     };
+    if let Term::Literal(literal) = term {
+        if is_plain(literal.lexical().as_bytes()) {
+            return append_plain(literal, out);
+        }
+    }
     let before = out.len();
     write_term(term, out)?;
     if may_have_tab(term) {

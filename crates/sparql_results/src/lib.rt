@@ -14,6 +14,7 @@ mod json;
 mod json_string;
 mod json_term;
 mod law;
+mod plain;
 mod row;
 
 pub use boolean::boolean_text;

@@ -1,4 +1,4 @@
--- Rows in bins: what one row more makes of them, and that a bin has all that are compatible.
+-- Items in bins: what one more makes of them, and that a bin of rows has all that are compatible.
 use Rattle.std.proofs.Common.{◌≡◌, ℕ, zero, suc, ◌+◌, ◌<◌, ◌≤◌, Bool, true, false, cond, ◌&&◌, ◌||◌, List, [], ◌∷◌, ◌++◌, map, filter, Option, Some, None, refl, sym, ap, ◌∙◌, subst, length, take, get_or, set, is_some, arith, append-nil, Bor, if◌then◌else◌}
 use Rattle.std.specs.List.{All, list_all}
 use Rattle.std.specs.Prelude.{slice_get}
@@ -51,46 +51,6 @@ id_behind : (us : List Term) (t : Term) → IsIdOf (us ++ t ∷ []) (length us) 
 id_behind [] t = refl
 id_behind (u ∷ us) t = id_behind us t
 
--- ---- one row more
-
-pub one_put : (us : List Term) (bins : List (List Mapping)) (k : ℕ) (t : Term) (m : Mapping) (s : Term) → AreHeldOnce us → IsIdOf us k t → length us ≡ length bins →
-    binned us (with_at k m bins) s ≡ binned us bins s ++ cond (same_term s t) (m ∷ []) []
-one_put [] bins k t m s h i e = cc
-one_put (u ∷ us) [] k t m s h i e = absurd (omega (arith, e))
-one_put (u ∷ us) (bin ∷ bins) zero t m s h i e =
-    subst (λ (v : Term). binned (u ∷ us) ((bin ++ m ∷ []) ∷ bins) s ≡ binned (u ∷ us) (bin ∷ bins) s ++ cond (same_term s v) (m ∷ []) []) (some_same u t i) (by_test (same_term s u) refl)
-  where
-    some_same : (x y : Term) → Some x ≡ Some y → x ≡ y
-    some_same x y p = cc
-
-    by_test : (b : Bool) → same_term s u ≡ b → cond (same_term s u) (bin ++ m ∷ []) (binned us bins s) ≡ cond (same_term s u) bin (binned us bins s) ++ cond (same_term s u) (m ∷ []) []
-    by_test true p = ap (λ (c : Bool). cond c (bin ++ m ∷ []) (binned us bins s)) p ∙ sym (ap (λ (c : Bool). cond c bin (binned us bins s) ++ cond c (m ∷ []) []) p)
-    by_test false p = ap (λ (c : Bool). cond c (bin ++ m ∷ []) (binned us bins s)) p ∙ sym (append-nil (binned us bins s)) ∙ sym (ap (λ (c : Bool). cond c bin (binned us bins s) ++ cond c (m ∷ []) []) p)
-one_put (u ∷ us) (bin ∷ bins) (suc k) t m s h i e = by_test (one_put us bins k t m s (once_behind u us h) i (omega (arith, e))) (same_term s u) refl
-  where
-    -- where the term is the first one, it isn't the other
-    other : same_term s u ≡ true → same_term s t ≡ false
-    other p = subst (λ (v : Term). same_term v t ≡ false) (sym (same_term_is s u p)) (same_turned t u (first_once u t us k h i))
-
-    by_test : binned us (with_at k m bins) s ≡ binned us bins s ++ cond (same_term s t) (m ∷ []) [] → (b : Bool) → same_term s u ≡ b →
-        cond (same_term s u) bin (binned us (with_at k m bins) s) ≡ cond (same_term s u) bin (binned us bins s) ++ cond (same_term s t) (m ∷ []) []
-    by_test rest true p =
-        ap (λ (c : Bool). cond c bin (binned us (with_at k m bins) s)) p ∙ sym (append-nil bin) ∙ ap (λ (c : Bool). bin ++ cond c (m ∷ []) []) (sym (other p))
-        ∙ ap (λ (c : Bool). cond c bin (binned us bins s) ++ cond (same_term s t) (m ∷ []) []) (sym p)
-    by_test rest false p =
-        ap (λ (c : Bool). cond c bin (binned us (with_at k m bins) s)) p ∙ rest
-        ∙ ap (λ (c : Bool). cond c bin (binned us bins s) ++ cond (same_term s t) (m ∷ []) []) (sym p)
-
-no_matter : (b : Bool) (l : List Mapping) → cond b l l ≡ l
-no_matter true l = refl
-no_matter false l = refl
-
-pub empty_behind : (us : List Term) (bins : List (List Mapping)) (t s : Term) → length us ≡ length bins → binned (us ++ t ∷ []) (bins ++ [] ∷ []) s ≡ binned us bins s
-empty_behind [] [] t s e = no_matter (same_term s t) []
-empty_behind [] (bin ∷ bins) t s e = absurd (omega (arith, e))
-empty_behind (u ∷ us) [] t s e = absurd (omega (arith, e))
-empty_behind (u ∷ us) (bin ∷ bins) t s e = ap (λ (l : List Mapping). cond (same_term s u) bin l) (empty_behind us bins t s (omega (arith, e)))
-
 -- a term with a place in the table is held as it was, where the place is one that was there, and else it is new
 pub with_new : (us : List Term) (t : Term) (k : ℕ) → IsIdOf (with_term us t) k t → k ≡ length us → with_term us t ≡ us ++ t ∷ []
 with_new us t k h e = by_test (is_held us t) refl
@@ -111,102 +71,143 @@ with_held us t k o h e = by_test (is_held us t) refl
         let at : k ≡ length us = subst (λ (l : List Term). AreHeldOnce l) new o k (length us) t (subst (λ (l : List Term). IsIdOf l k t) new h) (id_behind us t) in
         absurd (e at)
 
--- ---- look-ups
-
-pub bin_found : (us : List Term) (bins : List (List Mapping)) (k : ℕ) (t : Term) (bin : List Mapping) → AreHeldOnce us → IsIdOf us k t → length us ≡ length bins →
-    slice_get bins k ≡ Some bin → binned us bins t ≡ bin
-bin_found [] bins k t bin h i e g = cc
-bin_found (u ∷ us) [] k t bin h i e g = cc
-bin_found (u ∷ us) (b ∷ bins) zero t bin h i e g =
-    ap (λ (c : Bool). cond c b (binned us bins t)) (subst (λ (v : Term). same_term t v ≡ true) (own u t i) (same_term_own t)) ∙ same b bin g
-  where
-    own : (x y : Term) → Some x ≡ Some y → y ≡ x
-    own x y p = cc
-
-    same : (x y : List Mapping) → Some x ≡ Some y → x ≡ y
-    same x y p = cc
-bin_found (u ∷ us) (b ∷ bins) (suc k) t bin h i e g =
-    ap (λ (c : Bool). cond c b (binned us bins t)) (first_once u t us k h i) ∙ bin_found us bins k t bin (once_behind u us h) i (omega (arith, e)) g
-
-pub bin_missing : (us : List Term) (bins : List (List Mapping)) (t : Term) → is_held us t ≡ false → binned us bins t ≡ []
-bin_missing [] bins t h = refl
-bin_missing (u ∷ us) [] t h = refl
-bin_missing (u ∷ us) (b ∷ bins) t h = by_test (bin_missing us bins t) (same_term t u) (is_held us t) refl refl h
-  where
-    by_test : (is_held us t ≡ false → binned us bins t ≡ []) → (c d : Bool) → same_term t u ≡ c → is_held us t ≡ d → (c || d) ≡ false →
-        cond (same_term t u) b (binned us bins t) ≡ []
-    by_test behind true d p q r = cc
-    by_test behind false d p q r = ap (λ (x : Bool). cond x b (binned us bins t)) p ∙ behind (q ∙ r)
-
--- ---- the list of bins
-
-module _ {X : Type 0} (f : X → List Mapping) where
-  pub set_put : (xs : List X) (k : ℕ) (old new : X) (m : Mapping) → k < length xs → old ≡ get_or xs k old → f new ≡ f old ++ m ∷ [] →
-      map f (set xs k new) ≡ with_at k m (map f xs)
-  set_put [] k old new m lt e n = absurd (omega arith)
-  set_put (x ∷ xs) zero old new m lt e n =
-      ap (λ (l : List Mapping). l ∷ map f xs) (n ∙ ap (λ (y : X). f y ++ m ∷ []) e)
-  set_put (x ∷ xs) (suc k) old new m lt e n = ap (λ (l : List (List Mapping)). f x ∷ l) (set_put xs k old new m (omega arith) e n)
-
-  pub past_put : (xs : List X) (k : ℕ) (m : Mapping) → length xs ≤ k → map f xs ≡ with_at k m (map f xs)
-  past_put [] k m le = refl
-  past_put (x ∷ xs) zero m le = absurd (omega arith)
-  past_put (x ∷ xs) (suc k) m le = ap (λ (l : List (List Mapping)). f x ∷ l) (past_put xs k m (omega arith))
-
-with_at_length : (k : ℕ) (m : Mapping) (bins : List (List Mapping)) → length (with_at k m bins) ≡ length bins
-with_at_length k m [] = refl
-with_at_length zero m (bin ∷ bins) = refl
-with_at_length (suc k) m (bin ∷ bins) = ap suc (with_at_length k m bins)
-
--- what the bins are before a row comes in: a new term has an empty one
-pub record IsReady (us new : List Term) (old bins : List (List Mapping)) : Type 0 where
+-- what the bins are before an item comes in: a new term has an empty one
+pub record IsReady {X : Type 0} (us new : List Term) (old bins : List (List X)) : Type 0 where
   pub paired : length bins ≡ length new
   pub same : (s : Term) → binned new bins s ≡ binned us old s
 
-module _ (us new : List Term) (old bins : List (List Mapping)) (t : Term) (k : ℕ) (n : new ≡ with_term us t) (i : IsIdOf new k t) (p : length old ≡ length us) where
-  at_new : IsIdOf (with_term us t) k t
-  at_new = subst (λ (l : List Term). IsIdOf l k t) n i
+module _ {X : Type 0} where
+  -- ---- one item more
 
-  pub ready_new : k ≡ length old → bins ≡ old ++ [] ∷ [] → IsReady us new old bins
-  ready_new e b =
-      let behind : new ≡ us ++ t ∷ [] = n ∙ with_new us t k at_new (e ∙ p) in
-      record {
-        paired = ap length b ∙ length-append old ([] ∷ []) ∙ ap (λ (x : ℕ). x + 1) p ∙ sym (length-append us (t ∷ [])) ∙ ap length (sym behind);
-        same = λ s. ap (λ (l : List Term). binned l bins s) behind ∙ ap (λ (l : List (List Mapping)). binned (us ++ t ∷ []) l s) b ∙ empty_behind us old t s (sym p);
-      }
+  pub one_put : (us : List Term) (bins : List (List X)) (k : ℕ) (t : Term) (m : X) (s : Term) → AreHeldOnce us → IsIdOf us k t → length us ≡ length bins →
+      binned us (with_at k m bins) s ≡ binned us bins s ++ cond (same_term s t) (m ∷ []) []
+  one_put [] bins k t m s h i e = cc
+  one_put (u ∷ us) [] k t m s h i e = absurd (omega (arith, e))
+  one_put (u ∷ us) (bin ∷ bins) zero t m s h i e =
+      subst (λ (v : Term). binned (u ∷ us) ((bin ++ m ∷ []) ∷ bins) s ≡ binned (u ∷ us) (bin ∷ bins) s ++ cond (same_term s v) (m ∷ []) []) (some_same u t i) (by_test (same_term s u) refl)
+    where
+      some_same : (x y : Term) → Some x ≡ Some y → x ≡ y
+      some_same x y p = cc
 
-  pub ready_held : AreHeldOnce new → (k ≡ length old → ⊥) → bins ≡ old → IsReady us new old bins
-  ready_held o e b =
-      let held : new ≡ us = n ∙ with_held us t k (subst AreHeldOnce n o) at_new (λ a. e (a ∙ sym p)) in
-      record {
-        paired = ap length b ∙ p ∙ ap length (sym held);
-        same = λ s. ap (λ (l : List Term). binned l bins s) held ∙ ap (λ (l : List (List Mapping)). binned us l s) b;
-      }
+      by_test : (b : Bool) → same_term s u ≡ b → cond (same_term s u) (bin ++ m ∷ []) (binned us bins s) ≡ cond (same_term s u) bin (binned us bins s) ++ cond (same_term s u) (m ∷ []) []
+      by_test true p = ap (λ (c : Bool). cond c (bin ++ m ∷ []) (binned us bins s)) p ∙ sym (ap (λ (c : Bool). cond c bin (binned us bins s) ++ cond c (m ∷ []) []) p)
+      by_test false p = ap (λ (c : Bool). cond c (bin ++ m ∷ []) (binned us bins s)) p ∙ sym (append-nil (binned us bins s)) ∙ sym (ap (λ (c : Bool). cond c bin (binned us bins s) ++ cond c (m ∷ []) []) p)
+  one_put (u ∷ us) (bin ∷ bins) (suc k) t m s h i e = by_test (one_put us bins k t m s (once_behind u us h) i (omega (arith, e))) (same_term s u) refl
+    where
+      -- where the term is the first one, it isn't the other
+      other : same_term s u ≡ true → same_term s t ≡ false
+      other p = subst (λ (v : Term). same_term v t ≡ false) (sym (same_term_is s u p)) (same_turned t u (first_once u t us k h i))
 
-module _ (us new : List Term) (old bins after : List (List Mapping)) (t : Term) (k : ℕ) (m : Mapping) (r : IsReady us new old bins) (o : AreHeldOnce new)
-    (i : IsIdOf new k t) (e : after ≡ with_at k m bins) where
-  pub put_paired : length after ≡ length new
-  put_paired = ap length e ∙ with_at_length k m bins ∙ r.paired
+      by_test : binned us (with_at k m bins) s ≡ binned us bins s ++ cond (same_term s t) (m ∷ []) [] → (b : Bool) → same_term s u ≡ b →
+          cond (same_term s u) bin (binned us (with_at k m bins) s) ≡ cond (same_term s u) bin (binned us bins s) ++ cond (same_term s t) (m ∷ []) []
+      by_test rest true p =
+          ap (λ (c : Bool). cond c bin (binned us (with_at k m bins) s)) p ∙ sym (append-nil bin) ∙ ap (λ (c : Bool). bin ++ cond c (m ∷ []) []) (sym (other p))
+          ∙ ap (λ (c : Bool). cond c bin (binned us bins s) ++ cond (same_term s t) (m ∷ []) []) (sym p)
+      by_test rest false p =
+          ap (λ (c : Bool). cond c bin (binned us (with_at k m bins) s)) p ∙ rest
+          ∙ ap (λ (c : Bool). cond c bin (binned us bins s) ++ cond (same_term s t) (m ∷ []) []) (sym p)
 
-  pub put_gives : (s : Term) → binned new after s ≡ binned us old s ++ cond (same_term s t) (m ∷ []) []
-  put_gives s =
-      ap (λ (l : List (List Mapping)). binned new l s) e ∙ one_put new bins k t m s o i (sym r.paired)
-      ∙ ap (λ (l : List Mapping). l ++ cond (same_term s t) (m ∷ []) []) (r.same s)
+  no_matter : (b : Bool) (l : List X) → cond b l l ≡ l
+  no_matter true l = refl
+  no_matter false l = refl
 
--- a bin that is new has the row
-with_at_end : (bins : List (List Mapping)) (k : ℕ) (m : Mapping) → k ≡ length bins → bins ++ (m ∷ []) ∷ [] ≡ with_at k m (bins ++ [] ∷ [])
-with_at_end [] zero m e = refl
-with_at_end [] (suc k) m e = absurd (omega (arith, e))
-with_at_end (bin ∷ bins) zero m e = absurd (omega (arith, e))
-with_at_end (bin ∷ bins) (suc k) m e = ap (λ (l : List (List Mapping)). bin ∷ l) (with_at_end bins k m (omega (arith, e)))
+  pub empty_behind : (us : List Term) (bins : List (List X)) (t s : Term) → length us ≡ length bins → binned (us ++ t ∷ []) (bins ++ [] ∷ []) s ≡ binned us bins s
+  empty_behind [] [] t s e = no_matter (same_term s t) []
+  empty_behind [] (bin ∷ bins) t s e = absurd (omega (arith, e))
+  empty_behind (u ∷ us) [] t s e = absurd (omega (arith, e))
+  empty_behind (u ∷ us) (bin ∷ bins) t s e = ap (λ (l : List X). cond (same_term s u) bin l) (empty_behind us bins t s (omega (arith, e)))
 
-module _ (us new : List Term) (old after : List (List Mapping)) (t : Term) (k : ℕ) (m : Mapping) (n : new ≡ with_term us t) (i : IsIdOf new k t)
-    (p : length old ≡ length us) (o : AreHeldOnce new) (e : k ≡ length old) (a : after ≡ old ++ (m ∷ []) ∷ []) where
-  readied : IsReady us new old (old ++ [] ∷ [])
-  readied = ready_new us new old (old ++ [] ∷ []) t k n i p e refl
+  -- ---- look-ups
 
-  pub new_gives : (s : Term) → binned new after s ≡ binned us old s ++ cond (same_term s t) (m ∷ []) []
-  new_gives = put_gives us new old (old ++ [] ∷ []) after t k m readied o i (a ∙ with_at_end old k m e)
+  pub bin_found : (us : List Term) (bins : List (List X)) (k : ℕ) (t : Term) (bin : List X) → AreHeldOnce us → IsIdOf us k t → length us ≡ length bins →
+      slice_get bins k ≡ Some bin → binned us bins t ≡ bin
+  bin_found [] bins k t bin h i e g = cc
+  bin_found (u ∷ us) [] k t bin h i e g = cc
+  bin_found (u ∷ us) (b ∷ bins) zero t bin h i e g =
+      ap (λ (c : Bool). cond c b (binned us bins t)) (subst (λ (v : Term). same_term t v ≡ true) (own u t i) (same_term_own t)) ∙ same b bin g
+    where
+      own : (x y : Term) → Some x ≡ Some y → y ≡ x
+      own x y p = cc
+
+      same : (x y : List X) → Some x ≡ Some y → x ≡ y
+      same x y p = cc
+  bin_found (u ∷ us) (b ∷ bins) (suc k) t bin h i e g =
+      ap (λ (c : Bool). cond c b (binned us bins t)) (first_once u t us k h i) ∙ bin_found us bins k t bin (once_behind u us h) i (omega (arith, e)) g
+
+  pub bin_missing : (us : List Term) (bins : List (List X)) (t : Term) → is_held us t ≡ false → binned us bins t ≡ []
+  bin_missing [] bins t h = refl
+  bin_missing (u ∷ us) [] t h = refl
+  bin_missing (u ∷ us) (b ∷ bins) t h = by_test (bin_missing us bins t) (same_term t u) (is_held us t) refl refl h
+    where
+      by_test : (is_held us t ≡ false → binned us bins t ≡ []) → (c d : Bool) → same_term t u ≡ c → is_held us t ≡ d → (c || d) ≡ false →
+          cond (same_term t u) b (binned us bins t) ≡ []
+      by_test behind true d p q r = cc
+      by_test behind false d p q r = ap (λ (x : Bool). cond x b (binned us bins t)) p ∙ behind (q ∙ r)
+
+  -- ---- the list of bins
+
+  module _ {Y : Type 0} (f : Y → List X) where
+    pub set_put : (xs : List Y) (k : ℕ) (old new : Y) (m : X) → k < length xs → old ≡ get_or xs k old → f new ≡ f old ++ m ∷ [] →
+        map f (set xs k new) ≡ with_at k m (map f xs)
+    set_put [] k old new m lt e n = absurd (omega arith)
+    set_put (x ∷ xs) zero old new m lt e n =
+        ap (λ (l : List X). l ∷ map f xs) (n ∙ ap (λ (y : Y). f y ++ m ∷ []) e)
+    set_put (x ∷ xs) (suc k) old new m lt e n = ap (λ (l : List (List X)). f x ∷ l) (set_put xs k old new m (omega arith) e n)
+
+    pub past_put : (xs : List Y) (k : ℕ) (m : X) → length xs ≤ k → map f xs ≡ with_at k m (map f xs)
+    past_put [] k m le = refl
+    past_put (x ∷ xs) zero m le = absurd (omega arith)
+    past_put (x ∷ xs) (suc k) m le = ap (λ (l : List (List X)). f x ∷ l) (past_put xs k m (omega arith))
+
+  with_at_length : (k : ℕ) (m : X) (bins : List (List X)) → length (with_at k m bins) ≡ length bins
+  with_at_length k m [] = refl
+  with_at_length zero m (bin ∷ bins) = refl
+  with_at_length (suc k) m (bin ∷ bins) = ap suc (with_at_length k m bins)
+
+  module _ (us new : List Term) (old bins : List (List X)) (t : Term) (k : ℕ) (n : new ≡ with_term us t) (i : IsIdOf new k t) (p : length old ≡ length us) where
+    at_new : IsIdOf (with_term us t) k t
+    at_new = subst (λ (l : List Term). IsIdOf l k t) n i
+
+    pub ready_new : k ≡ length old → bins ≡ old ++ [] ∷ [] → IsReady us new old bins
+    ready_new e b =
+        let behind : new ≡ us ++ t ∷ [] = n ∙ with_new us t k at_new (e ∙ p) in
+        record {
+          paired = ap length b ∙ length-append old ([] ∷ []) ∙ ap (λ (x : ℕ). x + 1) p ∙ sym (length-append us (t ∷ [])) ∙ ap length (sym behind);
+          same = λ s. ap (λ (l : List Term). binned l bins s) behind ∙ ap (λ (l : List (List X)). binned (us ++ t ∷ []) l s) b ∙ empty_behind us old t s (sym p);
+        }
+
+    pub ready_held : AreHeldOnce new → (k ≡ length old → ⊥) → bins ≡ old → IsReady us new old bins
+    ready_held o e b =
+        let held : new ≡ us = n ∙ with_held us t k (subst AreHeldOnce n o) at_new (λ a. e (a ∙ sym p)) in
+        record {
+          paired = ap length b ∙ p ∙ ap length (sym held);
+          same = λ s. ap (λ (l : List Term). binned l bins s) held ∙ ap (λ (l : List (List X)). binned us l s) b;
+        }
+
+  module _ (us new : List Term) (old bins after : List (List X)) (t : Term) (k : ℕ) (m : X) (r : IsReady us new old bins) (o : AreHeldOnce new)
+      (i : IsIdOf new k t) (e : after ≡ with_at k m bins) where
+    pub put_paired : length after ≡ length new
+    put_paired = ap length e ∙ with_at_length k m bins ∙ r.paired
+
+    pub put_gives : (s : Term) → binned new after s ≡ binned us old s ++ cond (same_term s t) (m ∷ []) []
+    put_gives s =
+        ap (λ (l : List (List X)). binned new l s) e ∙ one_put new bins k t m s o i (sym r.paired)
+        ∙ ap (λ (l : List X). l ++ cond (same_term s t) (m ∷ []) []) (r.same s)
+
+  -- a bin that is new has the item
+  with_at_end : (bins : List (List X)) (k : ℕ) (m : X) → k ≡ length bins → bins ++ (m ∷ []) ∷ [] ≡ with_at k m (bins ++ [] ∷ [])
+  with_at_end [] zero m e = refl
+  with_at_end [] (suc k) m e = absurd (omega (arith, e))
+  with_at_end (bin ∷ bins) zero m e = absurd (omega (arith, e))
+  with_at_end (bin ∷ bins) (suc k) m e = ap (λ (l : List (List X)). bin ∷ l) (with_at_end bins k m (omega (arith, e)))
+
+  module _ (us new : List Term) (old after : List (List X)) (t : Term) (k : ℕ) (m : X) (n : new ≡ with_term us t) (i : IsIdOf new k t)
+      (p : length old ≡ length us) (o : AreHeldOnce new) (e : k ≡ length old) (a : after ≡ old ++ (m ∷ []) ∷ []) where
+    readied : IsReady us new old (old ++ [] ∷ [])
+    readied = ready_new us new old (old ++ [] ∷ []) t k n i p e refl
+
+    pub new_gives : (s : Term) → binned new after s ≡ binned us old s ++ cond (same_term s t) (m ∷ []) []
+    new_gives = put_gives us new old (old ++ [] ∷ []) after t k m readied o i (a ∙ with_at_end old k m e)
 
 -- ---- the loop over the rows
 
@@ -232,7 +233,7 @@ module _ (column : ℕ) (rows : List (Bor Mapping)) (i : ℕ) (x : Bor Mapping) 
 
 -- ---- what stands at a place
 
-pub get_found : {X : Type 0} (f : X → List Mapping) (xs : List X) (k : ℕ) (x : X) → k < length xs → x ≡ get_or xs k x → slice_get (map f xs) k ≡ Some (f x)
+pub get_found : {X Y : Type 0} (f : X → List Y) (xs : List X) (k : ℕ) (x : X) → k < length xs → x ≡ get_or xs k x → slice_get (map f xs) k ≡ Some (f x)
 get_found f [] k x lt e = absurd (omega arith)
 get_found f (y ∷ xs) zero x lt e = ap (λ z. Some (f z)) (sym e)
 get_found f (y ∷ xs) (suc k) x lt e = get_found f xs k x (omega arith) e

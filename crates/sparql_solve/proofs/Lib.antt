@@ -33,7 +33,9 @@ pub mod OwnLemmas
 pub mod StepLemmas
 pub mod GrownLemmas
 pub mod OnceLemmas
+pub mod PartnerLemmas
 pub mod EmptyLemmas
 pub mod BoundLemmas
 pub mod FlagLemmas
 pub mod TurnedLemmas
+pub mod ShownLemmas

@@ -1,11 +1,12 @@
 -- Triples that move into rows, and what is looked up once for all rows.
-use Rattle.std.proofs.Common.{◌≡◌, ℕ, ◌+◌, true, List, [], ◌∷◌, ◌++◌, map, take, length, sym, ap, ◌∙◌, arith, append_assoc, append-nil, length-append, Option, Some, None}
+use Rattle.std.proofs.Common.{◌≡◌, ℕ, ◌+◌, true, List, [], ◌∷◌, ◌++◌, map, take, length, refl, subst, sym, ap, ◌∙◌, arith, append_assoc, append-nil, length-append, Option, Some, None}
 use Rattle.std.specs.List.{cons_option, list_all, sum_by, IsLastAndRest}
 use Rattle.std.proofs.lemmas.List.{length-replicate}
 use Rattle.std.proofs.lemmas.List.Folds.{list_all-append}
 use Rattle.rdf_terms.specs.Quad.{QuadParts}
 use Rattle.rdf_terms.specs.declared.term.Term.{Term}
 use Rattle.rdf_terms.specs.declared.quad.GraphName.{GraphName}
+use Rattle.rdf_dataset.specs.Sorted.{ListsOnce}
 use Rattle.rdf_dataset.specs.State.{State}
 use Rattle.sparql_values.specs.Mapping.{Variables, Mapping, empty_mapping}
 use Rattle.sparql_algebra.proofs.CallerLemmas.{and_left, and_right, SameBag-map}
@@ -14,9 +15,12 @@ use Rattle.sparql_solve.specs.declared.look_ups.Graphs.TheVariants.{One}
 use Rattle.sparql_solve.specs.declared.look_ups.LookUp.{LookUp}
 use Rattle.sparql_solve.specs.declared.place.Places.{Places}
 use Rattle.sparql_solve.specs.LookUps.{widened}
-use Rattle.sparql_solve.specs.Matching.{has_held, matched, matches_of, matching}
+use Rattle.sparql_solve.specs.Matching.{has_held, matched, matches_of, matching, quads_under}
 use Rattle.sparql_solve.specs.Members.{AreSolutions}
+use Rattle.sparql_solve.specs.Partners.{AreFound}
 use Rattle.sparql_solve.specs.Sides.{found, found_among}
+use Rattle.sparql_solve.proofs.FitLemmas.{listed_held}
+use Rattle.sparql_solve.proofs.LookUpLemmas.{look_up_gives}
 
 pub split_off : {X : Type 0} (xs rest : List X) (x : X) → xs ≡ rest ++ x ∷ [] → IsLastAndRest xs x rest
 split_off xs rest x e = (e, (let z : length rest + 1 ≡ length xs = omega (arith, ap length e, length-append rest (x ∷ [])) in z))
@@ -63,3 +67,26 @@ module _ (p : Places) (m : Mapping) (q : QuadParts) (rest items : List QuadParts
 
     pub grown_by_none : matched p m q ≡ None → out ++ matches_of rest p m ≡ total
     grown_by_none f = ap (λ (o : Option Mapping). out ++ cons_option o (matches_of rest p m)) (sym f) ∙ grown_so_far
+
+-- ---- quads that were found once
+
+module _ (vs : Variables) (s : State) (l : LookUp) (p : Places) (m wide : Mapping) (quads : List QuadParts) (is : AreFound vs s l quads) (alone : l.places ≡ p ∷ [])
+    (em : m ≡ empty_mapping vs) (ew : wide ≡ widened l.hidden m) where
+  the_places : is.places ≡ p
+  the_places = first_is is.places p (sym is.alone ∙ alone)
+    where
+      first_is : (x y : Places) → x ∷ [] ≡ y ∷ [] → x ≡ y
+      first_is x y e = cc
+
+  found_listed : ListsOnce (quads_under s is.graph p wide) quads
+  found_listed =
+      subst (λ (w : Mapping). ListsOnce (quads_under s is.graph p w) quads) (sym (ew ∙ ap (widened l.hidden) em))
+      (subst (λ (q : Places). ListsOnce (quads_under s is.graph q (widened l.hidden (empty_mapping vs))) quads) the_places is.listed)
+
+  pub found_had : list_all (has_held p wide) quads ≡ true
+  found_had = listed_held s is.graph p wide quads quads found_listed refl
+
+  pub found_gives : (n : ℕ) (rows out : List Mapping) → rows ≡ matches_of quads p wide → out ≡ map (take n) rows → n ≡ length vs →
+      AreSolutions s out (λ d. found vs d l (empty_mapping vs))
+  found_gives n rows out er eo en =
+      few_gives vs s is.graph l p m wide n rows out is.in_graph alone em ew (look_up_gives s is.graph p wide quads quads rows found_listed refl er) eo en

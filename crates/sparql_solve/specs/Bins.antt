@@ -19,13 +19,13 @@ abbrev pub has_at : ℕ → Term → Mapping → Bool
 has_at column t m = is_term t (value_at m column)
 
 -- what stands in the bin of a term, where each term has the bin at its own place
-abbrev pub binned : List Term → List (List Mapping) → Term → List Mapping
+abbrev pub binned : {X : Type 0} → List Term → List (List X) → Term → List X
 binned [] bins t = []
 binned (u ∷ terms) [] t = []
 binned (u ∷ terms) (bin ∷ bins) t = cond (same_term t u) bin (binned terms bins t)
 
--- the bins with one mapping more in the one at the place
-abbrev pub with_at : ℕ → Mapping → List (List Mapping) → List (List Mapping)
+-- the bins with one item more in the one at the place
+abbrev pub with_at : {X : Type 0} → ℕ → X → List (List X) → List (List X)
 with_at place m [] = []
 with_at zero m (bin ∷ bins) = (bin ++ m ∷ []) ∷ bins
 with_at (suc place) m (bin ∷ bins) = bin ∷ with_at place m bins

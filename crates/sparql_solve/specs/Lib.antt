@@ -10,5 +10,7 @@ pub mod Members
 pub mod Under
 pub mod Flags
 pub mod Pairs
+pub mod Shown
+pub mod Partners
 pub mod Steps
 pub mod Ask

@@ -131,6 +131,13 @@ fn are_told(spots: Spots) -> bool
     is_told(spots.predicate) && is_told(spots.subject) && is_told(spots.object)
 }
 
+/// Whether no place has to be asked for a triple that was looked up under the row.
+pub(crate) fn are_told_in(row: &Mapping, places: &Places) -> bool
+    ensures { IsTrue result → AreTold (spots_in places.now row.now) }
+{
+    are_told(spots_in(row, places))
+}
+
 // A copy of each value.
 fn copied_all(alloc: Global, values: &[Option<Term>]) -> Result<Vec<Option<Term>>, NoMemory>
     ensures { IfOk result (λ copy. copy.items ≡ values.now) }

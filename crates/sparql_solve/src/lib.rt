@@ -28,12 +28,14 @@ mod minus;
 mod names;
 mod once;
 mod order;
+mod partners;
 mod parts;
 mod place;
 mod results;
 mod rows;
 mod shapes;
 mod sharing;
+mod shown;
 mod sides;
 mod values;
 

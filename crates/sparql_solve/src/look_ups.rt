@@ -1,6 +1,6 @@
 //! Basic graph patterns looked up under the rows of the left side (SPARQL 1.1 Query, sections 13.3,
 //! 18.3.1 and 18.5).
-ghost use Rattle.std.specs.Prelude.{◌≡◌, ◌∷◌, [], IfOk, IfSome, length};
+ghost use Rattle.std.specs.Prelude.{◌≡◌, ◌∷◌, [], IfOk, IfSome, Some, length};
 ghost use Rattle.std.specs.Option.{option_copied};
 ghost use Rattle.std.specs.List.{flat_map, list_any};
 ghost use Rattle.rdf_terms.specs.declared.term.Term.{Term};
@@ -12,16 +12,19 @@ ghost use Rattle.sparql_algebra.specs.Results.{is_some_solution};
 ghost use Rattle.sparql_solve.specs.LookUps.{looked_up};
 ghost use Rattle.sparql_solve.specs.Sides.{found, found_in, found_under, graph_where, graphs_of, look_up_in, tried};
 ghost use Rattle.sparql_solve.specs.Members.{AreSolutions};
+ghost use Rattle.sparql_solve.specs.Partners.{AreFound};
+ghost use Rattle.sparql_solve.specs.declared.place.Places.{Places};
 
 use crate::evaluation::Evaluation;
+use crate::grown::copies_grown;
 use crate::mappings::Mapping;
 use crate::matching::{
-    asks_same, cut_rows, few_of_one, matching_rows, moved_of_one, rows_of_one, some_of_one,
+    asks_same, cut_rows, few_quads_of, matching_rows, moved_of_one, rows_of_one, some_of_one,
 };
 use crate::place::{Places, all_places};
 use crate::values::copy_value;
 use rdf_dataset::Source;
-use rdf_terms::{GraphName, Items, NoMemory, Term, Text};
+use rdf_terms::{GraphName, Items, NoMemory, Quad, Term, Text};
 use sparql_trees::{BasicGraphPattern, VarOrIri};
 use sparql_values::SortedNames;
 use std::alloc::Global;
@@ -126,7 +129,8 @@ pub(crate) fn look_up_of_names(alloc: Global, graphs: Graphs) -> LookUp
 
 // The only triple pattern.
 fn only_pattern(look_up: &LookUp) -> Option<&Places>
-    ensures { IfSome (option_copied result) (λ p. look_up.now.places ≡ p ∷ []) }
+    ensures alone { IfSome (option_copied result) (λ p. look_up.now.places ≡ p ∷ []) }
+    ensures all { (p : Places) → look_up.now.places ≡ p ∷ [] → option_copied result ≡ Some p }
 {
     match look_up.places.as_slice() {
         [places] => Some(places),
@@ -134,8 +138,8 @@ fn only_pattern(look_up: &LookUp) -> Option<&Places>
     }
 }
 
-// The only triple pattern, where there are no hidden variables.
-fn lone_pattern(look_up: &LookUp) -> Option<&Places>
+/// The only triple pattern, where there are no hidden variables.
+pub(crate) fn lone_pattern(look_up: &LookUp) -> Option<&Places>
     ensures alone { IfSome (option_copied result) (λ p. look_up.now.places ≡ p ∷ []) }
     ensures shown { IfSome result (λ _. look_up.now.hidden ≡ 0) }
 {
@@ -385,48 +389,57 @@ pub(crate) fn some_found<S: Source>(
     found_rows(evaluation, look_up, row)
 }
 
-/// What is looked up by itself, whatever rows bind, where it is one triple pattern in one graph that
-/// has fewer triples than so many: no more of them are looked at.
+/// The quads of what is looked up by itself, whatever rows bind, where it is one triple pattern in one
+/// graph that has fewer triples than so many: no more of them are looked at.
 pub(crate) fn few_found<S: Source>(
     evaluation: &Evaluation<S>,
     look_up: &LookUp,
     most: usize,
-) -> Result<Option<Vec<Mapping>>, NoMemory>
-    ensures { IfOk result (λ few. IfSome few (λ out. AreSolutions
-        (S.contents evaluation.now.source.now) out.items
-        (λ d. found evaluation.now.scope.variables.now d look_up.now
-        (empty_mapping evaluation.now.scope.variables.now)))) }
+) -> Result<Option<Vec<Quad>>, NoMemory>
+    ensures { IfOk result (λ few. IfSome few (λ quads. AreFound evaluation.now.scope.variables.now
+        (S.contents evaluation.now.source.now) look_up.now quads.items)) }
 {
     let Graphs::One(graph) = &look_up.graphs else {
         return Ok(None);
     };
-    let unbound = Mapping::unbound(evaluation.scope.alloc, evaluation.scope.variables)?;
-    if let Some(places) = lone_pattern(look_up) {
-        return few_of_one(
-            evaluation.scope.alloc,
-            graph,
-            evaluation.source,
-            places,
-            &unbound,
-            most,
-        );
-    }
     let Some(places) = only_pattern(look_up) else {
         return Ok(None);
     };
+    let unbound = Mapping::unbound(evaluation.scope.alloc, evaluation.scope.variables)?;
     let nothing = unbound.widen(evaluation.scope.alloc, look_up.hidden)?;
-    let Some(rows) = few_of_one(
+    let few = few_quads_of(
         evaluation.scope.alloc,
         graph,
         evaluation.source,
         places,
         &nothing,
         most,
-    )?
-    else {
-        return Ok(None);
+    )?;
+    if few.are_all {
+        return Ok(Some(few.quads));
+    }
+    Ok(None)
+}
+
+/// The rows of the quads of what is looked up by itself.
+pub(crate) fn rows_of_found<S: Source>(
+    evaluation: &Evaluation<S>,
+    look_up: &LookUp,
+    quads: Vec<Quad>,
+) -> Result<Vec<Mapping>, NoMemory>
+    requires { AreFound evaluation.now.scope.variables.now
+        (S.contents evaluation.now.source.now) look_up.now quads.items }
+    ensures { IfOk result (λ out. AreSolutions
+        (S.contents evaluation.now.source.now) out.items
+        (λ d. found evaluation.now.scope.variables.now d look_up.now
+        (empty_mapping evaluation.now.scope.variables.now))) }
+{
+    let Some(places) = only_pattern(look_up) else {
+        unreachable!()
     };
+    let unbound = Mapping::unbound(evaluation.scope.alloc, evaluation.scope.variables)?;
+    let nothing = unbound.widen(evaluation.scope.alloc, look_up.hidden)?;
+    let rows = copies_grown(evaluation.scope.alloc, &nothing, places, quads)?;
     let columns = evaluation.scope.variables.len();
-    let shown = cut_rows(evaluation.scope.alloc, rows, columns)?;
-    Ok(Some(shown))
+    cut_rows(evaluation.scope.alloc, rows, columns)
 }

@@ -1,6 +1,6 @@
 //! Basic graph patterns: the rows under which every instance lies in the graph
 //! (SPARQL 1.1 Query, section 18.3.1), by look-ups.
-ghost use Rattle.std.specs.Prelude.{◌≡◌, ◌++◌, ◌<◌, [], IfOk, IfSome, IsTrue, None, OnOk, Some, cond, length, map, take};
+ghost use Rattle.std.specs.Prelude.{◌≡◌, ◌++◌, ◌<◌, [], IfOk, IsTrue, None, OnOk, Some, cond, length, map, take};
 ghost use Rattle.std.specs.List.{list_all};
 ghost use Rattle.rdf_dataset.specs.Sorted.{ListsOnce};
 ghost use Rattle.rdf_dataset.specs.State.{AppendsSome};
@@ -20,9 +20,9 @@ use std::collections::VecDeque;
 // Among how many triple patterns one is looked for that is linked to what is bound.
 const FEW: usize = 64;
 
-// Binds in the row what the triple binds, which was looked up under it, and answers whether it fits;
-// a variable that stands twice may still want two terms.
-fn matches_row(
+/// Binds in the row what the triple binds, which was looked up under it, and answers whether it fits;
+/// a variable that stands twice may still want two terms.
+pub(crate) fn matches_row(
     alloc: Global,
     row: &mut Mapping,
     places: &Places,
@@ -212,27 +212,6 @@ pub(crate) fn moved_of_one<S: Source>(
 {
     let found = quads_of(alloc, graph, source, places, &row)?;
     row_grown(alloc, row, places, found)
-}
-
-/// The rows that one triple pattern makes of a row, if it has fewer triples than so many: no more of
-/// them are looked at.
-pub(crate) fn few_of_one<S: Source>(
-    alloc: Global,
-    graph: &GraphName,
-    source: &S,
-    places: &Places,
-    row: &Mapping,
-    most: usize,
-) -> Result<Option<Vec<Mapping>>, NoMemory>
-    ensures { IfOk result (λ few. IfSome few (λ out. AreSolutions (S.contents source.now) out.items
-        (λ d. matches_of (d.quads graph.now) places.now row.now))) }
-{
-    let found = few_quads_of(alloc, graph, source, places, row, most)?;
-    if found.are_all {
-        let rows = copies_grown(alloc, row, places, found.quads)?;
-        return Ok(Some(rows));
-    }
-    Ok(None)
 }
 
 /// Some of the rows that one triple pattern makes of a row, one at least where there are any: a quad

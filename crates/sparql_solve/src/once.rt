@@ -5,10 +5,11 @@ use crate::above::Above;
 use crate::evaluation::Evaluation;
 use crate::mappings::Mapping;
 use crate::matching::few_quads_of;
+use crate::partners::{end_of, end_term};
 use crate::place::{Place, Places, places_of};
 use crate::sharing::{few_beside, is_group};
 use rdf_dataset::Source;
-use rdf_terms::{GraphName, NoMemory, Quad, Term, TermTable};
+use rdf_terms::{GraphName, NoMemory, Quad, TermTable};
 use sparql_trees::{Member, Pattern, TriplePattern};
 use sparql_values::SortedNames;
 use std::alloc::Global;
@@ -71,22 +72,6 @@ fn terms_at(alloc: Global, rows: &[Mapping], place: &Place) -> Result<Option<Ask
         many = many.max(place.saturating_add(1));
     }
     Ok(Some(Asked { terms, many }))
-}
-
-// The place of the subject or of the object.
-fn end_of(places: &Places, is_subject: bool) -> &Place {
-    if is_subject {
-        return &places.subject;
-    }
-    &places.object
-}
-
-// The term of the subject or of the object.
-fn end_term(quad: &Quad, is_subject: bool) -> &Term {
-    if is_subject {
-        return quad.subject();
-    }
-    quad.object()
 }
 
 // Whether each quad has one of the terms there.

@@ -16,6 +16,7 @@ use crate::mappings::{Mapping, place_of};
 use crate::order::{ordered, sort_mappings};
 use crate::rows::Row;
 use crate::shapes::has_minus;
+use crate::shown::{are_apart, moved_rows};
 use rdf_dataset::Source;
 use rdf_terms::{GraphName, NoMemory, Text, Vocabulary};
 use sparql_trees::{
@@ -272,7 +273,7 @@ fn are_all(columns: &[Option<usize>], rows: &[Mapping]) -> bool
 }
 
 // The columns of each row, under DISTINCT in fewer rows. The rows stay as they are where the columns
-// are all of theirs.
+// are all of theirs, and their values are moved where no column stands twice.
 fn selected_rows(
     alloc: Global,
     rows: Vec<Mapping>,
@@ -286,6 +287,9 @@ fn selected_rows(
 {
     if !distinct && are_all(columns, &rows) {
         return rows_of(alloc, rows);
+    }
+    if !distinct && are_apart(columns) {
+        return moved_rows(alloc, rows, columns);
     }
     projected_rows(alloc, &rows, columns, distinct)
 }

@@ -1,10 +1,12 @@
 //! Rows: what is handed out of solutions.
-ghost use Rattle.std.specs.Prelude.{◌≡◌};
+ghost use Rattle.std.specs.Prelude.{◌≡◌, true, IfOk, map};
 ghost use Rattle.std.specs.Option.{option_map};
-ghost use Rattle.sparql_values.specs.Mapping.{value_at};
+ghost use Rattle.sparql_values.specs.Mapping.{value_at, value_in};
 ghost use Rattle.sparql_algebra.specs.Order.{mapping_cmp};
+ghost use Rattle.sparql_solve.specs.Shown.{apart, left_of};
 
-use rdf_terms::Term;
+use rdf_terms::{NoMemory, Term};
+use std::alloc::Global;
 use std::cmp::Ordering;
 use std::marker::Model;
 
@@ -21,6 +23,17 @@ impl Model for Row {
     ghost Value = { List (Option Term) };
 
     ghost view = { λ r. r.values.items };
+}
+
+// Takes what stands at the column, if there is one.
+fn take_in(values: &mut Vec<Option<Term>>, column: Option<usize>) -> Option<Term>
+    ensures value { result ≡ value_in values.old.items column }
+    ensures left { values.new.items ≡ left_of values.old.items column }
+{
+    match values.get_mut(column?) {
+        Some(value) => value.take(),
+        None => None,
+    }
 }
 
 impl Row {
@@ -47,6 +60,19 @@ impl Row {
         } else {
             None
         }
+    }
+
+    /// The row of these columns of it, none of which stands twice; one that isn't there is unbound.
+    pub(crate) fn moved(self, alloc: Global, columns: &[Option<usize>]) -> Result<Row, NoMemory>
+        requires { apart columns.now ≡ true }
+        ensures { IfOk result (λ row. row ≡ map (value_in self) columns.now) }
+    {
+        let Row { values: mut own } = self;
+        let mut values = Vec::with_capacity(alloc, columns.len())?;
+        for column in columns {
+            values.push(take_in(&mut own, *column))?;
+        }
+        Ok(Row { values })
     }
 
     /// By the values from the left, unbound first.

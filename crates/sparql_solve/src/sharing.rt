@@ -31,6 +31,9 @@ const FEW: usize = 16;
 // For how many look-ups at least it is asked whether a triple pattern has few triples.
 const MANY: usize = 64;
 
+// By how many rows it is told how many look-ups all of them take.
+const SAMPLE: usize = 256;
+
 // Adds the variable's column.
 fn mark(
     columns: &mut Vec<usize>,
@@ -232,15 +235,19 @@ pub(crate) fn served_len(asked: &Mapping, rows: &[Mapping], flags: &Flags) -> us
     len
 }
 
-/// How many look-ups of a triple pattern rows take: those side by side that ask the same share one.
+/// How many look-ups of a triple pattern rows take: those side by side that ask the same share one. Of
+/// many rows the first ones tell.
 pub(crate) fn look_ups_under(rows: &[Mapping], places: &Places) -> usize {
-    let mut many: usize = rows.len().min(1);
-    for place in 1..rows.len() {
+    let sample = rows.len().min(SAMPLE);
+    let mut many: u128 = sample.min(1) as u128;
+    for place in 1..sample {
         if !asks_same(&rows[place - 1], &rows[place], places) {
             many = many.saturating_add(1);
         }
     }
-    many
+    let all = rows.len() as u128;
+    let look_ups = many.saturating_mul(all) / sample.max(1) as u128;
+    look_ups.min(all) as usize
 }
 
 /// Fewer triples than these are found once, and aren't looked up so many times: no more than there are

@@ -7,8 +7,8 @@ ghost use Rattle.sparql_algebra.specs.Bags.{SameBag};
 ghost use Rattle.sparql_algebra.specs.Solutions.{merges, or_alone, satisfies};
 ghost use Rattle.sparql_algebra.specs.Under.{agreeing};
 ghost use Rattle.sparql_values.specs.Mapping.{empty_mapping, merge};
-ghost use Rattle.sparql_solve.specs.Members.{AreSolutions, element_solutions};
-ghost use Rattle.sparql_solve.specs.Sides.{found};
+ghost use Rattle.sparql_solve.specs.Members.{element_solutions};
+ghost use Rattle.sparql_solve.specs.Partners.{AreFound, asks_end, has_no_condition};
 ghost use Rattle.sparql_solve.specs.Steps.{Begins};
 ghost use Rattle.sparql_solve.specs.Under.{AreEnough, AreMade, IsLookUpFor, IsLookUpOf, asked, binds_none, counting, is_removed, is_served, kept, masked, met, own_columns, where_none};
 
@@ -17,16 +17,20 @@ use crate::basic::{is_unbound_in, own_columns};
 use crate::evaluation::{Evaluation, Scope};
 use crate::filters::filtered_rows;
 use crate::flags::Flags;
+use crate::grown::are_told_in;
 use crate::joins::{join, join_moved, left_join, left_join_moved, or_alone};
 use crate::look_ups::{
-    Graphs, LookUp, asks_all_same, few_found, found_rows, grown_rows, some_found,
+    Graphs, LookUp, asks_all_same, few_found, found_rows, grown_rows, lone_pattern, rows_of_found,
+    some_found,
 };
 use crate::mappings::Mapping;
 use crate::members::{is_joined, is_removed};
 use crate::minus::{minus, minus_moved};
+use crate::partners::{all_ask_end, has_no_condition, rows_beside_quads};
+use crate::place::Places;
 use crate::sharing::{few_beside, look_ups_under, served_len, served_rows, stops_looking};
 use rdf_dataset::Source;
-use rdf_terms::{GraphName, NoMemory};
+use rdf_terms::{GraphName, NoMemory, Quad};
 use sparql_trees::{Expression, Member};
 use sparql_values::SortedNames;
 use std::alloc::Global;
@@ -567,17 +571,15 @@ fn first_looked_up<S: Source>(
     rows_one_by_one(&evaluation.scope, &served, &found, member, under)
 }
 
-// What is looked up once for all of the rows, where it is one triple pattern that has so few triples,
-// whatever rows bind, that these are found faster than under each row.
+// The quads of what is looked up once for all of the rows, where it is one triple pattern that has so few
+// triples, whatever rows bind, that these are found faster than under each row.
 fn found_once<S: Source>(
     evaluation: &Evaluation<S>,
     look_up: &LookUp,
     rows: &[Mapping],
-) -> Result<Option<Vec<Mapping>>, NoMemory>
-    ensures { IfOk result (λ few. IfSome few (λ out. AreSolutions
-        (S.contents evaluation.now.source.now) out.items
-        (λ d. found evaluation.now.scope.variables.now d look_up.now
-        (empty_mapping evaluation.now.scope.variables.now)))) }
+) -> Result<Option<Vec<Quad>>, NoMemory>
+    ensures { IfOk result (λ few. IfSome few (λ quads. AreFound evaluation.now.scope.variables.now
+        (S.contents evaluation.now.source.now) look_up.now quads.items)) }
 {
     let [places] = look_up.places.as_slice() else {
         return Ok(None);
@@ -588,28 +590,69 @@ fn found_once<S: Source>(
     }
 }
 
-// What a member makes of rows with what is looked up once for all of them, and joined by key.
+// The end of the triple pattern that alone the rows ask for, where what they make is found by it: no
+// variable stands twice in the pattern.
+fn asked_end(rows: &[Mapping], places: &Places, member: &Member, under: &Above) -> Option<bool>
+    ensures asked { IfSome result (λ is_subject.
+        list_all (asks_end is_subject places.now) rows.now ≡ true) }
+    ensures under { IfSome result (λ _. binds_none under.now ≡ true) }
+    ensures free { IfSome result (λ _. has_no_condition (element member.now) ≡ true) }
+{
+    let Some(first) = rows.first() else {
+        return None;
+    };
+    if !under.is_unbound() || !has_no_condition(member) || !are_told_in(first, places) {
+        return None;
+    }
+    if all_ask_end(true, places, rows) {
+        return Some(true);
+    }
+    if all_ask_end(false, places, rows) {
+        return Some(false);
+    }
+    None
+}
+
+// What a member makes of rows with the quads that are looked up once for all of them: each row finds its
+// own by the end that it asks for, or they are joined by key.
 fn rows_joined_once<S: Source>(
     evaluation: &Evaluation<S>,
     _graph: &GraphName,
     rows: Vec<Mapping>,
-    all: &[Mapping],
-    _look_up: &LookUp,
+    quads: Vec<Quad>,
+    look_up: &LookUp,
     member: &Member,
     under: &Above,
 ) -> Result<Vec<Mapping>, NoMemory>
     requires gives { IsLookUpOf evaluation.now.scope.variables.now
-        (S.contents evaluation.now.source.now) _look_up.now
+        (S.contents evaluation.now.source.now) look_up.now
         (λ d. element_solutions evaluation.now.scope.variables.now d _graph.now
         (element member.now)) }
-    requires found { AreSolutions (S.contents evaluation.now.source.now) all.now
-        (λ d. found evaluation.now.scope.variables.now d _look_up.now
-        (empty_mapping evaluation.now.scope.variables.now)) }
+    requires counts { IsLookUpFor evaluation.now.scope.variables.now
+        (S.contents evaluation.now.source.now) (element member.now)
+        look_up.now (λ d. element_solutions evaluation.now.scope.variables.now d _graph.now
+        (element member.now)) }
+    requires found { AreFound evaluation.now.scope.variables.now
+        (S.contents evaluation.now.source.now) look_up.now quads.items }
     ensures { IfOk result (λ out. AreMade evaluation.now.scope.variables.now
         (S.contents evaluation.now.source.now) _graph.now under.now
         (element member.now) rows.items out.items) }
 {
-    rows_moved_beside(&evaluation.scope, rows, all, member, under)
+    if let Some(places) = lone_pattern(look_up) {
+        if let Some(is_subject) = asked_end(&rows, places, member, under) {
+            return rows_beside_quads(
+                &evaluation.scope,
+                rows,
+                look_up,
+                places,
+                is_subject,
+                &quads,
+                member,
+            );
+        }
+    }
+    let all = rows_of_found(evaluation, look_up, quads)?;
+    rows_moved_beside(&evaluation.scope, rows, &all, member, under)
 }
 
 /// What a member makes of rows by look-ups under each of them, or by one for all of them where it is
@@ -633,8 +676,8 @@ pub(crate) fn rows_looked_up<S: Source>(
         (S.contents evaluation.now.source.now) graph.now under.now
         (element member.now) rows.items b.rows.items b.rest.items) }
 {
-    if let Some(found) = found_once(evaluation, look_up, &rows)? {
-        let once = rows_joined_once(evaluation, graph, rows, &found, look_up, member, under)?;
+    if let Some(quads) = found_once(evaluation, look_up, &rows)? {
+        let once = rows_joined_once(evaluation, graph, rows, quads, look_up, member, under)?;
         return Ok(all_made(evaluation.scope.alloc, once));
     }
     let before = evaluation.looked.get();

@@ -19,3 +19,7 @@ returns c =
     ∙ ap (λ (xs : List Mapping). times_selected c.args.distinct (count_by (same_mapping m) (map (λ r. map (value_in r) c.args.columns.now) xs)))
     c.deref-2.ensures.value)
     c.projected_rows.ensures
+
+pub returns-then-are_apart : goal.returns-then-are_apart
+returns-then-are_apart c =
+    IfOk-weaker c.moved_rows.result _ _ (λ out h m. ap (λ (xs : List Mapping). times_selected c.args.distinct (count_by (same_mapping m) xs)) h) c.moved_rows.ensures
