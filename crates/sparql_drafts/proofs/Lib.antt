@@ -2,6 +2,7 @@ mod AbbreviationLemmas
 mod BlankSteps
 pub mod CallerLemmas
 mod DraftsBelow
+mod FailLemmas
 mod LeafSteps
 mod ScopeLabels
 mod ScopeLoops

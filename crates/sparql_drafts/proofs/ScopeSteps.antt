@@ -1,73 +1,120 @@
 -- What the prologue tells is a step of the reading.
-use Rattle.std.proofs.Common.{◌≡◌, ◌∙◌, ap, sym, ℕ, true, List, Option, Some, None, Result, Ok, Err, IfOk, true≢false}
+use Rattle.std.proofs.Common.{◌≡◌, ◌∙◌, ap, refl, sym, subst, ℕ, Bool, true, false, cond, ◌||◌, List, [], ◌∷◌, ◌++◌, map, Option, Some, None, Result, Ok, Err, IfOk, true≢false}
 use Rattle.std.specs.Prelude.{IfErr, OnOk}
+use Rattle.std.specs.List.{list_any}
+use Rattle.std.specs.Map.{lookup}
 use Rattle.std.specs.Option.{option_map}
-use Rattle.rdf_grammar.specs.Prologue.{Prologue, declared, knows, iri_of, moves_base, resolved}
+use Rattle.rdf_grammar.specs.Keys.{key_of, same_key}
+use Rattle.rdf_grammar.specs.Literals.{ExplainsLiteral, literal_of, untagged}
+use Rattle.rdf_grammar.specs.Prologue.{Prologue, declared, iri_of, knows, moves_base, prefixed, resolved}
 use Rattle.rdf_grammar.specs.PrologueFaults.{Explains}
 use Rattle.rdf_grammar.specs.declared.prologue.PrologueFault.{PrologueFault}
-use Rattle.rdf_grammar.specs.declared.prologue.PrologueFault.TheVariants.{UnknownPrefix, Relative, NoMemory}
-use Rattle.rdf_grammar.specs.declared.tree.Name.{Name}
-use Rattle.rdf_grammar.specs.declared.tree.Name.TheVariants.{Full}
-use Rattle.rdf_grammar.proofs.CallerLemmas.{reference_lacking, name_lacking, literal_lacking, literal_known}
+use Rattle.rdf_grammar.specs.declared.prologue.PrologueFault.TheVariants as why
 use Rattle.rdf_grammar.specs.declared.tree.Literal.{Literal}
-use Rattle.rdf_grammar.specs.Literals.{ExplainsLiteral, known_literal, literal_of}
-use Rattle.rdf_terms.specs.Literal.{LiteralParts}
-use Rattle.rdf_grammar.specs.Kept.{Gives, Tells}
-use Rattle.sparql_grammar.specs.declared.tree.Declaration.TheVariants as d
-use Rattle.sparql_drafts.specs.Meaning.{declaration, iri, literal}
+use Rattle.rdf_grammar.specs.declared.tree.Literal.TheVariants as l
+use Rattle.rdf_grammar.specs.declared.tree.Name.{Name}
+use Rattle.rdf_grammar.specs.declared.tree.Name.TheVariants.{Full, Prefixed}
+use Rattle.rdf_grammar.proofs.CallerLemmas.{reference_lacking, name_lacking, literal_lacking}
 use Rattle.rdf_terms.proofs.CallerLemmas.{some_is}
+use Rattle.rdf_terms.specs.Literal.{LiteralParts}
+use Rattle.rdf_tokens.specs.Values.{local_value, text_value}
+use Rattle.sparql_grammar.specs.declared.tree.Declaration.TheVariants as d
 use Rattle.sparql_drafts.specs.Drafting.{Drafting, told}
+use Rattle.sparql_drafts.specs.Kept.{Fails, Gives, Tells, fault_of, or_fault}
+use Rattle.sparql_drafts.specs.Meaning.{declaration, iri, literal}
+use Rattle.sparql_drafts.specs.declared.fault.DraftFault.{DraftFault}
+use Rattle.sparql_drafts.specs.declared.fault.DraftFault.TheVariants.{NoIri, NoMemory}
 
-pub reference_tells : (reference : List ℕ) (p : Prologue) (r : Result (List ℕ) PrologueFault) → IfOk r (λ i. resolved reference p ≡ Some i) → IfErr r (λ e. Explains p (Full reference) e) → Tells (resolved reference p) r
-reference_tells reference p (Ok i) value fault = value
-reference_tells reference p (Err (NoMemory e)) value fault = tt
-reference_tells reference p (Err (UnknownPrefix place)) value fault = true≢false fault
-reference_tells reference p (Err (Relative place)) value fault = reference_lacking reference p place fault
+-- ---- names whose prefix isn't declared
 
--- a base that is moved
+unlisted : (test : List ℕ → Bool) (es : List (List ℕ × List ℕ)) → list_any test (map (λ e. e.0) es) ≡ false → lookup test es ≡ None
+unlisted test [] h = refl
+unlisted test (x ∷ es) h = by (test x.0) h (unlisted test es)
+  where
+    by : (t : Bool) → (t || list_any test (map (λ e. e.0) es)) ≡ false → (list_any test (map (λ e. e.0) es) ≡ false → lookup test es ≡ None)
+        → cond t (Some x.1) (lookup test es) ≡ None
+    by true e rest = absurd (cc)
+    by false e rest = rest e
+
+name_unknown : (name : Name) (p : Prologue) → knows (declared p) name ≡ false → iri_of name p ≡ None
+unfolding prefixed
+name_unknown (Full reference) p h = absurd (true≢false h)
+name_unknown (Prefixed prefix local) p h =
+    ap (λ (o : Option (List ℕ)). option_map {U = List ℕ} (λ iri. iri ++ local_value local) o) (unlisted (same_key (key_of prefix)) p.prefixes h)
+
+literal_unknown : (w : Literal) (p : Prologue) (place : ℕ) → ExplainsLiteral p w (why.UnknownPrefix place) → literal_of w p ≡ None
+unfolding literal_of
+literal_unknown (l.Typed text name) p place h = ap (λ (o : Option (List ℕ)). option_map {U = LiteralParts} (untagged (text_value text)) o) (name_unknown name p h)
+literal_unknown (l.Plain text) p place h = absurd h
+literal_unknown (l.Tagged text tag) p place h = absurd h
+literal_unknown (l.Integer text) p place h = absurd h
+literal_unknown (l.Decimal text) p place h = absurd h
+literal_unknown (l.Double text) p place h = absurd h
+literal_unknown (l.Boolean value word) p place h = absurd h
+
+-- ---- what is told
+
+reference_fails : (reference : List ℕ) (p : Prologue) (e : PrologueFault) → Explains p (Full reference) e → Fails (resolved reference p) (fault_of e)
+reference_fails reference p (why.NoMemory refused) h = tt
+reference_fails reference p (why.UnknownPrefix place) h = absurd (true≢false h)
+reference_fails reference p (why.Relative place) h = reference_lacking reference p place h
+
+pub reference_tells : (reference : List ℕ) (p : Prologue) (r : Result (List ℕ) PrologueFault) (o : Result (List ℕ) DraftFault) → IfOk r (λ i. resolved reference p ≡ Some i) → IfErr r (λ e. Explains p (Full reference) e) → o ≡ or_fault r
+    → Tells (resolved reference p) o
+reference_tells reference p (Ok i) o value fault is = subst (Tells (resolved reference p)) (sym is) value
+reference_tells reference p (Err e) o value fault is = subst (Tells (resolved reference p)) (sym is) (reference_fails reference p e fault)
+
+name_fails : (n : Name) (p : Prologue) (e : PrologueFault) → Explains p n e → Fails (iri_of n p) (fault_of e)
+name_fails n p (why.NoMemory refused) h = tt
+name_fails n p (why.UnknownPrefix place) h = name_unknown n p h
+name_fails n p (why.Relative place) h = name_lacking n p place h
+
+pub iri_tells : (n : Name) (p : Prologue) (r : Result (List ℕ) PrologueFault) (o : Result (List ℕ) DraftFault) → IfOk r (λ i. iri_of n p ≡ Some i) → IfErr r (λ e. Explains p n e) → o ≡ or_fault r → Tells (iri_of n p) o
+iri_tells n p (Ok i) o value fault is = subst (Tells (iri_of n p)) (sym is) value
+iri_tells n p (Err e) o value fault is = subst (Tells (iri_of n p)) (sym is) (name_fails n p e fault)
+
+literal_fails : (w : Literal) (p : Prologue) (e : PrologueFault) → ExplainsLiteral p w e → Fails (literal_of w p) (fault_of e)
+literal_fails w p (why.NoMemory refused) h = tt
+literal_fails w p (why.UnknownPrefix place) h = literal_unknown w p place h
+literal_fails w p (why.Relative place) h = literal_lacking w p place h
+
+pub literal_tells : (w : Literal) (p : Prologue) (r : Result LiteralParts PrologueFault) (o : Result LiteralParts DraftFault) → IfOk r (λ i. literal_of w p ≡ Some i) → IfErr r (λ e. ExplainsLiteral p w e) → o ≡ or_fault r → Tells (literal_of w p) o
+literal_tells w p (Ok i) o value fault is = subst (Tells (literal_of w p)) (sym is) value
+literal_tells w p (Err e) o value fault is = subst (Tells (literal_of w p)) (sym is) (literal_fails w p e fault)
+
+-- ---- and given as a step
+
+told_gives : {A : Type 0} (f : Prologue → Option A) (s u : Drafting) (o : Result A DraftFault) → Tells (f s.prologue) o → u ≡ s → Gives (told f s) o u
+told_gives {A = A} f s u (Ok a) tells same = ap (λ (x : Option A). option_map {U = A × Drafting} (λ b. (b, s)) x) tells ∙ ap (λ (z : Drafting). Some (a, z)) (sym same)
+told_gives f s u (Err (NoMemory refused)) tells same = tt
+told_gives {A = A} f s u (Err NoIri) tells same = ap (λ (x : Option A). option_map {U = A × Drafting} (λ b. (b, s)) x) tells
+
+pub iri_gives : (n : Name) (s u : Drafting) (o : Result (List ℕ) DraftFault) → Tells (iri_of n s.prologue) o → u ≡ s → Gives (iri n s) o u
+unfolding iri
+iri_gives n s u o tells same = told_gives (iri_of n) s u o tells same
+
+pub literal_gives : (w : Literal) (s u : Drafting) (o : Result LiteralParts DraftFault) → Tells (literal_of w s.prologue) o → u ≡ s → Gives (literal w s) o u
+unfolding literal
+literal_gives w s u o tells same = told_gives (literal_of w) s u o tells same
+
+-- ---- a base that is moved
+
 moved_step : (o : Option (List ℕ)) (p u : Prologue) → option_map (λ i. moves_base i p) o ≡ Some u → option_map {U = (Unit {0}) × Prologue} (λ i. (tt, moves_base i p)) o ≡ Some (tt, u)
 moved_step None p u e = absurd (cc)
 moved_step (Some i) p u e = ap (λ (x : Prologue). Some (tt, x)) (some_is (moves_base i p) u e)
 
-pub base_gives : (reference : List ℕ) (p u : Prologue) (r : Result (Unit {0}) PrologueFault) → OnOk r (option_map (λ i. moves_base i p) (resolved reference p) ≡ Some u)
-    → IfErr r (λ e. Explains p (Full reference) e) → Gives (declaration (d.Base reference) p) r u
+base_fails : (reference : List ℕ) (p : Prologue) (f : DraftFault) → Fails (resolved reference p) f → Fails (declaration (d.Base reference) p) f
 unfolding declaration
-base_gives reference p u (Ok x) value fault = moved_step (resolved reference p) p u value
-base_gives reference p u (Err (NoMemory e)) value fault = tt
-base_gives reference p u (Err (UnknownPrefix place)) value fault = absurd (true≢false fault)
-base_gives reference p u (Err (Relative place)) value fault = ap (λ (o : Option (List ℕ)). option_map {U = (Unit {0}) × Prologue} (λ i. (tt, moves_base i p)) o) (reference_lacking reference p place fault)
+base_fails reference p (NoMemory refused) h = tt
+base_fails reference p NoIri h = ap (λ (o : Option (List ℕ)). option_map {U = (Unit {0}) × Prologue} (λ i. (tt, moves_base i p)) o) h
 
-base_known : (o : Option (List ℕ)) (p q : Prologue) → option_map (λ i. moves_base i p) o ≡ Some q → declared q ≡ declared p
-unfolding moves_base
-base_known None p q e = absurd (cc)
-base_known (Some i) p q e = sym (ap declared (some_is (moves_base i p) q e))
+base_by : (reference : List ℕ) (p u : Prologue) (r : Result (Unit {0}) PrologueFault) → OnOk r (option_map (λ i. moves_base i p) (resolved reference p) ≡ Some u) → IfErr r (λ e. Explains p (Full reference) e)
+    → Gives (declaration (d.Base reference) p) (or_fault r) u
+unfolding declaration
+base_by reference p u (Ok tt) value fault = moved_step (resolved reference p) p u value
+base_by reference p u (Err e) value fault = base_fails reference p (fault_of e) (reference_fails reference p e fault)
 
-pub base_declares : {A : Type 0} (reference : List ℕ) (p q : Prologue) (r : Result A PrologueFault) → OnOk r (option_map (λ i. moves_base i p) (resolved reference p) ≡ Some q) → OnOk r (declared q ≡ declared p)
-base_declares reference p q (Ok x) value = base_known (resolved reference p) p q value
-base_declares reference p q (Err x) value = tt
-
-pub iri_tells : (name : Name) (p : Prologue) (r : Result (List ℕ) PrologueFault) → knows (declared p) name ≡ true → IfOk r (λ i. iri_of name p ≡ Some i) → IfErr r (λ e. Explains p name e) → Tells (iri_of name p) r
-iri_tells name p (Ok i) known value fault = value
-iri_tells name p (Err (NoMemory e)) known value fault = tt
-iri_tells name p (Err (UnknownPrefix place)) known value fault = true≢false (sym known ∙ fault)
-iri_tells name p (Err (Relative place)) known value fault = name_lacking name p place fault
-
-told_gives : {A : Type 0} (f : Prologue → Option A) (s u : Drafting) (r : Result A PrologueFault) → Tells (f s.prologue) r → u ≡ s → Gives (told f s) r u
-told_gives {A = A} f s u (Ok a) tells same = ap (λ (o : Option A). option_map {U = A × Drafting} (λ a. (a, s)) o) tells ∙ ap (λ (z : Drafting). Some (a, z)) (sym same)
-told_gives f s u (Err (NoMemory e)) tells same = tt
-told_gives f s u (Err (UnknownPrefix place)) tells same = absurd tells
-told_gives {A = A} f s u (Err (Relative place)) tells same = ap (λ (o : Option A). option_map {U = A × Drafting} (λ a. (a, s)) o) tells
-
-pub iri_gives : (name : Name) (s u : Drafting) (r : Result (List ℕ) PrologueFault) → Tells (iri_of name s.prologue) r → u ≡ s → Gives (iri name s) r u
-unfolding iri
-iri_gives name s u r tells same = told_gives (iri_of name) s u r tells same
-
-pub literal_tells : (w : Literal) (p : Prologue) (r : Result LiteralParts PrologueFault) → known_literal (declared p) w ≡ true → IfOk r (λ l. literal_of w p ≡ Some l) → IfErr r (λ e. ExplainsLiteral p w e) → Tells (literal_of w p) r
-literal_tells w p (Ok l) known value fault = value
-literal_tells w p (Err (NoMemory e)) known value fault = tt
-literal_tells w p (Err (UnknownPrefix place)) known value fault = literal_known w p place known fault
-literal_tells w p (Err (Relative place)) known value fault = literal_lacking w p place fault
-
-pub literal_gives : (w : Literal) (s u : Drafting) (r : Result LiteralParts PrologueFault) → Tells (literal_of w s.prologue) r → u ≡ s → Gives (literal w s) r u
-unfolding literal
-literal_gives w s u r tells same = told_gives (literal_of w) s u r tells same
+pub base_gives : (reference : List ℕ) (p u : Prologue) (r : Result (Unit {0}) PrologueFault) (o : Result (Unit {0}) DraftFault) → OnOk r (option_map (λ i. moves_base i p) (resolved reference p) ≡ Some u)
+    → IfErr r (λ e. Explains p (Full reference) e) → o ≡ or_fault r → Gives (declaration (d.Base reference) p) o u
+base_gives reference p u r o value fault is =
+    subst (λ (x : Result (Unit {0}) DraftFault). Gives (declaration (d.Base reference) p) x u) (sym is) (base_by reference p u r value fault)

@@ -37,9 +37,6 @@ quads s = record {
   graphs = s.graphs;
   labels = s.labels;
   blanks = s.numbering.next;
-  first_blank = tt;
-  first_variable = tt;
-  first_literal = tt;
 }
 
 -- what the prologue tells, if it does

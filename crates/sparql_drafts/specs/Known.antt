@@ -1,5 +1,5 @@
 -- Prefixes are declared before they are used.
-use Rattle.std.specs.Prelude.{ℕ, Bool, true, false, ◌&&◌, List, map, Option, Some, None}
+use Rattle.std.specs.Prelude.{ℕ, Bool, true, ◌&&◌, List, map, Option, Some, None}
 use Rattle.std.specs.List.{list_all}
 use Rattle.indexmap.specs.IndexSet.{insert_key}
 use Rattle.rdf_grammar.specs.Keys.{key_of, same_key}
@@ -18,10 +18,6 @@ use Rattle.sparql_grammar.specs.declared.tree.VarOrIri.{VarOrIri}
 use Rattle.sparql_grammar.specs.declared.tree.VarOrIri.TheVariants as place
 use Rattle.sparql_grammar.specs.declared.tree.Verb.{Verb}
 use Rattle.sparql_grammar.specs.declared.tree.Verb.TheVariants as v
-
-abbrev pub is_none : {A : Type 0} → Option A → Bool
-is_none None = true
-is_none (Some a) = false
 
 -- each prefix that stands in the tree is one of these
 module _ (declared : List (List ℕ)) where

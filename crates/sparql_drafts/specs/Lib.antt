@@ -1,6 +1,7 @@
 pub mod Abbreviations
 pub mod Blanks
 pub mod Drafts
+pub mod Kept
 pub mod Known
 pub mod Meaning
 pub mod Room

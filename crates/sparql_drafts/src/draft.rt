@@ -4,7 +4,6 @@ ghost use Rattle.std.specs.Prelude.{◌≡◌, IfOk};
 
 use rdf_terms::{Iri, Items, NoMemory, Term};
 use rdf_tokens::Slice;
-use std::marker::Model;
 
 /// A variable, or an IRI.
 #[derive(Debug, Drop)]
@@ -63,32 +62,6 @@ pub struct QuadPattern<'a> {
     pub object: VarOrTerm<'a>,
 }
 
-/// A place in a text, for a fault's line. No contract sees it.
-#[derive(Debug, Drop)]
-pub struct Place {
-    start: usize,
-}
-
-impl Model for Place {
-    ghost Value = { Unit {0} };
-
-    ghost view = { λ _. tt };
-}
-
-impl Place {
-    /// The place of that byte.
-    pub(crate) fn new(start: usize) -> Place
-        ensures { result ≡ tt }
-    {
-        Place { start }
-    }
-
-    /// The byte where it lies.
-    pub fn start(&self) -> usize {
-        self.start
-    }
-}
-
 /// The quads of an operation's data, or the triples of a basic graph pattern.
 #[derive(Debug, Drop)]
 pub struct Quads<'a> {
@@ -100,10 +73,4 @@ pub struct Quads<'a> {
     pub labels: Items<Slice<'a>>,
     /// How many blank nodes there are.
     pub blanks: u64,
-    /// Where the first blank node stands.
-    pub first_blank: Place,
-    /// Where the first variable stands.
-    pub first_variable: Place,
-    /// Where the first subject stands that is a literal.
-    pub first_literal: Place,
 }

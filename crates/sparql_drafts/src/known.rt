@@ -1,171 +1,151 @@
 //! Whether prefixes are declared before they are used.
-ghost use Rattle.std.specs.Prelude.{◌≡◌, ◌&&◌, OnOk, map};
+ghost use Rattle.std.specs.Prelude.{◌≡◌, OnOk, map};
 ghost use Rattle.std.specs.List.{list_all};
 ghost use Rattle.rdf_grammar.specs.Literals.{known_literal};
 ghost use Rattle.rdf_grammar.specs.Prologue.{knows};
 ghost use Rattle.sparql_grammar.specs.Proper.{holds};
 ghost use Rattle.sparql_drafts.specs.Known as spec;
-ghost use Rattle.sparql_drafts.specs.Known.{is_none};
 
 use indexmap::IndexSet;
 use rdf_grammar::Key;
 use rdf_terms::NoMemory;
 use sparql_grammar::{Block, Declaration, Literal, Name, Node, Property, Triples, VarOrIri, Verb};
 
-// Each of these answers where the first name stands whose prefix isn't declared.
+// Each of these answers whether the prefix of each name is declared.
 
-/// Where a name's prefix starts, if it isn't one of these.
-pub fn unknown_name<'a>(declared: &IndexSet<Key<'a>>, name: &Name<'a>) -> Option<usize>
-    ensures { is_none result ≡ knows declared.now.keys name.now }
+/// Whether a name's prefix is one of these.
+pub fn knows_name<'a>(declared: &IndexSet<Key<'a>>, name: &Name<'a>) -> bool
+    ensures { result ≡ knows declared.now.keys name.now }
 {
     match name {
-        Name::Full(_) => None,
-        Name::Prefixed(prefix, _) => {
-            if declared.contains(&Key::of(prefix)) {
-                None
-            } else {
-                Some(prefix.start())
-            }
-        }
+        Name::Full(_) => true,
+        Name::Prefixed(prefix, _) => declared.contains(&Key::of(prefix)),
     }
 }
 
-fn unknown_verb<'a>(declared: &IndexSet<Key<'a>>, verb: &Verb<'a>) -> Option<usize>
-    ensures { is_none result ≡ spec.known_verb declared.now.keys verb.now }
+fn knows_verb<'a>(declared: &IndexSet<Key<'a>>, verb: &Verb<'a>) -> bool
+    ensures { result ≡ spec.known_verb declared.now.keys verb.now }
 {
     match verb {
-        Verb::Name(name) => unknown_name(declared, name),
-        Verb::Variable(_) | Verb::Type => None,
+        Verb::Name(name) => knows_name(declared, name),
+        Verb::Variable(_) | Verb::Type => true,
     }
 }
 
-/// Where the prefix of a literal's datatype starts, if it isn't one of these.
-pub fn unknown_literal<'a>(declared: &IndexSet<Key<'a>>, literal: &Literal<'a>) -> Option<usize>
-    ensures { is_none result ≡ known_literal declared.now.keys literal.now }
+/// Whether the prefix of a literal's datatype is one of these.
+pub fn knows_literal<'a>(declared: &IndexSet<Key<'a>>, literal: &Literal<'a>) -> bool
+    ensures { result ≡ known_literal declared.now.keys literal.now }
 {
     match literal {
-        Literal::Typed(_, name) => unknown_name(declared, name),
+        Literal::Typed(_, name) => knows_name(declared, name),
         Literal::Plain(_)
         | Literal::Tagged(_, _)
         | Literal::Integer(_)
         | Literal::Decimal(_)
         | Literal::Double(_)
-        | Literal::Boolean(..) => None,
+        | Literal::Boolean(..) => true,
     }
 }
 
 #[cycle(known)]
-fn unknown_node<'a>(declared: &IndexSet<Key<'a>>, node: &Node<'a>) -> Option<usize>
-    ensures { is_none result ≡ spec.known_node declared.now.keys node.now }
+fn knows_node<'a>(declared: &IndexSet<Key<'a>>, node: &Node<'a>) -> bool
+    ensures { result ≡ spec.known_node declared.now.keys node.now }
 {
     match node {
-        Node::Variable(_) | Node::Label(_) => None,
-        Node::Name(name) => unknown_name(declared, name),
-        Node::Literal(literal) => unknown_literal(declared, literal),
-        Node::Blank(_, properties) => unknown_properties(declared, properties.as_slice()),
-        Node::Collection(_, items) => unknown_nodes(declared, items.as_slice()),
+        Node::Variable(_) | Node::Label(_) => true,
+        Node::Name(name) => knows_name(declared, name),
+        Node::Literal(literal) => knows_literal(declared, literal),
+        Node::Blank(_, properties) => knows_properties(declared, properties.as_slice()),
+        Node::Collection(_, items) => knows_nodes(declared, items.as_slice()),
     }
 }
 
 #[cycle(known)]
-fn unknown_nodes<'a>(declared: &IndexSet<Key<'a>>, nodes: &[Node<'a>]) -> Option<usize>
-    ensures { is_none result ≡ list_all holds (map (spec.known_node declared.now.keys) nodes.now) }
+fn knows_nodes<'a>(declared: &IndexSet<Key<'a>>, nodes: &[Node<'a>]) -> bool
+    ensures { result ≡ list_all holds (map (spec.known_node declared.now.keys) nodes.now) }
 {
     for node in nodes {
-        if let Some(start) = unknown_node(declared, node) {
-            return Some(start);
+        if !knows_node(declared, node) {
+            return false;
         }
     }
-    None
+    true
 }
 
 #[cycle(known)]
-fn unknown_property<'a>(declared: &IndexSet<Key<'a>>, property: &Property<'a>) -> Option<usize>
-    ensures { is_none result ≡ spec.known_property declared.now.keys property.now }
+fn knows_property<'a>(declared: &IndexSet<Key<'a>>, property: &Property<'a>) -> bool
+    ensures { result ≡ spec.known_property declared.now.keys property.now }
 {
-    if let Some(start) = unknown_verb(declared, &property.verb) {
-        return Some(start);
-    }
-    unknown_nodes(declared, property.objects.as_slice())
+    knows_verb(declared, &property.verb) && knows_nodes(declared, property.objects.as_slice())
 }
 
 #[cycle(known)]
-fn unknown_properties<'a>(
-    declared: &IndexSet<Key<'a>>,
-    properties: &[Property<'a>],
-) -> Option<usize>
-    ensures { let knows = spec.known_property declared.now.keys in
-        is_none result ≡ list_all holds (map knows properties.now) }
+fn knows_properties<'a>(declared: &IndexSet<Key<'a>>, properties: &[Property<'a>]) -> bool
+    ensures { result ≡ list_all holds (map
+        (spec.known_property declared.now.keys) properties.now) }
 {
     for property in properties {
-        if let Some(start) = unknown_property(declared, property) {
-            return Some(start);
+        if !knows_property(declared, property) {
+            return false;
         }
     }
-    None
+    true
 }
 
-fn unknown_triples<'a>(declared: &IndexSet<Key<'a>>, triples: &Triples<'a>) -> Option<usize>
-    ensures { is_none result ≡ spec.known_triples declared.now.keys triples.now }
+fn knows_triples<'a>(declared: &IndexSet<Key<'a>>, triples: &Triples<'a>) -> bool
+    ensures { result ≡ spec.known_triples declared.now.keys triples.now }
 {
-    if let Some(start) = unknown_node(declared, &triples.subject) {
-        return Some(start);
-    }
-    unknown_properties(declared, triples.properties.as_slice())
+    knows_node(declared, &triples.subject)
+        && knows_properties(declared, triples.properties.as_slice())
 }
 
-/// Where the first name of triples stands whose prefix isn't one of these.
-pub fn unknown_all_triples<'a>(declared: &IndexSet<Key<'a>>, all: &[Triples<'a>]) -> Option<usize>
-    ensures { let knows = spec.known_triples declared.now.keys in
-        is_none result ≡ list_all holds (map knows all.now) }
+/// Whether each prefix of triples is one of these.
+pub fn knows_all_triples<'a>(declared: &IndexSet<Key<'a>>, all: &[Triples<'a>]) -> bool
+    ensures { result ≡ list_all holds (map (spec.known_triples declared.now.keys) all.now) }
 {
     for triples in all {
-        if let Some(start) = unknown_triples(declared, triples) {
-            return Some(start);
+        if !knows_triples(declared, triples) {
+            return false;
         }
     }
-    None
+    true
 }
 
-/// Where a name's prefix starts, if it isn't one of these; a variable has none.
-pub fn unknown_var_or_iri<'a>(declared: &IndexSet<Key<'a>>, name: &VarOrIri<'a>) -> Option<usize>
-    ensures { is_none result ≡ spec.known_var_or_iri declared.now.keys name.now }
+/// Whether a name's prefix is one of these; a variable has none.
+pub fn knows_var_or_iri<'a>(declared: &IndexSet<Key<'a>>, name: &VarOrIri<'a>) -> bool
+    ensures { result ≡ spec.known_var_or_iri declared.now.keys name.now }
 {
     match name {
-        VarOrIri::Name(name) => unknown_name(declared, name),
-        VarOrIri::Variable(_) => None,
+        VarOrIri::Name(name) => knows_name(declared, name),
+        VarOrIri::Variable(_) => true,
     }
 }
 
-fn unknown_graph<'a>(declared: &IndexSet<Key<'a>>, graph: &Option<VarOrIri<'a>>) -> Option<usize>
-    ensures { is_none result ≡ spec.known_graph declared.now.keys graph.now }
+fn knows_graph<'a>(declared: &IndexSet<Key<'a>>, graph: &Option<VarOrIri<'a>>) -> bool
+    ensures { result ≡ spec.known_graph declared.now.keys graph.now }
 {
     match graph {
-        Some(name) => unknown_var_or_iri(declared, name),
-        None => None,
+        Some(name) => knows_var_or_iri(declared, name),
+        None => true,
     }
 }
 
-fn unknown_block<'a>(declared: &IndexSet<Key<'a>>, block: &Block<'a>) -> Option<usize>
-    ensures { is_none result ≡ spec.known_block declared.now.keys block.now }
+fn knows_block<'a>(declared: &IndexSet<Key<'a>>, block: &Block<'a>) -> bool
+    ensures { result ≡ spec.known_block declared.now.keys block.now }
 {
-    if let Some(start) = unknown_graph(declared, &block.graph) {
-        return Some(start);
-    }
-    unknown_all_triples(declared, block.triples.as_slice())
+    knows_graph(declared, &block.graph) && knows_all_triples(declared, block.triples.as_slice())
 }
 
-/// Where the first name of an operation's data stands whose prefix isn't one of these.
-pub fn unknown_blocks<'a>(declared: &IndexSet<Key<'a>>, blocks: &[Block<'a>]) -> Option<usize>
-    ensures { is_none result ≡ list_all holds (map
-        (spec.known_block declared.now.keys) blocks.now) }
+/// Whether each prefix of an operation's data is one of these.
+pub fn knows_blocks<'a>(declared: &IndexSet<Key<'a>>, blocks: &[Block<'a>]) -> bool
+    ensures { result ≡ list_all holds (map (spec.known_block declared.now.keys) blocks.now) }
 {
     for block in blocks {
-        if let Some(start) = unknown_block(declared, block) {
-            return Some(start);
+        if !knows_block(declared, block) {
+            return false;
         }
     }
-    None
+    true
 }
 
 /// Adds the prefix that a declaration declares, if it does (SPARQL 1.1 Query, section 4.1.1).

@@ -6,15 +6,16 @@
 #![tactic(auto)]
 
 mod draft;
+mod fault;
 mod known;
 mod laws;
 mod meaning;
 mod scope;
 
-pub use draft::{Place, QuadPattern, Quads, VarOrIri, VarOrTerm};
+pub use draft::{QuadPattern, Quads, VarOrIri, VarOrTerm};
+pub use fault::DraftFault;
 pub use known::{
-    declare_prefix, unknown_all_triples, unknown_blocks, unknown_literal, unknown_name,
-    unknown_var_or_iri,
+    declare_prefix, knows_all_triples, knows_blocks, knows_literal, knows_name, knows_var_or_iri,
 };
 pub use laws::{
     abbreviations_stand_for_triples, blank_numbers_are_below, declarations_are_in_force,

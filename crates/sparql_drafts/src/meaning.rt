@@ -1,49 +1,28 @@
 //! What triples say.
-ghost use Rattle.std.specs.Prelude.{◌≡◌, true, drop, length, IfOk, OnOk, IsTrue, map};
+ghost use Rattle.std.specs.Prelude.{◌≡◌, true, drop, length, OnOk, IsTrue, map};
 ghost use Rattle.std.specs.List.{list_all};
-ghost use Rattle.rdf_grammar.specs.Prologue.{declared};
 ghost use Rattle.rdf_grammar.specs.Steps.{each};
 ghost use Rattle.sparql_grammar.specs.Proper as proper;
 ghost use Rattle.sparql_grammar.specs.Proper.{holds};
-ghost use Rattle.rdf_grammar.specs.Kept.{Gives, Tells};
-ghost use Rattle.sparql_drafts.specs.Known as known;
+ghost use Rattle.sparql_drafts.specs.Kept.{Gives, Tells};
 ghost use Rattle.sparql_drafts.specs.Meaning as spec;
 ghost use Rattle.sparql_drafts.specs.Room.{HasRoom, TakesAtMost, SaysAtLeast, IsPaired};
 
 use crate::draft::{Quads, VarOrIri, VarOrTerm};
+use crate::fault::DraftFault;
 use crate::scope::Scope;
-use rdf_grammar::PrologueFault;
-use rdf_terms::{NoMemory, Term};
-use sparql_grammar::{
-    Block, Literal as Written, Node, Property, Triples, VarOrIri as WrittenName, Verb,
-};
-
-// Where a literal starts.
-fn start_of_literal(literal: &Written<'_>) -> usize {
-    match literal {
-        Written::Plain(text)
-        | Written::Tagged(text, _)
-        | Written::Typed(text, _)
-        | Written::Integer(text)
-        | Written::Decimal(text)
-        | Written::Double(text)
-        | Written::Boolean(_, text) => text.start(),
-    }
-}
+use rdf_terms::Term;
+use sparql_grammar::{Block, Node, Property, Triples, VarOrIri as WrittenName, Verb};
 
 impl<'a> Scope<'a> {
     #[tactic(auto, unfolding(crate::specs::Meaning::verb))]
-    fn verb(&mut self, verb: &Verb<'a>) -> Result<VarOrIri<'a>, PrologueFault>
-        requires known { IsTrue (known.known_verb (declared self.old.prologue) verb.now) }
+    fn verb(&mut self, verb: &Verb<'a>) -> Result<VarOrIri<'a>, DraftFault>
         requires proper { IsTrue (proper.proper_verb verb.now) }
         ensures gives { Gives (spec.verb verb.now self.old) result self.new }
         ensures same { self.new ≡ self.old }
     {
         match verb {
-            Verb::Variable(name) => {
-                self.mark_variable(name.start());
-                Ok(VarOrIri::Variable(name.fork()))
-            }
+            Verb::Variable(name) => Ok(VarOrIri::Variable(name.fork())),
             Verb::Name(name) => Ok(VarOrIri::Iri(self.iri(name)?)),
             Verb::Type => Ok(VarOrIri::Iri(self.vocabulary.rdf_type().copy()?)),
         }
@@ -52,27 +31,21 @@ impl<'a> Scope<'a> {
     /// The variable, or the IRI of the name, that is written (SPARQL 1.1 Query, section 4.1).
     ///
     /// # Errors
-    /// [`PrologueFault::Relative`] where it is a relative reference and there is no base;
-    /// [`PrologueFault::NoMemory`] where memory is wanting.
+    /// As of [`Scope::iri`].
     #[tactic(auto, unfolding(crate::specs::Meaning::var_or_iri))]
-    pub fn var_or_iri(&mut self, name: &WrittenName<'a>) -> Result<VarOrIri<'a>, PrologueFault>
-        requires known { IsTrue (known.known_var_or_iri (declared self.old.prologue) name.now) }
+    pub fn var_or_iri(&mut self, name: &WrittenName<'a>) -> Result<VarOrIri<'a>, DraftFault>
         requires proper { IsTrue (proper.proper_var_or_iri name.now) }
         ensures gives { Gives (spec.var_or_iri name.now self.old) result self.new }
         ensures same { self.new ≡ self.old }
     {
         match name {
-            WrittenName::Variable(name) => {
-                self.mark_variable(name.start());
-                Ok(VarOrIri::Variable(name.fork()))
-            }
+            WrittenName::Variable(name) => Ok(VarOrIri::Variable(name.fork())),
             WrittenName::Name(name) => Ok(VarOrIri::Iri(self.iri(name)?)),
         }
     }
 
     // What a node stands for.
-    fn term(&mut self, node: &Node<'a>) -> Result<VarOrTerm<'a>, PrologueFault>
-        requires known { IsTrue (known.known_node (declared self.old.prologue) node.now) }
+    fn term(&mut self, node: &Node<'a>) -> Result<VarOrTerm<'a>, DraftFault>
         requires proper { IsTrue (proper.proper_node node.now) }
         requires room { HasRoom 0 self.old }
         ensures gives { Gives ((spec.meaning node.now).term self.old) result self.new }
@@ -81,26 +54,14 @@ impl<'a> Scope<'a> {
         ensures says { SaysAtLeast 0 self.old self.new }
     {
         match node {
-            Node::Variable(name) => {
-                self.mark_variable(name.start());
-                Ok(VarOrTerm::Variable(name.fork()))
-            }
+            Node::Variable(name) => Ok(VarOrTerm::Variable(name.fork())),
             Node::Name(name) => Ok(VarOrTerm::Term(Term::Iri(self.iri(name)?))),
             Node::Literal(literal) => Ok(VarOrTerm::Term(Term::Literal(self.literal(literal)?))),
-            Node::Label(label) => {
-                self.mark_blank(label.start());
-                Ok(self.labelled(label)?)
-            }
-            Node::Blank(bracket, _) => {
-                self.mark_blank(bracket.start());
-                Ok(self.fresh())
-            }
-            Node::Collection(bracket, items) => match items.as_slice() {
+            Node::Label(label) => Ok(self.labelled(label)?),
+            Node::Blank(_, _) => Ok(self.fresh()),
+            Node::Collection(_, items) => match items.as_slice() {
                 [] => Ok(self.rdf_nil()?),
-                [_, ..] => {
-                    self.mark_blank(bracket.start());
-                    Ok(self.fresh())
-                }
+                [_, ..] => Ok(self.fresh()),
             },
         }
     }
@@ -108,8 +69,7 @@ impl<'a> Scope<'a> {
     // The triples inside a node.
     #[cycle(inside)]
     #[tactic(auto, using(crate::proofs::ScopeLoops::filled_count, crate::proofs::ScopeLoops::rest_all))]
-    fn inside(&mut self, node: &Node<'a>, term: &VarOrTerm<'a>) -> Result<(), PrologueFault>
-        requires known { IsTrue (known.known_node (declared self.old.prologue) node.now) }
+    fn inside(&mut self, node: &Node<'a>, term: &VarOrTerm<'a>) -> Result<(), DraftFault>
         requires proper { IsTrue (proper.proper_node node.now) }
         requires room { HasRoom 0 self.old }
         ensures gives { Gives ((spec.meaning node.now).inside term.now self.old) result self.new }
@@ -134,8 +94,7 @@ impl<'a> Scope<'a> {
         subject: &VarOrTerm<'a>,
         predicate: &VarOrIri<'a>,
         node: &Node<'a>,
-    ) -> Result<(), PrologueFault>
-        requires known { IsTrue (known.known_node (declared self.old.prologue) node.now) }
+    ) -> Result<(), DraftFault>
         requires proper { IsTrue (proper.proper_node node.now) }
         requires room { HasRoom 0 self.old }
         ensures gives { let says = spec.object subject.now predicate.now (spec.meaning node.now) in
@@ -163,8 +122,7 @@ impl<'a> Scope<'a> {
         &mut self,
         cell: &VarOrTerm<'a>,
         item: &Node<'a>,
-    ) -> Result<VarOrTerm<'a>, PrologueFault>
-        requires known { IsTrue (known.known_node (declared self.old.prologue) item.now) }
+    ) -> Result<VarOrTerm<'a>, DraftFault>
         requires proper { IsTrue (proper.proper_node item.now) }
         requires room { HasRoom 0 self.old }
         ensures gives { let step = spec.next_cell cell.now (spec.meaning item.now) in
@@ -184,9 +142,7 @@ impl<'a> Scope<'a> {
 
     // The cells behind one, and what is inside their elements.
     #[cycle(inside)]
-    fn behind(&mut self, cell: &VarOrTerm<'a>, items: &[Node<'a>]) -> Result<(), PrologueFault>
-        requires known { let knows = known.known_node (declared self.old.prologue) in
-            IsTrue (list_all holds (map knows items.now)) }
+    fn behind(&mut self, cell: &VarOrTerm<'a>, items: &[Node<'a>]) -> Result<(), DraftFault>
         requires proper { IsTrue (list_all holds (map proper.proper_node items.now)) }
         requires room { HasRoom 0 self.old }
         ensures gives { let says = spec.behind cell.now (map spec.meaning items.now) in
@@ -207,8 +163,7 @@ impl<'a> Scope<'a> {
 
     // The element of a cell, and what is inside it.
     #[cycle(inside)]
-    fn element(&mut self, cell: &VarOrTerm<'a>, item: &Node<'a>) -> Result<(), PrologueFault>
-        requires known { IsTrue (known.known_node (declared self.old.prologue) item.now) }
+    fn element(&mut self, cell: &VarOrTerm<'a>, item: &Node<'a>) -> Result<(), DraftFault>
         requires proper { IsTrue (proper.proper_node item.now) }
         requires room { HasRoom 0 self.old }
         ensures gives { let says = spec.object cell.now spec.first (spec.meaning item.now) in
@@ -223,8 +178,7 @@ impl<'a> Scope<'a> {
 
     // The element of a list's first cell, and what is inside it.
     #[cycle(inside)]
-    fn first_element(&mut self, cell: &VarOrTerm<'a>, item: &Node<'a>) -> Result<(), PrologueFault>
-        requires known { IsTrue (known.known_node (declared self.old.prologue) item.now) }
+    fn first_element(&mut self, cell: &VarOrTerm<'a>, item: &Node<'a>) -> Result<(), DraftFault>
         requires proper { IsTrue (proper.proper_node item.now) }
         requires room { HasRoom 0 self.old }
         ensures gives { let says = spec.object cell.now spec.first (spec.meaning item.now) in
@@ -238,11 +192,7 @@ impl<'a> Scope<'a> {
 
     // The triples of a list, from its first cell on.
     #[cycle(inside)]
-    fn elements(&mut self, cell: &VarOrTerm<'a>, items: &[Node<'a>]) -> Result<(), PrologueFault>
-        requires known { let knows = known.known_node (declared self.old.prologue) in
-            IsTrue (list_all holds (map knows items.now)) }
-        requires known_rest { let knows = known.known_node (declared self.old.prologue) in
-            IsTrue (list_all holds (map knows (drop 1 items.now))) }
+    fn elements(&mut self, cell: &VarOrTerm<'a>, items: &[Node<'a>]) -> Result<(), DraftFault>
         requires proper { IsTrue (list_all holds (map proper.proper_node items.now)) }
         requires proper_rest { IsTrue (list_all holds (map proper.proper_node (drop 1 items.now))) }
         requires room { HasRoom 0 self.old }
@@ -267,9 +217,7 @@ impl<'a> Scope<'a> {
         subject: &VarOrTerm<'a>,
         predicate: &VarOrIri<'a>,
         nodes: &[Node<'a>],
-    ) -> Result<(), PrologueFault>
-        requires known { let knows = known.known_node (declared self.old.prologue) in
-            IsTrue (list_all holds (map knows nodes.now)) }
+    ) -> Result<(), DraftFault>
         requires proper { IsTrue (list_all holds (map proper.proper_node nodes.now)) }
         requires filled { IsTrue (proper.is_filled nodes.now) }
         requires room { HasRoom 0 self.old }
@@ -294,8 +242,7 @@ impl<'a> Scope<'a> {
         &mut self,
         subject: &VarOrTerm<'a>,
         property: &Property<'a>,
-    ) -> Result<(), PrologueFault>
-        requires known { IsTrue (known.known_property (declared self.old.prologue) property.now) }
+    ) -> Result<(), DraftFault>
         requires proper { IsTrue (proper.proper_property property.now) }
         requires room { HasRoom 0 self.old }
         ensures gives { Gives (spec.property property.now subject.now self.old) result self.new }
@@ -312,9 +259,7 @@ impl<'a> Scope<'a> {
         &mut self,
         subject: &VarOrTerm<'a>,
         properties: &[Property<'a>],
-    ) -> Result<(), PrologueFault>
-        requires known { let knows = known.known_property (declared self.old.prologue) in
-            IsTrue (list_all holds (map knows properties.now)) }
+    ) -> Result<(), DraftFault>
         requires proper { IsTrue (list_all holds (map proper.proper_property properties.now)) }
         requires room { HasRoom 0 self.old }
         ensures gives { let says = spec.properties subject.now properties.now in
@@ -329,28 +274,12 @@ impl<'a> Scope<'a> {
         Ok(())
     }
 
-    // Makes room for triples, and marks a subject that is a literal.
-    fn prepare(&mut self, triples: &Triples<'a>) -> Result<(), NoMemory>
-        requires { IsPaired self.old }
-        ensures same { self.new ≡ self.old }
-        ensures room { OnOk result (HasRoom 1 self.new) }
-    {
-        self.reserve()?;
-        if let Node::Literal(literal) = &triples.subject {
-            self.mark_literal(start_of_literal(literal));
-        }
-        Ok(())
-    }
-
     // The triples inside a subject, then those of its properties.
     fn subject_with(
         &mut self,
         node: &Node<'a>,
         properties: &[Property<'a>],
-    ) -> Result<(), PrologueFault>
-        requires known { IsTrue (known.known_node (declared self.old.prologue) node.now) }
-        requires known_properties { let knows = known.known_property (declared self.old.prologue) in
-            IsTrue (list_all holds (map knows properties.now)) }
+    ) -> Result<(), DraftFault>
         requires proper { IsTrue (proper.proper_node node.now) }
         requires proper_properties { IsTrue (list_all holds
             (map proper.proper_property properties.now)) }
@@ -370,21 +299,19 @@ impl<'a> Scope<'a> {
 
     // The triples of a subject with its properties.
     #[tactic(auto, unfolding(crate::specs::Meaning::triples))]
-    fn triples(&mut self, triples: &Triples<'a>) -> Result<(), PrologueFault>
-        requires known { IsTrue (known.known_triples (declared self.old.prologue) triples.now) }
+    fn triples(&mut self, triples: &Triples<'a>) -> Result<(), DraftFault>
         requires proper { IsTrue (proper.proper_triples triples.now) }
         requires room { IsPaired self.old }
         ensures gives { Gives (spec.triples triples.now self.old) result self.new }
         ensures prologue { self.new.prologue ≡ self.old.prologue }
         ensures room { OnOk result (IsPaired self.new) }
     {
-        self.prepare(triples)?;
+        self.reserve()?;
         self.subject_with(&triples.subject, triples.properties.as_slice())
     }
 
     // The graph in which the triples of a block stand.
-    fn graph(&mut self, graph: &Option<WrittenName<'a>>) -> Result<(), PrologueFault>
-        requires known { IsTrue (known.known_graph (declared self.old.prologue) graph.now) }
+    fn graph(&mut self, graph: &Option<WrittenName<'a>>) -> Result<(), DraftFault>
         requires proper { IsTrue (proper.proper_graph graph.now) }
         ensures gives { Gives (spec.graph graph.now self.old) result self.new }
         ensures prologue { self.new.prologue ≡ self.old.prologue }
@@ -403,9 +330,7 @@ impl<'a> Scope<'a> {
         }
     }
 
-    fn all_triples(&mut self, all: &[Triples<'a>]) -> Result<(), PrologueFault>
-        requires known { let knows = known.known_triples (declared self.old.prologue) in
-            IsTrue (list_all holds (map knows all.now)) }
+    fn all_triples(&mut self, all: &[Triples<'a>]) -> Result<(), DraftFault>
         requires proper { IsTrue (list_all holds (map proper.proper_triples all.now)) }
         requires room { IsPaired self.old }
         ensures gives { let says = each (λ f. f) (map spec.triples all.now) in
@@ -419,8 +344,7 @@ impl<'a> Scope<'a> {
         Ok(())
     }
 
-    fn block(&mut self, block: &Block<'a>) -> Result<(), PrologueFault>
-        requires known { IsTrue (known.known_block (declared self.old.prologue) block.now) }
+    fn block(&mut self, block: &Block<'a>) -> Result<(), DraftFault>
         requires proper { IsTrue (proper.proper_block block.now) }
         requires room { IsPaired self.old }
         ensures gives { Gives (spec.block block.now self.old) result self.new }
@@ -435,12 +359,9 @@ impl<'a> Scope<'a> {
     /// text, over all its blocks (SPARQL 1.1 Update, section 3.1.1).
     ///
     /// # Errors
-    /// [`PrologueFault::Relative`] at a relative reference where there is no base;
-    /// [`PrologueFault::NoMemory`] where memory is wanting.
+    /// [`DraftFault::NoIri`] where a name has no IRI; [`DraftFault::NoMemory`] where memory is wanting.
     #[tactic(auto, unfolding(crate::specs::Meaning::quads_in))]
-    pub fn data(&mut self, blocks: &[Block<'a>]) -> Result<Quads<'a>, PrologueFault>
-        requires known { let knows = known.known_block (declared self.old.prologue) in
-            IsTrue (list_all holds (map knows blocks.now)) }
+    pub fn data(&mut self, blocks: &[Block<'a>]) -> Result<Quads<'a>, DraftFault>
         requires proper { IsTrue (list_all holds (map proper.proper_block blocks.now)) }
         ensures tells { Tells (spec.quads_in blocks.now self.old.prologue) result }
         ensures prologue { self.new.prologue ≡ self.old.prologue }
@@ -456,15 +377,9 @@ impl<'a> Scope<'a> {
     /// their places in the text (SPARQL 1.1 Query, sections 4.1.4 and 5.1).
     ///
     /// # Errors
-    /// [`PrologueFault::Relative`] at a relative reference where there is no base;
-    /// [`PrologueFault::NoMemory`] where memory is wanting.
+    /// [`DraftFault::NoIri`] where a name has no IRI; [`DraftFault::NoMemory`] where memory is wanting.
     #[tactic(auto, unfolding(crate::specs::Meaning::pattern_in))]
-    pub fn basic_graph_pattern(
-        &mut self,
-        triples: &[Triples<'a>],
-    ) -> Result<Quads<'a>, PrologueFault>
-        requires known { let knows = known.known_triples (declared self.old.prologue) in
-            IsTrue (list_all holds (map knows triples.now)) }
+    pub fn basic_graph_pattern(&mut self, triples: &[Triples<'a>]) -> Result<Quads<'a>, DraftFault>
         requires proper { IsTrue (list_all holds (map proper.proper_triples triples.now)) }
         ensures tells { Tells (spec.pattern_in triples.now self.old.prologue) result }
         ensures prologue { self.new.prologue ≡ self.old.prologue }

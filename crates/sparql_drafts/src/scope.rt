@@ -1,16 +1,17 @@
 //! The state in which declarations and triples are read.
-ghost use Rattle.std.specs.Prelude.{◌≡◌, ◌+◌, ◌≤◌, length, Some, IfOk, OnOk, OnErr, IsTrue};
-ghost use Rattle.rdf_grammar.specs.Literals.{known_literal, literal_of, proper_literal};
+ghost use Rattle.std.specs.Prelude.{◌≡◌, ◌+◌, length, Some, IfOk, OnOk, OnErr, IsTrue};
+ghost use Rattle.std.specs.Option.{option_copied};
+ghost use Rattle.rdf_grammar.specs.Literals.{literal_of, proper_literal};
 ghost use Rattle.rdf_grammar.specs.Prologue as prologue;
-ghost use Rattle.rdf_grammar.specs.Prologue.{declared, knows, is_proper};
-ghost use Rattle.rdf_grammar.specs.Kept.{Gives, Tells};
-ghost use Rattle.sparql_drafts.specs.Known.{declared_behind};
-ghost use Rattle.sparql_drafts.specs.Meaning as meaning;
-ghost use Rattle.sparql_drafts.specs.Room.{HasRoom, TakesAtMost, SaysAtLeast, longest};
+ghost use Rattle.rdf_grammar.specs.Prologue.{is_proper};
 ghost use Rattle.sparql_drafts.specs.Drafting as drafting;
+ghost use Rattle.sparql_drafts.specs.Kept.{Gives, Tells};
+ghost use Rattle.sparql_drafts.specs.Meaning as meaning;
+ghost use Rattle.sparql_drafts.specs.Room.{HasRoom, IsPaired, TakesAtMost, SaysAtLeast};
 
-use crate::draft::{Place, QuadPattern, Quads, VarOrIri, VarOrTerm};
-use rdf_grammar::{Literal as Written, Name, Numbering, Prologue, PrologueFault};
+use crate::draft::{QuadPattern, Quads, VarOrIri, VarOrTerm};
+use crate::fault::{DraftFault, or_fault};
+use rdf_grammar::{Literal as Written, Name, Numbering, Prologue};
 use rdf_terms::{Iri, Items, Literal, NoMemory, Term, Vocabulary};
 use rdf_tokens::Slice;
 use sparql_grammar::Declaration;
@@ -30,9 +31,6 @@ pub struct Scope<'a> {
     patterns: Vec<QuadPattern<'a>>,
     graphs: Items<VarOrIri<'a>>,
     labels: Items<Slice<'a>>,
-    first_blank: Option<usize>,
-    first_variable: Option<usize>,
-    first_literal: Option<usize>,
 }
 
 impl<'a> Model for Scope<'a> {
@@ -50,6 +48,16 @@ impl<'a> Model for Scope<'a> {
     } };
 }
 
+// An equal base.
+fn copied(base: Option<&Iri>) -> Result<Option<Iri>, NoMemory>
+    ensures { IfOk result (λ copy. copy ≡ option_copied base.entry) }
+{
+    match base {
+        Some(iri) => Ok(Some(iri.copy()?)),
+        None => Ok(None),
+    }
+}
+
 impl<'a> Scope<'a> {
     /// This base; nothing is declared, and nothing said. The vocabulary is shared.
     ///
@@ -58,22 +66,20 @@ impl<'a> Scope<'a> {
     pub fn new(
         alloc: Global,
         vocabulary: &Vocabulary,
-        base: Option<Iri>,
+        base: Option<&Iri>,
     ) -> Result<Scope<'a>, NoMemory>
-        ensures { IfOk result (λ scope. scope ≡ drafting.start (prologue.start base)) }
+        ensures { let begun = prologue.start (option_copied base.entry) in
+            IfOk result (λ scope. scope ≡ drafting.start begun) }
     {
         Ok(Scope {
             alloc,
             vocabulary: vocabulary.copy()?,
-            prologue: Prologue::new(alloc, base)?,
+            prologue: Prologue::new(alloc, copied(base)?)?,
             graph: None,
             numbering: Numbering::new(alloc),
             patterns: Vec::new(alloc),
             graphs: Items::new(alloc),
             labels: Items::new(alloc),
-            first_blank: None,
-            first_variable: None,
-            first_literal: None,
         })
     }
 
@@ -86,9 +92,6 @@ impl<'a> Scope<'a> {
         let _ = mem::replace(&mut self.numbering, Numbering::new(self.alloc));
         let _ = mem::replace(&mut self.graphs, Items::new(self.alloc));
         let _ = mem::replace(&mut self.labels, Items::new(self.alloc));
-        self.first_blank = None;
-        self.first_variable = None;
-        self.first_literal = None;
     }
 
     /// What was said: the data of an operation ends.
@@ -104,37 +107,17 @@ impl<'a> Scope<'a> {
             graphs,
             labels,
             blanks: self.numbering.next(),
-            first_blank: Place::new(self.first_blank.unwrap_or(0)),
-            first_variable: Place::new(self.first_variable.unwrap_or(0)),
-            first_literal: Place::new(self.first_literal.unwrap_or(0)),
         }
     }
 
-    /// Marks where a blank node stands.
-    pub(crate) fn mark_blank(&mut self, start: usize)
-        ensures { self.new ≡ self.old }
-    {
-        self.first_blank = Some(self.first_blank.unwrap_or(start));
-    }
-
-    /// Marks where a variable stands.
-    pub(crate) fn mark_variable(&mut self, start: usize)
-        ensures { self.new ≡ self.old }
-    {
-        self.first_variable = Some(self.first_variable.unwrap_or(start));
-    }
-
-    /// Marks where a literal stands as a subject.
-    pub(crate) fn mark_literal(&mut self, start: usize)
-        ensures { self.new ≡ self.old }
-    {
-        self.first_literal = Some(self.first_literal.unwrap_or(start));
-    }
-
-    /// Makes room for a pattern more.
+    /// Makes room for the triples of a subject.
+    ///
+    /// # Errors
+    /// [`NoMemory`] where memory is wanting.
     pub(crate) fn reserve(&mut self) -> Result<(), NoMemory>
+        requires { IsPaired self.old }
         ensures same { self.new ≡ self.old }
-        ensures room { OnOk result (length self.old.patterns + 1 ≤ longest) }
+        ensures room { OnOk result (HasRoom 1 self.new) }
     {
         self.patterns.reserve(1)?;
         Ok(())
@@ -247,14 +230,12 @@ impl<'a> Scope<'a> {
     /// A declaration, which is in force from here on (SPARQL 1.1 Query, section 4.1.1).
     ///
     /// # Errors
-    /// [`PrologueFault::Relative`] where it has a relative reference and there is no base;
-    /// [`PrologueFault::NoMemory`] where memory is wanting. Then nothing is declared.
-    #[tactic(auto, using(rdf_grammar::proofs::CallerLemmas::declares_key), unfolding(crate::specs::Meaning::declaration, rdf_grammar::specs::Prologue::moves_base))]
-    pub fn declare(&mut self, declaration: &Declaration<'a>) -> Result<(), PrologueFault>
+    /// [`DraftFault::NoIri`] where it has a relative reference and there is no base;
+    /// [`DraftFault::NoMemory`] where memory is wanting. Then nothing is declared.
+    #[tactic(auto, unfolding(crate::specs::Meaning::declaration))]
+    pub fn declare(&mut self, declaration: &Declaration<'a>) -> Result<(), DraftFault>
         ensures gives { let step = meaning.declaration declaration.now in
             Gives (step self.old.prologue) result self.new.prologue }
-        ensures declares { let before = declared self.old.prologue in
-            OnOk result (declared self.new.prologue ≡ declared_behind before declaration.now) }
         ensures kept { OnErr result (self.new.prologue ≡ self.old.prologue) }
     {
         match declaration {
@@ -262,24 +243,23 @@ impl<'a> Scope<'a> {
                 let iri = self.resolved(reference)?;
                 Ok(self.prologue.declare(prefix, iri)?)
             }
-            Declaration::Base(reference) => self.prologue.move_base(reference),
+            Declaration::Base(reference) => or_fault(self.prologue.move_base(reference)),
         }
     }
 
     /// The IRI of a name (SPARQL 1.1 Query, section 4.1.1).
     ///
     /// # Errors
-    /// [`PrologueFault::Relative`] where it is a relative reference and there is no base;
-    /// [`PrologueFault::NoMemory`] where memory is wanting.
+    /// [`DraftFault::NoIri`] where its prefix isn't declared, or it is a relative reference and there
+    /// is no base; [`DraftFault::NoMemory`] where memory is wanting.
     #[tactic(auto, unfolding(crate::specs::Meaning::iri))]
-    pub fn iri(&mut self, name: &Name<'a>) -> Result<Iri, PrologueFault>
-        requires known { IsTrue (knows (declared self.old.prologue) name.now) }
-        requires proper { IsTrue (is_proper name.now) }
+    pub fn iri(&mut self, name: &Name<'a>) -> Result<Iri, DraftFault>
+        requires { IsTrue (is_proper name.now) }
         ensures gives { Gives (meaning.iri name.now self.old) result self.new }
         ensures tells { Tells (prologue.iri_of name.now self.old.prologue) result }
         ensures same { self.new ≡ self.old }
     {
-        self.prologue.iri(name)
+        or_fault(self.prologue.iri(name))
     }
 
     /// What a literal stands for (SPARQL 1.1 Query, section 4.1.2).
@@ -287,20 +267,19 @@ impl<'a> Scope<'a> {
     /// # Errors
     /// As of [`Scope::iri`], for the name of its datatype.
     #[tactic(auto, unfolding(crate::specs::Meaning::literal))]
-    pub fn literal(&mut self, literal: &Written<'a>) -> Result<Literal, PrologueFault>
-        requires known { IsTrue (known_literal (declared self.old.prologue) literal.now) }
-        requires proper { IsTrue (proper_literal literal.now) }
+    pub fn literal(&mut self, literal: &Written<'a>) -> Result<Literal, DraftFault>
+        requires { IsTrue (proper_literal literal.now) }
         ensures gives { Gives (meaning.literal literal.now self.old) result self.new }
         ensures tells { Tells (literal_of literal.now self.old.prologue) result }
         ensures same { self.new ≡ self.old }
     {
-        self.prologue.literal(&self.vocabulary, literal)
+        or_fault(self.prologue.literal(&self.vocabulary, literal))
     }
 
     /// The IRI of a reference.
-    pub(crate) fn resolved(&self, reference: &Slice<'a>) -> Result<Iri, PrologueFault>
+    pub(crate) fn resolved(&self, reference: &Slice<'a>) -> Result<Iri, DraftFault>
         ensures { Tells (prologue.resolved reference.now self.now.prologue) result }
     {
-        self.prologue.resolve(reference)
+        or_fault(self.prologue.resolve(reference))
     }
 }

@@ -1,9 +1,9 @@
 -- A turn of each loop over expressions, and expressions of two parts.
 use Rattle.std.proofs.Common.{◌≡◌, ◌∙◌, ap, sym, ℕ, ◌+◌, ◌<◌, List, [], ◌∷◌, ◌++◌, map, drop, length, get_or, suc, add-one, append_assoc, Option, Some, None, refl}
 use Rattle.std.specs.Prelude.{option_map}
-use Rattle.rdf_grammar.specs.declared.prologue.PrologueFault.{PrologueFault}
-use Rattle.rdf_grammar.specs.declared.prologue.PrologueFault.TheVariants.{UnknownPrefix, Relative, NoMemory}
-use Rattle.rdf_grammar.specs.Kept.{Fails}
+use Rattle.sparql_drafts.specs.declared.fault.DraftFault.{DraftFault}
+use Rattle.sparql_drafts.specs.declared.fault.DraftFault.TheVariants.{NoIri, NoMemory}
+use Rattle.sparql_drafts.specs.Kept.{Fails}
 use Rattle.rdf_grammar.specs.Prologue.{Prologue}
 use Rattle.sparql_expressions.specs.declared.tree.Expression as written
 use Rattle.sparql_expressions.specs.declared.tree.Expression.TheFolds.{fold-roll-Expression}
@@ -39,37 +39,33 @@ none_next {A = A} {B = B} f xs i x found l is h =
     ∙ ap (λ (o : Option A). option_map (λ others. found ++ others) (both (λ y others. y ∷ others) o (all (map f (drop (suc i) xs))))) h
 
 -- nothing is given where the next part fails
-pub part_fails : {A B : Type 0} (f : B → Option A) (xs : List B) (i : ℕ) (x : B) (found : List A) (whole : Option (List A)) (e : PrologueFault) → whole ≡ all_behind found (map f (drop i xs)) → i < length xs → x ≡ get_or xs i x → Fails (f x) e
+pub part_fails : {A B : Type 0} (f : B → Option A) (xs : List B) (i : ℕ) (x : B) (found : List A) (whole : Option (List A)) (e : DraftFault) → whole ≡ all_behind found (map f (drop i xs)) → i < length xs → x ≡ get_or xs i x → Fails (f x) e
     → Fails whole e
 part_fails f xs i x found whole (NoMemory refused) w l is h = tt
-part_fails f xs i x found whole (Relative start) w l is h = w ∙ none_next f xs i x found l is h
-part_fails f xs i x found whole (UnknownPrefix start) w l is h = h
+part_fails f xs i x found whole NoIri w l is h = w ∙ none_next f xs i x found l is h
 
 -- ---- two parts
 
-pub left_fails : {A B C : Type 0} (make : A → B → C) (left : Option A) (right : Option B) (e : PrologueFault) → Fails left e → Fails (both make left right) e
+pub left_fails : {A B C : Type 0} (make : A → B → C) (left : Option A) (right : Option B) (e : DraftFault) → Fails left e → Fails (both make left right) e
 left_fails make left right (NoMemory refused) h = tt
-left_fails make left right (Relative start) h = ap (λ o. both make o right) h
-left_fails make left right (UnknownPrefix start) h = h
+left_fails make left right NoIri h = ap (λ o. both make o right) h
 
 none_behind : {A B C : Type 0} (make : A → B → C) (left : Option A) → both {B = B} make left None ≡ None
 none_behind make None = refl
 none_behind make (Some a) = refl
 
-pub right_fails : {A B C : Type 0} (make : A → B → C) (left : Option A) (right : Option B) (e : PrologueFault) → Fails right e → Fails (both make left right) e
+pub right_fails : {A B C : Type 0} (make : A → B → C) (left : Option A) (right : Option B) (e : DraftFault) → Fails right e → Fails (both make left right) e
 right_fails make left right (NoMemory refused) h = tt
-right_fails make left right (Relative start) h = ap (λ o. both make left o) h ∙ none_behind make left
-right_fails make left right (UnknownPrefix start) h = h
+right_fails make left right NoIri h = ap (λ o. both make left o) h ∙ none_behind make left
 
 pub both_there : {A B C : Type 0} (make : A → B → C) (left : Option A) (right : Option B) (a : A) (b : B) → left ≡ Some a → right ≡ Some b → both make left right ≡ Some (make a b)
 both_there make left right a b h k = ap (λ o. both make o right) h ∙ ap (λ o. both make (Some a) o) k
 
 -- ---- operands of a sum
 
-pub addend_fails : (sign : Sign) (value : Option Expression) (e : PrologueFault) → Fails value e → Fails (addend (sign, value)) e
+pub addend_fails : (sign : Sign) (value : Option Expression) (e : DraftFault) → Fails value e → Fails (addend (sign, value)) e
 addend_fails sign value (NoMemory refused) h = tt
-addend_fails sign value (Relative start) h = ap (λ o. addend (sign, o)) h
-addend_fails sign value (UnknownPrefix start) h = h
+addend_fails sign value NoIri h = ap (λ o. addend (sign, o)) h
 
 -- ---- expressions by their parts
 

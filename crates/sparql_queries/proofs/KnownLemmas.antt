@@ -1,8 +1,7 @@
 -- The names of a sum by those of its operands, and those of a group by its members and its FILTERs.
-use Rattle.std.proofs.Common.{◌≡◌, ◌∙◌, ap, sym, ℕ, List, [], ◌∷◌, map, Bool, ◌&&◌, Option, Some, None, refl}
+use Rattle.std.proofs.Common.{◌≡◌, ◌∙◌, ap, sym, ℕ, List, [], ◌∷◌, map, Bool, ◌&&◌, refl}
 use Rattle.std.specs.List.{list_all}
 use Rattle.std.proofs.lemmas.List.Folds.{list_all-map}
-use Rattle.sparql_drafts.specs.Known.{is_none}
 use Rattle.sparql_expressions.specs.declared.tree.Expression.{Expression}
 use Rattle.sparql_expressions.specs.declared.tree.Expression.TheFolds.{fold-roll-Expression}
 use Rattle.sparql_expressions.specs.declared.tree.Expression.TheOpen.{Expression-F}
@@ -13,14 +12,7 @@ use Rattle.sparql_trees.specs.declared.expression.Sign.{Sign}
 use Rattle.sparql_grammar.specs.Proper.{holds}
 use Rattle.sparql_grammar.specs.declared.tree.Group.{Group}
 use Rattle.sparql_grammar.specs.declared.tree.Member.TheFolds.{fold_out-Group}
-use Rattle.sparql_queries.specs.Faults.{first_place}
 use Rattle.sparql_queries.specs.Known.{known_expression, known_expression_of, known_group, known_group_of, known_member, known_member_of}
-
-none_of_both : (a b : Option ℕ) → is_none (first_place a b) ≡ (is_none a && is_none b)
-none_of_both None None = refl
-none_of_both None (Some b) = refl
-none_of_both (Some a) None = refl
-none_of_both (Some a) (Some b) = refl
 
 pub all_hold : {A : Type 0} (f : A → Bool) (xs : List A) → list_all holds (map f xs) ≡ list_all f xs
 all_hold f xs = list_all-map holds f xs
@@ -28,12 +20,10 @@ all_hold f xs = list_all-map holds f xs
 pub known_group_is : (declared : List (List ℕ)) (g : Group) → known_group declared g ≡ (list_all holds (map (known_member declared) g.members) && list_all (known_expression declared) g.filters)
 known_group_is declared g = fold_out-Group Bool Bool (known_member_of declared) (known_group_of declared) g
 
-pub group_unknown : (declared : List (List ℕ)) (g : Group) (a b r : Option ℕ) → is_none a ≡ list_all holds (map (known_member declared) g.members) → is_none b ≡ list_all holds (map (known_expression declared) g.filters) → r ≡ first_place a b
-    → is_none r ≡ known_group declared g
-group_unknown declared g a b r in_members in_filters is =
-    ap is_none is ∙ none_of_both a b ∙ ap (λ x. x && is_none b) in_members
-    ∙ ap (λ x. list_all holds (map (known_member declared) g.members) && x) (in_filters ∙ all_hold (known_expression declared) g.filters)
-    ∙ sym (known_group_is declared g)
+-- a group's names by those of its members and of its FILTERs
+pub group_known : (declared : List (List ℕ)) (g : Group) → known_group declared g ≡ (list_all holds (map (known_member declared) g.members) && list_all holds (map (known_expression declared) g.filters))
+group_known declared g =
+    known_group_is declared g ∙ ap (λ x. list_all holds (map (known_member declared) g.members) && x) (sym (all_hold (known_expression declared) g.filters))
 
 pub sum_known : (declared : List (List ℕ)) (first : Expression) (others : List (Sign × Expression)) → known_expression declared (w.Sum first others) ≡ (known_expression declared first && each_value (known_expression declared) others)
 sum_known declared first others = ap (known_expression declared) (sym (w.rolls-Sum first others)) ∙ fold-roll-Expression Bool (known_expression_of declared) (Expression-F.Sum first others)

@@ -1,4 +1,3 @@
-pub mod CallerLemmas
 pub mod ExpressionLemmas
 mod GroupLawLemmas
 pub mod GroupLemmas

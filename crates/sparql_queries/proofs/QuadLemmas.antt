@@ -4,9 +4,9 @@ use Rattle.std.proofs.lemmas.List.{map-append}
 use Rattle.std.specs.List.{flat_map}
 use Rattle.rdf_grammar.specs.Prologue.{Prologue}
 use Rattle.rdf_grammar.specs.Steps.{Outcome, Step, and_then, pure}
-use Rattle.rdf_grammar.specs.declared.prologue.PrologueFault.{PrologueFault}
-use Rattle.rdf_grammar.specs.declared.prologue.PrologueFault.TheVariants.{UnknownPrefix, Relative, NoMemory}
-use Rattle.rdf_grammar.specs.Kept.{Fails}
+use Rattle.sparql_drafts.specs.declared.fault.DraftFault.{DraftFault}
+use Rattle.sparql_drafts.specs.declared.fault.DraftFault.TheVariants.{NoIri, NoMemory}
+use Rattle.sparql_drafts.specs.Kept.{Fails}
 use Rattle.sparql_grammar.specs.GroupReading.{together}
 use Rattle.sparql_grammar.specs.QuadGroups.{members_by, quads_group}
 use Rattle.sparql_grammar.specs.declared.tree.Block.{Block}
@@ -46,10 +46,9 @@ one_collected {S = S} {A = A} found x s u a h = ap (λ (o : Outcome S A). and_th
 one_none : {S A : Type 0} (found : List A) (x : Step S A) (s : S) → x s ≡ None → collected_behind found (x ∷ []) s ≡ None
 one_none {S = S} {A = A} found x s h = ap (λ (o : Outcome S A). and_then o (λ b. pure (found ++ b ∷ []))) h
 
-one_fails : {S A : Type 0} (found : List A) (x : Step S A) (s : S) (e : PrologueFault) → Fails (x s) e → Fails (collected_behind found (x ∷ []) s) e
+one_fails : {S A : Type 0} (found : List A) (x : Step S A) (s : S) (e : DraftFault) → Fails (x s) e → Fails (collected_behind found (x ∷ []) s) e
 one_fails found x s (NoMemory refused) h = tt
-one_fails found x s (Relative start) h = one_none found x s h
-one_fails found x s (UnknownPrefix start) h = h
+one_fails found x s NoIri h = one_none found x s h
 
 -- ---- triples together
 
@@ -61,10 +60,9 @@ triples_are p triples s =
 basic_said : (p : Prologue) (triples : List Triples) (s u : Labels) (b : BasicGraphPattern) → basic p triples s ≡ Some (b, u) → member_in p (written.Triples triples) s ≡ Some (member.Basic b, u)
 basic_said p triples s u b h = triples_are p triples s ∙ ap (λ (o : Outcome Labels BasicGraphPattern). and_then o (λ c. pure (member.Basic c))) h
 
-basic_fails : (p : Prologue) (triples : List Triples) (s : Labels) (e : PrologueFault) → Fails (basic p triples s) e → Fails (member_in p (written.Triples triples) s) e
+basic_fails : (p : Prologue) (triples : List Triples) (s : Labels) (e : DraftFault) → Fails (basic p triples s) e → Fails (member_in p (written.Triples triples) s) e
 basic_fails p triples s (NoMemory refused) h = tt
-basic_fails p triples s (Relative start) h = triples_are p triples s ∙ ap (λ (o : Outcome Labels BasicGraphPattern). and_then o (λ c. pure (member.Basic c))) h
-basic_fails p triples s (UnknownPrefix start) h = h
+basic_fails p triples s NoIri h = triples_are p triples s ∙ ap (λ (o : Outcome Labels BasicGraphPattern). and_then o (λ c. pure (member.Basic c))) h
 
 pub none_together : (p : Prologue) (found : List Member) (triples : List Triples) (s : Labels) → length triples ≡ 0 → collected_behind found (map (member_in p) (together triples)) s ≡ Some (found, s)
 none_together p found [] s h = refl
@@ -75,7 +73,7 @@ pub some_together : (p : Prologue) (found : List Member) (triples : List Triples
 some_together p found [] s u b l h = absurd (omega (arith, l))
 some_together p found (x ∷ xs) s u b l h = one_collected found (member_in p (written.Triples (x ∷ xs))) s u (member.Basic b) (basic_said p (x ∷ xs) s u b h)
 
-pub together_fails : (p : Prologue) (found : List Member) (triples : List Triples) (s : Labels) (e : PrologueFault) → 0 < length triples → Fails (basic p triples s) e
+pub together_fails : (p : Prologue) (found : List Member) (triples : List Triples) (s : Labels) (e : DraftFault) → 0 < length triples → Fails (basic p triples s) e
     → Fails (collected_behind found (map (member_in p) (together triples)) s) e
 together_fails p found [] s e l h = absurd (omega (arith, l))
 together_fails p found (x ∷ xs) s e l h = one_fails found (member_in p (written.Triples (x ∷ xs))) s e (basic_fails p (x ∷ xs) s e h)
@@ -94,7 +92,7 @@ graph_block_said p q found w triples s u name ms none same empty h k =
     one_collected found (member_in p (written.Graph w (inside triples))) s u (member.Graph name (pattern_with ms []))
     (graph_said p q w (inside triples) s u name (pattern_with ms []) same h said)
 
-pub graph_block_fails : (p q : Prologue) (found : List Member) (w : written_name.VarOrIri) (triples : List Triples) (s : Labels) (name : VarOrIri) (none : List Member) (e : PrologueFault) → q ≡ p → none ≡ [] → graph_name p w ≡ Some name
+pub graph_block_fails : (p q : Prologue) (found : List Member) (w : written_name.VarOrIri) (triples : List Triples) (s : Labels) (name : VarOrIri) (none : List Member) (e : DraftFault) → q ≡ p → none ≡ [] → graph_name p w ≡ Some name
     → Fails (collected_behind none (map (member_in q) (together triples)) s) e
     → Fails (collected_behind found (map (member_in p) (members_by (Some w) triples)) s) e
 graph_block_fails p q found w triples s name none e same empty h k =
@@ -102,7 +100,7 @@ graph_block_fails p q found w triples s name none e same empty h k =
     one_fails found (member_in p (written.Graph w (inside triples))) s e
     (graph_fails p q w (inside triples) s name e same h (filterless_fails q (together triples) s e at_start))
 
-pub block_name_fails : (p : Prologue) (found : List Member) (w : written_name.VarOrIri) (triples : List Triples) (s : Labels) (e : PrologueFault) → Fails (graph_name p w) e
+pub block_name_fails : (p : Prologue) (found : List Member) (w : written_name.VarOrIri) (triples : List Triples) (s : Labels) (e : DraftFault) → Fails (graph_name p w) e
     → Fails (collected_behind found (map (member_in p) (members_by (Some w) triples)) s) e
 block_name_fails p found w triples s e h =
     one_fails found (member_in p (written.Graph w (inside triples))) s e (name_fails p w (inside triples) s e h)
@@ -136,11 +134,10 @@ none_behind p blocks i b found s l is h =
     ∙ one_block p found b (drop (suc i) blocks) s
     ∙ ap (λ (o : Outcome Labels (List Member)). and_then o (λ ms. blocks_behind p ms (drop (suc i) blocks))) h
 
-block_fails : (p : Prologue) (blocks : List Block) (i : ℕ) (b : Block) (found : List Member) (s : Labels) (e : PrologueFault) → i < length blocks → b ≡ get_or blocks i b
+block_fails : (p : Prologue) (blocks : List Block) (i : ℕ) (b : Block) (found : List Member) (s : Labels) (e : DraftFault) → i < length blocks → b ≡ get_or blocks i b
     → Fails (collected_behind found (map (member_in p) (members_in b)) s) e → Fails (blocks_behind p found (drop i blocks) s) e
 block_fails p blocks i b found s (NoMemory refused) l is h = tt
-block_fails p blocks i b found s (Relative start) l is h = none_behind p blocks i b found s l is h
-block_fails p blocks i b found s (UnknownPrefix start) l is h = h
+block_fails p blocks i b found s NoIri l is h = none_behind p blocks i b found s l is h
 
 -- behind the last block
 pub no_block : (p : Prologue) (blocks : List Block) (i : ℕ) (found : List Member) (s : Labels) → length blocks ≤ i → blocks_behind p found (drop i blocks) s ≡ Some (found, s)
@@ -152,7 +149,7 @@ no_block p (b ∷ bs) (suc i) found s l = no_block p bs i found s (omega (arith,
 pub quads_said : (p : Prologue) (blocks : List Block) (s u : Labels) (ms : List Member) → blocks_behind p [] blocks s ≡ Some (ms, u) → group p (quads_group blocks) s ≡ Some (pattern_with ms [], u)
 quads_said p blocks s u ms h = filterless p (flat_map members_in blocks) s u ms h
 
-pub quads_fail : (p : Prologue) (blocks : List Block) (i : ℕ) (b : Block) (found : List Member) (s u : Labels) (e : PrologueFault) → blocks_behind p [] blocks s ≡ blocks_behind p found (drop i blocks) u → i < length blocks → b ≡ get_or blocks i b
+pub quads_fail : (p : Prologue) (blocks : List Block) (i : ℕ) (b : Block) (found : List Member) (s u : Labels) (e : DraftFault) → blocks_behind p [] blocks s ≡ blocks_behind p found (drop i blocks) u → i < length blocks → b ≡ get_or blocks i b
     → Fails (collected_behind found (map (member_in p) (members_in b)) u) e → Fails (group p (quads_group blocks) s) e
 quads_fail p blocks i b found s u e so_far l is h =
     filterless_fails p (flat_map members_in blocks) s e

@@ -1,7 +1,6 @@
 pub mod Addends
 pub mod Collected
 pub mod Expressions
-pub mod Faults
 pub mod GroupLaws
 pub mod Groups
 pub mod Known

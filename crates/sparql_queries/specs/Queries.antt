@@ -1,11 +1,9 @@
 -- What a query says before its static rule is asked (SPARQL 1.1 Query, sections 4.1.1 and 16).
-use Rattle.std.specs.Prelude.{◌≡◌, ℕ, Bool, true, false, List, [], Option, None, map}
+use Rattle.std.specs.Prelude.{ℕ, Bool, List, [], Option, map}
 use Rattle.std.specs.Option.{option_and_then}
 use Rattle.rdf_grammar.specs.Prologue as prologue
 use Rattle.rdf_grammar.specs.Prologue.{Prologue}
 use Rattle.rdf_grammar.specs.Steps.{◌<$>◌, each}
-use Rattle.rdf_grammar.specs.declared.prologue.PrologueFault.{PrologueFault}
-use Rattle.rdf_grammar.specs.declared.prologue.PrologueFault.TheVariants.{UnknownPrefix, Relative, NoMemory}
 use Rattle.sparql_drafts.specs.Meaning.{declaration}
 use Rattle.sparql_grammar.specs.declared.tree.Columns.{Columns}
 use Rattle.sparql_grammar.specs.declared.tree.Columns.TheVariants as columns
@@ -13,7 +11,6 @@ use Rattle.sparql_grammar.specs.declared.tree.Query as written
 use Rattle.sparql_grammar.specs.declared.tree.QueryForm.{QueryForm}
 use Rattle.sparql_grammar.specs.declared.tree.QueryForm.TheVariants as form
 use Rattle.sparql_queries.specs.Groups.{Does, Labels, group}
-use Rattle.sparql_queries.specs.Known.{known_query}
 use Rattle.sparql_queries.specs.Variables.{variable_name}
 use Rattle.sparql_trees.specs.Visible.{visible}
 use Rattle.sparql_trees.specs.declared.pattern.Pattern.{Pattern}
@@ -36,12 +33,6 @@ form_in p (form.Ask g) = Ask <$> group p g
 abbrev pub said_from : Prologue → written.Query → Does Query
 said_from p q = λ labels. option_and_then (λ declared. form_in declared.1 q.form labels) (each declaration q.prologue p)
 
--- Against the base, the query and the blank node labels of each of its basic graph patterns; nothing where a relative reference has no base.
+-- Against the base, the query and the blank node labels of each of its basic graph patterns; nothing where a name has no IRI.
 unfoldable pub query_in : Option (List ℕ) → written.Query → Option (Query × Labels)
 query_in base q = said_from (prologue.start base) q []
-
--- the fault of a name: a prefix that isn't declared, else a relative reference without a base; want of memory tells nothing
-abbrev pub IsFaultOf : Option (List ℕ) → written.Query → PrologueFault → Type 0
-IsFaultOf base q (UnknownPrefix start) = known_query q ≡ false
-IsFaultOf base q (Relative start) = (known_query q ≡ true) × (query_in base q ≡ None)
-IsFaultOf base q (NoMemory refused) = Unit {0}

@@ -1,25 +1,23 @@
 //! What expressions say (SPARQL 1.1 Query, sections 4.1 and 17).
 ghost use Rattle.std.specs.Prelude.{◌≡◌, IsTrue, map, option_map};
 ghost use Rattle.std.specs.List.{list_all};
-ghost use Rattle.rdf_grammar.specs.Literals.{known_literal, literal_of, proper_literal};
-ghost use Rattle.rdf_grammar.specs.Prologue.{declared, iri_of, is_proper, knows};
-ghost use Rattle.rdf_grammar.specs.Kept.{Tells};
+ghost use Rattle.rdf_grammar.specs.Literals.{literal_of, proper_literal};
+ghost use Rattle.rdf_grammar.specs.Prologue.{iri_of, is_proper};
+ghost use Rattle.sparql_drafts.specs.Kept.{Tells};
 ghost use Rattle.sparql_expressions.specs.ProperExpressions as proper;
 ghost use Rattle.sparql_grammar.specs.Proper.{holds};
 ghost use Rattle.sparql_queries.specs.Addends as addends;
 ghost use Rattle.sparql_queries.specs.Expressions as spec;
-ghost use Rattle.sparql_queries.specs.Known as known;
 
 use crate::basic::variable_name;
-use rdf_grammar::{Literal, Name, PrologueFault};
+use rdf_grammar::{Literal, Name};
 use rdf_terms::{Items, Term};
-use sparql_drafts::Scope;
+use sparql_drafts::{DraftFault, Scope};
 use sparql_expressions::Expression as Written;
 use sparql_trees::{Boxed, Expression, Sign};
 use std::alloc::Global;
 
-fn name<'a>(scope: &mut Scope<'a>, written: &Name<'a>) -> Result<Expression, PrologueFault>
-    requires known { IsTrue (knows (declared scope.old.prologue) written.now) }
+fn name<'a>(scope: &mut Scope<'a>, written: &Name<'a>) -> Result<Expression, DraftFault>
     requires proper { IsTrue (is_proper written.now) }
     ensures tells { let found = iri_of written.now scope.old.prologue in
         Tells (option_map (λ iri. Expression.Term (Term.Iri iri)) found) result }
@@ -28,8 +26,7 @@ fn name<'a>(scope: &mut Scope<'a>, written: &Name<'a>) -> Result<Expression, Pro
     Ok(Expression::Term(Term::Iri(scope.iri(written)?)))
 }
 
-fn literal<'a>(scope: &mut Scope<'a>, written: &Literal<'a>) -> Result<Expression, PrologueFault>
-    requires known { IsTrue (known_literal (declared scope.old.prologue) written.now) }
+fn literal<'a>(scope: &mut Scope<'a>, written: &Literal<'a>) -> Result<Expression, DraftFault>
     requires proper { IsTrue (proper_literal written.now) }
     ensures tells { let found = literal_of written.now scope.old.prologue in
         Tells (option_map (λ parts. Expression.Term (Term.Literal parts)) found) result }
@@ -44,9 +41,7 @@ pub(crate) fn expression<'a>(
     alloc: Global,
     scope: &mut Scope<'a>,
     written: &Written<'a>,
-) -> Result<Expression, PrologueFault>
-    requires known { let knows = known.known_expression (declared scope.old.prologue) in
-        IsTrue (knows written.now) }
+) -> Result<Expression, DraftFault>
     requires proper { IsTrue (proper.proper_expression written.now) }
     ensures tells { Tells (spec.expression_in scope.old.prologue written.now) result }
     ensures prologue { scope.new.prologue ≡ scope.old.prologue }
@@ -103,9 +98,7 @@ fn boxed<'a>(
     alloc: Global,
     scope: &mut Scope<'a>,
     written: &Boxed<Written<'a>>,
-) -> Result<Boxed<Expression>, PrologueFault>
-    requires known { let knows = known.known_expression (declared scope.old.prologue) in
-        IsTrue (knows written.now) }
+) -> Result<Boxed<Expression>, DraftFault>
     requires proper { IsTrue (proper.proper_expression written.now) }
     ensures tells { Tells (spec.expression_in scope.old.prologue written.now) result }
     ensures prologue { scope.new.prologue ≡ scope.old.prologue }
@@ -120,9 +113,7 @@ pub(crate) fn expressions<'a>(
     alloc: Global,
     scope: &mut Scope<'a>,
     written: &[Written<'a>],
-) -> Result<Items<Expression>, PrologueFault>
-    requires known { let knows = known.known_expression (declared scope.old.prologue) in
-        IsTrue (list_all holds (map knows written.now)) }
+) -> Result<Items<Expression>, DraftFault>
     requires proper { IsTrue (list_all holds (map proper.proper_expression written.now)) }
     ensures tells { let says = spec.expression_in scope.old.prologue in
         Tells (spec.all (map says written.now)) result }
@@ -141,9 +132,7 @@ fn addends<'a>(
     alloc: Global,
     scope: &mut Scope<'a>,
     written: &[(Sign, Written<'a>)],
-) -> Result<Items<(Sign, Expression)>, PrologueFault>
-    requires known { let knows = known.known_expression (declared scope.old.prologue) in
-        IsTrue (addends.each_value knows written.now) }
+) -> Result<Items<(Sign, Expression)>, DraftFault>
     requires proper { IsTrue (addends.each_value proper.proper_expression written.now) }
     ensures tells { let says = addends.addend_in scope.old.prologue in
         Tells (spec.all (map says written.now)) result }

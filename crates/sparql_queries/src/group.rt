@@ -1,64 +1,24 @@
 //! What groups say (SPARQL 1.1 Query, section 5).
-ghost use Rattle.std.specs.Prelude.{◌≡◌, [], OnOk, IsTrue, map};
+ghost use Rattle.std.specs.Prelude.{◌≡◌, OnOk, IsTrue, map};
 ghost use Rattle.std.specs.List.{list_all};
-ghost use Rattle.rdf_grammar.specs.Prologue.{declared};
-ghost use Rattle.rdf_grammar.specs.Kept.{Gives, Tells};
-ghost use Rattle.sparql_drafts.specs.Known as names;
+ghost use Rattle.std.specs.Option.{option_map};
+ghost use Rattle.sparql_drafts.specs.Kept.{Gives, Tells};
 ghost use Rattle.sparql_expressions.specs.ProperExpressions.{proper_expression};
 ghost use Rattle.sparql_grammar.specs.Proper as proper;
 ghost use Rattle.sparql_grammar.specs.Proper.{holds};
 ghost use Rattle.sparql_queries.specs.Collected.{collected};
 ghost use Rattle.sparql_queries.specs.Expressions.{all, expression_in};
-ghost use Rattle.sparql_queries.specs.Faults as faults;
 ghost use Rattle.sparql_queries.specs.Groups as spec;
-ghost use Rattle.sparql_queries.specs.Known as known;
 
 use crate::basic::{triple_patterns, variable_name};
 use crate::expression::expressions;
-use rdf_grammar::PrologueFault;
 use rdf_terms::Items;
 use rdf_tokens::Slice;
-use sparql_drafts::Scope;
+use sparql_drafts::{DraftFault, Scope};
 use sparql_expressions::Expression as Filter;
 use sparql_grammar::{Group, Member as Written, Triples, VarOrIri as WrittenName};
-use sparql_trees::{BasicGraphPattern, Expression, Member, Pattern, VarOrIri};
+use sparql_trees::{BasicGraphPattern, Member, Pattern, VarOrIri};
 use std::alloc::Global;
-
-// Where a fault stands in the text; want of memory goes before the others.
-fn place_of(fault: &PrologueFault) -> usize
-    ensures { result ≡ faults.place_of fault.now }
-{
-    match fault {
-        PrologueFault::UnknownPrefix(start) | PrologueFault::Relative(start) => *start,
-        PrologueFault::NoMemory(_) => 0,
-    }
-}
-
-// The fault that stands first in the text.
-fn earlier(one: PrologueFault, other: PrologueFault) -> PrologueFault
-    ensures { result ≡ faults.earlier one other }
-{
-    if place_of(&one) <= place_of(&other) {
-        one
-    } else {
-        other
-    }
-}
-
-// A group of these members and FILTERs. FILTERs may stand among the members, so where neither can
-// be said the fault that stands first is told.
-fn grouped(
-    members: Result<Items<Member>, PrologueFault>,
-    filters: Result<Items<Expression>, PrologueFault>,
-) -> Result<Pattern, PrologueFault>
-    ensures { result ≡ faults.grouped members filters }
-{
-    match (members, filters) {
-        (Ok(members), Ok(filters)) => Ok(Pattern { members, filters }),
-        (Ok(_), Err(fault)) | (Err(fault), Ok(_)) => Err(fault),
-        (Err(one), Err(other)) => Err(earlier(one, other)),
-    }
-}
 
 // Triples that stand together.
 #[tactic(auto, unfolding(crate::specs::Groups::basic))]
@@ -67,9 +27,7 @@ pub(crate) fn basic<'a>(
     scope: &mut Scope<'a>,
     labels: &mut Items<Items<Slice<'a>>>,
     triples: &[Triples<'a>],
-) -> Result<BasicGraphPattern, PrologueFault>
-    requires known { let knows = names.known_triples (declared scope.old.prologue) in
-        IsTrue (list_all holds (map knows triples.now)) }
+) -> Result<BasicGraphPattern, DraftFault>
     requires proper { IsTrue (list_all holds (map proper.proper_triples triples.now)) }
     ensures gives { let says = spec.basic scope.old.prologue triples.now in
         Gives (says labels.old) result labels.new }
@@ -89,9 +47,7 @@ pub(crate) fn named<'a>(
     alloc: Global,
     scope: &mut Scope<'a>,
     name: &WrittenName<'a>,
-) -> Result<VarOrIri, PrologueFault>
-    requires known { let knows = names.known_var_or_iri (declared scope.old.prologue) in
-        IsTrue (knows name.now) }
+) -> Result<VarOrIri, DraftFault>
     requires proper { IsTrue (proper.proper_var_or_iri name.now) }
     ensures tells { Tells (spec.graph_name scope.old.prologue name.now) result }
     ensures prologue { scope.new.prologue ≡ scope.old.prologue }
@@ -102,20 +58,21 @@ pub(crate) fn named<'a>(
     }
 }
 
-// What FILTERs ask.
-fn asked<'a>(
+// A group of these members, and of what its FILTERs ask.
+#[tactic(auto, using(sparql_drafts::proofs::CallerLemmas::map_fails))]
+fn with_filters<'a>(
     alloc: Global,
     scope: &mut Scope<'a>,
+    members: Items<Member>,
     filters: &[Filter<'a>],
-) -> Result<Items<Expression>, PrologueFault>
-    requires known { let knows = known.known_expression (declared scope.old.prologue) in
-        IsTrue (list_all knows filters.now) }
-    requires proper { IsTrue (list_all proper_expression filters.now) }
-    ensures tells { let says = expression_in scope.old.prologue in
-        Tells (all (map says filters.now)) result }
+) -> Result<Pattern, DraftFault>
+    requires { IsTrue (list_all proper_expression filters.now) }
+    ensures tells { let asked = all (map (expression_in scope.old.prologue) filters.now) in
+        Tells (option_map (spec.pattern_with members) asked) result }
     ensures prologue { scope.new.prologue ≡ scope.old.prologue }
 {
-    expressions(alloc, scope, filters)
+    let filters = expressions(alloc, scope, filters)?;
+    Ok(Pattern { members, filters })
 }
 
 /// What a group says: names have their IRIs, and the blank nodes of each basic graph pattern are
@@ -123,25 +80,21 @@ fn asked<'a>(
 /// 5). The blank node labels of each basic graph pattern come behind those that are there.
 ///
 /// # Errors
-/// [`PrologueFault::Relative`] at the first relative reference without a base;
-/// [`PrologueFault::NoMemory`] where memory is wanting.
+/// [`DraftFault::NoIri`] where a name has no IRI; [`DraftFault::NoMemory`] where memory is wanting.
 #[cycle(group)]
 pub fn pattern_of<'a>(
     alloc: Global,
     scope: &mut Scope<'a>,
     labels: &mut Items<Items<Slice<'a>>>,
     group: &Group<'a>,
-) -> Result<Pattern, PrologueFault>
-    requires known { let knows = known.known_group (declared scope.old.prologue) in
-        IsTrue (knows group.now) }
+) -> Result<Pattern, DraftFault>
     requires proper { IsTrue (proper.proper_group group.now) }
     ensures gives { let says = spec.group scope.old.prologue group.now in
         Gives (says labels.old) result labels.new }
     ensures prologue { OnOk result (scope.new.prologue ≡ scope.old.prologue) }
 {
-    let filters = asked(alloc, scope, group.filters.as_slice());
-    let members = members_of(alloc, scope, labels, group.members.as_slice());
-    grouped(members, filters)
+    let members = members_of(alloc, scope, labels, group.members.as_slice())?;
+    with_filters(alloc, scope, members, group.filters.as_slice())
 }
 
 #[cycle(group)]
@@ -150,9 +103,7 @@ fn members_of<'a>(
     scope: &mut Scope<'a>,
     labels: &mut Items<Items<Slice<'a>>>,
     members: &[Written<'a>],
-) -> Result<Items<Member>, PrologueFault>
-    requires known { let knows = known.known_member (declared scope.old.prologue) in
-        IsTrue (list_all holds (map knows members.now)) }
+) -> Result<Items<Member>, DraftFault>
     requires proper { IsTrue (list_all holds (map proper.proper_member members.now)) }
     ensures gives { let says = collected (map (spec.member_in scope.old.prologue) members.now) in
         Gives (says labels.old) result labels.new }
@@ -172,9 +123,7 @@ fn patterns_of<'a>(
     scope: &mut Scope<'a>,
     labels: &mut Items<Items<Slice<'a>>>,
     groups: &[Group<'a>],
-) -> Result<Items<Pattern>, PrologueFault>
-    requires known { let knows = known.known_group (declared scope.old.prologue) in
-        IsTrue (list_all holds (map knows groups.now)) }
+) -> Result<Items<Pattern>, DraftFault>
     requires proper { IsTrue (list_all holds (map proper.proper_group groups.now)) }
     ensures gives { let says = collected (map (spec.group scope.old.prologue) groups.now) in
         Gives (says labels.old) result labels.new }
@@ -195,9 +144,7 @@ fn member_of<'a>(
     scope: &mut Scope<'a>,
     labels: &mut Items<Items<Slice<'a>>>,
     member: &Written<'a>,
-) -> Result<Member, PrologueFault>
-    requires known { let knows = known.known_member (declared scope.old.prologue) in
-        IsTrue (knows member.now) }
+) -> Result<Member, DraftFault>
     requires proper { IsTrue (proper.proper_member member.now) }
     ensures gives { let says = spec.member_in scope.old.prologue member.now in
         Gives (says labels.old) result labels.new }

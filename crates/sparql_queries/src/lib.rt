@@ -14,7 +14,7 @@ mod query;
 mod template;
 
 pub use group::pattern_of;
-pub use known::unknown_group;
+pub use known::{knows_group, knows_query};
 pub use laws::{groups_are_as_written, templates_stand_in_their_graph};
 pub use quads::quads_pattern_of;
 pub use query::{Said, said_by};

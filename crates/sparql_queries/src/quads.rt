@@ -1,9 +1,7 @@
 //! The pattern that quads are (SPARQL 1.1 Update, section 3.1.3.3).
 ghost use Rattle.std.specs.Prelude.{◌≡◌, OnOk, IsTrue, map};
 ghost use Rattle.std.specs.List.{list_all};
-ghost use Rattle.rdf_grammar.specs.Prologue.{declared};
-ghost use Rattle.rdf_grammar.specs.Kept.{Gives};
-ghost use Rattle.sparql_drafts.specs.Known as known;
+ghost use Rattle.sparql_drafts.specs.Kept.{Gives};
 ghost use Rattle.sparql_grammar.specs.GroupReading.{together};
 ghost use Rattle.sparql_grammar.specs.Proper as proper;
 ghost use Rattle.sparql_grammar.specs.Proper.{holds};
@@ -12,10 +10,9 @@ ghost use Rattle.sparql_queries.specs.Collected.{collected_behind};
 ghost use Rattle.sparql_queries.specs.Groups as spec;
 
 use crate::group::{basic, named};
-use rdf_grammar::PrologueFault;
 use rdf_terms::Items;
 use rdf_tokens::Slice;
-use sparql_drafts::Scope;
+use sparql_drafts::{DraftFault, Scope};
 use sparql_grammar::{Block, Triples};
 use sparql_trees::{Member, Pattern};
 use std::alloc::Global;
@@ -27,9 +24,7 @@ fn with_triples<'a>(
     labels: &mut Items<Items<Slice<'a>>>,
     mut members: Items<Member>,
     triples: &[Triples<'a>],
-) -> Result<Items<Member>, PrologueFault>
-    requires known { let knows = known.known_triples (declared scope.old.prologue) in
-        IsTrue (list_all holds (map knows triples.now)) }
+) -> Result<Items<Member>, DraftFault>
     requires proper { IsTrue (list_all holds (map proper.proper_triples triples.now)) }
     ensures gives { let says = map (spec.member_in scope.old.prologue) (together triples.now) in
         Gives (collected_behind members says labels.old) result labels.new }
@@ -50,9 +45,7 @@ fn with_block<'a>(
     labels: &mut Items<Items<Slice<'a>>>,
     mut members: Items<Member>,
     block: &Block<'a>,
-) -> Result<Items<Member>, PrologueFault>
-    requires known { let knows = known.known_block (declared scope.old.prologue) in
-        IsTrue (knows block.now) }
+) -> Result<Items<Member>, DraftFault>
     requires proper { IsTrue (proper.proper_block block.now) }
     ensures gives { let says = map (spec.member_in scope.old.prologue)
         (members_by block.now.graph block.now.triples) in
@@ -79,16 +72,13 @@ fn with_block<'a>(
 /// 3.1.3.3), as [`pattern_of`](crate::pattern_of) gives it.
 ///
 /// # Errors
-/// [`PrologueFault::Relative`] at the first relative reference without a base;
-/// [`PrologueFault::NoMemory`] where memory is wanting.
+/// [`DraftFault::NoIri`] where a name has no IRI; [`DraftFault::NoMemory`] where memory is wanting.
 pub fn quads_pattern_of<'a>(
     alloc: Global,
     scope: &mut Scope<'a>,
     labels: &mut Items<Items<Slice<'a>>>,
     blocks: &[Block<'a>],
-) -> Result<Pattern, PrologueFault>
-    requires known { let knows = known.known_block (declared scope.old.prologue) in
-        IsTrue (list_all holds (map knows blocks.now)) }
+) -> Result<Pattern, DraftFault>
     requires proper { IsTrue (list_all holds (map proper.proper_block blocks.now)) }
     ensures gives { let says = spec.group scope.old.prologue (quads_group blocks.now) in
         Gives (says labels.old) result labels.new }

@@ -1,23 +1,18 @@
 //! What queries say.
-ghost use Rattle.std.specs.Prelude.{◌≡◌, [], false, Some, None, IfOk, OnOk, IsTrue, MatchResult, map};
+ghost use Rattle.std.specs.Prelude.{◌≡◌, [], Some, IfOk, IsTrue, MatchResult, map};
 ghost use Rattle.std.specs.Option.{option_copied};
-ghost use Rattle.rdf_grammar.specs.Prologue as prologue;
-ghost use Rattle.rdf_grammar.specs.Prologue.{declared};
 ghost use Rattle.rdf_grammar.specs.Steps.{each};
-ghost use Rattle.rdf_grammar.specs.Kept.{Fails, Gives};
+ghost use Rattle.sparql_drafts.specs.Kept.{Fails, Gives};
 ghost use Rattle.sparql_drafts.specs.Meaning.{declaration};
 ghost use Rattle.sparql_queries.specs.Variables.{variable_name as named};
-ghost use Rattle.sparql_queries.specs.Known as known;
 ghost use Rattle.sparql_grammar.specs.Proper as proper;
 ghost use Rattle.sparql_queries.specs.Queries as spec;
 
 use crate::basic::variable_name;
 use crate::group::pattern_of;
-use crate::known::first_unknown;
-use rdf_grammar::PrologueFault;
 use rdf_terms::{Iri, Items, NoMemory, Text, Vocabulary};
 use rdf_tokens::Slice;
-use sparql_drafts::Scope;
+use sparql_drafts::{DraftFault, Scope};
 use sparql_grammar::{Columns, Declaration, Query as Written, QueryForm};
 use sparql_trees::{Pattern, Query, Select, visible_variables};
 use std::alloc::Global;
@@ -27,16 +22,6 @@ use std::alloc::Global;
 pub struct Said<'a> {
     pub query: Query,
     pub labels: Items<Items<Slice<'a>>>,
-}
-
-// An equal base.
-fn copied(base: Option<&Iri>) -> Result<Option<Iri>, NoMemory>
-    ensures { IfOk result (λ copy. copy ≡ option_copied base.entry) }
-{
-    match base {
-        Some(iri) => Ok(Some(iri.copy()?)),
-        None => Ok(None),
-    }
 }
 
 fn variable_names(alloc: Global, variables: &[Slice<'_>]) -> Result<Items<Text>, NoMemory>
@@ -59,11 +44,9 @@ fn columns(alloc: Global, columns: &Columns<'_>, pattern: &Pattern) -> Result<It
 }
 
 // The declarations are in force from here on.
-fn declare<'a>(scope: &mut Scope<'a>, declarations: &[Declaration<'a>]) -> Result<(), PrologueFault>
-    ensures gives { let declares = each declaration declarations.now in
+fn declare<'a>(scope: &mut Scope<'a>, declarations: &[Declaration<'a>]) -> Result<(), DraftFault>
+    ensures { let declares = each declaration declarations.now in
         Gives (declares scope.old.prologue) result scope.new.prologue }
-    ensures declared { let before = declared scope.old.prologue in
-        OnOk result (declared scope.new.prologue ≡ known.declared_by before declarations.now) }
 {
     for declaration in declarations {
         scope.declare(declaration)?;
@@ -76,10 +59,8 @@ fn form<'a>(
     scope: &mut Scope<'a>,
     labels: &mut Items<Items<Slice<'a>>>,
     form: &QueryForm<'a>,
-) -> Result<Query, PrologueFault>
-    requires known { let knows = known.known_form (declared scope.old.prologue) in
-        IsTrue (knows form.now) }
-    requires proper { IsTrue (proper.proper_form form.now) }
+) -> Result<Query, DraftFault>
+    requires { IsTrue (proper.proper_form form.now) }
     ensures { let says = spec.form_in scope.old.prologue form.now in
         Gives (says labels.old) result labels.new }
 {
@@ -102,17 +83,14 @@ fn form<'a>(
 }
 
 // What a query says, from its prologue on.
-#[tactic(auto, using(crate::proofs::QueryLemmas::then_fails))]
+#[tactic(auto, using(sparql_drafts::proofs::CallerLemmas::then_fails))]
 fn said_in<'a>(
     alloc: Global,
     scope: &mut Scope<'a>,
     labels: &mut Items<Items<Slice<'a>>>,
     query: &Written<'a>,
-) -> Result<Query, PrologueFault>
-    requires known { let behind = known.declared_by
-        (declared scope.old.prologue) query.now.prologue in
-        IsTrue (known.known_form behind query.now.form) }
-    requires proper { IsTrue (proper.proper_form query.now.form) }
+) -> Result<Query, DraftFault>
+    requires { IsTrue (proper.proper_form query.now.form) }
     ensures { let said = spec.said_from scope.old.prologue query.now labels.old in
         Gives said result labels.new }
 {
@@ -120,27 +98,13 @@ fn said_in<'a>(
     form(alloc, scope, labels, &query.form)
 }
 
-// The prologue as it begins.
-fn begun<'a>(
-    alloc: Global,
-    vocabulary: &Vocabulary,
-    base: Option<&Iri>,
-) -> Result<Scope<'a>, NoMemory>
-    ensures { IfOk result (λ scope. scope.prologue ≡ prologue.start (option_copied base.entry)) }
-{
-    Scope::new(alloc, vocabulary, copied(base)?)
-}
-
 // What a query says in a scope that its caller lets go, without labels before it.
 fn said_in_scope<'a>(
     alloc: Global,
     scope: &mut Scope<'a>,
     query: &Written<'a>,
-) -> Result<Said<'a>, PrologueFault>
-    requires known { let behind = known.declared_by
-        (declared scope.old.prologue) query.now.prologue in
-        IsTrue (known.known_form behind query.now.form) }
-    requires proper { IsTrue (proper.proper_form query.now.form) }
+) -> Result<Said<'a>, DraftFault>
+    requires { IsTrue (proper.proper_form query.now.form) }
     ensures { let outcome = spec.said_from scope.old.prologue query.now [] in
         MatchResult result
         (λ said. outcome ≡ Some (said.query, said.labels))
@@ -153,49 +117,27 @@ fn said_in_scope<'a>(
     }
 }
 
-// What a query says whose prefixes are declared.
-fn said_where_known<'a>(
-    alloc: Global,
-    vocabulary: &Vocabulary,
-    base: Option<&Iri>,
-    query: &Written<'a>,
-) -> Result<Said<'a>, PrologueFault>
-    requires known { IsTrue (known.known_query query.now) }
-    requires proper { IsTrue (proper.proper_query query.now) }
-    ensures { MatchResult result
-        (λ said. IsTrue (known.known_query query.now)
-        × (spec.query_in (option_copied base.entry) query.now ≡ Some (said.query, said.labels)))
-        (λ fault. spec.IsFaultOf (option_copied base.entry) query.now fault) }
-{
-    let mut scope = begun(alloc, vocabulary, base)?;
-    let said = said_in_scope(alloc, &mut scope, query);
-    // (Let go in one call, which is proved sooner.)
-    drop(scope);
-    said
-}
-
 /// What a query says: names have their IRIs, and the blank nodes of each basic graph pattern are
 /// hidden variables, numbered from 0 by their places in the text (SPARQL 1.1 Query, sections 4.1, 5
 /// and 16). The IRIs of short forms are the vocabulary's.
 ///
 /// # Errors
-/// [`PrologueFault::UnknownPrefix`] where a prefix is used that isn't declared, at the first such
-/// name; else [`PrologueFault::Relative`] at the first relative reference without a base;
-/// [`PrologueFault::NoMemory`] where memory is wanting.
+/// [`DraftFault::NoIri`] where a name has no IRI; [`DraftFault::NoMemory`] where memory is wanting.
 pub fn said_by<'a>(
     alloc: Global,
     vocabulary: &Vocabulary,
     base: Option<&Iri>,
     query: &Written<'a>,
-) -> Result<Said<'a>, PrologueFault>
+) -> Result<Said<'a>, DraftFault>
     requires { IsTrue (proper.proper_query query.now) }
-    ensures { MatchResult result
-        (λ said. IsTrue (known.known_query query.now)
-        × (spec.query_in (option_copied base.entry) query.now ≡ Some (said.query, said.labels)))
-        (λ fault. spec.IsFaultOf (option_copied base.entry) query.now fault) }
+    ensures { let outcome = spec.query_in (option_copied base.entry) query.now in
+        MatchResult result
+        (λ said. outcome ≡ Some (said.query, said.labels))
+        (λ fault. Fails outcome fault) }
 {
-    match first_unknown(alloc, query)? {
-        Some(start) => Err(PrologueFault::UnknownPrefix(start)),
-        None => said_where_known(alloc, vocabulary, base, query),
-    }
+    let mut scope = Scope::new(alloc, vocabulary, base)?;
+    let said = said_in_scope(alloc, &mut scope, query);
+    // (Let go in one call, which is proved sooner.)
+    drop(scope);
+    said
 }

@@ -20,8 +20,8 @@ use Rattle.sparql_drafts.specs.declared.draft.VarOrTerm.{VarOrTerm}
 use Rattle.sparql_drafts.specs.declared.draft.VarOrTerm.TheVariants as place
 use Rattle.sparql_syntax.specs.declared.clause.Clause.{Clause}
 use Rattle.sparql_syntax.specs.declared.clause.Clause.TheVariants as clause
-use Rattle.sparql_syntax.specs.declared.draft.Draft.{Draft}
-use Rattle.sparql_syntax.specs.declared.draft.Draft.TheVariants as draft
+use Rattle.sparql_syntax.specs.declared.drafts.Draft.{Draft}
+use Rattle.sparql_syntax.specs.declared.drafts.Draft.TheVariants as draft
 use Rattle.sparql_syntax.specs.declared.fault.SyntaxFaultKind.{SyntaxFaultKind}
 use Rattle.sparql_syntax.specs.declared.fault.SyntaxFaultKind.TheVariants as fault
 use Rattle.sparql_syntax.specs.BrokenRuleLaws.{BlankIsFound, VariableIsFound, LiteralIsFound, BlankIsOfKind, VariableIsOfKind, LiteralIsOfKind, BlankIsBroken, VariableIsBroken, LiteralIsBroken}

@@ -19,9 +19,9 @@ use Rattle.sparql_drafts.specs.Meaning.{quads_in, declaration}
 use Rattle.sparql_queries.specs.Groups.{Labels, group}
 use Rattle.sparql_syntax.specs.Known.{declares_first}
 use Rattle.sparql_syntax.specs.Meaning.{answer, operation, part, listed, drafts, drafts_behind, drafts_of, modification, modification_of, templates, with_graph}
-use Rattle.sparql_syntax.specs.declared.draft.Draft.{Draft}
-use Rattle.sparql_syntax.specs.declared.draft.Draft.TheVariants as d
-use Rattle.sparql_syntax.specs.declared.draft.Modification.{Modification}
+use Rattle.sparql_syntax.specs.declared.drafts.Draft.{Draft}
+use Rattle.sparql_syntax.specs.declared.drafts.Draft.TheVariants as d
+use Rattle.sparql_syntax.specs.declared.drafts.Modification.{Modification}
 use Rattle.sparql_syntax.specs.declared.fault.SyntaxFaultKind.{SyntaxFaultKind}
 use Rattle.sparql_syntax.specs.declared.fault.SyntaxFaultKind.TheVariants.{Relative, UnknownPrefix}
 use Rattle.sparql_trees.specs.declared.pattern.Pattern.{Pattern}
@@ -102,10 +102,14 @@ pub drafts_are : (base : Option (List ℕ)) (ps : List Part) (ds : List Draft) �
 drafts_are base ps ds e = request_drafted base ps ds (answered (declares_first [] ps) (drafts_of base ps) ds e)
 
 -- what holds of each operation's draft
-pub all_drafts : (P : Draft → Type 0) → ((it : Operation) (p : Prologue) (one : Draft) → operation it p ≡ Some one → P one) → (base : Option (List ℕ)) (ps : List Part) (ds : List Draft) → answer base ps ≡ Ok ds → AllByRecursion P ds
-all_drafts P h base ps ds e = by ps ds (drafts_are base ps ds e)
-  where
-    by : (ps : List Part) (ds : List Draft) → AreDrafted ps ds → AllByRecursion P ds
-    by [] ds are = subst (AllByRecursion P) (sym are) tt
-    by (w.Declaration x ∷ ps) ds are = by ps ds are
-    by (w.Operation it ∷ ps) ds are = subst (AllByRecursion P) (sym are.4) (h it are.0 are.1 are.3, by ps are.2 are.5)
+module _ (P : Draft → Type 0) (h : (it : Operation) (p : Prologue) (one : Draft) → operation it p ≡ Some one → P one) where
+  each_draft : (ps : List Part) (ds : List Draft) → AreDrafted ps ds → AllByRecursion P ds
+  each_draft [] ds are = subst (AllByRecursion P) (sym are) tt
+  each_draft (w.Declaration x ∷ ps) ds are = each_draft ps ds are
+  each_draft (w.Operation it ∷ ps) ds are = subst (AllByRecursion P) (sym are.4) (h it are.0 are.1 are.3, each_draft ps are.2 are.5)
+
+  pub all_drafts : (base : Option (List ℕ)) (ps : List Part) (ds : List Draft) → answer base ps ≡ Ok ds → AllByRecursion P ds
+  all_drafts base ps ds e = each_draft ps ds (drafts_are base ps ds e)
+
+  pub said_drafts : (base : Option (List ℕ)) (ps : List Part) (ds : List Draft) → drafts_of base ps ≡ Some ds → AllByRecursion P ds
+  said_drafts base ps ds e = each_draft ps ds (request_drafted base ps ds e)

@@ -12,11 +12,10 @@ use Rattle.sparql_grammar.specs.declared.tree.Operation.TheVariants as o
 use Rattle.sparql_drafts.proofs.CallerLemmas.{data_numbered}
 use Rattle.sparql_drafts.specs.declared.draft.Quads.{Quads}
 use Rattle.sparql_drafts.specs.Meaning.{quads_in}
-use Rattle.sparql_queries.specs.Groups.{group}
 use Rattle.sparql_syntax.specs.Blanks.{IsDraftNumbered, BlankNumbersAreBelow}
-use Rattle.sparql_syntax.specs.declared.draft.Draft.{Draft}
-use Rattle.sparql_syntax.specs.declared.draft.Draft.TheVariants as d
-use Rattle.sparql_syntax.specs.Meaning.{operation, drafts, modification}
+use Rattle.sparql_syntax.specs.declared.drafts.Draft.{Draft}
+use Rattle.sparql_syntax.specs.declared.drafts.Draft.TheVariants as d
+use Rattle.sparql_syntax.specs.Meaning.{operation, modification}
 use Rattle.sparql_syntax.proofs.DraftLists.{all_drafts, modifies}
 
 -- an operation without data
@@ -34,7 +33,7 @@ modification_numbered with delete insert g p draft e =
     let m = modifies with delete insert g p draft e in
     subst IsDraftNumbered m.is (data_numbered delete p m.change.delete m.deleted, data_numbered insert p m.change.insert m.inserted)
 
-operation_numbered : (w : Operation) (p : Prologue) (draft : Draft) → operation w p ≡ Some draft → IsDraftNumbered draft
+pub operation_numbered : (w : Operation) (p : Prologue) (draft : Draft) → operation w p ≡ Some draft → IsDraftNumbered draft
 unfolding operation
 operation_numbered (o.InsertData blocks) p draft e = some_data d.InsertData (quads_in blocks p) draft (λ q. data_numbered blocks p q) e
 operation_numbered (o.DeleteData blocks) p draft e = some_data d.DeleteData (quads_in blocks p) draft (λ q. data_numbered blocks p q) e

@@ -10,7 +10,6 @@ use Rattle.rdf_grammar.specs.Prologue.{Prologue}
 use Rattle.sparql_grammar.specs.QuadGroups.{members_by, quads_group}
 use Rattle.sparql_grammar.specs.GroupReading.{together}
 use Rattle.sparql_grammar.specs.declared.tree.Block.{Block}
-use Rattle.sparql_grammar.specs.declared.tree.Declaration.{Declaration}
 use Rattle.sparql_grammar.specs.declared.tree.Group.{Group}
 use Rattle.sparql_grammar.specs.declared.tree.Member.{Member}
 use Rattle.sparql_grammar.specs.declared.tree.Member.TheVariants as m
@@ -22,14 +21,13 @@ use Rattle.sparql_grammar.specs.declared.tree.Triples.{Triples}
 use Rattle.sparql_grammar.specs.declared.tree.VarOrIri.{VarOrIri}
 use Rattle.sparql_drafts.specs.declared.draft.Quads.{Quads}
 use Rattle.sparql_drafts.specs.Meaning.{quads_in}
-use Rattle.sparql_queries.specs.Groups.{Labels, group}
+use Rattle.sparql_queries.specs.Groups.{Labels}
 use Rattle.sparql_syntax.specs.declared.clause.Clause.TheVariants as clause
-use Rattle.sparql_syntax.specs.declared.draft.Draft.{Draft}
-use Rattle.sparql_syntax.specs.declared.draft.Draft.TheVariants as d
-use Rattle.sparql_syntax.specs.Meaning.{answer, operation, drafts}
+use Rattle.sparql_syntax.specs.declared.drafts.Draft.{Draft}
+use Rattle.sparql_syntax.specs.declared.drafts.Draft.TheVariants as d
+use Rattle.sparql_syntax.specs.Meaning.{answer, operation}
 use Rattle.sparql_syntax.specs.RuleLaws.{stands_in}
 use Rattle.sparql_syntax.specs.Rules.{has_blank_in_delete, inserted_labels, pattern_labels}
-use Rattle.sparql_trees.specs.declared.pattern.Pattern.{Pattern}
 use Rattle.sparql_syntax.proofs.DraftLists.{AreDrafted, Modifies, drafts_are, modifies}
 use Rattle.sparql_syntax.proofs.LabelFronts.{lists}
 use Rattle.sparql_syntax.proofs.LabelGroupMeanings.{group_says, no_group}

@@ -1,7 +1,7 @@
 -- Requests and queries: in how many places a blank node label stands among their lexemes.
 use Rattle.std.proofs.Common.{◌≡◌, ◌∙◌, ap, refl, sym, subst, ℕ, suc, ◌+◌, Bool, true, false, List, [], ◌∷◌, ◌++◌, map, Option, Some, None, inl, inr, arith}
 use Rattle.rdf_grammar.specs.Derivations as grammar
-use Rattle.rdf_grammar.specs.Derivations.{Star, stop, more}
+use Rattle.rdf_grammar.specs.Derivations.{Star, more}
 use Rattle.rdf_grammar.specs.declared.tree.Name.{Name}
 use Rattle.rdf_grammar.specs.declared.word.Word.TheVariants as w
 use Rattle.sparql_terminals.specs.declared.terminal.Terminal.{Terminal}

@@ -1,9 +1,7 @@
-pub mod AnswerLemmas
 mod AtOnceLemmas
 mod BrokenRuleLemmas
 mod DraftLists
 pub mod DraftsNumbered
-mod FailLemmas
 mod FaultyNameLemmas
 mod LabelDrafts
 mod LabelExpressions
@@ -34,9 +32,9 @@ mod PhaseLemmas
 mod ProfileLemmas
 mod QuadFronts
 mod QueryCases
-pub mod QueryLemmas
+pub mod QueryTrees
 mod QuestionFronts
-pub mod ReadLemmas
+pub mod UpdateTrees
 mod RequestBlankLemmas
 mod RequestLemmas
 mod ReusedFound

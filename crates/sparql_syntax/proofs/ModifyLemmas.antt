@@ -3,9 +3,9 @@ use Rattle.std.proofs.Common.{◌≡◌, ℕ, List, [], Option, Some, None, refl
 use Rattle.std.proofs.lemmas.Option.{same_Some}
 use Rattle.std.specs.Option.{option_and_then, option_map}
 use Rattle.rdf_grammar.specs.Prologue.{Prologue}
-use Rattle.rdf_grammar.specs.declared.prologue.PrologueFault.{PrologueFault}
+use Rattle.sparql_drafts.specs.declared.fault.DraftFault.{DraftFault}
 use Rattle.rdf_grammar.specs.declared.tree.Name.{Name}
-use Rattle.rdf_grammar.specs.Kept.{Fails}
+use Rattle.sparql_drafts.specs.Kept.{Fails}
 use Rattle.sparql_drafts.specs.Meaning.{quads_in}
 use Rattle.sparql_drafts.specs.declared.draft.Quads.{Quads}
 use Rattle.sparql_grammar.specs.QuadGroups.{quads_group}
@@ -14,11 +14,11 @@ use Rattle.sparql_grammar.specs.declared.tree.Group.{Group}
 use Rattle.sparql_queries.specs.Groups.{Labels, group}
 use Rattle.sparql_syntax.specs.Meaning.{modification, modification_of, operation, templates, with_graph}
 use Rattle.sparql_syntax.specs.ModifyLaws.{DeleteWhereIsItsGroup, IsItsGroup}
-use Rattle.sparql_syntax.specs.declared.draft.Draft.{Draft}
-use Rattle.sparql_syntax.specs.declared.draft.Draft.TheVariants.{Modify}
-use Rattle.sparql_syntax.specs.declared.draft.Modification.{Modification}
+use Rattle.sparql_syntax.specs.declared.drafts.Draft.{Draft}
+use Rattle.sparql_syntax.specs.declared.drafts.Draft.TheVariants.{Modify}
+use Rattle.sparql_syntax.specs.declared.drafts.Modification.{Modification}
 use Rattle.sparql_trees.specs.declared.pattern.Pattern.{Pattern}
-use Rattle.sparql_syntax.proofs.FailLemmas.{map_fails}
+use Rattle.sparql_drafts.proofs.CallerLemmas.{map_fails}
 
 -- ---- by its parts
 
@@ -29,7 +29,7 @@ joined_told : (a : Option (Option (List ℕ))) (b : Option (Quads × Quads)) (c 
     → a ≡ Some graph → b ≡ Some quads → c ≡ Some said → joined a b c ≡ Some (modification_of graph quads said)
 joined_told a b c graph quads said e f h = rw (e, f, h) refl
 
-joined_fails : (a : Option (Option (List ℕ))) (b : Option (Quads × Quads)) (c : Option (Pattern × Labels)) (graph : Option (List ℕ)) (quads : Quads × Quads) (fault : PrologueFault)
+joined_fails : (a : Option (Option (List ℕ))) (b : Option (Quads × Quads)) (c : Option (Pattern × Labels)) (graph : Option (List ℕ)) (quads : Quads × Quads) (fault : DraftFault)
     → a ≡ Some graph → b ≡ Some quads → Fails c fault → Fails (joined a b c) fault
 joined_fails a b c graph quads fault e f h = rw (e, f) (map_fails (modification_of graph quads) c fault h)
 
@@ -47,7 +47,7 @@ modification_told with delete insert g p q l graph quads said same none e f h =
     joined_told (with_graph with p) (templates delete insert p) (group p g []) graph quads said e f
     (subst (λ (x : Labels). group p g x ≡ Some said) none (subst (λ (x : Prologue). group x g l ≡ Some said) same h))
 
-pub group_fails : (with : Option Name) (delete insert : List Block) (g : Group) (p q : Prologue) (l : Labels) (graph : Option (List ℕ)) (quads : Quads × Quads) (fault : PrologueFault)
+pub group_fails : (with : Option Name) (delete insert : List Block) (g : Group) (p q : Prologue) (l : Labels) (graph : Option (List ℕ)) (quads : Quads × Quads) (fault : DraftFault)
     → q ≡ p → l ≡ [] → with_graph with p ≡ Some graph → templates delete insert p ≡ Some quads → Fails (group q g l) fault → Fails (modification with delete insert g p) fault
 unfolding modification
 group_fails with delete insert g p q l graph quads fault same none e f h =

@@ -49,7 +49,7 @@ use Rattle.sparql_queries.specs.Queries.{form_in, query_in, select_with}
 use Rattle.sparql_trees.specs.declared.query.Query.TheVariants.{Ask as Asks}
 use Rattle.sparql_syntax.specs.Known.{declares_first, known_operation}
 use Rattle.sparql_syntax.specs.Meaning.{both, drafts_behind, drafts_of, graph_or_default, graph_ref_all, modification, operation, part, templates, with_graph, listed}
-use Rattle.sparql_syntax.specs.declared.draft.Draft.{Draft}
+use Rattle.sparql_syntax.specs.declared.drafts.Draft.{Draft}
 use Rattle.sparql_syntax.specs.FaultyNames.{lacks}
 use Rattle.sparql_syntax.proofs.NameFronts.{Ask, of_names, all_named, and_true}
 use Rattle.sparql_syntax.proofs.NameNodes.{each_triples, each_var_or_iri}

@@ -1,5 +1,5 @@
 -- Proper triples say something just where each of their names has an IRI.
-use Rattle.std.proofs.Common.{◌≡◌, ◌∙◌, ap, refl, sym, subst, Bool, true, false, cond, ◌&&◌, not, ◌==◌, List, [], map, Option, Some, None, true≢false}
+use Rattle.std.proofs.Common.{◌≡◌, ◌∙◌, ap, refl, sym, subst, Bool, true, false, cond, ◌&&◌, not, ◌==◌, List, map, Option, Some, None, true≢false}
 use Rattle.std.specs.Prelude.{is_some}
 use Rattle.std.specs.List.{list_all}
 use Rattle.rdf_terms.specs.Literal.{is_tag}

@@ -1,5 +1,5 @@
 -- Triples, and the names that their lexemes carry.
-use Rattle.std.proofs.Common.{◌≡◌, ◌∙◌, ap, refl, sym, Bool, true, ◌&&◌, List, [], map}
+use Rattle.std.proofs.Common.{◌≡◌, ◌∙◌, ap, refl, sym, Bool, true, ◌&&◌, List, map}
 use Rattle.std.specs.List.{list_all}
 use Rattle.rdf_grammar.specs.Holds.{holds}
 use Rattle.rdf_grammar.specs.Terminals.{Slice}

@@ -1,7 +1,7 @@
 -- Requests and queries as declarations and operations one after another, and what a search for names without IRIs asks of them.
 use Rattle.std.proofs.Common.{◌≡◌, ◌∙◌, ap, refl, sym, subst, ℕ, Bool, true, false, ◌&&◌, not, List, [], ◌∷◌, ◌++◌, map, append_assoc, append-nil, inl, inr}
 use Rattle.rdf_grammar.specs.Derivations as grammar
-use Rattle.rdf_grammar.specs.Derivations.{Then, Star, stop, more}
+use Rattle.rdf_grammar.specs.Derivations.{stop, more}
 use Rattle.rdf_grammar.specs.Terminals.{Slice}
 use Rattle.rdf_tokens.specs.Values.{prefix_part}
 use Rattle.sparql_terminals.specs.declared.terminal.Terminal.{Terminal}
@@ -21,7 +21,7 @@ use Rattle.sparql_grammar.specs.QueryGrammar.{IsQuery, AQuery}
 use Rattle.sparql_drafts.specs.Known.{declared_behind}
 use Rattle.sparql_syntax.specs.FaultyNames.{lacks}
 use Rattle.sparql_syntax.proofs.NameFronts as fronts
-use Rattle.sparql_syntax.proofs.NameFronts.{Adds, Gives, Value, all_named, start, Front, iri_only, pname_only}
+use Rattle.sparql_syntax.proofs.NameFronts.{Adds, Gives, start, Front, iri_only, pname_only}
 use Rattle.sparql_syntax.proofs.NameOperations.{operation_value, form_value, operation_gives, form_gives}
 use Rattle.sparql_syntax.proofs.NameScans.{all_bound, all_based}
 

@@ -20,11 +20,11 @@ use Rattle.sparql_syntax.specs.declared.fault.SyntaxFaultKind.{SyntaxFaultKind}
 use Rattle.sparql_syntax.specs.declared.fault.SyntaxFaultKind.TheVariants as fault
 use Rattle.sparql_syntax.specs.Labels.{repeats_label}
 use Rattle.sparql_syntax.specs.Query.{meaning, ruled}
+use Rattle.sparql_syntax.specs.Readers.{IsOfTree}
 use Rattle.sparql_syntax.specs.QueryLaws.{SomeMeaning, OneQuery, NeverBoth, OneFault}
 use Rattle.sparql_trees.specs.declared.query.Query.{Query}
 use Rattle.sparql_syntax.proofs.PhaseLemmas as phases
 use Rattle.sparql_syntax.proofs.SayLemmas as language
-use Rattle.sparql_syntax.proofs.SayLemmas.{IsKindOfTree, IsRuleKind}
 
 -- ---- why a tree says nothing
 
@@ -34,26 +34,20 @@ err_same a b e = cc
 ok_err : {A E : Type 0} (a : A) (b : E) → ◌≡◌ {A = Result A E} (Ok a) (Err b) → ⊥
 ok_err a b e = cc
 
-abbrev Kind : SyntaxFaultKind → Type 0
-Kind = IsKindOfTree grammar.IsQuery meaning
+label_of_tree : (b : Bool) (said : Query) (k : SyntaxFaultKind) → ◌≡◌ {A = Result Query SyntaxFaultKind} (cond b (Err fault.BlankReused) (Ok said)) (Err k) → IsOfTree k
+label_of_tree true said k e = subst IsOfTree (err_same fault.BlankReused k e) tt
+label_of_tree false said k e = absurd (ok_err said k e)
 
-abbrev Rule : SyntaxFaultKind → Type 0
-Rule = IsRuleKind grammar.IsQuery meaning
+ruled_of_tree : (o : Option (Query × Labels)) (k : SyntaxFaultKind) → ruled o ≡ Err k → IsOfTree k
+ruled_of_tree None k e = subst IsOfTree (err_same fault.Relative k e) tt
+ruled_of_tree (Some said) k e = label_of_tree (repeats_label [] said.1) said.0 k e
 
-pub label_kind : (b : Bool) (said : Query) (k : SyntaxFaultKind) → ◌≡◌ {A = Result Query SyntaxFaultKind} (cond b (Err fault.BlankReused) (Ok said)) (Err k) → Rule k
-label_kind true said k e = subst Rule (err_same fault.BlankReused k e) (λ base text h line there. (h, there))
-label_kind false said k e = absurd (ok_err said k e)
+known_of_tree : (b : Bool) (o : Option (Query × Labels)) (k : SyntaxFaultKind) → ◌≡◌ {A = Result Query SyntaxFaultKind} (cond b (ruled o) (Err fault.UnknownPrefix)) (Err k) → IsOfTree k
+known_of_tree true o k e = ruled_of_tree o k e
+known_of_tree false o k e = subst IsOfTree (err_same fault.UnknownPrefix k e) tt
 
-ruled_kind : (o : Option (Query × Labels)) (k : SyntaxFaultKind) → ruled o ≡ Err k → Kind k
-ruled_kind None k e = subst Kind (err_same fault.Relative k e) (language.relative_kind grammar.IsQuery meaning)
-ruled_kind (Some said) k e = language.rule_kind grammar.IsQuery meaning k (label_kind (repeats_label [] said.1) said.0 k e)
-
-known_kind : (b : Bool) (o : Option (Query × Labels)) (k : SyntaxFaultKind) → ◌≡◌ {A = Result Query SyntaxFaultKind} (cond b (ruled o) (Err fault.UnknownPrefix)) (Err k) → Kind k
-known_kind true o k e = ruled_kind o k e
-known_kind false o k e = subst Kind (err_same fault.UnknownPrefix k e) (language.unknown_kind grammar.IsQuery meaning)
-
-pub tree_kind : (base : Option (List ℕ)) (tree : written.Query) (k : SyntaxFaultKind) → meaning base tree ≡ Err k → Kind k
-tree_kind base tree k e = known_kind (known_query tree) (query_in base tree) k e
+of_tree : (base : Option (List ℕ)) (tree : written.Query) (k : SyntaxFaultKind) → meaning base tree ≡ Err k → IsOfTree k
+of_tree base tree k e = known_of_tree (known_query tree) (query_in base tree) k e
 
 -- ---- lexemes that aren't too deep are a query, or none
 
@@ -92,7 +86,7 @@ query_or_not lexemes shallow = by_reading lexemes shallow (whole_query lexemes) 
 -- ---- what a text says
 
 pub some_meaning : SomeMeaning
-some_meaning base text = language.some_meaning grammar.IsQuery meaning query_or_not tree_kind base text
+some_meaning base text = language.some_meaning grammar.IsQuery meaning query_or_not of_tree base text
 
 pub one_query : OneQuery
 one_query base text a b h k = phases.one_said grammar.IsQuery meaning query_unique base text a b h k

@@ -27,8 +27,8 @@ use Rattle.sparql_syntax.specs.RequestBlanks.{IsOperationBelow, IsPatternBelow, 
 use Rattle.sparql_syntax.specs.Rules as rules
 use Rattle.sparql_syntax.specs.Rules.{graph_of, operation_of, predicate_of, quad_of, term_of}
 use Rattle.sparql_syntax.specs.Update.{ruled}
-use Rattle.sparql_syntax.specs.declared.draft.Draft.{Draft}
-use Rattle.sparql_syntax.specs.declared.draft.Draft.TheVariants as d
+use Rattle.sparql_syntax.specs.declared.drafts.Draft.{Draft}
+use Rattle.sparql_syntax.specs.declared.drafts.Draft.TheVariants as d
 use Rattle.sparql_syntax.specs.declared.fault.SyntaxFaultKind.{SyntaxFaultKind}
 use Rattle.sparql_syntax.specs.declared.fault.SyntaxFaultKind.TheVariants as fault
 use Rattle.sparql_trees.specs.Quads.{quad_by}

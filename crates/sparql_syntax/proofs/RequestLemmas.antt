@@ -1,8 +1,12 @@
 -- What the grammar says of lexemes, and what a tree answers.
 use Rattle.std.proofs.Common.{◌≡◌, ◌⊎◌, inl, inr, ℕ, Bool, true, false, cond, ok_or, List, [], ◌∷◌, Option, Some, None, Result, Ok, Err, refl, sym, ◌∙◌}
 use Rattle.std.specs.List.{AllByRecursion}
+use Rattle.std.specs.Option.{option_map}
 use Rattle.rdf_grammar.proofs.CallerLemmas.{some_pair}
+use Rattle.rdf_grammar.specs.Prologue as prologue
 use Rattle.rdf_grammar.specs.declared.fault.GrammarFault.TheVariants.{Syntax}
+use Rattle.sparql_drafts.specs.Kept.{Tells}
+use Rattle.sparql_drafts.specs.declared.fault.DraftFault.{DraftFault}
 use Rattle.sparql_grammar.specs.declared.tree.Part.{Part}
 use Rattle.sparql_terminals.specs.Lexemes.{Lexeme, Lexemes, Outcome}
 use Rattle.sparql_grammar.specs.Nesting.{IsTooDeep}
@@ -10,15 +14,16 @@ use Rattle.sparql_grammar.specs.OperationGrammar.{IsRequest}
 use Rattle.sparql_grammar.specs.OperationReading.{request}
 use Rattle.sparql_grammar.proofs.CallerLemmas.{found_alone, request_read, stop_explained}
 use Rattle.sparql_syntax.specs.Blanks.{IsDraftNumbered}
-use Rattle.sparql_syntax.specs.declared.draft.Draft.{Draft}
-use Rattle.sparql_syntax.specs.declared.draft.Draft.TheVariants as draft
+use Rattle.sparql_syntax.specs.declared.drafts.Draft.{Draft}
+use Rattle.sparql_syntax.specs.declared.drafts.Draft.TheVariants as draft
 use Rattle.sparql_syntax.specs.declared.fault.SyntaxFaultKind.{SyntaxFaultKind}
 use Rattle.sparql_syntax.specs.declared.fault.SyntaxFaultKind.TheVariants as fault
 use Rattle.sparql_syntax.specs.Drafts.{IsDraftBelow}
 use Rattle.sparql_syntax.specs.Known.{declares_first}
-use Rattle.sparql_syntax.specs.Meaning.{answer, drafts_of}
+use Rattle.sparql_syntax.specs.Meaning.{answer, drafts, drafts_of}
 use Rattle.sparql_drafts.proofs.CallerLemmas.{numbered_below}
-use Rattle.sparql_syntax.proofs.DraftsNumbered.{blank_numbers_are_below}
+use Rattle.sparql_syntax.proofs.DraftLists.{said_drafts}
+use Rattle.sparql_syntax.proofs.DraftsNumbered.{operation_numbered}
 
 -- ---- lexemes that aren't too deep are a request, or none
 
@@ -65,5 +70,11 @@ all_below : (drafts : List Draft) → AllByRecursion IsDraftNumbered drafts → 
 all_below [] h = tt
 all_below (d ∷ ds) h = (draft_below d h.0, all_below ds h.1)
 
-pub drafts_below : (base : Option (List ℕ)) (tree : List Part) (drafts : List Draft) → answer base tree ≡ Ok drafts → AllByRecursion IsDraftBelow drafts
-drafts_below base tree drafts e = all_below drafts (blank_numbers_are_below base tree drafts e)
+pub drafts_below : (base : Option (List ℕ)) (tree : List Part) (drafts : List Draft) → drafts_of base tree ≡ Some drafts → AllByRecursion IsDraftBelow drafts
+drafts_below base tree drafts e = all_below drafts (said_drafts IsDraftNumbered operation_numbered base tree drafts e)
+
+-- ---- what is told of them from the start
+
+pub drafts_told : (base : Option (List ℕ)) (tree : List Part) (r : Result (List Draft) DraftFault) → Tells (option_map (λ z. z.0) (drafts tree (prologue.start base))) r → Tells (drafts_of base tree) r
+unfolding drafts_of
+drafts_told base tree r h = h

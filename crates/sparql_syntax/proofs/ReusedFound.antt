@@ -19,7 +19,7 @@ use Rattle.sparql_queries.specs.Groups.{Labels, group}
 use Rattle.sparql_queries.specs.Known.{known_query}
 use Rattle.sparql_queries.specs.Queries.{form_in, query_in, select_with}
 use Rattle.sparql_syntax.specs.declared.clause.Clause.TheVariants as clause
-use Rattle.sparql_syntax.specs.declared.draft.Draft.{Draft}
+use Rattle.sparql_syntax.specs.declared.drafts.Draft.{Draft}
 use Rattle.sparql_syntax.specs.declared.fault.SyntaxFaultKind.{SyntaxFaultKind}
 use Rattle.sparql_syntax.specs.declared.fault.SyntaxFaultKind.TheVariants as fault
 use Rattle.sparql_syntax.specs.BrokenRuleLaws.{ReusedIsFound, ReusedIsFoundInQueries, ReusedIsBroken, ReusedIsBrokenInQueries}

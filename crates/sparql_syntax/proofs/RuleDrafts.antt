@@ -8,7 +8,6 @@ use Rattle.rdf_grammar.specs.Prologue.{Prologue}
 use Rattle.rdf_grammar.specs.declared.tree.Name.{Name}
 use Rattle.sparql_grammar.specs.QuadGroups.{quads_group}
 use Rattle.sparql_grammar.specs.declared.tree.Block.{Block}
-use Rattle.sparql_grammar.specs.declared.tree.Declaration.{Declaration}
 use Rattle.sparql_grammar.specs.declared.tree.Group.{Group}
 use Rattle.sparql_grammar.specs.declared.tree.Operation.{Operation}
 use Rattle.sparql_grammar.specs.declared.tree.Operation.TheVariants as o
@@ -16,12 +15,11 @@ use Rattle.sparql_grammar.specs.declared.tree.Part.{Part}
 use Rattle.sparql_grammar.specs.declared.tree.Part.TheVariants as w
 use Rattle.sparql_drafts.specs.declared.draft.Quads.{Quads}
 use Rattle.sparql_drafts.specs.Meaning.{quads_in}
-use Rattle.sparql_queries.specs.Groups.{group}
 use Rattle.sparql_syntax.specs.declared.clause.Clause.{Clause}
 use Rattle.sparql_syntax.specs.declared.clause.Clause.TheVariants as clause
-use Rattle.sparql_syntax.specs.declared.draft.Draft.{Draft}
-use Rattle.sparql_syntax.specs.declared.draft.Draft.TheVariants as d
-use Rattle.sparql_syntax.specs.Meaning.{answer, operation, part, drafts, modification, templates}
+use Rattle.sparql_syntax.specs.declared.drafts.Draft.{Draft}
+use Rattle.sparql_syntax.specs.declared.drafts.Draft.TheVariants as d
+use Rattle.sparql_syntax.specs.Meaning.{answer, operation, modification}
 use Rattle.sparql_syntax.proofs.DraftLists.{AreDrafted, drafts_are, modifies}
 
 -- a rule asks of these clauses, and breaks says of blocks that they break it where they stand in one

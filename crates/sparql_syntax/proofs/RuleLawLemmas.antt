@@ -2,8 +2,8 @@
 use Rattle.std.proofs.Common.{◌≡◌, Bool, true, false, cond, ◌||◌, ◌&&◌, List, [], ◌∷◌, map, Option, Some, None, Result, Ok, Err, is_some, refl}
 use Rattle.std.specs.List.{list_all, list_any}
 use Rattle.rdf_terms.specs.declared.term.Term.TheVariants as term
-use Rattle.sparql_syntax.specs.declared.draft.Draft.{Draft}
-use Rattle.sparql_syntax.specs.declared.draft.Draft.TheVariants as draft
+use Rattle.sparql_syntax.specs.declared.drafts.Draft.{Draft}
+use Rattle.sparql_syntax.specs.declared.drafts.Draft.TheVariants as draft
 use Rattle.sparql_drafts.specs.declared.draft.QuadPattern.{QuadPattern}
 use Rattle.sparql_drafts.specs.declared.draft.VarOrIri.{VarOrIri}
 use Rattle.sparql_drafts.specs.declared.draft.VarOrIri.TheVariants as name

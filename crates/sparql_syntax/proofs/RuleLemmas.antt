@@ -8,7 +8,7 @@ use Rattle.rdf_terms.specs.declared.quad.GraphName.{GraphName}
 use Rattle.rdf_terms.specs.declared.quad.GraphName.TheVariants.{Default, Named}
 use Rattle.rdf_terms.specs.declared.term.Term.{Term}
 use Rattle.rdf_terms.specs.declared.term.Term.TheVariants as term
-use Rattle.sparql_syntax.specs.declared.draft.Draft.{Draft}
+use Rattle.sparql_syntax.specs.declared.drafts.Draft.{Draft}
 use Rattle.sparql_drafts.specs.declared.draft.QuadPattern.{QuadPattern}
 use Rattle.sparql_drafts.specs.declared.draft.VarOrIri.{VarOrIri}
 use Rattle.sparql_drafts.specs.declared.draft.VarOrIri.TheVariants as name

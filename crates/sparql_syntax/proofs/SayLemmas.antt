@@ -16,39 +16,17 @@ use Rattle.sparql_terminals.specs.Terminals.{terminal_by, bracket}
 use Rattle.sparql_syntax.specs.declared.fault.SyntaxFault.{SyntaxFault}
 use Rattle.sparql_syntax.specs.declared.fault.SyntaxFaultKind.{SyntaxFaultKind}
 use Rattle.sparql_syntax.specs.declared.fault.SyntaxFaultKind.TheVariants as fault
-use Rattle.sparql_syntax.specs.BrokenRules.{first_broken}
-use Rattle.sparql_syntax.specs.FaultyNames.{first_unbound, first_lacking}
+use Rattle.sparql_syntax.specs.NamePlaces.{first_shown}
 use Rattle.sparql_syntax.specs.Phases as phases
-use Rattle.sparql_syntax.specs.Phases.{HasTokens, IsLineAt}
+use Rattle.sparql_syntax.specs.Phases.{HasTokens}
+use Rattle.sparql_syntax.specs.Readers.{IsOfTree}
 use Rattle.sparql_syntax.proofs.ProfileLemmas.{inside_or_outside}
-
--- the kinds of faults that a tree may have
-abbrev pub IsKindOfTree : {Tree Said : Type 0} (Derives : List Lexeme → Tree → Type 0) (meaning : Option (List ℕ) → Tree → Result Said SyntaxFaultKind) → SyntaxFaultKind → Type 0
-IsKindOfTree Derives meaning k =
-    (base : Option (List ℕ)) (text : List ℕ) → phases.IsRefused Derives meaning base text k → (line : ℕ) × phases.FaultIs Derives meaning base text k line
-
--- those that are told in the line of the first lexeme that breaks a rule
-abbrev pub IsRuleKind : {Tree Said : Type 0} (Derives : List Lexeme → Tree → Type 0) (meaning : Option (List ℕ) → Tree → Result Said SyntaxFaultKind) → SyntaxFaultKind → Type 0
-IsRuleKind Derives meaning k =
-    (base : Option (List ℕ)) (text : List ℕ) → phases.IsRefused Derives meaning base text k → (line : ℕ) → IsLineAt text (first_broken k) line → phases.FaultIs Derives meaning base text k line
-
-module _ {Tree Said : Type 0} (Derives : List Lexeme → Tree → Type 0) (meaning : Option (List ℕ) → Tree → Result Said SyntaxFaultKind) where
-  first_line : (text : List ℕ) (tree : Tree) (has : phases.HasTree Derives text tree) (number : Lexemes → ℕ) → (line : ℕ) × IsLineAt text number line
-  first_line text tree has number = (line_of text (start_of text has.tokens (number has.lexemes)), (has.tokens, has.lexemes, has.list, refl))
-
-  pub rule_kind : (k : SyntaxFaultKind) → IsRuleKind Derives meaning k → IsKindOfTree Derives meaning k
-  rule_kind k rule base text h = (let line = first_line text h.0 h.1 (first_broken k) in (line.0, rule base text h line.0 line.1))
-
-  pub unknown_kind : IsKindOfTree Derives meaning fault.UnknownPrefix
-  unknown_kind base text h = (let line = first_line text h.0 h.1 first_unbound in (line.0, (h, line.1)))
-
-  pub relative_kind : IsKindOfTree Derives meaning fault.Relative
-  relative_kind base text h = (let line = first_line text h.0 h.1 (first_lacking (is_some base)) in (line.0, (h, line.1)))
+use Rattle.sparql_syntax.proofs.TellLemmas.{refused_at}
 
 -- a language of which each tree means something or has a fault, and lexemes that aren't too deep have a tree or none
 module _ {Tree Said : Type 0} (Derives : List Lexeme → Tree → Type 0) (meaning : Option (List ℕ) → Tree → Result Said SyntaxFaultKind)
     (tree_or_not : (lexemes : Lexemes) → ¬ (IsTooDeep lexemes) → ((tree : Tree) × Derives lexemes tree) ⊎ ((tree : Tree) → ¬ (Derives lexemes tree)))
-    (tree_kind : (base : Option (List ℕ)) (tree : Tree) (k : SyntaxFaultKind) → meaning base tree ≡ Err k → IsKindOfTree Derives meaning k) where
+    (of_tree : (base : Option (List ℕ)) (tree : Tree) (k : SyntaxFaultKind) → meaning base tree ≡ Err k → IsOfTree k) where
   abbrev HasTree : List ℕ → Tree → Type 0
   HasTree = phases.HasTree Derives
 
@@ -59,7 +37,9 @@ module _ {Tree Said : Type 0} (Derives : List Lexeme → Tree → Type 0) (meani
 
   by_meaning : (base : Option (List ℕ)) (text : List ℕ) (tree : Tree) → HasTree text tree → (r : Result Said SyntaxFaultKind) → meaning base tree ≡ r → Meant base text
   by_meaning base text tree h (Ok said) e = inl (said, (tree, h, e))
-  by_meaning base text tree h (Err k) e = (let told = tree_kind base tree k e base text (tree, h, e) in inr (record { line = told.0; kind = k }, told.1))
+  by_meaning base text tree h (Err k) e =
+      let line = line_of text (start_of text h.tokens (first_shown (is_some base) k h.lexemes)) in
+      inr (record { line = line; kind = k }, refused_at Derives meaning base text k line (of_tree base tree k e) (tree, h, e) (h.tokens, h.lexemes, h.list, refl))
 
   by_lexemes : (base : Option (List ℕ)) (text : List ℕ) (tokens : List Token) (lexemes : Lexemes) → HasTokens text tokens lexemes → AreInside (chars text) tokens → Meant base text
   by_lexemes base text tokens lexemes h inside = elim (shallow_or_deep bracket lexemes) [

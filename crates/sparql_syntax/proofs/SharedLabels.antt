@@ -8,8 +8,8 @@ use Rattle.std.proofs.lemmas.List.Sums.{sum_by-append, sum_by-cons}
 use Rattle.std.proofs.lemmas.Map.Steps.{list_any_congr}
 use Rattle.indexmap.specs.IndexSet.{insert_key}
 use Rattle.rdf_grammar.specs.Keys.{key_of, same_key}
-use Rattle.sparql_syntax.specs.declared.draft.Draft.{Draft}
-use Rattle.sparql_syntax.specs.declared.draft.Draft.TheVariants as draft
+use Rattle.sparql_syntax.specs.declared.drafts.Draft.{Draft}
+use Rattle.sparql_syntax.specs.declared.drafts.Draft.TheVariants as draft
 use Rattle.sparql_queries.specs.Groups.{Labels}
 use Rattle.sparql_syntax.specs.Labels.{is_among, known_behind, repeats_label}
 use Rattle.sparql_syntax.specs.RuleLaws.{brings_label, patterns_with, stands_in, HasSharedLabel, LabelsAreShared}

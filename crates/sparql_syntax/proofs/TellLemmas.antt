@@ -1,5 +1,5 @@
 -- What a reader answers before a tree stands is what the text says.
-use Rattle.std.proofs.Common.{◌≡◌, ◌∙◌, ◌-◌, ℕ, List, length, Option, Some, Result, Ok, Err, refl, sym, ap, subst}
+use Rattle.std.proofs.Common.{◌≡◌, ◌∙◌, ◌-◌, ℕ, Bool, List, length, Option, Some, is_some, Result, Ok, Err, refl, sym, ap, subst}
 use Rattle.std.specs.List.{slice_get}
 use Rattle.std.specs.Str.{chars, IsUtf8}
 use Rattle.rdf_grammar.specs.declared.fault.GrammarFault.{GrammarFault}
@@ -13,15 +13,16 @@ use Rattle.rdf_tokens.specs.Lines.{line_of}
 use Rattle.rdf_tokens.specs.Tokens.{Tokenizes}
 use Rattle.rdf_tokens.proofs.CallerLemmas.{one_token_list}
 use Rattle.sparql_terminals.specs.Lexemes.{Lexeme, Lexemes}
-use Rattle.sparql_grammar.specs.Nesting.{IsTooDeep, IsTooDeepAt}
+use Rattle.sparql_grammar.specs.Nesting.{IsTooDeepAt}
 use Rattle.sparql_terminals.specs.Profile.{AreInside, IsFirstOutside}
 use Rattle.sparql_terminals.specs.Terminals.{terminal_by}
 use Rattle.sparql_syntax.specs.declared.fault.SyntaxFault.{SyntaxFault}
 use Rattle.sparql_syntax.specs.declared.fault.SyntaxFaultKind.{SyntaxFaultKind}
 use Rattle.sparql_syntax.specs.declared.fault.SyntaxFaultKind.TheVariants as fault
 use Rattle.sparql_syntax.specs.Phases as phases
-use Rattle.sparql_syntax.specs.NamePlaces.{IsAtFirst}
+use Rattle.sparql_syntax.specs.NamePlaces.{IsAtFirst, IsTreeFault, first_shown}
 use Rattle.sparql_syntax.specs.Phases.{HasTokens, IsLineAt, StopsEarly, TellsEarly}
+use Rattle.sparql_syntax.specs.Readers.{Explains, IsOfTree, TellsMeaning}
 use Rattle.sparql_syntax.specs.Survey.{IsReadable, IsStop}
 use Rattle.sparql_syntax.specs.Told.{fault_at, wants_memory, IsStopFault}
 
@@ -69,6 +70,12 @@ pub stop_at : (text : List ℕ) (ts : Lexemes) (left number place : ℕ) → Are
 stop_at text ts left number place read e at tokens list =
     at tokens list ∙ ap (start_of text tokens) (e ∙ ap (λ (n : ℕ). n - left) (same_lengths terminal_by (chars text) tokens ts (listed (chars text) tokens ts list read)))
 
+-- ---- what a reader of trees answers
+
+pub tells_fault : {Said : Type 0} (meaning : Result Said SyntaxFaultKind) (k : SyntaxFaultKind) → meaning ≡ Err k → IsOfTree k → TellsMeaning meaning (Err k)
+tells_fault meaning (fault.NoMemory refused) e is = tt
+tells_fault meaning _ e is = (e, is)
+
 -- ---- in one language
 
 module _ {Tree Said : Type 0} (Derives : List Lexeme → Tree → Type 0) (meaning : Option (List ℕ) → Tree → Result Said SyntaxFaultKind) where
@@ -95,6 +102,27 @@ module _ {Tree Said : Type 0} (Derives : List Lexeme → Tree → Type 0) (meani
       told_at base text f k (line_of text start) told (is (line_of text start) (tokens, lexemes, held, ap (line_of text) (starts tokens lexemes held)))
   first_told base text tokens lexemes f k number held is (Err refused, starts, told) = memory_told base text f refused told
 
+  -- that of a tree, told at the first lexeme that shows it
+  pub refused_at : (base : Option (List ℕ)) (text : List ℕ) (k : SyntaxFaultKind) (line : ℕ) → IsOfTree k → phases.IsRefused Derives meaning base text k → IsLineAt text (first_shown (is_some base) k) line
+      → phases.FaultIs Derives meaning base text k line
+  refused_at base text fault.UnknownPrefix line is h there = (h, there)
+  refused_at base text fault.Relative line is h there = (h, there)
+  refused_at base text fault.BlankInDelete line is h there = (h, there)
+  refused_at base text fault.VariableInData line is h there = (h, there)
+  refused_at base text fault.LiteralSubject line is h there = (h, there)
+  refused_at base text fault.BlankReused line is h there = (h, there)
+  refused_at base text _ line is h there = absurd is
+
+  tree_told_at : (base : Option (List ℕ)) (text : List ℕ) (tree : Tree) (k : SyntaxFaultKind) (f : SyntaxFault) → phases.HasTree Derives text tree → TellsMeaning (meaning base tree) (Err k)
+      → IsTreeFault text (is_some base) k f → Tells base text f
+  tree_told_at base text tree (fault.NoMemory refused) f h why told = memory_told base text f refused told
+  tree_told_at base text tree k f h why told =
+      first_told base text h.tokens h.lexemes f k (first_shown (is_some base) k) h.list (λ line at. refused_at base text k line why.1 (tree, h, why.0) at) told
+
+  pub tree_told : (base : Option (List ℕ)) (based : Bool) (text : List ℕ) (tree : Tree) (k : SyntaxFaultKind) (f : SyntaxFault) → is_some base ≡ based → phases.HasTree Derives text tree
+      → TellsMeaning (meaning base tree) (Err k) → IsTreeFault text based k f → Tells base text f
+  tree_told base based text tree k f same h why told = tree_told_at base text tree k f h why (subst (λ (b : Bool). IsTreeFault text b k f) (sym same) told)
+
   -- a fault that stops the text in every language
   early_is : (base : Option (List ℕ)) (text : List ℕ) (k : SyntaxFaultKind) (line : ℕ) → StopsEarly text k line → phases.FaultIs Derives meaning base text k line
   early_is base text fault.NotUtf8 line h = h
@@ -111,12 +139,17 @@ module _ {Tree Said : Type 0} (Derives : List Lexeme → Tree → Type 0) (meani
   early_told text f h base = early_tells base text f f.kind h
 
   -- the parser's fault is the text's
-  module _ (Why : Lexemes → GrammarFault → Type 0) (no_tree : (ls : Lexemes) → Why ls grammar.Syntax → ¬ (IsTooDeep ls) → (tree : Tree) → ¬ (Derives ls tree)) where
-    pub stop_told : (text : List ℕ) (ls : Lexemes) (k : GrammarFault) (left : ℕ) (f : SyntaxFault) → IsReadable text → AreReadOf terminal_by (chars text) ls → Why ls k → IsStopFault text k left f
-        → (base : Option (List ℕ)) → Tells base text f
-    stop_told text ls grammar.Syntax left f r read why e base =
-        let none = no_tree r.lexemes (subst (λ (x : Lexemes). Why x grammar.Syntax) (read_lexemes text ls r read) why) r.shallow in
-        let number = length r.tokens - left in
-        let line : line_of text e.0 ≡ line_of text (start_of text r.tokens number) = ap (line_of text) (e.1 r.tokens r.list.list) in
-        told_at base text f fault.Syntax (line_of text e.0) e.2 (r.tokens, r.lexemes, r.list, r.inside, r.shallow, none, (number, line))
-    stop_told text ls (grammar.NoMemory refused) left f r read why e base = memory_told base text f refused e
+  pub stop_told : (text : List ℕ) (ls : Lexemes) (k : GrammarFault) (left : ℕ) (f : SyntaxFault) → IsReadable text → AreReadOf terminal_by (chars text) ls → Explains Derives ls k → IsStopFault text k left f
+      → (base : Option (List ℕ)) → Tells base text f
+  stop_told text ls grammar.Syntax left f r read why e base =
+      let explained : Explains Derives r.lexemes grammar.Syntax = subst (λ (x : Lexemes). Explains Derives x grammar.Syntax) (read_lexemes text ls r read) why in
+      let none = explained r.shallow in
+      let number = length r.tokens - left in
+      let line : line_of text e.0 ≡ line_of text (start_of text r.tokens number) = ap (line_of text) (e.1 r.tokens r.list.list) in
+      told_at base text f fault.Syntax (line_of text e.0) e.2 (r.tokens, r.lexemes, r.list, r.inside, r.shallow, none, (number, line))
+  stop_told text ls (grammar.NoMemory refused) left f r read why e base = memory_told base text f refused e
+
+  -- and its tree
+  pub tree_read : (text : List ℕ) (ls : Lexemes) (tree : Tree) → IsReadable text → AreReadOf terminal_by (chars text) ls → Derives ls tree → phases.HasTree Derives text tree
+  tree_read text ls tree r read is =
+      record { tokens = r.tokens; lexemes = r.lexemes; list = r.list; inside = r.inside; shallow = r.shallow; reads = subst (λ (x : Lexemes). Derives x tree) (read_lexemes text ls r read) is }

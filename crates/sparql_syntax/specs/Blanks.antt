@@ -3,8 +3,8 @@ use Rattle.std.specs.Prelude.{◌≡◌, ℕ, List, Option, Ok}
 use Rattle.std.specs.List.{AllByRecursion}
 use Rattle.sparql_grammar.specs.declared.tree.Part.{Part}
 use Rattle.sparql_drafts.specs.Blanks.{IsNumbered}
-use Rattle.sparql_syntax.specs.declared.draft.Draft.{Draft}
-use Rattle.sparql_syntax.specs.declared.draft.Draft.TheVariants.{InsertData, DeleteData, Modify, Other}
+use Rattle.sparql_syntax.specs.declared.drafts.Draft.{Draft}
+use Rattle.sparql_syntax.specs.declared.drafts.Draft.TheVariants.{InsertData, DeleteData, Modify, Other}
 use Rattle.sparql_syntax.specs.Meaning.{answer}
 
 abbrev pub IsDraftNumbered : Draft → Type 0

@@ -12,7 +12,7 @@ use Rattle.sparql_terminals.specs.declared.terminal.Terminal.{Terminal}
 use Rattle.sparql_terminals.specs.declared.terminal.Terminal.TheVariants as terminal
 use Rattle.sparql_queries.specs.Groups.{Labels}
 use Rattle.sparql_queries.specs.Queries.{query_in}
-use Rattle.sparql_syntax.specs.declared.draft.Draft.{Draft}
+use Rattle.sparql_syntax.specs.declared.drafts.Draft.{Draft}
 use Rattle.sparql_syntax.specs.declared.fault.SyntaxFaultKind.{SyntaxFaultKind}
 use Rattle.sparql_syntax.specs.declared.fault.SyntaxFaultKind.TheVariants.{BlankInDelete, VariableInData, LiteralSubject, BlankReused}
 use Rattle.sparql_syntax.specs.BrokenRules.{first_broken, is_blank, is_literal, is_variable}

@@ -1,7 +1,7 @@
 -- What the text of an operation says before its static rules are asked.
 use Rattle.sparql_drafts.specs.Drafts.{ArePatternsBelow}
-use Rattle.sparql_syntax.specs.declared.draft.Draft.{Draft}
-use Rattle.sparql_syntax.specs.declared.draft.Draft.TheVariants as draft
+use Rattle.sparql_syntax.specs.declared.drafts.Draft.{Draft}
+use Rattle.sparql_syntax.specs.declared.drafts.Draft.TheVariants as draft
 
 -- the blank nodes of data have numbers below their count; templates are taken as they are
 abbrev pub IsDraftBelow : Draft → Type 0

@@ -6,7 +6,6 @@ pub mod Drafts
 pub mod FaultName
 pub mod FaultyNameLaws
 pub mod FaultyNames
-pub mod Kept
 pub mod Known
 pub mod Labels
 pub mod Meaning
@@ -15,7 +14,7 @@ pub mod NamePlaces
 pub mod Phases
 pub mod Query
 pub mod QueryLaws
-pub mod QueryTold
+pub mod Readers
 pub mod RequestBlanks
 pub mod RuleLaws
 pub mod Rules

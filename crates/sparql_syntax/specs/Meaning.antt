@@ -25,9 +25,9 @@ use Rattle.sparql_trees.specs.declared.operation.Operation.TheVariants as op
 use Rattle.sparql_drafts.specs.Meaning.{quads_in, declaration}
 use Rattle.sparql_drafts.specs.declared.draft.Quads.{Quads}
 use Rattle.sparql_queries.specs.Groups.{Labels, group}
-use Rattle.sparql_syntax.specs.declared.draft.Draft.{Draft}
-use Rattle.sparql_syntax.specs.declared.draft.Draft.TheVariants.{InsertData, DeleteData, Modify, Other}
-use Rattle.sparql_syntax.specs.declared.draft.Modification.{Modification}
+use Rattle.sparql_syntax.specs.declared.drafts.Draft.{Draft}
+use Rattle.sparql_syntax.specs.declared.drafts.Draft.TheVariants.{InsertData, DeleteData, Modify, Other}
+use Rattle.sparql_syntax.specs.declared.drafts.Modification.{Modification}
 use Rattle.sparql_syntax.specs.declared.fault.SyntaxFaultKind.{SyntaxFaultKind}
 use Rattle.sparql_syntax.specs.declared.fault.SyntaxFaultKind.TheVariants.{UnknownPrefix, Relative}
 use Rattle.sparql_syntax.specs.Known.{declares_first}

@@ -7,9 +7,9 @@ use Rattle.sparql_grammar.specs.declared.tree.Block.{Block}
 use Rattle.sparql_grammar.specs.declared.tree.Operation.TheVariants as written
 use Rattle.sparql_queries.specs.Groups.{group}
 use Rattle.sparql_syntax.specs.Meaning.{operation}
-use Rattle.sparql_syntax.specs.declared.draft.Draft.{Draft}
-use Rattle.sparql_syntax.specs.declared.draft.Draft.TheVariants.{Modify}
-use Rattle.sparql_syntax.specs.declared.draft.Modification.{Modification}
+use Rattle.sparql_syntax.specs.declared.drafts.Draft.{Draft}
+use Rattle.sparql_syntax.specs.declared.drafts.Draft.TheVariants.{Modify}
+use Rattle.sparql_syntax.specs.declared.drafts.Modification.{Modification}
 
 -- what it deletes are its quads, it inserts nothing, and its pattern is what the group of the same text says
 pub record IsItsGroup (blocks : List Block) (p : Prologue) (m : Modification) : Type 0 where

@@ -1,8 +1,6 @@
 -- Where the first lexeme stands that shows a fault, a name without an IRI or what breaks a static rule, and the fault that is told of it.
-use Rattle.std.specs.Prelude.{◌≡◌, ◌⊎◌, ℕ, Bool, List, Result, Ok, Err, IfOk}
+use Rattle.std.specs.Prelude.{◌≡◌, ℕ, Bool, List, Result, Ok, Err, IfOk}
 use Rattle.rdf_grammar.specs.Walks.{start_of}
-use Rattle.rdf_grammar.specs.declared.prologue.PrologueFault.{PrologueFault}
-use Rattle.rdf_grammar.specs.declared.prologue.PrologueFault.TheVariants as name
 use Rattle.rdf_terms.specs.declared.fault.NoMemory.{NoMemory}
 use Rattle.rdf_tokens.specs.declared.token.Token.{Token}
 use Rattle.sparql_terminals.specs.Lexemes.{Lexemes}
@@ -27,13 +25,13 @@ at_place text k (Err refused) = wants_memory refused
 abbrev pub IsAtFirst : List ℕ → SyntaxFaultKind → (Lexemes → ℕ) → SyntaxFault → Type 0
 IsAtFirst text k number f = (place : Result ℕ NoMemory) × IfOk place (λ start. StartsAt text number start) × (f ≡ at_place text k place)
 
--- the fault of a text for that of a name, against a base or none
-abbrev pub IsNameFault : List ℕ → Bool → PrologueFault → SyntaxFault → Type 0
-IsNameFault text based (name.UnknownPrefix start) f = IsAtFirst text kind.UnknownPrefix first_unbound f
-IsNameFault text based (name.Relative start) f = IsAtFirst text kind.Relative (first_lacking based) f
-IsNameFault text based (name.NoMemory refused) f = f ≡ wants_memory refused
+-- the number of the first lexeme that shows such a fault of a tree, against a base or none
+abbrev pub first_shown : Bool → SyntaxFaultKind → Lexemes → ℕ
+first_shown based kind.UnknownPrefix = first_unbound
+first_shown based kind.Relative = first_lacking based
+first_shown based rule = first_broken rule
 
--- the answer is the fault of a rule, told at the first lexeme that breaks it, or memory was wanting
-abbrev pub IsRuleFault : {Said : Type 0} → List ℕ → Result Said SyntaxFaultKind → SyntaxFault → Type 0
-IsRuleFault text answer f =
-    ((rule : SyntaxFaultKind) × (answer ≡ Err rule) × IsAtFirst text rule (first_broken rule) f) ⊎ ((refused : NoMemory) × (f ≡ wants_memory refused))
+-- the fault of a text whose tree says nothing
+abbrev pub IsTreeFault : List ℕ → Bool → SyntaxFaultKind → SyntaxFault → Type 0
+IsTreeFault text based (kind.NoMemory refused) f = f ≡ wants_memory refused
+IsTreeFault text based k f = IsAtFirst text k (first_shown based k) f

@@ -2,8 +2,8 @@
 use Rattle.std.specs.Prelude.{◌≡◌, ◌≤◌, ◌⊎◌, ℕ, Bool, true, false, List, is_some, Ok}
 use Rattle.std.specs.List.{count_by, list_all, list_any, sum_by}
 use Rattle.rdf_grammar.specs.Keys.{key_of, same_key}
-use Rattle.sparql_syntax.specs.declared.draft.Draft.{Draft}
-use Rattle.sparql_syntax.specs.declared.draft.Draft.TheVariants as draft
+use Rattle.sparql_syntax.specs.declared.drafts.Draft.{Draft}
+use Rattle.sparql_syntax.specs.declared.drafts.Draft.TheVariants as draft
 use Rattle.sparql_drafts.specs.declared.draft.QuadPattern.{QuadPattern}
 use Rattle.sparql_syntax.specs.Rules.{quad_of, judged, reuses_label}
 use Rattle.sparql_trees.specs.declared.operation.Operation.{Operation}

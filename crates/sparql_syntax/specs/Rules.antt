@@ -8,9 +8,9 @@ use Rattle.rdf_terms.specs.declared.quad.GraphName.{GraphName}
 use Rattle.rdf_terms.specs.declared.quad.GraphName.TheVariants.{Default, Named}
 use Rattle.rdf_terms.specs.declared.term.Term.{Term}
 use Rattle.rdf_terms.specs.declared.term.Term.TheVariants as term
-use Rattle.sparql_syntax.specs.declared.draft.Draft.{Draft}
-use Rattle.sparql_syntax.specs.declared.draft.Draft.TheVariants as draft
-use Rattle.sparql_syntax.specs.declared.draft.Modification.{Modification}
+use Rattle.sparql_syntax.specs.declared.drafts.Draft.{Draft}
+use Rattle.sparql_syntax.specs.declared.drafts.Draft.TheVariants as draft
+use Rattle.sparql_syntax.specs.declared.drafts.Modification.{Modification}
 use Rattle.sparql_drafts.specs.declared.draft.QuadPattern.{QuadPattern}
 use Rattle.sparql_drafts.specs.declared.draft.Quads.{Quads}
 use Rattle.sparql_drafts.specs.declared.draft.VarOrIri.{VarOrIri}

@@ -1,18 +1,19 @@
 -- The faults that are told of a text, by what its parts answer.
-use Rattle.std.specs.Prelude.{◌≡◌, ℕ, List, Option}
+use Rattle.std.specs.Prelude.{◌≡◌, ℕ, List, Option, Result}
 use Rattle.rdf_grammar.specs.declared.fault.GrammarFault.{GrammarFault}
 use Rattle.rdf_grammar.specs.declared.fault.GrammarFault.TheVariants as grammar
 use Rattle.rdf_terms.specs.declared.fault.NoMemory.{NoMemory}
 use Rattle.rdf_tokens.specs.Lines.{line_of}
+use Rattle.sparql_terminals.specs.Lexemes.{Lexemes}
 use Rattle.sparql_syntax.specs.declared.fault.SyntaxFault.{SyntaxFault}
 use Rattle.sparql_syntax.specs.declared.fault.SyntaxFaultKind.{SyntaxFaultKind}
 use Rattle.sparql_syntax.specs.declared.fault.SyntaxFaultKind.TheVariants as kind
+use Rattle.sparql_syntax.specs.Phases.{TellsFault}
 use Rattle.sparql_syntax.specs.Survey.{IsStop}
-use Rattle.sparql_syntax.specs.Update.{TellsFault}
 
 -- the fault is told of the text, whatever the base is
-abbrev pub IsTold : List ℕ → SyntaxFault → Type 0
-IsTold text f = (base : Option (List ℕ)) → TellsFault base text f f.kind
+abbrev pub IsTold : {Tree Said : Type 0} → (Lexemes → Tree → Type 0) → (Option (List ℕ) → Tree → Result Said SyntaxFaultKind) → List ℕ → SyntaxFault → Type 0
+IsTold Derives meaning text f = (base : Option (List ℕ)) → TellsFault Derives meaning base text f f.kind
 
 abbrev pub fault_at : List ℕ → SyntaxFaultKind → ℕ → SyntaxFault
 fault_at text kind start = record { line = line_of text start; kind = kind }

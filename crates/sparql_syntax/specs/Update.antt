@@ -5,7 +5,7 @@ use Rattle.sparql_grammar.specs.OperationGrammar.{IsRequest}
 use Rattle.sparql_syntax.specs.Meaning.{answer}
 use Rattle.sparql_syntax.specs.Phases as phases
 use Rattle.sparql_syntax.specs.Rules.{judged}
-use Rattle.sparql_syntax.specs.declared.draft.Draft.{Draft}
+use Rattle.sparql_syntax.specs.declared.drafts.Draft.{Draft}
 use Rattle.sparql_syntax.specs.declared.fault.SyntaxFault.{SyntaxFault}
 use Rattle.sparql_syntax.specs.declared.fault.SyntaxFaultKind.{SyntaxFaultKind}
 use Rattle.sparql_trees.specs.declared.operation.Operation.{Operation}

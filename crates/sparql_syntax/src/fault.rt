@@ -1,9 +1,11 @@
 //! Why a text is not read.
 ghost use Rattle.std.specs.Prelude.{◌≡◌};
 ghost use Rattle.sparql_syntax.specs.FaultName.{fault_name};
+ghost use Rattle.sparql_syntax.specs.Readers.{kind_of};
 ghost use Rattle.sparql_syntax.specs.declared.fault.SyntaxFaultKind.TheVariants.{NoMemory};
 
 use rdf_terms::NoMemory as NoMemoryFault;
+use sparql_drafts::DraftFault;
 use thiserror::Error;
 
 /// Why a text is not read. Where several apply, the first of them is the fault.
@@ -94,6 +96,18 @@ impl From<NoMemoryFault> for SyntaxFaultKind {
 
     fn from(refused: NoMemoryFault) -> SyntaxFaultKind {
         SyntaxFaultKind::NoMemory(refused)
+    }
+}
+
+impl From<DraftFault> for SyntaxFaultKind {
+    ghost from_gives = { λ fault e. e ≡ kind_of fault };
+
+    // (Of a text whose prefixes are declared, a name without an IRI is a relative reference.)
+    fn from(fault: DraftFault) -> SyntaxFaultKind {
+        match fault {
+            DraftFault::NoIri => SyntaxFaultKind::Relative,
+            DraftFault::NoMemory(refused) => SyntaxFaultKind::NoMemory(refused),
+        }
     }
 }
 

@@ -5,7 +5,7 @@ ghost use Rattle.std.specs.List.{flat_map, list_any};
 ghost use Rattle.sparql_syntax.specs.Labels.{all_known_behind, repeats_label};
 ghost use Rattle.sparql_syntax.specs.Rules as spec;
 
-use crate::draft::Draft;
+use crate::drafts::Draft;
 use crate::fault::SyntaxFaultKind;
 use crate::labels::{know, knows_one, repeats_label as repeats};
 use indexmap::IndexSet;

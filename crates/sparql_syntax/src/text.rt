@@ -1,15 +1,14 @@
 //! The faults of a text, by their places.
 ghost use Rattle.std.specs.Prelude.{◌≡◌, IfOk};
 ghost use Rattle.sparql_syntax.specs.NamePlaces as places;
-ghost use Rattle.sparql_syntax.specs.BrokenRules.{first_broken};
-ghost use Rattle.sparql_syntax.specs.NamePlaces.{IsAtFirst, IsNameFault, StartsAt};
+ghost use Rattle.sparql_syntax.specs.NamePlaces.{IsTreeFault, StartsAt};
 ghost use Rattle.sparql_syntax.specs.Survey.{IsStop};
 ghost use Rattle.sparql_syntax.specs.Told as spec;
 
 use crate::broken_rule::{first_breaking, first_reused};
 use crate::fault::{SyntaxFault, SyntaxFaultKind};
 use crate::faulty_name::{first_lacking, first_unbound};
-use rdf_grammar::{GrammarFault, PrologueFault, start_of};
+use rdf_grammar::{GrammarFault, start_of};
 use rdf_terms::NoMemory;
 use rdf_tokens::line_at;
 use sparql_terminals::Parser;
@@ -56,44 +55,37 @@ fn at_place(text: &str, kind: SyntaxFaultKind, place: Result<usize, NoMemory>) -
     }
 }
 
-/// The fault of a text that has a name without an IRI, in the line of the first such name, against a base or
-/// none; or want of memory.
-pub(crate) fn name_fault(
+// Where the first lexeme starts that shows such a fault of a tree, against a base or none, or where the text
+// ends.
+fn place_shown(
     alloc: Global,
     text: &str,
     based: bool,
-    fault: PrologueFault,
-) -> SyntaxFault
-    ensures { IsNameFault text.now based fault result }
+    kind: SyntaxFaultKind,
+) -> Result<usize, NoMemory>
+    ensures { IfOk result (λ place. StartsAt text.now (places.first_shown based kind) place) }
 {
-    match fault {
-        PrologueFault::UnknownPrefix(_) => {
-            let place = first_unbound(alloc, text);
-            at_place(text, SyntaxFaultKind::UnknownPrefix, place)
-        }
-        PrologueFault::Relative(_) => {
-            let place = first_lacking(alloc, based, text);
-            at_place(text, SyntaxFaultKind::Relative, place)
-        }
-        PrologueFault::NoMemory(refused) => SyntaxFault::from(refused),
-    }
-}
-
-// Where the first lexeme starts that breaks the rule, or where the text ends.
-fn broken_place(alloc: Global, text: &str, rule: SyntaxFaultKind) -> Result<usize, NoMemory>
-    ensures { IfOk result (λ place. StartsAt text.now (first_broken rule) place) }
-{
-    match rule {
+    match kind {
+        SyntaxFaultKind::UnknownPrefix => first_unbound(alloc, text),
+        SyntaxFaultKind::Relative => first_lacking(alloc, based, text),
         SyntaxFaultKind::BlankReused => first_reused(alloc, text),
-        _ => Ok(first_breaking(alloc, text, rule)),
+        _ => Ok(first_breaking(alloc, text, kind)),
     }
 }
 
-/// The fault of a text that breaks a static rule, in the line of the first lexeme that breaks it; or want of
-/// memory.
-pub(crate) fn rule_fault(alloc: Global, text: &str, rule: SyntaxFaultKind) -> SyntaxFault
-    ensures { IsAtFirst text.now rule (first_broken rule) result }
+/// The fault of a text whose tree says nothing, against a base or none, in the line of the first lexeme that
+/// shows it; or want of memory.
+pub(crate) fn tree_fault(
+    alloc: Global,
+    text: &str,
+    based: bool,
+    kind: SyntaxFaultKind,
+) -> SyntaxFault
+    ensures { IsTreeFault text.now based kind result }
 {
-    let place = broken_place(alloc, text, rule);
-    at_place(text, rule, place)
+    if let SyntaxFaultKind::NoMemory(refused) = kind {
+        return SyntaxFault::from(refused);
+    }
+    let place = place_shown(alloc, text, based, kind);
+    at_place(text, kind, place)
 }

@@ -1,14 +1,13 @@
 use Rattle.std.proofs.Common.{◌≡◌, ◌∙◌, ap, sym, subst, rules, refl, true, Some, Option, List, [], ◌∷◌, ◌++◌, ◌+◌, map, drop}
 use Rattle.std.proofs.lemmas.Bool.{and_parts}
-use Rattle.sparql_queries.proofs.KnownLemmas.{each_holds, sum_known, sum_proper}
-use Rattle.rdf_grammar.specs.Prologue.{Prologue, declared}
+use Rattle.sparql_queries.proofs.KnownLemmas.{each_holds, sum_proper}
+use Rattle.rdf_grammar.specs.Prologue.{Prologue}
 use Rattle.sparql_expressions.specs.declared.tree.Expression as written
 use Rattle.rdf_grammar.proofs.CallerLemmas.{next_member}
-use Rattle.rdf_grammar.specs.Kept.{Fails}
+use Rattle.sparql_drafts.specs.Kept.{Fails}
 use Rattle.sparql_expressions.specs.ProperExpressions as proper
 use Rattle.sparql_queries.specs.Addends as addends
 use Rattle.sparql_queries.specs.Expressions as spec
-use Rattle.sparql_queries.specs.Known as known
 use Rattle.sparql_queries.proofs.ExpressionLemmas.{all_behind, next_part, part_fails, addend_fails, left_fails, right_fails, both_there, compare_is, same_term_is, sum_is, all_at_start}
 use Rattle.sparql_trees.specs.declared.expression.Expression.{Expression}
 use Rattle.sparql_trees.specs.declared.expression.Expression.TheVariants as e
@@ -23,7 +22,6 @@ expressions-loop-one-preserved t c =
     let x = c.one-item.result in
     let same : c.loop-one.scope.prologue ≡ p = c.loop-one.invariant.prologue in
     let said : spec.expression_in p x ≡ Some c.in_ok-said.said = subst (λ (q : Prologue). spec.expression_in q x ≡ Some c.in_ok-said.said) same c.in_ok-said.ensures.tells in
-    let knows = next_member (known.known_expression (declared p)) all i x c.loop-one-test.true c.one-item.is c.loop-one.invariant.known in
     let whole = next_member proper.proper_expression all i x c.loop-one-test.true c.one-item.is c.loop-one.invariant.proper in
     let pushed : c.push.new.self ≡ c.loop-one.made ++ c.in_ok-said.said ∷ [] = search rules in
     record {
@@ -31,7 +29,6 @@ expressions-loop-one-preserved t c =
           ∙ next_part (spec.expression_in p) all i x c.loop-one.made c.in_ok-said.said c.loop-one-test.true c.one-item.is said
           ∙ ap (λ (made : List Expression). all_behind made (map (spec.expression_in p) (drop (i + 1) all))) (sym pushed);
       prologue = c.in_ok-said.ensures.prologue ∙ same;
-      known = knows.1;
       proper = whole.1;
     }
 
@@ -56,7 +53,6 @@ addends-loop-one-preserved t c =
     let x = c.one-item.result in
     let same : c.loop-one.scope.prologue ≡ p = c.loop-one.invariant.prologue in
     let said : spec.expression_in p x.1 ≡ Some c.in_ok-said.said = subst (λ (q : Prologue). spec.expression_in q x.1 ≡ Some c.in_ok-said.said) same c.in_ok-said.ensures.tells in
-    let knows = next_member (addends.known_addend (declared p)) all i x c.loop-one-test.true c.one-item.is c.loop-one.invariant.known in
     let whole = next_member addends.proper_addend all i x c.loop-one-test.true c.one-item.is c.loop-one.invariant.proper in
     let pushed : c.push.new.self ≡ c.loop-one.made ++ (x.0, c.in_ok-said.said) ∷ [] = search rules in
     record {
@@ -64,7 +60,6 @@ addends-loop-one-preserved t c =
           ∙ next_part (addends.addend_in p) all i x c.loop-one.made (x.0, c.in_ok-said.said) c.loop-one-test.true c.one-item.is (ap (λ (o : Option Expression). spec.addend (x.0, o)) said)
           ∙ ap (λ (made : List (Sign × Expression)). all_behind made (map (addends.addend_in p) (drop (i + 1) all))) (sym pushed);
       prologue = c.in_ok-said.ensures.prologue ∙ same;
-      known = knows.1;
       proper = whole.1;
     }
 
@@ -88,7 +83,6 @@ addends-loop-one-init t c =
     record {
       says = all_at_start (addends.addend_in p) parts c.new-made.result c.new-made.ensures;
       prologue = refl;
-      known = sym (each_holds (known.known_expression (declared p)) parts) ∙ c.requires.known;
       proper = sym (each_holds proper.proper_expression parts) ∙ c.requires.proper;
     }
 
@@ -183,23 +177,13 @@ expression-returns-in_err-right-in-Sum-clause-tells t c =
 
 pub addends-expression-requires : goal.addends-expression-requires
 addends-expression-requires t c =
-    let p = c.args.scope.now.prologue in
-    let i = c.loop-one.one-index in
-    let all = c.args.written.now in
-    let x = c.one-item.result in
-    let knows = next_member (addends.known_addend (declared p)) all i x c.loop-one-test.true c.one-item.is c.loop-one.invariant.known in
-    let whole = next_member addends.proper_addend all i x c.loop-one-test.true c.one-item.is c.loop-one.invariant.proper in
-    (search (rules, written.the_lemmas), (subst (λ (q : Prologue). known.known_expression (declared q) x.1 ≡ true) (sym c.loop-one.invariant.prologue) knows.0, whole.0))
+    let whole = next_member addends.proper_addend c.args.written.now c.loop-one.one-index c.one-item.result c.loop-one-test.true c.one-item.is c.loop-one.invariant.proper in
+    (search (rules, written.the_lemmas), whole.0)
 
 pub expression-addends-requires : goal.expression-addends-requires
 expression-addends-requires t c =
-    let p = c.args.scope.now.prologue in
     let first = c.in-Sum.first in
     let others = c.in-Sum.others in
-    let knows = and_parts (known.known_expression (declared p) first) (addends.each_value (known.known_expression (declared p)) others)
-    (sym (ap (known.known_expression (declared p)) c.in-Sum.is ∙ sum_known (declared p) first others) ∙ c.requires.known) in
     let whole = and_parts (proper.proper_expression first) (addends.each_value proper.proper_expression others) (sym (ap proper.proper_expression c.in-Sum.is ∙ sum_proper first others) ∙ c.requires.proper) in
-    let known_at_p = subst (λ (xs : List (Sign × written.Expression)). addends.each_value (known.known_expression (declared p)) xs ≡ true) (sym c.as_slice-in-Sum.ensures) knows.1 in
-    let known_now = subst (λ (q : Prologue). addends.each_value (known.known_expression (declared q)) c.as_slice-in-Sum.result.now ≡ true) (sym c.in_ok-left-in-Sum.ensures.prologue) known_at_p in
     let proper_now = subst (λ (xs : List (Sign × written.Expression)). addends.each_value proper.proper_expression xs ≡ true) (sym c.as_slice-in-Sum.ensures) whole.1 in
-    (search (rules, written.the_lemmas), (known_now, proper_now))
+    (search (rules, written.the_lemmas), proper_now)

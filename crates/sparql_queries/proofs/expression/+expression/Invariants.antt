@@ -1,11 +1,9 @@
 use Rattle.std.proofs.Common.{◌≡◌, map, drop, IsTrue}
 use Rattle.std.specs.List.{list_all}
-use Rattle.rdf_grammar.specs.Prologue.{declared}
 use Rattle.sparql_expressions.specs.ProperExpressions as proper
 use Rattle.sparql_grammar.specs.Proper.{holds}
 use Rattle.sparql_queries.specs.Addends as addends
 use Rattle.sparql_queries.specs.Expressions as spec
-use Rattle.sparql_queries.specs.Known as known
 use Rattle.sparql_queries.proofs.ExpressionLemmas.{all_behind}
 use Rattle.sparql_queries.proofs.expression.+expression.Given as goal
 
@@ -15,7 +13,6 @@ invariant-expressions-loop-one l =
     record {
       says : spec.all (map f l.written) ≡ all_behind l.made (map f (drop l.one-index l.written));
       prologue : l.scope.prologue ≡ l.initial.scope.prologue;
-      known : IsTrue (list_all holds (map (known.known_expression (declared l.initial.scope.prologue)) (drop l.one-index l.written)));
       proper : IsTrue (list_all holds (map proper.proper_expression (drop l.one-index l.written)));
     }
 
@@ -25,6 +22,5 @@ invariant-addends-loop-one l =
     record {
       says : spec.all (map f l.written) ≡ all_behind l.made (map f (drop l.one-index l.written));
       prologue : l.scope.prologue ≡ l.initial.scope.prologue;
-      known : IsTrue (list_all holds (map (addends.known_addend (declared l.initial.scope.prologue)) (drop l.one-index l.written)));
       proper : IsTrue (list_all holds (map addends.proper_addend (drop l.one-index l.written)));
     }

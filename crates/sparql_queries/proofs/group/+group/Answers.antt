@@ -1,13 +1,13 @@
 use Rattle.std.proofs.Common.{◌≡◌, ◌∙◌, ap, sym, subst, rules, Some, List, [], ◌∷◌, ◌++◌, ◌+◌, map, drop}
-use Rattle.rdf_grammar.specs.Prologue.{Prologue, declared}
+use Rattle.std.specs.Option.{option_map}
+use Rattle.rdf_grammar.specs.Prologue.{Prologue}
 use Rattle.rdf_grammar.proofs.CallerLemmas.{next_member}
-use Rattle.rdf_grammar.specs.Kept.{Fails, Gives, Tells}
+use Rattle.sparql_drafts.specs.Kept.{Fails, Tells}
 use Rattle.sparql_queries.specs.Collected.{collected, collected_behind}
 use Rattle.sparql_queries.specs.Expressions.{all, expression_in}
 use Rattle.sparql_queries.specs.Groups as spec
-use Rattle.sparql_queries.specs.Known as known
 use Rattle.sparql_grammar.specs.Proper as proper
-use Rattle.sparql_queries.proofs.GroupLemmas.{next_collected, next_fails, group_gives, graph_said, graph_fails, name_fails}
+use Rattle.sparql_queries.proofs.GroupLemmas.{next_collected, next_fails, group_gives, group_lacks, graph_said, graph_fails, name_fails}
 use Rattle.sparql_trees.specs.declared.pattern.Member.{Member}
 use Rattle.sparql_trees.specs.declared.pattern.Pattern.{Pattern}
 use Rattle.sparql_queries.proofs.group.+group.Goals as goal
@@ -15,11 +15,20 @@ use Rattle.sparql_queries.proofs.group.+group.Goals as goal
 pub pattern_of-returns-clause-gives : goal.pattern_of-returns-clause-gives
 pattern_of-returns-clause-gives t c =
     let p = c.args.scope.now.prologue in
-    let labels = c.args.labels.now in
-    let members : Gives (collected (map (spec.member_in c.asked-filters.new.scope.prologue) c.args.group.now.members) labels) c.members_of-members.result c.members_of-members.new.labels = search rules in
-    let filters : Tells (all (map (expression_in p) c.args.group.now.filters)) c.asked-filters.result = search rules in
-    group_gives p c.asked-filters.new.scope.prologue c.args.group.now labels c.members_of-members.new.labels c.members_of-members.result c.asked-filters.result c.grouped.result
-    c.asked-filters.ensures.prologue members filters c.grouped.ensures
+    let group = c.args.group.now in
+    let members : collected (map (spec.member_in p) group.members) c.args.labels.now ≡ Some (c.in_ok-members.members, c.members_of.new.labels) = search rules in
+    let filters : Tells (option_map (spec.pattern_with c.in_ok-members.members) (all (map (expression_in c.members_of.new.scope.prologue) group.filters))) c.with_filters.result = search rules in
+    group_gives p c.members_of.new.scope.prologue group c.args.labels.now c.members_of.new.labels c.in_ok-members.members c.with_filters.result
+    c.in_ok-members.ensures.prologue members filters
+
+pub pattern_of-returns-in_err-members-clause-gives : goal.pattern_of-returns-in_err-members-clause-gives
+pattern_of-returns-in_err-members-clause-gives t c =
+    let p = c.args.scope.now.prologue in
+    let group = c.args.group.now in
+    let e = c.in_err-members.field-0.0 in
+    let members : Fails (collected (map (spec.member_in p) group.members) c.args.labels.now) e = search rules in
+    let fails : Fails (spec.group p group c.args.labels.now) e = group_lacks p group c.args.labels.now e members in
+    search rules
 
 pub patterns_of-loop-group-preserved : goal.patterns_of-loop-group-preserved
 patterns_of-loop-group-preserved t c =
@@ -31,7 +40,6 @@ patterns_of-loop-group-preserved t c =
     let u = c.pattern_of.new.labels in
     let same : c.loop-group.scope.prologue ≡ p = c.loop-group.invariant.prologue in
     let gives : spec.group p x s ≡ Some (c.in_ok-one.one, u) = subst (λ (q : Prologue). spec.group q x s ≡ Some (c.in_ok-one.one, u)) same c.in_ok-one.ensures.gives in
-    let knows = next_member (known.known_group (declared p)) all i x c.loop-group-test.true c.group-item.is c.loop-group.invariant.known in
     let whole = next_member proper.proper_group all i x c.loop-group-test.true c.group-item.is c.loop-group.invariant.proper in
     let pushed : c.push.new.self ≡ c.loop-group.made ++ c.in_ok-one.one ∷ [] = search rules in
     record {
@@ -39,7 +47,6 @@ patterns_of-loop-group-preserved t c =
           ∙ next_collected (spec.group p) all i x c.loop-group.made c.in_ok-one.one s u c.loop-group-test.true c.group-item.is gives
           ∙ ap (λ (made : List Pattern). collected_behind made (map (spec.group p) (drop (i + 1) all)) u) (sym pushed);
       prologue = c.in_ok-one.ensures.prologue ∙ same;
-      known = knows.1;
       proper = whole.1;
     }
 
@@ -67,7 +74,6 @@ members_of-loop-member-preserved t c =
     let u = c.member_of.new.labels in
     let same : c.loop-member.scope.prologue ≡ p = c.loop-member.invariant.prologue in
     let gives : spec.member_in p x s ≡ Some (c.in_ok-one.one, u) = subst (λ (q : Prologue). spec.member_in q x s ≡ Some (c.in_ok-one.one, u)) same c.in_ok-one.ensures.gives in
-    let knows = next_member (known.known_member (declared p)) all i x c.loop-member-test.true c.member-item.is c.loop-member.invariant.known in
     let whole = next_member proper.proper_member all i x c.loop-member-test.true c.member-item.is c.loop-member.invariant.proper in
     let pushed : c.push.new.self ≡ c.loop-member.made ++ c.in_ok-one.one ∷ [] = search rules in
     record {
@@ -75,7 +81,6 @@ members_of-loop-member-preserved t c =
           ∙ next_collected (spec.member_in p) all i x c.loop-member.made c.in_ok-one.one s u c.loop-member-test.true c.member-item.is gives
           ∙ ap (λ (made : List Member). collected_behind made (map (spec.member_in p) (drop (i + 1) all)) u) (sym pushed);
       prologue = c.in_ok-one.ensures.prologue ∙ same;
-      known = knows.1;
       proper = whole.1;
     }
 

@@ -1,10 +1,8 @@
 use Rattle.std.proofs.Common.{◌≡◌, map, drop, IsTrue}
 use Rattle.std.specs.List.{list_all}
-use Rattle.rdf_grammar.specs.Prologue.{declared}
 use Rattle.sparql_grammar.specs.Proper.{holds}
 use Rattle.sparql_queries.specs.Collected.{collected, collected_behind}
 use Rattle.sparql_queries.specs.Groups as spec
-use Rattle.sparql_queries.specs.Known as known
 use Rattle.sparql_grammar.specs.Proper as proper
 use Rattle.sparql_queries.proofs.group.+group.Given as goal
 
@@ -14,7 +12,6 @@ invariant-patterns_of-loop-group l =
     record {
       says : collected (map f l.groups) l.initial.labels ≡ collected_behind l.made (map f (drop l.group-index l.groups)) l.labels;
       prologue : l.scope.prologue ≡ l.initial.scope.prologue;
-      known : IsTrue (list_all holds (map (known.known_group (declared l.initial.scope.prologue)) (drop l.group-index l.groups)));
       proper : IsTrue (list_all holds (map proper.proper_group (drop l.group-index l.groups)));
     }
 
@@ -24,6 +21,5 @@ invariant-members_of-loop-member l =
     record {
       says : collected (map f l.members) l.initial.labels ≡ collected_behind l.made (map f (drop l.member-index l.members)) l.labels;
       prologue : l.scope.prologue ≡ l.initial.scope.prologue;
-      known : IsTrue (list_all holds (map (known.known_member (declared l.initial.scope.prologue)) (drop l.member-index l.members)));
       proper : IsTrue (list_all holds (map proper.proper_member (drop l.member-index l.members)));
     }

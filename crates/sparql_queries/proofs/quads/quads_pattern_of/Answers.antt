@@ -1,8 +1,7 @@
 use Rattle.std.proofs.Common.{◌≡◌, ◌∙◌, ap, sym, subst, rules, map, Some, List}
-use Rattle.rdf_grammar.specs.Prologue.{Prologue, declared}
+use Rattle.rdf_grammar.specs.Prologue.{Prologue}
 use Rattle.rdf_grammar.proofs.CallerLemmas.{next_member}
-use Rattle.rdf_grammar.specs.Kept.{Fails}
-use Rattle.sparql_drafts.specs.Known as known
+use Rattle.sparql_drafts.specs.Kept.{Fails}
 use Rattle.sparql_grammar.specs.Proper as proper
 use Rattle.sparql_grammar.specs.QuadGroups.{quads_group}
 use Rattle.sparql_queries.specs.Collected.{collected_behind}
@@ -24,12 +23,10 @@ loop-block-preserved c =
     let same : c.loop-block.scope.prologue ≡ p = c.loop-block.invariant.prologue in
     let gives : collected_behind found (map (spec.member_in p) (members_in b)) s ≡ Some (made, u) =
     subst (λ (q : Prologue). collected_behind found (map (spec.member_in q) (members_in b)) s ≡ Some (made, u)) same c.in_ok-members.ensures.gives in
-    let knows = next_member (known.known_block (declared p)) blocks i b c.loop-block-test.true c.block-item.is c.loop-block.invariant.known in
     let whole = next_member proper.proper_block blocks i b c.loop-block-test.true c.block-item.is c.loop-block.invariant.proper in
     record {
       says = c.loop-block.invariant.says ∙ next_block p blocks i b found made s u c.loop-block-test.true c.block-item.is gives;
       prologue = c.with_block.ensures.prologue ∙ same;
-      known = knows.1;
       proper = whole.1;
     }
 

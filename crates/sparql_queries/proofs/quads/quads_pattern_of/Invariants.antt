@@ -1,7 +1,5 @@
 use Rattle.std.proofs.Common.{◌≡◌, [], map, drop, IsTrue}
 use Rattle.std.specs.List.{list_all}
-use Rattle.rdf_grammar.specs.Prologue.{declared}
-use Rattle.sparql_drafts.specs.Known as known
 use Rattle.sparql_grammar.specs.Proper as proper
 use Rattle.sparql_grammar.specs.Proper.{holds}
 use Rattle.sparql_queries.proofs.QuadLemmas.{blocks_behind}
@@ -13,6 +11,5 @@ invariant-loop-block l =
     record {
       says : blocks_behind p [] l.blocks l.initial.labels ≡ blocks_behind p l.members (drop l.block-index l.blocks) l.labels;
       prologue : l.scope.prologue ≡ p;
-      known : IsTrue (list_all holds (map (known.known_block (declared p)) (drop l.block-index l.blocks)));
       proper : IsTrue (list_all holds (map proper.proper_block (drop l.block-index l.blocks)));
     }

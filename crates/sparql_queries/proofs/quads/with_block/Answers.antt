@@ -1,5 +1,5 @@
 use Rattle.std.proofs.Common.{◌≡◌, ◌∙◌, ap, sym, subst, rules, map, Some, List, [], ◌∷◌, ◌++◌}
-use Rattle.rdf_grammar.specs.Kept.{Fails}
+use Rattle.sparql_drafts.specs.Kept.{Fails}
 use Rattle.sparql_grammar.specs.GroupReading.{together}
 use Rattle.sparql_grammar.specs.QuadGroups.{members_by}
 use Rattle.sparql_queries.specs.Collected.{collected_behind}

@@ -1,5 +1,5 @@
 use Rattle.std.proofs.Common.{◌≡◌, ◌∙◌, ap, sym, rules, arith, map, ◌<◌, length, Some, List, [], ◌∷◌, ◌++◌}
-use Rattle.rdf_grammar.specs.Kept.{Fails}
+use Rattle.sparql_drafts.specs.Kept.{Fails}
 use Rattle.sparql_grammar.specs.GroupReading.{together}
 use Rattle.sparql_queries.specs.Collected.{collected_behind}
 use Rattle.sparql_queries.specs.Groups as spec

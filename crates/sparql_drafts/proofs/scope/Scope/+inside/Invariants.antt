@@ -1,8 +1,6 @@
 use Rattle.std.proofs.Common.{◌≡◌, map, drop, IsTrue}
 use Rattle.std.specs.List.{list_all}
-use Rattle.sparql_drafts.specs.Known.{known_node, known_property}
 use Rattle.sparql_drafts.specs.Meaning as spec
-use Rattle.rdf_grammar.specs.Prologue.{declared}
 use Rattle.sparql_grammar.specs.Proper.{holds, proper_node, proper_property}
 use Rattle.sparql_drafts.specs.Room.{HasRoom, TakesAtMost, SaysAtLeast}
 use Rattle.rdf_grammar.specs.Steps.{each}
@@ -12,7 +10,6 @@ abbrev pub invariant-behind-loop-item : goal.invariant-behind-loop-item
 invariant-behind-loop-item l = record {
   says : spec.behind l.initial.cell (map spec.meaning l.items) l.initial.self ≡ spec.behind l.cell (map spec.meaning (drop l.item-index l.items)) l.self;
   prologue : l.self.prologue ≡ l.initial.self.prologue;
-  known : IsTrue (list_all holds (map (known_node (declared l.self.prologue)) (drop l.item-index l.items)));
   proper : IsTrue (list_all holds (map proper_node (drop l.item-index l.items)));
   room : HasRoom 0 l.self;
   takes : TakesAtMost 0 l.initial.self l.self;
@@ -25,7 +22,6 @@ invariant-objects-loop-node l =
     record {
       says : each f (map spec.meaning l.nodes) l.initial.self ≡ each f (map spec.meaning (drop l.node-index l.nodes)) l.self;
       prologue : l.self.prologue ≡ l.initial.self.prologue;
-      known : IsTrue (list_all holds (map (known_node (declared l.self.prologue)) (drop l.node-index l.nodes)));
       proper : IsTrue (list_all holds (map proper_node (drop l.node-index l.nodes)));
       room : HasRoom 0 l.self;
       takes : TakesAtMost 0 l.initial.self l.self;
@@ -36,7 +32,6 @@ abbrev pub invariant-properties-loop-property : goal.invariant-properties-loop-p
 invariant-properties-loop-property l = record {
   says : spec.properties l.subject l.properties l.initial.self ≡ spec.properties l.subject (drop l.property-index l.properties) l.self;
   prologue : l.self.prologue ≡ l.initial.self.prologue;
-  known : IsTrue (list_all holds (map (known_property (declared l.self.prologue)) (drop l.property-index l.properties)));
   proper : IsTrue (list_all holds (map proper_property (drop l.property-index l.properties)));
   room : HasRoom 0 l.self;
   takes : TakesAtMost 0 l.initial.self l.self;

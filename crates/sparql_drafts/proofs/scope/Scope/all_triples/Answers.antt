@@ -1,8 +1,5 @@
-use Rattle.std.proofs.Common.{◌≡◌, ◌∙◌, sym, subst, true, map, drop, ◌+◌}
-use Rattle.std.specs.List.{list_all}
-use Rattle.rdf_grammar.specs.Prologue.{Prologue, declared}
-use Rattle.sparql_grammar.specs.Proper.{holds, proper_triples}
-use Rattle.sparql_drafts.specs.Known.{known_triples}
+use Rattle.std.proofs.Common.{◌≡◌, ◌∙◌}
+use Rattle.sparql_grammar.specs.Proper.{proper_triples}
 use Rattle.sparql_drafts.specs.Meaning as spec
 use Rattle.sparql_drafts.specs.Drafting.{Does}
 use Rattle.rdf_grammar.proofs.CallerLemmas.{next_member, next_step}
@@ -13,13 +10,11 @@ loop-one-preserved c =
     let i = c.loop-one.one-index in
     let all = c.args.all.now in
     let same : c.triples.new.self.prologue ≡ c.loop-one.self.prologue = c.triples.ensures.prologue in
-    let known = next_member (known_triples (declared c.loop-one.self.prologue)) all i c.one-item.result c.loop-one-test.true c.one-item.is c.loop-one.invariant.known in
     let proper = next_member proper_triples all i c.one-item.result c.loop-one-test.true c.one-item.is c.loop-one.invariant.proper in
     record {
       says = c.loop-one.invariant.says
           ∙ next_step (λ (f : Does (Unit {0})). f) spec.triples all i c.one-item.result c.loop-one.self c.triples.new.self c.loop-one-test.true c.one-item.is c.in_ok-triples.ensures.gives;
       prologue = same ∙ c.loop-one.invariant.prologue;
-      known = subst (λ (p : Prologue). list_all holds (map (known_triples (declared p)) (drop (i + 1) all)) ≡ true) (sym same) known.1;
       proper = proper.1;
       room = c.in_ok-triples.ensures.room;
     }

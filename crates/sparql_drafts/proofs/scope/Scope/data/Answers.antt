@@ -1,8 +1,5 @@
-use Rattle.std.proofs.Common.{◌≡◌, ◌∙◌, sym, subst, true, map, drop, ◌+◌}
-use Rattle.std.specs.List.{list_all}
-use Rattle.rdf_grammar.specs.Prologue.{Prologue, declared}
-use Rattle.sparql_grammar.specs.Proper.{holds, proper_block}
-use Rattle.sparql_drafts.specs.Known.{known_block}
+use Rattle.std.proofs.Common.{◌≡◌, ◌∙◌}
+use Rattle.sparql_grammar.specs.Proper.{proper_block}
 use Rattle.sparql_drafts.specs.Meaning as spec
 use Rattle.sparql_drafts.specs.Drafting.{Does}
 use Rattle.rdf_grammar.proofs.CallerLemmas.{next_member, next_step}
@@ -13,13 +10,11 @@ loop-block-preserved c =
     let i = c.loop-block.block-index in
     let blocks = c.args.blocks.now in
     let same : c.block.new.self.prologue ≡ c.loop-block.self.prologue = c.block.ensures.prologue in
-    let known = next_member (known_block (declared c.loop-block.self.prologue)) blocks i c.block-item.result c.loop-block-test.true c.block-item.is c.loop-block.invariant.known in
     let proper = next_member proper_block blocks i c.block-item.result c.loop-block-test.true c.block-item.is c.loop-block.invariant.proper in
     record {
       says = c.loop-block.invariant.says
           ∙ next_step (λ (f : Does (Unit {0})). f) spec.block blocks i c.block-item.result c.loop-block.self c.block.new.self c.loop-block-test.true c.block-item.is c.in_ok-block.ensures.gives;
       prologue = same ∙ c.loop-block.invariant.prologue;
-      known = subst (λ (p : Prologue). list_all holds (map (known_block (declared p)) (drop (i + 1) blocks)) ≡ true) (sym same) known.1;
       proper = proper.1;
       room = c.in_ok-block.ensures.room;
     }

@@ -1,5 +1,0 @@
-use Rattle.sparql_syntax.proofs.DraftsNumbered as lemma
-use Rattle.sparql_syntax.proofs.operation.blank_numbers_are_below.Goals as goal
-
-pub returns : goal.returns
-returns c = lemma.blank_numbers_are_below

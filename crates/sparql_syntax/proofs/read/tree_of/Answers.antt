@@ -1,9 +1,0 @@
-use Rattle.sparql_syntax.proofs.ReadLemmas.{stop_told, tree_read}
-use Rattle.sparql_syntax.proofs.read.tree_of.Goals as goal
-
-pub returns-in-Ok : goal.returns-in-Ok
-returns-in-Ok c = tree_read c.args.text.now c.over-parser.result c.in-Ok.tree c.requires c.over-parser.ensures.read c.in-Ok.ensures.found
-
-pub returns-in-Err : goal.returns-in-Err
-returns-in-Err c =
-    stop_told c.args.text.now c.over-parser.result c.in-Err.fault c.left.result c.stop_fault.result c.requires c.over-parser.ensures.read c.in-Err.ensures.fault c.stop_fault.ensures

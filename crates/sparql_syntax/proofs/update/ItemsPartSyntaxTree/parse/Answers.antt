@@ -1,0 +1,8 @@
+use Rattle.sparql_syntax.proofs.UpdateTrees.{parse_explained, parse_useful}
+use Rattle.sparql_syntax.proofs.update.ItemsPartSyntaxTree.parse.Goals as goal
+
+pub returns-clause-useful : goal.returns-clause-useful
+returns-clause-useful c = parse_useful c.args.parser.now c.parse_update.result c.parse_update.ensures.found
+
+pub returns-clause-fault : goal.returns-clause-fault
+returns-clause-fault c = parse_explained c.args.parser.now c.parse_update.result c.parse_update.ensures.fault
