@@ -4,9 +4,10 @@ ghost use Rattle.std.specs.Option.{option_copied};
 ghost use Rattle.std.specs.Io.KnownBytes.{Appends};
 ghost use Rattle.rdf_keeper.specs.Inside.Once.{WritesOut};
 ghost use Rattle.rdf_keeper.specs.Inside.Outcomes.{TellsEnding, status_of};
+ghost use Rattle.rdf_keeper.specs.Inside.Starts.{outcome_after};
 ghost use Rattle.rdf_keeper.specs.Program.Openings.{anything};
 ghost use Rattle.rdf_keeper.specs.Program.Sessions.{BeginsRun, GivesBase};
-ghost use Rattle.rdf_keeper.specs.Program.Words.{ConvertsAll, ConvertsBytes, Does, DoesAsked, Runs, RunsScript};
+ghost use Rattle.rdf_keeper.specs.Program.Words.{AsksNothing, ConvertsAll, ConvertsBytes, Does, DoesAsked, Runs, RunsNamed, RunsScript};
 ghost use Rattle.rdf_keeper.specs.Progress.{AsksProgress};
 ghost use Rattle.rdf_keeper.specs.declared.program.folder.HostFolder.{HostFolder};
 ghost use Rattle.rdf_keeper.specs.declared.program.outcome.Outcome.{Outcome};
@@ -64,23 +65,18 @@ fn session_of<F: Folder, P: Write>(
 {
     let depth = depth_of(words.depth)?;
     let base = base_of(alloc, words.base)?;
-    let keeper = begun(alloc, folder, base, words.data, words.format, progress)?;
-    Ok(bounded(keeper, depth))
+    match begun(alloc, folder, base, words.data, words.format, progress) {
+        Ok(keeper) => Ok(bounded(keeper, depth)),
+        Err(outcome) => Err(outcome),
+    }
 }
 
-// Runs a script to its end.
-fn run_all<R: Read + Drop, W: Write>(
-    alloc: Global,
-    mut keeper: Keeper,
-    mut reader: R,
-    writer: &mut W,
-    settings: Settings,
-) -> Outcome
+// How a script's end ends the program.
+fn outcome_after(status: Status) -> Outcome
+    ensures same { result ≡ outcome_after status }
     ensures told { status_of result ≢ 2 }
-    ensures ran { RunsScript settings.stop keeper (R.remaining reader) (W.contents writer.old)
-        (W.contents writer.new) result }
 {
-    match run(alloc, &mut keeper, &mut reader, writer, settings) {
+    match status {
         Status::Accepted => Outcome::Done,
         Status::Refused => Outcome::SomeRefused,
         Status::ReadFailed => Outcome::ReadFailed,
@@ -89,32 +85,66 @@ fn run_all<R: Read + Drop, W: Write>(
     }
 }
 
-fn run_words<F: Folder, R: Read + Drop, W: Write, P: Write>(
+// Runs a script to its end.
+fn run_all<R: Read, W: Write>(
+    alloc: Global,
+    keeper: &mut Keeper,
+    reader: &mut R,
+    writer: &mut W,
+    settings: Settings,
+) -> Outcome
+    ensures told { status_of result ≢ 2 }
+    ensures ran { RunsScript settings.stop keeper.old (R.remaining reader.old)
+        (W.contents writer.old) (W.contents writer.new) result }
+{
+    outcome_after(run(alloc, keeper, reader, writer, settings))
+}
+
+// Runs the script that the words name, in a session that is lent.
+fn run_named<F: Folder, R: Read, W: Write>(
     alloc: Global,
     folder: &mut F,
     words: RunWords<'_>,
-    reader: R,
+    keeper: &mut Keeper,
+    reader: &mut R,
+    writer: &mut W,
+) -> Outcome
+    ensures does { RunsNamed F.step words.entry keeper.old (R.remaining reader.old)
+        (W.contents writer.old) (W.contents writer.new) folder.old result folder.new }
+    ensures told { status_of result ≢ 2 }
+{
+    let settings = Settings { stop: words.stop };
+    match words.script {
+        None => run_all(alloc, keeper, reader, writer, settings),
+        Some(path) => match folder.open(path) {
+            Ok(mut file) => run_all(alloc, keeper, &mut file, writer, settings),
+            Err(_) => Outcome::ReadFailed,
+        },
+    }
+}
+
+fn run_words<F: Folder, R: Read, W: Write, P: Write>(
+    alloc: Global,
+    folder: &mut F,
+    words: RunWords<'_>,
+    reader: &mut R,
     writer: &mut W,
     progress: &mut Progress<P>,
 ) -> Outcome
-    ensures does { Runs F.step words.entry (R.remaining reader) (W.contents writer.old)
+    ensures does { Runs F.step words.entry (R.remaining reader.old) (W.contents writer.old)
         (W.contents writer.new) folder.old result folder.new }
     ensures silent { status_of result ≡ 2 →
         Appends (W.contents writer.old) (W.contents writer.new) [] }
 {
     let started = session_of(alloc, folder, words, progress);
     progress.clear();
-    let keeper = match started {
-        Ok(keeper) => keeper,
-        Err(outcome) => return outcome,
-    };
-    let settings = Settings { stop: words.stop };
-    match words.script {
-        None => run_all(alloc, keeper, reader, writer, settings),
-        Some(path) => match folder.open(path) {
-            Ok(file) => run_all(alloc, keeper, file, writer, settings),
-            Err(_) => Outcome::ReadFailed,
-        },
+    match started {
+        Ok(mut keeper) => {
+            let outcome = run_named(alloc, folder, words, &mut keeper, reader, writer);
+            drop(keeper);
+            outcome
+        }
+        Err(outcome) => outcome,
     }
 }
 
@@ -151,16 +181,16 @@ fn convert_told<R: Read + Drop, W: Write, P: Write>(
     outcome
 }
 
-fn convert_words<F: Folder, R: Read + Drop, W: Write, P: Write>(
+fn convert_words<F: Folder, R: Read, W: Write, P: Write>(
     alloc: Global,
     folder: &mut F,
     words: ConvertWords<'_>,
-    reader: R,
+    reader: &mut R,
     writer: &mut W,
     progress: &mut Progress<P>,
 ) -> Outcome
-    ensures does { ConvertsAll F.step words.entry (R.remaining reader) (W.contents writer.old)
-        (W.contents writer.new) folder.old result folder.new }
+    ensures does { ConvertsAll F.step words.entry (R.remaining reader.old)
+        (W.contents writer.old) (W.contents writer.new) folder.old result folder.new }
     ensures silent { status_of result ≡ 2 →
         Appends (W.contents writer.old) (W.contents writer.new) [] }
 {
@@ -191,27 +221,61 @@ fn show<W: Write>(text: &str, writer: &mut W) -> Outcome
 }
 
 // Does what the words ask for, and tells how far documents are read.
-fn do_asked<F: Folder, R: Read + Drop, W: Write, P: Write>(
+fn do_asked<F: Folder, R: Read, W: Write, P: Write>(
     alloc: Global,
     folder: &mut F,
-    asked: Asked<'_>,
-    reader: R,
+    asked: &Asked<'_>,
+    reader: &mut R,
     writer: &mut W,
     progress: &mut Progress<P>,
 ) -> Outcome
-    ensures does { Does F.step asked.entry (R.remaining reader) (W.contents writer.old)
+    ensures does { Does F.step asked.now (R.remaining reader.old) (W.contents writer.old)
         (W.contents writer.new) folder.old result folder.new }
     ensures silent { status_of result ≡ 2 →
         Appends (W.contents writer.old) (W.contents writer.new) [] }
 {
     match asked {
-        Asked::Run(words) => run_words(alloc, folder, words, reader, writer, progress),
-        Asked::Convert(words) => convert_words(alloc, folder, words, reader, writer, progress),
-        Asked::Query(words) => query_words(alloc, folder, &words, reader, writer, progress),
-        Asked::Update(words) => update_words(alloc, folder, &words, reader, writer, progress),
-        Asked::Check(words) => check_words(alloc, folder, &words, reader, writer, progress),
+        Asked::Run(words) => run_words(alloc, folder, *words, reader, writer, progress),
+        Asked::Convert(words) => convert_words(alloc, folder, *words, reader, writer, progress),
+        Asked::Query(words) => query_words(alloc, folder, words, reader, writer, progress),
+        Asked::Update(words) => update_words(alloc, folder, words, reader, writer, progress),
+        Asked::Check(words) => check_words(alloc, folder, words, reader, writer, progress),
         Asked::Shown(text) => show(text.as_str(), writer),
     }
+}
+
+// The same, where that is told on a device.
+fn do_told<F: Folder, R: Read, W: Write, E: Write>(
+    alloc: Global,
+    folder: &mut F,
+    asked: &Asked<'_>,
+    reader: &mut R,
+    writer: &mut W,
+    errors: &mut E,
+) -> Outcome
+    ensures does { Does F.step asked.now (R.remaining reader.old) (W.contents writer.old)
+        (W.contents writer.new) folder.old result folder.new }
+    ensures silent { status_of result ≡ 2 →
+        Appends (W.contents writer.old) (W.contents writer.new) [] }
+{
+    let mut progress = Progress::new(errors);
+    do_asked(alloc, folder, asked, reader, writer, &mut progress)
+}
+
+// The same, where that is told nowhere.
+fn do_untold<F: Folder, R: Read, W: Write>(
+    alloc: Global,
+    folder: &mut F,
+    asked: &Asked<'_>,
+    reader: &mut R,
+    writer: &mut W,
+) -> Outcome
+    ensures does { Does F.step asked.now (R.remaining reader.old) (W.contents writer.old)
+        (W.contents writer.new) folder.old result folder.new }
+    ensures silent { status_of result ≡ 2 →
+        Appends (W.contents writer.old) (W.contents writer.new) [] }
+{
+    do_asked(alloc, folder, asked, reader, writer, &mut silent())
 }
 
 // Whether `--progress` stands among the words that may be options: those behind `--` are files.
@@ -230,16 +294,16 @@ fn has_progress_word(words: &[String]) -> bool
 }
 
 // Does what the words ask for, and tells on standard error how far documents are read where they ask for that too.
-fn answer_asked<F: Folder, R: Read + Drop, W: Write, E: Write>(
+fn answer_asked<F: Folder, R: Read, W: Write, E: Write>(
     alloc: Global,
     folder: &mut F,
     words: &[String],
-    asked: Asked<'_>,
-    reader: R,
+    asked: &Asked<'_>,
+    reader: &mut R,
     writer: &mut W,
     errors: &mut E,
 ) -> Outcome
-    ensures does { Does F.step asked.entry (R.remaining reader) (W.contents writer.old)
+    ensures does { Does F.step asked.now (R.remaining reader.old) (W.contents writer.old)
         (W.contents writer.new) folder.old result folder.new }
     ensures silent { status_of result ≡ 2 →
         Appends (W.contents writer.old) (W.contents writer.new) [] }
@@ -248,29 +312,43 @@ fn answer_asked<F: Folder, R: Read + Drop, W: Write, E: Write>(
 {
     // (that the word is there is what the contract knows of its option)
     if asked.has_progress() && has_progress_word(words) {
-        do_asked(
-            alloc,
-            folder,
-            asked,
-            reader,
-            writer,
-            &mut Progress::new(errors),
-        )
+        do_told(alloc, folder, asked, reader, writer, errors)
     } else {
-        do_asked(alloc, folder, asked, reader, writer, &mut silent())
+        do_untold(alloc, folder, asked, reader, writer)
+    }
+}
+
+// Tells why words ask for nothing, as far as standard error takes that, and how it ends the program.
+fn refuse_words<E: Write>(fault: &WordsFault, errors: &mut E) -> Outcome
+    ensures asks { AsksNothing result }
+    ensures quiet { result ≢ BadWords →
+        Appends (E.contents errors.old) (E.contents errors.new) [] }
+{
+    match fault {
+        WordsFault::Usage(text) => {
+            let _ = write_whole(errors, text.as_str().as_bytes());
+            Outcome::BadWords
+        }
+        WordsFault::Misuse(text) => {
+            let _ = write_whole(errors, text.as_bytes());
+            Outcome::BadWords
+        }
+        WordsFault::Format(_) => Outcome::BadWords,
+        WordsFault::NoMemory(refused) => Outcome::NoMemory(*refused),
+        WordsFault::ParserNoMemory => Outcome::ParserNoMemory,
     }
 }
 
 // Answers words, also those that ask for nothing.
-fn answer_words<F: Folder, R: Read + Drop, W: Write, E: Write>(
+fn answer_words<F: Folder, R: Read, W: Write, E: Write>(
     alloc: Global,
     folder: &mut F,
     words: &[String],
-    reader: R,
+    reader: &mut R,
     writer: &mut W,
     errors: &mut E,
 ) -> Outcome
-    ensures does { DoesAsked F.step (R.remaining reader) (W.contents writer.old)
+    ensures does { DoesAsked F.step (R.remaining reader.old) (W.contents writer.old)
         (W.contents writer.new) folder.old result folder.new }
     ensures silent { status_of result ≡ 2 →
         Appends (W.contents writer.old) (W.contents writer.new) [] }
@@ -279,18 +357,16 @@ fn answer_words<F: Folder, R: Read + Drop, W: Write, E: Write>(
         Appends (E.contents errors.old) (E.contents errors.new) [] }
 {
     match read_words(alloc, words) {
-        Ok(asked) => answer_asked(alloc, folder, words, asked, reader, writer, errors),
-        Err(WordsFault::Usage(text)) => {
-            let _ = write_whole(errors, text.as_str().as_bytes());
-            Outcome::BadWords
+        Ok(asked) => {
+            let outcome = answer_asked(alloc, folder, words, &asked, reader, writer, errors);
+            drop(asked);
+            outcome
         }
-        Err(WordsFault::Misuse(text)) => {
-            let _ = write_whole(errors, text.as_bytes());
-            Outcome::BadWords
+        Err(fault) => {
+            let outcome = refuse_words(&fault, errors);
+            drop(fault);
+            outcome
         }
-        Err(WordsFault::Format(_)) => Outcome::BadWords,
-        Err(WordsFault::NoMemory(refused)) => Outcome::NoMemory(refused),
-        Err(WordsFault::ParserNoMemory) => Outcome::ParserNoMemory,
     }
 }
 
@@ -338,7 +414,7 @@ pub fn start_over<F: Folder, R: Read + Drop, W: Write, E: Write>(
     alloc: Global,
     folder: &mut F,
     words: &[String],
-    reader: R,
+    mut reader: R,
     writer: &mut W,
     errors: &mut E,
 ) -> u8
@@ -356,6 +432,6 @@ pub fn start_over<F: Folder, R: Read + Drop, W: Write, E: Write>(
         (AsksProgress string_bytes words.now → ⊥) →
         Appends (E.contents errors.old) (E.contents errors.new) [] }
 {
-    let outcome = answer_words(alloc, folder, words, reader, writer, errors);
+    let outcome = answer_words(alloc, folder, words, &mut reader, writer, errors);
     report(&outcome, errors)
 }

@@ -1,4 +1,5 @@
 mod AnswerLemmas
+mod BeginningLemmas
 mod BehindLemmas
 mod BetweenLemmas
 mod BlankCountLemmas
@@ -29,5 +30,6 @@ mod RollsBackLemmas
 mod SavedLemmas
 mod SpanLemmas
 mod StandingLemmas
+mod StartLemmas
 mod UndoRedoLemmas
 mod UpdateLemmas

@@ -4,4 +4,5 @@ pub mod Marks
 pub mod Saving
 pub mod Spans
 pub mod Staging
+pub mod Starting
 pub mod ReaderLaws

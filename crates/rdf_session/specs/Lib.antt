@@ -1,3 +1,4 @@
+pub mod Beginning
 pub mod Between
 pub mod BlankCount
 pub mod ComesAbout

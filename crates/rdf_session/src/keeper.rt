@@ -3,6 +3,7 @@ ghost use Rattle.std.specs.Prelude.{◌≡◌, ℕ, List, ◌+◌, ◌≤◌, �
 ghost use Rattle.std.specs.FinSet as set;
 ghost use Rattle.std.specs.List.{AllByRecursion, concat};
 ghost use Rattle.rdf_dataset.specs.State.{Begins, empty_state, IsSound, State, net_between};
+ghost use Rattle.rdf_session.specs.Beginning.{BeginsWithLoad};
 ghost use Rattle.rdf_session.specs.Depth.{greatest_depth, is_past};
 ghost use Rattle.rdf_session.specs.Documents.{IsDocument};
 ghost use Rattle.rdf_session.specs.GivesBack.{IsWholeSession};
@@ -27,6 +28,7 @@ use crate::marks::Marks;
 use crate::query::{Answer, evaluate, read_text};
 use crate::saved::{restored, restored_text, save};
 use crate::span::Span;
+use crate::start::begin;
 use crate::update::{read_request, stage_request};
 use rdf_dataset::{Dataset, Net, Source};
 use rdf_lines::StateFault;
@@ -96,6 +98,25 @@ impl Keeper {
             span: Span::new(alloc),
             vocabulary: OnceCell::new(),
             alloc,
+        }
+    }
+
+    /// A session that begins with what a document loads, against the base where it is Turtle: nothing of it can be
+    /// undone. It lets the text go as soon as it is read.
+    ///
+    /// # Errors
+    /// Those of [`load`](Keeper::load).
+    pub fn begun_with(
+        alloc: Global,
+        base: Option<Iri>,
+        format: Format,
+        text: Vec<u8>,
+    ) -> Result<Keeper, KeeperFault>
+        ensures { BeginsWithLoad format base text.items result }
+    {
+        match begin(alloc, format, text, base.as_ref()) {
+            Ok(dataset) => Ok(Keeper::over(alloc, dataset, base)),
+            Err(fault) => Err(fault),
         }
     }
 

@@ -18,6 +18,7 @@ mod query;
 mod saved;
 mod shared_quads;
 mod span;
+mod start;
 mod update;
 
 pub use fault::{Counts, KeeperFault};

@@ -17,8 +17,8 @@ use rdf_terms::{GraphName, Iri, Quad, Term};
 use rdf_turtle::{TurtleFault, TurtleFaultKind, read_turtle_into};
 use std::alloc::Global;
 
-// The greatest blank counter.
-const LAST_NUMBER: u64 = 1_000_000_000_000_000_000;
+/// The greatest blank counter.
+pub(crate) const LAST_NUMBER: u64 = 1_000_000_000_000_000_000;
 
 // The limits below are exact up to the last number, and past it all the same.
 
@@ -50,7 +50,8 @@ fn quad_limit(quad: &Quad) -> u64
     graph.max(subject.max(predicate.max(object)))
 }
 
-fn blank_limit(quads: &[Quad]) -> u64
+/// The least number above those of all blank nodes of the quads.
+pub(crate) fn blank_limit(quads: &[Quad]) -> u64
     ensures { result ≡ min (blank_limit quads.now) (last_number + 1) }
 {
     let mut limit = 0;

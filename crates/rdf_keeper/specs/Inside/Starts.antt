@@ -8,6 +8,7 @@ use Rattle.rdf_session.specs.Saved.{IsTextOf, Restores}
 use Rattle.rdf_session.specs.Session.{Session, Transition, Do, Commit, Changed, Done, Refused, fresh}
 use Rattle.rdf_session.specs.declared.fault.Counts.{Counts}
 use Rattle.rdf_session.specs.declared.fault.KeeperFault.TheVariants as keeper
+use Rattle.rdf_session.specs.declared.format.Format.{Format}
 use Rattle.rdf_keeper.specs.Script.Commands.{format_named}
 use Rattle.rdf_keeper.specs.declared.program.words.StartFormat.{StartFormat}
 use Rattle.rdf_keeper.specs.declared.program.words.StartFormat.TheVariants.{Document, State}
@@ -27,15 +28,20 @@ BeginsWith (Document format) base text start =
     × Transition (fresh base (empty_state 0)) (Do (Load format text)) (Changed counts) loaded × Transition loaded Commit Done start
 BeginsWith State base text start = Restores base text (Ok start)
 
+-- A document is refused by the fault of its load; where memory was wanting it isn't said to be faulty.
+abbrev pub RefusesLoad : Format → List ℕ → Session → Outcome → Type 0
+RefusesLoad format text old (program.NoMemory refused) = Unit {0}
+RefusesLoad format text old (program.BadData (keeper.NoMemory refused)) = ⊥
+RefusesLoad format text old (program.BadData fault) = Transition old (Do (Load format text)) (Refused fault) old
+RefusesLoad format text old outcome = ⊥
+
 -- The data of the text are refused, and this is how that ends the program: a document by the fault of its load, a state text as that of no sound state;
 -- where memory was wanting they aren't said to be faulty.
 abbrev pub RefusesData : StartFormat → Option (List ℕ) → List ℕ → Outcome → Type 0
-RefusesData format base text (program.NoMemory refused) = Unit {0}
-RefusesData (Document format) base text (program.BadData (keeper.NoMemory refused)) = ⊥
-RefusesData (Document format) base text (program.BadData fault) =
-    Transition (fresh base (empty_state 0)) (Do (Load format text)) (Refused fault) (fresh base (empty_state 0))
+RefusesData (Document format) base text outcome = RefusesLoad format text (fresh base (empty_state 0)) outcome
+RefusesData State base text (program.NoMemory refused) = Unit {0}
 RefusesData State base text program.NotState = (s : DatasetState) → IsSound s → ¬ (IsTextOf s text)
-RefusesData format base text outcome = ⊥
+RefusesData State base text outcome = ⊥
 
 -- how a script ends the program
 abbrev pub outcome_after : Status → Outcome

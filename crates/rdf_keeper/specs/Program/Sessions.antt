@@ -3,13 +3,11 @@ use Rattle.std.specs.Prelude.{◌≡◌, ℕ, false, List, [], ◌∷◌, Option
 use Rattle.std.specs.Option.{option_copied}
 use Rattle.rdf_dataset.specs.State.{empty_state}
 use Rattle.rdf_session.specs.Depth.{IsDepth}
-use Rattle.rdf_session.specs.Request.{Load}
-use Rattle.rdf_session.specs.Session.{Session, Transition, Do, Refused, fresh, with_depth}
-use Rattle.rdf_session.specs.declared.fault.KeeperFault.TheVariants as keeper
+use Rattle.rdf_session.specs.Session.{Session, fresh, with_depth}
 use Rattle.rdf_session.specs.declared.format.Format.{Format}
 use Rattle.rdf_terms.specs.Iri.{is_iri}
 use Rattle.rdf_keeper.specs.Inside.Once.{LoadsAll}
-use Rattle.rdf_keeper.specs.Inside.Starts.{BeginsWith, RefusesData}
+use Rattle.rdf_keeper.specs.Inside.Starts.{BeginsWith, RefusesData, RefusesLoad}
 use Rattle.rdf_keeper.specs.Program.Openings.{Opening}
 use Rattle.rdf_keeper.specs.Program.Stages.{Part, Stays, Then}
 use Rattle.rdf_keeper.specs.Program.Texts.{ReadsFile, ReadsNamed}
@@ -17,7 +15,7 @@ use Rattle.rdf_keeper.specs.declared.program.once_words.DataWords.{DataWords}
 use Rattle.rdf_keeper.specs.declared.program.once_words.DocumentWord.{DocumentWord}
 use Rattle.rdf_keeper.specs.declared.program.once_words.StartWord.{StartWord}
 use Rattle.rdf_keeper.specs.declared.program.outcome.Outcome.{Outcome}
-use Rattle.rdf_keeper.specs.declared.program.outcome.Outcome.TheVariants.{BadWords, BadBase, BadData, NoMemory}
+use Rattle.rdf_keeper.specs.declared.program.outcome.Outcome.TheVariants.{BadWords, BadBase, NoMemory}
 use Rattle.rdf_keeper.specs.declared.program.words.RunWords.{RunWords}
 use Rattle.rdf_keeper.specs.declared.program.words.StartFormat.{StartFormat}
 
@@ -39,13 +37,6 @@ IsFresh base result = result ≡ Ok (fresh base (empty_state 0))
 -- one that begins with the data of a text, or their refusal
 abbrev pub BeginsOver : StartFormat → Option (List ℕ) → List ℕ → Result Session Outcome → Type 0
 BeginsOver format base text result = MatchResult result (λ start. BeginsWith format base text start) (λ outcome. RefusesData format base text outcome)
-
--- A further document is refused by the fault of its load; where memory was wanting it isn't said to be faulty.
-abbrev pub RefusesLoad : Format → List ℕ → Session → Outcome → Type 0
-RefusesLoad format text old (NoMemory refused) = Unit {0}
-RefusesLoad format text old (BadData (keeper.NoMemory refused)) = ⊥
-RefusesLoad format text old (BadData fault) = Transition old (Do (Load format text)) (Refused fault) old
-RefusesLoad format text old outcome = ⊥
 
 -- the session with one document more, or its refusal
 abbrev pub LoadsOne : Format → List ℕ → Session → Result Session Outcome → Type 0

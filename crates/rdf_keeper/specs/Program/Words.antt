@@ -74,11 +74,14 @@ module _ {Folder : Type 0} (step : Folder → Opening → Folder → Type 0) whe
   -- ---- each word, over a folder and what standard input has left
 
   -- `run`: the session, then its script, which is opened
+  abbrev pub RunsNamed : RunWords → Session → Option (List ℕ) → Option (List ℕ) → Option (List ℕ) → Folder → Outcome → Folder → Type 0
+  RunsNamed words start input before after =
+      EndsUnwritten before after (OpensOrInput step (option_copied words.script) input) (λ bytes.
+      Stays (RunsScript words.stop start bytes before after))
+
   abbrev pub Runs : RunWords → Option (List ℕ) → Option (List ℕ) → Option (List ℕ) → Folder → Outcome → Folder → Type 0
   Runs words input before after =
-      EndsUnwritten before after (BeginsRun step words) (λ start.
-      EndsUnwritten before after (OpensOrInput step (option_copied words.script) input) (λ bytes.
-      Stays (RunsScript words.stop start bytes before after)))
+      EndsUnwritten before after (BeginsRun step words) (λ start. RunsNamed words start input before after)
 
   -- `convert`: the base, then the document, which is opened
   abbrev pub ConvertsAll : ConvertWords → Option (List ℕ) → Option (List ℕ) → Option (List ℕ) → Folder → Outcome → Folder → Type 0
@@ -88,18 +91,24 @@ module _ {Folder : Type 0} (step : Folder → Opening → Folder → Type 0) whe
       Stays (ConvertsBytes words.from base bytes before after)))
 
   -- `query`: the session, then the query, which is opened and read
+  abbrev pub QueriesNamed : QueryWords → Session → Option (List ℕ) → Option (List ℕ) → Folder × Option (List ℕ) → Outcome → Folder × Option (List ℕ) → Type 0
+  QueriesNamed words start before after =
+      EndsUnwritten before after (ReadsNamed step words.query.now) (λ text.
+      Stays (AnswersQuery words start text before after))
+
   abbrev pub Queries : QueryWords → Option (List ℕ) → Option (List ℕ) → Folder × Option (List ℕ) → Outcome → Folder × Option (List ℕ) → Type 0
   Queries words before after =
-      EndsUnwritten before after (BeginsOnce step (option_copied words.base) words.data) (λ start.
-      EndsUnwritten before after (ReadsNamed step words.query.now) (λ text.
-      Stays (AnswersQuery words start text before after)))
+      EndsUnwritten before after (BeginsOnce step (option_copied words.base) words.data) (λ start. QueriesNamed words start before after)
 
   -- `update`: the session, then the request, which is opened and read
+  abbrev pub UpdatesNamed : UpdateWords → Session → Option (List ℕ) → Option (List ℕ) → Folder × Option (List ℕ) → Outcome → Folder × Option (List ℕ) → Type 0
+  UpdatesNamed words start before after =
+      EndsUnwritten before after (ReadsNamed step words.request.now) (λ text.
+      Stays (AppliesRequest words.shown start text before after))
+
   abbrev pub Updates : UpdateWords → Option (List ℕ) → Option (List ℕ) → Folder × Option (List ℕ) → Outcome → Folder × Option (List ℕ) → Type 0
   Updates words before after =
-      EndsUnwritten before after (BeginsOnce step (option_copied words.base) words.data) (λ start.
-      EndsUnwritten before after (ReadsNamed step words.request.now) (λ text.
-      Stays (AppliesRequest words.shown start text before after)))
+      EndsUnwritten before after (BeginsOnce step (option_copied words.base) words.data) (λ start. UpdatesNamed words start before after)
 
   -- ---- `check`, over a folder, what standard input has left, and what standard output holds
 

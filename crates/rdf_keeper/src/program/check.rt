@@ -150,16 +150,16 @@ fn check_file<F: Folder, R: Read, W: Write, P: Write>(
 }
 
 /// Checks files, one behind another.
-pub(crate) fn check_words<F: Folder, R: Read + Drop, W: Write, P: Write>(
+pub(crate) fn check_words<F: Folder, R: Read, W: Write, P: Write>(
     alloc: Global,
     folder: &mut F,
     words: &CheckWords<'_>,
-    mut reader: R,
+    reader: &mut R,
     writer: &mut W,
     progress: &mut Progress<P>,
 ) -> Outcome
     ensures does { (left : Option (List ℕ)) × ChecksAll F.step words.now
-        (folder.old, R.remaining reader, W.contents writer.old) result
+        (folder.old, R.remaining reader.old, W.contents writer.old) result
         (folder.new, left, W.contents writer.new) }
     ensures silent { status_of result ≡ 2 →
         Appends (W.contents writer.old) (W.contents writer.new) [] }
@@ -173,7 +173,7 @@ pub(crate) fn check_words<F: Folder, R: Read + Drop, W: Write, P: Write>(
         folder,
         words,
         base.as_ref(),
-        &mut reader,
+        reader,
         writer,
         progress,
     )

@@ -1,7 +1,7 @@
 //! The session that a run begins with.
-ghost use Rattle.std.specs.Prelude.{◌≡◌, ◌≢◌, None, IfOk, IfErr};
+ghost use Rattle.std.specs.Prelude.{◌≡◌, ◌≢◌, None, IfOk, IfErr, Err};
 ghost use Rattle.std.specs.Option.{option_copied};
-ghost use Rattle.rdf_keeper.specs.Program.Sessions.{Begins, BeginsOver, GivesDepth};
+ghost use Rattle.rdf_keeper.specs.Program.Sessions.{Begins, BeginsOver, GivesDepth, LoadsOne};
 ghost use Rattle.rdf_keeper.specs.Program.Stages.{mapped};
 ghost use Rattle.rdf_keeper.specs.Program.Texts.{ReadsAll, ReadsFile, ReadsNamed};
 ghost use Rattle.rdf_keeper.specs.Inside.Outcomes.{status_of};
@@ -48,6 +48,20 @@ pub(crate) fn bounded(keeper: Keeper, depth: Option<usize>) -> Keeper
     }
 }
 
+/// What a document loads becomes part of the start of a session without history.
+pub(crate) fn load_start(keeper: &mut Keeper, format: Format, text: Vec<u8>) -> Result<(), Outcome>
+    ensures { LoadsOne format text.items keeper.old (mapped (λ _. keeper.new) result) }
+{
+    match keeper.load_text(format, text) {
+        Ok(_) => {
+            keeper.commit();
+            Ok(())
+        }
+        Err(KeeperFault::NoMemory(refused)) => Err(Outcome::NoMemory(refused)),
+        Err(fault) => Err(Outcome::BadData(fault)),
+    }
+}
+
 // A session whose start is what a document loads.
 fn loaded(
     alloc: Global,
@@ -57,14 +71,10 @@ fn loaded(
 ) -> Result<Keeper, Outcome>
     ensures { BeginsOver (Document format) base text.items result }
 {
-    let mut keeper = Keeper::new(alloc, base);
-    match keeper.load_text(format, text) {
-        Ok(_) => {
-            keeper.commit();
-            Ok(keeper)
-        }
-        Err(KeeperFault::NoMemory(refused)) => Err(Outcome::NoMemory(refused)),
-        Err(fault) => Err(Outcome::BadData(fault)),
+    match Keeper::begun_with(alloc, base, format, text) {
+        Ok(keeper) => Ok(keeper),
+        Err(KeeperFault::NoMemory(wanting)) => Err(Outcome::NoMemory(wanting)),
+        Err(refusal) => Err(Outcome::BadData(refusal)),
     }
 }
 
@@ -79,8 +89,8 @@ fn restored(alloc: Global, base: Option<Iri>, text: Vec<u8>) -> Result<Keeper, O
     }
 }
 
-/// A session without history over the data of a text.
-pub(crate) fn over_data(
+// A session without history over the data of a text.
+fn over_data(
     alloc: Global,
     base: Option<Iri>,
     format: StartFormat,
@@ -91,6 +101,22 @@ pub(crate) fn over_data(
     match format {
         StartFormat::Document(format) => loaded(alloc, base, format, text),
         StartFormat::State => restored(alloc, base, text),
+    }
+}
+
+/// A session without history over the data that were read, unless reading them ended the program.
+pub(crate) fn over_read(
+    alloc: Global,
+    base: Option<Iri>,
+    format: StartFormat,
+    read: Result<Vec<u8>, Outcome>,
+) -> Result<Keeper, Outcome>
+    ensures read { IfOk read (λ text. BeginsOver format base text.items result) }
+    ensures unread { IfErr read (λ outcome. result ≡ Err outcome) }
+{
+    match read {
+        Ok(text) => over_data(alloc, base, format, text),
+        Err(outcome) => Err(outcome),
     }
 }
 
@@ -162,9 +188,6 @@ pub(crate) fn begun<F: Folder, P: Write>(
 {
     match path {
         None => Ok(Keeper::new(alloc, base)),
-        Some(path) => {
-            let text = text_of(alloc, folder, path, progress)?;
-            over_data(alloc, base, format, text)
-        }
+        Some(path) => over_read(alloc, base, format, text_of(alloc, folder, path, progress)),
     }
 }

@@ -307,17 +307,29 @@ fn asked_or_shown<'a>(alloc: Global, error: &Error) -> Result<Asked<'a>, WordsFa
     }
 }
 
+fn asked_by<'a>(alloc: Global, matches: &ArgMatches<'a>) -> Result<Asked<'a>, WordsFault> {
+    match matches.subcommand() {
+        Some(("run", found)) => Ok(Asked::Run(run_words(found)?)),
+        Some(("convert", found)) => Ok(Asked::Convert(convert_words(found)?)),
+        Some(("query", found)) => Ok(Asked::Query(query_words(alloc, found)?)),
+        Some(("update", found)) => Ok(Asked::Update(update_words(alloc, found)?)),
+        Some(("check", found)) => Ok(Asked::Check(check_words(alloc, found)?)),
+        _ => Err(WordsFault::Usage(String::new(alloc))),
+    }
+}
+
 /// What the words, without the program's own name, ask for.
 pub(crate) fn read_words<'a>(alloc: Global, words: &'a [String]) -> Result<Asked<'a>, WordsFault> {
     match program(alloc)?.try_get_matches_from(words) {
-        Ok(matches) => match matches.subcommand() {
-            Some(("run", found)) => Ok(Asked::Run(run_words(found)?)),
-            Some(("convert", found)) => Ok(Asked::Convert(convert_words(found)?)),
-            Some(("query", found)) => Ok(Asked::Query(query_words(alloc, found)?)),
-            Some(("update", found)) => Ok(Asked::Update(update_words(alloc, found)?)),
-            Some(("check", found)) => Ok(Asked::Check(check_words(alloc, found)?)),
-            _ => Err(WordsFault::Usage(String::new(alloc))),
-        },
-        Err(error) => asked_or_shown(alloc, &error),
+        Ok(matches) => {
+            let asked = asked_by(alloc, &matches);
+            drop(matches);
+            asked
+        }
+        Err(error) => {
+            let shown = asked_or_shown(alloc, &error);
+            drop(error);
+            shown
+        }
     }
 }

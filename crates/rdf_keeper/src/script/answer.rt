@@ -117,7 +117,12 @@ pub(crate) fn append_topic(
         × (out.new.items ≡ out.old.items ++ concat lines) × (count ≡ length lines)) }
 {
     match topic {
-        Topic::Changes => append_change(&keeper.changes()?, out),
+        Topic::Changes => {
+            let net = keeper.changes()?;
+            let count = append_change(&net, out);
+            drop(net);
+            count
+        }
         Topic::Graphs => {
             let names = keeper.names()?;
             append_names(b"", names.as_slice(), out)?;

@@ -1,9 +1,12 @@
-use Rattle.std.proofs.Common.{refl, sym, subst, inr, ℕ, List, Option}
+use Rattle.std.proofs.Common.{sym, subst, ℕ, List, Option}
 use Rattle.rdf_keeper.specs.Program.Sessions.{BeginsFirst}
+use Rattle.rdf_keeper.specs.Program.Texts.{ReadsNamed}
+use Rattle.rdf_keeper.proofs.ProgramLemmas.{begun_over_read}
 use Rattle.rdf_keeper.proofs.program.several.begun_first.Goals as goal
 
-pub returns-in_ok-text-in-Some : goal.returns-in_ok-text-in-Some
-returns-in_ok-text-in-Some g c =
-    let end : g.row.F.Denot × Option (List ℕ) = (c.text_named.new.folder, g.R.Read.remaining c.text_named.new.reader) in
-    subst (λ first. BeginsFirst g.F.Folder.step first c.args.base (c.args.folder.now, g.R.Read.remaining c.args.reader.now) c.over_data.result end) (sym c.in-Some.is)
-    (inr (c.in_ok-text-in-Some.text.items, end, c.in_ok-text-in-Some.ensures.read, (c.over_data.ensures, refl)))
+pub returns-in-Some : goal.returns-in-Some
+returns-in-Some g c =
+    let start : g.row.F.Denot × Option (List ℕ) = (c.args.folder.now, g.R.Read.remaining c.args.reader.now) in
+    let end : g.row.F.Denot × Option (List ℕ) = (c.text_named-read.new.folder, g.R.Read.remaining c.text_named-read.new.reader) in
+    subst (λ first. BeginsFirst g.F.Folder.step first c.args.base start c.over_read.result end) (sym c.in-Some.is)
+    (begun_over_read c.in-Some.word.format c.args.base c.text_named-read.result (λ text. text.items) (ReadsNamed g.F.Folder.step c.in-Some.word.path.now) start end c.over_read.result c.text_named-read.ensures.read c.over_read.ensures.read c.over_read.ensures.unread)
