@@ -2,8 +2,8 @@
 import collections, os, re
 
 HEAD = re.compile(r"^( *)(?:pub(?:\([^)]*\))? )?((?:(?:const|unsafe|final) )*)fn (\w+)")
-# its parameters, its trait and that one's argument, its type and that one's argument
-IMPL = re.compile(r"(?:unsafe )?impl(<[^{]*?>)? (?:(?:\w+::)*(\w+)(?:<(\w+).*?>)? for )?(?:\w+::)*(\w+)(?:<(\w+)>)?")
+# its parameters, its trait and that one's argument, where it is no lifetime, its type and that one's argument, which may have a lifetime
+IMPL = re.compile(r"(?:unsafe )?impl(<[^{]*?>)? (?:(?:\w+::)*(\w+)(?:<(?:'\w+|(\w+).*?)>)? for )?(?:\w+::)*(\w+)(?:<(\w+)(?:<'\w+>)?>)?")
 # a trait, some of whose methods may have bodies
 TRAIT = re.compile(r"(?:pub(?:\([^)]*\))? )?trait (\w+)")
 # behind the answers of each edited function stands a declaration that antt refuses. So it is never proved, and the check doesn't offer answers for what
