@@ -24,6 +24,7 @@ use std::collections::BTreeSet;
 const FEW: usize = 8;
 
 // Appends the quad that has a key in `Spo`.
+#[inline(always)]
 fn append_quad(table: &TermTable, key: &Key, out: &mut Vec<Quad>) -> Result<(), NoMemory>
     requires { HasTerms table.now (quad_of key.now) }
     ensures ok { OnOk result (out.new.items
@@ -74,6 +75,7 @@ struct Front {
 }
 
 // Takes the first keys of a run, at most so many and no more than a few.
+#[inline(always)]
 fn first_keys(run: &mut Run<'_>, most: usize, keys: &mut [Key; FEW]) -> Front
     ensures few { result.many ≤ FEW }
     ensures parted { run.old.left ≡ take result.many keys.new ++ run.new.left }
@@ -147,6 +149,7 @@ fn append_front(
 }
 
 // Appends the quads of a run, or changes nothing.
+#[inline(always)]
 fn append_run(
     alloc: Global,
     table: &TermTable,

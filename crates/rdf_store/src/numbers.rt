@@ -206,6 +206,7 @@ pub(crate) fn number_terms(
 }
 
 // The graph that has a number.
+#[inline(always)]
 fn graph_of(table: &TermTable, number: u64) -> Result<GraphName, NoMemory>
     requires { IsGraphNumber table.now number (graph_at table.now number) }
     ensures { IfOk result (λ graph. graph ≡ graph_at table.now number) }
@@ -217,6 +218,7 @@ fn graph_of(table: &TermTable, number: u64) -> Result<GraphName, NoMemory>
 }
 
 // The term that has a number.
+#[inline(always)]
 fn term_of(table: &TermTable, number: u64) -> Result<Term, NoMemory>
     requires { IsIdOf table.now number (term_at table.now number) }
     ensures { IfOk result (λ term. term ≡ term_at table.now number) }
@@ -225,6 +227,7 @@ fn term_of(table: &TermTable, number: u64) -> Result<Term, NoMemory>
 }
 
 // The terms that have two numbers.
+#[inline(always)]
 fn terms_of(table: &TermTable, first: u64, second: u64) -> Result<(Term, Term), NoMemory>
     requires first { IsIdOf table.now first (term_at table.now first) }
     requires second { IsIdOf table.now second (term_at table.now second) }
@@ -236,6 +239,7 @@ fn terms_of(table: &TermTable, first: u64, second: u64) -> Result<(Term, Term), 
 }
 
 /// The quad that has a key in `Spo`.
+#[inline(always)]
 pub(crate) fn quad_from(table: &TermTable, key: &Key) -> Result<Quad, NoMemory>
     requires { HasTerms table.now (quad_of key.now) }
     ensures { IfOk result (λ quad. quad ≡ parts_of table.now key.now) }

@@ -125,6 +125,7 @@ impl Iri {
     ///
     /// # Errors
     /// [`NoMemory`] where memory is wanting.
+    #[inline(always)]
     pub fn copy(&self) -> Result<Iri, NoMemory>
         ensures { IfOk result (λ iri. iri ≡ self.now) }
     {

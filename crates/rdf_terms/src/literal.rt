@@ -172,6 +172,7 @@ impl Literal {
     ///
     /// # Errors
     /// [`NoMemory`] where memory is wanting.
+    #[inline(always)]
     pub fn copy(&self) -> Result<Literal, NoMemory>
         ensures { IfOk result (λ l. l ≡ self.now) }
     {

@@ -76,6 +76,7 @@ impl Quad {
     /// The quad of these terms, or `None` where a place holds a term of a wrong kind: the subject
     /// and the graph's name are IRIs or blank nodes, the predicate is an IRI, the object any term.
     /// It takes no memory.
+    #[inline(always)]
     pub fn new(graph: GraphName, subject: Term, predicate: Term, object: Term) -> Option<Quad>
         ensures { let parts : QuadParts = record {
           graph = graph;
@@ -160,6 +161,7 @@ impl Quad {
     }
 
     /// The graph and the three terms.
+    #[inline(always)]
     pub fn into_parts(self) -> (GraphName, Term, Term, Term)
         ensures value { result ≡ (self.graph, self.subject, self.predicate, self.object) }
         ensures sound { IsTrue (is_quad self) }
@@ -178,6 +180,7 @@ fn copied_pair(first: &Term, second: &Term) -> Result<(Term, Term), NoMemory>
 }
 
 // Whether these may be the graph, the subject and the predicate of a quad.
+#[inline(always)]
 fn may_stand(graph: &GraphName, subject: &Term, predicate: &Term) -> bool
     ensures { (object : Term) → result ≡ has_right_kinds (record {
       graph = graph.now;

@@ -47,6 +47,7 @@ impl<T: Drop> Shared<T> {
     ///
     /// # Errors
     /// [`NoMemory`] where memory is wanting.
+    #[inline(always)]
     pub fn copy(&self) -> Result<Shared<T>, NoMemory>
         ensures { IfOk result (λ s. s ≡ self.now) }
     {

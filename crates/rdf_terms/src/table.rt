@@ -63,6 +63,7 @@ impl TermTable {
     }
 
     /// The term of an id that this table holds. It takes no memory.
+    #[inline(always)]
     pub fn term(&self, id: TermId) -> &Term
         requires { id.0 < length self.now }
         ensures { IsIdOf self.now id.0 result.now }

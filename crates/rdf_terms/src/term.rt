@@ -24,6 +24,7 @@ impl Term {
     ///
     /// # Errors
     /// [`NoMemory`] where memory is wanting.
+    #[inline(always)]
     pub fn copy(&self) -> Result<Term, NoMemory>
         ensures { IfOk result (λ t. t ≡ self.now) }
     {

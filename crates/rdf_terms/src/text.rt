@@ -73,6 +73,7 @@ impl Text {
     ///
     /// # Errors
     /// [`NoMemory`] where memory is wanting.
+    #[inline(always)]
     pub fn copy(&self) -> Result<Text, NoMemory>
         ensures { IfOk result (λ t. t ≡ self.now) }
     {

@@ -71,6 +71,7 @@ fn nones(alloc: Global, columns: u64) -> Result<Vec<Option<Term>>, NoMemory>
 }
 
 // What stands at the column of these; past the last one nothing does.
+#[inline(always)]
 fn plain_value(values: &[Option<Term>], column: usize) -> Option<&Term>
     ensures { option_map (λ t. t.now) result ≡ value_at values.now column }
 {
@@ -82,6 +83,7 @@ fn plain_value(values: &[Option<Term>], column: usize) -> Option<&Term>
 }
 
 // Puts the term at the column of these, if there is one.
+#[inline(always)]
 fn plain_set(values: &mut Vec<Option<Term>>, column: usize, term: Term)
     ensures { values.new.items ≡ slice_set values.old.items column (Some term) }
 {
@@ -91,6 +93,7 @@ fn plain_set(values: &mut Vec<Option<Term>>, column: usize, term: Term)
 }
 
 // The first column from this one on that has a term.
+#[inline(always)]
 fn next_of(values: &[Option<Term>], from: usize) -> Option<usize>
     ensures { IsNextBound values.now from result }
 {
@@ -154,6 +157,7 @@ fn forked(alloc: Global, first: Columns, many: usize, others: Columns) -> Result
 
 impl Columns {
     /// What stands at each column.
+    #[inline(always)]
     pub fn plain(values: Vec<Option<Term>>) -> Columns
         ensures { result ≡ values.items }
     {
@@ -182,6 +186,7 @@ impl Columns {
     }
 
     /// What stands at each column, where they are kept side by side.
+    #[inline(always)]
     pub fn as_plain(&self) -> Option<&[Option<Term>]>
         ensures { IfSome result (λ values. values.now ≡ self.now) }
     {
@@ -192,6 +197,7 @@ impl Columns {
     }
 
     /// How many columns there are.
+    #[inline(always)]
     pub fn len(&self) -> usize
         ensures { result ≡ length self.now }
     {
@@ -221,6 +227,7 @@ impl Columns {
     }
 
     /// What stands at the column; past the last one nothing does.
+    #[inline(always)]
     pub fn value(&self, column: usize) -> Option<&Term>
         ensures { option_map (λ t. t.now) result ≡ value_at self.now column }
     {
@@ -289,6 +296,7 @@ impl Columns {
     ///
     /// # Errors
     /// [`NoMemory`] where memory is wanting; nothing has changed then.
+    #[inline(always)]
     pub fn set(&mut self, alloc: Global, column: usize, term: Term) -> Result<(), NoMemory>
         ensures { self.new
             ≡ (if is_ok result then slice_set self.old column (Some term) else self.old) }
