@@ -4,11 +4,13 @@
 #
 # `rt try` makes of what isn't proved a module with a check at each step. It gets the toolchain with another clang, which keeps that module and fails; the
 # checks are taken out of the module's text, and clang compiles it as `rt run` has it compile a proved one.
-# Usage: bench/quick.sh OUT (RT=.. another `rt` than the path's; KEEP=FOLDER keeps what is made on the way, as the text of the module).
+# Usage: bench/quick.sh OUT (CRATE=.. the crate of another program, as session_refusals, which tools/fail-alloc can run then; RT=.. another `rt` than the
+# path's; KEEP=FOLDER keeps what is made on the way, as the text of the module).
 set -euo pipefail
 shopt -s extglob
 here=$(cd "$(dirname "$0")" && pwd)
 out=$(realpath -m "${1:?usage: bench/quick.sh OUT}")
+crate=${CRATE:-rdfkeep}
 kit=$(dirname "$(dirname "$(realpath "$(command -v "${RT:-rt}")")")")
 clang=$kit/toolchain/bin/clang
 work=$(realpath -m "${KEEP:-$(mktemp -d)}")
@@ -25,7 +27,7 @@ cp "$kit"/bin/{rt,rtlib.py} "$tools/bin/" # which take the folder that they lie 
 printf '#!/bin/sh\n[ "$1" != check ] || exit 0\nexec "%s" "$@"\n' "$kit/bin/rattle" > "$tools/bin/rattle"
 printf '#!/bin/bash\ncase " $* " in *" -fsanitize=address "*) cp module.bc "%s"; exit 1 ;; esac\nexec "%s" "$@"\n' "$work" "$clang" > "$tools/toolchain/bin/clang"
 chmod +x "$tools/bin/rattle" "$tools/toolchain/bin/clang"
-(cd "$here/../crates/rdfkeep" && python3 -B "$tools/bin/rt" try -- --version) > "$work/said" 2>&1 < /dev/null || true
+(cd "$here/../crates/$crate" && python3 -B "$tools/bin/rt" try -- --version) > "$work/said" 2>&1 < /dev/null || true
 [ -s "$work/module.bc" ] || { cat "$work/said" >&2; exit 1; }
 "$clang" --target=x86_64-unknown-linux-gnu -x ir -S -emit-llvm -Xclang -disable-llvm-passes -o "$work/module.ll" "$work/module.bc"
 
@@ -76,4 +78,4 @@ PY
     $(printf -- '-mllvm %s ' -no-trap-after-noreturn -trap-unreachable -no-x86-call-frame-opt -disable-machine-licm -disable-postra-machine-licm) \
     -mllvm -sink-common-insts=false -Xclang -fmerge-functions -mllvm -mergefunc-use-aliases -c -x ir -o "$work/program.o" "$work/clean.ll"
 "$kit/bin/rattle-link" --target x86_64-unknown-linux-gnu --toolchain "$kit/toolchain" -o "$out" "$work/program.o" "$kit/c/libos_c.a" "$kit/c/liblibc_c.a" > /dev/null
-"$out" --version
+[ "$crate" != rdfkeep ] || "$out" --version
