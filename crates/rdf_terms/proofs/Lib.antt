@@ -11,6 +11,7 @@ mod EscapedLemmas
 mod ExampleLemmas
 mod FrontLemmas
 mod IntegerLemmas
+mod LaneLemmas
 mod LayoutLemmas
 mod LoopLemmas
 mod MovingLemmas
