@@ -7,7 +7,7 @@ use Rattle.std.specs.List.{position, position_or_len}
 pub is_there : (p : ℕ → Bool) (xs : List ℕ) → position_or_len p xs < length xs → Some (position_or_len p xs) ≡ position p xs
 is_there p xs h = sym (cond-true _ _ _ (lt-ltb _ _ h))
 
-pub is_nowhere : (p : ℕ → Bool) (xs : List ℕ) → length xs ≤ position_or_len p xs → None ≡ position p xs
+is_nowhere : (p : ℕ → Bool) (xs : List ℕ) → length xs ≤ position_or_len p xs → None ≡ position p xs
 is_nowhere p xs h = sym (cond-false _ _ _ (le-ltb _ _ h))
 
 told : (b : Bool) (k n : ℕ) → Some k ≡ cond b (Some n) None → (b ≡ true) × (k ≡ n)
@@ -56,3 +56,6 @@ some_in_part p n m xs k h long e =
 
 pub none_in_part : (p : ℕ → Bool) (n m : ℕ) (xs : List ℕ) → n ≤ position_or_len p xs → n + m ≤ length xs → None ≡ position p (take m (drop n xs)) → n + m ≤ position_or_len p xs
 none_in_part p n m xs h long e = omega (arith, nowhere_is p (take m (drop n xs)) e, length-chunk n m xs long, place_in_part p n m xs h long)
+
+pub none_in_last : (p : ℕ → Bool) (n m : ℕ) (xs : List ℕ) → n ≤ position_or_len p xs → n + m ≡ length xs → None ≡ position p (take m (drop n xs)) → None ≡ position p xs
+none_in_last p n m xs h long e = is_nowhere p xs (omega (arith, long, none_in_part p n m xs h (omega (arith, long)) e))

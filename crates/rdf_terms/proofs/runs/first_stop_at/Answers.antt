@@ -8,17 +8,11 @@ use lib.Lanes.{chunk}
 
 pub returns-clause-first : goal.returns-clause-first
 returns-clause-first g c =
-    let among = c.stops_among-among in
-    let bytes = chunk c.args.front 16 c.args.text.now in
+    let among = c.stops_among-among.ensures in
     let long = length-chunk c.args.front 16 c.args.text.now c.requires in
-    ap (λ n. Some (count_trailing_zeros 64 n)) among.ensures
-    ∙ lowest_is_first (g.S.Stops.ends c.args.stops.now) bytes (omega arith) (omega (arith, among.ensures, c.if-among-eq0.false))
+    ap (λ n. Some (count_trailing_zeros 64 n)) among ∙ lowest_is_first _ _ (omega arith) (omega (arith, among, c.if-among-eq0.false))
 
 pub returns-clause-within : goal.returns-clause-within
 returns-clause-within g c =
-    let bytes = chunk c.args.front 16 c.args.text.now in
-    omega (
-      arith,
-      place_is (g.S.Stops.ends c.args.stops.now) bytes (count_trailing_zeros 64 c.stops_among-among.result) (returns-clause-first g c),
-      length-chunk c.args.front 16 c.args.text.now c.requires,
-    )
+    let long = length-chunk c.args.front 16 c.args.text.now c.requires in
+    omega (arith, long, place_is (g.S.Stops.ends c.args.stops.now) (chunk c.args.front 16 c.args.text.now) _ (returns-clause-first g c))
