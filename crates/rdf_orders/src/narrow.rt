@@ -1,5 +1,5 @@
 //! Keys whose numbers each fit 32 bits.
-ghost use Rattle.std.specs.Prelude.{◌≡◌, ◌<◌, ◌≤◌, ◌^◌, IfNone, IfSome, Some, nat_eq, refl};
+ghost use Rattle.std.specs.Prelude.{◌≡◌, ◌<◌, ◌≤◌, ◌+◌, ◌*◌, ◌^◌, IfNone, IfSome, Some, nat_eq, refl};
 ghost use Rattle.std.specs.Cmp.{partial_equiv_from_equiv};
 ghost use Rattle.std.specs.Cmp.Lexicographic.{pointwise, nat_list_eq_equiv, nat_list_cmp_total, texts_ties, texts_po};
 ghost use Rattle.rdf_orders.specs.Quads.{key_cmp};
@@ -10,13 +10,14 @@ use std::cmp::Ordering;
 use std::marker::Model;
 
 /// A key whose numbers each fit 32 bits, which contracts see as their list. Two of them are compared
-/// without a loop, as arrays aren't.
+/// by two numbers at a time: of each two the one that counts for less lies first, so that a
+/// little-endian processor reads both as one number of 64 bits.
 #[derive(Clone, Copy)]
 pub(crate) struct NarrowKey {
-    graph: u32,
     first: u32,
-    second: u32,
+    graph: u32,
     third: u32,
+    second: u32,
 }
 
 impl Model for NarrowKey {
@@ -39,6 +40,7 @@ impl PartialEq for NarrowKey {
 
     ghost laws = { partial_equiv_from_equiv nat_list_eq_equiv };
 
+    #[inline(always)]
     fn eq(&self, other: &NarrowKey) -> bool {
         self.graph == other.graph
             && self.first == other.first
@@ -70,21 +72,27 @@ impl Ord for NarrowKey {
 
     ghost matches_eq = { texts_ties };
 
+    #[inline(always)]
     fn cmp(&self, other: &NarrowKey) -> Ordering {
-        if self.graph != other.graph {
-            return self.graph.cmp(&other.graph);
+        let front = joined(self.graph, self.first);
+        let other_front = joined(other.graph, other.first);
+        if front != other_front {
+            return front.cmp(&other_front);
         }
-        if self.first != other.first {
-            return self.first.cmp(&other.first);
-        }
-        if self.second != other.second {
-            return self.second.cmp(&other.second);
-        }
-        self.third.cmp(&other.third)
+        joined(self.second, self.third).cmp(&joined(other.second, other.third))
     }
 }
 
+// One number of 64 bits, whose upper half and lower half these are.
+#[inline(always)]
+fn joined(upper: u32, lower: u32) -> u64
+    ensures { result ≡ upper * 2 ^ 32 + lower }
+{
+    u64::from(upper) << 32 | u64::from(lower)
+}
+
 // The number, if it fits 32 bits.
+#[inline(always)]
 fn narrow_number(number: u64) -> Option<u32>
     ensures found { IfSome result (λ narrow. narrow ≡ number) }
     ensures fits { IfSome result (λ _. number < 2 ^ 32) }
@@ -94,6 +102,7 @@ fn narrow_number(number: u64) -> Option<u32>
 }
 
 /// The key, if its numbers each fit 32 bits.
+#[inline(always)]
 pub(crate) fn narrow(key: &Key) -> Option<NarrowKey>
     ensures found { IfSome result (λ narrow. narrow ≡ key.now) }
     ensures fits { IfSome result (λ _. IsNarrow key.now) }
@@ -109,6 +118,7 @@ pub(crate) fn narrow(key: &Key) -> Option<NarrowKey>
 }
 
 /// Of the narrow keys that aren't greater than the key, the greatest.
+#[inline(always)]
 pub(crate) fn floor(key: &Key) -> NarrowKey
     ensures { result ≡ floor_key key.now }
 {
@@ -122,6 +132,7 @@ pub(crate) fn floor(key: &Key) -> NarrowKey
 }
 
 // Its numbers.
+#[inline(always)]
 fn floor_numbers(key: &Key) -> [u32; 4]
     ensures { result ≡ floor_key key.now }
 {
@@ -142,6 +153,7 @@ fn floor_numbers(key: &Key) -> [u32; 4]
 }
 
 /// The same key, of numbers of 64 bits.
+#[inline(always)]
 pub(crate) fn widen(key: &NarrowKey) -> Key
     ensures { result ≡ key.now }
 {

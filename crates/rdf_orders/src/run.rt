@@ -37,6 +37,7 @@ impl<'a> Model for Run<'a> {
 
 impl<'a> Run<'a> {
     /// The next quad, which is counted, up to the greatest `usize`.
+    #[inline(always)]
     pub fn next_key(&mut self) -> Option<Key>
         ensures next { TakesFirst (λ k. k) self.old.left result self.new.left }
         ensures counted { self.new.looked
