@@ -215,21 +215,22 @@ fn grown_copy(
     Ok(None)
 }
 
-// Appends the rows that the triples make of copies of a row under which they were looked up.
+// Appends the rows that the triples make of copies of a row under which they were looked up, and
+// empties their list, which keeps its room.
 fn append_grown(
     alloc: Global,
     row: &Mapping,
     places: &Places,
     spots: Spots,
-    quads: Vec<Quad>,
+    quads: &mut Vec<Quad>,
     out: &mut Vec<Mapping>,
 ) -> Result<(), NoMemory>
     requires told { spots ≡ spots_in places.now row.now }
-    requires held { IsTrue (list_all (has_held places.now row.now) quads.items) }
+    requires held { IsTrue (list_all (has_held places.now row.now) quads.old.items) }
     ensures { OnOk result (out.new.items
-        ≡ out.old.items ++ matches_of quads.items places.now row.now) }
+        ≡ out.old.items ++ matches_of quads.old.items places.now row.now) }
 {
-    for quad in quads {
+    for quad in quads.drain(..) {
         if let Some(found) = grown_copy(alloc, row, places, spots, quad)? {
             out.push(found)?;
         }
@@ -242,22 +243,46 @@ pub(crate) fn copies_grown(
     alloc: Global,
     row: &Mapping,
     places: &Places,
-    quads: Vec<Quad>,
+    mut quads: Vec<Quad>,
 ) -> Result<Vec<Mapping>, NoMemory>
     requires { IsTrue (list_all (has_held places.now row.now) quads.items) }
     ensures { IfOk result (λ out. out.items ≡ matches_of quads.items places.now row.now) }
 {
     let mut rows = Vec::with_capacity(alloc, quads.len())?;
     let spots = spots_in(row, places);
-    append_grown(alloc, row, places, spots, quads, &mut rows)?;
+    append_grown(alloc, row, places, spots, &mut quads, &mut rows)?;
     Ok(rows)
+}
+
+/// Appends the rows that triples make of a row under which they were looked up: the last one of the
+/// row itself. The list of the triples is emptied, and keeps its room.
+pub(crate) fn append_last(
+    alloc: Global,
+    mut row: Mapping,
+    places: &Places,
+    quads: &mut Vec<Quad>,
+    out: &mut Vec<Mapping>,
+) -> Result<(), NoMemory>
+    requires { IsTrue (list_all (has_held places.now row) quads.old.items) }
+    ensures { OnOk result (out.new.items
+        ≡ out.old.items ++ matches_of quads.old.items places.now row) }
+{
+    let Some(last) = quads.pop() else {
+        return Ok(());
+    };
+    let spots = spots_in(&row, places);
+    append_grown(alloc, &row, places, spots, quads, out)?;
+    if grows(alloc, &mut row, places, spots, last)? {
+        out.push(row)?;
+    }
+    Ok(())
 }
 
 /// The rows that triples make of a row under which they were looked up: the last one of the row
 /// itself.
 pub(crate) fn row_grown(
     alloc: Global,
-    mut row: Mapping,
+    row: Mapping,
     places: &Places,
     mut quads: Vec<Quad>,
 ) -> Result<Vec<Mapping>, NoMemory>
@@ -265,13 +290,6 @@ pub(crate) fn row_grown(
     ensures { IfOk result (λ out. out.items ≡ matches_of quads.items places.now row) }
 {
     let mut out = Vec::with_capacity(alloc, quads.len())?;
-    let Some(last) = quads.pop() else {
-        return Ok(out);
-    };
-    let spots = spots_in(&row, places);
-    append_grown(alloc, &row, places, spots, quads, &mut out)?;
-    if grows(alloc, &mut row, places, spots, last)? {
-        out.push(row)?;
-    }
+    append_last(alloc, row, places, &mut quads, &mut out)?;
     Ok(out)
 }

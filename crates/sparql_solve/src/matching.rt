@@ -9,7 +9,7 @@ ghost use Rattle.sparql_algebra.specs.Results.{is_some_solution};
 ghost use Rattle.sparql_solve.specs.Matching.{AsksSame, has_held, matched, matches_of, stepped, matching, quads_under};
 ghost use Rattle.sparql_solve.specs.Members.{AreSolutions};
 
-use crate::grown::{copies_grown, row_grown};
+use crate::grown::{append_last, copies_grown, row_grown};
 use crate::mappings::Mapping;
 use crate::place::{Place, Places};
 use rdf_dataset::Source;
@@ -258,14 +258,15 @@ pub(crate) fn step<S: Source>(
     let mut quads = Vec::new(alloc);
     quads_under(graph, source, places, &row, &mut quads)?;
     for next in rest {
-        let is_shared = asks_same(&row, &next, places);
-        append_matches(alloc, row, places, &quads, &mut out)?;
-        if !is_shared {
+        if asks_same(&row, &next, places) {
+            append_matches(alloc, row, places, &quads, &mut out)?;
+        } else {
+            append_last(alloc, row, places, &mut quads, &mut out)?;
             quads_under(graph, source, places, &next, &mut quads)?;
         }
         row = next;
     }
-    append_matches(alloc, row, places, &quads, &mut out)?;
+    append_last(alloc, row, places, &mut quads, &mut out)?;
     Ok(out)
 }
 

@@ -1,26 +1,27 @@
-use Rattle.std.proofs.Common.{rules, ◌≡◌, List, [], ◌++◌, sym, ap, ◌∙◌, arith, length, append-nil}
+use Rattle.std.proofs.Common.{◌≡◌, List, ◌++◌, sym, ap, ◌∙◌, arith, append-nil}
+use Rattle.std.proofs.lemmas.List.{take_all}
 use Rattle.std.specs.List.{list_all}
-use Rattle.std.specs.Vec.Iter.{into_iter_items}
+use Rattle.std.specs.Vec.Iter.{drain_items}
 use Rattle.rdf_terms.specs.Quad.{QuadParts}
 use Rattle.sparql_solve.specs.Matching.{has_held, matches_of}
-use Rattle.sparql_solve.proofs.MemberLemmas.{none_left}
 use Rattle.sparql_solve.proofs.OnceLemmas.{held_first, held_rest, grown_by, grown_by_none}
 use Rattle.sparql_solve.proofs.grown.append_grown.Goals as goal
 
 pub loop-quad-init : goal.loop-quad-init
 loop-quad-init c =
-    let is : into_iter_items c.into_iter-quad-iterator.result ≡ c.args.quads.items = search rules in
+    let is : drain_items c.into_iter-quad-iterator.result ≡ c.args.quads.now.items =
+    ap drain_items c.into_iter-quad-iterator.ensures.into_iter_gives ∙ c.drain-quad-items.ensures.rest
+    ∙ take_all _ c.args.quads.now.items (omega (arith, c.args.quads.now.ok.0)) in
     record {
       made = ap (λ (qs : List QuadParts). c.args.out.now.items ++ matches_of qs c.args.places.now c.args.row.now) is;
       held = ap (list_all (has_held c.args.places.now c.args.row.now)) is ∙ c.requires.held;
-      count = search rules;
     }
 
 pub grown_copy-requires : goal.grown_copy-requires
 grown_copy-requires c =
     record {
       told = c.requires.told;
-      held = held_first c.args.places.now c.args.row.now c.in-Some.quad (into_iter_items c.next.new.self) (into_iter_items c.loop-quad.quad-iterator)
+      held = held_first c.args.places.now c.args.row.now c.in-Some.quad (drain_items c.next.new.self) (drain_items c.loop-quad.quad-iterator)
           c.in-Some.ensures.steps.0 c.loop-quad.invariant.held;
     }
 
@@ -28,31 +29,28 @@ pub loop-quad-preserved-in-Continue-branch-3 : goal.loop-quad-preserved-in-Conti
 loop-quad-preserved-in-Continue-branch-3 c =
     let m = c.args.row.now in
     let p = c.args.places.now in
-    let rest = into_iter_items c.next.new.self in
-    let items = into_iter_items c.loop-quad.quad-iterator in
+    let rest = drain_items c.next.new.self in
+    let items = drain_items c.loop-quad.quad-iterator in
     record {
-      made = grown_by p m c.in-Some.quad rest items c.in-Some.ensures.steps.0 c.loop-quad.out.items (c.args.out.now.items ++ matches_of c.args.quads.items p m)
+      made = grown_by p m c.in-Some.quad rest items c.in-Some.ensures.steps.0 c.loop-quad.out.items (c.args.out.now.items ++ matches_of c.args.quads.now.items p m)
           c.loop-quad.invariant.made c.in-Some-2.found c.push.new.self.items (c.in_ok-found.ensures ∙ c.in-Some-2.is) c.in_ok-push.ensures.items;
       held = held_rest p m c.in-Some.quad rest items c.in-Some.ensures.steps.0 c.loop-quad.invariant.held;
-      count = omega (arith, ap length c.in-Some.ensures.steps.0, c.in-Some.ensures.steps.1, c.loop-quad.invariant.count);
     }
 
 pub loop-quad-preserved : goal.loop-quad-preserved
 loop-quad-preserved c =
     let m = c.args.row.now in
     let p = c.args.places.now in
-    let rest = into_iter_items c.next.new.self in
-    let items = into_iter_items c.loop-quad.quad-iterator in
+    let rest = drain_items c.next.new.self in
+    let items = drain_items c.loop-quad.quad-iterator in
     record {
       made = grown_by_none p m c.in-Some.quad rest items c.in-Some.ensures.steps.0 c.loop-quad.out.items
-          (c.args.out.now.items ++ matches_of c.args.quads.items p m) c.loop-quad.invariant.made (c.in_ok-found.ensures ∙ c.in_default.is);
+          (c.args.out.now.items ++ matches_of c.args.quads.now.items p m) c.loop-quad.invariant.made (c.in_ok-found.ensures ∙ c.in_default.is);
       held = held_rest p m c.in-Some.quad rest items c.in-Some.ensures.steps.0 c.loop-quad.invariant.held;
-      count = omega (arith, ap length c.in-Some.ensures.steps.0, c.in-Some.ensures.steps.1, c.loop-quad.invariant.count);
     }
 
 pub returns : goal.returns
 returns c =
-    let none : into_iter_items c.loop-quad.quad-iterator ≡ [] = none_left _ (sym c.loop-quad.invariant.count ∙ c.in-None.ensures.steps.0) in
     sym (append-nil c.loop-quad.out.items)
-    ∙ ap (λ (qs : List QuadParts). c.loop-quad.out.items ++ matches_of qs c.args.places.now c.args.row.now) (sym none)
+    ∙ ap (λ (qs : List QuadParts). c.loop-quad.out.items ++ matches_of qs c.args.places.now c.args.row.now) (sym c.in-None.ensures.steps.0)
     ∙ c.loop-quad.invariant.made
