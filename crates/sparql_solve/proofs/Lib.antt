@@ -39,3 +39,6 @@ pub mod BoundLemmas
 pub mod FlagLemmas
 pub mod TurnedLemmas
 pub mod ShownLemmas
+pub mod CodedLemmas
+pub mod CodedRowLemmas
+pub mod CodedRunLemmas

@@ -14,3 +14,4 @@ pub mod Shown
 pub mod Partners
 pub mod Steps
 pub mod Ask
+pub mod Coded

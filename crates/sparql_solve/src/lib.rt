@@ -10,6 +10,7 @@ mod asking;
 mod basic;
 mod bins;
 mod chunks;
+mod coded;
 mod counted;
 mod evaluation;
 mod evaluator;
