@@ -8,8 +8,7 @@ ghost use Rattle.sparql_algebra.specs.Order.{mapping_cmp};
 ghost use Rattle.sparql_solve.specs.Coded.{AreAlike, AreAlikeAt, AreRanked, HasAt, IsCoded, ShareStart, codes_of, digits, row_code, rows_of, text_of};
 
 use crate::rows::Row;
-use crate::values::is_same_value;
-use rdf_terms::{NoMemory, Term};
+use rdf_terms::{NoMemory, Term, same_term};
 use std::alloc::Global;
 
 // So many bytes of a text stand in a code.
@@ -56,6 +55,9 @@ fn shared_bytes(left: &[u8], right: &[u8]) -> usize
     ensures differ { result < length left.now → result < length right.now →
         slice_index left.now result ≢ slice_index right.now result }
 {
+    if right.starts_with(left) {
+        return left.len();
+    }
     let mut many = 0;
     while many < left.len() && many < right.len() && left[many] == right[many] {
         many += 1;
@@ -152,7 +154,12 @@ fn sort_by_codes(rows: &mut [CodedRow], column: usize)
 fn has_at(row: &Row, column: usize, value: Option<&Term>) -> bool
     ensures { IsTrue result → HasAt column (option_copied value.entry) row.now }
 {
-    column < row.values().len() && is_same_value(row.value(column), value)
+    column < row.values().len()
+        && match (row.value(column), value) {
+            (Some(own), Some(other)) => same_term(own, other),
+            (None, None) => true,
+            _ => false,
+        }
 }
 
 // Whether all rows have the column, and the same there.
@@ -236,8 +243,20 @@ fn sort_runs(rows: &mut [CodedRow], column: usize, levels: usize)
     let mut from = 0;
     while from < rows.len() {
         let to = run_end(rows, from);
-        sort_coded(&mut rows[from..to], column, levels);
+        sort_run(&mut rows[from..to], column, levels);
         from = to;
+    }
+}
+
+// Sorts the rows of one code, most often a single one.
+#[cycle(coded)]
+fn sort_run(rows: &mut [CodedRow], column: usize, levels: usize)
+    requires { AreAlike column (rows_of rows.old) }
+    ensures permutation { IsPermutation (rows_of rows.old) (rows_of rows.new) }
+    ensures sorted { IsSorted mapping_cmp (rows_of rows.new) }
+{
+    if 1 < rows.len() {
+        sort_coded(rows, column, levels);
     }
 }
 

@@ -20,8 +20,8 @@ sort_coded-returns-clause-permutation t c =
     IsPermutation-trans (rows_of c.args.rows.now) (rows_of c.sort_by_codes.new.rows) (rows_of c.sort_runs.new.rows)
     c.sort_by_codes.ensures.permutation c.sort_runs.ensures.permutation
 
-pub sort_runs-sort_coded-requires : goal.sort_runs-sort_coded-requires
-sort_runs-sort_coded-requires t c = (
+pub sort_runs-sort_run-requires : goal.sort_runs-sort_run-requires
+sort_runs-sort_run-requires t c = (
   omega arith,
   alike_part c.args.column c.loop-from.from (c.run_end-to.result - c.loop-from.from) c.loop-from.rows
       (alike_permutation c.args.column (rows_of c.args.rows.now) (rows_of c.loop-from.rows) c.loop-from.invariant.permutation c.requires.alike),
@@ -29,9 +29,9 @@ sort_runs-sort_coded-requires t c = (
 
 pub sort_runs-loop-from-preserved : goal.sort_runs-loop-from-preserved
 sort_runs-loop-from-preserved t c =
-    sorted_to_more c.loop-from.from c.run_end-to.result c.args.rows.now c.loop-from.rows c.sort_coded.new.rows c.loop-from.invariant
+    sorted_to_more c.loop-from.from c.run_end-to.result c.args.rows.now c.loop-from.rows c.sort_run.new.rows c.loop-from.invariant
     c.run_end-to.ensures.past c.run_end-to.ensures.within c.run_end-to.ensures.alike c.run_end-to.ensures.differ
-    c.sort_coded.ensures.permutation c.sort_coded.ensures.sorted
+    c.sort_run.ensures.permutation c.sort_run.ensures.sorted
 
 pub sort_runs-returns-clause-sorted : goal.sort_runs-returns-clause-sorted
 sort_runs-returns-clause-sorted t c =
