@@ -30,6 +30,7 @@ struct Spots {
 }
 
 // What the place has in the row.
+#[inline(always)]
 fn spot_of(row: &Mapping, place: &Place) -> Spot
     ensures { result ≡ spot_of row.now place.now }
 {
@@ -43,6 +44,7 @@ fn spot_of(row: &Mapping, place: &Place) -> Spot
 }
 
 // The same where the term of another place comes before.
+#[inline(always)]
 fn behind(spot: Spot, other: &Place) -> Spot
     ensures { result ≡ behind spot other.now }
 {
@@ -60,6 +62,7 @@ fn behind(spot: Spot, other: &Place) -> Spot
 
 // What the places have in the row, into which the terms come in this order: predicate, subject and
 // object.
+#[inline(always)]
 fn spots_in(row: &Mapping, places: &Places) -> Spots
     ensures { result ≡ spots_in places.now row.now }
 {
@@ -73,6 +76,7 @@ fn spots_in(row: &Mapping, places: &Places) -> Spots
 }
 
 // Moves the term to the place, and answers whether it may stand there: nothing else does.
+#[inline(always)]
 fn put(
     alloc: Global,
     row: &mut Mapping,
@@ -96,6 +100,7 @@ fn put(
 
 // Moves into the row what the triple binds, which was looked up under it, and answers whether it
 // fits; a variable that stands twice may still want two terms.
+#[inline(always)]
 fn grows(
     alloc: Global,
     row: &mut Mapping,
@@ -118,6 +123,7 @@ fn grows(
     put(alloc, row, &places.object, spots.object, object)
 }
 
+#[inline(always)]
 fn is_told(spot: Spot) -> bool
     ensures { result ≡ is_told spot }
 {
@@ -125,6 +131,7 @@ fn is_told(spot: Spot) -> bool
 }
 
 // Whether no place has to be asked for each triple.
+#[inline(always)]
 fn are_told(spots: Spots) -> bool
     ensures { IsTrue result → AreTold spots }
 {
@@ -139,6 +146,7 @@ pub(crate) fn are_told_in(row: &Mapping, places: &Places) -> bool
 }
 
 // A copy of each value.
+#[inline(always)]
 fn copied_all(alloc: Global, values: &[Option<Term>]) -> Result<Vec<Option<Term>>, NoMemory>
     ensures { IfOk result (λ copy. copy.items ≡ values.now) }
 {
@@ -150,6 +158,7 @@ fn copied_all(alloc: Global, values: &[Option<Term>]) -> Result<Vec<Option<Term>
 }
 
 // Moves the term to the column of these, if there is one.
+#[inline(always)]
 fn set(values: &mut Vec<Option<Term>>, column: usize, term: Term)
     ensures { values.new.items ≡ slice_set values.old.items column (Some term) }
 {
@@ -159,6 +168,7 @@ fn set(values: &mut Vec<Option<Term>>, column: usize, term: Term)
 }
 
 // Moves the term to the place, which has it or nothing.
+#[inline(always)]
 fn set_at(values: &mut Vec<Option<Term>>, _place: &Place, spot: Spot, term: Term)
     requires put { IsPut spot values.old.items _place.now term }
     requires told { is_told spot ≡ true }
@@ -171,6 +181,7 @@ fn set_at(values: &mut Vec<Option<Term>>, _place: &Place, spot: Spot, term: Term
 }
 
 // A copy of what stands side by side, with what the triple binds, which was looked up under it.
+#[inline(always)]
 fn grown_plainly(
     alloc: Global,
     values: &[Option<Term>],
@@ -192,6 +203,7 @@ fn grown_plainly(
 }
 
 // A copy of the row with what the triple binds, which was looked up under it, if that fits.
+#[inline(always)]
 fn grown_copy(
     alloc: Global,
     row: &Mapping,

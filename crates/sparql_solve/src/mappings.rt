@@ -52,6 +52,7 @@ pub(crate) fn place_of(places: &[Option<usize>], column: usize) -> Option<usize>
 
 impl Mapping {
     /// The mapping of these values.
+    #[inline(always)]
     pub(crate) fn plain(values: Vec<Option<Term>>) -> Mapping
         ensures { result ≡ values.items }
     {
@@ -61,6 +62,7 @@ impl Mapping {
     }
 
     /// What stands at the column; past the last one nothing does.
+    #[inline(always)]
     pub fn value(&self, column: usize) -> Option<&Term>
         ensures { option_map (λ t. t.now) result ≡ value_at self.now column }
     {
@@ -68,6 +70,7 @@ impl Mapping {
     }
 
     /// How many columns it has.
+    #[inline(always)]
     pub(crate) fn len(&self) -> usize
         ensures { result ≡ length self.now }
     {
@@ -75,6 +78,7 @@ impl Mapping {
     }
 
     /// The columns, as filters ask them.
+    #[inline(always)]
     pub(crate) fn columns(&self) -> &Columns
         ensures { result.now ≡ self.now }
     {
@@ -299,6 +303,7 @@ impl Mapping {
     }
 
     /// Puts the term at the column, if there is one.
+    #[inline(always)]
     pub(crate) fn set(&mut self, alloc: Global, column: usize, term: Term) -> Result<(), NoMemory>
         ensures { OnOk result (self.new ≡ slice_set self.old column (Some term)) }
     {
@@ -306,6 +311,7 @@ impl Mapping {
     }
 
     // The place of a column in the mapping.
+    #[inline(always)]
     fn index(&self, column: u128) -> Option<usize>
         ensures { result ≡ (if nat_lt column (length self.now) then Some column else None) }
     {
@@ -317,6 +323,7 @@ impl Mapping {
     }
 
     /// The column of the place, where it has nothing.
+    #[inline(always)]
     pub(crate) fn vacant(&self, place: &Place) -> Option<usize>
         ensures { result ≡ vacant self.now place.now }
     {
@@ -332,6 +339,7 @@ impl Mapping {
     }
 
     /// The term that the place has in the mapping.
+    #[inline(always)]
     pub(crate) fn held<'r>(&'r self, place: &'r Place) -> Option<&'r Term>
         ensures { option_copied result ≡ held self.now place.now }
     {
@@ -346,6 +354,7 @@ impl Mapping {
     }
 
     /// Whether the place has a term in the mapping.
+    #[inline(always)]
     pub(crate) fn has(&self, place: &Place) -> bool
         ensures { result ≡ is_some (held self.now place.now) }
     {

@@ -113,6 +113,7 @@ pub(crate) fn asks_same(row: &Mapping, other: &Mapping, places: &Places) -> bool
 }
 
 // The quads of the graph that have the terms which the row has at the places.
+#[inline(always)]
 fn quads_under<S: Source>(
     graph: &GraphName,
     source: &S,
