@@ -240,7 +240,7 @@ pub(crate) fn some_of_one<S: Source>(
 }
 
 /// The rows that one triple pattern makes of these, by look-ups of its triples. Rows that ask the
-/// same one after another share a look-up.
+/// same one after another share a look-up, and the terms of its triples move into the last of them.
 pub(crate) fn step<S: Source>(
     alloc: Global,
     graph: &GraphName,
