@@ -17,13 +17,10 @@ loop-quad-init c =
       held = ap (list_all (has_held c.args.places.now c.args.row.now)) is ∙ c.requires.held;
     }
 
-pub grown_copy-requires : goal.grown_copy-requires
-grown_copy-requires c =
-    record {
-      told = c.requires.told;
-      held = held_first c.args.places.now c.args.row.now c.in-Some.quad (drain_items c.next.new.self) (drain_items c.loop-quad.quad-iterator)
-          c.in-Some.ensures.steps.0 c.loop-quad.invariant.held;
-    }
+pub grown_copy-requires-clause-held : goal.grown_copy-requires-clause-held
+grown_copy-requires-clause-held c =
+    held_first c.args.places.now c.args.row.now c.in-Some.quad (drain_items c.next.new.self) (drain_items c.loop-quad.quad-iterator)
+    c.in-Some.ensures.steps.0 c.loop-quad.invariant.held
 
 pub loop-quad-preserved-in-Continue-branch-3 : goal.loop-quad-preserved-in-Continue-branch-3
 loop-quad-preserved-in-Continue-branch-3 c =

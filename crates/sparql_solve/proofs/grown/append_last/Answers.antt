@@ -4,21 +4,15 @@ use Rattle.sparql_solve.proofs.MatchingLemmas.{last_matched, last_unmatched}
 use Rattle.sparql_solve.proofs.OnceLemmas.{split_off, held_others}
 use Rattle.sparql_solve.proofs.grown.append_last.Goals as goal
 
-pub append_grown-requires : goal.append_grown-requires
-append_grown-requires c =
-    record {
-      told = c.spots_in-spots.ensures;
-      held = held_others c.args.places.now c.args.row c.args.quads.now.items c.pop.new.self.items c.in-Some.last
-          (split_off c.args.quads.now.items c.pop.new.self.items c.in-Some.last c.in-Some.ensures.items) c.requires;
-    }
+pub append_grown-requires-clause-held : goal.append_grown-requires-clause-held
+append_grown-requires-clause-held c =
+    held_others c.args.places.now c.args.row c.args.quads.now.items c.pop.new.self.items c.in-Some.last
+    (split_off c.args.quads.now.items c.pop.new.self.items c.in-Some.last c.in-Some.ensures.items) c.requires
 
-pub grows-requires : goal.grows-requires
-grows-requires c =
-    record {
-      told = c.spots_in-spots.ensures;
-      held = held_last c.args.places.now c.args.row c.args.quads.now.items c.pop.new.self.items c.in-Some.last
-          (split_off c.args.quads.now.items c.pop.new.self.items c.in-Some.last c.in-Some.ensures.items) c.requires;
-    }
+pub grows-requires-clause-held : goal.grows-requires-clause-held
+grows-requires-clause-held c =
+    held_last c.args.places.now c.args.row c.args.quads.now.items c.pop.new.self.items c.in-Some.last
+    (split_off c.args.quads.now.items c.pop.new.self.items c.in-Some.last c.in-Some.ensures.items) c.requires
 
 pub returns-in_ok-push : goal.returns-in_ok-push
 returns-in_ok-push c =
