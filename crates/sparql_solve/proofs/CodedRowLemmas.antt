@@ -101,13 +101,14 @@ begins_none start v e = subst (λ o. IfSome o (λ t. t ≡ start ++ drop (length
 
 -- the start of the texts so far, cut to what the next one begins with
 pub shared_more : (first : List ℕ) (many n column i : ℕ) (rows : List CodedRow) (d : CodedRow) → i < length rows → n ≤ many →
-    All (λ r. BeginsWith (take many first) (value_at r.row column)) (take i rows) → BeginsWith (take n first) (value_at (get_or rows i d).row column) →
+    All (λ r. BeginsWith (take many first) (value_at r.row column)) (take i rows) →
+    BeginsWith (take n (take many first)) (value_at (get_or rows i d).row column) →
     All (λ r. BeginsWith (take n first) (value_at r.row column)) (take (i + 1) rows)
 shared_more first many n column i rows d l le h next =
-    All-more (λ r. BeginsWith (take n first) (value_at r.row column)) rows i d l
-    (All-weaker (λ r. BeginsWith (take many first) (value_at r.row column)) (λ r. BeginsWith (take n first) (value_at r.row column))
-    (λ r b. subst (λ start. BeginsWith start (value_at r.row column)) (take-take n many first le) (begins_shorter (take many first) n (value_at r.row column) b))
-    (take i rows) h) next
+    subst (λ start. All (λ r. BeginsWith start (value_at r.row column)) (take (i + 1) rows)) (take-take n many first le)
+    (All-more (λ r. BeginsWith (take n (take many first)) (value_at r.row column)) rows i d l
+    (All-weaker (λ r. BeginsWith (take many first) (value_at r.row column)) (λ r. BeginsWith (take n (take many first)) (value_at r.row column))
+    (λ r b. begins_shorter (take many first) n (value_at r.row column) b) (take i rows) h) next)
 
 -- ---- ranks
 

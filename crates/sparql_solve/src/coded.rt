@@ -5,7 +5,7 @@ ghost use Rattle.std.specs.Option.{option_copied, option_map};
 ghost use Rattle.std.specs.List.Sorted.{IsNonDecreasing};
 ghost use Rattle.sparql_values.specs.Mapping.{value_at};
 ghost use Rattle.sparql_algebra.specs.Order.{mapping_cmp};
-ghost use Rattle.sparql_solve.specs.Coded.{AreAlike, AreAlikeAt, AreRanked, HasAt, IsCoded, ShareStart, codes_of, digits, row_code, rows_of, text_of};
+ghost use Rattle.sparql_solve.specs.Coded.{AreAlike, AreAlikeAt, AreRanked, BeginsWith, HasAt, IsCoded, ShareStart, codes_of, digits, row_code, rows_of, text_of};
 
 use crate::rows::Row;
 use rdf_terms::{NoMemory, Term, same_term};
@@ -65,6 +65,17 @@ fn shared_bytes(left: &[u8], right: &[u8]) -> usize
     many
 }
 
+// How many bytes of this start the row's text at the column begins with: all, where it has none.
+fn start_in(row: &Row, column: usize, start: &[u8]) -> usize
+    ensures within { result ≤ length start.now }
+    ensures begins { BeginsWith (take result start.now) (value_at row.now column) }
+{
+    match text_at(row, column) {
+        Some(text) => shared_bytes(start, text.as_bytes()),
+        None => start.len(),
+    }
+}
+
 // How many bytes the texts of all rows at the column begin with alike.
 fn shared_start(rows: &[CodedRow], column: usize) -> usize
     ensures { ShareStart column result (rows_of rows.now) }
@@ -75,9 +86,7 @@ fn shared_start(rows: &[CodedRow], column: usize) -> usize
     let first = first.as_bytes();
     let mut many = first.len();
     for coded in rows {
-        if let Some(text) = text_at(&coded.row, column) {
-            many = shared_bytes(&first[..many], text.as_bytes());
-        }
+        many = start_in(&coded.row, column, &first[..many]);
     }
     many
 }
