@@ -1,6 +1,6 @@
 //! Many rows are sorted by codes: a code is a number that is lower where what its row has at a
 //! column comes first. Only rows with one code are looked at again.
-ghost use Rattle.std.specs.Prelude.{◌≡◌, ◌≢◌, ℕ, ◌+◌, ◌*◌, ◌^◌, ◌<◌, ◌≤◌, length, drop, take, map, slice_index, All, IfOk, IfSome, IsPermutation, IsSorted, IsTrue};
+ghost use Rattle.std.specs.Prelude.{◌≡◌, ◌≢◌, ℕ, ◌+◌, ◌*◌, ◌^◌, ◌<◌, ◌≤◌, length, drop, take, map, slice_index, All, IfOk, IfSome, IsPermutation, IsSorted, IsTrue, OnOk};
 ghost use Rattle.std.specs.Option.{option_copied, option_map};
 ghost use Rattle.std.specs.List.Sorted.{IsNonDecreasing};
 ghost use Rattle.sparql_values.specs.Mapping.{value_at};
@@ -286,34 +286,34 @@ fn sort_coded(rows: &mut [CodedRow], column: usize, levels: usize)
     sort_runs(rows, apart, left);
 }
 
-// The rows, none of which has its code yet.
-fn with_codes(alloc: Global, rows: Vec<Row>) -> Result<Vec<CodedRow>, NoMemory>
-    ensures { IfOk result (λ out. rows_of out.items ≡ rows.items) }
+// Takes the rows out of the list, none of which has its code yet. The list keeps its room.
+fn with_codes(alloc: Global, rows: &mut Vec<Row>) -> Result<Vec<CodedRow>, NoMemory>
+    ensures { IfOk result (λ out. rows_of out.items ≡ rows.old.items) }
 {
     let mut out = Vec::with_capacity(alloc, rows.len())?;
-    for row in rows {
+    for row in rows.drain(..) {
         out.push(CodedRow { code: 0, row })?;
     }
     Ok(out)
 }
 
-// The rows without their codes.
-fn without_codes(alloc: Global, coded: Vec<CodedRow>) -> Result<Vec<Row>, NoMemory>
-    ensures { IfOk result (λ out. out.items ≡ rows_of coded.items) }
+// Puts the rows without their codes into the list, in place of what it has.
+fn put_rows(coded: Vec<CodedRow>, rows: &mut Vec<Row>) -> Result<(), NoMemory>
+    ensures { OnOk result (rows.new.items ≡ rows_of coded.items) }
 {
-    let mut out = Vec::with_capacity(alloc, coded.len())?;
+    rows.clear();
     for CodedRow { code: _, row } in coded {
-        out.push(row)?;
+        rows.push(row)?;
     }
-    Ok(out)
+    Ok(())
 }
 
-/// The rows sorted by their values from the left, unbound first.
-pub(crate) fn sort_many(alloc: Global, rows: Vec<Row>) -> Result<Vec<Row>, NoMemory>
-    ensures permutation { IfOk result (λ out. IsPermutation rows.items out.items) }
-    ensures sorted { IfOk result (λ out. IsSorted mapping_cmp out.items) }
+/// Sorts the rows by their values from the left, unbound first.
+pub(crate) fn sort_many(alloc: Global, rows: &mut Vec<Row>) -> Result<(), NoMemory>
+    ensures permutation { OnOk result (IsPermutation rows.old.items rows.new.items) }
+    ensures sorted { OnOk result (IsSorted mapping_cmp rows.new.items) }
 {
     let mut coded = with_codes(alloc, rows)?;
     sort_coded(&mut coded, 0, LEVELS);
-    without_codes(alloc, coded)
+    put_rows(coded, rows)
 }

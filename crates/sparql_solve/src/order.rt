@@ -21,26 +21,26 @@ pub(crate) fn sort_mappings(mappings: &mut Vec<Mapping>) -> Result<(), NoMemory>
 // So few rows are sorted as they are.
 const FEW: usize = 20;
 
-// The rows sorted by their values from the left, unbound first.
-fn sort_rows(mut rows: Vec<Row>) -> Result<Vec<Row>, NoMemory>
-    ensures permutation { IfOk result (λ out. IsPermutation rows.items out.items) }
-    ensures sorted { IfOk result (λ out. IsSorted mapping_cmp out.items) }
+// Sorts rows by their values from the left, unbound first.
+fn sort_rows(rows: &mut Vec<Row>) -> Result<(), NoMemory>
+    ensures permutation { OnOk result (IsPermutation rows.old.items rows.new.items) }
+    ensures sorted { OnOk result (IsSorted mapping_cmp rows.new.items) }
 {
     if FEW < rows.len() {
         let alloc = *rows.allocator();
         return sort_many(alloc, rows);
     }
     rows.sort_by(|left, right| left.compare(right))?;
-    Ok(rows)
+    Ok(())
 }
 
 /// The rows sorted by their values from the left, unbound first; under DISTINCT each once.
-pub(crate) fn ordered(rows: Vec<Row>, distinct: bool) -> Result<Vec<Row>, NoMemory>
+pub(crate) fn ordered(mut rows: Vec<Row>, distinct: bool) -> Result<Vec<Row>, NoMemory>
     ensures sorted { IfOk result (λ out. IsSorted mapping_cmp out.items) }
     ensures counted { IfOk result (λ out. (m : Mapping) → count_by (same_mapping m) out.items
         ≡ times_selected distinct (count_by (same_mapping m) rows.items)) }
 {
-    let mut rows = sort_rows(rows)?;
+    sort_rows(&mut rows)?;
     if distinct {
         rows.dedup_by(|row, before| row.compare(before).is_eq());
         return Ok(rows);
