@@ -36,6 +36,34 @@ digits_below (suc n) (byte ∷ text) h =
     let first : byte + 1 ≤ 256 = omega (arith, All-head IsByte byte text h) in
     omega (arith, pow-suc 256 n, digits_below n text (All-tail IsByte byte text h), mul-le-mul_right (256 ^ n) first)
 
+digits_less : (n : ℕ) (s t : List ℕ) → All IsByte t → digits n s < digits n t → text_cmp s t ≡ Less
+unfolding digits
+digits_less zero s t h lt = absurd (omega arith)
+digits_less (suc n) [] [] h lt = absurd (omega arith)
+digits_less (suc n) [] (c ∷ t) h lt = refl
+digits_less (suc n) (b ∷ s) [] h lt = absurd (omega arith)
+digits_less (suc n) (b ∷ s) (c ∷ t) h lt =
+    by_ranked (b < c) (b ≡ c) (c < b) (nat_cmp b c) (ranked b c (nat_cmp b c) refl)
+    (λ e p. ap (λ o. ordering_then o (text_cmp s t)) e)
+    (λ e p.
+    let weight : b * 256 ^ n ≡ c * 256 ^ n = ap (λ x. x * 256 ^ n) p in
+    ap (λ o. ordering_then o (text_cmp s t)) e ∙ digits_less n s t (All-tail IsByte c t h) (omega (arith, lt, weight)))
+    (λ e p.
+    let more : c + 1 ≤ b = omega (arith, p) in
+    absurd (omega (arith, lt, digits_below n t (All-tail IsByte c t h), mul-le-mul_right (256 ^ n) more)))
+
+-- what two lists begin with alike decides nothing
+behind_same : {X : Type 0} {R : X → X → Ordering} → IsTotalOrder R → (start xs ys : List X) → slice_cmp R (start ++ xs) (start ++ ys) ≡ slice_cmp R xs ys
+behind_same o [] xs ys = refl
+behind_same {R = R} o (x ∷ start) xs ys =
+    ap (λ r. ordering_then r (slice_cmp R (start ++ xs) (start ++ ys))) (tied_itself o x) ∙ behind_same o start xs ys
+
+text_less : (start s t : List ℕ) → s ≡ start ++ drop (length start) s → t ≡ start ++ drop (length start) t → All IsByte (drop (length start) t) →
+    digits 7 (drop (length start) s) < digits 7 (drop (length start) t) → text_cmp s t ≡ Less
+text_less start s t e f h lt =
+    ap₂ text_cmp e f ∙ behind_same nat_cmp_total start (drop (length start) s) (drop (length start) t)
+    ∙ digits_less 7 (drop (length start) s) (drop (length start) t) h lt
+
 -- ---- one digit after another
 
 digits_step : (n : ℕ) (text : List ℕ) → digits (suc n) text ≡ get_or text 0 0 * 256 ^ n + digits n (drop 1 text)
@@ -79,34 +107,6 @@ number_fits number place text p h b =
     subst (λ m. number * 256 ^ m + digits m (drop place text) ≡ digits 7 text) (left_before place p) h in
     let weight : number * 256 ^ suc n ≡ number * (256 ^ n * 256) = ap (λ x. number * x) (pow-suc 256 n) in
     omega (arith, at, weight, digits_below 7 text b, mul-le-mul_left (number * 256) (power_above n))
-
-digits_less : (n : ℕ) (s t : List ℕ) → All IsByte t → digits n s < digits n t → text_cmp s t ≡ Less
-unfolding digits
-digits_less zero s t h lt = absurd (omega arith)
-digits_less (suc n) [] [] h lt = absurd (omega arith)
-digits_less (suc n) [] (c ∷ t) h lt = refl
-digits_less (suc n) (b ∷ s) [] h lt = absurd (omega arith)
-digits_less (suc n) (b ∷ s) (c ∷ t) h lt =
-    by_ranked (b < c) (b ≡ c) (c < b) (nat_cmp b c) (ranked b c (nat_cmp b c) refl)
-    (λ e p. ap (λ o. ordering_then o (text_cmp s t)) e)
-    (λ e p.
-    let weight : b * 256 ^ n ≡ c * 256 ^ n = ap (λ x. x * 256 ^ n) p in
-    ap (λ o. ordering_then o (text_cmp s t)) e ∙ digits_less n s t (All-tail IsByte c t h) (omega (arith, lt, weight)))
-    (λ e p.
-    let more : c + 1 ≤ b = omega (arith, p) in
-    absurd (omega (arith, lt, digits_below n t (All-tail IsByte c t h), mul-le-mul_right (256 ^ n) more)))
-
--- what two lists begin with alike decides nothing
-behind_same : {X : Type 0} {R : X → X → Ordering} → IsTotalOrder R → (start xs ys : List X) → slice_cmp R (start ++ xs) (start ++ ys) ≡ slice_cmp R xs ys
-behind_same o [] xs ys = refl
-behind_same {R = R} o (x ∷ start) xs ys =
-    ap (λ r. ordering_then r (slice_cmp R (start ++ xs) (start ++ ys))) (tied_itself o x) ∙ behind_same o start xs ys
-
-text_less : (start s t : List ℕ) → s ≡ start ++ drop (length start) s → t ≡ start ++ drop (length start) t → All IsByte (drop (length start) t) →
-    digits 7 (drop (length start) s) < digits 7 (drop (length start) t) → text_cmp s t ≡ Less
-text_less start s t e f h lt =
-    ap₂ text_cmp e f ∙ behind_same nat_cmp_total start (drop (length start) s) (drop (length start) t)
-    ∙ digits_less 7 (drop (length start) s) (drop (length start) t) h lt
 
 -- ---- values
 
