@@ -8,7 +8,9 @@ use Rattle.std.specs.List.{onto_first}
 use Rattle.rdf_lines.specs.Pieces.{onto, Hold, feed_len, Held, TakesPart, HasLine, HasNoLine, ahead, room}
 use Rattle.rdf_lines.specs.declared.cut.Place.{Place}
 use Rattle.std.specs.Prelude.{Result, Ok, Err, is_ok, is_err}
-use Rattle.memchr.specs.Find.{NoneBefore, Nowhere, Passes, is_byte2}
+use Rattle.std.specs.List.{position, position_or_len}
+use Rattle.std.proofs.lemmas.List.Quantifiers.{position-Some}
+use Rattle.std.proofs.lemmas.List.Sums.{fails_before_first}
 use Rattle.rdf_lines.specs.FaultName.{no_memory}
 
 pub advanced : (xs : List ℕ) (s e n : ℕ) → s ≤ e → n ≤ length (take (e - s) (drop s xs)) → take (e - (s + n)) (drop (s + n) xs) ≡ drop n (take (e - s) (drop s xs))
@@ -98,12 +100,6 @@ front_in behind (b ∷ bs) f h p none tail = by (behind && is_line_feed b) refl 
     by true is (suc (suc n)) p none = absurd (omega (arith, p))
     by false is zero p none = not_feed behind b (bs ++ tail) is ∙ all (b ∷ bs) none
     by false is (suc n) p none = absurd (omega (arith, p))
-
--- ---- what memchr finds
-
-not_true : (b : Bool) → ¬ (b ≡ true) → b ≡ false
-not_true true h = absurd (h refl)
-not_true false h = refl
 
 pub kept_ok : {A E X : Type 0} (r : Result A E) (x a b : X) → is_err r ≡ false → x ≡ cond (is_ok r) a b → x ≡ a
 kept_ok (Ok v) x a b e h = h
@@ -253,15 +249,16 @@ stops start beyond b c d old new read line grown p q t =
 
 -- ---- a line that lies whole in a piece
 
-pub line_at : (behind by : Bool) (piece rest : List ℕ) (f i : ℕ) → f ≡ feed_len behind piece → rest ≡ drop f piece → NoneBefore (Passes (is_byte2 10 13) rest) 0 (length rest) i → Passes (is_byte2 10 13) rest i
+pub line_at : (behind by : Bool) (piece rest : List ℕ) (f i : ℕ) → f ≡ feed_len behind piece → rest ≡ drop f piece → Some i ≡ position is_line_end rest
     → by ≡ is_return (get_or rest i 0) → HasLine behind piece (record { start = f; end = f + i; by_return = by })
-line_at behind by piece rest f i is_feed is_rest none here is_by = (
-  omega arith,
-  (let l : length rest ≡ length piece - f = ap length is_rest ∙ length-drop f piece in omega (arith, none.high)),
-  subst (λ b. Hold behind (take (f + i + 1) piece) (slice_range piece f (f + i) ∷ []) [] b) (sym is_by)
-      (subst (λ r. i < length r → NoEndBefore i r → is_line_end (get_or r i 0) ≡ true → Hold behind (take (f + i + 1) piece) (slice_range piece f (f + i) ∷ []) [] (is_return (get_or r i 0))) (sym is_rest) at_rest
-      none.high (λ j l. not_true _ (none.before j (omega arith) l)) here),
-)
+line_at behind by piece rest f i is_feed is_rest first is_by =
+    let (inside, end, none) = position-Some is_line_end rest i 0 (sym first) in (
+      omega arith,
+      (let l : length rest ≡ length piece - f = ap length is_rest ∙ length-drop f piece in omega (arith, inside)),
+      subst (λ b. Hold behind (take (f + i + 1) piece) (slice_range piece f (f + i) ∷ []) [] b) (sym is_by)
+          (subst (λ r. i < length r → NoEndBefore i r → is_line_end (get_or r i 0) ≡ true → Hold behind (take (f + i + 1) piece) (slice_range piece f (f + i) ∷ []) [] (is_return (get_or r i 0))) (sym is_rest) at_rest
+          inside none end),
+    )
   where
     at_rest : i < length (drop f piece) → NoEndBefore i (drop f piece) → is_line_end (get_or (drop f piece) i 0) ≡ true
         → Hold behind (take (f + i + 1) piece) (slice_range piece f (f + i) ∷ []) [] (is_return (get_or (drop f piece) i 0))
@@ -270,6 +267,8 @@ line_at behind by piece rest f i is_feed is_rest none here is_by = (
         ∙ ap (λ m. take m (drop f piece) ∷ lines_behind (is_return (get_or (drop f piece) i 0)) tail) (let q : i ≡ (f + i) - f = omega arith in q)
 
 -- a piece that has no line whole
-pub front_only : (behind : Bool) (piece rest : List ℕ) (f : ℕ) → f ≡ feed_len behind piece → rest ≡ drop f piece → Nowhere (Passes (is_byte2 10 13) rest) 0 (length rest) → HasNoLine behind piece
+pub front_only : (behind : Bool) (piece rest : List ℕ) (f : ℕ) → f ≡ feed_len behind piece → rest ≡ drop f piece → None ≡ position is_line_end rest → HasNoLine behind piece
 front_only behind piece rest f is_feed is_rest none some =
-    subst (λ k. Hold behind piece [] (drop k piece) false) is_feed (front_in behind piece f some is_feed (subst (λ r. NoEndBefore (length r) r) is_rest (λ j l. not_true _ (none j (omega arith) l))))
+    let all : length rest ≤ position_or_len is_line_end rest = grind (arith, none) in
+    subst (λ k. Hold behind piece [] (drop k piece) false) is_feed
+    (front_in behind piece f some is_feed (subst (λ r. NoEndBefore (length r) r) is_rest (λ j l. fails_before_first is_line_end rest j 0 (omega (arith, all, l)))))

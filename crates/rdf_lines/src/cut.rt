@@ -4,7 +4,7 @@ ghost use Rattle.rdf_lines.specs.Pieces.{ahead, room, feed_len, Fills, TakesPart
 
 use crate::fault::FaultKind;
 use crate::pieces::Pieces;
-use memchr::memchr2;
+use rdf_terms::line_stop;
 use std::io::Read;
 
 /// How a line was cut.
@@ -57,7 +57,7 @@ pub fn whole_line(piece: &[u8], behind_return: bool) -> Option<Place>
 {
     let start = feed_len(piece, behind_return);
     let rest = piece.split_at(start).1;
-    match memchr2(b'\n', b'\r', rest) {
+    match line_stop(rest) {
         Some(i) => Some(Place {
             start,
             end: start + i,

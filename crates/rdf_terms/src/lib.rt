@@ -59,6 +59,7 @@ pub use resolution_laws::{
     components_are_unique, dots_are_removed, dots_before_slashes, one_reference_meaning,
     reference_examples_hold, segments_are_the_path,
 };
+pub use runs::line_stop;
 pub use table::{TermId, TermTable, terms_are_held_once};
 pub use tag::tags_are_read;
 pub use term::{Term, compare_terms, same_term};

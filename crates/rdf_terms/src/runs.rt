@@ -1,7 +1,8 @@
-//! Runs of bytes that stand for themselves.
+//! Runs of bytes that stand for themselves, and lines.
 ghost use Rattle.std.specs.Prelude.{◌≡◌, ◌+◌, ◌<◌, ◌≤◌, ℕ, Bool, map, drop, length, position, take, IfSome};
 ghost use Rattle.std.specs.Simd.Lanes.{mask_l};
 ghost use Rattle.rdf_terms.specs.Iri.{is_forbidden};
+ghost use Rattle.rdf_terms.specs.LineEnds.{is_line_end};
 ghost use Rattle.rdf_terms.specs.Runs.{ends_run};
 
 use crate::iri::is_forbidden;
@@ -21,6 +22,14 @@ pub fn string_stop(text: &[u8], quote: u8) -> Option<usize>
     ensures within { IfSome result (λ n. n < length text.now) }
 {
     first_stop(&StringStops { quote }, text)
+}
+
+/// Where the first LF or CR stands, of which line ends are made (RDF 1.1 N-Triples, section 7, EOL).
+pub fn line_stop(text: &[u8]) -> Option<usize>
+    ensures first { result ≡ position is_line_end text.now }
+    ensures within { IfSome result (λ n. n < length text.now) }
+{
+    first_stop(&LineStops, text)
 }
 
 // How many bytes are tested at once.
@@ -123,5 +132,23 @@ impl Stops for StringStops {
             | bytes.simd_eq(u8x16::splat(self.quote))
             | bytes.simd_eq(u8x16::splat(b'\n'))
             | bytes.simd_eq(u8x16::splat(b'\r'))).to_bitmask()
+    }
+}
+
+// What line ends are made of.
+#[derive(Drop)]
+struct LineStops;
+
+impl Stops for LineStops {
+    ghost ends = { λ _. is_line_end };
+
+    #[inline(always)]
+    fn is_stop(&self, byte: u8) -> bool {
+        matches!(byte, b'\n' | b'\r')
+    }
+
+    #[inline(always)]
+    fn stops_among(&self, bytes: u8x16) -> u64 {
+        (bytes.simd_eq(u8x16::splat(b'\n')) | bytes.simd_eq(u8x16::splat(b'\r'))).to_bitmask()
     }
 }
