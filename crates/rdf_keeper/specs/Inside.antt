@@ -2,6 +2,7 @@
 pub mod Asks
 pub mod Once
 pub mod Outcomes
+pub mod Starting
 pub mod Starts
 pub mod Told
 pub mod Says

@@ -22,9 +22,9 @@ pub use law::{
     the_status_tells_the_end,
 };
 pub use program::{Folder, start, start_over};
-pub use rdf_lines::StateFault;
+pub use rdf_lines::{LineFormat, StateFault};
 pub use rdf_session::{
-    Answer, Counts, Format, Keeper, KeeperFault, a_load_is_insert_data,
+    Answer, Counts, FedStart, Format, Keeper, KeeperFault, a_load_is_insert_data,
     a_rollback_gives_back_its_mark, a_saved_state_comes_back, one_reply, standing_requests,
     the_headline, the_promise_goes_on, undo_gives_back,
 };

@@ -21,15 +21,17 @@ mod once;
 mod once_words;
 mod outcome;
 mod several;
+mod starting;
 mod watch;
 mod words;
 
 use crate::program::check::check_words;
-use crate::program::data::{begun, bounded, depth_of};
+use crate::program::data::{bounded, depth_of};
 pub use crate::program::folder::Folder;
 use crate::program::folder::HostFolder;
 use crate::program::once::{query_words, update_words};
 use crate::program::outcome::{Outcome, outcome_of, report};
+use crate::program::starting::begun;
 use crate::program::watch::{Progress, silent};
 use crate::program::words::{Asked, ConvertWords, RunWords, WordsFault, read_words};
 use crate::script::{Settings, Status, run};

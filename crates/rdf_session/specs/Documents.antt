@@ -2,6 +2,7 @@
 use Rattle.std.specs.Prelude.{ℕ, List, Option, Some, None}
 use Rattle.rdf_terms.specs.Quad.{QuadParts}
 use Rattle.rdf_lines.specs.Document as lines
+use Rattle.rdf_lines.specs.declared.format.LineFormat.{LineFormat}
 use Rattle.rdf_lines.specs.declared.format.LineFormat.TheVariants as line
 use Rattle.rdf_turtle.specs.Document as turtle
 use Rattle.rdf_session.specs.declared.fault.KeeperFault.{KeeperFault}
@@ -21,3 +22,8 @@ IsFaulty NQuads base text (fault.Line at) = (quads : List QuadParts) × lines.Is
 IsFaulty NTriples base text (fault.Line at) = (quads : List QuadParts) × lines.IsDocument line.NTriples text quads (Some at)
 IsFaulty Turtle base text (fault.Turtle at) = turtle.IsFaulty base text at
 IsFaulty format base text _ = ⊥
+
+-- the format of documents that a format of lines is
+abbrev pub of_lines : LineFormat → Format
+of_lines line.NQuads = NQuads
+of_lines line.NTriples = NTriples

@@ -7,6 +7,7 @@ pub mod Counted
 pub mod Depth
 pub mod Documents
 pub mod Faults
+pub mod FedStart
 pub mod Forgets
 pub mod GivesBack
 pub mod Headline

@@ -5,7 +5,7 @@ ghost use Rattle.std.specs.List.{AllByRecursion, concat};
 ghost use Rattle.rdf_dataset.specs.State.{Begins, empty_state, IsSound, State, net_between};
 ghost use Rattle.rdf_session.specs.Beginning.{BeginsWithLoad};
 ghost use Rattle.rdf_session.specs.Depth.{greatest_depth, is_past};
-ghost use Rattle.rdf_session.specs.Documents.{IsDocument};
+ghost use Rattle.rdf_session.specs.Documents.{IsDocument, of_lines};
 ghost use Rattle.rdf_session.specs.GivesBack.{IsWholeSession};
 ghost use Rattle.rdf_session.specs.History.{marks_behind, nothing};
 ghost use Rattle.rdf_session.specs.Inside.Spans.{no_span};
@@ -18,9 +18,11 @@ ghost use Rattle.rdf_session.specs.Request.{Load, Update};
 ghost use Rattle.rdf_session.specs.Saved.{IsTextOf, Restores};
 ghost use Rattle.rdf_session.specs.Session.{Commit, Do, Done, Mark, Redo, Rollback, Session, Transition, Undo, accepted, all_states, counts_between, fresh, now, reply_of, reply_of_mark, with_depth};
 ghost use Rattle.rdf_session.specs.Faults.{no_memory};
+ghost use Rattle.rdf_session.specs.declared.format.Format.TheVariants.{Turtle};
 
 use crate::between::{composed, size_between, size_of};
 use crate::fault::{Counts, KeeperFault};
+use crate::fed_start::FedStart;
 use crate::format::Format;
 use crate::lines::write_lines;
 use crate::load::{read, stage};
@@ -28,10 +30,10 @@ use crate::marks::Marks;
 use crate::query::{Answer, evaluate, read_text};
 use crate::saved::{restored, restored_text, save};
 use crate::span::Span;
-use crate::start::begin;
+use crate::start::begin_in_turtle;
 use crate::update::{read_request, stage_request};
 use rdf_dataset::{Dataset, Net, Source};
-use rdf_lines::StateFault;
+use rdf_lines::{LineFormat, StateFault};
 use rdf_terms::{Iri, NoMemory as NoMemoryFault, Quad, Term, Vocabulary};
 use sparql_results::ResultsFormat;
 use std::alloc::Global;
@@ -114,7 +116,40 @@ impl Keeper {
     ) -> Result<Keeper, KeeperFault>
         ensures { BeginsWithLoad format base text.items result }
     {
-        match begin(alloc, format, text, base.as_ref()) {
+        match format {
+            Format::NQuads => Keeper::begun_with_lines(alloc, base, LineFormat::NQuads, text),
+            Format::NTriples => Keeper::begun_with_lines(alloc, base, LineFormat::NTriples, text),
+            Format::Turtle => Keeper::begun_with_turtle(alloc, base, text),
+        }
+    }
+
+    // The same of a document of lines, which is fed in one piece.
+    fn begun_with_lines(
+        alloc: Global,
+        base: Option<Iri>,
+        format: LineFormat,
+        text: Vec<u8>,
+    ) -> Result<Keeper, KeeperFault>
+        ensures { BeginsWithLoad (of_lines format) base text.items result }
+    {
+        match FedStart::new(alloc, base, format).feed(text.as_slice()) {
+            Ok(start) => {
+                drop(text);
+                start.end()
+            }
+            Err(fault) => Err(fault),
+        }
+    }
+
+    // And of one of Turtle.
+    fn begun_with_turtle(
+        alloc: Global,
+        base: Option<Iri>,
+        text: Vec<u8>,
+    ) -> Result<Keeper, KeeperFault>
+        ensures { BeginsWithLoad Turtle base text.items result }
+    {
+        match begin_in_turtle(alloc, text, base.as_ref()) {
             Ok(dataset) => Ok(Keeper::over(alloc, dataset, base)),
             Err(fault) => Err(fault),
         }

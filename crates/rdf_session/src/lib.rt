@@ -7,7 +7,9 @@
 
 mod between;
 mod fault;
+mod fed_start;
 mod format;
+mod gathering;
 mod keeper;
 mod law;
 mod lines;
@@ -22,6 +24,7 @@ mod start;
 mod update;
 
 pub use fault::{Counts, KeeperFault};
+pub use fed_start::FedStart;
 pub use format::Format;
 pub use keeper::Keeper;
 pub use law::{

@@ -6,7 +6,7 @@ ghost use Rattle.rdf_lines.specs.Document as lines;
 ghost use Rattle.rdf_turtle.specs.Document as turtle;
 ghost use Rattle.rdf_session.specs.Documents.{IsDocument};
 ghost use Rattle.rdf_session.specs.Request.{blank_limit, graph_limit, quad_limit, term_limit};
-ghost use Rattle.rdf_session.specs.Inside.Staging.{Stages, TellsFault, TellsLineFault, TellsTurtleFault, turtle_refusal};
+ghost use Rattle.rdf_session.specs.Inside.Staging.{Stages, TellsFault, TellsLineFault, TellsTurtleFault, line_refusal, turtle_refusal};
 
 use crate::fault::KeeperFault;
 use crate::format::Format;
@@ -40,7 +40,8 @@ fn graph_limit(graph: &GraphName) -> u64
     }
 }
 
-fn quad_limit(quad: &Quad) -> u64
+/// The least number above those of the blank nodes of the quad.
+pub(crate) fn quad_limit(quad: &Quad) -> u64
     ensures { result ≡ min (quad_limit quad.now) (last_number + 1) }
 {
     let graph = graph_limit(quad.graph());
@@ -61,6 +62,20 @@ pub(crate) fn blank_limit(quads: &[Quad]) -> u64
     limit
 }
 
+/// The refusal that a fault of a line is.
+pub(crate) fn line_refusal(fault: LineFault) -> KeeperFault
+    ensures { result ≡ line_refusal fault fault.kind }
+{
+    match fault.kind {
+        FaultKind::NoMemory(refused) => KeeperFault::NoMemory(refused),
+        FaultKind::NotUtf8
+        | FaultKind::Syntax
+        | FaultKind::Relative
+        | FaultKind::Read
+        | FaultKind::Failed => KeeperFault::Line(fault),
+    }
+}
+
 // The quads of a text of lines.
 fn read_in_lines(alloc: Global, format: LineFormat, text: &[u8]) -> Result<Vec<Quad>, KeeperFault>
     ensures { MatchResult result
@@ -69,13 +84,7 @@ fn read_in_lines(alloc: Global, format: LineFormat, text: &[u8]) -> Result<Vec<Q
 {
     match read_lines(alloc, format, text) {
         Ok(quads) => Ok(quads),
-        Err(
-            LineFault {
-                kind: FaultKind::NoMemory(refused),
-                ..
-            },
-        ) => Err(KeeperFault::NoMemory(refused)),
-        Err(fault) => Err(KeeperFault::Line(fault)),
+        Err(fault) => Err(line_refusal(fault)),
     }
 }
 
@@ -93,8 +102,12 @@ fn turtle_refusal(fault: TurtleFault) -> KeeperFault
     }
 }
 
-// The quads of a text of Turtle.
-fn read_in_turtle(alloc: Global, text: &[u8], base: Option<&Iri>) -> Result<Vec<Quad>, KeeperFault>
+/// The quads of a text of Turtle.
+pub(crate) fn read_in_turtle(
+    alloc: Global,
+    text: &[u8],
+    base: Option<&Iri>,
+) -> Result<Vec<Quad>, KeeperFault>
     ensures { MatchResult result
         (λ quads. turtle.IsDocument (option_copied base.entry) text.now quads.items)
         (λ fault. TellsTurtleFault (option_copied base.entry) text.now fault) }

@@ -1,93 +1,90 @@
-//! The dataset that a document makes, where a session begins with it: no net is made.
-ghost use Rattle.std.specs.Prelude.{◌≡◌, ◌≤◌, ◌-◌, length, slice_get, Some, IfOk, IsTrue, OnOk};
-ghost use Rattle.std.specs.FinSet as set;
-ghost use Rattle.std.specs.List.{AllByRecursion, flat_map};
+//! The dataset that a document makes, where a session begins with it: no net is made, and its quads are put in one by one.
+ghost use Rattle.std.specs.Prelude.{◌≡◌, ◌∷◌, ◌++◌, [], OnOk};
 ghost use Rattle.std.specs.Option.{option_copied};
-ghost use Rattle.rdf_terms.specs.Below.{AreBelow};
-ghost use Rattle.rdf_terms.specs.Order.{term_cmp};
-ghost use Rattle.rdf_terms.specs.Quad.{is_quad};
-ghost use Rattle.rdf_dataset.specs.Insertion.{names_in, with_data};
-ghost use Rattle.rdf_dataset.specs.State.{empty_state, last_number, with_graph};
 ghost use Rattle.rdf_session.specs.Inside.Starting.{BeginsAt, Starts};
+ghost use Rattle.rdf_session.specs.declared.format.Format.TheVariants.{Turtle};
 
 use crate::fault::KeeperFault;
-use crate::format::Format;
-use crate::load::{LAST_NUMBER, blank_limit, read};
+use crate::gathering::Gathering;
+use crate::load::{LAST_NUMBER, quad_limit, read_in_turtle};
 use rdf_dataset::Dataset;
-use rdf_terms::{GraphName, Iri, NoMemory, Quad, Term};
+use rdf_terms::{Iri, NoMemory, Quad};
 use std::alloc::Global;
+use std::marker::Model;
 
-// Whether the name is the last of these.
-fn is_last(names: &[Term], name: &Term) -> bool
-    ensures { IsTrue result → slice_get names.now (length names.now - 1) ≡ Some name.now }
-{
-    match names.last() {
-        Some(last) => *last == *name,
-        None => false,
-    }
+/// The quads of a document, from which a session begins. A contract sees the list of the quads.
+#[derive(Drop)]
+pub(crate) struct StartQuads {
+    quads: Gathering,
+    // the least number above those of their blank nodes, up to the last number and one more
+    blanks: u64,
 }
 
-// Puts the name of a graph behind others, unless it is the last of them.
-fn add_name(names: &mut Vec<Term>, graph: &GraphName) -> Result<(), NoMemory>
-    ensures { OnOk result (set.from_list {R = term_cmp} names.new.items
-        ≡ with_graph (set.from_list names.old.items) graph.now) }
-{
-    let GraphName::Named(name) = graph else {
-        return Ok(());
-    };
-    if is_last(names, name) {
-        return Ok(());
-    }
-    let added = name.copy()?;
-    names.push(added)?;
-    Ok(())
+impl Model for StartQuads {
+    ghost use Rattle.std.specs.Prelude.{◌≡◌, ◌+◌, List, min};
+    ghost use Rattle.rdf_dataset.specs.State.{last_number};
+    ghost use Rattle.rdf_session.specs.Request.{blank_limit};
+    ghost use Rattle.rdf_terms.specs.Quad.{QuadParts};
+
+    ghost Value = { List QuadParts };
+
+    ghost view = { λ start. start.quads };
+
+    ghost invariant = { λ start. start.blanks ≡ min (blank_limit start.quads) (last_number + 1) };
 }
 
-// The names of the graphs of quads. That of neighbours stands there once.
-fn graph_names(alloc: Global, quads: &[Quad]) -> Result<Vec<Term>, NoMemory>
-    ensures names { IfOk result (λ names. set.from_list {R = term_cmp} names.items
-        ≡ set.from_list (flat_map names_in quads.now)) }
-    ensures sound { OnOk result (AllByRecursion (λ q. IsTrue (is_quad q)) quads.now) }
-{
-    let mut names = Vec::new(alloc);
-    for quad in quads {
-        add_name(&mut names, quad.graph())?;
+impl StartQuads {
+    /// No quads. It takes no memory.
+    pub(crate) fn new(alloc: Global) -> StartQuads
+        ensures { result ≡ [] }
+    {
+        StartQuads {
+            quads: Gathering::new(alloc),
+            blanks: 0,
+        }
     }
-    Ok(names)
-}
 
-// The dataset that quads make of an empty one. Their blank nodes have the numbers below `blanks`.
-fn dataset_of(alloc: Global, quads: &[Quad], blanks: u64) -> Result<Dataset, NoMemory>
-    requires below { AreBelow blanks quads.now }
-    requires limit { blanks ≤ last_number }
-    ensures { IfOk result (λ dataset. dataset ≡ with_data (empty_state 0) quads.now blanks) }
-{
-    let names = graph_names(alloc, quads)?;
-    Dataset::from_state(alloc, blanks, &names, quads)
+    /// Puts the quad behind the others.
+    pub(crate) fn push(&mut self, quad: Quad) -> Result<(), NoMemory>
+        ensures { OnOk result (self.new ≡ self.old ++ quad ∷ []) }
+    {
+        let limit = quad_limit(&quad);
+        self.quads.push(quad)?;
+        self.blanks = self.blanks.max(limit);
+        Ok(())
+    }
+
+    /// The dataset that a load of these quads makes of an empty one.
+    pub(crate) fn into_dataset(self) -> Result<Dataset, KeeperFault>
+        ensures { Starts self result }
+    {
+        if self.blanks > LAST_NUMBER {
+            return Err(KeeperFault::BlankNumbers);
+        }
+        Ok(self.quads.into_dataset(self.blanks)?)
+    }
 }
 
 // The dataset that a load of the quads makes of an empty one.
 fn started(alloc: Global, quads: Vec<Quad>) -> Result<Dataset, KeeperFault>
     ensures { Starts quads.items result }
 {
-    let blanks = blank_limit(quads.as_slice());
-    if blanks > LAST_NUMBER {
-        return Err(KeeperFault::BlankNumbers);
+    let mut start = StartQuads::new(alloc);
+    for quad in quads {
+        start.push(quad)?;
     }
-    Ok(dataset_of(alloc, quads.as_slice(), blanks)?)
+    start.into_dataset()
 }
 
-/// The dataset that a load of a text makes of an empty one. No net is made, since nothing is undone, and the text is
-/// let go as soon as it is read.
-pub(crate) fn begin(
+/// The dataset that a load of a text of Turtle makes of an empty one. The text is let go as soon as it is read.
+pub(crate) fn begin_in_turtle(
     alloc: Global,
-    format: Format,
     text: Vec<u8>,
     base: Option<&Iri>,
 ) -> Result<Dataset, KeeperFault>
-    ensures { BeginsAt format (option_copied base.entry) text.items result }
+    ensures { BeginsAt Turtle (option_copied base.entry) text.items result }
 {
-    match read(alloc, format, text.as_slice(), base) {
+    match read_in_turtle(alloc, text.as_slice(), base) {
         Ok(quads) => {
             drop(text);
             started(alloc, quads)

@@ -48,6 +48,10 @@ module _ {Folder : Type 0} (step : Folder → Opening → Folder → Type 0) whe
   Begins format None base = Stays (IsFresh base)
   Begins format (Some path) base = Then (ReadsFile step path) (λ text. Stays (BeginsOver format base text))
 
+  -- the same, where standard input may be named
+  abbrev pub BeginsNamed : StartFormat → List ℕ → Option (List ℕ) → Part (Folder × Option (List ℕ)) Session
+  BeginsNamed format path base = Then (ReadsNamed step path) (λ text. Stays (BeginsOver format base text))
+
   -- that of a script
   abbrev pub BeginsRun : RunWords → Part Folder Session
   BeginsRun words =

@@ -1,7 +1,7 @@
 //! The session that a run begins with.
 ghost use Rattle.std.specs.Prelude.{◌≡◌, ◌≢◌, None, IfOk, IfErr, Err};
 ghost use Rattle.std.specs.Option.{option_copied};
-ghost use Rattle.rdf_keeper.specs.Program.Sessions.{Begins, BeginsOver, GivesDepth, LoadsOne};
+ghost use Rattle.rdf_keeper.specs.Program.Sessions.{BeginsOver, GivesDepth, LoadsOne};
 ghost use Rattle.rdf_keeper.specs.Program.Stages.{mapped};
 ghost use Rattle.rdf_keeper.specs.Program.Texts.{ReadsAll, ReadsFile, ReadsNamed};
 ghost use Rattle.rdf_keeper.specs.Inside.Outcomes.{status_of};
@@ -120,8 +120,8 @@ pub(crate) fn over_read(
     }
 }
 
-// All that a reader has left.
-fn all_of<R: Read>(alloc: Global, reader: &mut R) -> Result<Vec<u8>, Outcome>
+/// All that a reader has left.
+pub(crate) fn all_of<R: Read>(alloc: Global, reader: &mut R) -> Result<Vec<u8>, Outcome>
     ensures whole { ReadsAll (R.remaining reader.old) (mapped (λ text. text.items) result) }
     ensures told { IfErr result (λ outcome. status_of outcome ≢ 2) }
 {
@@ -170,24 +170,4 @@ pub(crate) fn text_named<F: Folder, R: Read, P: Write>(
         return all_of(alloc, &mut progress.watch(reader));
     }
     text_of(alloc, folder, path, progress)
-}
-
-/// A session without history over the data of a file, or over none.
-pub(crate) fn begun<F: Folder, P: Write>(
-    alloc: Global,
-    folder: &mut F,
-    base: Option<Iri>,
-    path: Option<&str>,
-    format: StartFormat,
-    progress: &mut Progress<P>,
-) -> Result<Keeper, Outcome>
-    ensures begins { Begins F.step format (option_copied path.entry) base folder.old result
-        folder.new }
-    ensures unbounded { IfOk result (λ keeper. keeper.depth ≡ None) }
-    ensures without_history { IfOk result (λ keeper. keeper.states ≡ nothing) }
-{
-    match path {
-        None => Ok(Keeper::new(alloc, base)),
-        Some(path) => over_read(alloc, base, format, text_of(alloc, folder, path, progress)),
-    }
 }

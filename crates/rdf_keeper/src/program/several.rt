@@ -2,10 +2,11 @@
 ghost use Rattle.rdf_keeper.specs.Program.Sessions.{BeginsAll, BeginsFirst, LoadsFurther};
 ghost use Rattle.rdf_keeper.specs.Program.Stages.{mapped};
 
-use crate::program::data::{load_start, over_read, text_named};
+use crate::program::data::{load_start, text_named};
 use crate::program::folder::Folder;
 use crate::program::once_words::{DataWords, DocumentWord, StartWord};
 use crate::program::outcome::Outcome;
+use crate::program::starting::begun_by_named;
 use crate::program::watch::Progress;
 use rdf_session::Keeper;
 use rdf_terms::Iri;
@@ -66,10 +67,15 @@ fn begun_first<F: Folder, R: Read, P: Write>(
 {
     match first {
         None => Ok(Keeper::new(alloc, base)),
-        Some(word) => {
-            let read = text_named(alloc, folder, word.path, reader, progress);
-            over_read(alloc, base, word.format, read)
-        }
+        Some(word) => begun_by_named(
+            alloc,
+            folder,
+            base,
+            word.path,
+            word.format,
+            reader,
+            progress,
+        ),
     }
 }
 

@@ -3,6 +3,9 @@ use Rattle.std.specs.Prelude.{◌≡◌, ◌+◌, ◌<◌, ◌≤◌, ℕ, List,
 use Rattle.rdf_dataset.specs.State.{State, Change, IsSound, net_between, last_number}
 use Rattle.rdf_terms.specs.Quad.{QuadParts}
 use Rattle.rdf_lines.specs.Document as lines
+use Rattle.rdf_lines.specs.declared.fault.FaultKind.{FaultKind}
+use Rattle.rdf_lines.specs.declared.fault.FaultKind.TheVariants as line
+use Rattle.rdf_lines.specs.declared.fault.LineFault.{LineFault}
 use Rattle.rdf_lines.specs.declared.format.LineFormat.{LineFormat}
 use Rattle.rdf_turtle.specs.Document as turtle
 use Rattle.rdf_turtle.specs.declared.fault.TurtleFault.{TurtleFault}
@@ -33,6 +36,15 @@ abbrev pub TellsLineFault : LineFormat → List ℕ → KeeperFault → Type 0
 TellsLineFault format text (NoMemory _) = Unit {0}
 TellsLineFault format text (Line fault) = (quads : List QuadParts) × lines.IsDocument format text quads (Some fault)
 TellsLineFault format text _ = ⊥
+
+-- the refusal that a fault of a line is, by its kind
+abbrev pub line_refusal : LineFault → FaultKind → KeeperFault
+line_refusal fault (line.NoMemory refused) = NoMemory refused
+line_refusal fault line.NotUtf8 = Line fault
+line_refusal fault line.Syntax = Line fault
+line_refusal fault line.Relative = Line fault
+line_refusal fault line.Read = Line fault
+line_refusal fault line.Failed = Line fault
 
 -- and of one of Turtle
 abbrev pub TellsTurtleFault : Option (List ℕ) → List ℕ → KeeperFault → Type 0
