@@ -2,3 +2,4 @@ pub mod OrderLemmas
 pub mod ProgramLemmas
 pub mod ScriptLemmas
 pub mod SeveralLemmas
+mod StartingLemmas

@@ -1,6 +1,6 @@
--- What is written of an ending, and how a session begins.
-use Rattle.std.proofs.Common.{◌≡◌, ◌≢◌, append_assoc, ◌∙◌, refl, sym, ap, subst, inl, inr, ℕ, true, false, List, [], ◌∷◌, ◌++◌, append-nil, Option, None}
-use Rattle.std.specs.Prelude.{Result, Ok, Err, IfOk, IfErr, is_err}
+-- What is written of an ending.
+use Rattle.std.proofs.Common.{◌≡◌, ◌≢◌, append_assoc, ◌∙◌, refl, sym, ap, subst, ℕ, true, false, List, [], ◌∷◌, ◌++◌, append-nil, Option, None}
+use Rattle.std.specs.Prelude.{Result, Ok, Err, is_err}
 use Rattle.std.specs.Io.KnownBytes.{Appends}
 use Rattle.rdf_streams.specs.Streams.{WritesTo}
 use Rattle.rdf_keeper.specs.Inside.Outcomes.{TellsEnding, status_of, error_line}
@@ -8,13 +8,7 @@ use Rattle.rdf_keeper.specs.Inside.Told.{IsShown}
 use Rattle.rdf_streams.specs.declared.streams.writing.WriteFault.{WriteFault}
 use Rattle.rdf_keeper.specs.declared.program.outcome.Outcome.{Outcome}
 use Rattle.rdf_keeper.specs.declared.program.outcome.Outcome.TheVariants.{Done, SomeRefused, BadDocument, BadText, BadWords, BadBase, BadData, NotState, ReadFailed, WriteFailed, NoMemory, ParserNoMemory}
-use Rattle.rdf_session.specs.History.{nothing}
 use Rattle.rdf_session.specs.Session.{Session, with_depth}
-use Rattle.rdf_keeper.specs.Inside.Starts.{BeginsWith}
-use Rattle.rdf_keeper.specs.Program.Sessions.{BeginsOver}
-use Rattle.rdf_keeper.specs.Program.Stages.{Part, Stays, Then, mapped}
-use Rattle.rdf_keeper.specs.declared.program.words.StartFormat.{StartFormat}
-use Rattle.rdf_keeper.specs.declared.program.words.StartFormat.TheVariants.{Document, State}
 use Rattle.rdf_streams.proofs.StreamLemmas.{Appends-chain}
 
 pub as_far : (before after : Option (List ℕ)) (text want : List ℕ) (r : Result (Unit {0}) WriteFault) → text ≡ want → WritesTo before text r after → (front more : List ℕ) × (want ≡ front ++ more) × Appends before after front
@@ -86,31 +80,7 @@ second_cut before mid after text xs ys (Err f) is e w cut = cc
 second_cut before mid after text xs ys (Ok u) is e w (front, more, parts, some, wrote) =
     (xs ++ front, more, ap (λ t. xs ++ t) parts ∙ sym (append_assoc xs front more), some, Appends-chain before mid after xs front (subst (Appends before mid) is w) wrote)
 
--- ---- how a session begins
-
-begins_without_history : (format : StartFormat) (base : Option (List ℕ)) (text : List ℕ) (start : Session) → BeginsWith format base text start → start.states ≡ nothing
-begins_without_history (Document format) base text start b = ap (λ (s : Session). s.states) b.3
-begins_without_history State base text start b = ap (λ (s : Session). s.states) b.3
-
-begins_unbounded : (format : StartFormat) (base : Option (List ℕ)) (text : List ℕ) (start : Session) → BeginsWith format base text start → start.depth ≡ None
-begins_unbounded (Document format) base text start b = ap (λ (s : Session). s.depth) b.3 ∙ ap (λ (s : Session). s.depth) b.2.2
-begins_unbounded State base text start b = ap (λ (s : Session). s.depth) b.3
-
--- first a text is read, and then the session begins over it
-pub begun_over_read : {S Text : Type 0} (format : StartFormat) (base : Option (List ℕ)) (read : Result Text Outcome) (bytes : Text → List ℕ) (reads : Part S (List ℕ)) (old new : S) (result : Result Session Outcome)
-    → reads old (mapped bytes read) new → IfOk read (λ text. BeginsOver format base (bytes text) result) → IfErr read (λ outcome. result ≡ Err outcome)
-    → Then reads (λ text. Stays (BeginsOver format base text)) old result new
-begun_over_read format base (Ok text) bytes reads old new result whole over none = inr (bytes text, new, whole, (over, refl))
-begun_over_read format base (Err outcome) bytes reads old new result whole over none = inl (outcome, whole, none)
-
--- and it has no history
-pub without_history_over_read : {Text : Type 0} (format : StartFormat) (base : Option (List ℕ)) (read : Result Text Outcome) (bytes : Text → List ℕ) (result : Result Session Outcome)
-    → IfOk read (λ text. BeginsOver format base (bytes text) result) → IfErr read (λ outcome. result ≡ Err outcome)
-    → IfOk result (λ start. start.depth ≡ None) × IfOk result (λ start. start.states ≡ nothing)
-without_history_over_read format base (Ok text) bytes (Ok start) over none = (begins_unbounded format base (bytes text) start over, begins_without_history format base (bytes text) start over)
-without_history_over_read format base (Ok text) bytes (Err outcome) over none = (tt, tt)
-without_history_over_read format base (Err outcome) bytes (Ok start) over none = cc
-without_history_over_read format base (Err outcome) bytes (Err other) over none = (tt, tt)
+-- ---- a session without history
 
 pub bounded_by_none : (s : Session) → s.depth ≡ None → s ≡ with_depth None s
 bounded_by_none s e = λ i. record { base_iri = s.base_iri; depth = e i; base = s.base; states = s.states }

@@ -8,6 +8,7 @@ mod ChainLemmas
 mod ComesAboutLemmas
 mod CommitLemmas
 mod CountLemmas
+mod FedLemmas
 mod ForgetsLemmas
 mod ForgettingLemmas
 mod GivesBackLemmas

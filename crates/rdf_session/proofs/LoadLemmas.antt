@@ -1,5 +1,5 @@
 -- A load: the least number above those of its blank nodes.
-use Rattle.std.proofs.Common.{◌≡◌, ℕ, suc, ◌+◌, ◌<◌, ◌≤◌, List, [], ◌∷◌, length, drop, get_or, refl, sym, ap, add-one, drop-cons, arith}
+use Rattle.std.proofs.Common.{◌≡◌, ℕ, suc, ◌+◌, ◌<◌, ◌≤◌, List, [], ◌∷◌, ◌++◌, length, drop, get_or, refl, sym, ap, add-one, drop-cons, arith}
 use Rattle.std.proofs.lemmas.List.{drop_all}
 use Rattle.std.specs.Prelude.{min, max}
 use Rattle.rdf_terms.specs.Below.{AreBelow, IsGraphBelow, IsTermBelow}
@@ -23,6 +23,14 @@ limit_step all limit rest quad rest' q limit' bound a b c d = omega (arith, a, b
 
 pub limit_end : (all limit rest bound : ℕ) → min all bound ≡ max limit (min rest bound) → rest ≡ 0 → limit ≡ min all bound
 limit_end all limit rest bound a b = omega (arith, a, b)
+
+-- that of one quad more
+blank_limit-push : (qs : List QuadParts) (q : QuadParts) → blank_limit (qs ++ q ∷ []) ≡ max (blank_limit qs) (quad_limit q)
+blank_limit-push [] q = omega arith
+blank_limit-push (p ∷ ps) q = let h = blank_limit-push ps q in omega (arith, h)
+
+pub limit_pushed : (old new : List QuadParts) (q : QuadParts) (limit of_quad now bound : ℕ) → limit ≡ min (blank_limit old) bound → of_quad ≡ min (quad_limit q) bound → now ≡ max limit of_quad → new ≡ old ++ q ∷ [] → now ≡ min (blank_limit new) bound
+limit_pushed old new q limit of_quad now bound a b c e = let h = ap blank_limit e in omega (arith, a, b, c, h, blank_limit-push old q)
 
 -- ---- the blank nodes lie below the limit
 

@@ -49,13 +49,13 @@ fn take_in(
     loop {
         match reader.take(rest) {
             Ok((next, said, after)) => match said {
-                Some(quad) => {
-                    if let Err(refused) = quads.push(quad) {
-                        return Err(KeeperFault::NoMemory(refused));
+                Some(quad) => match quads.push(quad) {
+                    Ok(()) => {
+                        reader = next;
+                        rest = after;
                     }
-                    reader = next;
-                    rest = after;
-                }
+                    Err(refused) => return Err(KeeperFault::NoMemory(refused)),
+                },
                 None => return Ok(next),
             },
             Err(fault) => return Err(line_refusal(fault)),

@@ -3,7 +3,7 @@ use Rattle.std.specs.Prelude.{slice_get}
 use Rattle.std.specs.FinSet as set
 use Rattle.rdf_dataset.specs.State.{with_graph}
 use Rattle.rdf_session.proofs.StartLemmas.{name_pushed, name_there}
-use Rattle.rdf_session.proofs.start.add_name.Goals as goal
+use Rattle.rdf_session.proofs.gathering.add_name.Goals as goal
 
 pub returns-then-is_last : goal.returns-then-is_last
 returns-then-is_last c =

@@ -4,7 +4,7 @@ use Rattle.std.specs.List.{flat_map}
 use Rattle.rdf_terms.specs.Order.{term_cmp}
 use Rattle.rdf_dataset.specs.Insertion.{names_in}
 use Rattle.rdf_session.proofs.StartLemmas.{Sound}
-use Rattle.rdf_session.proofs.start.graph_names.Given as goal
+use Rattle.rdf_session.proofs.gathering.graph_names.Given as goal
 
 abbrev pub invariant-loop-quad : goal.invariant-loop-quad
 invariant-loop-quad l = record {

@@ -1,5 +1,5 @@
 use Rattle.rdf_session.proofs.StartLemmas.{names_more, next_quad, sound_before}
-use Rattle.rdf_session.proofs.start.graph_names.Goals as goal
+use Rattle.rdf_session.proofs.gathering.graph_names.Goals as goal
 
 pub loop-quad-preserved : goal.loop-quad-preserved
 loop-quad-preserved c = record {

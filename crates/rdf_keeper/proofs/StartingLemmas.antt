@@ -1,0 +1,167 @@
+-- How a session begins with data while they are read.
+use Rattle.std.proofs.Common.{◌≡◌, ◌≢◌, ◌∙◌, ◌⊎◌, ap, refl, sym, subst, inl, inr, ℕ, ◌+◌, ◌*◌, ◌≤◌, arith, true, false, List, [], ◌++◌, length, append_assoc, append-nil, Option, Some, None}
+use Rattle.std.specs.Prelude.{Result, Ok, Err, IfOk, IfErr}
+use Rattle.std.specs.Io.KnownBytes.{Consumes, IsAtEnd}
+use Rattle.rdf_dataset.specs.State.{empty_state}
+use Rattle.rdf_lines.specs.declared.format.LineFormat.{LineFormat}
+use Rattle.rdf_session.specs.Beginning.{BeginsWithLoad}
+use Rattle.rdf_session.specs.Documents.{of_lines}
+use Rattle.rdf_session.specs.FedStart.{BeginsFed, FeedsOn, IsFed, Start, StopsFed}
+use Rattle.rdf_session.specs.History.{nothing}
+use Rattle.rdf_session.specs.Session.{Session, fresh}
+use Rattle.rdf_session.specs.declared.fault.KeeperFault.{KeeperFault}
+use Rattle.rdf_session.specs.declared.fault.KeeperFault.TheVariants as keeper
+use Rattle.rdf_session.specs.declared.format.Format.{Format}
+use Rattle.rdf_streams.proofs.StreamLemmas.{Consumes-chain}
+use Rattle.rdf_terms.specs.declared.fault.NoMemory.{NoMemory as NoMemoryFault}
+use Rattle.rdf_keeper.specs.Inside.Starting.{BeginsReading, GoesOn, IsSoFar, number_of}
+use Rattle.rdf_keeper.specs.Inside.Starts.{BeginsWith, RefusesData, RefusesLoad}
+use Rattle.rdf_keeper.specs.Program.Openings.{Opening, Opened, Unopened}
+use Rattle.rdf_keeper.specs.Program.Sessions.{Begins, BeginsNamed, BeginsOver}
+use Rattle.rdf_keeper.specs.Program.Stages.{mapped}
+use Rattle.rdf_keeper.specs.Program.Texts.{ReadsAll, is_input}
+use Rattle.rdf_keeper.specs.declared.program.outcome.Outcome.{Outcome}
+use Rattle.rdf_keeper.specs.declared.program.outcome.Outcome.TheVariants.{BadData, ReadFailed}
+use Rattle.rdf_keeper.specs.declared.program.starting.LinesSoFar.{LinesSoFar}
+use Rattle.rdf_keeper.specs.declared.program.starting.LinesSoFar.TheVariants.{Sound, Faulty}
+use Rattle.rdf_keeper.specs.declared.program.words.StartFormat.{StartFormat}
+use Rattle.rdf_keeper.specs.declared.program.words.StartFormat.TheVariants.{Document, State}
+
+-- ---- a document of lines of which a front was read
+
+-- what begins at the start's own base, in its own format
+at_start : (start : Start) (format : LineFormat) (base : Option (List ℕ)) → start.lines.format ≡ format → start.base_iri ≡ base → (text : List ℕ) (r : Result Session KeeperFault)
+    → BeginsWithLoad (of_lines start.lines.format) start.base_iri text r → BeginsWithLoad (of_lines format) base text r
+at_start start format base f b text r h =
+    subst (λ (d : Option (List ℕ)). BeginsWithLoad (of_lines format) d text r) b (subst (λ (l : LineFormat). BeginsWithLoad (of_lines l) start.base_iri text r) f h)
+
+-- a refusal that isn't for want of memory
+abbrev pub IsNoWant : KeeperFault → Type 0
+IsNoWant fault = (refused : NoMemoryFault) → fault ≢ keeper.NoMemory refused
+
+refuses : (format : Format) (base : Option (List ℕ)) (text : List ℕ) (fault : KeeperFault) → IsNoWant fault → BeginsWithLoad format base text (Err fault) → RefusesLoad format text (fresh base (empty_state 0)) (BadData fault)
+refuses format base text (keeper.NoMemory refused) no h = absurd (no refused refl)
+refuses format base text _ no h = h
+
+pub feeds_on : (old new : Start) (piece : List ℕ) → FeedsOn old piece new → GoesOn (Sound old) piece (Sound new)
+feeds_on old new piece f = (f.number, λ format base text h. (f.fed text h.0, f.format ∙ h.1, f.base_iri ∙ h.2))
+
+pub turns_faulty : (start : Start) (piece : List ℕ) (fault : KeeperFault) → IsNoWant fault → StopsFed start piece fault → GoesOn (Sound start) piece (Faulty fault)
+turns_faulty start piece fault no stops = (
+  omega arith,
+  λ format base text h beyond.
+      subst (λ t. RefusesData (Document (of_lines format)) base t (BadData fault)) (sym (append_assoc text piece beyond))
+      (refuses (of_lines format) base (text ++ (piece ++ beyond)) fault no (at_start start format base h.1 h.2 (text ++ (piece ++ beyond)) (Err fault) (stops text beyond h.0))),
+)
+
+pub stays_faulty : (fault : KeeperFault) (piece : List ℕ) → GoesOn (Faulty fault) piece (Faulty fault)
+stays_faulty fault piece = (
+  omega arith,
+  λ format base text h beyond. subst (λ t. RefusesData (Document (of_lines format)) base t (BadData fault)) (sym (append_assoc text piece beyond)) (h (piece ++ beyond)),
+)
+
+-- ---- and its end
+
+pub ends_sound : (start : Start) (session : Session) → BeginsFed start (Ok session) → (format : LineFormat) (base : Option (List ℕ)) (text : List ℕ) → IsSoFar format base text (Sound start)
+    → BeginsOver (Document (of_lines format)) base text (Ok session)
+ends_sound start session b format base text h = at_start start format base h.1 h.2 text (Ok session) (b text h.0)
+
+pub ends_refused : (start : Start) (fault : KeeperFault) → IsNoWant fault → BeginsFed start (Err fault) → (format : LineFormat) (base : Option (List ℕ)) (text : List ℕ) → IsSoFar format base text (Sound start)
+    → BeginsOver (Document (of_lines format)) base text (Err (BadData fault))
+ends_refused start fault no b format base text h = refuses (of_lines format) base text fault no (at_start start format base h.1 h.2 text (Err fault) (b text h.0))
+
+pub ends_faulty : (fault : KeeperFault) (format : LineFormat) (base : Option (List ℕ)) (text : List ℕ) → IsSoFar format base text (Faulty fault) → BeginsOver (Document (of_lines format)) base text (Err (BadData fault))
+ends_faulty fault format base text h = subst (λ t. RefusesData (Document (of_lines format)) base t (BadData fault)) (append-nil text) (h [])
+
+-- ---- between two read calls
+
+-- What was read is so far this.
+pub record Reading (before now : Option (List ℕ)) (format : LineFormat) (base : Option (List ℕ)) (calls : ℕ) (so_far : LinesSoFar) : Type 0 where
+  pub read : List ℕ
+  pub consumes : Consumes before now read
+  pub is : IsSoFar format base read so_far
+  pub number : number_of so_far ≤ calls * 65536 + 1
+
+consumes_nothing : (a : Option (List ℕ)) → Consumes a a []
+consumes_nothing None = tt
+consumes_nothing (Some xs) = refl
+
+consumed : (after : Option (List ℕ)) (text read : List ℕ) → Consumes (Some text) after read → IsAtEnd after → read ≡ text
+consumed None text read c e = absurd c
+consumed (Some left) text read c e = sym (c ∙ ap (λ t. read ++ t) e ∙ append-nil read)
+
+pub reading_first : (before : Option (List ℕ)) (format : LineFormat) (base : Option (List ℕ)) (start : Start) → IsFed [] start → start.lines.format ≡ format → start.base_iri ≡ base → start.lines.number ≡ 1
+    → Reading before before format base 0 (Sound start)
+reading_first before format base start fed f b one = record {
+  read = [];
+  consumes = consumes_nothing before;
+  is = (fed, f, b);
+  number = omega (arith, one);
+}
+
+module _ (before now : Option (List ℕ)) (format : LineFormat) (base : Option (List ℕ)) (n : ℕ) (so_far : LinesSoFar) (r : Reading before now format base n so_far) where
+  pub reads_further : (left : Option (List ℕ)) (bytes : List ℕ) → length bytes ≤ 65536 → Consumes now left bytes → (next : LinesSoFar) → GoesOn so_far bytes next → Reading before left format base (n + 1) next
+  reads_further left bytes few c next on = record {
+    read = r.read ++ bytes;
+    consumes = Consumes-chain before now left r.read bytes r.consumes c;
+    is = on.1 format base r.read r.is;
+    number = (let m = on.0 in let b = r.number in omega (arith, m, b, few));
+  }
+
+  pub reads_to_end : (left : Option (List ℕ)) → Consumes now left [] → IsAtEnd left → (answer : Result Session Outcome)
+      → ((format : LineFormat) (base : Option (List ℕ)) (text : List ℕ) → IsSoFar format base text so_far → BeginsOver (Document (of_lines format)) base text answer)
+      → BeginsReading (Document (of_lines format)) base before answer
+  reads_to_end left c end answer ends = inr (
+    r.read,
+    (λ known e. consumed left known r.read (subst (λ b. Consumes b left r.read) e (subst (Consumes before left) (append-nil r.read) (Consumes-chain before now left r.read [] r.consumes c))) end),
+    ends format base r.read r.is,
+  )
+
+pub reading_ends : (format : StartFormat) (base bytes : Option (List ℕ)) (outcome : Outcome) → ReadsAll bytes (Err outcome) → BeginsReading format base bytes (Err outcome)
+reading_ends format base bytes outcome h = inl (outcome, h, refl)
+
+-- ---- first a text is read whole, and then the session begins over it
+
+pub begins_over_read : {Text : Type 0} (format : StartFormat) (base bytes : Option (List ℕ)) (read : Result Text Outcome) (text_of : Text → List ℕ) (result : Result Session Outcome)
+    → ReadsAll bytes (mapped text_of read) → IfOk read (λ text. BeginsOver format base (text_of text) result) → IfErr read (λ outcome. result ≡ Err outcome) → BeginsReading format base bytes result
+begins_over_read format base bytes (Ok text) text_of result whole over none = inr (text_of text, whole, over)
+begins_over_read format base bytes (Err outcome) text_of result whole over none = inl (outcome, whole, none)
+
+-- ---- what is read
+
+module _ {Folder : Type 0} (step : Folder → Opening → Folder → Type 0) (format : StartFormat) (base : Option (List ℕ)) (path : List ℕ) (old new : Folder) where
+  pub begins_opened : (bytes : Option (List ℕ)) (result : Result Session Outcome) → step old (Opened path bytes) new → BeginsReading format base bytes result → Begins step format (Some path) base old result new
+  begins_opened bytes result opened (inl (outcome, read, e)) = inl (outcome, inr (bytes, new, opened, (read, refl)), e)
+  begins_opened bytes result opened (inr (text, read, over)) = inr (text, new, inr (bytes, new, opened, (read, refl)), (over, refl))
+
+  pub begins_unopened : step old (Unopened path) new → Begins step format (Some path) base old (Err ReadFailed) new
+  begins_unopened unopened = inl (ReadFailed, inl (ReadFailed, (unopened, refl), refl), refl)
+
+  pub begins_named : (input : Option (List ℕ)) (result : Result Session Outcome) → is_input path ≡ false → Begins step format (Some path) base old result new → BeginsNamed step format path base (old, input) result (new, input)
+  begins_named input result other (inl (outcome, read, e)) = inl (outcome, rw other (refl, read), e)
+  begins_named input result other (inr (text, mid, read, (over, e))) = inr (text, (mid, input), rw other (refl, read), (over, ap (λ (f : Folder). (f, input)) e))
+
+  pub begins_input : (input left : Option (List ℕ)) (result : Result Session Outcome) → is_input path ≡ true → BeginsReading format base input result → BeginsNamed step format path base (old, input) result (old, left)
+  begins_input input left result same (inl (outcome, read, e)) = inl (outcome, rw same (refl, read), e)
+  begins_input input left result same (inr (text, read, over)) = inr (text, (old, left), rw same (refl, read), (over, refl))
+
+-- ---- no session has a history that begins so
+
+begins_without_history : (format : StartFormat) (base : Option (List ℕ)) (text : List ℕ) (start : Session) → BeginsWith format base text start → start.states ≡ nothing
+begins_without_history (Document format) base text start b = ap (λ (s : Session). s.states) b.3
+begins_without_history State base text start b = ap (λ (s : Session). s.states) b.3
+
+begins_unbounded : (format : StartFormat) (base : Option (List ℕ)) (text : List ℕ) (start : Session) → BeginsWith format base text start → start.depth ≡ None
+begins_unbounded (Document format) base text start b = ap (λ (s : Session). s.depth) b.3 ∙ ap (λ (s : Session). s.depth) b.2.2
+begins_unbounded State base text start b = ap (λ (s : Session). s.depth) b.3
+
+over_without_history : (format : StartFormat) (base : Option (List ℕ)) (text : List ℕ) (result : Result Session Outcome) → BeginsOver format base text result
+    → IfOk result (λ start. start.depth ≡ None) × IfOk result (λ start. start.states ≡ nothing)
+over_without_history format base text (Ok start) over = (begins_unbounded format base text start over, begins_without_history format base text start over)
+over_without_history format base text (Err outcome) over = (tt, tt)
+
+pub without_history : {Folder : Type 0} (step : Folder → Opening → Folder → Type 0) (format : StartFormat) (base : Option (List ℕ)) (path : List ℕ) (old new : Folder) (result : Result Session Outcome)
+    → Begins step format (Some path) base old result new → IfOk result (λ start. start.depth ≡ None) × IfOk result (λ start. start.states ≡ nothing)
+without_history step format base path old new (Ok start) (inl (outcome, read, e)) = cc
+without_history step format base path old new (Err other) (inl (outcome, read, e)) = (tt, tt)
+without_history step format base path old new result (inr (text, mid, read, (over, e))) = over_without_history format base text result over
