@@ -12,6 +12,7 @@ use Rattle.rdf_session.specs.Session.{Session, fresh}
 use Rattle.rdf_session.specs.declared.fault.KeeperFault.{KeeperFault}
 use Rattle.rdf_session.specs.declared.fault.KeeperFault.TheVariants as keeper
 use Rattle.rdf_session.specs.declared.format.Format.{Format}
+use Rattle.rdf_session.proofs.CallerLemmas.{at_start}
 use Rattle.rdf_streams.proofs.StreamLemmas.{Consumes-chain}
 use Rattle.rdf_terms.specs.declared.fault.NoMemory.{NoMemory as NoMemoryFault}
 use Rattle.rdf_keeper.specs.Inside.Starting.{BeginsReading, GoesOn, IsSoFar, number_of}
@@ -28,12 +29,6 @@ use Rattle.rdf_keeper.specs.declared.program.words.StartFormat.{StartFormat}
 use Rattle.rdf_keeper.specs.declared.program.words.StartFormat.TheVariants.{Document, State}
 
 -- ---- a document of lines of which a front was read
-
--- what begins at the start's own base, in its own format
-at_start : (start : Start) (format : LineFormat) (base : Option (List ℕ)) → start.lines.format ≡ format → start.base_iri ≡ base → (text : List ℕ) (r : Result Session KeeperFault)
-    → BeginsWithLoad (of_lines start.lines.format) start.base_iri text r → BeginsWithLoad (of_lines format) base text r
-at_start start format base f b text r h =
-    subst (λ (d : Option (List ℕ)). BeginsWithLoad (of_lines format) d text r) b (subst (λ (l : LineFormat). BeginsWithLoad (of_lines l) start.base_iri text r) f h)
 
 -- a refusal that isn't for want of memory
 abbrev pub IsNoWant : KeeperFault → Type 0

@@ -6,12 +6,12 @@ use Rattle.rdf_dataset.specs.State.{State, empty_state, last_number}
 use Rattle.rdf_terms.specs.Quad.{QuadParts}
 use Rattle.rdf_session.specs.Documents.{IsDocument}
 use Rattle.rdf_session.specs.Beginning.{BeginsWithLoad}
-use Rattle.rdf_session.specs.Inside.Staging.{TellsFault}
+use Rattle.rdf_session.specs.Inside.Staging.{TellsFault, TellsTurtleFault}
 use Rattle.rdf_session.specs.Inside.Starting.{BeginsAt, Starts}
 use Rattle.rdf_session.specs.Request.{Load, blank_limit}
 use Rattle.rdf_session.specs.Session.{Session, Transition, Do, Refused, accepted, counts_between, fresh}
 use Rattle.rdf_session.specs.declared.fault.KeeperFault.{KeeperFault}
-use Rattle.rdf_session.specs.declared.fault.KeeperFault.TheVariants.{NoMemory, BlankNumbers}
+use Rattle.rdf_session.specs.declared.fault.KeeperFault.TheVariants.{NoMemory, BlankNumbers, Turtle as TurtleFault}
 use Rattle.rdf_session.specs.declared.format.Format.{Format}
 use Rattle.rdf_session.specs.declared.format.Format.TheVariants.{NQuads, NTriples, Turtle}
 
@@ -26,6 +26,11 @@ not_read NQuads base text BlankNumbers h = absurd h
 not_read NTriples base text BlankNumbers h = absurd h
 not_read Turtle base text BlankNumbers h = absurd h
 not_read format base text _ h = h
+
+pub turtle_tells : (base : Option (List ℕ)) (text : List ℕ) (f : KeeperFault) → TellsTurtleFault base text f → TellsFault Turtle base text f
+turtle_tells base text (NoMemory _) h = tt
+turtle_tells base text (TurtleFault at) h = h
+turtle_tells base text _ h = absurd h
 
 pub begins_at : (format : Format) (base : Option (List ℕ)) (text : List ℕ) (quads : List QuadParts) (r : Result State KeeperFault) → IsDocument format base text quads → Starts quads r → BeginsAt format base text r
 begins_at format base text quads (Ok t) is h = (quads, is, h.0, h.1)

@@ -1,5 +1,6 @@
 -- A document of lines that is fed to the start of a session a piece at a time.
 use Rattle.std.proofs.Common.{◌≡◌, ◌∙◌, ap, refl, sym, subst, ℕ, ◌+◌, ◌≤◌, arith, List, [], ◌∷◌, ◌++◌, length, append_assoc, append-nil, length-append, Option, Some, None}
+use Rattle.std.specs.Prelude.{Result, Err}
 use Rattle.rdf_lines.specs.Document as lines
 use Rattle.rdf_lines.specs.Fed.{Faults, Fed, HasBeenFed, StopsFed, Takes, TakesAll}
 use Rattle.rdf_lines.specs.declared.fault.FaultKind.{FaultKind}
@@ -8,11 +9,15 @@ use Rattle.rdf_lines.specs.declared.fault.LineFault.{LineFault}
 use Rattle.rdf_lines.specs.declared.format.LineFormat.{LineFormat}
 use Rattle.rdf_lines.specs.declared.format.LineFormat.TheVariants.{NQuads, NTriples}
 use Rattle.rdf_terms.specs.Quad.{QuadParts}
+use Rattle.rdf_session.specs.Beginning.{BeginsWithLoad}
 use Rattle.rdf_session.specs.Documents.{IsDocument, of_lines}
-use Rattle.rdf_session.specs.Inside.FedQuads.{StopsLines}
+use Rattle.rdf_session.specs.FedStart.{BeginsFed, FeedsOn, IsFed, Start, StopsFed as StopsStart}
+use Rattle.rdf_session.specs.Inside.FedQuads.{StopsLines, TakesIn}
 use Rattle.rdf_session.specs.Inside.Staging.{TellsFault, TellsLineFault, line_refusal}
+use Rattle.rdf_session.specs.Session.{Session}
 use Rattle.rdf_session.specs.declared.fault.KeeperFault.{KeeperFault}
 use Rattle.rdf_session.specs.declared.fault.KeeperFault.TheVariants.{NoMemory, Line}
+use Rattle.rdf_session.proofs.BeginningLemmas.{not_read, session_refused}
 
 -- ---- a format of lines is one of documents
 
@@ -98,3 +103,35 @@ module _ (old now : Fed) (piece front rest : List ℕ) (more : List QuadParts) (
       (stops_line old.format (read ++ (piece ++ beyond)) (quads ++ more) f f.kind
       (subst (λ g. StopsFed g (read ++ (piece ++ beyond)) (quads ++ more) f f.kind) far.format
       (subst (λ t. StopsFed now.format t (quads ++ more) f f.kind) (text_of read beyond) (faults (read ++ front) (quads ++ more) beyond (far.fed read quads h)))))
+
+-- ---- a start
+
+pub feeds_on : (base : Option (List ℕ)) (lines new : Fed) (quads now : List QuadParts) (piece : List ℕ) → TakesIn lines quads piece new now
+    → FeedsOn (record { base_iri = base; lines = lines; quads = quads }) piece (record { base_iri = base; lines = new; quads = now })
+feeds_on base lines new quads now piece took = record {
+  base_iri = refl;
+  format = took.1.format;
+  number = took.1.number;
+  fed = λ text h. subst (λ (q : List QuadParts). HasBeenFed (text ++ piece) q new) (sym took.2) (took.1.fed text quads h);
+}
+
+pub stops_fed : (base : Option (List ℕ)) (lines : Fed) (quads : List QuadParts) (piece : List ℕ) (fault : KeeperFault) → StopsLines lines piece fault
+    → StopsStart (record { base_iri = base; lines = lines; quads = quads }) piece fault
+stops_fed base lines quads piece fault stops text beyond h =
+    let all = text ++ (piece ++ beyond) in
+    session_refused (of_lines lines.format) base all fault (not_read (of_lines lines.format) base all fault (of_lines-fault lines.format base all fault (stops text beyond quads h)))
+
+-- what begins at the start's own base, in its own format
+pub at_start : (start : Start) (format : LineFormat) (base : Option (List ℕ)) → start.lines.format ≡ format → start.base_iri ≡ base → (text : List ℕ) (r : Result Session KeeperFault)
+    → BeginsWithLoad (of_lines start.lines.format) start.base_iri text r → BeginsWithLoad (of_lines format) base text r
+at_start start format base f b text r h =
+    subst (λ (d : Option (List ℕ)). BeginsWithLoad (of_lines format) d text r) b (subst (λ (l : LineFormat). BeginsWithLoad (of_lines l) start.base_iri text r) f h)
+
+-- all of a text was fed in one piece
+module _ (start : Start) (format : LineFormat) (base : Option (List ℕ)) (text : List ℕ) (fed : IsFed [] start) (f : start.lines.format ≡ format) (b : start.base_iri ≡ base) where
+  pub begun_whole : (new : Start) (r : Result Session KeeperFault) → FeedsOn start text new → BeginsFed new r → BeginsWithLoad (of_lines format) base text r
+  begun_whole new r on begins = at_start new format base (on.format ∙ f) (on.base_iri ∙ b) text r (begins text (on.fed [] fed))
+
+  pub stopped_whole : (fault : KeeperFault) → StopsStart start text fault → BeginsWithLoad (of_lines format) base text (Err fault)
+  stopped_whole fault stops =
+      at_start start format base f b text (Err fault) (subst (λ t. BeginsWithLoad (of_lines start.lines.format) start.base_iri t (Err fault)) (append-nil text) (stops [] [] fed))
