@@ -2,14 +2,14 @@
 ghost use Rattle.std.specs.Prelude.{◌≡◌, ◌-◌, ◌∷◌, ◌++◌, [], length, slice_get, Some, IfOk, IsTrue, OnOk, OnErr};
 ghost use Rattle.std.specs.List.{AllByRecursion, flat_map};
 ghost use Rattle.rdf_terms.specs.Quad.{is_quad};
-ghost use Rattle.rdf_orders.specs.Contents.{ids_of};
+ghost use Rattle.rdf_orders.specs.Contents.{empty_contents, ids_of, with_all};
 ghost use Rattle.rdf_store.specs.Gathered.{gathered};
 ghost use Rattle.rdf_store.specs.Inside.Names.{name_in};
 
 use crate::numbers::append_key;
 use crate::store::Store;
 use rdf_orders::{Key, KeyTree, QuadSets};
-use rdf_terms::{NoMemory, Quad, TermTable, terms_are_held_once};
+use rdf_terms::{NoMemory, Quad, TermTable};
 use std::alloc::Global;
 use std::marker::Model;
 
@@ -70,6 +70,18 @@ fn graph_names(alloc: Global, keys: &KeyTree) -> Result<Vec<u64>, NoMemory>
     Ok(names)
 }
 
+// The quads that have these keys in `Spo`, in all three orders, and the names of their graphs.
+fn sets_of(alloc: Global, keys: Vec<Key>) -> Result<QuadSets, NoMemory>
+    ensures { IfOk result (λ sets.
+        sets ≡ with_all empty_contents keys.items (flat_map name_in keys.items)) }
+{
+    let mut sets = QuadSets::new(alloc);
+    sets.insert_list(keys, &[])?;
+    let names = graph_names(alloc, sets.keys())?;
+    sets.insert_all(&[], &names)?;
+    Ok(sets)
+}
+
 impl QuadList {
     /// No quads. It takes no memory.
     pub fn new(alloc: Global) -> QuadList
@@ -100,14 +112,10 @@ impl QuadList {
     /// [`NoMemory`] where memory is wanting.
     pub fn into_store(self) -> Result<Store, NoMemory>
         ensures store { IfOk result (λ store. store ≡ gathered self) }
-        ensures sound { AllByRecursion (λ q. IsTrue (is_quad q)) self }
+        ensures sound { OnOk result (AllByRecursion (λ q. IsTrue (is_quad q)) self) }
     {
         let QuadList { table, keys, alloc } = self;
-        terms_are_held_once(&table);
-        let mut sets = QuadSets::new(alloc);
-        sets.insert_list(keys, &[])?;
-        let names = graph_names(alloc, sets.keys())?;
-        sets.insert_all(&[], &names)?;
+        let sets = sets_of(alloc, keys)?;
         Ok(Store { table, sets, alloc })
     }
 }
