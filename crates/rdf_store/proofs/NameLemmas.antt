@@ -147,14 +147,14 @@ name_from_graph key keys zero names name e more h =
     record { at = m.at; in_list = other_in id_quad_cmp_total id_quad_cmp-IsAntisymmetric (quad_of key) (map quad_of keys) m.at m.in_list; is = m.is }
 name_from_graph key keys (suc n) names name e more h = elim (is_either (eq_by_cmp nat_cmp name n) (set.contains (ids_of names) name) (sym (contains-insert nat_cmp_total (ids_of names) n name) ∙ h)) [
   | inl same ↦
-    record {
-      at = quad_of key;
-      in_list = first_in id_quad_cmp_total id_quad_cmp-IsAntisymmetric (quad_of key) (map quad_of keys);
-      is = e ∙ ap suc (sym (same_of_eq nat_cmp_total nat_cmp-IsAntisymmetric name n same));
-    }
+      record {
+        at = quad_of key;
+        in_list = first_in id_quad_cmp_total id_quad_cmp-IsAntisymmetric (quad_of key) (map quad_of keys);
+        is = e ∙ ap suc (sym (same_of_eq nat_cmp_total nat_cmp-IsAntisymmetric name n same));
+      }
   | inr other ↦
-    let m = more other in
-    record { at = m.at; in_list = other_in id_quad_cmp_total id_quad_cmp-IsAntisymmetric (quad_of key) (map quad_of keys) m.at m.in_list; is = m.is }
+      let m = more other in
+      record { at = m.at; in_list = other_in id_quad_cmp_total id_quad_cmp-IsAntisymmetric (quad_of key) (map quad_of keys) m.at m.in_list; is = m.is }
 ]
 
 name_from : (keys : List (List ℕ)) (name : ℕ) → set.contains (ids_of (flat_map name_in keys)) name ≡ true → HasName keys name
@@ -172,7 +172,7 @@ name_to : (keys : List (List ℕ)) (q : IdQuad) (name : ℕ) → set.contains (q
 name_to [] q name h e = absurd (true≢false (sym h ∙ contains-empty id_quad_cmp q))
 name_to (key ∷ keys) q name h e = elim (is_either (eq_by_cmp id_quad_cmp q (quad_of key)) (set.contains (quads_of keys) q) (sym (contains-insert id_quad_cmp_total (quads_of keys) (quad_of key) q) ∙ h)) [
   | inl same ↦
-    name_to_first (quad_of key).graph (flat_map name_in keys) name (ap (λ (x : IdQuad). x.graph) (sym (same_of_eq id_quad_cmp_total id_quad_cmp-IsAntisymmetric q (quad_of key) same)) ∙ e)
+      name_to_first (quad_of key).graph (flat_map name_in keys) name (ap (λ (x : IdQuad). x.graph) (sym (same_of_eq id_quad_cmp_total id_quad_cmp-IsAntisymmetric q (quad_of key) same)) ∙ e)
   | inr more ↦ name_to_more (quad_of key).graph (flat_map name_in keys) name (name_to keys q name more e)
 ]
 
@@ -215,12 +215,12 @@ pub names_behind : (c d : Contents) (keys listed : List (List ℕ)) (names : Lis
     → d ≡ contents.with_all c [] names → d ≡ contents.with_all empty_contents keys (flat_map name_in keys)
 names_behind c d keys listed names e l n f =
     let found : quads_of listed ≡ quads_of keys =
-        ap quads_of l.are_keys ∙ ap (set.from_list {R = id_quad_cmp}) (listed_keys l.found) ∙ l.sorted.lists.all
-        ∙ ap (λ (x : Contents). x.quads) e ∙ none_union id_quad_cmp_total id_quad_cmp-IsAntisymmetric (quads_of keys) in
+    ap quads_of l.are_keys ∙ ap (set.from_list {R = id_quad_cmp}) (listed_keys l.found) ∙ l.sorted.lists.all
+    ∙ ap (λ (x : Contents). x.quads) e ∙ none_union id_quad_cmp_total id_quad_cmp-IsAntisymmetric (quads_of keys) in
     let quads : d.quads ≡ set.union set.empty (quads_of keys) =
-        ap (λ (x : Contents). x.quads) f ∙ union_none id_quad_cmp_total id_quad_cmp-IsAntisymmetric c.quads ∙ ap (λ (x : Contents). x.quads) e in
+    ap (λ (x : Contents). x.quads) f ∙ union_none id_quad_cmp_total id_quad_cmp-IsAntisymmetric c.quads ∙ ap (λ (x : Contents). x.quads) e in
     let named : d.names ≡ set.union set.empty (ids_of (flat_map name_in keys)) =
-        ap (λ (x : Contents). x.names) f ∙ ap (λ s. set.union s (ids_of names)) (no_names_yet c keys e) ∙ ap (set.union {R = nat_cmp} set.empty) (n ∙ same_names listed keys found) in
+    ap (λ (x : Contents). x.names) f ∙ ap (λ s. set.union s (ids_of names)) (no_names_yet c keys e) ∙ ap (set.union {R = nat_cmp} set.empty) (n ∙ same_names listed keys found) in
     λ i. record { quads = quads i; names = named i }
 
 -- ---- and what the store shows of them
@@ -250,4 +250,3 @@ module _ (table : List Term) (keys : List (List ℕ)) (quads : List QuadParts) (
       each : (ks : List (List ℕ)) → All (λ key. HasTerms table (quad_of key)) ks → AllByRecursion (λ q. IsTrue (is_quad q)) (map (parts_of table) ks)
       each [] a = tt
       each (k ∷ ks) a = ((a 0 k (omega arith)).sound, each ks (λ i d lt. a (suc i) d (omega arith)))
-

@@ -89,11 +89,7 @@ pub(crate) fn number_graph(table: &mut TermTable, graph: &GraphName) -> Result<u
 }
 
 // The number of a graph, which is that of a known one where the two are equal.
-fn number_like_graph(
-    table: &mut TermTable,
-    known: u64,
-    graph: &GraphName,
-) -> Result<u64, NoMemory>
+fn number_like_graph(table: &mut TermTable, known: u64, graph: &GraphName) -> Result<u64, NoMemory>
     requires { IsGraphNumber table.old known (graph_at table.old known) }
     ensures number { IfOk result (λ id. IsGraphNumber table.new id graph.now) }
     ensures grown { IsGrown table.old table.new }
