@@ -1,8 +1,10 @@
-//! The cases of datasets. Each has these parts, or some of them: the `counter` at which the dataset begins; its `data`, each line the
+//! The cases of datasets. Each has these parts, or some of them: the `counter` at which the dataset begins, or the quads that were
+//! `gathered` for it, at counter 4; its `data`, each line the
 //! change of a request of its own; what the `dataset` is asked then; what is changed and asked in a `view` over it, in a view `above`
 //! that one, and again in the one `beneath`; what the dataset `under` it is asked then, and the `net` of the view; and what the dataset is asked once that is `committed`,
 //! and once it is `reverted`.
 ghost use Rattle.std.specs.Prelude.{◌≡◌, ◌≤◌, IfSome, MatchBool};
+ghost use Rattle.rdf_terms.specs.Below.{AreBelow};
 ghost use Rattle.rdf_dataset.specs.State.{Begins, Ends};
 
 use crate::answer::Verdict;
@@ -10,14 +12,15 @@ use crate::case::{Case, Line};
 use crate::changes::{change, change_all};
 use crate::nets::ask_net;
 use crate::questions::{ask_dataset, ask_view};
-use rdf_dataset::{Dataset, Net, Source, Staged};
+use crate::terms::{NUMBERS, quad};
+use rdf_dataset::{Dataset, Gathering, Net, Source, Staged};
 use std::alloc::Global;
 
 // The counter of blank nodes goes no further.
 const LAST_NUMBER: u64 = 1_000_000_000_000_000_000;
 
 pub(crate) fn judge<'a>(alloc: Global, case: Case<'a>, verdict: &mut Verdict<'a>) {
-    let mut dataset = begun(alloc, case);
+    let mut dataset = begun(alloc, case, verdict);
     load(alloc, &mut dataset, case, verdict);
     ask_dataset(alloc, &dataset, case.lines("dataset"), verdict);
     judge_view(alloc, &mut dataset, case, verdict);
@@ -30,7 +33,41 @@ fn judge_view<'a>(alloc: Global, dataset: &mut Dataset, case: Case<'a>, verdict:
     }
 }
 
-fn begun(alloc: Global, case: Case<'_>) -> Dataset {
+fn begun<'a>(alloc: Global, case: Case<'a>, verdict: &mut Verdict<'a>) -> Dataset {
+    match gathered(alloc, case) {
+        Some(dataset) => dataset,
+        None => {
+            verdict.fail("gathered");
+            Dataset::new(alloc)
+        }
+    }
+}
+
+// The dataset of the quads that were gathered, where there are any, or else one without quads.
+fn gathered(alloc: Global, case: Case<'_>) -> Option<Dataset> {
+    if !case.has("gathered") {
+        return Some(starting(alloc, case));
+    }
+    let mut gathering = Gathering::new(alloc);
+    for text in case.lines("gathered") {
+        put(alloc, &mut gathering, text)?;
+    }
+    gathering.into_dataset(NUMBERS).ok()
+}
+
+// Puts the quad of a line behind those that were gathered.
+fn put(alloc: Global, gathering: &mut Gathering, text: &str) -> Option<()>
+    requires { AreBelow 4 gathering.old }
+    ensures { IfSome result (λ _. AreBelow 4 gathering.new) }
+{
+    let quad = quad(alloc, text)?;
+    match gathering.push(quad) {
+        Ok(()) => Some(()),
+        Err(_) => None,
+    }
+}
+
+fn starting(alloc: Global, case: Case<'_>) -> Dataset {
     match case.lines("counter").next() {
         Some(number) => match number.parse::<u64>() {
             Ok(number) => Dataset::starting_at(alloc, number.min(LAST_NUMBER)),

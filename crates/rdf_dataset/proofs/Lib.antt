@@ -4,6 +4,7 @@ mod ChangeLawLemmas
 mod ClearingLemmas
 mod EmptiedLemmas
 mod ExchangeLemmas
+mod GatheringLemmas
 mod InsertionLemmas
 mod LoadingLemmas
 mod QuadEditLemmas

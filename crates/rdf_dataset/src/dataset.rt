@@ -17,9 +17,9 @@ use std::marker::Model;
 /// also when its quads are gone, and a look-up looks only at the quads that it finds.
 #[derive(Drop)]
 pub struct Dataset {
-    store: Store,
-    next: u64,
-    alloc: Global,
+    pub(crate) store: Store,
+    pub(crate) next: u64,
+    pub(crate) alloc: Global,
 }
 
 impl Model for Dataset {

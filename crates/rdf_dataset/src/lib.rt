@@ -11,6 +11,7 @@ mod dataset;
 mod edits;
 mod emptied;
 mod exchange;
+mod gathering;
 mod insertion;
 mod law;
 mod loading;
@@ -22,6 +23,7 @@ mod staged;
 mod unread;
 
 pub use dataset::Dataset;
+pub use gathering::Gathering;
 pub use law::{changes_are_exact, look_ups_match};
 pub use net::Net;
 pub use source::{Source, sources_are_sound};

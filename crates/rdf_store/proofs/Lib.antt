@@ -1,6 +1,7 @@
 mod ImageLemmas
 mod ListLemmas
 mod ShownLemmas
+mod NameLemmas
 mod NumberLemmas
 mod OrderLemmas
 mod PatternLemmas

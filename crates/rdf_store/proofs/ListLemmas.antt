@@ -1,7 +1,7 @@
 -- Lists whose members belong together.
-use Rattle.std.proofs.Common.{◌≡◌, ℕ, ◌+◌, ◌<◌, List, [], ◌∷◌, ◌++◌, map, map-id, take, get_or, length, refl, sym, ap, subst, ◌∙◌, true, inl, inr}
+use Rattle.std.proofs.Common.{◌≡◌, ℕ, zero, suc, arith, ◌+◌, ◌<◌, List, [], ◌∷◌, ◌++◌, map, map-id, take, get_or, length, refl, sym, ap, subst, ◌∙◌, true, inl, inr}
 use mathlib.Core.Bool.{true≢false}
-use Rattle.std.specs.Prelude.{Option, None}
+use Rattle.std.specs.Prelude.{All, Option, None}
 use Rattle.std.specs.Iterator.{Yields}
 use Rattle.std.specs.Map.Iter.{TakesFirst}
 use Rattle.std.proofs.lemmas.List.{take_more}
@@ -27,6 +27,13 @@ module _ {A B : Type 0} where
   matched_to P Q f [] (b ∷ ys) m = absurd m
   matched_to P Q f (a ∷ xs) [] m = absurd m
   matched_to P Q f (a ∷ xs) (b ∷ ys) m = (f a b m.0, matched_to P Q f xs ys m.1)
+
+  -- what holds of each that belongs to some one
+  pub matched_all : (P : A → B → Type 0) (Q : A → Type 0) → ((x : A) (y : B) → P x y → Q x) → (xs : List A) (ys : List B) → Matched P xs ys → All Q xs
+  matched_all P Q each [] ys m k d lt = absurd (omega arith)
+  matched_all P Q each (a ∷ xs) [] m k d lt = absurd m
+  matched_all P Q each (a ∷ xs) (b ∷ ys) m zero d lt = each a b m.0
+  matched_all P Q each (a ∷ xs) (b ∷ ys) m (suc k) d lt = matched_all P Q each xs ys m.1 k d (omega arith)
 
   -- a function that takes each to its fellow
   pub matched_map : (P : A → B → Type 0) (f : A → B) → ((x : A) (y : B) → P x y → f x ≡ y) → (xs : List A) (ys : List B) → Matched P xs ys → map f xs ≡ ys

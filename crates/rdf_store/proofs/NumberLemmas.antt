@@ -123,6 +123,9 @@ numbered_once table once k l q n m = λ i. record {
 pub id_kept : (table : List Term) (id : ℕ) (t : Term) → IsIdOf table id t → IsIdOf table id (term_at table id)
 id_kept table id t e = subst (IsIdOf table id) (sym (term_is table id t e)) e
 
+pub id_later : (old new : List Term) (id : ℕ) → IsGrown old new → IsIdOf old id (term_at old id) → IsIdOf new id (term_at new id)
+id_later old new id grown e = id_kept new id (term_at old id) (grown.keeps id (term_at old id) e)
+
 -- the table grows from one number to the next
 pub numbered_in_steps : (a b c d : List Term) (q : QuadParts) (g : GraphName) (s p o : Term) (gn sn pn on : ℕ) → IsTrue (is_quad q) → g ≡ q.graph → s ≡ q.subject → p ≡ q.predicate → o ≡ q.object
     → IsGrown a b → IsGrown b c → IsGrown c d → IsGraphNumber a gn g → IsIdOf b sn s → IsIdOf c pn p → IsIdOf d on o

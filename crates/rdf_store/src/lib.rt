@@ -9,7 +9,9 @@
 mod look_ups;
 mod numbers;
 mod pattern;
+mod quad_list;
 mod ranks;
 mod store;
 
+pub use quad_list::QuadList;
 pub use store::Store;

@@ -1,8 +1,8 @@
 //! The numbers of terms, graphs and quads in a table, and the quads that numbers stand for.
-ghost use Rattle.std.specs.Prelude.{◌≡◌, ℕ, [], IsOk, IfOk, IfNone, IfSome};
+ghost use Rattle.std.specs.Prelude.{◌≡◌, ℕ, [], All, IsOk, IfOk, IfNone, IfSome, OnOk, OnErr};
 ghost use Rattle.rdf_terms.specs.Table.{IsIdOf};
 ghost use Rattle.rdf_orders.specs.Quads.{IdQuad, quad_of};
-ghost use Rattle.rdf_store.specs.Inside.Numbers.{IsGraphNumber, AreNumbersOf, IsFront, IsGrown, AreKeys, AreIds, HasTerms, parts_of, graph_at, term_at};
+ghost use Rattle.rdf_store.specs.Inside.Numbers.{IsGraphNumber, AreNumbersOf, AppendsKey, IsGrown, AreKeys, AreIds, HasTerms, parts_of, graph_at, term_at};
 
 use rdf_orders::Key;
 use rdf_terms::{GraphName, NoMemory, Quad, Term, TermId, TermTable, terms_are_held_once};
@@ -63,19 +63,14 @@ pub(crate) fn number_term(table: &mut TermTable, term: &Term) -> Result<u64, NoM
     Ok(id.0)
 }
 
-// The number of a term, which is that of another one where the two are equal.
-fn number_like(
-    table: &mut TermTable,
-    other: &Term,
-    number: u64,
-    term: &Term,
-) -> Result<u64, NoMemory>
-    requires { IsIdOf table.old number other.now }
+// The number of a term, which is that of a known one where the two are equal.
+fn number_like(table: &mut TermTable, known: u64, term: &Term) -> Result<u64, NoMemory>
+    requires { IsIdOf table.old known (term_at table.old known) }
     ensures number { IfOk result (λ id. IsIdOf table.new id term.now) }
     ensures grown { IsGrown table.old table.new }
 {
-    if *other == *term {
-        return Ok(number);
+    if *table.term(TermId(known)) == *term {
+        return Ok(known);
     }
     number_term(table, term)
 }
@@ -93,21 +88,21 @@ pub(crate) fn number_graph(table: &mut TermTable, graph: &GraphName) -> Result<u
     Ok(number + 1)
 }
 
-// The number of a graph, which is that of another one where the two are equal.
-fn number_like_graph(
-    table: &mut TermTable,
-    other: &GraphName,
-    number: u64,
-    graph: &GraphName,
-) -> Result<u64, NoMemory>
-    requires { IsGraphNumber table.old number other.now }
+// The number of a graph, which is that of a known one where the two are equal.
+fn number_like_graph(table: &mut TermTable, known: u64, graph: &GraphName) -> Result<u64, NoMemory>
+    requires { IsGraphNumber table.old known (graph_at table.old known) }
     ensures number { IfOk result (λ id. IsGraphNumber table.new id graph.now) }
     ensures grown { IsGrown table.old table.new }
 {
-    if *other == *graph {
-        return Ok(number);
-    }
-    number_graph(table, graph)
+    let Some(known) = known.checked_sub(1) else {
+        return number_graph(table, graph);
+    };
+    let GraphName::Named(name) = graph else {
+        return Ok(DEFAULT);
+    };
+    let found = number_like(table, known, name)?;
+    terms_are_held_once(table);
+    Ok(found + 1)
 }
 
 /// The key in `Spo` of a quad, of whose terms the table keeps the new ones.
@@ -122,44 +117,47 @@ pub(crate) fn number_quad(table: &mut TermTable, quad: &Quad) -> Result<Key, NoM
     Ok([graph, subject, predicate, object])
 }
 
-// A quad, with the numbers of its graph, subject and predicate.
-#[derive(Clone, Copy)]
-struct Front<'q> {
-    quad: &'q Quad,
-    graph: u64,
-    subject: u64,
-    predicate: u64,
-}
-
-// The key in `Spo` of a quad that stands behind another one. In a sorted list the two often have one
-// graph, subject or predicate, which isn't looked for again.
-fn number_behind(table: &mut TermTable, before: Front<'_>, quad: &Quad) -> Result<Key, NoMemory>
-    requires { IsFront table.old before.graph before.subject before.predicate before.quad.now }
+// The key in `Spo` of a quad that stands behind the one with the key `before`. Neighbours often have
+// one graph, subject or predicate, which isn't looked for again then.
+fn number_behind(table: &mut TermTable, before: &Key, quad: &Quad) -> Result<Key, NoMemory>
+    requires { HasTerms table.old (quad_of before.now) }
     ensures number { IfOk result (λ key. AreNumbersOf table.new (quad_of key) quad.now) }
     ensures grown { IsGrown table.old table.new }
 {
-    let other = before.quad;
-    let graph = number_like_graph(table, other.graph(), before.graph, quad.graph())?;
-    let subject = number_like(table, other.subject(), before.subject, quad.subject())?;
-    let predicate = number_like(table, other.predicate(), before.predicate, quad.predicate())?;
+    let graph = number_like_graph(table, before[0], quad.graph())?;
+    let subject = number_like(table, before[1], quad.subject())?;
+    let predicate = number_like(table, before[2], quad.predicate())?;
     let object = number_term(table, quad.object())?;
     Ok([graph, subject, predicate, object])
 }
 
-// The key in `Spo` of a quad, which stands behind another one or is the first.
-fn number_next(
-    table: &mut TermTable,
-    before: Option<Front<'_>>,
-    quad: &Quad,
-) -> Result<Key, NoMemory>
-    requires { IfSome before (λ f. IsFront table.old f.graph f.subject f.predicate f.quad.now) }
+// The key in `Spo` of a quad that stands behind others or is the first.
+fn number_next(table: &mut TermTable, keys: &[Key], quad: &Quad) -> Result<Key, NoMemory>
+    requires { All (λ key. HasTerms table.old (quad_of key)) keys.now }
     ensures number { IfOk result (λ key. AreNumbersOf table.new (quad_of key) quad.now) }
     ensures grown { IsGrown table.old table.new }
 {
-    match before {
-        Some(front) => number_behind(table, front, quad),
+    match keys.last() {
+        Some(before) => number_behind(table, before, quad),
         None => number_quad(table, quad),
     }
+}
+
+/// Puts the key in `Spo` of a quad behind others, whose terms the table has. It keeps those of the
+/// quad that are new.
+pub(crate) fn append_key(
+    table: &mut TermTable,
+    keys: &mut Vec<Key>,
+    quad: &Quad,
+) -> Result<(), NoMemory>
+    requires { All (λ key. HasTerms table.old (quad_of key)) keys.old.items }
+    ensures ok { OnOk result (AppendsKey table.new keys.old.items keys.new.items quad.now) }
+    ensures err { OnErr result (keys.new.items ≡ keys.old.items) }
+    ensures grown { IsGrown table.old table.new }
+{
+    let key = number_next(table, keys, quad)?;
+    keys.push(key)?;
+    Ok(())
 }
 
 /// The keys in `Spo` of quads. Where there are none it takes no memory.
@@ -173,16 +171,8 @@ pub(crate) fn number_quads(
     ensures free { quads.now ≡ [] → IsOk result }
 {
     let mut keys = Vec::new(alloc);
-    let mut before = None;
     for quad in quads {
-        let key = number_next(table, before, quad)?;
-        keys.push(key)?;
-        before = Some(Front {
-            quad,
-            graph: key[0],
-            subject: key[1],
-            predicate: key[2],
-        });
+        append_key(table, &mut keys, quad)?;
     }
     Ok(keys)
 }

@@ -1,5 +1,5 @@
 -- The numbers of terms, graphs and quads in a table, and what is kept of quads and names by their numbers.
-use Rattle.std.specs.Prelude.{◌≡◌, ℕ, zero, suc, ◌==◌, List, [], ◌∷◌, map, ⊤, Option, IsTrue, slice_get, unwrap_or}
+use Rattle.std.specs.Prelude.{◌≡◌, ℕ, zero, suc, ◌==◌, List, [], ◌∷◌, ◌++◌, map, ⊤, Option, IsTrue, slice_get, unwrap_or}
 use Rattle.std.specs.declared.cmp.Ordering.{Ordering}
 use Rattle.std.specs.Ordering.{eq_by_cmp}
 use Rattle.std.specs.FinSet as set
@@ -32,12 +32,6 @@ pub record AreNumbersOf (table : List Term) (k : IdQuad) (q : QuadParts) : Type 
   pub predicate : IsIdOf table k.predicate q.predicate
   pub object : IsIdOf table k.object q.object
 
--- the numbers of a quad's graph, subject and predicate
-pub record IsFront (table : List Term) (graph subject predicate : ℕ) (q : QuadParts) : Type 0 where
-  pub graph_is : IsGraphNumber table graph q.graph
-  pub subject_is : IsIdOf table subject q.subject
-  pub predicate_is : IsIdOf table predicate q.predicate
-
 -- a term keeps its number
 pub record IsGrown (old new : List Term) : Type 0 where
   pub keeps : (id : ℕ) (t : Term) → IsIdOf old id t → IsIdOf new id t
@@ -52,6 +46,12 @@ Matched P (x ∷ xs) (y ∷ ys) = P x y × Matched P xs ys
 -- the keys in `Spo` of these quads
 abbrev pub AreKeys : List Term → List (List ℕ) → List QuadParts → Type 0
 AreKeys table keys quads = Matched (λ k q. AreNumbersOf table (quad_of k) q) keys quads
+
+-- the key in `Spo` of the quad has come behind others
+pub record AppendsKey (table : List Term) (old new : List (List ℕ)) (q : QuadParts) : Type 0 where
+  pub key : List ℕ
+  pub numbers : AreNumbersOf table (quad_of key) q
+  pub appended : new ≡ old ++ key ∷ []
 
 -- the numbers of these terms
 abbrev pub AreIds : List Term → List ℕ → List Term → Type 0
