@@ -31,6 +31,5 @@ mod RollsBackLemmas
 mod SavedLemmas
 mod SpanLemmas
 mod StandingLemmas
-mod StartLemmas
 mod UndoRedoLemmas
 mod UpdateLemmas

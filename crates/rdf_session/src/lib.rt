@@ -9,7 +9,6 @@ mod between;
 mod fault;
 mod fed_start;
 mod format;
-mod gathering;
 mod keeper;
 mod law;
 mod lines;

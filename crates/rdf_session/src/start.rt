@@ -5,9 +5,8 @@ ghost use Rattle.rdf_session.specs.Inside.Starting.{BeginsAt, Starts};
 ghost use Rattle.rdf_session.specs.declared.format.Format.TheVariants.{Turtle};
 
 use crate::fault::KeeperFault;
-use crate::gathering::Gathering;
 use crate::load::{LAST_NUMBER, quad_limit, read_in_turtle};
-use rdf_dataset::Dataset;
+use rdf_dataset::{Dataset, Gathering};
 use rdf_terms::{Iri, NoMemory, Quad};
 use std::alloc::Global;
 use std::marker::Model;
