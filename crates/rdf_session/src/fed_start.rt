@@ -35,11 +35,7 @@ impl Model for FedStart {
 }
 
 // Feeds the reader a piece, and takes in the quads of the lines whose ends come with it.
-fn take_in(
-    lines: FedLines,
-    quads: &mut StartQuads,
-    piece: &[u8],
-) -> Result<FedLines, KeeperFault>
+fn take_in(lines: FedLines, quads: &mut StartQuads, piece: &[u8]) -> Result<FedLines, KeeperFault>
     requires { lines.number + length piece.now < 2 ^ 64 }
     ensures { MatchResult result (λ new. TakesIn lines quads.old piece.now new quads.new)
         (StopsLines lines piece.now) }
