@@ -2,21 +2,20 @@
 use Rattle.std.proofs.Common.{◌≡◌, ◌≢◌, ◌∙◌, ◌⊎◌, ap, refl, sym, subst, inl, inr, ℕ, ◌+◌, ◌*◌, ◌≤◌, arith, true, false, List, [], ◌++◌, length, append_assoc, append-nil, Option, Some, None}
 use Rattle.std.specs.Prelude.{Result, Ok, Err, IfOk, IfErr}
 use Rattle.std.specs.Io.KnownBytes.{Consumes, IsAtEnd}
-use Rattle.rdf_dataset.specs.State.{empty_state}
 use Rattle.rdf_lines.specs.declared.format.LineFormat.{LineFormat}
 use Rattle.rdf_session.specs.Beginning.{BeginsWithLoad}
 use Rattle.rdf_session.specs.Documents.{of_lines}
 use Rattle.rdf_session.specs.FedStart.{BeginsFed, FeedsOn, IsFed, Start, StopsFed}
 use Rattle.rdf_session.specs.History.{nothing}
-use Rattle.rdf_session.specs.Session.{Session, fresh}
+use Rattle.rdf_session.specs.Session.{Session}
 use Rattle.rdf_session.specs.declared.fault.KeeperFault.{KeeperFault}
-use Rattle.rdf_session.specs.declared.fault.KeeperFault.TheVariants as keeper
+use Rattle.rdf_session.specs.declared.fault.KeeperFault.TheVariants.{NoMemory}
 use Rattle.rdf_session.specs.declared.format.Format.{Format}
 use Rattle.rdf_session.proofs.CallerLemmas.{at_start}
 use Rattle.rdf_streams.proofs.StreamLemmas.{Consumes-chain}
 use Rattle.rdf_terms.specs.declared.fault.NoMemory.{NoMemory as NoMemoryFault}
 use Rattle.rdf_keeper.specs.Inside.Starting.{BeginsReading, GoesOn, IsSoFar, number_of}
-use Rattle.rdf_keeper.specs.Inside.Starts.{BeginsWith, RefusesData, RefusesLoad}
+use Rattle.rdf_keeper.specs.Inside.Starts.{BeginsWith, RefusesData}
 use Rattle.rdf_keeper.specs.Program.Openings.{Opening, Opened, Unopened}
 use Rattle.rdf_keeper.specs.Program.Sessions.{Begins, BeginsNamed, BeginsOver}
 use Rattle.rdf_keeper.specs.Program.Stages.{mapped}
@@ -30,43 +29,43 @@ use Rattle.rdf_keeper.specs.declared.program.words.StartFormat.TheVariants.{Docu
 
 -- ---- a document of lines of which a front was read
 
--- a refusal that isn't for want of memory
-abbrev pub IsNoWant : KeeperFault → Type 0
-IsNoWant fault = (refused : NoMemoryFault) → fault ≢ keeper.NoMemory refused
+pub refuses : (format : Format) (base : Option (List ℕ)) (text : List ℕ) (fault : KeeperFault) → ((wanting : NoMemoryFault) → fault ≢ NoMemory wanting) → BeginsWithLoad format base text (Err fault)
+    → RefusesData (Document format) base text (BadData fault)
+refuses format base text (NoMemory wanting) sure h = absurd (sure wanting refl)
+refuses format base text _ sure h = h
 
-refuses : (format : Format) (base : Option (List ℕ)) (text : List ℕ) (fault : KeeperFault) → IsNoWant fault → BeginsWithLoad format base text (Err fault) → RefusesLoad format text (fresh base (empty_state 0)) (BadData fault)
-refuses format base text (keeper.NoMemory refused) no h = absurd (no refused refl)
-refuses format base text _ no h = h
+-- what a refusal of the text ends the program with
+abbrev pub EndsSo : KeeperFault → Outcome → Type 0
+EndsSo fault outcome = (format : Format) (base : Option (List ℕ)) (text : List ℕ) → BeginsWithLoad format base text (Err fault) → RefusesData (Document format) base text outcome
 
 pub feeds_on : (old new : Start) (piece : List ℕ) → FeedsOn old piece new → GoesOn (Sound old) piece (Sound new)
 feeds_on old new piece f = (f.number, λ format base text h. (f.fed text h.0, f.format ∙ h.1, f.base_iri ∙ h.2))
 
-pub turns_faulty : (start : Start) (piece : List ℕ) (fault : KeeperFault) → IsNoWant fault → StopsFed start piece fault → GoesOn (Sound start) piece (Faulty fault)
-turns_faulty start piece fault no stops = (
+pub turns_faulty : (start : Start) (piece : List ℕ) (fault : KeeperFault) (outcome : Outcome) → EndsSo fault outcome → StopsFed start piece fault → GoesOn (Sound start) piece (Faulty outcome)
+turns_faulty start piece fault outcome so stops = (
   omega arith,
   λ format base text h beyond.
-      subst (λ t. RefusesData (Document (of_lines format)) base t (BadData fault)) (sym (append_assoc text piece beyond))
-      (refuses (of_lines format) base (text ++ (piece ++ beyond)) fault no (at_start start format base h.1 h.2 (text ++ (piece ++ beyond)) (Err fault) (stops text beyond h.0))),
+      subst (λ t. RefusesData (Document (of_lines format)) base t outcome) (sym (append_assoc text piece beyond))
+      (so (of_lines format) base (text ++ (piece ++ beyond)) (at_start start format base h.1 h.2 (text ++ (piece ++ beyond)) (Err fault) (stops text beyond h.0))),
 )
 
-pub stays_faulty : (fault : KeeperFault) (piece : List ℕ) → GoesOn (Faulty fault) piece (Faulty fault)
-stays_faulty fault piece = (
+pub stays_faulty : (outcome : Outcome) (piece : List ℕ) → GoesOn (Faulty outcome) piece (Faulty outcome)
+stays_faulty outcome piece = (
   omega arith,
-  λ format base text h beyond. subst (λ t. RefusesData (Document (of_lines format)) base t (BadData fault)) (sym (append_assoc text piece beyond)) (h (piece ++ beyond)),
+  λ format base text h beyond. subst (λ t. RefusesData (Document (of_lines format)) base t outcome) (sym (append_assoc text piece beyond)) (h (piece ++ beyond)),
 )
 
 -- ---- and its end
 
-pub ends_sound : (start : Start) (session : Session) → BeginsFed start (Ok session) → (format : LineFormat) (base : Option (List ℕ)) (text : List ℕ) → IsSoFar format base text (Sound start)
-    → BeginsOver (Document (of_lines format)) base text (Ok session)
-ends_sound start session b format base text h = at_start start format base h.1 h.2 text (Ok session) (b text h.0)
+module _ (start : Start) (format : LineFormat) (base : Option (List ℕ)) (text : List ℕ) (h : IsSoFar format base text (Sound start)) where
+  pub ends_sound : (session : Session) → BeginsFed start (Ok session) → BeginsOver (Document (of_lines format)) base text (Ok session)
+  ends_sound session b = at_start start format base h.1 h.2 text (Ok session) (b text h.0)
 
-pub ends_refused : (start : Start) (fault : KeeperFault) → IsNoWant fault → BeginsFed start (Err fault) → (format : LineFormat) (base : Option (List ℕ)) (text : List ℕ) → IsSoFar format base text (Sound start)
-    → BeginsOver (Document (of_lines format)) base text (Err (BadData fault))
-ends_refused start fault no b format base text h = refuses (of_lines format) base text fault no (at_start start format base h.1 h.2 text (Err fault) (b text h.0))
+  pub ends_refused : (fault : KeeperFault) (outcome : Outcome) → EndsSo fault outcome → BeginsFed start (Err fault) → BeginsOver (Document (of_lines format)) base text (Err outcome)
+  ends_refused fault outcome so b = so (of_lines format) base text (at_start start format base h.1 h.2 text (Err fault) (b text h.0))
 
-pub ends_faulty : (fault : KeeperFault) (format : LineFormat) (base : Option (List ℕ)) (text : List ℕ) → IsSoFar format base text (Faulty fault) → BeginsOver (Document (of_lines format)) base text (Err (BadData fault))
-ends_faulty fault format base text h = subst (λ t. RefusesData (Document (of_lines format)) base t (BadData fault)) (append-nil text) (h [])
+pub ends_faulty : (outcome : Outcome) (format : LineFormat) (base : Option (List ℕ)) (text : List ℕ) → IsSoFar format base text (Faulty outcome) → BeginsOver (Document (of_lines format)) base text (Err outcome)
+ends_faulty outcome format base text h = subst (λ t. RefusesData (Document (of_lines format)) base t outcome) (append-nil text) (h [])
 
 -- ---- between two read calls
 

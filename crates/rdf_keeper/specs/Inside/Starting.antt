@@ -8,7 +8,6 @@ use Rattle.rdf_keeper.specs.Inside.Starts.{RefusesData}
 use Rattle.rdf_keeper.specs.Program.Sessions.{BeginsOver}
 use Rattle.rdf_keeper.specs.Program.Texts.{ReadsAll}
 use Rattle.rdf_keeper.specs.declared.program.outcome.Outcome.{Outcome}
-use Rattle.rdf_keeper.specs.declared.program.outcome.Outcome.TheVariants.{BadData}
 use Rattle.rdf_keeper.specs.declared.program.starting.LinesSoFar.{LinesSoFar}
 use Rattle.rdf_keeper.specs.declared.program.starting.LinesSoFar.TheVariants.{Sound, Faulty}
 use Rattle.rdf_keeper.specs.declared.program.words.StartFormat.{StartFormat}
@@ -22,15 +21,15 @@ BeginsReading format base bytes result =
 
 -- ---- a document of lines, by pieces
 
--- This text was fed to a start in the format at the base, or it has a line with this fault, however it goes on.
+-- This text was fed to a start in the format at the base, or a line of it is faulty and ends the program so, however the text goes on.
 abbrev pub IsSoFar : LineFormat → Option (List ℕ) → List ℕ → LinesSoFar → Type 0
 IsSoFar format base text (Sound start) = IsFed text start × (start.lines.format ≡ format) × (start.base_iri ≡ base)
-IsSoFar format base text (Faulty fault) = (beyond : List ℕ) → RefusesData (Document (of_lines format)) base (text ++ beyond) (BadData fault)
+IsSoFar format base text (Faulty outcome) = (beyond : List ℕ) → RefusesData (Document (of_lines format)) base (text ++ beyond) outcome
 
 -- the number of the line that comes next, as far as it is counted
 abbrev pub number_of : LinesSoFar → ℕ
 number_of (Sound start) = start.lines.number
-number_of (Faulty fault) = 0
+number_of (Faulty outcome) = 0
 
 -- The piece was read, too.
 abbrev pub GoesOn : LinesSoFar → List ℕ → LinesSoFar → Type 0

@@ -1,12 +1,15 @@
 //! The session that begins with data that are read: a document of lines by pieces, and whatever else whole.
-ghost use Rattle.std.specs.Prelude.{◌≡◌, ◌+◌, ◌<◌, ◌^◌, ◌++◌, ℕ, List, Option, Some, None, IfOk, MatchResult, length};
+ghost use Rattle.std.specs.Prelude.{◌≡◌, ◌+◌, ◌<◌, ◌^◌, ℕ, List, Option, Some, None, Err, IfOk, IfSome, length};
 ghost use Rattle.std.specs.Option.{option_copied};
 ghost use Rattle.rdf_keeper.specs.Inside.Starting.{BeginsReading, GoesOn, IsSoFar, number_of};
+ghost use Rattle.rdf_keeper.specs.Inside.Starts.{RefusesData};
 ghost use Rattle.rdf_keeper.specs.Program.Sessions.{Begins, BeginsNamed, BeginsOver};
 ghost use Rattle.rdf_keeper.specs.declared.program.words.StartFormat.TheVariants.{Document};
 ghost use Rattle.rdf_lines.specs.declared.format.LineFormat.{LineFormat};
+ghost use Rattle.rdf_session.specs.Beginning.{BeginsWithLoad};
 ghost use Rattle.rdf_session.specs.Documents.{of_lines};
 ghost use Rattle.rdf_session.specs.History.{nothing};
+ghost use Rattle.rdf_session.specs.declared.format.Format.{Format};
 
 use crate::program::data::{all_of, over_read};
 use crate::program::folder::Folder;
@@ -24,12 +27,24 @@ use std::io::{Read, Write};
 // How many bytes are read at once at most.
 const PIECE: usize = 65536;
 
-/// What a document of lines has come to, of which a front was read: the start of a session to which that was fed, or the fault of
-/// a line of it. What stands behind a fault is read on, since a read that fails goes before it.
+/// What a document of lines has come to, of which a front was read: the start of a session to which that was fed, or how a fault
+/// of one of its lines ends the program. What stands behind a fault is read on, since a read that fails goes before it.
 #[derive(Drop)]
 pub(crate) enum LinesSoFar {
     Sound(FedStart),
-    Faulty(KeeperFault),
+    Faulty(Outcome),
+}
+
+// How the refusal of a document ends the program.
+fn refused(fault: KeeperFault) -> Outcome
+    ensures { (format : Format) (base : Option (List ℕ)) (text : List ℕ) →
+        BeginsWithLoad format base text (Err fault) →
+        RefusesData (Document format) base text result }
+{
+    match fault {
+        KeeperFault::NoMemory(wanting) => Outcome::NoMemory(wanting),
+        _ => Outcome::BadData(fault),
+    }
 }
 
 impl LinesSoFar {
@@ -41,10 +56,12 @@ impl LinesSoFar {
         match self {
             LinesSoFar::Sound(start) => match start.feed(piece) {
                 Ok(next) => Ok(LinesSoFar::Sound(next)),
-                Err(KeeperFault::NoMemory(refused)) => Err(refused),
-                Err(fault) => Ok(LinesSoFar::Faulty(fault)),
+                Err(fault) => match refused(fault) {
+                    Outcome::NoMemory(wanting) => Err(wanting),
+                    outcome => Ok(LinesSoFar::Faulty(outcome)),
+                },
             },
-            LinesSoFar::Faulty(fault) => Ok(LinesSoFar::Faulty(fault)),
+            LinesSoFar::Faulty(outcome) => Ok(LinesSoFar::Faulty(outcome)),
         }
     }
 
@@ -58,10 +75,9 @@ impl LinesSoFar {
         match self {
             LinesSoFar::Sound(start) => match start.end() {
                 Ok(keeper) => Ok(keeper),
-                Err(KeeperFault::NoMemory(refused)) => Err(Outcome::NoMemory(refused)),
-                Err(fault) => Err(Outcome::BadData(fault)),
+                Err(fault) => Err(refused(fault)),
             },
-            LinesSoFar::Faulty(fault) => Err(Outcome::BadData(fault)),
+            LinesSoFar::Faulty(outcome) => Err(outcome),
         }
     }
 }
@@ -82,7 +98,7 @@ fn begun_by_lines<R: Read>(
             Ok(0) => return so_far.end(),
             Ok(n) => match so_far.feed(&buffer[..n]) {
                 Ok(next) => so_far = next,
-                Err(refused) => return Err(Outcome::NoMemory(refused)),
+                Err(wanting) => return Err(Outcome::NoMemory(wanting)),
             },
             Err(_) => {
                 drop(so_far);
@@ -94,6 +110,17 @@ fn begun_by_lines<R: Read>(
     Err(Outcome::ReadFailed)
 }
 
+// The format of lines of the data, where they are a document of lines.
+fn lines_in(format: StartFormat) -> Option<LineFormat>
+    ensures { IfSome result (λ lines. format ≡ Document (of_lines lines)) }
+{
+    match format {
+        StartFormat::Document(Format::NQuads) => Some(LineFormat::NQuads),
+        StartFormat::Document(Format::NTriples) => Some(LineFormat::NTriples),
+        StartFormat::Document(Format::Turtle) | StartFormat::State => None,
+    }
+}
+
 // A session without history over all that a reader has left.
 fn begun_by<R: Read>(
     alloc: Global,
@@ -103,16 +130,9 @@ fn begun_by<R: Read>(
 ) -> Result<Keeper, Outcome>
     ensures { BeginsReading format base (R.remaining reader.old) result }
 {
-    match format {
-        StartFormat::Document(Format::NQuads) => {
-            begun_by_lines(alloc, base, LineFormat::NQuads, reader)
-        }
-        StartFormat::Document(Format::NTriples) => {
-            begun_by_lines(alloc, base, LineFormat::NTriples, reader)
-        }
-        StartFormat::Document(Format::Turtle) | StartFormat::State => {
-            over_read(alloc, base, format, all_of(alloc, reader))
-        }
+    match lines_in(format) {
+        Some(lines) => begun_by_lines(alloc, base, lines, reader),
+        None => over_read(alloc, base, format, all_of(alloc, reader)),
     }
 }
 
