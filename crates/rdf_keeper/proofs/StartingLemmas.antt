@@ -1,12 +1,11 @@
 -- How a session begins with data while they are read.
-use Rattle.std.proofs.Common.{◌≡◌, ◌≢◌, ◌∙◌, ◌⊎◌, ap, refl, sym, subst, inl, inr, ℕ, ◌+◌, ◌*◌, ◌≤◌, arith, true, false, List, [], ◌++◌, length, append_assoc, append-nil, Option, Some, None}
+use Rattle.std.proofs.Common.{◌≡◌, ◌≢◌, ◌∙◌, ap, refl, sym, subst, inl, inr, ℕ, ◌+◌, ◌*◌, ◌≤◌, arith, true, false, List, [], ◌++◌, length, append_assoc, append-nil, Option, Some, None}
 use Rattle.std.specs.Prelude.{Result, Ok, Err, IfOk, IfErr}
 use Rattle.std.specs.Io.KnownBytes.{Consumes, IsAtEnd}
 use Rattle.rdf_lines.specs.declared.format.LineFormat.{LineFormat}
 use Rattle.rdf_session.specs.Beginning.{BeginsWithLoad}
 use Rattle.rdf_session.specs.Documents.{of_lines}
-use Rattle.rdf_session.specs.FedStart.{BeginsFed, FeedsOn, IsFed, Start, StopsFed}
-use Rattle.rdf_session.specs.History.{nothing}
+use Rattle.rdf_session.specs.FedStart.{BeginsFed, IsFed, Start, StopsFed}
 use Rattle.rdf_session.specs.Session.{Session}
 use Rattle.rdf_session.specs.declared.fault.KeeperFault.{KeeperFault}
 use Rattle.rdf_session.specs.declared.fault.KeeperFault.TheVariants.{NoMemory}
@@ -15,17 +14,17 @@ use Rattle.rdf_session.proofs.CallerLemmas.{at_start}
 use Rattle.rdf_streams.proofs.StreamLemmas.{Consumes-chain}
 use Rattle.rdf_terms.specs.declared.fault.NoMemory.{NoMemory as NoMemoryFault}
 use Rattle.rdf_keeper.specs.Inside.Starting.{BeginsReading, GoesOn, IsSoFar, number_of}
-use Rattle.rdf_keeper.specs.Inside.Starts.{BeginsWith, RefusesData}
-use Rattle.rdf_keeper.specs.Program.Openings.{Opening, Opened, Unopened}
+use Rattle.rdf_keeper.specs.Inside.Starts.{RefusesData}
+use Rattle.rdf_keeper.specs.Program.Openings.{Opening}
 use Rattle.rdf_keeper.specs.Program.Sessions.{Begins, BeginsNamed, BeginsOver}
 use Rattle.rdf_keeper.specs.Program.Stages.{mapped}
 use Rattle.rdf_keeper.specs.Program.Texts.{ReadsAll, is_input}
 use Rattle.rdf_keeper.specs.declared.program.outcome.Outcome.{Outcome}
-use Rattle.rdf_keeper.specs.declared.program.outcome.Outcome.TheVariants.{BadData, ReadFailed}
+use Rattle.rdf_keeper.specs.declared.program.outcome.Outcome.TheVariants.{BadData}
 use Rattle.rdf_keeper.specs.declared.program.starting.LinesSoFar.{LinesSoFar}
 use Rattle.rdf_keeper.specs.declared.program.starting.LinesSoFar.TheVariants.{Sound, Faulty}
 use Rattle.rdf_keeper.specs.declared.program.words.StartFormat.{StartFormat}
-use Rattle.rdf_keeper.specs.declared.program.words.StartFormat.TheVariants.{Document, State}
+use Rattle.rdf_keeper.specs.declared.program.words.StartFormat.TheVariants.{Document}
 
 -- ---- a document of lines of which a front was read
 
@@ -37,9 +36,6 @@ refuses format base text _ sure h = h
 -- what a refusal of the text ends the program with
 abbrev pub EndsSo : KeeperFault → Outcome → Type 0
 EndsSo fault outcome = (format : Format) (base : Option (List ℕ)) (text : List ℕ) → BeginsWithLoad format base text (Err fault) → RefusesData (Document format) base text outcome
-
-pub feeds_on : (old new : Start) (piece : List ℕ) → FeedsOn old piece new → GoesOn (Sound old) piece (Sound new)
-feeds_on old new piece f = (f.number, λ format base text h. (f.fed text h.0, f.format ∙ h.1, f.base_iri ∙ h.2))
 
 pub turns_faulty : (start : Start) (piece : List ℕ) (fault : KeeperFault) (outcome : Outcome) → EndsSo fault outcome → StopsFed start piece fault → GoesOn (Sound start) piece (Faulty outcome)
 turns_faulty start piece fault outcome so stops = (
@@ -111,9 +107,6 @@ module _ (before now : Option (List ℕ)) (format : LineFormat) (base : Option (
     ends format base r.read r.is,
   )
 
-pub reading_ends : (format : StartFormat) (base bytes : Option (List ℕ)) (outcome : Outcome) → ReadsAll bytes (Err outcome) → BeginsReading format base bytes (Err outcome)
-reading_ends format base bytes outcome h = inl (outcome, h, refl)
-
 -- ---- first a text is read whole, and then the session begins over it
 
 pub begins_over_read : {Text : Type 0} (format : StartFormat) (base bytes : Option (List ℕ)) (read : Result Text Outcome) (text_of : Text → List ℕ) (result : Result Session Outcome)
@@ -124,13 +117,6 @@ begins_over_read format base bytes (Err outcome) text_of result whole over none 
 -- ---- what is read
 
 module _ {Folder : Type 0} (step : Folder → Opening → Folder → Type 0) (format : StartFormat) (base : Option (List ℕ)) (path : List ℕ) (old new : Folder) where
-  pub begins_opened : (bytes : Option (List ℕ)) (result : Result Session Outcome) → step old (Opened path bytes) new → BeginsReading format base bytes result → Begins step format (Some path) base old result new
-  begins_opened bytes result opened (inl (outcome, read, e)) = inl (outcome, inr (bytes, new, opened, (read, refl)), e)
-  begins_opened bytes result opened (inr (text, read, over)) = inr (text, new, inr (bytes, new, opened, (read, refl)), (over, refl))
-
-  pub begins_unopened : step old (Unopened path) new → Begins step format (Some path) base old (Err ReadFailed) new
-  begins_unopened unopened = inl (ReadFailed, inl (ReadFailed, (unopened, refl), refl), refl)
-
   pub begins_named : (input : Option (List ℕ)) (result : Result Session Outcome) → is_input path ≡ false → Begins step format (Some path) base old result new → BeginsNamed step format path base (old, input) result (new, input)
   begins_named input result other (inl (outcome, read, e)) = inl (outcome, rw other (refl, read), e)
   begins_named input result other (inr (text, mid, read, (over, e))) = inr (text, (mid, input), rw other (refl, read), (over, ap (λ (f : Folder). (f, input)) e))
@@ -138,24 +124,3 @@ module _ {Folder : Type 0} (step : Folder → Opening → Folder → Type 0) (fo
   pub begins_input : (input left : Option (List ℕ)) (result : Result Session Outcome) → is_input path ≡ true → BeginsReading format base input result → BeginsNamed step format path base (old, input) result (old, left)
   begins_input input left result same (inl (outcome, read, e)) = inl (outcome, rw same (refl, read), e)
   begins_input input left result same (inr (text, read, over)) = inr (text, (old, left), rw same (refl, read), (over, refl))
-
--- ---- no session has a history that begins so
-
-begins_without_history : (format : StartFormat) (base : Option (List ℕ)) (text : List ℕ) (start : Session) → BeginsWith format base text start → start.states ≡ nothing
-begins_without_history (Document format) base text start b = ap (λ (s : Session). s.states) b.3
-begins_without_history State base text start b = ap (λ (s : Session). s.states) b.3
-
-begins_unbounded : (format : StartFormat) (base : Option (List ℕ)) (text : List ℕ) (start : Session) → BeginsWith format base text start → start.depth ≡ None
-begins_unbounded (Document format) base text start b = ap (λ (s : Session). s.depth) b.3 ∙ ap (λ (s : Session). s.depth) b.2.2
-begins_unbounded State base text start b = ap (λ (s : Session). s.depth) b.3
-
-over_without_history : (format : StartFormat) (base : Option (List ℕ)) (text : List ℕ) (result : Result Session Outcome) → BeginsOver format base text result
-    → IfOk result (λ start. start.depth ≡ None) × IfOk result (λ start. start.states ≡ nothing)
-over_without_history format base text (Ok start) over = (begins_unbounded format base text start over, begins_without_history format base text start over)
-over_without_history format base text (Err outcome) over = (tt, tt)
-
-pub without_history : {Folder : Type 0} (step : Folder → Opening → Folder → Type 0) (format : StartFormat) (base : Option (List ℕ)) (path : List ℕ) (old new : Folder) (result : Result Session Outcome)
-    → Begins step format (Some path) base old result new → IfOk result (λ start. start.depth ≡ None) × IfOk result (λ start. start.states ≡ nothing)
-without_history step format base path old new (Ok start) (inl (outcome, read, e)) = cc
-without_history step format base path old new (Err other) (inl (outcome, read, e)) = (tt, tt)
-without_history step format base path old new result (inr (text, mid, read, (over, e))) = over_without_history format base text result over
