@@ -1,5 +1,5 @@
 -- The names of the graphs of quads, and their numbers, as sets.
-use Rattle.std.proofs.Common.{◌≡◌, ℕ, zero, suc, ◌+◌, Bool, true, false, ◌||◌, List, [], ◌∷◌, ◌++◌, All, append-nil, add-one, get_or, length, map, refl, sym, ap, subst, ◌∙◌, arith, inl, inr}
+use Rattle.std.proofs.Common.{◌≡◌, ℕ, zero, suc, ◌+◌, Bool, true, false, ◌||◌, List, [], ◌∷◌, ◌++◌, All, append-nil, add-one, map, refl, sym, ap, subst, ◌∙◌, arith, inl, inr}
 use mathlib.Core.Bool.{true≢false}
 use Rattle.std.specs.Prelude.{IsTrue, Some, slice_get}
 use Rattle.std.specs.List.{AllByRecursion, flat_map}
@@ -10,10 +10,8 @@ use Rattle.std.specs.Cmp.{IsTotalOrder, both_ways, nat_cmp_total}
 use Rattle.std.specs.FinSet as set
 use Rattle.std.specs.FinSet.{IsAntisymmetric, nat_cmp-IsAntisymmetric, contains-empty, contains-insert, contains-union, same_set}
 use Rattle.rdf_terms.specs.declared.term.Term.{Term}
-use Rattle.rdf_terms.specs.declared.quad.GraphName.{GraphName}
-use Rattle.rdf_terms.specs.declared.quad.GraphName.TheVariants.{Default, Named}
 use Rattle.rdf_terms.specs.Quad.{QuadParts, is_quad}
-use Rattle.rdf_terms.specs.Order.{quad_cmp, term_cmp}
+use Rattle.rdf_terms.specs.Order.{term_cmp}
 use Rattle.rdf_terms.specs.OrderLaws.{term_cmp_total, term_cmp-IsAntisymmetric, quad_cmp_total, quad_cmp-IsAntisymmetric}
 use Rattle.rdf_terms.specs.Table.{IsIdOf}
 use Rattle.rdf_orders.specs.declared.order.Order.TheVariants.{Spo}
@@ -24,7 +22,7 @@ use Rattle.rdf_orders.proofs.CallerLemmas.{id_quad_cmp_total, id_quad_cmp-IsAnti
 use Rattle.rdf_store.specs.Stored.{Stored, with_all}
 use Rattle.rdf_store.specs.Gathered.{gathered, graph_names, names_in}
 use Rattle.rdf_store.specs.Inside.Names.{name_in, named_by}
-use Rattle.rdf_store.specs.Inside.Numbers.{AreIds, AreKeys, HasTerms, HaveTerms, IsGraphNumber, graph_at, image, parts_of, shown, term_at}
+use Rattle.rdf_store.specs.Inside.Numbers.{AreIds, HasTerms, HaveTerms, IsGraphNumber, graph_at, image, parts_of, shown, term_at}
 use Rattle.rdf_store.proofs.GrowthLemmas.{keys_matched}
 use Rattle.rdf_store.proofs.ImageLemmas.{eq_of_same, image-from_list, same_of_eq}
 use Rattle.rdf_store.proofs.StoreLemmas.{kept_nothing, kept_with_all, shown_nothing, shown_with_all}
