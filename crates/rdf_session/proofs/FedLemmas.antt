@@ -92,8 +92,8 @@ module _ (old now : Fed) (piece front rest : List ℕ) (more : List QuadParts) (
             (subst (λ r. HasBeenFed r (quads ++ more) new) (append_assoc read front t.front) (t.fed (read ++ front) (quads ++ more) (far.fed read quads h)));
       }
 
-  text_of : (read beyond : List ℕ) → (read ++ front) ++ (rest ++ beyond) ≡ read ++ (piece ++ beyond)
-  text_of read beyond =
+  pub read_parts : (read beyond : List ℕ) → (read ++ front) ++ (rest ++ beyond) ≡ read ++ (piece ++ beyond)
+  read_parts read beyond =
       append_assoc read front (rest ++ beyond) ∙ ap (λ l. read ++ l) (sym (append_assoc front rest beyond) ∙ ap (λ l. l ++ beyond) (sym parts))
 
   -- or a line is faulty
@@ -102,7 +102,7 @@ module _ (old now : Fed) (piece front rest : List ℕ) (more : List QuadParts) (
       subst (TellsLineFault old.format (read ++ (piece ++ beyond))) (sym is)
       (stops_line old.format (read ++ (piece ++ beyond)) (quads ++ more) f f.kind
       (subst (λ g. StopsFed g (read ++ (piece ++ beyond)) (quads ++ more) f f.kind) far.format
-      (subst (λ t. StopsFed now.format t (quads ++ more) f f.kind) (text_of read beyond) (faults (read ++ front) (quads ++ more) beyond (far.fed read quads h)))))
+      (subst (λ t. StopsFed now.format t (quads ++ more) f f.kind) (read_parts read beyond) (faults (read ++ front) (quads ++ more) beyond (far.fed read quads h)))))
 
 -- ---- a start
 

@@ -1,6 +1,6 @@
 use Rattle.std.proofs.Common.{◌≡◌, ◌++◌, ◌+◌, ◌≤◌, ℕ, List, length}
 use Rattle.rdf_terms.specs.declared.quad.Quad.{Quad}
-use Rattle.rdf_streams.proofs.ConversionLemmas.Gathered.{SoFar}
+use Rattle.rdf_session.proofs.CallerLemmas.{SoFar}
 use Rattle.rdf_streams.proofs.checking.counted.count_piece.Given as goal
 
 abbrev pub invariant-loop-next : goal.invariant-loop-next
