@@ -99,8 +99,8 @@ impl<'r, T> TermBins<'r, T> {
     /// The bins of these terms, each at the place of its term.
     pub(crate) fn over(alloc: Global, terms: TermTable, bins: Vec<Bin<'r, T>>) -> TermBins<'r, T>
         requires { length bins.items ≡ length terms }
-        ensures terms { result.terms ≡ terms }
-        ensures bins { result.bins ≡ bins.entry }
+        ensures { (t : Term) → binned result.terms (map bin_items result.bins.items) t
+            ≡ binned terms (map bin_items bins.entry.items) t }
     {
         TermBins {
             terms,
