@@ -10,14 +10,9 @@ use Rattle.sparql_values.specs.Mapping.{Mapping, compatible, same_term, value_at
 use Rattle.sparql_algebra.proofs.CallerLemmas.{and_left, same_term_is}
 use Rattle.sparql_values.proofs.CallerLemmas.{same_term_own}
 use Rattle.sparql_algebra.specs.Under.{agreeing}
-use Rattle.sparql_solve.specs.declared.bins.Bin.{Bin}
-use Rattle.sparql_solve.specs.Bins.{bin_rows, binned, binned_in, has_at, is_term, with_at}
+use Rattle.sparql_solve.specs.Bins.{binned, binned_in, has_at, is_term, with_at}
 use Rattle.sparql_solve.specs.Keys.{IsKeyOf, all_bind, binds}
 use Rattle.sparql_solve.proofs.KeyLemmas.{agree_at, filter_within, left_has, right_has, rows_of}
-
--- what stands in each bin
-abbrev pub bins_in : List Bin → List (List Mapping)
-bins_in bins = map bin_rows bins
 
 -- ---- terms
 
@@ -52,7 +47,7 @@ id_behind [] t = refl
 id_behind (u ∷ us) t = id_behind us t
 
 -- a term with a place in the table is held as it was, where the place is one that was there, and else it is new
-pub with_new : (us : List Term) (t : Term) (k : ℕ) → IsIdOf (with_term us t) k t → k ≡ length us → with_term us t ≡ us ++ t ∷ []
+with_new : (us : List Term) (t : Term) (k : ℕ) → IsIdOf (with_term us t) k t → k ≡ length us → with_term us t ≡ us ++ t ∷ []
 with_new us t k h e = by_test (is_held us t) refl
   where
     by_test : (b : Bool) → is_held us t ≡ b → with_term us t ≡ us ++ t ∷ []
@@ -61,7 +56,7 @@ with_new us t k h e = by_test (is_held us t) refl
         let same : with_term us t ≡ us = ap (λ (c : Bool). if c then us else us ++ t ∷ []) p in
         let lt : k < length us = id_below us k t (subst (λ (l : List Term). IsIdOf l k t) same h) in absurd (omega (arith, lt, e))
 
-pub with_held : (us : List Term) (t : Term) (k : ℕ) → AreHeldOnce (with_term us t) → IsIdOf (with_term us t) k t → (k ≡ length us → ⊥) → with_term us t ≡ us
+with_held : (us : List Term) (t : Term) (k : ℕ) → AreHeldOnce (with_term us t) → IsIdOf (with_term us t) k t → (k ≡ length us → ⊥) → with_term us t ≡ us
 with_held us t k o h e = by_test (is_held us t) refl
   where
     by_test : (b : Bool) → is_held us t ≡ b → with_term us t ≡ us
@@ -72,7 +67,7 @@ with_held us t k o h e = by_test (is_held us t) refl
         absurd (e at)
 
 -- what the bins are before an item comes in: a new term has an empty one
-pub record IsReady {X : Type 0} (us new : List Term) (old bins : List (List X)) : Type 0 where
+record IsReady {X : Type 0} (us new : List Term) (old bins : List (List X)) : Type 0 where
   pub paired : length bins ≡ length new
   pub same : (s : Term) → binned new bins s ≡ binned us old s
 
@@ -168,7 +163,7 @@ module _ {X : Type 0} where
     at_new : IsIdOf (with_term us t) k t
     at_new = subst (λ (l : List Term). IsIdOf l k t) n i
 
-    pub ready_new : k ≡ length old → bins ≡ old ++ [] ∷ [] → IsReady us new old bins
+    ready_new : k ≡ length old → bins ≡ old ++ [] ∷ [] → IsReady us new old bins
     ready_new e b =
         let behind : new ≡ us ++ t ∷ [] = n ∙ with_new us t k at_new (e ∙ p) in
         record {
@@ -176,7 +171,7 @@ module _ {X : Type 0} where
           same = λ s. ap (λ (l : List Term). binned l bins s) behind ∙ ap (λ (l : List (List X)). binned (us ++ t ∷ []) l s) b ∙ empty_behind us old t s (sym p);
         }
 
-    pub ready_held : AreHeldOnce new → (k ≡ length old → ⊥) → bins ≡ old → IsReady us new old bins
+    ready_held : AreHeldOnce new → (k ≡ length old → ⊥) → bins ≡ old → IsReady us new old bins
     ready_held o e b =
         let held : new ≡ us = n ∙ with_held us t k (subst AreHeldOnce n o) at_new (λ a. e (a ∙ sym p)) in
         record {
@@ -186,13 +181,25 @@ module _ {X : Type 0} where
 
   module _ (us new : List Term) (old bins after : List (List X)) (t : Term) (k : ℕ) (m : X) (r : IsReady us new old bins) (o : AreHeldOnce new)
       (i : IsIdOf new k t) (e : after ≡ with_at k m bins) where
-    pub put_paired : length after ≡ length new
+    put_paired : length after ≡ length new
     put_paired = ap length e ∙ with_at_length k m bins ∙ r.paired
 
-    pub put_gives : (s : Term) → binned new after s ≡ binned us old s ++ cond (same_term s t) (m ∷ []) []
+    put_gives : (s : Term) → binned new after s ≡ binned us old s ++ cond (same_term s t) (m ∷ []) []
     put_gives s =
         ap (λ (l : List (List X)). binned new l s) e ∙ one_put new bins k t m s o i (sym r.paired)
         ∙ ap (λ (l : List X). l ++ cond (same_term s t) (m ∷ []) []) (r.same s)
+
+  -- the bin of a term that is held has the item
+  module _ (us new : List Term) (old after : List (List X)) (t : Term) (k : ℕ) (m : X) (n : new ≡ with_term us t) (i : IsIdOf new k t)
+      (p : length old ≡ length us) (o : AreHeldOnce new) (e : k ≡ length old → ⊥) (a : after ≡ with_at k m old) where
+    is_ready : IsReady us new old old
+    is_ready = ready_held us new old old t k n i p o e refl
+
+    pub held_paired : length after ≡ length new
+    held_paired = put_paired us new old old after t k m is_ready o i a
+
+    pub held_gives : (s : Term) → binned new after s ≡ binned us old s ++ cond (same_term s t) (m ∷ []) []
+    held_gives = put_gives us new old old after t k m is_ready o i a
 
   -- a bin that is new has the item
   with_at_end : (bins : List (List X)) (k : ℕ) (m : X) → k ≡ length bins → bins ++ (m ∷ []) ∷ [] ≡ with_at k m (bins ++ [] ∷ [])

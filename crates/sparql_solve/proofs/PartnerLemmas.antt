@@ -17,7 +17,6 @@ use Rattle.sparql_solve.specs.declared.grown.Spot.{Spot}
 use Rattle.sparql_solve.specs.declared.grown.Spot.TheVariants.{Known, Free, Asked}
 use Rattle.sparql_solve.specs.declared.look_ups.Graphs.{Graphs}
 use Rattle.sparql_solve.specs.declared.look_ups.LookUp.{LookUp}
-use Rattle.sparql_solve.specs.declared.partners.QuadBin.{QuadBin}
 use Rattle.sparql_solve.specs.declared.place.Place.{Place}
 use Rattle.sparql_solve.specs.declared.place.Place.TheVariants.{Fixed, Column, Nowhere}
 use Rattle.sparql_solve.specs.declared.place.Places.{Places}
@@ -25,7 +24,7 @@ use Rattle.sparql_solve.specs.Grown.{AreTold, IsPut, is_told, spots_in}
 use Rattle.sparql_solve.specs.LookUps.{widened}
 use Rattle.sparql_solve.specs.Matching.{assigned, has_held, held, matched, matches_of, quads_under}
 use Rattle.sparql_solve.specs.Members.{AreSolutions, element_solutions}
-use Rattle.sparql_solve.specs.Partners.{AreFound, asks_end, beside, bin_quads, end_of, end_term, free_at, has_no_condition}
+use Rattle.sparql_solve.specs.Partners.{AreFound, asks_end, beside, end_of, end_term, free_at, has_no_condition}
 use Rattle.sparql_solve.specs.Sides.{found, found_among}
 use Rattle.sparql_solve.specs.Under.{AreMade, IsLookUpFor, binds_none, counting, is_joined, is_removed, kept, masked, own_columns, where_none}
 use Rattle.sparql_solve.proofs.FitLemmas.{listed_held, no_terms, terms_under}
@@ -40,10 +39,6 @@ use Rattle.sparql_solve.proofs.StepLemmas.{alone_made}
 -- the quads of these references
 abbrev pub quads_of : List (Bor QuadParts) → List QuadParts
 quads_of qs = map (λ (q : Bor QuadParts). q.now) qs
-
--- what stands in each bin
-abbrev pub quad_bins_in : List QuadBin → List (List QuadParts)
-quad_bins_in bins = map bin_quads bins
 
 -- ---- places that have nothing
 

@@ -1,14 +1,14 @@
--- The right side of a join in bins: its rows by the one term that they have at the one column of the key.
+-- Items in bins by a term, as the rows of a join's right side by the one term that they have at the one column of the key.
 use Rattle.std.specs.Prelude.{ℕ, Bool, false, cond, List, [], ◌∷◌, ◌++◌, map, Option, Some, None, zero, suc}
 use Rattle.rdf_terms.specs.declared.term.Term.{Term}
 use Rattle.sparql_values.specs.Mapping.{Mapping, same_term, value_at}
-use Rattle.sparql_solve.specs.declared.bins.Bin.{Bin}
-use Rattle.sparql_solve.specs.declared.bins.Bin.TheVariants.{One, Many}
+use Rattle.sparql_solve.specs.declared.term_bins.Bin.{Bin}
+use Rattle.sparql_solve.specs.declared.term_bins.Bin.TheVariants.{One, Many}
 
--- the rows of a bin
-abbrev pub bin_rows : Bin → List Mapping
-bin_rows (One r) = r.now ∷ []
-bin_rows (Many rows) = map (λ r. r.now) rows.items
+-- the items of a bin
+abbrev pub bin_items : {T : Type 0} → Bin T → List T
+bin_items (One x) = x.now ∷ []
+bin_items (Many xs) = map (λ x. x.now) xs.items
 
 abbrev pub is_term : Term → Option Term → Bool
 is_term t (Some u) = same_term t u
@@ -31,6 +31,6 @@ with_at zero m (bin ∷ bins) = (bin ++ m ∷ []) ∷ bins
 with_at (suc place) m (bin ∷ bins) = bin ∷ with_at place m bins
 
 -- the same of what a mapping has at a column, where it has something there
-abbrev pub binned_in : List Term → List (List Mapping) → Option Term → List Mapping
+abbrev pub binned_in : {X : Type 0} → List Term → List (List X) → Option Term → List X
 binned_in terms bins (Some t) = binned terms bins t
 binned_in terms bins None = []

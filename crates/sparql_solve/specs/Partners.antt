@@ -1,5 +1,5 @@
 -- The quads of a triple pattern that were found once, whatever rows bind, and what rows make of them by the one end that they ask for.
-use Rattle.std.specs.Prelude.{◌≡◌, Bool, true, false, not, ◌&&◌, List, [], ◌∷◌, cond, is_some, map}
+use Rattle.std.specs.Prelude.{◌≡◌, Bool, true, false, not, ◌&&◌, List, [], ◌∷◌, cond, is_some}
 use Rattle.rdf_terms.specs.Quad.{QuadParts}
 use Rattle.rdf_terms.specs.declared.quad.GraphName.{GraphName}
 use Rattle.rdf_terms.specs.declared.term.Term.{Term}
@@ -12,8 +12,6 @@ use Rattle.sparql_solve.specs.Matching.{held, matches_of, quads_under}
 use Rattle.sparql_solve.specs.Under.{binds_none, masked, own_columns}
 use Rattle.sparql_solve.specs.declared.look_ups.Graphs.TheVariants.{One}
 use Rattle.sparql_solve.specs.declared.look_ups.LookUp.{LookUp}
-use Rattle.sparql_solve.specs.declared.partners.QuadBin.{QuadBin}
-use Rattle.sparql_solve.specs.declared.partners.QuadBin.TheVariants as bin
 use Rattle.sparql_solve.specs.declared.place.Place.{Place}
 use Rattle.sparql_solve.specs.declared.place.Place.TheVariants.{Fixed, Column, Nowhere}
 use Rattle.sparql_solve.specs.declared.place.Places.{Places}
@@ -43,11 +41,6 @@ free_at Nowhere m = true
 -- the mapping asks for nothing but the one end
 abbrev pub asks_end : Bool → Places → Mapping → Bool
 asks_end b p m = free_at p.predicate m && free_at (end_of (not b) p) m
-
--- the quads of a bin
-abbrev pub bin_quads : QuadBin → List QuadParts
-bin_quads (bin.One q) = q.now ∷ []
-bin_quads (bin.Many quads) = map (λ q. q.now) quads.items
 
 -- what a mapping makes of the quads that counts for it: of MINUS's nothing, where it has none of the look-ups' variables
 abbrev pub beside : Variables → LookUp → Places → List QuadParts → Element → Mapping → List Mapping

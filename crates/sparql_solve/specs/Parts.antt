@@ -6,12 +6,12 @@ use Rattle.sparql_algebra.specs.Solutions.{merges, shares}
 use Rattle.sparql_solve.specs.declared.keyed.Part.{Part}
 use Rattle.sparql_solve.specs.declared.keyed.Part.TheVariants.{Binned, Sorted}
 use Rattle.sparql_solve.specs.declared.bins.Bins.{Bins}
-use Rattle.sparql_solve.specs.Bins.{bin_rows, binned_in}
+use Rattle.sparql_solve.specs.TermBins.{in_bin_of}
 use Rattle.sparql_solve.specs.Keys.{run}
 
 -- those in the bin of the term that a mapping has at the column
 abbrev pub bin_of : Mapping → Bins → List Mapping
-bin_of a b = binned_in b.terms (map bin_rows b.bins.items) (value_at a b.column)
+bin_of a b = in_bin_of b.rows (value_at a b.column)
 
 -- those of a part that have the key of a mapping
 abbrev pub part_run : Mapping → Part → List Mapping

@@ -38,6 +38,7 @@ mod shapes;
 mod sharing;
 mod shown;
 mod sides;
+mod term_bins;
 mod values;
 
 pub use keys::runs_give_merges;

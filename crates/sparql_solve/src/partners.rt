@@ -1,15 +1,15 @@
 //! The triples of a pattern that were found once for many rows, in bins: by the term at the one end, the
 //! subject or the object, that rows have. What a row makes is found in its bin, as by a look-up.
-ghost use Rattle.std.specs.Prelude.{◌≡◌, ◌++◌, ◌∷◌, [], IfOk, IsTrue, OnOk, cond, filter, length, map, true};
+ghost use Rattle.std.specs.Prelude.{◌≡◌, ◌++◌, [], IfOk, IsTrue, OnOk, cond, filter, map, true};
 ghost use Rattle.std.specs.List.{flat_map, list_all};
 ghost use Rattle.rdf_terms.specs.declared.term.Term.{Term};
 ghost use Rattle.sparql_algebra.specs.Algebra.{element};
 ghost use Rattle.sparql_algebra.specs.Results.{is_some_solution};
 ghost use Rattle.sparql_algebra.specs.Solutions.{or_alone};
 ghost use Rattle.sparql_values.specs.Mapping.{same_term};
-ghost use Rattle.sparql_solve.specs.Bins.{binned, with_at};
+ghost use Rattle.sparql_solve.specs.TermBins.{in_bin};
 ghost use Rattle.sparql_solve.specs.Matching.{has_held, matches_of};
-ghost use Rattle.sparql_solve.specs.Partners.{asks_end, beside, bin_quads, end_of, end_term, free_at, has_no_condition};
+ghost use Rattle.sparql_solve.specs.Partners.{asks_end, beside, end_of, end_term, free_at, has_no_condition};
 ghost use Rattle.sparql_solve.specs.Under.{binds_none, kept, masked, own_columns, where_none};
 
 use crate::basic::is_unbound_in;
@@ -20,10 +20,10 @@ use crate::mappings::Mapping;
 use crate::matching::matches_row;
 use crate::members::{is_joined, is_removed};
 use crate::place::{Place, Places};
-use rdf_terms::{NoMemory, Quad, Term, TermTable, terms_are_held_once};
+use crate::term_bins::{TermBins, put};
+use rdf_terms::{NoMemory, Quad, Term, TermTable};
 use sparql_trees::Member;
 use std::alloc::Global;
-use std::slice;
 
 /// The place of the subject or of the object.
 pub(crate) fn end_of(places: &Places, is_subject: bool) -> &Place
@@ -69,94 +69,15 @@ pub(crate) fn all_ask_end(is_subject: bool, places: &Places, rows: &[Mapping]) -
     rows.iter().all(|row| asks_end(is_subject, places, row))
 }
 
-/// The quads of a bin: most often one, which takes no memory of its own.
-#[derive(Drop)]
-pub(crate) enum QuadBin<'q> {
-    One(&'q Quad),
-    Many(Vec<&'q Quad>),
-}
-
-impl<'q> QuadBin<'q> {
-    fn as_slice(&self) -> &[&'q Quad]
-        ensures { map (λ q. q.now) result.now ≡ bin_quads self.now }
-    {
-        match self {
-            QuadBin::One(quad) => slice::from_ref(quad),
-            QuadBin::Many(quads) => quads.as_slice(),
-        }
-    }
-
-    // Puts a quad behind those of the bin.
-    fn push(&mut self, alloc: Global, quad: &'q Quad) -> Result<(), NoMemory>
-        ensures { OnOk result (bin_quads self.new ≡ bin_quads self.old ++ quad.now ∷ []) }
-    {
-        match self {
-            QuadBin::One(first) => {
-                let mut quads = Vec::with_capacity(alloc, 2)?;
-                quads.push(*first)?;
-                quads.push(quad)?;
-                *self = QuadBin::Many(quads);
-            }
-            QuadBin::Many(quads) => quads.push(quad)?,
-        }
-        Ok(())
-    }
-}
-
 /// Quads by their term at an end.
 #[derive(Drop)]
 pub(crate) struct QuadBins<'q> {
     pub(crate) is_subject: bool,
     /// All of them.
     pub(crate) all: Vec<&'q Quad>,
-    /// The terms, each of which has the bin at its own place.
-    pub(crate) terms: TermTable,
-    pub(crate) bins: Vec<QuadBin<'q>>,
-    /// The bin of a term that no quad has.
-    none: Vec<&'q Quad>,
-    ghost empty: { none.items ≡ [] },
-    ghost paired: { length bins.items ≡ length terms },
-    ghost parted: { (t : Term) → binned terms (map bin_quads bins.items) t
+    pub(crate) bins: TermBins<'q, Quad>,
+    ghost parted: { (t : Term) → in_bin bins t
         ≡ filter (λ q. same_term t (end_term is_subject q)) (map (λ q. q.now) all.items) },
-}
-
-// Puts the quad into the bin at the place, if there is one.
-fn put_at<'q>(
-    alloc: Global,
-    bins: &mut Vec<QuadBin<'q>>,
-    place: usize,
-    quad: &'q Quad,
-) -> Result<(), NoMemory>
-    ensures { OnOk result (map bin_quads bins.new.items
-        ≡ with_at place quad.now (map bin_quads bins.old.items)) }
-{
-    if let Some(bin) = bins.get_mut(place) {
-        bin.push(alloc, quad)?;
-    }
-    Ok(())
-}
-
-// Puts the quad into the bin of the term, which gets one where it is new.
-fn put<'q>(
-    alloc: Global,
-    terms: &mut TermTable,
-    bins: &mut Vec<QuadBin<'q>>,
-    term: &Term,
-    quad: &'q Quad,
-) -> Result<(), NoMemory>
-    requires { length bins.old.items ≡ length terms.old }
-    ensures paired { OnOk result (length bins.new.items ≡ length terms.new) }
-    ensures put { OnOk result ((t : Term) → binned terms.new (map bin_quads bins.new.items) t
-        ≡ binned terms.old (map bin_quads bins.old.items) t
-        ++ cond (same_term t term.now) (quad.now ∷ []) []) }
-{
-    let place = terms.intern(term.copy()?)?.0 as usize;
-    terms_are_held_once(terms);
-    if place == bins.len() {
-        bins.push(QuadBin::One(quad))?;
-        return Ok(());
-    }
-    put_at(alloc, bins, place, quad)
 }
 
 /// The quads in bins, in each of them in the order in which they came.
@@ -183,28 +104,11 @@ pub(crate) fn quad_bins<'q>(
     Ok(QuadBins {
         is_subject,
         all,
-        terms,
-        bins,
-        none: Vec::new(alloc),
+        bins: TermBins::over(alloc, terms, bins),
     })
 }
 
 impl<'q> QuadBins<'q> {
-    // The bin of a term; none where no quad has it.
-    fn bin(&self, term: &Term) -> &[&'q Quad]
-        ensures { map (λ q. q.now) result.now
-            ≡ binned self.now.terms (map bin_quads self.now.bins.items) term.now }
-    {
-        terms_are_held_once(&self.terms);
-        let Some(id) = self.terms.find(term) else {
-            return self.none.as_slice();
-        };
-        match self.bins.get(id.0 as usize) {
-            Some(bin) => bin.as_slice(),
-            None => self.none.as_slice(),
-        }
-    }
-
     // The quads that a row asks for: all, where it has nothing at the end.
     fn partners(&self, places: &Places, row: &Mapping) -> &[&'q Quad]
         requires asks { asks_end self.now.is_subject places.now row.now ≡ true }
@@ -216,7 +120,7 @@ impl<'q> QuadBins<'q> {
             ≡ matches_of (map (λ q. q.now) self.now.all.items) places.now row.now }
     {
         match row.held(end_of(places, self.is_subject)) {
-            Some(term) => self.bin(term),
+            Some(term) => self.bins.bin(term),
             None => self.all.as_slice(),
         }
     }
