@@ -58,6 +58,13 @@ impl LexicalForm {
     {
         self.string.as_str()
     }
+
+    /// The lexical form as a string, which takes its bytes over.
+    pub fn into_string(self) -> String
+        ensures { string_bytes result ≡ self }
+    {
+        self.string
+    }
 }
 
 impl PartialEq for LexicalForm {
