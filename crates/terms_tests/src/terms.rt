@@ -171,8 +171,7 @@ fn beside_a_copy(alloc: Global, text: Text, datatype: Iri) -> Result<(Literal, T
 #[test]
 fn texts_with_copies(rt: HostRuntime) -> Result<(), Fail> {
     let alloc = rt.alloc();
-    let (literal, copy) =
-        beside_a_copy(alloc, Text::new(alloc, "01")?, Iri::new(alloc, INTEGER)?)?;
+    let (literal, copy) = beside_a_copy(alloc, Text::new(alloc, "01")?, Iri::new(alloc, INTEGER)?)?;
     let other = literal.with_lexical(alloc, copy.copy()?)?;
     assert!(rt; parts_of(&literal) == ("01", INTEGER, None) && copy.as_str() == "01");
     assert!(rt; parts_of(&other) == ("01", INTEGER, None));
