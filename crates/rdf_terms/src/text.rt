@@ -82,9 +82,7 @@ impl Text {
             string: self.string.copy()?,
         })
     }
-}
 
-impl Text {
     /// The text as a lexical form, which takes its bytes over, or a copy of them where copies of the
     /// text share them.
     ///
