@@ -6,7 +6,7 @@ use crate::name::{first_is, skip_white};
 use crate::node::node;
 use crate::suffixes::Suffixes;
 use crate::written::WrittenObject;
-use rdf_terms::{Cursor, NoMemory, Text};
+use rdf_terms::{Cursor, LexicalForm, NoMemory};
 use std::alloc::Global;
 
 /// The literal of a string whose tag stands here, behind its `@`, and the place behind the tag.
@@ -14,7 +14,7 @@ use std::alloc::Global;
 fn tagged<'a>(
     alloc: Global,
     suffixes: &mut Suffixes,
-    lexical: Text,
+    lexical: LexicalForm,
     name: &Cursor<'a>,
 ) -> Result<Option<(WrittenObject, Cursor<'a>)>, NoMemory>
     ensures { IfOk result (λ r. r ≡ reading.tagged_at lexical (64 ∷ name.now)) }
@@ -30,7 +30,7 @@ fn tagged<'a>(
 #[tactic(auto, unfolding(crate::specs::Reading::typed_at, rdf_terms::specs::Reading::expect))]
 fn typed<'a>(
     alloc: Global,
-    lexical: Text,
+    lexical: LexicalForm,
     one: &Cursor<'a>,
 ) -> Result<Option<(WrittenObject, Cursor<'a>)>, NoMemory>
     ensures { IfOk result (λ r. r ≡ reading.typed_at lexical (94 ∷ one.now)) }
@@ -53,7 +53,7 @@ fn literal<'a>(
 ) -> Result<Option<(WrittenObject, Cursor<'a>)>, NoMemory>
     ensures { IfOk result (λ r. r ≡ reading.literal_at at.now) }
 {
-    let Some((lexical, rest)) = at.quoted(alloc, '"')? else {
+    let Some((lexical, rest)) = at.lexical_form(alloc, '"')? else {
         return Ok(None);
     };
     let suffix = skip_white(&rest);

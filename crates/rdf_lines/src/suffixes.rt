@@ -4,7 +4,7 @@ ghost use Rattle.std.specs.Str.{str_to_ascii_lowercase};
 ghost use Rattle.rdf_terms.specs.Literal.{is_tag, lang_string, tagged, xsd_string};
 ghost use Rattle.rdf_lines.specs.Grammar.{typed};
 
-use rdf_terms::{Iri, Literal, NoMemory, Text};
+use rdf_terms::{Iri, LexicalForm, Literal, NoMemory, Text};
 use std::alloc::Global;
 
 /// How many datatypes are kept at most: the first ones.
@@ -73,11 +73,11 @@ impl Suffixes {
     ///
     /// # Errors
     /// [`NoMemory`] where memory is wanting.
-    pub fn plain(&mut self, alloc: Global, lexical: Text) -> Result<Literal, NoMemory>
+    pub fn plain(&mut self, alloc: Global, lexical: LexicalForm) -> Result<Literal, NoMemory>
         ensures { IfOk result (λ literal. literal ≡ typed lexical xsd_string) }
     {
         let datatype = self.string(alloc)?;
-        Literal::from_text(alloc, lexical, datatype)
+        Literal::from_lexical_form(alloc, lexical, datatype)
     }
 
     // An equal datatype, which shares the text of one that is kept.
@@ -102,13 +102,13 @@ impl Suffixes {
     pub fn typed(
         &mut self,
         alloc: Global,
-        lexical: Text,
+        lexical: LexicalForm,
         datatype: Iri,
     ) -> Result<Literal, NoMemory>
         ensures { IfOk result (λ literal. literal ≡ typed lexical datatype) }
     {
         let shared = self.datatype(datatype)?;
-        Literal::from_text(alloc, lexical, shared)
+        Literal::from_lexical_form(alloc, lexical, shared)
     }
 
     // The literal that is kept with a tag.
@@ -150,16 +150,21 @@ impl Suffixes {
     ///
     /// # Errors
     /// [`NoMemory`] where memory is wanting.
-    pub fn tagged(&mut self, alloc: Global, lexical: Text, tag: &str) -> Result<Literal, NoMemory>
+    pub fn tagged(
+        &mut self,
+        alloc: Global,
+        lexical: LexicalForm,
+        tag: &str,
+    ) -> Result<Literal, NoMemory>
         requires { IsTrue (is_tag tag.now) }
         ensures { IfOk result (λ literal. literal ≡ tagged lexical tag.now) }
     {
         if let Some(kept) = self.kept(tag) {
-            return kept.with_lexical(alloc, lexical);
+            return kept.with_lexical_form(alloc, lexical);
         }
         // (the kept one is empty, so that no long text is kept for its tag)
         let empty = Literal::tagged_from_text(alloc, Text::new(alloc, "")?, tag)?;
-        let literal = empty.with_lexical(alloc, lexical)?;
+        let literal = empty.with_lexical_form(alloc, lexical)?;
         self.keep(alloc, tag, empty)?;
         Ok(literal)
     }

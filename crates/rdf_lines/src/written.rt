@@ -4,7 +4,7 @@ ghost use Rattle.rdf_lines.specs.Written.{absolute_node, absolute_object, absolu
 
 use crate::statement::{Node, Object, Statement};
 use crate::suffixes::Suffixes;
-use rdf_terms::{Iri, IriReference, Literal, NoMemory, Text};
+use rdf_terms::{Iri, IriReference, LexicalForm, Literal, NoMemory, Text};
 use std::alloc::Global;
 
 #[derive(Debug, Drop)]
@@ -18,7 +18,7 @@ pub enum WrittenObject {
     Node(WrittenNode),
     Literal(Literal),
     /// A lexical form and its datatype.
-    Typed(Text, IriReference),
+    Typed(LexicalForm, IriReference),
 }
 
 #[derive(Debug, Drop)]

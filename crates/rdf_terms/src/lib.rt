@@ -21,6 +21,7 @@ mod iri_reference;
 mod items;
 mod laws;
 mod layout;
+mod lexical;
 mod literal;
 mod moving;
 mod quad;
@@ -51,6 +52,7 @@ pub use items::Items;
 pub use laws::{
     comparisons_are_the_order, orders_are_total, quad_is_one, term_is_one, texts_differ,
 };
+pub use lexical::LexicalForm;
 pub use literal::Literal;
 pub use quad::{GraphName, Quad, compare_quads, same_quad};
 pub use quoted::{iris_are_read, strings_are_read};

@@ -7,6 +7,7 @@ ghost use Rattle.rdf_terms.specs.Literal.{LiteralParts, is_tag, is_literal, lang
 use crate::cursor::Cursor;
 use crate::fault::NoMemory;
 use crate::iri::Iri;
+use crate::lexical::LexicalForm;
 use crate::shared::Shared;
 use crate::text::Text;
 use std::alloc::Global;
@@ -22,7 +23,7 @@ pub struct Literal {
 // What a literal holds.
 #[derive(PartialEq, Eq, PartialOrd, Ord, Hash, Debug, Drop)]
 struct Parts {
-    lexical: Text,
+    lexical: LexicalForm,
     datatype: Iri,
     tag: Option<Text>,
 }
@@ -66,7 +67,7 @@ impl Literal {
           tag = None;
         }) }
     {
-        Literal::from_text(alloc, Text::new(alloc, lexical)?, datatype)
+        Literal::from_lexical_form(alloc, LexicalForm::new(alloc, lexical)?, datatype)
     }
 
     /// The literal with this lexical form, which it takes over, and datatype, and no tag.
@@ -74,6 +75,24 @@ impl Literal {
     /// # Errors
     /// [`NoMemory`] where memory is wanting.
     pub fn from_text(alloc: Global, lexical: Text, datatype: Iri) -> Result<Literal, NoMemory>
+        ensures { IfOk result (λ l. l ≡ record {
+          lexical = lexical;
+          datatype = datatype;
+          tag = None;
+        }) }
+    {
+        Literal::from_lexical_form(alloc, lexical.into_lexical_form()?, datatype)
+    }
+
+    /// As [`Literal::from_text`], of a lexical form.
+    ///
+    /// # Errors
+    /// [`NoMemory`] where memory is wanting.
+    pub fn from_lexical_form(
+        alloc: Global,
+        lexical: LexicalForm,
+        datatype: Iri,
+    ) -> Result<Literal, NoMemory>
         ensures { IfOk result (λ l. l ≡ record {
           lexical = lexical;
           datatype = datatype;
@@ -103,8 +122,8 @@ impl Literal {
         if !is_tag(tag) {
             return Ok(None);
         }
-        let lexical = Text::new(alloc, lexical)?;
-        Ok(Some(Literal::tagged_from_text(alloc, lexical, tag)?))
+        let lexical = LexicalForm::new(alloc, lexical)?;
+        Ok(Some(with_tag(alloc, lexical, Iri::lang_string(alloc)?, tag)?))
     }
 
     /// As [`Literal::tagged`] where the tag is one, with a lexical form that it takes over.
@@ -115,6 +134,7 @@ impl Literal {
         requires is_one { IsTrue (is_tag tag.now) }
         ensures { IfOk result (λ l. l ≡ tagged lexical tag.now) }
     {
+        let lexical = lexical.into_lexical_form()?;
         with_tag(alloc, lexical, Iri::lang_string(alloc)?, tag)
     }
 
@@ -156,6 +176,24 @@ impl Literal {
           tag = self.now.tag;
         }) }
     {
+        self.with_lexical_form(alloc, lexical.into_lexical_form()?)
+    }
+
+    /// As [`Literal::with_lexical`], of a lexical form.
+    ///
+    /// # Errors
+    /// [`NoMemory`] where memory is wanting.
+    pub fn with_lexical_form(
+        &self,
+        alloc: Global,
+        lexical: LexicalForm,
+    ) -> Result<Literal, NoMemory>
+        ensures { IfOk result (λ l. l ≡ record {
+          lexical = lexical;
+          datatype = self.now.datatype;
+          tag = self.now.tag;
+        }) }
+    {
         let datatype = self.datatype().copy()?;
         let tag = copied(self.parts.as_ref().tag.as_ref())?;
         let parts = Parts {
@@ -183,7 +221,12 @@ impl Literal {
 }
 
 // The literal with this lexical form and a language tag, which is lowered. Its datatype is rdf:langString.
-fn with_tag(alloc: Global, lexical: Text, datatype: Iri, tag: &str) -> Result<Literal, NoMemory>
+fn with_tag(
+    alloc: Global,
+    lexical: LexicalForm,
+    datatype: Iri,
+    tag: &str,
+) -> Result<Literal, NoMemory>
     requires language { datatype ≡ lang_string }
     requires is_one { IsTrue (is_tag tag.now) }
     ensures { IfOk result (λ l. l ≡ tagged lexical tag.now) }

@@ -7,6 +7,7 @@ ghost use Rattle.rdf_terms.specs.Reading.{iri_at, quoted_at};
 use crate::cursor::Cursor;
 use crate::fault::NoMemory;
 use crate::iri_reference::IriReference;
+use crate::lexical::LexicalForm;
 use crate::text::Text;
 use std::alloc::Global;
 
@@ -44,6 +45,24 @@ impl<'a> Cursor<'a> {
         requires { quote ≢ 92 }
         ensures { IfOk result (λ r. r ≡ quoted_at quote self.now) }
     {
+        match self.lexical_form(alloc, quote)? {
+            Some((lexical, rest)) => Ok(Some((Text::from_string(lexical.into_string())?, rest))),
+            None => Ok(None),
+        }
+    }
+
+    /// As [`Cursor::quoted`], to the lexical form of a literal.
+    ///
+    /// # Errors
+    /// [`NoMemory`] where memory is wanting.
+    pub fn lexical_form(
+        &self,
+        alloc: Global,
+        quote: char,
+    ) -> Result<Option<(LexicalForm, Cursor<'a>)>, NoMemory>
+        requires { quote ≢ 92 }
+        ensures { IfOk result (λ r. r ≡ quoted_at quote self.now) }
+    {
         let Some(mut rest) = self.expect(quote) else {
             return Ok(None);
         };
@@ -52,7 +71,7 @@ impl<'a> Cursor<'a> {
             let stop = rest.past_string_run(quote);
             text.push_str(rest.text_up_to(&stop))?;
             if let Some(behind) = stop.expect(quote) {
-                return Ok(Some((Text::from_string(text)?, behind)));
+                return Ok(Some((LexicalForm::from_string(text), behind)));
             }
             let Some((c, behind)) = stop.string_character(quote) else {
                 return Ok(None);

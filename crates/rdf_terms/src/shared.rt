@@ -1,5 +1,5 @@
 //! A value that its copies share.
-ghost use Rattle.std.specs.Prelude.{◌≡◌, IfOk, refl};
+ghost use Rattle.std.specs.Prelude.{◌≡◌, ◌⊎◌, IfOk, refl};
 ghost use Rattle.std.proofs.Common.{rules};
 ghost use Rattle.std.specs.Cmp.Rules.{hashing};
 
@@ -41,6 +41,18 @@ impl<T: Drop> Shared<T> {
         ensures { result.now ≡ self.now }
     {
         self.held.as_ref()
+    }
+
+    /// The value, or a clone of it where copies share it.
+    ///
+    /// # Errors
+    /// [`NoMemory`] where memory is wanting.
+    pub fn into_value(self) -> Result<T, NoMemory>
+    where
+        T: Clone,
+        ensures { IfOk result (λ value. (value ≡ self) ⊎ T.is_clone self value) }
+    {
+        Ok(Rc::unwrap_or_clone(self.held)?)
     }
 
     /// An equal value, shared with this one.

@@ -9,31 +9,31 @@ ghost use Rattle.std.specs.Cmp.Rules.{hashing};
 ghost use Rattle.std.proofs.Common.{rules};
 
 use crate::fault::NoMemory;
+use crate::lexical::LexicalForm;
+use crate::shared::Shared;
 use std::alloc::Global;
 use std::cmp::Ordering;
 use std::fmt;
 use std::hash::{Hash, Hasher};
 use std::marker::Model;
-use std::rc::RcStr;
 
 /// A text of Unicode characters. A contract sees its UTF-8 bytes, so two texts are equal where
 /// their bytes are, and texts are ordered by their bytes, which is the order of code points. Copies
 /// of a text share its bytes.
 #[derive(Drop)]
 pub struct Text {
-    string: RcStr,
+    string: Shared<String>,
 }
 
 impl Model for Text {
-    ghost use Rattle.std.specs.Prelude.{ℕ, List, IsTrue};
-    ghost use Rattle.std.specs.Rc.{rc_str_bytes};
+    ghost use Rattle.std.specs.Prelude.{ℕ, List, IsTrue, string_bytes};
     ghost use Rattle.std.specs.Str.{is_utf8};
 
     ghost Value = { List ℕ };
 
-    ghost view = { λ t. rc_str_bytes t.string };
+    ghost view = { λ t. string_bytes t.string };
 
-    ghost invariant = { λ t. IsTrue (is_utf8 (rc_str_bytes t.string)) };
+    ghost invariant = { λ t. IsTrue (is_utf8 (string_bytes t.string)) };
 }
 
 impl Text {
@@ -45,7 +45,7 @@ impl Text {
         ensures { IfOk result (λ t. t ≡ text.now) }
     {
         Ok(Text {
-            string: RcStr::from_str(alloc, text)?,
+            string: Shared::new(alloc, String::from_str(alloc, text)?)?,
         })
     }
 
@@ -56,8 +56,9 @@ impl Text {
     pub fn from_string(string: String) -> Result<Text, NoMemory>
         ensures { IfOk result (λ t. t ≡ string_bytes string) }
     {
+        let alloc = *string.allocator();
         Ok(Text {
-            string: RcStr::from_string(string)?,
+            string: Shared::new(alloc, string)?,
         })
     }
 
@@ -66,7 +67,7 @@ impl Text {
         ensures value { result.now ≡ self.now }
         ensures sound { IsTrue (is_utf8 self.now) }
     {
-        self.string.as_str()
+        self.string.as_ref().as_str()
     }
 
     /// An equal text.
@@ -78,8 +79,19 @@ impl Text {
         ensures { IfOk result (λ t. t ≡ self.now) }
     {
         Ok(Text {
-            string: self.string.clone()?,
+            string: self.string.copy()?,
         })
+    }
+
+    /// The text as a lexical form, which takes its bytes over, or a copy of them where copies of the
+    /// text share them.
+    ///
+    /// # Errors
+    /// [`NoMemory`] where memory is wanting.
+    pub fn into_lexical_form(self) -> Result<LexicalForm, NoMemory>
+        ensures { IfOk result (λ l. l ≡ self) }
+    {
+        Ok(LexicalForm::from_string(self.string.into_value()?))
     }
 }
 

@@ -161,6 +161,31 @@ fn typed_literals(rt: HostRuntime) -> Result<(), Fail> {
     Ok(())
 }
 
+// The literal of a text that its copy shares, and that copy.
+fn beside_a_copy(alloc: Global, text: Text, datatype: Iri) -> Result<(Literal, Text), NoMemory> {
+    let copy = text.copy()?;
+    let literal = Literal::from_text(alloc, text, datatype)?;
+    Ok((literal, copy))
+}
+
+#[test]
+fn texts_with_copies(rt: HostRuntime) -> Result<(), Fail> {
+    let alloc = rt.alloc();
+    let (literal, copy) = beside_a_copy(alloc, Text::new(alloc, "01")?, Iri::new(alloc, INTEGER)?)?;
+    let other = literal.with_lexical(alloc, copy.copy()?)?;
+    assert!(rt; parts_of(&literal) == ("01", INTEGER, None) && copy.as_str() == "01");
+    assert!(rt; parts_of(&other) == ("01", INTEGER, None));
+    Ok(())
+}
+
+#[test]
+fn strings_between_quotes(rt: HostRuntime) -> Result<(), Fail> {
+    let cursor = Cursor::new("'a\\tb\\u00e9' c");
+    let (text, rest) = cursor.quoted(rt.alloc(), '\'')?.ok_or("no string")?;
+    assert!(rt; text.as_str() == "a\tb\u{e9}" && rest.left() == 2);
+    Ok(())
+}
+
 #[test]
 fn text_of_blank_nodes(rt: HostRuntime) -> Result<(), Fail> {
     let text = text_of(rt.alloc(), &Term::Blank(18446744073709551615))?;

@@ -4,4 +4,4 @@ use Rattle.rdf_terms.proofs.Utf8Lemmas.{text_from}
 use Rattle.rdf_terms.proofs.text.Text.from_string.Goals as goal
 
 pub invariant_of-result : goal.invariant_of-result
-invariant_of-result c = rw c.in_ok-from_string.ensures.ok (text_from (string_bytes c.args.string) (IsUtf8-had _ c.args.string.ok))
+invariant_of-result c = rw c.in_ok-new.ensures (text_from (string_bytes c.args.string) (IsUtf8-had _ c.args.string.ok))

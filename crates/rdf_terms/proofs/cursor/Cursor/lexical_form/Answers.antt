@@ -4,7 +4,7 @@ use Rattle.rdf_terms.specs.Runs.{ends_run}
 use Rattle.rdf_terms.proofs.QuotedLemmas.{string_one, string_character-run}
 use Rattle.rdf_terms.proofs.LoopLemmas.{RunsTo, goes_on, goes_past, fails, is_done}
 use Rattle.rdf_terms.proofs.PastLemmas.{leads_past, one_behind}
-use Rattle.rdf_terms.proofs.cursor.Cursor.quoted.Goals as goal
+use Rattle.rdf_terms.proofs.cursor.Cursor.lexical_form.Goals as goal
 
 pub returns-in_default : goal.returns-in_default
 unfolding quoted_at
@@ -19,7 +19,7 @@ returns-in-Some-expect c =
     let past : RunsTo (string_character_at c.args.quote) c.args.quote (string_bytes c.push_str.new.self) c.past_string_run-stop.result (quoted_body_at c.args.quote c.in-Some.rest) =
     rw (c.in_ok-push_str.ensures.bytes, c.text_up_to.ensures)
     (goes_past (string_character_at c.args.quote) c.args.quote (string_one c.args.quote (λ e. c.requires (sym e))) (ends_run c.args.quote) (string_character-run c.args.quote) (string_bytes c.loop-text.text) c.loop-text.rest c.past_string_run-stop.result _ c.past_string_run-stop.ensures.over c.loop-text.invariant) in
-    rw (c.in_ok-from_string.ensures, sym c.in-Some.ensures)
+    rw (c.from_string.ensures, sym c.in-Some.ensures)
     (is_done (string_character_at c.args.quote) c.args.quote (string_bytes c.push_str.new.self) c.past_string_run-stop.result c.in-Some-expect.behind (quoted_body_at c.args.quote c.in-Some.rest) (sym c.in-Some-expect.ensures) past)
 
 pub returns-in_default-string_character : goal.returns-in_default-string_character
