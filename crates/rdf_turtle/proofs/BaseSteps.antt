@@ -21,7 +21,7 @@ use Rattle.rdf_turtle.specs.declared.tree.Verb.{Verb}
 use Rattle.rdf_turtle.specs.declared.tree.Verb.TheVariants as v
 use Rattle.rdf_grammar.specs.declared.tree.Literal.{Literal}
 use Rattle.rdf_grammar.specs.declared.tree.Literal.TheVariants as l
-use Rattle.rdf_turtle.specs.FaultyNames.{lacks}
+use Rattle.rdf_grammar.specs.FaultyNames.{lacks}
 use Rattle.rdf_turtle.specs.Bases.{lacks_name, lacks_verb, lacks_literal}
 use Rattle.rdf_tokens.specs.Forms.{IsLocal}
 use Rattle.rdf_grammar.specs.Keys.{key_of, same_key}

@@ -22,9 +22,6 @@ pub record IsReadable (text : List ℕ) : Type 0 where
   pub inside : AreInside (chars text) tokens
   pub shallow : ¬ (IsTooDeep lexemes)
 
-abbrev pub terminal_of : Kind → List ℕ → Terminal
-terminal_of = terminals.terminal_of
-
 -- ---- words that the profile leaves out
 
 -- where the first of them starts, behind one token more

@@ -4,7 +4,7 @@ ghost use Rattle.std.specs.Char.{to_ascii_lowercase};
 ghost use Rattle.std.specs.Str.{bytes_eq};
 ghost use Rattle.sparql_terminals.specs.Terminals as spec;
 
-use rdf_grammar::{Bracket, Word, Words};
+use rdf_grammar::{Bracket, NameRole, NameRoles, Word, Words};
 use rdf_tokens::Kind;
 
 /// A terminal of SPARQL's grammar (SPARQL 1.1 Query, section 19.8). Keywords are read in any case.
@@ -406,6 +406,20 @@ fn word(terminal: Terminal) -> Option<Word>
     }
 }
 
+// What it is to names.
+fn name_role(terminal: Terminal) -> NameRole
+    ensures { result ≡ spec.name_role terminal }
+{
+    match terminal {
+        Terminal::Iri => NameRole::Reference,
+        Terminal::Pname => NameRole::Prefixed,
+        Terminal::Text => NameRole::Text,
+        Terminal::Prefix => NameRole::DeclaresPrefix,
+        Terminal::Base => NameRole::MovesBase,
+        _ => NameRole::Other,
+    }
+}
+
 impl rdf_grammar::Terminal for Terminal {
     ghost of = { spec.terminal_by };
 
@@ -433,5 +447,13 @@ impl Words for Terminal {
 
     fn word(self) -> Option<Word> {
         word(self)
+    }
+}
+
+impl NameRoles for Terminal {
+    ghost role = { λ terminal _. spec.name_role terminal };
+
+    fn role(self, _behind_text: bool) -> NameRole {
+        name_role(self)
     }
 }
