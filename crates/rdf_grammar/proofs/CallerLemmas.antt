@@ -11,6 +11,7 @@ pub use Rattle.rdf_grammar.proofs.NameSearches.{Ends, at_once, ends_both, more_o
 pub use Rattle.rdf_grammar.proofs.NameWalks.{here, one_token_more, starts_by}
 pub use Rattle.rdf_grammar.proofs.Nests.{Below, after, behind_keeps, enclosed, leaf_keeps, map_keeps, maybe_keeps, one_keeps, or_keeps, pair_keeps, pure_keeps, star_keeps, the_keeps, then_keeps, value_keeps, word_keeps}
 unfoldable pub use Rattle.rdf_grammar.proofs.Nests.{Keeps}
+pub use Rattle.rdf_grammar.proofs.NumberedSteps.{Closed, InsideKeeps, Kept, Numbered, Numbers, Saying, Stays, TermKeeps, Uses, all_behind, each_closed, each_keeps, each_uses, fresh_keeps, keep_then, labelled_keeps, nothing_keeps, object_uses, same_closed, says_uses, start_numbered, stays_keeps, subject_closed, use_then, uses_keeps}
 pub use Rattle.rdf_grammar.proofs.ProductionNests.{binding_keeps, iri_keeps, literal_keeps}
 pub use Rattle.rdf_grammar.proofs.Productions.{binding_decides, iri_begins, iri_decides, iri_strict, literal_begins, literal_decides, literal_strict}
 pub use Rattle.rdf_grammar.proofs.PrologueIris.{resolved_is, some_copied}

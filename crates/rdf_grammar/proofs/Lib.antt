@@ -15,6 +15,7 @@ mod Members
 mod Nests
 mod NameSearches
 mod NameWalks
+mod NumberedSteps
 mod NumberingLemmas
 mod ProductionNests
 mod Productions

@@ -37,7 +37,7 @@ use Rattle.rdf_grammar.specs.Steps.{Outcome, and_then, each}
 use Rattle.rdf_tokens.specs.Values.{iri_value, local_value, text_value, tag_value}
 use Rattle.rdf_tokens.proofs.CallerLemmas.{iri_value_allowed}
 use Rattle.rdf_tokens.proofs.CallerLemmas.{pname_iri}
-use Rattle.rdf_turtle.proofs.ScopeSteps.{all_behind}
+use Rattle.rdf_grammar.proofs.CallerLemmas.{all_behind}
 
 -- a base is in force or not, and each declared prefix stands for an IRI
 pub record Holds (based : Bool) (declared : List (List ℕ)) (p : Prologue) : Type 0 where
