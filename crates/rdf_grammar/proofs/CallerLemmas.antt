@@ -5,7 +5,7 @@ pub use Rattle.rdf_grammar.proofs.Depths.{never_more, one_behind}
 pub use Rattle.rdf_grammar.proofs.KeyEntries.{found, kept, label_below, label_inserted, lt_or_is, more_labels}
 pub use Rattle.rdf_grammar.proofs.LexemeLemmas.{lexemes_have_forms}
 pub use Rattle.rdf_grammar.proofs.Lists.{MayPart, each_behind_begins, each_behind_decides, seen_passes, separated_decides, separated_loosely_decides}
-pub use Rattle.rdf_grammar.proofs.LiteralLemmas.{literal_known, literal_lacking, name_lacking, reference_lacking}
+pub use Rattle.rdf_grammar.proofs.LiteralLemmas.{explained_unknown, literal_known, literal_lacking, literal_unknown, name_lacking, name_unknown, reference_lacking}
 pub use Rattle.rdf_grammar.proofs.Members.{drop_is, next_member, next_step}
 pub use Rattle.rdf_grammar.proofs.NameSearches.{Ends, at_once, ends_both, more_or_here, not_not, nothing_left, one_more, short_both}
 pub use Rattle.rdf_grammar.proofs.NameWalks.{here, one_token_more, starts_by}

@@ -47,6 +47,6 @@ pub use production::{binding, iri, literal};
 pub use prologue::{Prologue, PrologueFault};
 pub use role::{NameRole, NameRoles};
 pub use start::start_of;
-pub use terminal::{Terminal, terminal_of};
+pub use terminal::{Terminal, is_word, terminal_of};
 pub use tree::{Literal, Name};
 pub use word::{Word, Words};

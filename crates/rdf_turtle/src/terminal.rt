@@ -1,11 +1,9 @@
 //! The terminals of Turtle's grammar.
-ghost use Rattle.std.specs.Prelude.{◌≡◌, ◌∷◌, [], map};
-ghost use Rattle.std.specs.Char.{to_ascii_lowercase};
-ghost use Rattle.std.specs.Str.{bytes_eq};
+ghost use Rattle.std.specs.Prelude.{◌≡◌, ◌∷◌, []};
 ghost use Rattle.rdf_turtle.specs.FaultyNames as names;
 ghost use Rattle.rdf_turtle.specs.Terminals as spec;
 
-use rdf_grammar::{Bracket, NameRole, NameRoles, Word, Words};
+use rdf_grammar::{Bracket, NameRole, NameRoles, Word, Words, is_word};
 use rdf_tokens::Kind;
 
 /// A terminal of Turtle's grammar (Turtle 1.1, section 6.5).
@@ -61,14 +59,6 @@ fn at_word_terminal(text: &str) -> Terminal
     } else {
         Terminal::AtWord
     }
-}
-
-// Whether the text is this word, in any case.
-fn is_word(text: &str, word: &str) -> bool
-    ensures { result ≡ bytes_eq (map to_ascii_lowercase text.now)
-        (map to_ascii_lowercase word.now) }
-{
-    text.eq_ignore_ascii_case(word)
 }
 
 fn word_terminal(text: &str) -> Terminal
