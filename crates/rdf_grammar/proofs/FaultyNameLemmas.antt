@@ -1,5 +1,5 @@
 -- The first name without an IRI, among a few lexemes.
-use Rattle.std.proofs.Common.{◌≡◌, refl}
+use Rattle.std.proofs.Common.{refl}
 use Rattle.rdf_tokens.specs.Values.{prefix_part}
 use Rattle.rdf_grammar.specs.FaultyNameLaws.{FirstNameTable}
 use Rattle.rdf_grammar.specs.Keys.{key_of}

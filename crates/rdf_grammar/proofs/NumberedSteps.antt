@@ -8,7 +8,7 @@ use Rattle.std.specs.Map.{lookup}
 use Rattle.rdf_grammar.specs.Keys.{same_key}
 use Rattle.rdf_grammar.specs.Numbering as numbering
 use Rattle.rdf_grammar.specs.Numbering.{Numbering, labelled_as}
-use Rattle.rdf_grammar.specs.Steps.{Outcome, Step, and_then, each}
+use Rattle.rdf_grammar.specs.Steps.{Step, and_then, each}
 use Rattle.rdf_grammar.proofs.Decides.{then_parts}
 use Rattle.rdf_grammar.proofs.KeyEntries.{label_below, label_inserted, lt_or_is, more_labels}
 

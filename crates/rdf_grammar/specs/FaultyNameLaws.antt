@@ -1,5 +1,5 @@
 -- Which of a few lexemes is the first name without an IRI (Turtle 1.1, sections 2.4 and 6.3; SPARQL 1.1 Query, section 4.1.1).
-use Rattle.std.specs.Prelude.{◌≡◌, ℕ, Bool, true, false, if◌then◌else◌, List, [], ◌∷◌}
+use Rattle.std.specs.Prelude.{◌≡◌, ℕ, Bool, true, false, if◌then◌else◌, [], ◌∷◌}
 use Rattle.rdf_terms.specs.Iri.{has_scheme}
 use Rattle.rdf_tokens.specs.Values.{iri_value, prefix_part}
 use Rattle.rdf_grammar.specs.declared.lexeme.Lexeme.{Lexeme}

@@ -1,6 +1,6 @@
 //! What the grammars of Turtle and SPARQL share: tokens as terminals, a cursor over them, readings
 //! and derivations with the bridge between the two, the depth of brackets, the prologue
-//! with the IRIs of names, and the numbers of blank nodes.
+//! with the IRIs of names, the first name without one, and the numbers of blank nodes.
 //!
 //! `rdf_turtle` and the crates of SPARQL's syntax call it. Of productions it has those of IRIs,
 //! literals and bindings alone, and it reads no whole text.

@@ -1,7 +1,6 @@
 -- A text says one thing: the quads of a document, or a fault.
-use Rattle.std.proofs.Common.{Bor, ◌≡◌, ◌≢◌, cond, ok_or, ◌⊎◌, inl, inr, ℕ, Bool, true, false, List, Option, Some, None, is_some, Result, Ok, Err, refl, sym, ap, subst, ◌∙◌}
+use Rattle.std.proofs.Common.{◌≡◌, ◌≢◌, cond, ok_or, ◌⊎◌, inl, inr, ℕ, Bool, true, false, List, Option, Some, None, is_some, Result, Ok, Err, refl, sym, ap, subst, ◌∙◌}
 use Rattle.std.specs.List.{slice_get}
-use Rattle.std.specs.Option.{option_copied}
 use Rattle.std.specs.Str.{chars, IsUtf8}
 use Rattle.rdf_terms.specs.declared.quad.Quad.{Quad}
 use Rattle.rdf_turtle.specs.declared.fault.TurtleFault.{TurtleFault}

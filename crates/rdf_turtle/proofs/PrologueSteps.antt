@@ -1,20 +1,16 @@
 -- What the prologue tells is a step of the reading.
-use Rattle.std.proofs.Common.{◌≡◌, ◌∙◌, ap, refl, sym, ℕ, Bool, true, false, cond, ◌||◌, List, [], ◌∷◌, ◌++◌, map, Option, Some, None, Result, Ok, Err, IfOk, true≢false}
+use Rattle.std.proofs.Common.{◌≡◌, ◌∙◌, ap, refl, sym, ℕ, Bool, true, false, List, Option, Some, None, Result, Ok, Err, IfOk, true≢false}
 use Rattle.std.specs.Prelude.{IfErr, OnOk}
-use Rattle.std.specs.List.{list_any}
-use Rattle.std.specs.Map.{lookup}
 use Rattle.std.specs.Option.{option_map}
 use Rattle.rdf_grammar.specs.declared.prologue.PrologueFault.{PrologueFault}
 use Rattle.rdf_grammar.specs.declared.prologue.PrologueFault.TheVariants.{UnknownPrefix, Relative, NoMemory}
 use Rattle.rdf_grammar.specs.declared.tree.Name.{Name}
-use Rattle.rdf_grammar.specs.declared.tree.Name.TheVariants.{Full, Prefixed}
+use Rattle.rdf_grammar.specs.declared.tree.Name.TheVariants.{Full}
 use Rattle.rdf_turtle.specs.Inside.Told.{GivesOrMisses}
 use Rattle.rdf_turtle.specs.Meaning.{iri, literal, statement}
 use Rattle.rdf_turtle.specs.declared.tree.Statement.TheVariants as t
-use Rattle.rdf_grammar.specs.Prologue.{Prologue, declared, knows, iri_of, moves_base, resolved, prefixed}
+use Rattle.rdf_grammar.specs.Prologue.{Prologue, declared, knows, iri_of, moves_base, resolved}
 use Rattle.rdf_grammar.specs.Steps.{Outcome, and_then}
-use Rattle.rdf_grammar.specs.Keys.{key_of, same_key}
-use Rattle.rdf_tokens.specs.Values.{local_value, text_value}
 use Rattle.rdf_grammar.specs.PrologueFaults.{Explains}
 use Rattle.rdf_turtle.specs.ParserState as state
 use Rattle.rdf_turtle.specs.ParserState.{ParserState, told}
@@ -22,7 +18,7 @@ use Rattle.rdf_terms.proofs.CallerLemmas.{some_is}
 use Rattle.rdf_grammar.proofs.CallerLemmas.{explained_unknown, literal_lacking, literal_unknown, name_lacking, name_unknown, reference_lacking}
 use Rattle.rdf_grammar.specs.declared.tree.Literal.{Literal}
 use Rattle.rdf_grammar.specs.declared.tree.Literal.TheVariants as l
-use Rattle.rdf_grammar.specs.Literals.{ExplainsLiteral, known_literal, literal_of, untagged}
+use Rattle.rdf_grammar.specs.Literals.{ExplainsLiteral, known_literal, literal_of}
 use Rattle.rdf_terms.specs.Literal.{LiteralParts}
 
 told_is : {A : Type 0} (f : Prologue → Option A) (s u : ParserState) (a : A) → f s.prologue ≡ Some a → u ≡ s → told f s ≡ Some (a, u)

@@ -1,5 +1,5 @@
 -- The blank nodes that a document says are those that were numbered, and they come in order.
-use Rattle.std.proofs.Common.{◌≡◌, ◌∙◌, ◌⊎◌, ◌≤◌, ◌<◌, ap, refl, sym, subst, inl, inr, ℕ, Bool, true, false, if◌then◌else◌, List, [], ◌∷◌, ◌++◌, map, Option, Some, None, Contains, arith}
+use Rattle.std.proofs.Common.{◌≡◌, ◌∙◌, ◌⊎◌, ap, refl, sym, subst, inl, inr, ℕ, Bool, true, false, if◌then◌else◌, List, [], ◌∷◌, map, Option, Some, None, Contains}
 use Rattle.std.specs.Prelude.{Ok, Err, ok_or}
 use Rattle.std.proofs.lemmas.Option.{same_Some}
 use Rattle.std.specs.List.{flat_map, AllByRecursion}
@@ -26,7 +26,7 @@ use Rattle.rdf_turtle.specs.Known.{declares_first}
 use Rattle.rdf_grammar.specs.Keys.{key_of}
 use Rattle.rdf_grammar.specs.Prologue.{Prologue, resolved, declares, moves_base}
 use Rattle.rdf_grammar.specs.Steps.{Outcome, each, and_then}
-use Rattle.rdf_turtle.specs.ParserState.{ParserState, Does, start, told, declared, fresh, says}
+use Rattle.rdf_turtle.specs.ParserState.{ParserState, Does, start, told, declared, fresh}
 use Rattle.rdf_turtle.specs.Meaning.{answer, Meaning, Says, iri, verb, literal, object, objects, behind, list_term, list_inside, is_some_property, node_of, property_of, meaning, property, properties, has_properties, statement, document, triples_of}
 use Rattle.rdf_turtle.proofs.LeafSteps.{told_same, iri_same, verb_same, literal_same}
 use Rattle.rdf_grammar.proofs.CallerLemmas as steps

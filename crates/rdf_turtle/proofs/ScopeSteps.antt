@@ -1,5 +1,5 @@
 -- What is said in a document, by the numbers of its blank nodes.
-use Rattle.std.proofs.Common.{append-nil, ◌≡◌, ◌⊎◌, ap, refl, sym, inl, inr, ℕ, Bool, true, false, if◌then◌else◌, List, [], ◌∷◌, ◌++◌, Option, Some, None}
+use Rattle.std.proofs.Common.{append-nil, ◌≡◌, ◌⊎◌, ap, refl, sym, inl, inr, ℕ, Bool, true, false, if◌then◌else◌, List, [], ◌∷◌, ◌++◌, Some, None}
 use Rattle.std.proofs.lemmas.Option.{same_Some}
 use Rattle.rdf_terms.specs.Blanks.{blanks_in, blanks_of}
 use Rattle.rdf_terms.specs.Quad.{QuadParts, has_right_kinds}
@@ -11,7 +11,7 @@ use Rattle.rdf_grammar.specs.Steps.{Outcome}
 use Rattle.rdf_grammar.proofs.CallerLemmas as steps
 use Rattle.rdf_grammar.proofs.CallerLemmas.{Saying}
 use Rattle.rdf_turtle.specs.Blanks.{IsTriple}
-use Rattle.rdf_turtle.specs.ParserState.{ParserState, Does, fresh, labelled, blank, triple, says}
+use Rattle.rdf_turtle.specs.ParserState.{ParserState, fresh, labelled, blank, triple, says}
 
 pub iri_apart : (i : List ℕ) (n : ℕ) → Iri i ≡ Blank n → ⊥
 iri_apart i n e = cc

@@ -1,22 +1,21 @@
 -- What a walk over the tokens of a text finds among its lexemes.
-use Rattle.std.proofs.Common.{◌≡◌, ◌+◌, cond, ℕ, Bool, true, false, List, [], ◌∷◌, length, Option, Some, None, Ok, refl, sym, ap, subst, ◌∙◌, add-one}
+use Rattle.std.proofs.Common.{◌≡◌, ℕ, List, Option, Some, None, Ok, sym, ap, subst, ◌∙◌}
 use Rattle.std.specs.Str.{chars, IsUtf8}
 use Rattle.rdf_grammar.specs.declared.depth.Depth.TheVariants.{Open, TooDeep}
 use Rattle.rdf_grammar.specs.Walks.{depth_behind, first_fault, lexemes_found}
-use Rattle.rdf_grammar.proofs.CallerLemmas.{all_found, are_lexemes, deep_found, fault_said, never_deep, one_lexemes, tokens_said}
+use Rattle.rdf_grammar.proofs.CallerLemmas.{are_lexemes, deep_found, fault_said, never_deep, tokens_said}
 use Rattle.rdf_tokens.specs.declared.token.Token.{Token}
 use Rattle.rdf_tokens.specs.declared.walk.Found.{Found}
-use Rattle.rdf_tokens.specs.declared.walk.Found.TheVariants.{Token as Read, NoToken}
 use Rattle.rdf_tokens.specs.Lines.{line_of}
 use Rattle.rdf_tokens.specs.Tokens.{Tokenizes}
 use Rattle.rdf_tokens.specs.Walks.{AreFound, AreFoundIn}
 use Rattle.rdf_turtle.specs.declared.fault.TurtleFault.{TurtleFault}
 use Rattle.rdf_turtle.specs.declared.fault.TurtleFaultKind.{TurtleFaultKind}
 use Rattle.rdf_turtle.specs.declared.fault.TurtleFaultKind.TheVariants as fault
-use Rattle.rdf_turtle.specs.Document.{HasTokens, start_of, FaultIs, IsFaulty}
+use Rattle.rdf_turtle.specs.Document.{HasTokens, FaultIs, IsFaulty}
 use Rattle.rdf_turtle.specs.Inside.Walks.{IsShallow}
 use Rattle.rdf_turtle.specs.Lexemes.{Lexemes, AreLexemes}
-use Rattle.rdf_turtle.specs.Terminals.{terminal_of, terminal_by, bracket}
+use Rattle.rdf_turtle.specs.Terminals.{terminal_by, bracket}
 
 -- the lexemes of what is found
 abbrev slices : List Found → Lexemes

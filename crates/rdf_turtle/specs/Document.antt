@@ -1,5 +1,5 @@
 -- What the bytes of a text say as Turtle (Turtle 1.1, sections 6 and 7): the quads of a document, or a fault.
-use Rattle.std.specs.Prelude.{◌≡◌, ◌⊎◌, ℕ, List, length, Option, Some, None, Ok, Err, is_some}
+use Rattle.std.specs.Prelude.{◌≡◌, ◌⊎◌, ℕ, List, length, Option, Some, Ok, Err, is_some}
 use Rattle.std.specs.Str.{chars, IsUtf8, IsValidUpTo}
 use Rattle.std.specs.List.{slice_get}
 pub use Rattle.rdf_grammar.specs.Walks.{start_of}

@@ -1,9 +1,8 @@
 -- What is said in an operation or a pattern, by the numbers of its blank nodes.
-use Rattle.std.proofs.Common.{◌≡◌, ◌⊎◌, ap, refl, sym, inl, inr, ℕ, List, [], ◌∷◌, ◌++◌, Option, Some, None}
+use Rattle.std.proofs.Common.{◌≡◌, ◌⊎◌, ap, refl, sym, inl, inr, ℕ, List, [], ◌∷◌, ◌++◌, Some}
 use Rattle.std.proofs.lemmas.Option.{same_Some}
-use Rattle.std.specs.Map.{lookup}
 use Rattle.rdf_terms.specs.declared.term.Term.TheVariants.{Blank, Iri, Literal}
-use Rattle.rdf_grammar.specs.Keys.{key_of, same_key}
+use Rattle.rdf_grammar.specs.Keys.{key_of}
 use Rattle.rdf_grammar.specs.Numbering as numbering
 use Rattle.rdf_grammar.proofs.CallerLemmas as steps
 use Rattle.rdf_grammar.proofs.CallerLemmas.{Saying}

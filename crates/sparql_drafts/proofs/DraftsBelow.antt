@@ -1,5 +1,5 @@
 -- The blank nodes that data says are those that were numbered, and they come in order.
-use Rattle.std.proofs.Common.{◌≡◌, ◌∙◌, ◌⊎◌, ◌≤◌, ◌<◌, ap, refl, sym, subst, inl, inr, ℕ, Bool, true, false, ◌||◌, if◌then◌else◌, List, [], ◌∷◌, ◌++◌, map, length, Option, Some, None, Contains, arith}
+use Rattle.std.proofs.Common.{◌≡◌, ◌∙◌, ◌⊎◌, ◌<◌, ap, refl, sym, subst, inl, inr, ℕ, Bool, true, false, ◌||◌, if◌then◌else◌, List, [], ◌∷◌, map, length, Option, Some, None, Contains, arith}
 use Rattle.std.proofs.lemmas.Option.{same_Some}
 use Rattle.std.proofs.lemmas.List.Elements.{Contains-append_left, Contains-append_right}
 use Rattle.std.specs.List.{flat_map, AllByRecursion}
@@ -28,8 +28,8 @@ use Rattle.sparql_drafts.specs.declared.draft.Quads.{Quads}
 use Rattle.sparql_drafts.specs.declared.draft.VarOrIri.{VarOrIri}
 use Rattle.sparql_drafts.specs.declared.draft.VarOrTerm.{VarOrTerm}
 use Rattle.sparql_drafts.specs.declared.draft.VarOrTerm.TheVariants as x
-use Rattle.sparql_drafts.specs.Drafting.{Drafting, Does, start, quads, fresh, in_default, in_graph, says}
-use Rattle.sparql_drafts.specs.Meaning.{Meaning, Says, iri, verb, var_or_iri, literal, object, objects, first, rest, nil, next_cell, behind, list_term, list_inside, node_of, property_of, meaning, property, subject_with, triples, graph, block, quads_in, pattern_in}
+use Rattle.sparql_drafts.specs.Drafting.{Drafting, Does, start, quads, fresh, in_default, in_graph}
+use Rattle.sparql_drafts.specs.Meaning.{Meaning, Says, iri, verb, var_or_iri, literal, object, objects, first, rest, nil, behind, list_term, list_inside, node_of, property_of, meaning, property, subject_with, triples, graph, block, quads_in, pattern_in}
 use Rattle.sparql_drafts.proofs.LeafSteps.{iri_same, var_or_iri_same, verb_same, literal_same}
 use Rattle.rdf_grammar.proofs.CallerLemmas as steps
 use Rattle.rdf_grammar.proofs.CallerLemmas.{then_parts, nothing_keeps, uses_keeps, use_then, keep_then, each_keeps, each_uses, stays_keeps}

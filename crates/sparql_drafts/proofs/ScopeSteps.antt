@@ -1,23 +1,18 @@
 -- What the prologue tells is a step of the reading.
-use Rattle.std.proofs.Common.{◌≡◌, ◌∙◌, ap, refl, sym, subst, ℕ, Bool, true, false, cond, ◌||◌, List, [], ◌∷◌, ◌++◌, map, Option, Some, None, Result, Ok, Err, IfOk, true≢false}
+use Rattle.std.proofs.Common.{◌≡◌, ◌∙◌, ap, sym, subst, ℕ, List, Option, Some, None, Result, Ok, Err, IfOk, true≢false}
 use Rattle.std.specs.Prelude.{IfErr, OnOk}
-use Rattle.std.specs.List.{list_any}
-use Rattle.std.specs.Map.{lookup}
 use Rattle.std.specs.Option.{option_map}
-use Rattle.rdf_grammar.specs.Keys.{key_of, same_key}
-use Rattle.rdf_grammar.specs.Literals.{ExplainsLiteral, literal_of, untagged}
-use Rattle.rdf_grammar.specs.Prologue.{Prologue, declared, iri_of, knows, moves_base, prefixed, resolved}
+use Rattle.rdf_grammar.specs.Literals.{ExplainsLiteral, literal_of}
+use Rattle.rdf_grammar.specs.Prologue.{Prologue, iri_of, moves_base, resolved}
 use Rattle.rdf_grammar.specs.PrologueFaults.{Explains}
 use Rattle.rdf_grammar.specs.declared.prologue.PrologueFault.{PrologueFault}
 use Rattle.rdf_grammar.specs.declared.prologue.PrologueFault.TheVariants as why
 use Rattle.rdf_grammar.specs.declared.tree.Literal.{Literal}
-use Rattle.rdf_grammar.specs.declared.tree.Literal.TheVariants as l
 use Rattle.rdf_grammar.specs.declared.tree.Name.{Name}
-use Rattle.rdf_grammar.specs.declared.tree.Name.TheVariants.{Full, Prefixed}
+use Rattle.rdf_grammar.specs.declared.tree.Name.TheVariants.{Full}
 use Rattle.rdf_grammar.proofs.CallerLemmas.{explained_unknown, literal_lacking, literal_unknown, name_lacking, name_unknown, reference_lacking}
 use Rattle.rdf_terms.proofs.CallerLemmas.{some_is}
 use Rattle.rdf_terms.specs.Literal.{LiteralParts}
-use Rattle.rdf_tokens.specs.Values.{local_value, text_value}
 use Rattle.sparql_grammar.specs.declared.tree.Declaration.TheVariants as d
 use Rattle.sparql_drafts.specs.Drafting.{Drafting, told}
 use Rattle.sparql_drafts.specs.Kept.{Fails, Gives, Tells, fault_of, or_fault}

@@ -9,8 +9,6 @@ use Rattle.rdf_tokens.specs.declared.walk.Found.TheVariants.{Token as Read, NoTo
 use Rattle.rdf_tokens.specs.Tokens.{Tokenizes}
 use Rattle.sparql_terminals.specs.Lexemes.{Lexeme}
 use Rattle.sparql_terminals.specs.Profile.{AreInside, is_left_out}
-use Rattle.sparql_terminals.specs.Terminals as terminals
-use Rattle.sparql_terminals.specs.declared.terminal.Terminal.{Terminal}
 use Rattle.sparql_grammar.specs.Nesting.{IsTooDeep}
 use Rattle.sparql_syntax.specs.Phases.{HasTokens}
 
