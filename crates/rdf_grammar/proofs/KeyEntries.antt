@@ -8,7 +8,7 @@ use Rattle.std.specs.Map.{lookup}
 use Rattle.indexmap.specs.IndexMap.{insert_entry}
 use Rattle.rdf_grammar.specs.Keys.{same_key}
 
-key_same : (key : List ℕ) → same_key key key ≡ true
+pub key_same : (key : List ℕ) → same_key key key ≡ true
 key_same key = (bytes_eq-Decides key key).1 refl
 
 key_apart : (a b : List ℕ) → a ≢ b → same_key a b ≡ false

@@ -3,6 +3,7 @@ pub mod CallerLemmas
 mod Combinators
 mod Decides
 mod Depths
+mod FaultyNameLemmas
 mod KeyEntries
 mod LexemeLemmas
 mod LexemeReadings
@@ -12,6 +13,9 @@ mod LiteralSteps
 mod MeaningLemmas
 mod Members
 mod Nests
+mod NameSearches
+mod NameWalks
+mod NumberedSteps
 mod NumberingLemmas
 mod ProductionNests
 mod Productions

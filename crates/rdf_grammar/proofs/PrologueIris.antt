@@ -1,6 +1,6 @@
 -- The IRIs of references and names.
-use Rattle.std.proofs.Common.{◌≡◌, ◌∙◌, ap, refl, sym, subst, ℕ, Bool, true, false, ◌&&◌, ◌||◌, not, List, ◌++◌, Option, Some, None, IsTrue, IsSomeAnd, true≢false}
-use Rattle.std.specs.Option.{option_map}
+use Rattle.std.proofs.Common.{◌≡◌, ◌∙◌, ap, refl, sym, subst, Bor, is_some, ℕ, Bool, true, false, ◌&&◌, ◌||◌, not, List, ◌++◌, Option, Some, None, IsTrue, IsSomeAnd, true≢false}
+use Rattle.std.specs.Option.{option_copied, option_map}
 use Rattle.std.specs.Prelude.{if◌then◌else◌}
 use Rattle.std.proofs.lemmas.Bool.{and_parts}
 use Rattle.std.proofs.lemmas.List.Folds.{list_any-append}
@@ -12,6 +12,11 @@ use Rattle.rdf_tokens.specs.Values.{iri_value}
 use Rattle.rdf_grammar.proofs.ScopeReferences.{resolve_found}
 use Rattle.rdf_tokens.proofs.CallerLemmas.{iri_value_allowed}
 use Rattle.rdf_tokens.proofs.CallerLemmas.{has_scheme_after}
+
+-- a base that is copied is there just where it was
+pub some_copied : {T : Type 0} (o : Option (Bor T)) (b : Bool) → b ≡ is_some o → is_some (option_copied o) ≡ b
+some_copied None b e = sym e
+some_copied (Some x) b e = sym e
 
 -- what is meant is what is resolved
 pub resolved_is : (p : Prologue) (base : Option (List ℕ)) (reference text iri : List ℕ) → base ≡ p.base → text ≡ iri_value reference → Means base text iri → resolved reference p ≡ Some iri

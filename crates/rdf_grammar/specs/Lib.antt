@@ -1,4 +1,6 @@
 pub mod Derivations
+pub mod FaultyNameLaws
+pub mod FaultyNames
 pub mod Holds
 pub mod Inside
 pub mod Kept

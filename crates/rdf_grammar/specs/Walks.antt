@@ -11,6 +11,7 @@ use Rattle.rdf_grammar.specs.declared.bracket.Bracket.{Bracket}
 use Rattle.rdf_grammar.specs.declared.depth.Depth.{Depth}
 use Rattle.rdf_grammar.specs.declared.depth.Depth.TheVariants.{Open, TooDeep}
 use Rattle.rdf_grammar.specs.declared.lexeme.Lexeme.{Lexeme}
+use Rattle.rdf_grammar.specs.Lexemes.{AreLexemes}
 use Rattle.rdf_grammar.specs.Nesting.{max_open, open_behind}
 use Rattle.rdf_grammar.specs.Terminals.{Lexemes}
 
@@ -65,6 +66,12 @@ module _ {T : Type 0} (terminal : Kind → List ℕ → T) where
   lexemes_found [] = []
   lexemes_found (NoToken start ∷ all) = []
   lexemes_found (Read start kind slice ∷ all) = record { terminal = terminal kind (encode_utf8_all slice); text = slice } ∷ lexemes_found all
+
+  -- Where the text has tokens, the one of the lexeme whose number is told starts there, or the text ends there.
+  abbrev pub StartsAtLexeme : List ℕ → (Lexemes T → ℕ) → ℕ → Type 0
+  StartsAtLexeme text number place =
+      (tokens : List Token) (lexemes : Lexemes T) → Tokenizes (chars text) (Ok tokens) → AreLexemes terminal (chars text) tokens lexemes
+      → place ≡ start_of text tokens (number lexemes)
 
   -- behind all that is found
   abbrev pub depth_behind : (T → Bracket) → Depth → List Found → Depth

@@ -1,4 +1,5 @@
 //! What holds of productions and of prologues.
+ghost use Rattle.rdf_grammar.specs.FaultyNameLaws.{FirstNameTable};
 ghost use Rattle.rdf_grammar.specs.MeaningLaws.{BaseTable, LiteralTable, NameTable};
 ghost use Rattle.rdf_grammar.specs.NumberingLaws.{OneLabelIsOneNode};
 ghost use Rattle.rdf_grammar.specs.ProductionLaws.{IrisAreRead, LiteralsAreRead, BindingsAreRead};
@@ -60,4 +61,11 @@ pub fn literals_stand_for_themselves<T: Words>()
 /// (Turtle 1.1, sections 2.4 and 6.5; SPARQL 1.1 Query, section 4.1.1).
 pub fn bases_are_moved()
     ensures { BaseTable }
+{}
+
+/// Which name is the first without an IRI: a prefix is declared from its declaration on, and a base in
+/// force from its declaration on; what a prefix stands for is no base, and what has a scheme wants none
+/// (Turtle 1.1, sections 2.4 and 6.3; SPARQL 1.1 Query, section 4.1.1).
+pub fn first_names_are_found()
+    ensures { FirstNameTable }
 {}

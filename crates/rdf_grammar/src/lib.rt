@@ -1,6 +1,6 @@
 //! What the grammars of Turtle and SPARQL share: tokens as terminals, a cursor over them, readings
 //! and derivations with the bridge between the two, the depth of brackets, the prologue
-//! with the IRIs of names, and the numbers of blank nodes.
+//! with the IRIs of names, the first name without one, and the numbers of blank nodes.
 //!
 //! `rdf_turtle` and the crates of SPARQL's syntax call it. Of productions it has those of IRIs,
 //! literals and bindings alone, and it reads no whole text.
@@ -9,6 +9,7 @@
 mod bracket;
 mod depth;
 mod fault;
+mod faulty_name;
 mod kept_literals;
 mod key;
 mod laws;
@@ -22,6 +23,7 @@ mod places;
 mod production;
 mod prologue;
 mod rest;
+mod role;
 mod start;
 mod tags;
 mod terminal;
@@ -31,10 +33,11 @@ mod word;
 pub use bracket::Bracket;
 pub use depth::{Depth, MAX_OPEN, deeper};
 pub use fault::GrammarFault;
+pub use faulty_name::{first_lacking, first_unbound};
 pub use key::Key;
 pub use laws::{
-    bases_are_moved, literals_stand_for_themselves, names_have_iris, one_label_is_one_node,
-    prefixes_are_replaced, productions_are_read, references_are_resolved,
+    bases_are_moved, first_names_are_found, literals_stand_for_themselves, names_have_iris,
+    one_label_is_one_node, prefixes_are_replaced, productions_are_read, references_are_resolved,
 };
 pub use lexeme::Lexeme;
 pub use lexeme_list::lexemes_have_forms;
@@ -42,7 +45,8 @@ pub use numbering::Numbering;
 pub use parser::Parser;
 pub use production::{binding, iri, literal};
 pub use prologue::{Prologue, PrologueFault};
+pub use role::{NameRole, NameRoles};
 pub use start::start_of;
-pub use terminal::Terminal;
+pub use terminal::{Terminal, is_word, terminal_of};
 pub use tree::{Literal, Name};
 pub use word::{Word, Words};

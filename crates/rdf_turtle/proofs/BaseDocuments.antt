@@ -15,7 +15,7 @@ use Rattle.rdf_turtle.specs.declared.tree.Node.{Node}
 use Rattle.rdf_turtle.specs.declared.tree.Property.{Property}
 use Rattle.rdf_turtle.specs.declared.tree.Statement.{Statement}
 use Rattle.rdf_turtle.specs.declared.tree.Statement.TheVariants as s
-use Rattle.rdf_turtle.specs.FaultyNames.{lacks}
+use Rattle.rdf_grammar.specs.FaultyNames.{lacks}
 use Rattle.rdf_turtle.specs.Bases.{lacks_node, lacks_property, lacks_statement, based_behind, lacks_base, RelativeLacksABase}
 use Rattle.rdf_turtle.specs.Known.{holds, known_node, known_property, known_statement, declared_behind, declares_first}
 use Rattle.rdf_turtle.specs.Document.{HasTree}

@@ -21,7 +21,7 @@ use Rattle.rdf_turtle.specs.declared.tree.Verb.{Verb}
 use Rattle.rdf_turtle.specs.declared.tree.Verb.TheVariants as v
 use Rattle.rdf_grammar.specs.declared.tree.Literal.{Literal}
 use Rattle.rdf_grammar.specs.declared.tree.Literal.TheVariants as l
-use Rattle.rdf_turtle.specs.FaultyNames.{lacks}
+use Rattle.rdf_grammar.specs.FaultyNames.{lacks}
 use Rattle.rdf_turtle.specs.Bases.{lacks_name, lacks_verb, lacks_literal}
 use Rattle.rdf_tokens.specs.Forms.{IsLocal}
 use Rattle.rdf_grammar.specs.Keys.{key_of, same_key}
@@ -37,7 +37,7 @@ use Rattle.rdf_grammar.specs.Steps.{Outcome, and_then, each}
 use Rattle.rdf_tokens.specs.Values.{iri_value, local_value, text_value, tag_value}
 use Rattle.rdf_tokens.proofs.CallerLemmas.{iri_value_allowed}
 use Rattle.rdf_tokens.proofs.CallerLemmas.{pname_iri}
-use Rattle.rdf_turtle.proofs.ScopeSteps.{all_behind}
+use Rattle.rdf_grammar.proofs.CallerLemmas.{all_behind}
 
 -- a base is in force or not, and each declared prefix stands for an IRI
 pub record Holds (based : Bool) (declared : List (List ℕ)) (p : Prologue) : Type 0 where

@@ -1,7 +1,6 @@
 -- A text says one thing: the quads of a document, or a fault.
-use Rattle.std.proofs.Common.{Bor, ◌≡◌, ◌≢◌, cond, ok_or, ◌⊎◌, inl, inr, ℕ, Bool, true, false, List, Option, Some, None, is_some, Result, Ok, Err, refl, sym, ap, subst, ◌∙◌}
+use Rattle.std.proofs.Common.{◌≡◌, ◌≢◌, cond, ok_or, ◌⊎◌, inl, inr, ℕ, Bool, true, false, List, Option, Some, None, is_some, Result, Ok, Err, refl, sym, ap, subst, ◌∙◌}
 use Rattle.std.specs.List.{slice_get}
-use Rattle.std.specs.Option.{option_copied}
 use Rattle.std.specs.Str.{chars, IsUtf8}
 use Rattle.rdf_terms.specs.declared.quad.Quad.{Quad}
 use Rattle.rdf_turtle.specs.declared.fault.TurtleFault.{TurtleFault}
@@ -10,13 +9,14 @@ use Rattle.rdf_turtle.specs.declared.fault.TurtleFaultKind.TheVariants as fault
 use Rattle.rdf_turtle.specs.Lexemes.{Lexeme, AreLexemes}
 use Rattle.rdf_tokens.specs.declared.token.Token.{Token}
 use Rattle.rdf_turtle.specs.declared.tree.Statement.{Statement}
-use Rattle.rdf_turtle.specs.Document.{HasTokens, HasTree, IsDocument, start_or_end, start_of, IsPlace, FaultIs, IsFaulty, TellsFault}
+use Rattle.rdf_grammar.specs.Walks.{StartsAt, start_or_end, start_of}
+use Rattle.rdf_turtle.specs.Document.{HasTokens, HasTree, IsDocument, IsPlace, FaultIs, IsFaulty, TellsFault}
 use Rattle.rdf_turtle.specs.FaultyNames.{first_unbound, first_lacking}
 use Rattle.rdf_turtle.specs.DocumentLaws.{has_free_line, OneDocument, NeverBoth, OneFault}
 use Rattle.rdf_turtle.specs.Grammar as grammar
 use Rattle.rdf_turtle.specs.Terminals.{terminal_by, bracket}
 use Rattle.rdf_tokens.specs.Lines.{line_of}
-use Rattle.rdf_turtle.specs.Inside.NamePlaces.{StartsAt, StartsAtFirst}
+use Rattle.rdf_turtle.specs.Inside.NamePlaces.{StartsAtFirst}
 use Rattle.rdf_turtle.specs.Inside.Reading.{document}
 use Rattle.rdf_turtle.specs.Inside.Turns.{TellsDocument, StopsWith}
 use Rattle.rdf_turtle.specs.Inside.Walks.{IsShallow}
@@ -231,9 +231,9 @@ pub name_tells : (base : Option (List ℕ)) (based : Bool) (text : List ℕ) (ki
     → f.kind ≡ kind → (kind ≢ no_memory → f.line ≡ line_of text start) → (kind ≡ no_memory → f.line ≡ 0) → TellsFault base text f f.kind
 name_tells base based text fault.UnknownPrefix start f b told at e l none =
     let tokens = told.1.tokens in
-    fault_tells base text f fault.UnknownPrefix e (told.0, told.1, told.2, l (λ same. cc) ∙ ap (line_of text) (at tokens told.1.lexemes told.1.list))
+    fault_tells base text f fault.UnknownPrefix e (told.0, told.1, told.2, l (λ same. cc) ∙ ap (line_of text) (at tokens told.1.lexemes told.1.list.list told.1.list.slices))
 name_tells base based text fault.Relative start f b told at e l none =
-    let found = at told.1.tokens told.1.lexemes told.1.list ∙ ap (λ (x : Bool). start_of text told.1.tokens (first_lacking x told.1.lexemes)) (sym b) in
+    let found = at told.1.tokens told.1.lexemes told.1.list.list told.1.list.slices ∙ ap (λ (x : Bool). start_of text told.1.tokens (first_lacking x told.1.lexemes)) (sym b) in
     fault_tells base text f fault.Relative e (told.0, told.1, told.2, l (λ same. cc) ∙ ap (line_of text) found)
 name_tells base based text (fault.NoMemory refusal) start f b told at e l none = memory_tells base text f e (none refl)
 name_tells base based text fault.NotUtf8 start f b told at e l none = absurd told
@@ -246,10 +246,6 @@ refused_tells = memory_tells
 
 pub faulty_tells : (base : Option (List ℕ)) (text : List ℕ) (f : TurtleFault) → IsFaulty base text f → TellsFault base text f f.kind
 faulty_tells base text f h = tells_at base text f f.kind h h
-
-pub some_copied : {T : Type 0} (o : Option (Bor T)) (b : Bool) → b ≡ is_some o → is_some (option_copied o) ≡ b
-some_copied (Some x) b e = sym e
-some_copied None b e = sym e
 
 -- ---- what the lexemes of a text say of it
 
@@ -306,9 +302,9 @@ told_surveyed base text ls kind s read other h = told_by base text 100 ls kind (
 
 -- no document, at the start of a token or the end
 pub syntax_tells : (base : Option (List ℕ)) (text : List ℕ) (ls : List Lexeme) (number start : ℕ) (f : TurtleFault) → IsShallow text → AreReadOf terminal_by (chars text) ls → document 100 ls ≡ None
-    → StartsAt text (λ _. number) start → f.kind ≡ fault.Syntax → f.line ≡ line_of text start → TellsFault base text f f.kind
+    → StartsAt text number start → f.kind ≡ fault.Syntax → f.line ≡ line_of text start → TellsFault base text f f.kind
 syntax_tells base text ls number start f s read none at e l =
     let held = surveyed text ls s read in
-    let place = at held.0 ls held.1 in
+    let place = at held.0 held.1.list in
     fault_tells base text f fault.Syntax e
     (held.0, ls, held.1, held.2, none_read ls held.2 none, (start_of text held.0 number, is_place text held.0 number, l ∙ ap (line_of text) place))

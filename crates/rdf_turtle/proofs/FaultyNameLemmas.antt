@@ -1,5 +1,5 @@
 -- The first names without an IRI, among lexemes as in their tree.
-use Rattle.std.proofs.Common.{◌≡◌, ◌↔◌, ◌∙◌, ap, refl, sym, subst, ℕ, suc, ◌+◌, ◌<◌, Bool, true, false, cond, ◌&&◌, ◌||◌, not, List, [], ◌∷◌, ◌++◌, map, length, append_assoc, arith, true≢false}
+use Rattle.std.proofs.Common.{◌≡◌, ◌↔◌, ◌∙◌, ap, refl, sym, subst, ℕ, suc, ◌+◌, Bool, true, false, cond, ◌&&◌, ◌||◌, not, List, [], ◌∷◌, ◌++◌, map, length, append_assoc, true≢false}
 use Rattle.std.proofs.Math.Bool.{and_assoc, or_assoc}
 use Rattle.std.specs.List.{list_any, list_all}
 use Rattle.indexmap.specs.IndexSet.{insert_key}
@@ -7,11 +7,14 @@ use Rattle.rdf_grammar.specs.declared.tree.Name.{Name}
 use Rattle.rdf_grammar.specs.declared.tree.Name.TheVariants.{Full, Prefixed}
 use Rattle.rdf_grammar.specs.declared.tree.Literal.{Literal}
 use Rattle.rdf_grammar.specs.declared.tree.Literal.TheVariants as l
+use Rattle.rdf_grammar.specs.FaultyNames as names
+use Rattle.rdf_grammar.specs.FaultyNames.{is_text, declares_behind, is_unbound, bound_behind, lacks, moves_behind, is_lacking, base_behind}
 use Rattle.rdf_grammar.specs.Keys.{key_of, same_key}
 use Rattle.rdf_grammar.specs.Literals.{known_literal}
 use Rattle.rdf_grammar.specs.Prologue.{knows}
 use Rattle.rdf_grammar.specs.Terminals.{Slice}
 use Rattle.rdf_tokens.specs.Values.{prefix_part}
+use Rattle.rdf_grammar.proofs.CallerLemmas.{Ends, at_once, ends_both, more_or_here, not_not, nothing_left, one_more}
 use Rattle.rdf_turtle.specs.declared.terminal.Terminal.{Terminal}
 use Rattle.rdf_turtle.specs.declared.terminal.Terminal.TheVariants as terminal
 use Rattle.rdf_turtle.specs.declared.tree.Verb.{Verb}
@@ -24,7 +27,7 @@ use Rattle.rdf_turtle.specs.declared.tree.Property.{Property}
 use Rattle.rdf_turtle.specs.declared.tree.Statement.{Statement}
 use Rattle.rdf_turtle.specs.declared.tree.Statement.TheVariants as s
 use Rattle.rdf_turtle.specs.Bases.{lacks_name, lacks_verb, lacks_literal, lacks_node_of, lacks_property_of, lacks_node, lacks_property, lacks_statement, based_behind, lacks_base}
-use Rattle.rdf_turtle.specs.FaultyNames.{taken, declares_behind, is_unbound, bound_behind, unbound_from, first_unbound, lacks, moves_behind, is_lacking, base_behind, lacking_from, first_lacking}
+use Rattle.rdf_turtle.specs.FaultyNames.{name_role, first_unbound, first_lacking}
 use Rattle.rdf_turtle.specs.FaultyNameLaws.{UnboundIsFound, LackingIsFound}
 use Rattle.rdf_turtle.specs.Known.{holds, known_verb, known_node_of, known_property_of, known_node, known_property, known_statement, declared_behind, declares_first}
 use Rattle.rdf_turtle.specs.Leaves.{Leaf, leaf, takes_tag, content, contents, joined, name_leaves, verb_leaves, literal_leaves, node_leaves_of, property_leaves_of, node_leaves, property_leaves, statement_leaves, document_leaves}
@@ -130,31 +133,11 @@ module _ {S : Type 0} (scan : S → List Leaf → Bool) (op : Bool → Bool → 
     triples_ask : (node : Node) (ps : List Property) → Asks (node_leaves node ++ joined (map property_leaves ps)) (λ s. op (node_value s node) (each (map (property_value s) ps)))
     triples_ask node ps = both_ask _ _ _ _ (node_asks node) (properties_ask ps)
 
--- ---- how far a scan of lexemes goes
+abbrev unbound_from : Bool → Bool → List (List ℕ) → Lexemes → ℕ
+unbound_from = names.unbound_from name_role
 
--- to the end, or not
-record Ends (b : Bool) (found all : ℕ) : Type 0 where
-  done : b ≡ true → found ≡ all
-  short : b ≡ false → found < all
-
-nothing_left : Ends true 0 0
-nothing_left = record { done = λ e. refl; short = λ e. absurd (true≢false e) }
-
-one_more : (b : Bool) (found all : ℕ) → Ends b found all → Ends b (found + 1) (suc all)
-one_more b found all h = record {
-  done = λ e. let is : found ≡ all = h.done e in omega (arith, is);
-  short = λ e. let is : found < all = h.short e in omega (arith, is);
-}
-
-at_once : (b : Bool) (all : ℕ) → Ends false 0 (suc all)
-at_once b all = record { done = λ e. absurd (true≢false (sym e)); short = λ e. omega arith }
-
-not_short : (b : Bool) (found all : ℕ) → Ends b found all → found ≡ all → b ≡ true
-not_short true found all h e = refl
-not_short false found all h e = let less : found < all = h.short refl in absurd (omega (arith, less, e))
-
-ends_both : (b : Bool) (found all : ℕ) → Ends b found all → (b ≡ true) ↔ (found ≡ all)
-ends_both b found all h = (h.done, not_short b found all h)
+abbrev lacking_from : Bool → Bool → Bool → Lexemes → ℕ
+lacking_from = names.lacking_from name_role
 
 -- ---- prefixed names
 
@@ -169,19 +152,15 @@ leaf_bound declares bound k slices = bound
 -- each prefixed name among the leaves has a prefix that is one of these or declared before
 abbrev all_bound : Bool → List (List ℕ) → List Leaf → Bool
 all_bound declares bound [] = true
-all_bound declares bound (x ∷ xs) = not (leaf_unbound declares bound x.0 x.1) && all_bound (declares_behind declares x.0) (leaf_bound declares bound x.0 x.1) xs
-
-unbound_or_on : (wrong b : Bool) (found all : ℕ) → Ends b found all → Ends (not wrong && b) (cond wrong 0 (found + 1)) (suc all)
-unbound_or_on true b found all h = at_once b all
-unbound_or_on false b found all h = one_more b found all h
+all_bound declares bound (x ∷ xs) = not (leaf_unbound declares bound x.0 x.1) && all_bound (declares_behind declares (name_role x.0 false)) (leaf_bound declares bound x.0 x.1) xs
 
 unbound_step : (ts : Lexemes) → ((behind declares : Bool) (bound : List (List ℕ)) → Ends (all_bound declares bound (contents behind ts)) (unbound_from behind declares bound ts) (length ts))
     → (k : Terminal) (text : Slice) (behind declares : Bool) (bound : List (List ℕ))
     → Ends (all_bound declares bound (content behind k text ++ contents (takes_tag k) ts))
-    (cond (is_unbound declares bound (taken behind k) text) 0 (unbound_from (takes_tag k) (declares_behind declares (taken behind k)) (bound_behind declares bound (taken behind k) text) ts + 1)) (suc (length ts))
+    (cond (is_unbound declares bound (name_role k behind) text) 0 (unbound_from (is_text (name_role k behind)) (declares_behind declares (name_role k behind)) (bound_behind declares bound (name_role k behind) text) ts + 1)) (suc (length ts))
 unbound_step ts h terminal.Pname text behind declares bound =
     let more : List (List ℕ) = cond declares (insert_key same_key bound (key_of (prefix_part text))) bound in
-    unbound_or_on (not declares && not (list_any (same_key (key_of (prefix_part text))) bound)) (all_bound false more (contents false ts)) (unbound_from false false more ts) (length ts) (h false false more)
+    more_or_here (not declares && not (list_any (same_key (key_of (prefix_part text))) bound)) (all_bound false more (contents false ts)) (unbound_from false false more ts) (length ts) (h false false more)
 unbound_step ts h terminal.AtPrefix text true declares bound = one_more _ _ _ (h false declares bound)
 unbound_step ts h terminal.AtPrefix text false declares bound = one_more _ _ _ (h false true bound)
 unbound_step ts h terminal.AtBase text true declares bound = one_more _ _ _ (h false declares bound)
@@ -193,10 +172,6 @@ unbound_step ts h k text behind declares bound = one_more _ _ _ (h false declare
 unbound_ends : (ts : Lexemes) (behind declares : Bool) (bound : List (List ℕ)) → Ends (all_bound declares bound (contents behind ts)) (unbound_from behind declares bound ts) (length ts)
 unbound_ends [] behind declares bound = nothing_left
 unbound_ends (t ∷ ts) behind declares bound = unbound_step ts (unbound_ends ts) t.terminal t.text behind declares bound
-
-not_not : (b : Bool) → not (not b) ≡ b
-not_not true = refl
-not_not false = refl
 
 abbrev AsksBound : List Leaf → (List (List ℕ) → Bool) → Type 0
 AsksBound xs f = (bound : List (List ℕ)) (ls : List Leaf) → all_bound false bound (xs ++ ls) ≡ f bound && all_bound false bound ls
@@ -254,16 +229,16 @@ leaf_lacking based k slices = false
 -- some reference among the leaves has no scheme where no base is in force
 abbrev some_lacking : Bool → Bool → List Leaf → Bool
 some_lacking moves based [] = false
-some_lacking moves based (x ∷ xs) = leaf_lacking based x.0 x.1 || some_lacking (moves_behind moves x.0) (base_behind moves based x.0) xs
+some_lacking moves based (x ∷ xs) = leaf_lacking based x.0 x.1 || some_lacking (moves_behind moves (name_role x.0 false)) (base_behind moves based (name_role x.0 false)) xs
 
 lacking_or_on : (wrong b : Bool) (found all : ℕ) → Ends (not b) found all → Ends (not (wrong || b)) (cond wrong 0 (found + 1)) (suc all)
-lacking_or_on true b found all h = at_once b all
+lacking_or_on true b found all h = at_once all
 lacking_or_on false b found all h = one_more (not b) found all h
 
 lacking_step : (ts : Lexemes) → ((behind moves based : Bool) → Ends (not (some_lacking moves based (contents behind ts))) (lacking_from behind moves based ts) (length ts))
     → (k : Terminal) (text : Slice) (behind moves based : Bool)
     → Ends (not (some_lacking moves based (content behind k text ++ contents (takes_tag k) ts)))
-    (cond (is_lacking based (taken behind k) text) 0 (lacking_from (takes_tag k) (moves_behind moves (taken behind k)) (base_behind moves based (taken behind k)) ts + 1)) (suc (length ts))
+    (cond (is_lacking based (name_role k behind) text) 0 (lacking_from (is_text (name_role k behind)) (moves_behind moves (name_role k behind)) (base_behind moves based (name_role k behind)) ts + 1)) (suc (length ts))
 lacking_step ts h terminal.Iri text behind moves based =
     lacking_or_on (lacks based text) (some_lacking false (moves || based) (contents false ts)) (lacking_from false false (moves || based) ts) (length ts) (h false false (moves || based))
 lacking_step ts h terminal.AtPrefix text true moves based = one_more _ _ _ (h false moves based)

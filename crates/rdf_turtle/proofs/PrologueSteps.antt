@@ -1,28 +1,24 @@
 -- What the prologue tells is a step of the reading.
-use Rattle.std.proofs.Common.{◌≡◌, ◌∙◌, ap, refl, sym, ℕ, Bool, true, false, cond, ◌||◌, List, [], ◌∷◌, ◌++◌, map, Option, Some, None, Result, Ok, Err, IfOk, true≢false}
+use Rattle.std.proofs.Common.{◌≡◌, ◌∙◌, ap, refl, sym, ℕ, Bool, true, false, List, Option, Some, None, Result, Ok, Err, IfOk, true≢false}
 use Rattle.std.specs.Prelude.{IfErr, OnOk}
-use Rattle.std.specs.List.{list_any}
-use Rattle.std.specs.Map.{lookup}
 use Rattle.std.specs.Option.{option_map}
 use Rattle.rdf_grammar.specs.declared.prologue.PrologueFault.{PrologueFault}
 use Rattle.rdf_grammar.specs.declared.prologue.PrologueFault.TheVariants.{UnknownPrefix, Relative, NoMemory}
 use Rattle.rdf_grammar.specs.declared.tree.Name.{Name}
-use Rattle.rdf_grammar.specs.declared.tree.Name.TheVariants.{Full, Prefixed}
+use Rattle.rdf_grammar.specs.declared.tree.Name.TheVariants.{Full}
 use Rattle.rdf_turtle.specs.Inside.Told.{GivesOrMisses}
 use Rattle.rdf_turtle.specs.Meaning.{iri, literal, statement}
 use Rattle.rdf_turtle.specs.declared.tree.Statement.TheVariants as t
-use Rattle.rdf_grammar.specs.Prologue.{Prologue, declared, knows, iri_of, moves_base, resolved, prefixed}
+use Rattle.rdf_grammar.specs.Prologue.{Prologue, declared, knows, iri_of, moves_base, resolved}
 use Rattle.rdf_grammar.specs.Steps.{Outcome, and_then}
-use Rattle.rdf_grammar.specs.Keys.{key_of, same_key}
-use Rattle.rdf_tokens.specs.Values.{local_value, text_value}
 use Rattle.rdf_grammar.specs.PrologueFaults.{Explains}
 use Rattle.rdf_turtle.specs.ParserState as state
 use Rattle.rdf_turtle.specs.ParserState.{ParserState, told}
 use Rattle.rdf_terms.proofs.CallerLemmas.{some_is}
-use Rattle.rdf_grammar.proofs.CallerLemmas.{reference_lacking, name_lacking, literal_lacking}
+use Rattle.rdf_grammar.proofs.CallerLemmas.{explained_unknown, literal_lacking, literal_unknown, name_lacking, name_unknown, reference_lacking}
 use Rattle.rdf_grammar.specs.declared.tree.Literal.{Literal}
 use Rattle.rdf_grammar.specs.declared.tree.Literal.TheVariants as l
-use Rattle.rdf_grammar.specs.Literals.{ExplainsLiteral, known_literal, literal_of, untagged}
+use Rattle.rdf_grammar.specs.Literals.{ExplainsLiteral, known_literal, literal_of}
 use Rattle.rdf_terms.specs.Literal.{LiteralParts}
 
 told_is : {A : Type 0} (f : Prologue → Option A) (s u : ParserState) (a : A) → f s.prologue ≡ Some a → u ≡ s → told f s ≡ Some (a, u)
@@ -64,40 +60,6 @@ base_declares reference p q (Ok x) value = base_known (resolved reference p) p q
 base_declares reference p q (Err x) value = tt
 
 -- ---- names whose prefix isn't declared
-
-unlisted : (test : List ℕ → Bool) (es : List (List ℕ × List ℕ)) → list_any test (map (λ e. e.0) es) ≡ false → lookup test es ≡ None
-unlisted test [] h = refl
-unlisted test (x ∷ es) h = by (test x.0) h (unlisted test es)
-  where
-    by : (t : Bool) → (t || list_any test (map (λ e. e.0) es)) ≡ false → (list_any test (map (λ e. e.0) es) ≡ false → lookup test es ≡ None)
-        → cond t (Some x.1) (lookup test es) ≡ None
-    by true e rest = absurd (cc)
-    by false e rest = rest e
-
-name_unknown : (name : Name) (p : Prologue) → knows (declared p) name ≡ false → iri_of name p ≡ None
-unfolding prefixed
-name_unknown (Full reference) p h = absurd (true≢false h)
-name_unknown (Prefixed prefix local) p h =
-    ap (λ (o : Option (List ℕ)). option_map {U = List ℕ} (λ iri. iri ++ local_value local) o) (unlisted (same_key (key_of prefix)) p.prefixes h)
-
-literal_unknown : (w : Literal) (p : Prologue) → known_literal (declared p) w ≡ false → literal_of w p ≡ None
-unfolding literal_of
-literal_unknown (l.Typed text name) p h = ap (λ (o : Option (List ℕ)). option_map {U = LiteralParts} (untagged (text_value text)) o) (name_unknown name p h)
-literal_unknown (l.Plain text) p h = absurd (true≢false h)
-literal_unknown (l.Tagged text tag) p h = absurd (true≢false h)
-literal_unknown (l.Integer text) p h = absurd (true≢false h)
-literal_unknown (l.Decimal text) p h = absurd (true≢false h)
-literal_unknown (l.Double text) p h = absurd (true≢false h)
-literal_unknown (l.Boolean value word) p h = absurd (true≢false h)
-
-explained_unknown : (w : Literal) (p : Prologue) (place : ℕ) → ExplainsLiteral p w (UnknownPrefix place) → known_literal (declared p) w ≡ false
-explained_unknown (l.Typed text name) p place h = h
-explained_unknown (l.Plain text) p place h = absurd h
-explained_unknown (l.Tagged text tag) p place h = absurd h
-explained_unknown (l.Integer text) p place h = absurd h
-explained_unknown (l.Decimal text) p place h = absurd h
-explained_unknown (l.Double text) p place h = absurd h
-explained_unknown (l.Boolean value word) p place h = absurd h
 
 some_known : {A : Type 0} (b : Bool) (o : Option A) (x : A) → (b ≡ false → o ≡ None) → o ≡ Some x → b ≡ true
 some_known true o x h e = refl

@@ -18,7 +18,7 @@ use Rattle.rdf_turtle.specs.Inside.Cells as cells
 use Rattle.rdf_turtle.specs.Meaning.{Meaning, meaning, object, behind}
 use Rattle.rdf_turtle.specs.ParserState.{ParserState, fresh, says}
 use Rattle.rdf_grammar.proofs.CallerLemmas.{drop_is}
-use Rattle.rdf_turtle.proofs.ScopeSteps.{then_parts}
+use Rattle.rdf_grammar.proofs.CallerLemmas.{then_parts}
 
 cell_step : (cell next : Term) (m : Meaning) (ms : List Meaning) (s u : ParserState) → cells.next_cell cell rdf_rest rdf_first m s ≡ Some (next, u) → behind cell (m ∷ ms) s ≡ behind next ms u
 cell_step cell next m ms s u h =

@@ -2,6 +2,7 @@
 use Rattle.std.specs.Prelude.{◌≡◌, ◌↔◌, ℕ, Bool, true, false, ◌||◌, List, [], ◌∷◌, map, Option, Err, IsTrue, IfSome, is_some}
 use Rattle.std.specs.List.{list_any}
 use Rattle.rdf_terms.specs.Iri.{is_iri}
+use Rattle.rdf_grammar.specs.FaultyNames.{lacks}
 use Rattle.rdf_grammar.specs.declared.tree.Name.{Name}
 use Rattle.rdf_grammar.specs.declared.tree.Name.TheVariants.{Full, Prefixed}
 use Rattle.rdf_turtle.specs.declared.tree.Verb.{Verb}
@@ -16,7 +17,6 @@ use Rattle.rdf_turtle.specs.declared.tree.Statement.{Statement}
 use Rattle.rdf_turtle.specs.declared.tree.Statement.TheVariants as s
 use Rattle.rdf_turtle.specs.declared.fault.TurtleFaultKind.TheVariants.{Relative}
 use Rattle.rdf_turtle.specs.Document.{HasTree}
-use Rattle.rdf_turtle.specs.FaultyNames.{lacks}
 use Rattle.rdf_turtle.specs.Known.{holds, declares_first}
 use Rattle.rdf_turtle.specs.Meaning.{answer}
 

@@ -1,7 +1,8 @@
 -- What the bytes of a text say as Turtle (Turtle 1.1, sections 6 and 7): the quads of a document, or a fault.
-use Rattle.std.specs.Prelude.{◌≡◌, ◌⊎◌, ℕ, List, length, Option, Some, None, Ok, Err, is_some}
+use Rattle.std.specs.Prelude.{◌≡◌, ◌⊎◌, ℕ, List, length, Option, Some, Ok, Err, is_some}
 use Rattle.std.specs.Str.{chars, IsUtf8, IsValidUpTo}
 use Rattle.std.specs.List.{slice_get}
+pub use Rattle.rdf_grammar.specs.Walks.{start_of}
 use Rattle.rdf_terms.specs.declared.quad.Quad.{Quad}
 use Rattle.rdf_turtle.specs.declared.fault.TurtleFault.{TurtleFault}
 use Rattle.rdf_turtle.specs.declared.fault.TurtleFaultKind.{TurtleFaultKind}
@@ -33,15 +34,6 @@ pub record HasTree (text : List ℕ) (tree : List Statement) : Type 0 where
 -- Against the base, the text is a document of these quads.
 abbrev pub IsDocument : Option (List ℕ) → List ℕ → List Quad → Type 0
 IsDocument base text quads = (tree : List Statement) × HasTree text tree × (answer base tree ≡ Ok quads)
-
--- where a token begins, or the end of the text where there is none
-abbrev pub start_or_end : List ℕ → Option Token → ℕ
-start_or_end text (Some token) = token.start
-start_or_end text None = length text
-
--- where the token of this number begins, or the end of the text
-abbrev pub start_of : List ℕ → List Token → ℕ → ℕ
-start_of text tokens number = start_or_end text (slice_get tokens number)
 
 -- where one of the tokens begins, or the end of the text
 abbrev pub IsPlace : List ℕ → List Token → ℕ → Type 0

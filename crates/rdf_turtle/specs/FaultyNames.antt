@@ -1,81 +1,28 @@
 -- Which lexeme of a document is the first name without an IRI (Turtle 1.1, sections 2.4, 6.3 and 6.5): a prefixed name whose prefix
 -- isn't declared before it, or a reference that has no scheme where no base is in force.
-use Rattle.std.specs.Prelude.{ℕ, ◌+◌, Bool, true, false, ◌&&◌, ◌||◌, not, if◌then◌else◌, List, [], ◌∷◌}
-use Rattle.std.specs.List.{list_any}
-use Rattle.indexmap.specs.IndexSet.{insert_key}
-use Rattle.rdf_terms.specs.Iri.{has_scheme}
-use Rattle.rdf_grammar.specs.Keys.{key_of, same_key}
-use Rattle.rdf_grammar.specs.Terminals.{Slice}
-use Rattle.rdf_tokens.specs.Values.{iri_value, prefix_part}
+use Rattle.std.specs.Prelude.{ℕ, Bool, if◌then◌else◌}
+use Rattle.rdf_grammar.specs.declared.role.NameRole.{NameRole}
+use Rattle.rdf_grammar.specs.declared.role.NameRole.TheVariants as role
+use Rattle.rdf_grammar.specs.FaultyNames as names
 use Rattle.rdf_turtle.specs.declared.terminal.Terminal.{Terminal}
 use Rattle.rdf_turtle.specs.declared.terminal.Terminal.TheVariants as terminal
-use Rattle.rdf_turtle.specs.Leaves.{takes_tag}
 use Rattle.rdf_turtle.specs.Lexemes.{Lexemes}
 
--- what a lexeme is, behind a text or not: behind one the words of directives are tags
-abbrev pub taken : Bool → Terminal → Terminal
-taken behind terminal.AtPrefix = if behind then terminal.AtWord else terminal.AtPrefix
-taken behind terminal.AtBase = if behind then terminal.AtWord else terminal.AtBase
-taken behind k = k
+-- what a lexeme is to names, behind a text or not: behind one the words of directives are tags
+abbrev pub name_role : Terminal → Bool → NameRole
+name_role terminal.Iri behind = role.Reference
+name_role terminal.Pname behind = role.Prefixed
+name_role terminal.Text behind = role.Text
+name_role terminal.AtPrefix behind = if behind then role.Other else role.DeclaresPrefix
+name_role terminal.AtBase behind = if behind then role.Other else role.MovesBase
+name_role terminal.Prefix behind = role.DeclaresPrefix
+name_role terminal.Base behind = role.MovesBase
+name_role _ behind = role.Other
 
--- ---- prefixed names
-
--- behind the word of a prefix's declaration the next prefixed name is what it declares
-abbrev pub declares_behind : Bool → Terminal → Bool
-declares_behind declares terminal.AtPrefix = true
-declares_behind declares terminal.Prefix = true
-declares_behind declares terminal.Pname = false
-declares_behind declares k = declares
-
--- a prefixed name is used whose prefix is none of these
-abbrev pub is_unbound : Bool → List (List ℕ) → Terminal → Slice → Bool
-is_unbound declares bound terminal.Pname name = not declares && not (list_any (same_key (key_of (prefix_part name))) bound)
-is_unbound declares bound k name = false
-
--- the prefixes behind a lexeme
-abbrev pub bound_behind : Bool → List (List ℕ) → Terminal → Slice → List (List ℕ)
-bound_behind declares bound terminal.Pname name = if declares then insert_key same_key bound (key_of (prefix_part name)) else bound
-bound_behind declares bound k name = bound
-
--- how many lexemes stand before the first such name, or how many there are where each prefix is one of these or declared before
-abbrev pub unbound_from : Bool → Bool → List (List ℕ) → Lexemes → ℕ
-unbound_from behind declares bound [] = 0
-unbound_from behind declares bound (t ∷ ts) =
-    if is_unbound declares bound (taken behind t.terminal) t.text then 0
-    else unbound_from (takes_tag t.terminal) (declares_behind declares (taken behind t.terminal)) (bound_behind declares bound (taken behind t.terminal) t.text) ts + 1
-
+-- how many lexemes stand before the first such prefixed name, or how many there are where none is one
 abbrev pub first_unbound : Lexemes → ℕ
-first_unbound ts = unbound_from false false [] ts
+first_unbound = names.first_unbound name_role
 
--- ---- references
-
--- a reference without a scheme where no base is in force
-abbrev pub lacks : Bool → List ℕ → Bool
-lacks based reference = not based && not (has_scheme (iri_value reference))
-
--- behind the word of a base's declaration the next reference is the base
-abbrev pub moves_behind : Bool → Terminal → Bool
-moves_behind moves terminal.AtBase = true
-moves_behind moves terminal.Base = true
-moves_behind moves terminal.Iri = false
-moves_behind moves k = moves
-
-abbrev pub is_lacking : Bool → Terminal → Slice → Bool
-is_lacking based terminal.Iri reference = lacks based reference
-is_lacking based k reference = false
-
--- whether a base is in force behind a lexeme
-abbrev pub base_behind : Bool → Bool → Terminal → Bool
-base_behind moves based terminal.Iri = moves || based
-base_behind moves based k = based
-
--- how many lexemes stand before the first such reference, or how many there are where none is
-abbrev pub lacking_from : Bool → Bool → Bool → Lexemes → ℕ
-lacking_from behind moves based [] = 0
-lacking_from behind moves based (t ∷ ts) =
-    if is_lacking based (taken behind t.terminal) t.text then 0
-    else lacking_from (takes_tag t.terminal) (moves_behind moves (taken behind t.terminal)) (base_behind moves based (taken behind t.terminal)) ts + 1
-
--- against a base, or none
+-- and before the first such reference, against a base or none
 abbrev pub first_lacking : Bool → Lexemes → ℕ
-first_lacking based ts = lacking_from false false based ts
+first_lacking = names.first_lacking name_role

@@ -10,12 +10,12 @@ ghost use Rattle.rdf_turtle.specs.Inside.Stops.{IsTold};
 ghost use Rattle.rdf_turtle.specs.Inside.Walks.{IsShallow};
 
 use crate::fault::{TurtleFault, TurtleFaultKind, fault_at};
-use crate::faulty_name::{first_lacking, first_unbound};
 use crate::lexeme::Parser;
 use crate::sink::TripleSink;
 use crate::straight::triples_of;
 use crate::survey::survey;
-use rdf_grammar::{MAX_OPEN, start_of};
+use crate::terminal::Terminal;
+use rdf_grammar::{MAX_OPEN, first_lacking, first_unbound, start_of};
 use rdf_terms::{Iri, NoMemory, Quad};
 use std::alloc::Global;
 
@@ -29,8 +29,8 @@ fn first_name(
     ensures { IfOk result (λ start. StartsAtFirst based text.now kind start) }
 {
     match kind {
-        TurtleFaultKind::UnknownPrefix => first_unbound(alloc, text),
-        TurtleFaultKind::Relative => first_lacking(alloc, based, text),
+        TurtleFaultKind::UnknownPrefix => first_unbound::<Terminal>(alloc, text),
+        TurtleFaultKind::Relative => first_lacking::<Terminal>(alloc, based, text),
         _ => Ok(0),
     }
 }

@@ -7,7 +7,6 @@
 
 mod document;
 mod fault;
-mod faulty_name;
 mod grammar;
 mod known;
 mod laws;

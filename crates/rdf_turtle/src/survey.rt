@@ -1,21 +1,13 @@
 //! A look over the tokens of a text, which holds none of them: whether all of it has tokens, and how
 //! many brackets are open at once.
-ghost use Rattle.std.specs.Prelude.{◌≡◌, ℕ, List, Option, MatchResult};
+ghost use Rattle.std.specs.Prelude.{ℕ, List, Option, MatchResult};
 ghost use Rattle.rdf_turtle.specs.Document.{IsFaulty};
 ghost use Rattle.rdf_turtle.specs.Inside.Walks.{IsShallow};
-ghost use Rattle.rdf_turtle.specs.Terminals as terminals;
 
 use crate::fault::{TurtleFault, TurtleFaultKind, fault_at};
 use crate::terminal::Terminal;
-use rdf_grammar::{Depth, Terminal as Told, deeper};
-use rdf_tokens::{Found, Kind, Slice, TokenWalk};
-
-/// The terminal of a slice of the text that is a token of that kind.
-pub(crate) fn terminal_of(kind: Kind, slice: &Slice<'_>) -> Terminal
-    ensures { result ≡ terminals.terminal_of kind slice.now }
-{
-    Terminal::of(kind, slice.as_str())
-}
+use rdf_grammar::{Depth, deeper, terminal_of};
+use rdf_tokens::{Found, TokenWalk};
 
 /// Looks over a text that is UTF-8: it has tokens, and at most 100 brackets are open at once.
 ///
@@ -32,7 +24,7 @@ pub(crate) fn survey(text: &str) -> Result<(), TurtleFault>
     while let Some(found) = walk.next() {
         match found {
             Found::Token(start, kind, slice) => {
-                depth = deeper(depth, start, terminal_of(kind, &slice));
+                depth = deeper(depth, start, terminal_of::<Terminal>(kind, &slice));
             }
             Found::NoToken(start) => {
                 return Err(fault_at(text.as_bytes(), TurtleFaultKind::Token, start));

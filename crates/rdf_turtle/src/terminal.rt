@@ -1,10 +1,9 @@
 //! The terminals of Turtle's grammar.
-ghost use Rattle.std.specs.Prelude.{◌≡◌, ◌∷◌, [], map};
-ghost use Rattle.std.specs.Char.{to_ascii_lowercase};
-ghost use Rattle.std.specs.Str.{bytes_eq};
+ghost use Rattle.std.specs.Prelude.{◌≡◌, ◌∷◌, []};
+ghost use Rattle.rdf_turtle.specs.FaultyNames as names;
 ghost use Rattle.rdf_turtle.specs.Terminals as spec;
 
-use rdf_grammar::{Bracket, Word, Words};
+use rdf_grammar::{Bracket, NameRole, NameRoles, Word, Words, is_word};
 use rdf_tokens::Kind;
 
 /// A terminal of Turtle's grammar (Turtle 1.1, section 6.5).
@@ -60,14 +59,6 @@ fn at_word_terminal(text: &str) -> Terminal
     } else {
         Terminal::AtWord
     }
-}
-
-// Whether the text is this word, in any case.
-fn is_word(text: &str, word: &str) -> bool
-    ensures { result ≡ bytes_eq (map to_ascii_lowercase text.now)
-        (map to_ascii_lowercase word.now) }
-{
-    text.eq_ignore_ascii_case(word)
 }
 
 fn word_terminal(text: &str) -> Terminal
@@ -189,6 +180,21 @@ fn word(terminal: Terminal) -> Option<Word>
     }
 }
 
+// What it is to names, behind a text or not.
+fn name_role(terminal: Terminal, behind_text: bool) -> NameRole
+    ensures { result ≡ names.name_role terminal behind_text }
+{
+    match (terminal, behind_text) {
+        (Terminal::Iri, _) => NameRole::Reference,
+        (Terminal::Pname, _) => NameRole::Prefixed,
+        (Terminal::Text, _) => NameRole::Text,
+        (Terminal::AtPrefix | Terminal::AtBase, true) => NameRole::Other,
+        (Terminal::AtPrefix | Terminal::Prefix, _) => NameRole::DeclaresPrefix,
+        (Terminal::AtBase | Terminal::Base, _) => NameRole::MovesBase,
+        _ => NameRole::Other,
+    }
+}
+
 impl rdf_grammar::Terminal for Terminal {
     ghost of = { spec.terminal_by };
 
@@ -219,5 +225,13 @@ impl Words for Terminal {
     #[inline(always)]
     fn word(self) -> Option<Word> {
         word(self)
+    }
+}
+
+impl NameRoles for Terminal {
+    ghost role = { names.name_role };
+
+    fn role(self, behind_text: bool) -> NameRole {
+        name_role(self, behind_text)
     }
 }

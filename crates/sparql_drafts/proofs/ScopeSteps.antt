@@ -1,56 +1,24 @@
 -- What the prologue tells is a step of the reading.
-use Rattle.std.proofs.Common.{◌≡◌, ◌∙◌, ap, refl, sym, subst, ℕ, Bool, true, false, cond, ◌||◌, List, [], ◌∷◌, ◌++◌, map, Option, Some, None, Result, Ok, Err, IfOk, true≢false}
+use Rattle.std.proofs.Common.{◌≡◌, ◌∙◌, ap, sym, subst, ℕ, List, Option, Some, None, Result, Ok, Err, IfOk, true≢false}
 use Rattle.std.specs.Prelude.{IfErr, OnOk}
-use Rattle.std.specs.List.{list_any}
-use Rattle.std.specs.Map.{lookup}
 use Rattle.std.specs.Option.{option_map}
-use Rattle.rdf_grammar.specs.Keys.{key_of, same_key}
-use Rattle.rdf_grammar.specs.Literals.{ExplainsLiteral, literal_of, untagged}
-use Rattle.rdf_grammar.specs.Prologue.{Prologue, declared, iri_of, knows, moves_base, prefixed, resolved}
+use Rattle.rdf_grammar.specs.Literals.{ExplainsLiteral, literal_of}
+use Rattle.rdf_grammar.specs.Prologue.{Prologue, iri_of, moves_base, resolved}
 use Rattle.rdf_grammar.specs.PrologueFaults.{Explains}
 use Rattle.rdf_grammar.specs.declared.prologue.PrologueFault.{PrologueFault}
 use Rattle.rdf_grammar.specs.declared.prologue.PrologueFault.TheVariants as why
 use Rattle.rdf_grammar.specs.declared.tree.Literal.{Literal}
-use Rattle.rdf_grammar.specs.declared.tree.Literal.TheVariants as l
 use Rattle.rdf_grammar.specs.declared.tree.Name.{Name}
-use Rattle.rdf_grammar.specs.declared.tree.Name.TheVariants.{Full, Prefixed}
-use Rattle.rdf_grammar.proofs.CallerLemmas.{reference_lacking, name_lacking, literal_lacking}
+use Rattle.rdf_grammar.specs.declared.tree.Name.TheVariants.{Full}
+use Rattle.rdf_grammar.proofs.CallerLemmas.{explained_unknown, literal_lacking, literal_unknown, name_lacking, name_unknown, reference_lacking}
 use Rattle.rdf_terms.proofs.CallerLemmas.{some_is}
 use Rattle.rdf_terms.specs.Literal.{LiteralParts}
-use Rattle.rdf_tokens.specs.Values.{local_value, text_value}
 use Rattle.sparql_grammar.specs.declared.tree.Declaration.TheVariants as d
 use Rattle.sparql_drafts.specs.Drafting.{Drafting, told}
 use Rattle.sparql_drafts.specs.Kept.{Fails, Gives, Tells, fault_of, or_fault}
 use Rattle.sparql_drafts.specs.Meaning.{declaration, iri, literal}
 use Rattle.sparql_drafts.specs.declared.fault.DraftFault.{DraftFault}
 use Rattle.sparql_drafts.specs.declared.fault.DraftFault.TheVariants.{NoIri, NoMemory}
-
--- ---- names whose prefix isn't declared
-
-unlisted : (test : List ℕ → Bool) (es : List (List ℕ × List ℕ)) → list_any test (map (λ e. e.0) es) ≡ false → lookup test es ≡ None
-unlisted test [] h = refl
-unlisted test (x ∷ es) h = by (test x.0) h (unlisted test es)
-  where
-    by : (t : Bool) → (t || list_any test (map (λ e. e.0) es)) ≡ false → (list_any test (map (λ e. e.0) es) ≡ false → lookup test es ≡ None)
-        → cond t (Some x.1) (lookup test es) ≡ None
-    by true e rest = absurd (cc)
-    by false e rest = rest e
-
-name_unknown : (name : Name) (p : Prologue) → knows (declared p) name ≡ false → iri_of name p ≡ None
-unfolding prefixed
-name_unknown (Full reference) p h = absurd (true≢false h)
-name_unknown (Prefixed prefix local) p h =
-    ap (λ (o : Option (List ℕ)). option_map {U = List ℕ} (λ iri. iri ++ local_value local) o) (unlisted (same_key (key_of prefix)) p.prefixes h)
-
-literal_unknown : (w : Literal) (p : Prologue) (place : ℕ) → ExplainsLiteral p w (why.UnknownPrefix place) → literal_of w p ≡ None
-unfolding literal_of
-literal_unknown (l.Typed text name) p place h = ap (λ (o : Option (List ℕ)). option_map {U = LiteralParts} (untagged (text_value text)) o) (name_unknown name p h)
-literal_unknown (l.Plain text) p place h = absurd h
-literal_unknown (l.Tagged text tag) p place h = absurd h
-literal_unknown (l.Integer text) p place h = absurd h
-literal_unknown (l.Decimal text) p place h = absurd h
-literal_unknown (l.Double text) p place h = absurd h
-literal_unknown (l.Boolean value word) p place h = absurd h
 
 -- ---- what is told
 
@@ -75,7 +43,7 @@ iri_tells n p (Err e) o value fault is = subst (Tells (iri_of n p)) (sym is) (na
 
 literal_fails : (w : Literal) (p : Prologue) (e : PrologueFault) → ExplainsLiteral p w e → Fails (literal_of w p) (fault_of e)
 literal_fails w p (why.NoMemory refused) h = tt
-literal_fails w p (why.UnknownPrefix place) h = literal_unknown w p place h
+literal_fails w p (why.UnknownPrefix place) h = literal_unknown w p (explained_unknown w p place h)
 literal_fails w p (why.Relative place) h = literal_lacking w p place h
 
 pub literal_tells : (w : Literal) (p : Prologue) (r : Result LiteralParts PrologueFault) (o : Result LiteralParts DraftFault) → IfOk r (λ i. literal_of w p ≡ Some i) → IfErr r (λ e. ExplainsLiteral p w e) → o ≡ or_fault r → Tells (literal_of w p) o

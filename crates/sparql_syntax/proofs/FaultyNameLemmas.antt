@@ -27,7 +27,8 @@ use Rattle.sparql_trees.specs.declared.operation.Operation.{Operation}
 use Rattle.sparql_trees.specs.declared.query.Query.{Query}
 use Rattle.sparql_syntax.proofs.NameAnswers.{drafts_there, parts_bound, query_bound, query_there}
 use Rattle.sparql_syntax.proofs.NameRequests.{query_front, request_walks}
-use Rattle.sparql_syntax.proofs.NameScans.{all_based, all_bound, ends_both, lacking_ends, short_both, unbound_ends}
+use Rattle.rdf_grammar.proofs.CallerLemmas.{ends_both, short_both}
+use Rattle.sparql_syntax.proofs.NameScans.{all_based, all_bound, lacking_ends, unbound_ends}
 
 -- ---- what is answered, by whether each prefix is declared and each reference has a scheme or a base
 
@@ -59,14 +60,14 @@ module _ {Said : Type 0} (base : Bool) (ts : Lexemes) (r : Result Said SyntaxFau
   unknown_is : (r ≡ Err fault.UnknownPrefix) ↔ (first_unbound ts < length ts)
   unknown_is =
       let one = unknown_both (all_bound false [] ts) (all_based false base ts) r h in
-      let two = short_both (all_bound false [] ts) (first_unbound ts) (length ts) (unbound_ends ts false []) in
+      let two = short_both (all_bound false [] ts) (first_unbound ts) (length ts) (unbound_ends ts false false []) in
       (λ e. two.0 (one.0 e), λ k. one.1 (two.1 k))
 
   relative_is : (r ≡ Err fault.Relative) ↔ ((first_unbound ts ≡ length ts) × (first_lacking base ts < length ts))
   relative_is =
       let one = relative_both (all_bound false [] ts) (all_based false base ts) r h in
-      let two = ends_both (all_bound false [] ts) (first_unbound ts) (length ts) (unbound_ends ts false []) in
-      let three = short_both (all_based false base ts) (first_lacking base ts) (length ts) (lacking_ends ts false base) in
+      let two = ends_both (all_bound false [] ts) (first_unbound ts) (length ts) (unbound_ends ts false false []) in
+      let three = short_both (all_based false base ts) (first_lacking base ts) (length ts) (lacking_ends ts false false base) in
       (λ e. (let k = one.0 e in (two.0 k.0, three.0 k.1)), λ k. one.1 (two.1 k.0, three.1 k.1))
 
 -- ---- updates

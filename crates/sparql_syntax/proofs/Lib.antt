@@ -26,7 +26,6 @@ mod NameOperations
 mod NameRequests
 mod NameScans
 mod NameTriples
-mod NameWalks
 mod NameWords
 mod PhaseLemmas
 mod ProfileLemmas

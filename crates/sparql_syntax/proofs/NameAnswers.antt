@@ -50,7 +50,7 @@ use Rattle.sparql_trees.specs.declared.query.Query.TheVariants.{Ask as Asks}
 use Rattle.sparql_syntax.specs.Known.{declares_first, known_operation}
 use Rattle.sparql_syntax.specs.Meaning.{both, drafts_behind, drafts_of, graph_or_default, graph_ref_all, modification, operation, part, templates, with_graph, listed}
 use Rattle.sparql_syntax.specs.declared.drafts.Draft.{Draft}
-use Rattle.sparql_syntax.specs.FaultyNames.{lacks}
+use Rattle.rdf_grammar.specs.FaultyNames.{lacks}
 use Rattle.sparql_syntax.proofs.NameFronts.{Ask, of_names, all_named, and_true}
 use Rattle.sparql_syntax.proofs.NameNodes.{each_triples, each_var_or_iri}
 use Rattle.sparql_syntax.proofs.NameGroups.{each_group, each_group_of, each_member, each_member_of, by-Triples, by-Graph, by-group}

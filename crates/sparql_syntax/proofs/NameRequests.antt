@@ -19,7 +19,7 @@ use Rattle.sparql_grammar.specs.OperationGrammar.{IsRequest, Update, declared, l
 use Rattle.sparql_grammar.specs.PrologueGrammar.{BaseDecl, PrefixDecl, Prologue}
 use Rattle.sparql_grammar.specs.QueryGrammar.{IsQuery, AQuery}
 use Rattle.sparql_drafts.specs.Known.{declared_behind}
-use Rattle.sparql_syntax.specs.FaultyNames.{lacks}
+use Rattle.rdf_grammar.specs.FaultyNames.{lacks}
 use Rattle.sparql_syntax.proofs.NameFronts as fronts
 use Rattle.sparql_syntax.proofs.NameFronts.{Adds, Gives, start, Front, iri_only, pname_only}
 use Rattle.sparql_syntax.proofs.NameOperations.{operation_value, form_value, operation_gives, form_gives}

@@ -1,8 +1,10 @@
--- How far a search for a name without an IRI goes among lexemes, and what it asks of each name.
-use Rattle.std.proofs.Common.{◌≡◌, ◌↔◌, ◌∙◌, ap, refl, sym, ℕ, suc, ◌+◌, ◌<◌, Bool, true, false, cond, ◌&&◌, not, List, [], ◌∷◌, ◌++◌, length, arith, true≢false}
+-- What a search for a name without an IRI asks of the names among lexemes.
+use Rattle.std.proofs.Common.{◌≡◌, ◌∙◌, ap, refl, sym, ℕ, Bool, true, false, ◌&&◌, not, List, [], ◌∷◌, ◌++◌, length, true≢false}
 use Rattle.std.proofs.lemmas.Bool.{and_parts}
 use Rattle.std.proofs.Math.Bool.{and_assoc}
 use Rattle.std.specs.List.{list_any}
+use Rattle.rdf_grammar.proofs.CallerLemmas.{Ends, more_or_here, not_not, nothing_left}
+use Rattle.rdf_grammar.specs.FaultyNames.{is_text, declares_behind, is_unbound, bound_behind, unbound_from, lacks, moves_behind, is_lacking, base_behind, lacking_from}
 use Rattle.rdf_grammar.specs.Keys.{key_of, same_key}
 use Rattle.rdf_grammar.specs.Prologue.{knows}
 use Rattle.rdf_grammar.specs.Productions as productions
@@ -13,59 +15,27 @@ use Rattle.rdf_tokens.specs.Values.{prefix_part}
 use Rattle.sparql_terminals.specs.declared.terminal.Terminal.{Terminal}
 use Rattle.sparql_terminals.specs.declared.terminal.Terminal.TheVariants as terminal
 use Rattle.sparql_terminals.specs.Lexemes.{Lexemes}
-use Rattle.sparql_syntax.specs.FaultyNames.{declares_behind, is_unbound, bound_behind, unbound_from, lacks, moves_behind, is_lacking, base_behind, lacking_from}
+use Rattle.sparql_terminals.specs.Terminals.{name_role}
 use Rattle.sparql_syntax.proofs.NameFronts.{names, of_names, all_named, is_plain, all_plain}
-
--- ---- how far a search goes
-
--- to the end, or not
-pub record Ends (b : Bool) (found all : ℕ) : Type 0 where
-  pub done : b ≡ true → found ≡ all
-  pub short : b ≡ false → found < all
-
-one_more : (b : Bool) (found all : ℕ) → Ends b found all → Ends b (found + 1) (suc all)
-one_more b found all h = record {
-  done = λ e. let is : found ≡ all = h.done e in omega (arith, is);
-  short = λ e. let is : found < all = h.short e in omega (arith, is);
-}
-
-more_or_here : (wrong b : Bool) (found all : ℕ) → Ends b found all → Ends (not wrong && b) (cond wrong 0 (found + 1)) (suc all)
-more_or_here true b found all h = record { done = λ e. absurd (true≢false (sym e)); short = λ e. omega arith }
-more_or_here false b found all h = one_more b found all h
-
-not_short : (b : Bool) (found all : ℕ) → Ends b found all → found ≡ all → b ≡ true
-not_short true found all h e = refl
-not_short false found all h e = let less : found < all = h.short refl in absurd (omega (arith, less, e))
-
-not_done : (b : Bool) (found all : ℕ) → Ends b found all → found < all → b ≡ false
-not_done false found all h e = refl
-not_done true found all h e = let is : found ≡ all = h.done refl in absurd (omega (arith, is, e))
-
-pub ends_both : (b : Bool) (found all : ℕ) → Ends b found all → (b ≡ true) ↔ (found ≡ all)
-ends_both b found all h = (h.done, not_short b found all h)
-
-pub short_both : (b : Bool) (found all : ℕ) → Ends b found all → (b ≡ false) ↔ (found < all)
-short_both b found all h = (h.short, not_done b found all h)
 
 -- ---- prefixed names
 
 -- each prefixed name among the lexemes has a prefix that is one of these or declared before
 abbrev pub all_bound : Bool → List (List ℕ) → Lexemes → Bool
 all_bound declares bound [] = true
-all_bound declares bound (t ∷ ts) = not (is_unbound declares bound t.terminal t.text) && all_bound (declares_behind declares t.terminal) (bound_behind declares bound t.terminal t.text) ts
+all_bound declares bound (t ∷ ts) =
+    let k = name_role t.terminal in
+    not (is_unbound declares bound k t.text) && all_bound (declares_behind declares k) (bound_behind declares bound k t.text) ts
 
-pub unbound_ends : (ts : Lexemes) (declares : Bool) (bound : List (List ℕ)) → Ends (all_bound declares bound ts) (unbound_from declares bound ts) (length ts)
-unbound_ends [] declares bound = record { done = λ e. refl; short = λ e. absurd (true≢false e) }
-unbound_ends (t ∷ ts) declares bound =
-    more_or_here (is_unbound declares bound t.terminal t.text) _ _ (length ts) (unbound_ends ts (declares_behind declares t.terminal) (bound_behind declares bound t.terminal t.text))
-
-not_not : (b : Bool) → not (not b) ≡ b
-not_not true = refl
-not_not false = refl
+pub unbound_ends : (ts : Lexemes) (behind declares : Bool) (bound : List (List ℕ)) → Ends (all_bound declares bound ts) (unbound_from (λ k _. name_role k) behind declares bound ts) (length ts)
+unbound_ends [] behind declares bound = nothing_left
+unbound_ends (t ∷ ts) behind declares bound =
+    let k = name_role t.terminal in
+    more_or_here (is_unbound declares bound k t.text) _ _ (length ts) (unbound_ends ts (is_text k) (declares_behind declares k) (bound_behind declares bound k t.text))
 
 -- what is asked of a lexeme that declares nothing
 bound_step : (bound : List (List ℕ)) (k : Terminal) (text : Slice) (rest : Bool → List (List ℕ) → Bool) → is_plain k ≡ true
-    → not (is_unbound false bound k text) && rest (declares_behind false k) (bound_behind false bound k text) ≡ names (of_names (knows bound)) k text && rest false bound
+    → not (is_unbound false bound (name_role k) text) && rest (declares_behind false (name_role k)) (bound_behind false bound (name_role k) text) ≡ names (of_names (knows bound)) k text && rest false bound
 bound_step bound terminal.Pname text rest p = ap (λ (b : Bool). b && rest false bound) (not_not (list_any (same_key (key_of (prefix_part text))) bound))
 bound_step bound terminal.Prefix text rest p = absurd (true≢false (sym p))
 bound_step bound terminal.Base text rest p = absurd (true≢false (sym p))
@@ -84,12 +54,15 @@ plain_bound bound (t ∷ f) h p =
 -- each reference among the lexemes has a scheme, or a base is in force
 abbrev pub all_based : Bool → Bool → Lexemes → Bool
 all_based moves based [] = true
-all_based moves based (t ∷ ts) = not (is_lacking based t.terminal t.text) && all_based (moves_behind moves t.terminal) (base_behind moves based t.terminal) ts
+all_based moves based (t ∷ ts) =
+    let k = name_role t.terminal in
+    not (is_lacking based k t.text) && all_based (moves_behind moves k) (base_behind moves based k) ts
 
-pub lacking_ends : (ts : Lexemes) (moves based : Bool) → Ends (all_based moves based ts) (lacking_from moves based ts) (length ts)
-lacking_ends [] moves based = record { done = λ e. refl; short = λ e. absurd (true≢false e) }
-lacking_ends (t ∷ ts) moves based =
-    more_or_here (is_lacking based t.terminal t.text) _ _ (length ts) (lacking_ends ts (moves_behind moves t.terminal) (base_behind moves based t.terminal))
+pub lacking_ends : (ts : Lexemes) (behind moves based : Bool) → Ends (all_based moves based ts) (lacking_from (λ k _. name_role k) behind moves based ts) (length ts)
+lacking_ends [] behind moves based = nothing_left
+lacking_ends (t ∷ ts) behind moves based =
+    let k = name_role t.terminal in
+    more_or_here (is_lacking based k t.text) _ _ (length ts) (lacking_ends ts (is_text k) (moves_behind moves k) (base_behind moves based k))
 
 -- a name that wants no base
 abbrev pub has_base : Bool → Name → Bool
@@ -97,7 +70,7 @@ has_base based (Full reference) = not (lacks based reference)
 has_base based (Prefixed prefix local) = true
 
 based_step : (based : Bool) (k : Terminal) (text : Slice) (rest : Bool → Bool → Bool) → is_plain k ≡ true
-    → not (is_lacking based k text) && rest (moves_behind false k) (base_behind false based k) ≡ names (of_names (has_base based)) k text && rest false based
+    → not (is_lacking based (name_role k) text) && rest (moves_behind false (name_role k)) (base_behind false based (name_role k)) ≡ names (of_names (has_base based)) k text && rest false based
 based_step based terminal.Iri text rest p = refl
 based_step based terminal.Prefix text rest p = absurd (true≢false (sym p))
 based_step based terminal.Base text rest p = absurd (true≢false (sym p))

@@ -1,12 +1,12 @@
 -- What a walk over the lexemes of a text finds of its static rules.
 use Rattle.std.proofs.Common.{◌≡◌, ◌+◌, cond, ℕ, Bool, true, false, List, [], ◌∷◌, length, Option, Some, None, refl, sym, ap, ◌∙◌, arith}
 use Rattle.std.specs.Str.{chars}
-use Rattle.rdf_grammar.proofs.CallerLemmas.{one_lexemes}
+use Rattle.rdf_grammar.proofs.CallerLemmas.{one_lexemes, one_token_more, starts_by}
 use Rattle.rdf_grammar.specs.Lexemes.{AreReadOf}
 use Rattle.rdf_grammar.specs.Readings.{next}
 use Rattle.rdf_grammar.specs.Terminals.{next_terminal}
 use Rattle.rdf_grammar.specs.Walks as walks
-use Rattle.rdf_grammar.specs.Walks.{start_of}
+use Rattle.rdf_grammar.specs.Walks.{lexemes_found, start_of}
 use Rattle.rdf_tokens.specs.declared.token.Token.{Token}
 use Rattle.rdf_tokens.specs.declared.walk.Found.{Found}
 use Rattle.rdf_tokens.specs.declared.walk.Found.TheVariants.{Token as Read, NoToken}
@@ -21,7 +21,6 @@ use Rattle.sparql_syntax.specs.BrokenRules.{breaks, breaking_from, first_breakin
 use Rattle.sparql_syntax.specs.Clauses.{clause_behind}
 use Rattle.sparql_syntax.specs.NamePlaces.{StartsAt}
 use Rattle.sparql_syntax.specs.SeenLabels.{Seen, none_seen}
-use Rattle.sparql_syntax.proofs.NameWalks.{one_more, slices, starts_by}
 use Rattle.sparql_syntax.proofs.TellLemmas.{listed}
 
 -- ---- one lexeme more
@@ -59,9 +58,9 @@ one_shorter (t ∷ ts) k e = omega arith
 
 pub breaking_starts : (text : List ℕ) (rule : SyntaxFaultKind) (ls : Lexemes) (number place : ℕ) → AreReadOf terminal_by (chars text) ls → first_breaking rule ls ≡ number → walks.StartsAt text number place
     → StartsAt text (first_breaking rule) place
-breaking_starts text rule ls number place read e at tokens lexemes h =
-    let same : ls ≡ lexemes = one_lexemes terminal_by (chars text) tokens ls lexemes (listed (chars text) tokens ls h.list read) h.slices in
-    at tokens h.list ∙ ap (start_of text tokens) (sym e ∙ ap (first_breaking rule) same)
+breaking_starts text rule ls number place read e at tokens lexemes list slices =
+    let same : ls ≡ lexemes = one_lexemes terminal_by (chars text) tokens ls lexemes (listed (chars text) tokens ls list read) slices in
+    at tokens list ∙ ap (start_of text tokens) (sym e ∙ ap (first_breaking rule) same)
 
 -- in a text of so many bytes
 abbrev pub reused_start : ℕ → Clause → Seen → Seen → List Found → ℕ
@@ -73,16 +72,16 @@ reused_start size c inserted patterns (Read start kind slice ∷ all) =
     (reused_start size (clause_behind c k) (seen_behind InsertData c inserted k slice) (seen_behind Pattern c patterns k slice) all)
 
 reused : (text : List ℕ) (c : Clause) (inserted patterns : Seen) (tokens : List Token) (all : List Found) → AreFound (chars text) tokens all
-    → reused_start (length text) c inserted patterns all ≡ start_of text tokens (reused_from c inserted patterns (slices all))
+    → reused_start (length text) c inserted patterns all ≡ start_of text tokens (reused_from c inserted patterns (lexemes_found terminal_by all))
 reused text c inserted patterns [] [] h = refl
 reused text c inserted patterns [] (f ∷ fs) h = absurd h
 reused text c inserted patterns (t ∷ ts) [] h = absurd h
 reused text c inserted patterns (t ∷ ts) (NoToken start ∷ fs) h = absurd h.0
 reused text c inserted patterns (t ∷ ts) (Read start kind slice ∷ fs) h =
     let k = terminal_of kind slice in
-    one_more text t ts (is_reused c inserted patterns k slice) start _ _ h.0.0
+    one_token_more text t ts (is_reused c inserted patterns k slice) start _ _ h.0.0
     (reused text (clause_behind c k) (seen_behind InsertData c inserted k slice) (seen_behind Pattern c patterns k slice) ts fs h.1)
 
 pub reused_starts : (text : List ℕ) (all : List Found) (place : ℕ) → AreFoundIn (chars text) all → reused_start (length text) Pattern none_seen none_seen all ≡ place
     → StartsAt text first_reused place
-reused_starts text all place walk e = starts_by text all place first_reused walk (λ tokens are. sym e ∙ reused text Pattern none_seen none_seen tokens all are)
+reused_starts text all place walk e = starts_by terminal_by text all place first_reused walk (λ tokens are. sym e ∙ reused text Pattern none_seen none_seen tokens all are)

@@ -99,7 +99,7 @@ module _ {Tree Said : Type 0} (Derives : List Lexeme → Tree → Type 0) (meani
   pub first_told : (base : Option (List ℕ)) (text : List ℕ) (tokens : List Token) (lexemes : Lexemes) (f : SyntaxFault) (k : SyntaxFaultKind) (number : Lexemes → ℕ) → HasTokens text tokens lexemes
       → ((line : ℕ) → IsLineAt text number line → phases.FaultIs Derives meaning base text k line) → IsAtFirst text k number f → Tells base text f
   first_told base text tokens lexemes f k number held is (Ok start, starts, told) =
-      told_at base text f k (line_of text start) told (is (line_of text start) (tokens, lexemes, held, ap (line_of text) (starts tokens lexemes held)))
+      told_at base text f k (line_of text start) told (is (line_of text start) (tokens, lexemes, held, ap (line_of text) (starts tokens lexemes held.list held.slices)))
   first_told base text tokens lexemes f k number held is (Err refused, starts, told) = memory_told base text f refused told
 
   -- that of a tree, told at the first lexeme that shows it

@@ -1,20 +1,19 @@
 -- Where the first lexeme stands that shows a fault, a name without an IRI or what breaks a static rule, and the fault that is told of it.
 use Rattle.std.specs.Prelude.{◌≡◌, ℕ, Bool, List, Result, Ok, Err, IfOk}
-use Rattle.rdf_grammar.specs.Walks.{start_of}
+use Rattle.rdf_grammar.specs.Walks.{StartsAtLexeme}
 use Rattle.rdf_terms.specs.declared.fault.NoMemory.{NoMemory}
-use Rattle.rdf_tokens.specs.declared.token.Token.{Token}
 use Rattle.sparql_terminals.specs.Lexemes.{Lexemes}
+use Rattle.sparql_terminals.specs.Terminals.{terminal_by}
 use Rattle.sparql_syntax.specs.declared.fault.SyntaxFault.{SyntaxFault}
 use Rattle.sparql_syntax.specs.declared.fault.SyntaxFaultKind.{SyntaxFaultKind}
 use Rattle.sparql_syntax.specs.declared.fault.SyntaxFaultKind.TheVariants as kind
 use Rattle.sparql_syntax.specs.BrokenRules.{first_broken}
 use Rattle.sparql_syntax.specs.FaultyNames.{first_unbound, first_lacking}
-use Rattle.sparql_syntax.specs.Phases.{HasTokens}
 use Rattle.sparql_syntax.specs.Told.{fault_at, wants_memory}
 
--- Where the text has tokens, the one of that number starts there, or the text ends there.
+-- the token of the lexeme of that number starts there, or the text ends there
 abbrev pub StartsAt : List ℕ → (Lexemes → ℕ) → ℕ → Type 0
-StartsAt text number place = (tokens : List Token) (lexemes : Lexemes) → HasTokens text tokens lexemes → place ≡ start_of text tokens (number lexemes)
+StartsAt = StartsAtLexeme terminal_by
 
 -- the fault at the place that was found, or want of memory
 abbrev pub at_place : List ℕ → SyntaxFaultKind → Result ℕ NoMemory → SyntaxFault

@@ -9,8 +9,6 @@ use Rattle.rdf_tokens.specs.declared.walk.Found.TheVariants.{Token as Read, NoTo
 use Rattle.rdf_tokens.specs.Tokens.{Tokenizes}
 use Rattle.sparql_terminals.specs.Lexemes.{Lexeme}
 use Rattle.sparql_terminals.specs.Profile.{AreInside, is_left_out}
-use Rattle.sparql_terminals.specs.Terminals as terminals
-use Rattle.sparql_terminals.specs.declared.terminal.Terminal.{Terminal}
 use Rattle.sparql_grammar.specs.Nesting.{IsTooDeep}
 use Rattle.sparql_syntax.specs.Phases.{HasTokens}
 
@@ -21,9 +19,6 @@ pub record IsReadable (text : List ℕ) : Type 0 where
   pub list : HasTokens text tokens lexemes
   pub inside : AreInside (chars text) tokens
   pub shallow : ¬ (IsTooDeep lexemes)
-
-abbrev pub terminal_of : Kind → List ℕ → Terminal
-terminal_of = terminals.terminal_of
 
 -- ---- words that the profile leaves out
 

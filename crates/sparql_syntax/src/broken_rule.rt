@@ -8,8 +8,7 @@ ghost use Rattle.sparql_syntax.specs.declared.clause.Clause.TheVariants.{InsertD
 use crate::clause::{Clause, clause_behind, is_data, is_deleted, is_same};
 use crate::fault::SyntaxFaultKind;
 use crate::seen::Seen;
-use crate::survey::terminal_of;
-use rdf_grammar::start_of;
+use rdf_grammar::{start_of, terminal_of};
 use rdf_terms::NoMemory;
 use rdf_tokens::{Found, Slice, TokenWalk};
 use sparql_terminals::{Parser, Terminal};
@@ -206,7 +205,7 @@ fn first_reused_in<'a>(
     while let Some(found) = walk.next() {
         match found {
             Found::Token(start, kind, slice) => {
-                let terminal = terminal_of(kind, &slice);
+                let terminal = terminal_of::<Terminal>(kind, &slice);
                 if is_reused(clause, inserted, patterns, terminal, &slice) {
                     return Ok(start);
                 }

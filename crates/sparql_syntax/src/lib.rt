@@ -9,7 +9,6 @@ mod broken_rule;
 mod clause;
 mod drafts;
 mod fault;
-mod faulty_name;
 mod known;
 mod labels;
 mod laws;

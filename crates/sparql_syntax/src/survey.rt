@@ -9,7 +9,7 @@ ghost use Rattle.sparql_syntax.specs.Survey.{IsReadable};
 
 use crate::fault::{SyntaxFault, SyntaxFaultKind};
 use crate::text::fault_at;
-use rdf_grammar::{Depth, MAX_OPEN, Terminal as Told, deeper};
+use rdf_grammar::{Depth, MAX_OPEN, deeper, terminal_of};
 use rdf_tokens::{Found, Kind, Slice, TokenWalk};
 use sparql_terminals::{Terminal, is_left_out};
 
@@ -47,13 +47,6 @@ fn first_left_out(
     }
 }
 
-/// The terminal of a slice of the text that is a token of that kind.
-pub(crate) fn terminal_of(kind: Kind, slice: &Slice<'_>) -> Terminal
-    ensures { result ≡ spec.terminal_of kind slice.now }
-{
-    Terminal::of(kind, slice.as_str())
-}
-
 /// Looks over a text that is UTF-8: it has tokens, the profile has each word, and at most 100 brackets
 /// are open at once.
 ///
@@ -72,7 +65,7 @@ pub(crate) fn survey(text: &str) -> Result<(), SyntaxFault>
         match found {
             Found::Token(start, kind, slice) => {
                 left_out = first_left_out(left_out, start, kind, &slice);
-                depth = deeper(depth, start, terminal_of(kind, &slice));
+                depth = deeper(depth, start, terminal_of::<Terminal>(kind, &slice));
             }
             Found::NoToken(start) => {
                 return Err(fault_at(text.as_bytes(), SyntaxFaultKind::Token, start));

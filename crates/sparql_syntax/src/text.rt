@@ -7,11 +7,10 @@ ghost use Rattle.sparql_syntax.specs.Told as spec;
 
 use crate::broken_rule::{first_breaking, first_reused};
 use crate::fault::{SyntaxFault, SyntaxFaultKind};
-use crate::faulty_name::{first_lacking, first_unbound};
-use rdf_grammar::{GrammarFault, start_of};
+use rdf_grammar::{GrammarFault, first_lacking, first_unbound, start_of};
 use rdf_terms::NoMemory;
 use rdf_tokens::line_at;
-use sparql_terminals::Parser;
+use sparql_terminals::{Parser, Terminal};
 use std::alloc::Global;
 
 /// The fault of this kind, at the line of that byte.
@@ -66,8 +65,8 @@ fn place_shown(
     ensures { IfOk result (λ place. StartsAt text.now (places.first_shown based kind) place) }
 {
     match kind {
-        SyntaxFaultKind::UnknownPrefix => first_unbound(alloc, text),
-        SyntaxFaultKind::Relative => first_lacking(alloc, based, text),
+        SyntaxFaultKind::UnknownPrefix => first_unbound::<Terminal>(alloc, text),
+        SyntaxFaultKind::Relative => first_lacking::<Terminal>(alloc, based, text),
         SyntaxFaultKind::BlankReused => first_reused(alloc, text),
         _ => Ok(first_breaking(alloc, text, kind)),
     }

@@ -7,6 +7,8 @@ use Rattle.rdf_tokens.specs.declared.token.Kind.{Kind}
 use Rattle.rdf_tokens.specs.declared.token.Kind.TheVariants as kind
 use Rattle.rdf_grammar.specs.declared.bracket.Bracket.{Bracket}
 use Rattle.rdf_grammar.specs.declared.bracket.Bracket.TheVariants as turn
+use Rattle.rdf_grammar.specs.declared.role.NameRole.{NameRole}
+use Rattle.rdf_grammar.specs.declared.role.NameRole.TheVariants as role
 use Rattle.rdf_grammar.specs.declared.word.Word.{Word}
 use Rattle.rdf_grammar.specs.declared.word.Word.TheVariants as w
 use Rattle.rdf_grammar.specs.Terminals.{TellsApart}
@@ -191,3 +193,13 @@ word terminal.SignedDouble = Some w.Double
 word terminal.True = Some w.True
 word terminal.False = Some w.False
 word _ = None
+
+-- ---- what it is to names
+
+abbrev pub name_role : Terminal → NameRole
+name_role terminal.Iri = role.Reference
+name_role terminal.Pname = role.Prefixed
+name_role terminal.Text = role.Text
+name_role terminal.Prefix = role.DeclaresPrefix
+name_role terminal.Base = role.MovesBase
+name_role _ = role.Other

@@ -2,7 +2,7 @@
 ghost use Rattle.std.specs.Prelude.{◌≡◌};
 ghost use Rattle.sparql_terminals.specs.Profile as spec;
 
-use crate::terminal::is_word;
+use rdf_grammar::is_word;
 use rdf_tokens::{Kind, Slice};
 
 // In lower case.

@@ -1,10 +1,9 @@
 //! The terminals of SPARQL's grammar.
-ghost use Rattle.std.specs.Prelude.{◌≡◌, map};
-ghost use Rattle.std.specs.Char.{to_ascii_lowercase};
+ghost use Rattle.std.specs.Prelude.{◌≡◌};
 ghost use Rattle.std.specs.Str.{bytes_eq};
 ghost use Rattle.sparql_terminals.specs.Terminals as spec;
 
-use rdf_grammar::{Bracket, Word, Words};
+use rdf_grammar::{Bracket, NameRole, NameRoles, Word, Words, is_word};
 use rdf_tokens::Kind;
 
 /// A terminal of SPARQL's grammar (SPARQL 1.1 Query, section 19.8). Keywords are read in any case.
@@ -105,14 +104,6 @@ pub enum Terminal {
     Not,
     /// What the grammar has no use for: another word, an operator.
     Other,
-}
-
-// Whether the text is this word, in any case.
-pub(crate) fn is_word(text: &str, word: &str) -> bool
-    ensures { result ≡ bytes_eq (map to_ascii_lowercase text.now)
-        (map to_ascii_lowercase word.now) }
-{
-    text.eq_ignore_ascii_case(word)
 }
 
 fn filter_terminal(text: &str) -> Terminal
@@ -406,6 +397,20 @@ fn word(terminal: Terminal) -> Option<Word>
     }
 }
 
+// What it is to names.
+fn name_role(terminal: Terminal) -> NameRole
+    ensures { result ≡ spec.name_role terminal }
+{
+    match terminal {
+        Terminal::Iri => NameRole::Reference,
+        Terminal::Pname => NameRole::Prefixed,
+        Terminal::Text => NameRole::Text,
+        Terminal::Prefix => NameRole::DeclaresPrefix,
+        Terminal::Base => NameRole::MovesBase,
+        _ => NameRole::Other,
+    }
+}
+
 impl rdf_grammar::Terminal for Terminal {
     ghost of = { spec.terminal_by };
 
@@ -433,5 +438,13 @@ impl Words for Terminal {
 
     fn word(self) -> Option<Word> {
         word(self)
+    }
+}
+
+impl NameRoles for Terminal {
+    ghost role = { λ terminal _. spec.name_role terminal };
+
+    fn role(self, _behind_text: bool) -> NameRole {
+        name_role(self)
     }
 }

@@ -2,7 +2,8 @@ use Rattle.std.proofs.Common.{◌∙◌, ap, arith}
 use Rattle.std.specs.Option.{option_copied}
 use Rattle.rdf_tokens.specs.Lines.{line_of}
 use Rattle.rdf_turtle.proofs.BaseLeaves.{read_formed}
-use Rattle.rdf_turtle.proofs.DocumentLemmas.{read_surveyed, told_surveyed, some_copied, syntax_tells}
+use Rattle.rdf_grammar.proofs.CallerLemmas.{some_copied}
+use Rattle.rdf_turtle.proofs.DocumentLemmas.{read_surveyed, told_surveyed, syntax_tells}
 use Rattle.rdf_turtle.proofs.document.read_surveyed.Goals as goal
 
 pub triples_of-requires-clause-formed : goal.triples_of-requires-clause-formed
@@ -17,7 +18,7 @@ returns-in-Ok g c = read_surveyed (option_copied c.args.base) c.args.text.now c.
 pub returns-in-Syntax : goal.returns-in-Syntax
 returns-in-Syntax g c =
     syntax_tells (option_copied c.args.base) c.args.text.now c.over-parser.result _ c.start_of-start.result c.fault_at.result c.requires c.over-parser.ensures.read (rw c.in-Syntax.is at c.in-Err.ensures)
-    (λ tokens lexemes h. c.start_of-start.ensures tokens h.list) c.fault_at.ensures.kind (c.fault_at.ensures.line (λ same. cc) ∙ ap (λ t. line_of t c.start_of-start.result) c.as_bytes.ensures.value)
+    c.start_of-start.ensures c.fault_at.ensures.kind (c.fault_at.ensures.line (λ same. cc) ∙ ap (λ t. line_of t c.start_of-start.result) c.as_bytes.ensures.value)
 
 pub returns-in_default : goal.returns-in_default
 returns-in_default g c =

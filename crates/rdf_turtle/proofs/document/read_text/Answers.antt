@@ -1,7 +1,8 @@
 use Rattle.std.proofs.Common.{arith}
 use Rattle.std.specs.Option.{option_copied}
 use Rattle.rdf_turtle.proofs.BaseLeaves.{read_formed}
-use Rattle.rdf_turtle.proofs.DocumentLemmas.{read_low, told_low, some_copied, faulty_tells}
+use Rattle.rdf_grammar.proofs.CallerLemmas.{some_copied}
+use Rattle.rdf_turtle.proofs.DocumentLemmas.{read_low, told_low, faulty_tells}
 use Rattle.rdf_turtle.proofs.document.read_text.Goals as goal
 
 pub triples_of-requires-clause-formed : goal.triples_of-requires-clause-formed

@@ -2,7 +2,7 @@ use Rattle.std.proofs.Common.{rules, ◌≡◌, ◌∙◌, ap, sym, subst, [], �
 use Rattle.sparql_syntax.specs.BrokenRules.{is_reused}
 use Rattle.sparql_terminals.specs.declared.terminal.Terminal.{Terminal}
 use Rattle.sparql_terminals.specs.Terminals.{terminal_of}
-use Rattle.sparql_syntax.proofs.NameWalks.{here}
+use Rattle.rdf_grammar.proofs.CallerLemmas.{here}
 use Rattle.sparql_syntax.proofs.RuleWalks.{reused_start, reused_starts}
 use Rattle.sparql_syntax.proofs.broken_rule.first_reused_in.Goals as goal
 

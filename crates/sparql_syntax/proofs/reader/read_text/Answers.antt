@@ -1,6 +1,6 @@
 use Rattle.std.proofs.Common.{refl}
 use Rattle.std.specs.Option.{option_copied}
-use Rattle.sparql_syntax.proofs.NameWalks.{some_copied}
+use Rattle.rdf_grammar.proofs.CallerLemmas.{some_copied}
 use Rattle.sparql_syntax.proofs.TellLemmas.{tree_told}
 use Rattle.sparql_syntax.proofs.reader.read_text.Goals as goal
 
