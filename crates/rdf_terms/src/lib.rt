@@ -23,6 +23,7 @@ mod laws;
 mod layout;
 mod literal;
 mod moving;
+mod parts;
 mod quad;
 mod quoted;
 mod reference;
@@ -52,6 +53,7 @@ pub use laws::{
     comparisons_are_the_order, orders_are_total, quad_is_one, term_is_one, texts_differ,
 };
 pub use literal::Literal;
+pub use parts::TermParts;
 pub use quad::{GraphName, Quad, compare_quads, same_quad};
 pub use quoted::{iris_are_read, strings_are_read};
 pub use resolution::resolve;
@@ -65,4 +67,4 @@ pub use tag::tags_are_read;
 pub use term::{Term, compare_terms, same_term};
 pub use text::Text;
 pub use vocabulary::Vocabulary;
-pub use write::write_term;
+pub use write::{write_parts, write_term};

@@ -6,7 +6,7 @@ ghost use Rattle.rdf_streams.specs.Inside.Held.{WritesLines};
 use crate::conversion::fault::ConvertFault;
 use crate::conversion::held::Held;
 use crate::conversion::writing::write_held;
-use rdf_terms::{Iri, NoMemory, Term, term_is_one};
+use rdf_terms::{Iri, NoMemory, Term, TermParts, term_is_one};
 use rdf_turtle::TripleSink;
 use std::alloc::Global;
 use std::io::Write;
@@ -56,6 +56,8 @@ impl TripleLines {
 impl TripleSink for TripleLines {
     ghost taken = { λ triples. triples };
 
+    const TAKES_PARTS: bool = true;
+
     fn empty(alloc: Global) -> TripleLines {
         TripleLines {
             held: Held::new(alloc),
@@ -67,7 +69,22 @@ impl TripleSink for TripleLines {
         term_is_one(subject);
         let _ = predicate.as_str();
         term_is_one(&object);
-        self.held.hold(subject, predicate, &object)?;
+        self.held
+            .hold(subject, predicate, &TermParts::Whole(&object))?;
+        self.count += 1;
+        Ok(())
+    }
+
+    fn take_parts(
+        &mut self,
+        _alloc: Global,
+        subject: &Term,
+        predicate: &Iri,
+        object: &TermParts<'_>,
+    ) -> Result<(), NoMemory> {
+        term_is_one(subject);
+        let _ = predicate.as_str();
+        self.held.hold(subject, predicate, object)?;
         self.count += 1;
         Ok(())
     }
