@@ -41,7 +41,7 @@ pub use lexeme::Lexeme;
 pub use lexeme_list::lexemes_have_forms;
 pub use numbering::Numbering;
 pub use parser::Parser;
-pub use parts::{term_of, written_parts};
+pub use parts::{parts_are_a_term, term_of, written_parts};
 pub use production::{binding, iri, literal};
 pub use prologue::{Prologue, PrologueFault};
 pub use start::start_of;

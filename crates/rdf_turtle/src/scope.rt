@@ -145,6 +145,7 @@ impl<'a, S: TripleSink> Scope<'a, S> {
     }
 
     // Says it by the parts of a name whose local part stands for itself.
+    #[tactic(auto, unfolding(crate::specs::Meaning::object))]
     fn says_joined(
         &mut self,
         subject: &Term,
@@ -220,6 +221,7 @@ impl<'a, S: TripleSink> Scope<'a, S> {
     }
 
     // Says it by the parts of a literal, where it has them whatever is declared.
+    #[tactic(auto, unfolding(crate::specs::Meaning::object))]
     fn says_written(
         &mut self,
         subject: &Term,
@@ -245,6 +247,7 @@ impl<'a, S: TripleSink> Scope<'a, S> {
     }
 
     // Says it by the parts of a literal with the name of its datatype.
+    #[tactic(auto, unfolding(crate::specs::Meaning::object))]
     fn says_typed(
         &mut self,
         subject: &Term,

@@ -14,19 +14,17 @@ const MOST: u64 = 65536;
 /// How many places there are.
 const PLACES: usize = 1024;
 
-/// How many bytes of a predicate its place depends on, beside its length: the last.
-const MIXED: usize = 6;
-
-// The place of a predicate. Few of a document have one place.
+// The place of a predicate, by its length and its last bytes. Few of a document have one place.
 fn place_of(predicate: &Iri) -> usize
     ensures { result < PLACES }
 {
     let bytes = predicate.as_str().as_bytes();
-    let mut mixed = bytes.len();
-    for byte in &bytes[bytes.len().saturating_sub(MIXED)..] {
-        mixed = mixed.wrapping_mul(31).wrapping_add(*byte as usize);
-    }
-    mixed % PLACES
+    let last = match bytes {
+        [.., a, b, c, d] => u32::from_le_bytes([*a, *b, *c, *d]),
+        _ => 0,
+    };
+    let mixed = (last ^ bytes.len() as u32).wrapping_mul(0x9e37_79b1) >> 16;
+    mixed as usize % PLACES
 }
 
 /// Predicates by their numbers, in order of first appearance. A contract sees them as terms, number 0 first.

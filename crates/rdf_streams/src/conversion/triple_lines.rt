@@ -7,7 +7,7 @@ use crate::conversion::fault::ConvertFault;
 use crate::conversion::held::Held;
 use crate::conversion::writing::write_held;
 use rdf_terms::{Iri, NoMemory, Term, TermParts, term_is_one};
-use rdf_turtle::TripleSink;
+use rdf_turtle::{TripleSink, parts_are_a_term};
 use std::alloc::Global;
 use std::io::Write;
 use std::marker::Model;
@@ -84,6 +84,7 @@ impl TripleSink for TripleLines {
     ) -> Result<(), NoMemory> {
         term_is_one(subject);
         let _ = predicate.as_str();
+        parts_are_a_term(object);
         self.held.hold(subject, predicate, object)?;
         self.count += 1;
         Ok(())
