@@ -145,7 +145,8 @@ impl<'a> Prologue<'a> {
     pub fn front(&self, prefix: &Slice<'a>) -> Option<&Iri>
         ensures { option_map (λ iri. iri.now) result ≡ spec.front prefix.now self.now }
     {
-        self.prefixes.get(&Key::of(prefix))
+        let key = Key::of(prefix);
+        self.prefixes.get(&key)
     }
 
     // The IRI of a prefix and a local part.

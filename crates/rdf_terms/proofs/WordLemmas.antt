@@ -58,10 +58,10 @@ stops_there : (cs bs : List ℕ) (b : ℕ) → encode_utf8_all cs ≡ b ∷ bs �
 stops_there [] bs b e other = skip_end is_word
 stops_there (c ∷ cs) bs b e other =
     elim (cases_Bool (is_word c)) [
-      | inl yes ↦
-          let first : c ∷ encode_utf8_all cs ≡ b ∷ bs = ap (λ (t : List ℕ). t ++ encode_utf8_all cs) (sym (encode_ascii c (word_low c yes))) ∙ e in
+      | inl takes ↦
+          let first : c ∷ encode_utf8_all cs ≡ b ∷ bs = ap (λ (t : List ℕ). t ++ encode_utf8_all cs) (sym (encode_ascii c (word_low c takes))) ∙ e in
           let same : c ≡ b = cc in
-          absurd (true≢false (sym yes ∙ ap is_word same ∙ other))
+          absurd (true≢false (sym takes ∙ ap is_word same ∙ other))
       | inr stop ↦ skip_stop is_word c cs stop
     ]
 
