@@ -10,7 +10,7 @@ use std::marker::Model;
 const FEWEST: usize = 8;
 
 // Spreads numbers over marks.
-const SPREAD: u64 = 0x9e37_79b9_7f4a_7c15;
+const SPREAD: u64 = 0x2545_f491_4f6c_dd1d;
 
 // Its last bytes, as a number: eight, or four and the first, or the first, the middle and the last.
 #[inline(always)]
@@ -34,7 +34,7 @@ fn last_bytes(bytes: &[u8]) -> u64 {
 /// marks of those that begin with a digit, of which many stand once only, are odd, and no others are.
 pub(crate) fn mark_of(written: &str) -> usize {
     let bytes = written.as_bytes();
-    let mixed = (last_bytes(bytes) ^ bytes.len() as u64).wrapping_mul(SPREAD) >> 32;
+    let mixed = (last_bytes(bytes) ^ bytes.len() as u64).wrapping_mul(SPREAD) >> 44;
     match bytes.first() {
         Some(b'0'..=b'9') => mixed as usize | 1,
         _ => mixed as usize & !1,

@@ -1,5 +1,8 @@
 //! The lines of triples, held until all of a document is read.
-ghost use Rattle.std.specs.Prelude.{◌≡◌, length};
+ghost use Rattle.std.specs.Prelude.{◌≡◌, ◌≤◌, ◌++◌, ◌∷◌, [], false, length, OnErr, OnOk};
+ghost use Rattle.rdf_terms.specs.Parts.{AreProper, term_of};
+ghost use Rattle.rdf_terms.specs.Term.{is_literal_term};
+ghost use Rattle.rdf_turtle.specs.ParserState.{triple, longest};
 ghost use Rattle.rdf_streams.specs.Conversion.Converts.{lines_of};
 ghost use Rattle.rdf_streams.specs.Inside.Held.{WritesLines};
 
@@ -53,6 +56,31 @@ impl TripleLines {
     }
 }
 
+impl TripleLines {
+    // Holds the line of a triple behind the others.
+    #[inline(always)]
+    fn hold(
+        &mut self,
+        subject: &Term,
+        predicate: &Iri,
+        object: &TermParts<'_>,
+    ) -> Result<(), NoMemory>
+        requires subject { is_literal_term subject.now ≡ false }
+        requires object { AreProper object.now }
+        ensures ok { OnOk result (self.new
+            ≡ self.old ++ triple subject.now predicate.now (term_of object.now) ∷ []) }
+        ensures err { OnErr result (self.new ≡ self.old) }
+        ensures fits { length self.new ≤ longest }
+    {
+        term_is_one(subject);
+        let _ = predicate.as_str();
+        parts_are_a_term(object);
+        self.held.hold(subject, predicate, object)?;
+        self.count += 1;
+        Ok(())
+    }
+}
+
 impl TripleSink for TripleLines {
     ghost taken = { λ triples. triples };
 
@@ -66,13 +94,7 @@ impl TripleSink for TripleLines {
     }
 
     fn take(&mut self, subject: &Term, predicate: &Iri, object: Term) -> Result<(), NoMemory> {
-        term_is_one(subject);
-        let _ = predicate.as_str();
-        term_is_one(&object);
-        self.held
-            .hold(subject, predicate, &TermParts::Whole(&object))?;
-        self.count += 1;
-        Ok(())
+        self.hold(subject, predicate, &TermParts::Whole(&object))
     }
 
     fn take_parts(
@@ -82,11 +104,6 @@ impl TripleSink for TripleLines {
         predicate: &Iri,
         object: &TermParts<'_>,
     ) -> Result<(), NoMemory> {
-        term_is_one(subject);
-        let _ = predicate.as_str();
-        parts_are_a_term(object);
-        self.held.hold(subject, predicate, object)?;
-        self.count += 1;
-        Ok(())
+        self.hold(subject, predicate, object)
     }
 }

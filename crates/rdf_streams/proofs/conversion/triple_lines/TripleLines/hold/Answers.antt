@@ -5,7 +5,7 @@ use Rattle.rdf_turtle.specs.WrittenLaws.{IsDefaultQuad}
 use Rattle.rdf_streams.specs.Inside.Parts.{text_of}
 use Rattle.rdf_streams.specs.Inside.TripleLines.{triples_in}
 use Rattle.rdf_streams.proofs.ConversionLemmas.TripleLines.{few_held, lines_kept, lines_on, on_err, triple_is_one, triples_kept, triples_on}
-use Rattle.rdf_streams.proofs.conversion.triple_lines.TripleLinesTripleSink.take_parts.Goals as goal
+use Rattle.rdf_streams.proofs.conversion.triple_lines.TripleLines.hold.Goals as goal
 
 pub invariant_of-self : goal.invariant_of-self
 invariant_of-self c = lines_kept c.self.inside.held c.hold.new.self c.self.inside.count c.self.invariant c.in_err-hold.ensures.err
