@@ -45,6 +45,7 @@ pub trait TripleSink: Drop {
     ) -> Result<(), NoMemory>
         requires subject { is_literal_term subject.now ≡ false }
         requires object { AreProper object.now }
+        requires fits { length (taken self.old) ≤ longest }
         ensures ok { OnOk result (taken self.new
             ≡ taken self.old ++ triple subject.now predicate.now (term_of object.now) ∷ []) }
         ensures err { OnErr result (taken self.new ≡ taken self.old) }

@@ -23,8 +23,8 @@ fn place_of(predicate: &Iri) -> usize
         [.., a, b, c, d] => u32::from_le_bytes([*a, *b, *c, *d]),
         _ => 0,
     };
-    let mixed = (last ^ bytes.len() as u32).wrapping_mul(0x9e37_79b1) >> 16;
-    mixed as usize % PLACES
+    let mixed = (last as usize ^ bytes.len()).wrapping_mul(0x2545_f491_4f6c_dd1d) >> 44;
+    mixed % PLACES
 }
 
 /// Predicates by their numbers, in order of first appearance. A contract sees them as terms, number 0 first.
