@@ -110,11 +110,11 @@ written_known w o p e =
 
 -- ---- literals with the name of a datatype
 
-told_back : (o : Option (List ℕ)) (s u : ParserState) (d : List ℕ) → option_map (λ a. (a, s)) o ≡ Some (d, u) → o ≡ Some d
+told_back : (o : Option (List ℕ)) (s u : ParserState) (d : List ℕ) → option_map {U = List ℕ × ParserState} (λ a. (a, s)) o ≡ Some (d, u) → o ≡ Some d
 told_back None s u d h = absurd (cc)
 told_back (Some x) s u d h = ap (λ (q : List ℕ × ParserState). Some q.0) (some_is (x, s) (d, u) h)
 
-untold_back : (o : Option (List ℕ)) (s : ParserState) → option_map (λ a. (a, s)) o ≡ None → o ≡ None
+untold_back : (o : Option (List ℕ)) (s : ParserState) → option_map {U = List ℕ × ParserState} (λ a. (a, s)) o ≡ None → o ≡ None
 untold_back None s h = refl
 untold_back (Some x) s h = absurd (cc)
 

@@ -4,8 +4,8 @@ use Rattle.rdf_turtle.proofs.scope.Scope.says_typed.Goals as goal
 
 pub returns-in_err-datatype-clause-gives : goal.returns-in_err-datatype-clause-gives
 returns-in_err-datatype-clause-gives g c =
-    let is : c.from_residual.result ≡ Err c.in_err-datatype.field-0 = search (rules, c.from_residual.ensures) in
-    typed_misses c.args.subject.now c.args.predicate.now c.args.literal.now c.in-Typed.text c.in-Typed.name c.args.self.now c.iri.new.self c.in_err-datatype.field-0 c.from_residual.result
+    let is : c.from_residual.result ≡ Err c.in_err-datatype.field-0.0 = search (rules, c.from_residual.ensures) in
+    typed_misses c.args.subject.now c.args.predicate.now c.args.literal.now c.in-Typed.text c.in-Typed.name c.args.self.now c.iri.new.self c.in_err-datatype.field-0.0 c.from_residual.result
     c.in-Typed.is c.in_err-datatype.ensures.gives is
 
 pub returns-clause-gives : goal.returns-clause-gives
