@@ -1,5 +1,5 @@
 -- Over the letters of a word, found by their bytes.
-use Rattle.std.proofs.Common.{◌≡◌, ◌∙◌, ◌<◌, ◌≤◌, ap, refl, sym, inl, inr, arith, ℕ, ◌+◌, add-one, Bool, true, false, not, List, [], ◌∷◌, ◌++◌, length, take, drop, get_or, Option, Some, None, take-append-drop}
+use Rattle.std.proofs.Common.{◌≡◌, ◌∙◌, ◌<◌, ap, refl, sym, inl, inr, arith, ℕ, ◌+◌, add-one, Bool, true, false, not, List, [], ◌∷◌, ◌++◌, take, drop, get_or, Some, None, take-append-drop}
 use Rattle.std.proofs.lemmas.Bool.{cases_Bool, cases_lt, lt-leb, ne_eqb, or_parts, true≢false}
 use Rattle.std.proofs.lemmas.List.Quantifiers.{position-Some}
 use Rattle.std.proofs.lemmas.List.{append-nil}

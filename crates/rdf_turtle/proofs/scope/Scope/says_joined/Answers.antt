@@ -1,4 +1,4 @@
-use Rattle.std.proofs.Common.{◌≡◌, ap, sym, rules, Some, None}
+use Rattle.std.proofs.Common.{◌≡◌, ap, sym, rules, None}
 use Rattle.std.specs.Map.{lookup}
 use Rattle.rdf_grammar.specs.Keys.{key_of, same_key}
 use Rattle.rdf_turtle.specs.ParserState.{ParserState}
