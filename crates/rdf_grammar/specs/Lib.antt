@@ -11,6 +11,7 @@ pub mod MeaningLaws
 pub mod Nesting
 pub mod Numbering
 pub mod NumberingLaws
+pub mod Parts
 pub mod ProductionLaws
 pub mod ProductionReadings
 pub mod Productions

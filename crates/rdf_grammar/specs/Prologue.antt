@@ -32,6 +32,10 @@ moves_base iri p = record p { base = Some iri }
 unfoldable pub resolved : List ℕ → Prologue → Option (List ℕ)
 resolved reference p = resolve p.base (iri_value reference)
 
+-- what a prefix stands for
+abbrev pub front : List ℕ → Prologue → Option (List ℕ)
+front prefix p = lookup (same_key (key_of prefix)) p.prefixes
+
 -- what the prefix stands for, followed by the local part (Turtle 1.1, section 2.4)
 unfoldable pub prefixed : List ℕ → List ℕ → Prologue → Option (List ℕ)
 prefixed prefix local p = option_map (λ iri. iri ++ local_value local) (lookup (same_key (key_of prefix)) p.prefixes)

@@ -14,7 +14,7 @@ use rdf_terms::{Iri, Literal, NoMemory, Text, Vocabulary};
 use rdf_tokens::{Slice, text_value};
 use std::alloc::Global;
 
-fn boolean_text(value: bool) -> &'static str
+pub(crate) fn boolean_text(value: bool) -> &'static str
     ensures { result.now ≡ spec.boolean_text value }
 {
     if value { "true" } else { "false" }

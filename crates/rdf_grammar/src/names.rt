@@ -9,7 +9,7 @@ use rdf_terms::{Iri, NoMemory, Text};
 use rdf_tokens::{Slice, local_value};
 use std::alloc::Global;
 
-fn joined(alloc: Global, front: &str, back: &str) -> Result<Text, NoMemory>
+pub(crate) fn joined(alloc: Global, front: &str, back: &str) -> Result<Text, NoMemory>
     ensures { IfOk result (λ text. text ≡ front.now ++ back.now) }
 {
     let mut text = String::with_capacity(alloc, front.len().saturating_add(back.len()))?;

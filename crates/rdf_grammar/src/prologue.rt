@@ -141,6 +141,14 @@ impl<'a> Prologue<'a> {
         }
     }
 
+    /// What a prefix stands for, if it is declared.
+    pub fn front(&self, prefix: &Slice<'a>) -> Option<&Iri>
+        ensures { option_map (λ iri. iri.now) result ≡ spec.front prefix.now self.now }
+    {
+        let key = Key::of(prefix);
+        self.prefixes.get(&key)
+    }
+
     // The IRI of a prefix and a local part.
     #[tactic(auto, unfolding(crate::specs::Prologue::prefixed))]
     fn prefixed(&mut self, prefix: &Slice<'a>, local: &Slice<'a>) -> Result<Iri, PrologueFault>

@@ -35,6 +35,8 @@ impl SharedQuads {
 impl TripleSink for SharedQuads {
     ghost taken = { λ quads. quads };
 
+    const TAKES_PARTS: bool = false;
+
     fn empty(alloc: Global) -> SharedQuads {
         SharedQuads {
             terms: TermTable::new(alloc),

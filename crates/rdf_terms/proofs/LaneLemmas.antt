@@ -1,5 +1,5 @@
 -- What a mask says of sixteen bytes that are asked at once.
-use Rattle.std.proofs.Common.{◌≡◌, ◌∙◌, ap, ap₂, refl, ℕ, suc, ◌+◌, ◌*◌, ◌%◌, ◌^◌, ◌<◌, ◌≤◌, arith, Bool, true, false, not, ◌||◌, cond, List, [], ◌∷◌, map, length, replicate, Fits, w8, Some, bit_or}
+use Rattle.std.proofs.Common.{◌≡◌, ◌∙◌, ap, ap₂, refl, ℕ, zero, suc, ◌+◌, ◌*◌, ◌%◌, ◌^◌, ◌<◌, ◌≤◌, arith, Bool, true, false, not, ◌&&◌, ◌||◌, cond, List, [], ◌∷◌, map, length, replicate, Fits, w8, Some, bit_and, bit_or}
 use Rattle.std.proofs.lemmas.Bool.{agree_below, agree_below_at}
 use Rattle.std.proofs.lemmas.List.{length-map}
 use Rattle.std.proofs.lemmas.Simd.{Each1-weaker, mask_l-mod, trailing_mask_l, zip2_splat}
@@ -15,6 +15,29 @@ marked p v = map (λ x. cond (p x) 255 0) v
 -- the comparison of each byte with one
 pub compared : (t : ℕ → ℕ → Bool) (v : List ℕ) (y : ℕ) → length v ≡ 16 → zip2 (λ a b. cond (t a b) 255 0) v (replicate 16 y) ≡ marked (λ x. t x y) v
 compared t v y long = zip2_splat (λ a b. cond (t a b) 255 0) v 16 y long
+
+-- the comparison of one with each byte
+splat_zip2 : (f : ℕ → ℕ → ℕ) (v : List ℕ) (n y : ℕ) → length v ≡ n → zip2 f (replicate n y) v ≡ map (λ x. f y x) v
+splat_zip2 f [] zero y long = refl
+splat_zip2 f [] (suc n) y long = absurd (omega (arith, long))
+splat_zip2 f (x ∷ xs) zero y long = absurd (omega (arith, long))
+splat_zip2 f (x ∷ xs) (suc n) y long = ap (λ ys. f y x ∷ ys) (splat_zip2 f xs n y (omega (arith, long)))
+
+pub compared_to : (t : ℕ → ℕ → Bool) (v : List ℕ) (y : ℕ) → length v ≡ 16 → zip2 (λ a b. cond (t a b) 255 0) (replicate 16 y) v ≡ marked (λ x. t y x) v
+compared_to t v y long = splat_zip2 (λ a b. cond (t a b) 255 0) v 16 y long
+
+both_lane : (a b : Bool) → bit_and (cond a 255 0) (cond b 255 0) ≡ cond (a && b) 255 0
+both_lane true true = refl
+both_lane true false = refl
+both_lane false true = refl
+both_lane false false = refl
+
+zip_both : (p q : ℕ → Bool) (v : List ℕ) → zip2 bit_and (marked p v) (marked q v) ≡ marked (λ x. p x && q x) v
+zip_both p q [] = refl
+zip_both p q (x ∷ xs) = ap₂ (λ y ys. y ∷ ys) (both_lane (p x) (q x)) (zip_both p q xs)
+
+pub both : (p q : ℕ → Bool) (v : List ℕ) {a b : List ℕ} → a ≡ marked p v → b ≡ marked q v → zip2 bit_and a b ≡ marked (λ x. p x && q x) v
+both p q v e f = ap₂ (zip2 bit_and) e f ∙ zip_both p q v
 
 either_lane : (a b : Bool) → bit_or (cond a 255 0) (cond b 255 0) ≡ cond (a || b) 255 0
 either_lane true true = refl

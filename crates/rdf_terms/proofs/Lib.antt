@@ -36,6 +36,7 @@ mod TermEq
 mod TextLemmas
 mod UnescapeLemmas
 mod Utf8Lemmas
+mod WordLemmas
 mod WriteLemmas
 mod WrittenIriLemmas
 mod WrittenNumberLemmas

@@ -19,6 +19,7 @@ pub mod Literal
 pub mod Names
 pub mod Order
 pub mod OrderLaws
+pub mod Parts
 pub mod Quad
 pub mod Quoted
 pub mod Reading

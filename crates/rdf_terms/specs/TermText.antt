@@ -15,6 +15,10 @@ escaped c =
     if c == 10 then codes "\\n" else
     if c == 13 then codes "\\r" else c ∷ []
 
+-- between quotes
+abbrev pub quoted_text : List ℕ → List ℕ
+quoted_text lexical = codes "\"" ++ flat_map escaped lexical ++ codes "\""
+
 -- xsd:string is not written
 abbrev pub datatype_text : List ℕ → List ℕ
 datatype_text datatype = if pointwise nat_eq datatype xsd_string then [] else codes "^^<" ++ datatype ++ codes ">"

@@ -3,9 +3,10 @@ ghost use Rattle.std.specs.Prelude.{◌≡◌, ◌<◌, ℕ, List, [], ◌∷◌
 ghost use Rattle.std.specs.Str.{chars, encode_utf8_all};
 ghost use Rattle.rdf_terms.specs.Iri.{is_forbidden};
 ghost use Rattle.rdf_terms.specs.Reading.{LeadsTo, between, byte_count, expect};
-ghost use Rattle.rdf_terms.specs.Runs.{IsPast, IsStopped, ends_run};
+ghost use Rattle.rdf_terms.specs.Runs.{IsPast, IsStopped, ends_run, is_word};
+ghost use Rattle.rdf_terms.specs.Skips.{skip};
 
-use crate::runs::{iri_stop, string_stop};
+use crate::runs::{iri_stop, string_stop, word_stop};
 use std::marker::Model;
 
 /// A place in a text. A contract sees the characters that follow it, by their code points.
@@ -102,6 +103,18 @@ impl<'a> Cursor<'a> {
             return self.fork();
         }
         match string_stop(self.rest.as_bytes(), quote as u8) {
+            Some(stop) => Cursor {
+                rest: &self.rest[stop..],
+            },
+            None => Cursor { rest: "" },
+        }
+    }
+
+    /// The place behind the ASCII letters, digits and `_` that begin here.
+    pub fn past_word(&self) -> Cursor<'a>
+        ensures { result ≡ skip is_word self.now }
+    {
+        match word_stop(self.rest.as_bytes()) {
             Some(stop) => Cursor {
                 rest: &self.rest[stop..],
             },

@@ -3,7 +3,7 @@ ghost use Rattle.std.specs.Prelude.{◌≡◌, ◌+◌, ◌<◌, ◌≤◌, ℕ,
 ghost use Rattle.std.specs.Simd.Lanes.{mask_l};
 ghost use Rattle.rdf_terms.specs.Iri.{is_forbidden};
 ghost use Rattle.rdf_terms.specs.LineEnds.{is_line_end};
-ghost use Rattle.rdf_terms.specs.Runs.{ends_run};
+ghost use Rattle.rdf_terms.specs.Runs.{ends_run, ends_word};
 
 use crate::iri::is_forbidden;
 use std::simd::prelude::*;
@@ -30,6 +30,14 @@ pub fn line_stop(text: &[u8]) -> Option<usize>
     ensures within { IfSome result (λ n. n < length text.now) }
 {
     first_stop(&LineStops, text)
+}
+
+/// Where the first byte stands that is no ASCII letter or digit and no `_`.
+pub fn word_stop(text: &[u8]) -> Option<usize>
+    ensures first { result ≡ position ends_word text.now }
+    ensures within { IfSome result (λ n. n < length text.now) }
+{
+    first_stop(&WordStops, text)
 }
 
 // How many bytes are tested at once.
@@ -150,5 +158,27 @@ impl Stops for LineStops {
     #[inline(always)]
     fn stops_among(&self, bytes: u8x16) -> u64 {
         (bytes.simd_eq(u8x16::splat(b'\n')) | bytes.simd_eq(u8x16::splat(b'\r'))).to_bitmask()
+    }
+}
+
+// What is no ASCII letter or digit and no `_`.
+#[derive(Drop)]
+struct WordStops;
+
+impl Stops for WordStops {
+    ghost ends = { λ _. ends_word };
+
+    #[inline(always)]
+    fn is_stop(&self, byte: u8) -> bool {
+        !(byte.is_ascii_alphanumeric() || byte == b'_')
+    }
+
+    #[inline(always)]
+    fn stops_among(&self, bytes: u8x16) -> u64 {
+        (bytes.simd_le(u8x16::splat(b'/'))
+            | (bytes.simd_ge(u8x16::splat(b':')) & bytes.simd_le(u8x16::splat(b'@')))
+            | (bytes.simd_ge(u8x16::splat(b'[')) & bytes.simd_le(u8x16::splat(b'^')))
+            | bytes.simd_eq(u8x16::splat(b'`'))
+            | bytes.simd_ge(u8x16::splat(b'{'))).to_bitmask()
     }
 }

@@ -2,13 +2,17 @@
 ghost use Rattle.std.specs.Cmp.Lexicographic.{pointwise};
 ghost use Rattle.std.specs.Prelude.{◌≡◌, ◌++◌, ◌<◌, nat_eq, take, length, codes, decimal, position, IfSome, OnOk, OnErr};
 ghost use Rattle.std.specs.List.{flat_map};
+ghost use Rattle.std.specs.Str.{str_to_ascii_lowercase};
 ghost use Rattle.rdf_terms.specs.Literal.{xsd_string};
+ghost use Rattle.rdf_terms.specs.Parts.{term_of};
 ghost use Rattle.rdf_terms.specs.Runs.{is_escaped};
-ghost use Rattle.rdf_terms.specs.TermText.{escaped, suffix_text, datatype_text, literal_text, term_text};
+ghost use Rattle.rdf_terms.specs.TermText.{escaped, quoted_text, suffix_text, datatype_text, literal_text, term_text};
 
 use crate::fault::{NoMemory, or_truncate};
 use crate::iri::Iri;
 use crate::literal::Literal;
+use crate::parts::TermParts;
+use crate::runs::string_stop;
 use crate::term::Term;
 use itoa::Buffer;
 
@@ -36,6 +40,82 @@ fn append_term(term: &Term, out: &mut Vec<u8>) -> Result<(), NoMemory>
     }
 }
 
+/// Appends the text of the term that these are the parts of, as [`write_term`] does.
+///
+/// # Errors
+/// [`NoMemory`] where memory is wanting; the vector is then as it was.
+pub fn write_parts(parts: &TermParts<'_>, out: &mut Vec<u8>) -> Result<(), NoMemory>
+    ensures ok { OnOk result (out.new.items ≡ out.old.items ++ term_text (term_of parts.now)) }
+    ensures err { OnErr result (out.new.items ≡ out.old.items) }
+{
+    let before = out.len();
+    or_truncate(append_parts(parts, out), out, before)
+}
+
+fn append_parts(parts: &TermParts<'_>, out: &mut Vec<u8>) -> Result<(), NoMemory>
+    ensures ok { OnOk result (out.new.items ≡ out.old.items ++ term_text (term_of parts.now)) }
+    ensures kept { take (length out.old.items) out.new.items ≡ out.old.items }
+{
+    match parts {
+        TermParts::Whole(term) => append_term(term, out),
+        TermParts::Joined(front, back) => append_joined(front, back, out),
+        TermParts::Untagged(lexical, datatype) => append_untagged(lexical, datatype, out),
+        TermParts::Tagged(lexical, tag) => append_tagged(lexical, tag, out),
+    }
+}
+
+fn append_joined(front: &Iri, back: &str, out: &mut Vec<u8>) -> Result<(), NoMemory>
+    ensures ok { OnOk result (out.new.items
+        ≡ out.old.items ++ codes "<" ++ (front.now ++ back.now) ++ codes ">") }
+    ensures kept { take (length out.old.items) out.new.items ≡ out.old.items }
+{
+    out.extend_from_slice(b"<")?;
+    out.extend_from_slice(front.as_str().as_bytes())?;
+    out.extend_from_slice(back.as_bytes())?;
+    out.extend_from_slice(b">")?;
+    Ok(())
+}
+
+fn append_untagged(lexical: &str, datatype: &Iri, out: &mut Vec<u8>) -> Result<(), NoMemory>
+    ensures ok { OnOk result (out.new.items
+        ≡ out.old.items ++ quoted_text lexical.now ++ datatype_text datatype.now) }
+    ensures kept { take (length out.old.items) out.new.items ≡ out.old.items }
+{
+    append_quoted(lexical.as_bytes(), out)?;
+    append_datatype(datatype, out)
+}
+
+fn append_tagged(lexical: &str, tag: &str, out: &mut Vec<u8>) -> Result<(), NoMemory>
+    ensures ok { OnOk result (out.new.items ≡ out.old.items
+        ++ quoted_text lexical.now ++ codes "@" ++ str_to_ascii_lowercase tag.now) }
+    ensures kept { take (length out.old.items) out.new.items ≡ out.old.items }
+{
+    append_quoted(lexical.as_bytes(), out)?;
+    out.extend_from_slice(b"@")?;
+    append_lowered(tag.as_bytes(), out)
+}
+
+fn append_quoted(lexical: &[u8], out: &mut Vec<u8>) -> Result<(), NoMemory>
+    ensures ok { OnOk result (out.new.items ≡ out.old.items ++ quoted_text lexical.now) }
+    ensures kept { take (length out.old.items) out.new.items ≡ out.old.items }
+{
+    out.extend_from_slice(b"\"")?;
+    append_escaped(lexical, out)?;
+    out.extend_from_slice(b"\"")?;
+    Ok(())
+}
+
+// Appends a tag with its capitals lowered.
+fn append_lowered(tag: &[u8], out: &mut Vec<u8>) -> Result<(), NoMemory>
+    ensures ok { OnOk result (out.new.items ≡ out.old.items ++ str_to_ascii_lowercase tag.now) }
+    ensures kept { take (length out.old.items) out.new.items ≡ out.old.items }
+{
+    for byte in tag {
+        out.push(byte.to_ascii_lowercase())?;
+    }
+    Ok(())
+}
+
 fn append_blank(number: u64, out: &mut Vec<u8>) -> Result<(), NoMemory>
     ensures ok { OnOk result (out.new.items ≡ out.old.items ++ codes "_:b" ++ decimal number) }
     ensures kept { take (length out.old.items) out.new.items ≡ out.old.items }
@@ -59,9 +139,7 @@ fn append_literal(literal: &Literal, out: &mut Vec<u8>) -> Result<(), NoMemory>
     ensures ok { OnOk result (out.new.items ≡ out.old.items ++ literal_text literal.now) }
     ensures kept { take (length out.old.items) out.new.items ≡ out.old.items }
 {
-    out.extend_from_slice(b"\"")?;
-    append_escaped(literal.lexical().as_bytes(), out)?;
-    out.extend_from_slice(b"\"")?;
+    append_quoted(literal.lexical().as_bytes(), out)?;
     append_suffix(literal, out)
 }
 
@@ -84,8 +162,7 @@ fn first_escaped(text: &[u8]) -> Option<usize>
     ensures first { result ≡ position is_escaped text.now }
     ensures within { IfSome result (λ n. n < length text.now) }
 {
-    text.iter()
-        .position(|b| matches!(*b, b'"' | b'\\' | b'\n' | b'\r'))
+    string_stop(text, b'"')
 }
 
 fn append_byte(b: u8, out: &mut Vec<u8>) -> Result<(), NoMemory>

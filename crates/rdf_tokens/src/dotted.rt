@@ -6,7 +6,7 @@ ghost use Rattle.rdf_tokens.specs.Characters.{is_word_part};
 ghost use Rattle.rdf_tokens.specs.Inside.Shortcuts.{ends_local, ends_name};
 ghost use Rattle.rdf_tokens.specs.Inside.TokenReading.{name_part_at, local_escape_at, plx_at, local_part_at, local_first_at, local_at, prefix_at, pname_at, NoPnameBefore, label_at, blank_at};
 
-use crate::character::{is_local_escape, is_name_start, is_word_part};
+use crate::character::{is_local_escape, is_name_start};
 use rdf_terms::{Cursor, is_pn_chars, is_pn_chars_base};
 
 /// The place behind one of PN_CHARS.
@@ -74,7 +74,7 @@ fn local_first<'a>(cursor: &Cursor<'a>) -> Option<Cursor<'a>>
 fn skip_word<'a>(cursor: &Cursor<'a>) -> Cursor<'a>
     ensures { result ≡ skip is_word_part cursor.now }
 {
-    cursor.skip(is_word_part)
+    cursor.past_word()
 }
 
 /// Whether no local part goes on with a character: one of those that stand behind most names.

@@ -30,8 +30,8 @@ pub use slice::{Slice, slice_of};
 pub use token::{Kind, Token};
 pub use tokenizer::{one_token_list, some_token_list, tokens, tokens_have_forms};
 pub use value::{
-    iri_value, iris_have_values, local_part, local_value, locals_have_values, name_parts,
-    one_token_text, pnames_are_iris, pnames_have_parts, prefix_part, tag_value, text_value,
-    texts_have_values, token_text,
+    iri_value, iris_have_values, local_as_written, local_part, local_value, locals_have_values,
+    name_parts, one_token_text, pnames_are_iris, pnames_have_parts, prefix_part, tag_value,
+    text_as_written, text_value, texts_have_values, token_text,
 };
 pub use walk::{Found, TokenWalk};

@@ -105,6 +105,36 @@ fn unescaped(alloc: Global, body: &str) -> Result<Text, NoMemory>
     }
 }
 
+// What a string's body writes, where it writes it as it is.
+#[inline(always)]
+fn as_written(body: &str) -> Option<&str>
+    ensures { IfSome result (λ v. v.now ≡ encode_utf8_all (spec.unescaped (chars body.now))) }
+{
+    if body.contains('\\') {
+        return None;
+    }
+    Some(body)
+}
+
+/// What a string stands for, where the text has it as it is.
+pub fn text_as_written<'a>(slice: &Slice<'a>) -> Option<&'a str>
+    ensures { IfSome result (λ v. v.now ≡ spec.text_value slice.now) }
+{
+    let body = text_body(slice.as_str())?;
+    as_written(body)
+}
+
+/// What a local part stands for, where the text has it as it is.
+pub fn local_as_written<'a>(slice: &Slice<'a>) -> Option<&'a str>
+    ensures { IfSome result (λ v. v.now ≡ spec.local_value slice.now) }
+{
+    let local = slice.as_str();
+    if local.contains('\\') {
+        return None;
+    }
+    Some(local)
+}
+
 /// What a string stands for, or nothing for another slice.
 ///
 /// # Errors

@@ -17,6 +17,7 @@ mod GrammarStatements
 mod GrammarWhole
 mod GrammarWords
 mod LeafSteps
+mod PartSteps
 mod PrologueSteps
 mod ReadBackLemmas
 mod ScopeBlanks

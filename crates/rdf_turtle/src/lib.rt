@@ -30,7 +30,7 @@ pub use laws::{
 };
 pub use lexeme::Lexeme;
 pub use meaning::blank_numbers_are_below;
-pub use rdf_grammar::{prefixes_are_replaced, references_are_resolved};
+pub use rdf_grammar::{parts_are_a_term, prefixes_are_replaced, references_are_resolved};
 pub use rdf_tokens::{
     Kind, Slice, Token, iris_have_values, line_ends_are_counted, locals_have_values,
     one_token_list, one_token_text, pnames_are_iris, pnames_have_parts, some_token_list,

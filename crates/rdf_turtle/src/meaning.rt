@@ -117,12 +117,15 @@ impl<'a, S: TripleSink> Scope<'a, S> {
         ensures prologue { self.new.prologue ≡ self.old.prologue }
         ensures room { OnOk result (TakesAtMost 0 self.old self.new) }
     {
-        let object = self.term(node)?;
         match node {
-            Node::Name(_) | Node::Label(_) | Node::Literal(_) => {
+            Node::Name(name) => self.says_name(subject, predicate, name),
+            Node::Literal(literal) => self.says_literal(subject, predicate, literal),
+            Node::Label(label) => {
+                let object = self.labelled(label)?;
                 Ok(self.says(subject, predicate, object)?)
             }
             Node::Blank(_) | Node::Collection(_) => {
+                let object = self.term(node)?;
                 let said = object.copy()?;
                 self.says(subject, predicate, said)?;
                 self.inside(node, &object)

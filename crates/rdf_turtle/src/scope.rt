@@ -7,14 +7,14 @@ ghost use Rattle.rdf_grammar.specs.Literals.{known_literal, proper_literal};
 ghost use Rattle.rdf_grammar.specs.Prologue as prologue;
 ghost use Rattle.rdf_grammar.specs.Prologue.{declared, knows, is_proper};
 ghost use Rattle.rdf_turtle.specs.Inside.Room.{HasRoom, TakesAtMost};
-ghost use Rattle.rdf_turtle.specs.Inside.Told.{GivesOrMisses};
+ghost use Rattle.rdf_turtle.specs.Inside.Told.{GivesOrMisses, named, valued};
 ghost use Rattle.rdf_turtle.specs.ParserState as state;
 
 use crate::sink::TripleSink;
 use crate::tree::{Literal as Written, Name};
-use rdf_grammar::{Numbering, Prologue, PrologueFault};
-use rdf_terms::{Iri, Literal, NoMemory, Term, Vocabulary};
-use rdf_tokens::Slice;
+use rdf_grammar::{Numbering, Prologue, PrologueFault, written_parts};
+use rdf_terms::{Iri, Literal, NoMemory, Term, TermParts, Vocabulary};
+use rdf_tokens::{Slice, local_as_written, text_as_written};
 use std::alloc::Global;
 use std::marker::Model;
 
@@ -119,6 +119,183 @@ impl<'a, S: TripleSink> Scope<'a, S> {
         ensures more { OnOk result (length self.new.quads ≡ length self.old.quads + 1) }
     {
         self.sink.take(subject, predicate, object)
+    }
+
+    /// Says a triple whose object is a name.
+    #[inline(always)]
+    pub(crate) fn says_name(
+        &mut self,
+        subject: &Term,
+        predicate: &Iri,
+        name: &Name<'a>,
+    ) -> Result<(), PrologueFault>
+        requires proper { IsTrue (is_proper name.now) }
+        requires subject { is_literal_term subject.now ≡ false }
+        ensures gives { let says = meaning.object subject.now predicate.now (named name.now) in
+            GivesOrMisses (says self.old) result self.new }
+        ensures known { OnOk result (IsTrue (knows (declared self.old.prologue) name.now)) }
+        ensures prologue { self.new.prologue ≡ self.old.prologue }
+        ensures room { OnOk result (TakesAtMost 0 self.old self.new) }
+    {
+        if S::TAKES_PARTS {
+            self.says_joined(subject, predicate, name)
+        } else {
+            self.says_iri(subject, predicate, name)
+        }
+    }
+
+    // Says it by the parts of a name whose local part stands for itself.
+    #[tactic(auto, unfolding(crate::specs::Meaning::object))]
+    fn says_joined(
+        &mut self,
+        subject: &Term,
+        predicate: &Iri,
+        name: &Name<'a>,
+    ) -> Result<(), PrologueFault>
+        requires proper { IsTrue (is_proper name.now) }
+        requires subject { is_literal_term subject.now ≡ false }
+        ensures gives { let says = meaning.object subject.now predicate.now (named name.now) in
+            GivesOrMisses (says self.old) result self.new }
+        ensures known { OnOk result (IsTrue (knows (declared self.old.prologue) name.now)) }
+        ensures prologue { self.new.prologue ≡ self.old.prologue }
+        ensures room { OnOk result (TakesAtMost 0 self.old self.new) }
+    {
+        let Name::Prefixed(prefix, local) = name else {
+            return self.says_iri(subject, predicate, name);
+        };
+        let Some(back) = local_as_written(local) else {
+            return self.says_iri(subject, predicate, name);
+        };
+        let Some(front) = self.prologue.front(prefix) else {
+            return Err(PrologueFault::UnknownPrefix(prefix.start()));
+        };
+        let object = TermParts::Joined(front, back);
+        Ok(
+            self.sink
+                .take_parts(self.alloc, subject, predicate, &object)?,
+        )
+    }
+
+    // Says it by the IRI.
+    #[tactic(auto, unfolding(crate::specs::Meaning::object))]
+    fn says_iri(
+        &mut self,
+        subject: &Term,
+        predicate: &Iri,
+        name: &Name<'a>,
+    ) -> Result<(), PrologueFault>
+        requires proper { IsTrue (is_proper name.now) }
+        requires subject { is_literal_term subject.now ≡ false }
+        ensures gives { let says = meaning.object subject.now predicate.now (named name.now) in
+            GivesOrMisses (says self.old) result self.new }
+        ensures known { OnOk result (IsTrue (knows (declared self.old.prologue) name.now)) }
+        ensures prologue { self.new.prologue ≡ self.old.prologue }
+        ensures room { OnOk result (TakesAtMost 0 self.old self.new) }
+    {
+        let iri = self.iri(name)?;
+        Ok(self.says(subject, predicate, Term::Iri(iri))?)
+    }
+
+    /// Says a triple whose object is a literal.
+    #[inline(always)]
+    pub(crate) fn says_literal(
+        &mut self,
+        subject: &Term,
+        predicate: &Iri,
+        literal: &Written<'a>,
+    ) -> Result<(), PrologueFault>
+        requires proper { IsTrue (proper_literal literal.now) }
+        requires subject { is_literal_term subject.now ≡ false }
+        ensures gives { let says = meaning.object subject.now predicate.now (valued literal.now) in
+            GivesOrMisses (says self.old) result self.new }
+        ensures known { OnOk result
+            (IsTrue (known_literal (declared self.old.prologue) literal.now)) }
+        ensures prologue { self.new.prologue ≡ self.old.prologue }
+        ensures room { OnOk result (TakesAtMost 0 self.old self.new) }
+    {
+        if S::TAKES_PARTS {
+            self.says_written(subject, predicate, literal)
+        } else {
+            self.says_value(subject, predicate, literal)
+        }
+    }
+
+    // Says it by the parts of a literal, where it has them whatever is declared.
+    #[tactic(auto, unfolding(crate::specs::Meaning::object))]
+    fn says_written(
+        &mut self,
+        subject: &Term,
+        predicate: &Iri,
+        literal: &Written<'a>,
+    ) -> Result<(), PrologueFault>
+        requires proper { IsTrue (proper_literal literal.now) }
+        requires subject { is_literal_term subject.now ≡ false }
+        ensures gives { let says = meaning.object subject.now predicate.now (valued literal.now) in
+            GivesOrMisses (says self.old) result self.new }
+        ensures known { OnOk result
+            (IsTrue (known_literal (declared self.old.prologue) literal.now)) }
+        ensures prologue { self.new.prologue ≡ self.old.prologue }
+        ensures room { OnOk result (TakesAtMost 0 self.old self.new) }
+    {
+        let Some(object) = written_parts(&self.vocabulary, literal) else {
+            return self.says_typed(subject, predicate, literal);
+        };
+        Ok(
+            self.sink
+                .take_parts(self.alloc, subject, predicate, &object)?,
+        )
+    }
+
+    // Says it by the parts of a literal with the name of its datatype.
+    #[tactic(auto, unfolding(crate::specs::Meaning::object))]
+    fn says_typed(
+        &mut self,
+        subject: &Term,
+        predicate: &Iri,
+        literal: &Written<'a>,
+    ) -> Result<(), PrologueFault>
+        requires proper { IsTrue (proper_literal literal.now) }
+        requires subject { is_literal_term subject.now ≡ false }
+        ensures gives { let says = meaning.object subject.now predicate.now (valued literal.now) in
+            GivesOrMisses (says self.old) result self.new }
+        ensures known { OnOk result
+            (IsTrue (known_literal (declared self.old.prologue) literal.now)) }
+        ensures prologue { self.new.prologue ≡ self.old.prologue }
+        ensures room { OnOk result (TakesAtMost 0 self.old self.new) }
+    {
+        let Written::Typed(text, name) = literal else {
+            return self.says_value(subject, predicate, literal);
+        };
+        let Some(lexical) = text_as_written(text) else {
+            return self.says_value(subject, predicate, literal);
+        };
+        let datatype = self.iri(name)?;
+        let object = TermParts::Untagged(lexical, &datatype);
+        Ok(
+            self.sink
+                .take_parts(self.alloc, subject, predicate, &object)?,
+        )
+    }
+
+    // Says it by the literal.
+    #[tactic(auto, unfolding(crate::specs::Meaning::object))]
+    fn says_value(
+        &mut self,
+        subject: &Term,
+        predicate: &Iri,
+        literal: &Written<'a>,
+    ) -> Result<(), PrologueFault>
+        requires proper { IsTrue (proper_literal literal.now) }
+        requires subject { is_literal_term subject.now ≡ false }
+        ensures gives { let says = meaning.object subject.now predicate.now (valued literal.now) in
+            GivesOrMisses (says self.old) result self.new }
+        ensures known { OnOk result
+            (IsTrue (known_literal (declared self.old.prologue) literal.now)) }
+        ensures prologue { self.new.prologue ≡ self.old.prologue }
+        ensures room { OnOk result (TakesAtMost 0 self.old self.new) }
+    {
+        let object = self.literal(literal)?;
+        Ok(self.says(subject, predicate, Term::Literal(object))?)
     }
 
     /// The IRI of a name.

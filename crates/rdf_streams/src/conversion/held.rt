@@ -2,6 +2,7 @@
 //! predicates that stood before.
 ghost use Rattle.std.specs.Prelude.{◌≡◌, ℕ, [], List, IfOk, IfSome, IsTrue, OnErr, OnOk, Some};
 ghost use Rattle.rdf_lines.specs.QuadText.{quad_text};
+ghost use Rattle.rdf_terms.specs.Parts.{term_of};
 ghost use Rattle.rdf_terms.specs.Table.{IsIdOf};
 ghost use Rattle.rdf_terms.specs.declared.term.Term.{Term as TermValue};
 ghost use Rattle.rdf_terms.specs.declared.term.Term.TheVariants as term;
@@ -11,7 +12,7 @@ ghost use Rattle.rdf_streams.specs.Inside.Parts.{Holds, HoldsOn, Keeps, text_of}
 use crate::conversion::line::{write_rest, write_triple};
 use crate::conversion::parts::{MOST, Part, push_line, push_texts};
 use crate::conversion::predicates::Predicates;
-use rdf_terms::{Iri, NoMemory, Term, same_term, write_term};
+use rdf_terms::{Iri, NoMemory, Term, TermParts, same_term, write_term};
 use std::alloc::Global;
 
 /// Lines of triples. What of them is new stands in one text, and the parts tell how the lines are made of it.
@@ -56,10 +57,10 @@ impl Held {
         &mut self,
         subject: &Term,
         predicate: &Iri,
-        object: &Term,
+        object: &TermParts<'_>,
     ) -> Result<(), NoMemory>
         ensures ok { OnOk result (HoldsOn self.old self.new
-            (quad_text (triple subject.now predicate.now object.now))) }
+            (quad_text (triple subject.now predicate.now (term_of object.now)))) }
         ensures err { OnErr result (Keeps self.old self.new) }
     {
         match self.note(subject, predicate)? {
@@ -117,11 +118,11 @@ impl Held {
     }
 
     // Holds the line of the subject that is noted, a predicate by its number, and an object.
-    fn hold_parts(&mut self, number: u16, object: &Term) -> Result<(), NoMemory>
+    fn hold_parts(&mut self, number: u16, object: &TermParts<'_>) -> Result<(), NoMemory>
         ensures ok { OnOk result ((subject : TermValue) (predicate : List ℕ)
             → self.old.subject ≡ Some subject
             → IsIdOf self.old.predicates number (term.Iri predicate)
-            → HoldsOn self.old self.new (quad_text (triple subject predicate object.now))) }
+            → HoldsOn self.old self.new (quad_text (triple subject predicate (term_of object.now)))) }
         ensures err { OnErr result (Keeps self.old self.new) }
     {
         let before = self.texts.len();
@@ -135,9 +136,14 @@ impl Held {
     }
 
     // Holds the line of a triple as it is.
-    fn hold_whole(&mut self, subject: &Term, predicate: &Iri, object: &Term) -> Result<(), NoMemory>
+    fn hold_whole(
+        &mut self,
+        subject: &Term,
+        predicate: &Iri,
+        object: &TermParts<'_>,
+    ) -> Result<(), NoMemory>
         ensures ok { OnOk result (HoldsOn self.old self.new
-            (quad_text (triple subject.now predicate.now object.now))) }
+            (quad_text (triple subject.now predicate.now (term_of object.now)))) }
         ensures err { OnErr result (Keeps self.old self.new) }
     {
         let before = self.texts.len();

@@ -14,18 +14,16 @@ const MOST: u64 = 65536;
 /// How many places there are.
 const PLACES: usize = 1024;
 
-/// How many bytes of a predicate its place depends on, beside its length: the last.
-const MIXED: usize = 6;
-
-// The place of a predicate. Few of a document have one place.
+// The place of a predicate, by its length and its last bytes. Few of a document have one place.
 fn place_of(predicate: &Iri) -> usize
     ensures { result < PLACES }
 {
     let bytes = predicate.as_str().as_bytes();
-    let mut mixed = bytes.len();
-    for byte in &bytes[bytes.len().saturating_sub(MIXED)..] {
-        mixed = mixed.wrapping_mul(31).wrapping_add(*byte as usize);
-    }
+    let last = match bytes {
+        [.., a, b, c, d] => u32::from_le_bytes([*a, *b, *c, *d]),
+        _ => 0,
+    };
+    let mixed = (last as usize ^ bytes.len()).wrapping_mul(0x2545_f491_4f6c_dd1d) >> 44;
     mixed % PLACES
 }
 

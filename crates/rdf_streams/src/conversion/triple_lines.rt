@@ -1,13 +1,16 @@
 //! The lines of triples, held until all of a document is read.
-ghost use Rattle.std.specs.Prelude.{◌≡◌, length};
+ghost use Rattle.std.specs.Prelude.{◌≡◌, ◌≤◌, ◌++◌, ◌∷◌, [], false, length, OnErr, OnOk};
+ghost use Rattle.rdf_terms.specs.Parts.{AreProper, term_of};
+ghost use Rattle.rdf_terms.specs.Term.{is_literal_term};
+ghost use Rattle.rdf_turtle.specs.ParserState.{triple, longest};
 ghost use Rattle.rdf_streams.specs.Conversion.Converts.{lines_of};
 ghost use Rattle.rdf_streams.specs.Inside.Held.{WritesLines};
 
 use crate::conversion::fault::ConvertFault;
 use crate::conversion::held::Held;
 use crate::conversion::writing::write_held;
-use rdf_terms::{Iri, NoMemory, Term, term_is_one};
-use rdf_turtle::TripleSink;
+use rdf_terms::{Iri, NoMemory, Term, TermParts, term_is_one};
+use rdf_turtle::{TripleSink, parts_are_a_term};
 use std::alloc::Global;
 use std::io::Write;
 use std::marker::Model;
@@ -53,8 +56,35 @@ impl TripleLines {
     }
 }
 
+impl TripleLines {
+    // Holds the line of a triple behind the others.
+    #[inline(always)]
+    fn hold(
+        &mut self,
+        subject: &Term,
+        predicate: &Iri,
+        object: &TermParts<'_>,
+    ) -> Result<(), NoMemory>
+        requires subject { is_literal_term subject.now ≡ false }
+        requires object { AreProper object.now }
+        ensures ok { OnOk result (self.new
+            ≡ self.old ++ triple subject.now predicate.now (term_of object.now) ∷ []) }
+        ensures err { OnErr result (self.new ≡ self.old) }
+        ensures fits { length self.new ≤ longest }
+    {
+        term_is_one(subject);
+        let _ = predicate.as_str();
+        parts_are_a_term(object);
+        self.held.hold(subject, predicate, object)?;
+        self.count += 1;
+        Ok(())
+    }
+}
+
 impl TripleSink for TripleLines {
     ghost taken = { λ triples. triples };
+
+    const TAKES_PARTS: bool = true;
 
     fn empty(alloc: Global) -> TripleLines {
         TripleLines {
@@ -64,11 +94,16 @@ impl TripleSink for TripleLines {
     }
 
     fn take(&mut self, subject: &Term, predicate: &Iri, object: Term) -> Result<(), NoMemory> {
-        term_is_one(subject);
-        let _ = predicate.as_str();
-        term_is_one(&object);
-        self.held.hold(subject, predicate, &object)?;
-        self.count += 1;
-        Ok(())
+        self.hold(subject, predicate, &TermParts::Whole(&object))
+    }
+
+    fn take_parts(
+        &mut self,
+        _alloc: Global,
+        subject: &Term,
+        predicate: &Iri,
+        object: &TermParts<'_>,
+    ) -> Result<(), NoMemory> {
+        self.hold(subject, predicate, object)
     }
 }

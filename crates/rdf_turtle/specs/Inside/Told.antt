@@ -3,8 +3,12 @@ use Rattle.std.specs.Prelude.{◌≡◌, ℕ, Bool, true, List, Option, Some, No
 use Rattle.rdf_grammar.specs.declared.prologue.PrologueFault.{PrologueFault}
 use Rattle.rdf_grammar.specs.declared.prologue.PrologueFault.TheVariants.{UnknownPrefix, Relative, NoMemory}
 use Rattle.rdf_grammar.specs.Literals.{known_literal}
+use Rattle.rdf_grammar.specs.declared.tree.Literal.{Literal}
+use Rattle.rdf_grammar.specs.declared.tree.Name.{Name}
 use Rattle.rdf_grammar.specs.Prologue.{knows}
-use Rattle.rdf_grammar.specs.Steps.{Outcome}
+use Rattle.rdf_grammar.specs.Steps.{Outcome, ◌<$>◌}
+use Rattle.rdf_terms.specs.declared.term.Term.TheVariants as t
+use Rattle.rdf_turtle.specs.Meaning.{Meaning, iri, literal, only}
 use Rattle.rdf_turtle.specs.declared.tree.Node.{Node}
 use Rattle.rdf_turtle.specs.declared.tree.Node.TheVariants as n
 
@@ -24,3 +28,10 @@ abbrev pub known_leaf : List (List ℕ) → Node → Bool
 known_leaf declared (n.Name name) = knows declared name
 known_leaf declared (n.Literal l) = known_literal declared l
 known_leaf declared _ = true
+
+-- what a node is that is a name, or a literal
+abbrev pub named : Name → Meaning
+named name = only (t.Iri <$> iri name)
+
+abbrev pub valued : Literal → Meaning
+valued l = only (t.Literal <$> literal l)
