@@ -1,5 +1,5 @@
 -- Mappings by what they bind: walks from one column that has a term to the next.
-use Rattle.std.proofs.Common.{◌≡◌, ◌≢◌, ℕ, zero, suc, ◌+◌, ◌<◌, ◌≤◌, inl, inr, min, Bool, true, false, ◌&&◌, ◌||◌, not, List, [], ◌∷◌, length, take, set, Option, Some, None, is_none, is_some, refl, sym, ap, ◌∙◌, subst, arith, cond, ◌==◌, true≢false}
+use Rattle.std.proofs.Common.{◌≡◌, ℕ, zero, suc, ◌+◌, ◌<◌, ◌≤◌, inl, inr, min, Bool, true, false, ◌&&◌, ◌||◌, not, List, [], ◌∷◌, length, take, set, Option, Some, None, is_none, is_some, refl, sym, ap, ◌∙◌, subst, arith, cond, ◌==◌, true≢false}
 use Rattle.std.proofs.lemmas.Bool.{and_from, both_ways, cases_lt, cases_order, eq-eqb, le-ltb, lt-ltb, ne_eqb}
 use Rattle.std.proofs.lemmas.List.{get_or-set_same, get_or-set_other, length-set}
 use Rattle.std.specs.List.{list_all, list_any, zip}

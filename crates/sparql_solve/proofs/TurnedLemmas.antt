@@ -1,5 +1,5 @@
 -- What a mapping shows at other columns than its own, each of which has its place among them.
-use Rattle.std.proofs.Common.{◌≡◌, ◌≢◌, ℕ, zero, suc, ◌+◌, ◌<◌, ◌≤◌, inl, inr, true, false, cond, List, [], ◌∷◌, map, replicate, set, get_or, length, Option, Some, None, refl, sym, ap, ◌∙◌, subst, arith, nat_lt, is_some, true≢false}
+use Rattle.std.proofs.Common.{◌≡◌, ◌≢◌, ℕ, zero, suc, ◌+◌, ◌<◌, inl, inr, true, cond, List, [], ◌∷◌, map, replicate, get_or, length, Option, Some, None, refl, sym, ap, ◌∙◌, subst, arith, nat_lt, is_some, true≢false}
 use Rattle.std.proofs.lemmas.Bool.{cases_lt, cases_order, le-ltb, lt-ltb}
 use Rattle.std.specs.List.Sorted.{IsStrictlySortedBy}
 use Rattle.rdf_terms.specs.Order.{text_cmp}

@@ -3,7 +3,6 @@ use Rattle.std.proofs.lemmas.Bool.{eqb-true}
 use Rattle.std.proofs.lemmas.List.{take_all, take-append-drop, length-drop}
 use Rattle.std.proofs.lemmas.Result.{IfOk-weaker}
 use Rattle.rdf_terms.specs.declared.quad.GraphName.TheVariants.{Default, Named}
-use Rattle.sparql_trees.specs.declared.pattern.Member.{Member}
 use Rattle.sparql_trees.specs.declared.pattern.VarOrIri.TheVariants.{Variable}
 use Rattle.sparql_algebra.specs.Algebra.{element, filtered, group_of, translation}
 use Rattle.sparql_algebra.specs.Under.{under}

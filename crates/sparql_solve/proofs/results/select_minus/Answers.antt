@@ -1,6 +1,6 @@
-use Rattle.std.proofs.Common.{List, Option, ℕ, Bool, map, ap, ◌≡◌, ◌∙◌, sym}
+use Rattle.std.proofs.Common.{List, Option, ℕ, map, ap, ◌∙◌}
 use Rattle.std.specs.List.{count_by}
-use Rattle.sparql_values.specs.Mapping.{Mapping, same_mapping, value_in}
+use Rattle.sparql_values.specs.Mapping.{same_mapping, value_in}
 use Rattle.sparql_algebra.specs.Results.{times_selected}
 use Rattle.sparql_solve.proofs.ResultLemmas.{selected_through}
 use Rattle.sparql_solve.proofs.results.select_minus.Goals as goal

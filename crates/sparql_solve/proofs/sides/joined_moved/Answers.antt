@@ -5,7 +5,6 @@ use Rattle.sparql_algebra.specs.Algebra.{Element, element}
 use Rattle.sparql_trees.specs.declared.expression.Expression.{Expression}
 use Rattle.sparql_algebra.specs.Solutions.{left_joins, merges, satisfies}
 use Rattle.sparql_algebra.proofs.CallerLemmas.{element-Minus, element-Optional}
-use Rattle.sparql_values.specs.Mapping.{Mapping}
 use Rattle.sparql_solve.specs.Under.{kept, met}
 use Rattle.sparql_solve.proofs.MinusLemmas.{all_left}
 use Rattle.sparql_solve.proofs.sides.joined_moved.Goals as goal
