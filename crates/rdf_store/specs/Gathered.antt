@@ -1,4 +1,4 @@
--- Quads that are gathered in a list, and what a store holds of them.
+-- Quads that are gathered in a list, and what a store holds of them: a dataset's quads and the names of its graphs (RDF 1.1 Concepts, section 4).
 use Rattle.std.specs.Prelude.{List, [], ◌∷◌}
 use Rattle.std.specs.List.{flat_map}
 use Rattle.std.specs.FinSet as set
